@@ -1,0 +1,16 @@
+-- Values. A value is a signed number of 64 bits, or a record: a list of at most RECORD_MOST bytes.
+use Rattle.std.specs.Prelude.{[], pos}
+use Rattle.swan_model.specs.declared.value.Kind.{Kind}
+use Rattle.swan_model.specs.declared.value.Kind.TheVariants as kind
+use Rattle.swan_model.specs.declared.value.Value.{Value}
+use Rattle.swan_model.specs.declared.value.Value.TheVariants.{Int, Bytes}
+
+-- what a value is
+abbrev pub kind_of : Value → Kind
+kind_of (Int n) = kind.Int
+kind_of (Bytes bytes) = kind.Bytes
+
+-- the zero of a kind: the number 0, or the empty record
+abbrev pub zero_of : Kind → Value
+zero_of kind.Int = Int (pos 0)
+zero_of kind.Bytes = Bytes []

@@ -1,0 +1,43 @@
+//! The values, bodies and plans of a run, and what a run means.
+//!
+//! A program is a tree of tasks over objects and hyperqueues. Its meaning is its serial elision, in
+//! which each spawn is an ordinary call. This crate has the types that every other crate speaks of,
+//! and in `specs/` the definitions that a reader must believe: values and plans, rights, the serial
+//! state, the serial step, the elision, and the texts that are printed of its outcome. They are
+//! meant to be read in that order, without any code beside them.
+//!
+//! The crate runs nothing. Each of its calls is proved to answer exactly what its clauses say; the
+//! one answer that is free everywhere is want of memory.
+#![tactic(auto)]
+
+mod body;
+mod fault;
+mod lines;
+mod listed;
+mod memory;
+mod origin;
+mod outcome;
+mod path;
+mod plan;
+mod record;
+mod rights;
+#[cfg(test)]
+mod tests;
+mod text;
+mod value;
+
+pub use body::{Answer, Ask, Body, Child};
+pub use fault::{Fault, FaultKind, Faults, Trouble};
+pub use lines::{LINES_MOST, LinesAnswer, lines_of};
+pub use listed::Listed;
+pub use memory::NoMemory;
+pub use origin::Origin;
+pub use outcome::{Names, Outcome, QueueName, QueueNames, Shown};
+pub use path::{PATH_MOST, Path};
+pub use plan::{
+    FIRST_ITEMS_MOST, FUEL_MOST, Plan, PlanFuel, ROOTS_MOST, RootQueue, RootQueues, Roots,
+};
+pub use record::{RECORD_MOST, Record, RecordAnswer};
+pub use rights::{GIVES_MOST, Give, Gives, Mode};
+pub use text::{Blob, Word, Words};
+pub use value::{Kind, Value, ValueLists, Values};
