@@ -1,0 +1,6 @@
+pub mod Counts
+pub mod Told
+pub mod Reads
+pub mod FilesState
+pub mod SinkState
+pub mod Streams

@@ -1,0 +1,38 @@
+//! Files to read and sinks to write.
+//!
+//! Everything that a run takes from the world or gives to it goes through two traits: `Files`,
+//! whose one call reads a whole file by its name, and `Sink`, whose one call takes some bytes of a
+//! piece. There are three kinds of each: those that a caller writes, those in memory, which answer
+//! exactly what they are told to, and those of the system.
+//!
+//! Promised of every implementation:
+//!
+//! - A read adds the whole content to the buffer, of at most `FILE_MOST` bytes, or leaves the
+//!   buffer as it was. Where contents are told, the bytes are the told ones, and a file is too long
+//!   exactly where the told content passes the limit.
+//! - A put takes a front of its piece, at least one byte, or nothing. `put_all` leaves all bytes in
+//!   the sink, or a front of them.
+//! - A fault of reading or writing comes only where the object's count of faults rose in that call,
+//!   and a file that is too long only where its count of long reads did. No count ever falls. A
+//!   count stops at the last value of 64 bits, so "rose" means there that it stands at it.
+//!
+//! Not promised: that the system reads or writes at all. `OsFiles` and `OsSink` tell no content: that
+//! a read gives what stands in the file, and that what a put took comes out, rests on the system.
+#![tactic(auto)]
+
+mod answer;
+mod counts;
+mod files;
+mod memory_files;
+mod memory_sink;
+mod os_files;
+mod os_sink;
+mod sink;
+
+pub use answer::{Failed, ReadAnswer};
+pub use files::{FILE_MOST, FileBlob, Files};
+pub use memory_files::MemoryFiles;
+pub use memory_sink::MemorySink;
+pub use os_files::OsFiles;
+pub use os_sink::{ERR_PIECE_MOST, OsSink};
+pub use sink::{PIECE_MOST, Sink, put_all};

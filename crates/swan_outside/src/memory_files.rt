@@ -1,0 +1,207 @@
+// Files in memory.
+ghost use Rattle.std.specs.Prelude.{◌≡◌, ◌≤◌, List, ℕ, Some, OnOk, OnErr, find};
+ghost use Rattle.std.specs.Option.{option_copied};
+ghost use Rattle.std.specs.Str.{bytes_eq};
+ghost use Rattle.swan_outside.specs.Counts.{Rose};
+ghost use Rattle.swan_outside.specs.Reads.{Reads, IsTooLong};
+ghost use Rattle.swan_outside.specs.FilesState.{fresh_files, content_of, content_found, IsAnswerTo, after_read};
+ghost use Rattle.swan_outside.specs.declared.answer.ReadAnswer.TheVariants as answer;
+
+use crate::counts::ReadCounts;
+use crate::{FILE_MOST, FileBlob, Files, ReadAnswer};
+use std::marker::Model;
+use swan_model::Word;
+
+/// Files in memory, which tell their contents, and of which chosen calls fail. A look-up goes over
+/// the files one by one. Contracts see them as a `FilesState`.
+#[derive(Drop)]
+pub struct MemoryFiles {
+    files: Vec<FileBlob>,
+    fail: Vec<u64>,
+    calls: u64,
+    counts: ReadCounts,
+}
+
+impl Model for MemoryFiles {
+    ghost use Rattle.swan_outside.specs.FilesState.{FilesState};
+
+    ghost Value = { FilesState };
+
+    ghost view = { λ it. record {
+      files = it.files.items;
+      fail = it.fail.items;
+      calls = it.calls;
+      counts = it.counts;
+    } };
+}
+
+impl MemoryFiles {
+    /// These files, of which the first of each name counts. Calls of `read` count from 1, and one
+    /// whose number is in `fail` fails. Both counts are 0. It takes no memory. `O(1)`.
+    pub fn new(files: Vec<FileBlob>, fail: Vec<u64>) -> MemoryFiles
+        ensures { result ≡ fresh_files files.items fail.items }
+    {
+        MemoryFiles {
+            files,
+            fail,
+            calls: 0,
+            counts: ReadCounts::new(),
+        }
+    }
+}
+
+impl Files for MemoryFiles {
+    ghost content = { λ it name. content_of it.files name };
+
+    ghost faults = { λ it. it.counts.faults };
+
+    ghost long_reads = { λ it. it.counts.long_reads };
+
+    /// Adds the content of the first file of this name to the end of the buffer. Failed comes
+    /// exactly where the call's number is one of those that fail, or no file has the name. TooLong
+    /// comes exactly where else the content passes `FILE_MOST` bytes. `O(files + numbers that fail
+    /// + content)`.
+    fn read(&mut self, name: &Word, into: &mut Vec<u8>) -> Result<(), ReadAnswer>
+        ensures answer { IsAnswerTo (content_found self.old name.now) result }
+        ensures after { self.new ≡ after_read self.old result }
+        ensures whole { OnOk result
+            (Reads (content_of self.old.files name.now) into.old.items into.new.items) }
+        ensures unread { OnErr result (into.new.items ≡ into.old.items) }
+        ensures failed { result ≡ Err answer.Failed →
+            Rose self.old.counts.faults self.new.counts.faults }
+        ensures long { result ≡ Err answer.TooLong →
+            Rose self.old.counts.long_reads self.new.counts.long_reads }
+        ensures long_where_told { result ≡ Err answer.TooLong →
+            IsTooLong (content_of self.old.files name.now) }
+        ensures faults_kept { self.old.counts.faults ≤ self.new.counts.faults }
+        ensures long_reads_kept { self.old.counts.long_reads ≤ self.new.counts.long_reads }
+        ensures contents_kept { (other : List ℕ) →
+            content_of self.new.files other ≡ content_of self.old.files other }
+    {
+        self.calls = self.calls.saturating_add(1);
+        let answer = if self.fail.contains(&self.calls) {
+            Err(ReadAnswer::Failed)
+        } else {
+            append_content(&self.files, name, into)
+        };
+        match answer {
+            Ok(()) => Ok(()),
+            Err(refusal) => {
+                self.counts.note(refusal);
+                Err(refusal)
+            }
+        }
+    }
+}
+
+/// Adds the content of the first file of this name to the end of the buffer.
+fn append_content(files: &[FileBlob], name: &Word, into: &mut Vec<u8>) -> Result<(), ReadAnswer>
+    ensures answer { IsAnswerTo (content_of files.now name.now) result }
+    ensures whole { OnOk result
+        (Reads (content_of files.now name.now) into.old.items into.new.items) }
+    ensures unread { OnErr result (into.new.items ≡ into.old.items) }
+{
+    match file_named(files, name) {
+        Some(file) => append_whole(file.content.as_slice(), into),
+        None => Err(ReadAnswer::Failed),
+    }
+}
+
+/// The first file of this name.
+fn file_named<'a>(files: &'a [FileBlob], name: &Word) -> Option<&'a FileBlob>
+    ensures { option_copied result ≡ find (λ file. bytes_eq file.name name.now) files.now }
+{
+    files
+        .iter()
+        .find(|file| file.name.as_str() == name.as_str())
+}
+
+/// Adds a whole content to the end of the buffer.
+fn append_whole(content: &[u8], into: &mut Vec<u8>) -> Result<(), ReadAnswer>
+    ensures answer { IsAnswerTo (Some content.now) result }
+    ensures whole { OnOk result (Reads (Some content.now) into.old.items into.new.items) }
+    ensures unread { OnErr result (into.new.items ≡ into.old.items) }
+{
+    if content.len() > FILE_MOST {
+        return Err(ReadAnswer::TooLong);
+    }
+    into.extend_from_slice(content)?;
+    Ok(())
+}
+
+#[cfg(test)]
+mod tests {
+    use super::*;
+    use std::alloc::{AllocError, Global};
+    use std::test::Fail;
+    use swan_model::Blob;
+
+    #[test]
+    fn reads_the_first_of_a_name(rt: HostRuntime) -> Result<(), Fail> {
+        let mut files = Vec::new(rt.alloc());
+        files.push(file(rt.alloc(), "a", "one")?)?;
+        files.push(file(rt.alloc(), "b", "")?)?;
+        files.push(file(rt.alloc(), "a", "two")?)?;
+        let mut files = MemoryFiles::new(files, vec![in rt.alloc(); 3, 9]?);
+        let rows = [
+            ("a", Ok(()), ">one", 0),
+            ("c", Err(ReadAnswer::Failed), ">", 1),
+            ("a", Err(ReadAnswer::Failed), ">", 2),
+            ("b", Ok(()), ">", 2),
+            ("a", Ok(()), ">one", 2),
+        ];
+        for (name, answer, left, faults) in rows {
+            let mut into = vec![in rt.alloc(); b'>']?;
+            let name = word(rt.alloc(), name)?;
+            assert_eq!(rt; read_file(&mut files, &name, &mut into), answer);
+            assert_eq!(rt; into.as_slice(), left.as_bytes());
+            assert_eq!(rt; files.counts.faults, faults);
+            assert_eq!(rt; files.counts.long_reads, 0);
+        }
+        Ok(())
+    }
+
+    #[test]
+    fn refuses_a_long_content(rt: HostRuntime) -> Result<(), Fail> {
+        let rows = [
+            (FILE_MOST, Ok(()), FILE_MOST + 1, 0),
+            (FILE_MOST + 1, Err(ReadAnswer::TooLong), 1, 1),
+        ];
+        for (length, answer, left, long_reads) in rows {
+            let content = Blob::new(vec![in rt.alloc(); 0; length]?);
+            let name = word(rt.alloc(), "a")?;
+            let mut files = Vec::new(rt.alloc());
+            files.push(FileBlob { name, content })?;
+            let mut files = MemoryFiles::new(files, Vec::new(rt.alloc()));
+            let mut into = vec![in rt.alloc(); b'>']?;
+            let name = word(rt.alloc(), "a")?;
+            assert_eq!(rt; read_file(&mut files, &name, &mut into), answer);
+            assert_eq!(rt; into.len(), left);
+            assert_eq!(rt; files.counts.long_reads, long_reads);
+            assert_eq!(rt; files.counts.faults, 0);
+        }
+        Ok(())
+    }
+
+    fn word(alloc: Global, text: &str) -> Result<Word, AllocError> {
+        Word::of(alloc, text).map_err(|_| AllocError)
+    }
+
+    fn file(alloc: Global, name: &str, content: &str) -> Result<FileBlob, AllocError> {
+        let mut bytes = Vec::new(alloc);
+        bytes.extend_from_slice(content.as_bytes())?;
+        Ok(FileBlob {
+            name: word(alloc, name)?,
+            content: Blob::new(bytes),
+        })
+    }
+
+    /// A read through the trait's bound.
+    fn read_file<F: Files>(
+        files: &mut F,
+        name: &Word,
+        into: &mut Vec<u8>,
+    ) -> Result<(), ReadAnswer> {
+        files.read(name, into)
+    }
+}

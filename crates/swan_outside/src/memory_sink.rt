@@ -1,0 +1,138 @@
+// A sink in memory.
+ghost use Rattle.std.specs.Prelude.{◌≡◌, ◌≤◌, ◌<◌, [], Some, length, take, IfOk, OnErr};
+ghost use Rattle.swan_outside.specs.Counts.{Rose};
+ghost use Rattle.swan_outside.specs.Told.{Appends};
+ghost use Rattle.swan_outside.specs.SinkState.{empty_sink, put_answer, after_put};
+
+use crate::{Failed, Sink};
+use std::alloc::Global;
+use std::marker::Model;
+use swan_model::NoMemory;
+
+/// A sink in memory, which tells its bytes, and of which chosen calls fail. Contracts see it as a
+/// `SinkState`.
+#[derive(Drop)]
+pub struct MemorySink {
+    bytes: Vec<u8>,
+    most: usize,
+    room: usize,
+    fail: Vec<u64>,
+    calls: u64,
+    faults: u64,
+}
+
+impl Model for MemorySink {
+    ghost use Rattle.std.specs.Prelude.{◌≤◌, length, vec_capacity};
+    ghost use Rattle.swan_outside.specs.SinkState.{SinkState};
+
+    ghost Value = { SinkState };
+
+    ghost view = { λ it. record {
+      written = it.bytes.items;
+      most = it.most;
+      room = it.room;
+      fail = it.fail.items;
+      calls = it.calls;
+      faults = it.faults;
+    } };
+
+    ghost invariant = { λ it. (1 ≤ it.most)
+        × (length it.bytes.items ≤ it.room) × (it.room ≤ vec_capacity it.bytes) };
+}
+
+impl MemorySink {
+    /// An empty sink with room for so many bytes, of which one put takes at most `most`. Calls of
+    /// `put` count from 1, and one whose number is in `fail` fails. An Err is want of memory. One
+    /// allocation of `room` bytes.
+    pub fn new(
+        alloc: Global,
+        most: usize,
+        room: usize,
+        fail: Vec<u64>,
+    ) -> Result<MemorySink, NoMemory>
+        requires { 1 ≤ most }
+        ensures { IfOk result (λ sink. sink ≡ empty_sink most room fail.items) }
+    {
+        Ok(MemorySink {
+            bytes: Vec::with_capacity(alloc, room)?,
+            most,
+            room,
+            fail,
+            calls: 0,
+            faults: 0,
+        })
+    }
+
+    /// All bytes so far. It takes no memory. `O(1)`.
+    pub fn written(&self) -> &[u8]
+        ensures { result.now ≡ self.now.written }
+    {
+        self.bytes.as_slice()
+    }
+}
+
+impl Sink for MemorySink {
+    ghost written = { λ it. Some it.written };
+
+    ghost faults = { λ it. it.faults };
+
+    /// Takes the least of `most`, the room that is left, and the length of the piece. Failed comes
+    /// exactly where the call's number is one of those that fail, or no room is left. It takes no
+    /// memory. `O(numbers that fail + bytes taken)`.
+    fn put(&mut self, piece: &[u8]) -> Result<usize, Failed>
+        requires { 0 < length piece.now }
+        ensures answer { result ≡ put_answer self.old piece.now }
+        ensures after { self.new ≡ after_put self.old piece.now }
+        ensures some { IfOk result (λ n. 1 ≤ n) }
+        ensures most { IfOk result (λ n. n ≤ length piece.now) }
+        ensures taken { IfOk result
+            (λ n. Appends (Some self.old.written) (take n piece.now) (Some self.new.written)) }
+        ensures nothing { OnErr result
+            (Appends (Some self.old.written) [] (Some self.new.written)) }
+        ensures failed { OnErr result (Rose self.old.faults self.new.faults) }
+        ensures faults_kept { self.old.faults ≤ self.new.faults }
+    {
+        self.calls = self.calls.saturating_add(1);
+        let left = self.room - self.bytes.len();
+        if left == 0 || self.fail.contains(&self.calls) {
+            self.faults = self.faults.saturating_add(1);
+            return Err(Failed);
+        }
+        let count = self.most.min(left).min(piece.len());
+        self.bytes.extend_from_slice(&piece[..count]).unwrap();
+        Ok(count)
+    }
+}
+
+#[cfg(test)]
+mod tests {
+    use super::*;
+    use std::test::Fail;
+
+    #[test]
+    fn takes_the_least_of_the_limits(rt: HostRuntime) -> Result<(), Fail> {
+        let fail = vec![in rt.alloc(); 2]?;
+        let mut sink = MemorySink::new(rt.alloc(), 3, 6, fail)?;
+        let rows = [
+            ("abcd", Ok(3), "abc", 0),
+            ("d", Err(Failed), "abc", 1),
+            ("d", Ok(1), "abcd", 1),
+            ("efg", Ok(2), "abcdef", 1),
+            ("g", Err(Failed), "abcdef", 2),
+        ];
+        for (piece, answer, written, faults) in rows {
+            assert_eq!(rt; put_piece(&mut sink, piece), answer, "at {piece}");
+            assert_eq!(rt; sink.written(), written.as_bytes());
+            assert_eq!(rt; sink.faults, faults);
+        }
+        Ok(())
+    }
+
+    /// A put through the trait's bound, of a piece that isn't empty.
+    fn put_piece<S: Sink>(sink: &mut S, piece: &str) -> Result<usize, Failed> {
+        if piece.is_empty() {
+            return Err(Failed);
+        }
+        sink.put(piece.as_bytes())
+    }
+}

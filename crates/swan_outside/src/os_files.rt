@@ -1,0 +1,272 @@
+// Files of the system.
+ghost use Rattle.std.specs.Prelude.{◌≡◌, ◌≢◌, ◌<◌, ◌≤◌, None, length, take, IfOk, OnOk, OnErr};
+ghost use Rattle.std.specs.Io.{StartsWith};
+ghost use Rattle.std.specs.Io.KnownBytes.{Consumes, IsAtEnd};
+ghost use Rattle.std.specs.IoError.{error_kind};
+ghost use Rattle.swan_outside.specs.Counts.{Rose, no_counts, counts_after_read};
+ghost use Rattle.swan_outside.specs.Reads.{Reads, IsTooLong, Gave};
+ghost use Rattle.swan_outside.specs.declared.answer.ReadAnswer.TheVariants as answer;
+
+use crate::counts::ReadCounts;
+use crate::{FILE_MOST, Files, ReadAnswer};
+use std::io::{ErrorKind, Read};
+use std::marker::Model;
+use std::rt::Runtime;
+use std::{fs, io};
+use swan_model::Word;
+
+/// How many bytes are asked of the system at once.
+const CHUNK: usize = 8_192;
+
+/// How often one read is made that signals interrupt. The last such interruption is a fault.
+const READS_MOST: u32 = 1_000_000;
+
+/// The files of the system. Names are paths. They tell no content. Contracts see them as their
+/// counts of faults and of long reads.
+#[derive(Drop)]
+pub struct OsFiles<T: Runtime> {
+    rt: T,
+    counts: ReadCounts,
+}
+
+impl<T: Runtime> Model for OsFiles<T> {
+    ghost use Rattle.swan_outside.specs.declared.counts.ReadCounts.{ReadCounts};
+
+    ghost Value = { ReadCounts };
+
+    ghost view = { λ it. it.counts };
+}
+
+impl<T: Runtime> OsFiles<T> {
+    /// The files that this runtime reaches. Both counts are 0. It takes no memory. `O(1)`.
+    pub fn new(rt: T) -> OsFiles<T>
+        ensures { result ≡ no_counts }
+    {
+        OsFiles {
+            rt,
+            counts: ReadCounts::new(),
+        }
+    }
+}
+
+impl<T: Runtime> Files for OsFiles<T> {
+    ghost content = { λ _ _. None };
+
+    ghost faults = { λ it. it.faults };
+
+    ghost long_reads = { λ it. it.long_reads };
+
+    /// Adds the whole content of a file to the end of the buffer. The name is its path. A pipe or
+    /// another special file is read to its end, or to one byte past `FILE_MOST`. Failed comes where
+    /// the system can't open or read the file: it is missing, or a directory, or its name is empty
+    /// or has a NUL byte. TooLong comes where the file has more than `FILE_MOST` bytes, of which no
+    /// more than one past that is read. NoMemory comes where the buffer can't grow, or the system
+    /// has no memory.
+    ///
+    /// Where the runtime tells what its files have left, the bytes are all that one of its files
+    /// had, and TooLong comes only where one had more than `FILE_MOST`. `O(bytes that are read)`.
+    fn read(&mut self, name: &Word, into: &mut Vec<u8>) -> Result<(), ReadAnswer>
+        ensures counts { self.new ≡ counts_after_read self.old result }
+        ensures file { OnOk result ((file : T.File)
+            × Reads (T.File.remaining file) into.old.items into.new.items) }
+        ensures whole { OnOk result (Reads None into.old.items into.new.items) }
+        ensures unread { OnErr result (into.new.items ≡ into.old.items) }
+        ensures failed { result ≡ Err answer.Failed → Rose self.old.faults self.new.faults }
+        ensures long { result ≡ Err answer.TooLong → Rose self.old.long_reads self.new.long_reads }
+        ensures long_file { result ≡ Err answer.TooLong →
+            (file : T.File) × IsTooLong (T.File.remaining file) }
+        ensures faults_kept { self.old.faults ≤ self.new.faults }
+        ensures long_reads_kept { self.old.long_reads ≤ self.new.long_reads }
+    {
+        let start = into.len();
+        match append_file(&self.rt, name.as_str(), into) {
+            Ok(()) => Ok(()),
+            Err(refusal) => {
+                into.truncate(start);
+                self.counts.note(refusal);
+                Err(refusal)
+            }
+        }
+    }
+}
+
+/// Adds the content of a file to the end of the buffer. After a refusal a part of it may be there.
+fn append_file<T: Runtime>(rt: &T, name: &str, into: &mut Vec<u8>) -> Result<(), ReadAnswer>
+    ensures front { StartsWith into.new.items into.old.items }
+    ensures whole { OnOk result ((file : T.File)
+        × Reads (T.File.remaining file) into.old.items into.new.items) }
+    ensures long { result ≡ Err answer.TooLong →
+        (file : T.File) × IsTooLong (T.File.remaining file) }
+{
+    let mut file = fs::open(rt, name).map_err(refusal_of)?;
+    append_rest(&mut file, into)
+}
+
+/// Adds what a reader has left to the end of the buffer. After a refusal a part of it may be there.
+fn append_rest<R: Read>(reader: &mut R, into: &mut Vec<u8>) -> Result<(), ReadAnswer>
+    ensures front { StartsWith into.new.items into.old.items }
+    ensures whole { OnOk result (Reads (R.remaining reader.old) into.old.items into.new.items) }
+    ensures long { result ≡ Err answer.TooLong → IsTooLong (R.remaining reader.old) }
+{
+    let mut chunk = [0u8; CHUNK];
+    let mut count = 0;
+    while count <= FILE_MOST {
+        let most = CHUNK.min(FILE_MOST + 1 - count);
+        let taken = append_some(reader, &mut chunk[..most], into)?;
+        if taken == 0 {
+            return Ok(());
+        }
+        count += taken;
+    }
+    Err(ReadAnswer::TooLong)
+}
+
+/// Adds what one read gives to the end of the buffer, and answers how many bytes it gave: none only
+/// at the end.
+fn append_some<R: Read>(
+    reader: &mut R,
+    chunk: &mut [u8],
+    into: &mut Vec<u8>,
+) -> Result<usize, ReadAnswer>
+    requires { 0 < length chunk.old }
+    ensures gave { IfOk result (λ n. Gave (R.remaining reader.old) (R.remaining reader.new)
+        into.old.items into.new.items n) }
+    ensures end { IfOk result (λ n. n ≡ 0 → IsAtEnd (R.remaining reader.new)) }
+    ensures most { IfOk result (λ n. n ≤ length chunk.old) }
+    ensures kept { OnErr result (into.new.items ≡ into.old.items) }
+    ensures not_long { result ≢ Err answer.TooLong }
+{
+    let count = read_some(reader, chunk)?;
+    into.extend_from_slice(&chunk[..count])?;
+    Ok(count)
+}
+
+/// One read, made again where a signal interrupts it.
+fn read_some<R: Read>(reader: &mut R, chunk: &mut [u8]) -> Result<usize, ReadAnswer>
+    ensures taken { IfOk result (λ n.
+        Consumes (R.remaining reader.old) (R.remaining reader.new) (take n chunk.new)) }
+    ensures end { IfOk result (λ n.
+        n ≡ 0 → 0 < length chunk.old → IsAtEnd (R.remaining reader.new)) }
+    ensures most { IfOk result (λ n. n ≤ length chunk.old) }
+    ensures not_long { result ≢ Err answer.TooLong }
+{
+    for _ in 0..READS_MOST {
+        match reader.read(chunk) {
+            Ok(count) => return Ok(count),
+            Err(error) if error.kind() == ErrorKind::Interrupted => {}
+            Err(error) => return Err(refusal_of(error)),
+        }
+    }
+    Err(ReadAnswer::Failed)
+}
+
+/// What an error of the system is: want of memory, or a fault.
+fn refusal_of(error: io::Error) -> ReadAnswer
+    ensures no_memory { error_kind error ≡ ErrorKind.OutOfMemory → result ≡ answer.NoMemory }
+    ensures failed { error_kind error ≢ ErrorKind.OutOfMemory → result ≡ answer.Failed }
+{
+    match error.kind() {
+        ErrorKind::OutOfMemory => ReadAnswer::NoMemory,
+        _ => ReadAnswer::Failed,
+    }
+}
+
+#[cfg(test)]
+mod tests {
+    use super::*;
+    use std::alloc::{AllocError, Global};
+    use std::fs::File;
+    use std::test::Fail;
+
+    const SHORT: &str = "swan_outside_test_short";
+
+    const LONG: &str = "swan_outside_test_long";
+
+    #[test]
+    fn reads_files_of_the_system(rt: HostRuntime) -> Result<(), Fail> {
+        fs::write(&rt, SHORT, "some bytes")?;
+        let rows = [
+            (SHORT, Ok(()), ">some bytes"),
+            ("swan_outside_test_missing", Err(ReadAnswer::Failed), ">"),
+            (".", Err(ReadAnswer::Failed), ">"),
+            ("", Err(ReadAnswer::Failed), ">"),
+            ("nul\0byte", Err(ReadAnswer::Failed), ">"),
+            ("/dev/null", Ok(()), ">"),
+            ("/dev/zero", Err(ReadAnswer::TooLong), ">"),
+        ];
+        let mut files = OsFiles::new(rt);
+        for (name, answer, left) in rows {
+            let mut into = vec![in rt.alloc(); b'>']?;
+            let name = word(rt.alloc(), name)?;
+            assert_eq!(rt; files.read(&name, &mut into), answer);
+            assert_eq!(rt; into.as_slice(), left.as_bytes());
+        }
+        assert_eq!(rt; files.counts.faults, 4);
+        assert_eq!(rt; files.counts.long_reads, 1);
+        fs::remove_file(&rt, SHORT)?;
+        Ok(())
+    }
+
+    #[test]
+    fn reads_up_to_the_limit(rt: HostRuntime) -> Result<(), Fail> {
+        let mut files = OsFiles::new(rt);
+        let name = word(rt.alloc(), LONG)?;
+        let rows = [
+            (FILE_MOST, Ok(()), FILE_MOST, 0),
+            (FILE_MOST + 1, Err(ReadAnswer::TooLong), 0, 1),
+        ];
+        for (length, answer, left, long_reads) in rows {
+            File::create(&rt, LONG)?.set_len(length as u64)?;
+            let mut into = Vec::new(rt.alloc());
+            assert_eq!(rt; files.read(&name, &mut into), answer);
+            assert_eq!(rt; into.len(), left);
+            assert_eq!(rt; files.counts.long_reads, long_reads);
+        }
+        fs::remove_file(&rt, LONG)?;
+        Ok(())
+    }
+
+    /// Gives a byte, is interrupted, gives another byte, and then ends or fails.
+    #[derive(Drop)]
+    struct Stumbling {
+        reads: u8,
+        last: Option<ErrorKind>,
+    }
+
+    impl Read for Stumbling {
+        fn read(&mut self, chunk: &mut [u8]) -> io::Result<usize> {
+            self.reads = self.reads.saturating_add(1);
+            if self.reads == 2 {
+                return Err(io::Error::from(ErrorKind::Interrupted));
+            }
+            if self.reads > 3 || chunk.is_empty() {
+                return match self.last {
+                    Some(kind) => Err(io::Error::from(kind)),
+                    None => Ok(0),
+                };
+            }
+            chunk[0] = b'0' + self.reads;
+            Ok(1)
+        }
+    }
+
+    #[test]
+    fn reads_to_the_end_or_the_fault(rt: HostRuntime) -> Result<(), Fail> {
+        let rows = [
+            (None, Ok(())),
+            (Some(ErrorKind::Other), Err(ReadAnswer::Failed)),
+            (Some(ErrorKind::OutOfMemory), Err(ReadAnswer::NoMemory)),
+        ];
+        for (last, answer) in rows {
+            let mut into = Vec::new(rt.alloc());
+            let mut reader = Stumbling { reads: 0, last };
+            assert_eq!(rt; append_rest(&mut reader, &mut into), answer);
+            assert_eq!(rt; into.as_slice(), b"13".as_slice());
+        }
+        Ok(())
+    }
+
+    fn word(alloc: Global, text: &str) -> Result<Word, AllocError> {
+        Word::of(alloc, text).map_err(|_| AllocError)
+    }
+}

@@ -1,0 +1,180 @@
+// Standard output and standard error.
+ghost use Rattle.std.specs.Prelude.{◌≡◌, ◌≤◌, ◌<◌, [], None, length, take, IfOk, OnErr};
+ghost use Rattle.swan_outside.specs.Counts.{Rose, faults_after_put};
+ghost use Rattle.swan_outside.specs.Told.{Appends};
+ghost use Rattle.swan_outside.specs.Streams.{text_front, IsTakenBy};
+
+use crate::{Failed, Sink};
+use std::io::ErrorKind;
+use std::marker::Model;
+use std::rt::Runtime;
+
+/// The largest number of bytes that standard error takes at once.
+pub const ERR_PIECE_MOST: usize = 1_024;
+
+/// How often one write is made that signals interrupt. The last such interruption is a fault.
+const WRITES_MOST: u32 = 1_000_000;
+
+/// The two streams that a process writes.
+#[derive(Clone, Copy)]
+enum Stream {
+    Output,
+    Error,
+}
+
+/// Standard output, or standard error. It tells no bytes. Contracts see it as a `StreamState`.
+#[derive(Drop)]
+pub struct OsSink<T: Runtime> {
+    rt: T,
+    stream: Stream,
+    faults: u64,
+}
+
+impl<T: Runtime> Model for OsSink<T> {
+    ghost use Rattle.swan_outside.specs.Streams.{StreamState};
+
+    ghost Value = { StreamState };
+
+    ghost view = { λ it. record { stream = it.stream; faults = it.faults } };
+}
+
+impl<T: Runtime> OsSink<T> {
+    /// Standard output. Its count of faults is 0. It takes no memory. `O(1)`.
+    pub fn out(rt: T) -> OsSink<T>
+        ensures { result ≡ record { stream = Stream.Output; faults = 0 } }
+    {
+        OsSink {
+            rt,
+            stream: Stream::Output,
+            faults: 0,
+        }
+    }
+
+    /// Standard error. Its count of faults is 0. It takes no memory. `O(1)`.
+    pub fn err(rt: T) -> OsSink<T>
+        ensures { result ≡ record { stream = Stream.Error; faults = 0 } }
+    {
+        OsSink {
+            rt,
+            stream: Stream::Error,
+            faults: 0,
+        }
+    }
+}
+
+impl<T: Runtime> Sink for OsSink<T> {
+    ghost written = { λ _. None };
+
+    ghost faults = { λ it. it.faults };
+
+    /// Writes bytes from the front of a piece. Standard output takes as many as the system does at
+    /// once. Standard error takes the longest front of at most `ERR_PIECE_MOST` bytes that is whole
+    /// characters of UTF-8, and a piece that begins with none is a fault. Failed comes else where
+    /// the system can't write, or takes nothing; where it fails in the middle of a front for
+    /// standard error, a part of that may have been written. It takes no memory. `O(bytes taken)`.
+    fn put(&mut self, piece: &[u8]) -> Result<usize, Failed>
+        requires { 0 < length piece.now }
+        ensures counts { self.new ≡
+            record self.old { faults = faults_after_put self.old.faults result } }
+        ensures front { IfOk result (λ n. IsTakenBy self.old.stream piece.now n) }
+        ensures some { IfOk result (λ n. 1 ≤ n) }
+        ensures most { IfOk result (λ n. n ≤ length piece.now) }
+        ensures failed { OnErr result (Rose self.old.faults self.new.faults) }
+        ensures faults_kept { self.old.faults ≤ self.new.faults }
+    {
+        match write_front(&self.rt, self.stream, piece) {
+            Ok(count) => Ok(count),
+            Err(Failed) => {
+                self.faults = self.faults.saturating_add(1);
+                Err(Failed)
+            }
+        }
+    }
+}
+
+/// Writes bytes from the front of a piece to this stream.
+fn write_front<T: Runtime>(rt: &T, stream: Stream, piece: &[u8]) -> Result<usize, Failed>
+    ensures front { IfOk result (λ n. IsTakenBy stream piece.now n) }
+    ensures some { IfOk result (λ n. 1 ≤ n) }
+    ensures most { IfOk result (λ n. n ≤ length piece.now) }
+{
+    match stream {
+        Stream::Output => write_some(rt, piece),
+        Stream::Error => write_text(rt, piece),
+    }
+}
+
+/// Writes some bytes from the front of a piece to standard output, again where a signal interrupts
+/// it.
+fn write_some<T: Runtime>(rt: &T, piece: &[u8]) -> Result<usize, Failed>
+    ensures some { IfOk result (λ n. 1 ≤ n) }
+    ensures most { IfOk result (λ n. n ≤ length piece.now) }
+{
+    for _ in 0..WRITES_MOST {
+        match rt.write_some(piece) {
+            Ok(0) => return Err(Failed),
+            Ok(count) => return Ok(count),
+            Err(error) if error.kind() == ErrorKind::Interrupted => {}
+            Err(_) => return Err(Failed),
+        }
+    }
+    Err(Failed)
+}
+
+/// Writes the front of a piece that is whole characters to standard error.
+#[tactic(auto, using(crate::proofs::Fronts::text_front_le))]
+fn write_text<T: Runtime>(rt: &T, piece: &[u8]) -> Result<usize, Failed>
+    ensures front { IfOk result (λ n. n ≡ length (text_front piece.now)) }
+    ensures some { IfOk result (λ n. 1 ≤ n) }
+    ensures most { IfOk result (λ n. n ≤ length piece.now) }
+{
+    let text = front_of(piece);
+    if text.is_empty() {
+        return Err(Failed);
+    }
+    match rt.eprint(text) {
+        Ok(()) => Ok(text.len()),
+        Err(_) => Err(Failed),
+    }
+}
+
+/// The longest front of at most `ERR_PIECE_MOST` bytes that is whole characters.
+fn front_of(piece: &[u8]) -> &str
+    ensures { result.now ≡ text_front piece.now }
+{
+    let front = &piece[..ERR_PIECE_MOST.min(piece.len())];
+    match front.utf8_chunks().next() {
+        Some(chunk) => chunk.valid(),
+        None => "",
+    }
+}
+
+#[cfg(test)]
+mod tests {
+    use super::*;
+
+    #[test]
+    fn writes_to_each_stream(rt: HostRuntime) {
+        let piece = b"a put of a test\n";
+        for mut sink in [OsSink::out(rt), OsSink::err(rt)] {
+            let taken = sink.put(piece).unwrap_or(0);
+            assert!(rt; 1 <= taken && taken <= piece.len());
+            assert_eq!(rt; sink.faults, 0);
+        }
+    }
+
+    #[test]
+    fn standard_error_takes_whole_characters(rt: HostRuntime) {
+        let mut sink = OsSink::err(rt);
+        let rows = [
+            (&b"\xc3\xa9\n"[..], Ok(3), 0),
+            (&b"\n\xc3"[..], Ok(1), 0),
+            (&b"\xc3"[..], Err(Failed), 1),
+            (&b"\xff\n"[..], Err(Failed), 2),
+        ];
+        for (piece, answer, faults) in rows {
+            assert_eq!(rt; sink.put(piece), answer);
+            assert_eq!(rt; sink.faults, faults);
+        }
+    }
+}

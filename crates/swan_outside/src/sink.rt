@@ -1,0 +1,96 @@
+// What takes bytes.
+ghost use Rattle.std.specs.Prelude.{◌≡◌, ◌≤◌, ◌<◌, List, ℕ, [], Option, length, take, drop, IfOk, OnOk, OnErr};
+ghost use Rattle.swan_outside.specs.Counts.{Rose};
+ghost use Rattle.swan_outside.specs.Told.{Appends, AppendsFront};
+
+use crate::Failed;
+
+/// The largest number of bytes that `put_all` offers at once.
+pub const PIECE_MOST: usize = 65_536;
+
+/// What takes bytes one after another.
+pub trait Sink {
+    /// All bytes so far, where that is told. A sink that tells them after a call told them before
+    /// it.
+    ghost written: { Self → Option (List ℕ) };
+
+    /// How many puts failed.
+    ghost faults: { Self → ℕ };
+
+    /// Takes some bytes from the front of a piece, and answers how many, from 1 to all of them.
+    /// Failed comes only where the count of faults rose in this call, and then nothing was taken. A
+    /// put that took nothing is a fault.
+    fn put(&mut self, piece: &[u8]) -> Result<usize, Failed>
+        requires { 0 < length piece.now }
+        ensures some { IfOk result (λ n. 1 ≤ n) }
+        ensures most { IfOk result (λ n. n ≤ length piece.now) }
+        ensures taken { IfOk result
+            (λ n. Appends (written self.old) (take n piece.now) (written self.new)) }
+        ensures nothing { OnErr result (Appends (written self.old) [] (written self.new)) }
+        ensures failed { OnErr result (Rose (faults self.old) (faults self.new)) }
+        ensures faults_kept { faults self.old ≤ faults self.new };
+}
+
+/// Puts all bytes, in pieces of at most `PIECE_MOST`: what a put leaves of a piece is offered
+/// again. After Ok all bytes were appended. Failed comes only where the sink's count of faults rose
+/// in this call, and then a front of the bytes was appended. It takes no memory of its own. At most
+/// one put a byte, and one for each `PIECE_MOST` bytes where the sink takes whole pieces.
+pub fn put_all<S: Sink>(sink: &mut S, bytes: &[u8]) -> Result<(), Failed>
+    ensures ok { OnOk result (Appends (S.written sink.old) bytes.now (S.written sink.new)) }
+    ensures front { AppendsFront (S.written sink.old) bytes.now (S.written sink.new) }
+    ensures failed { OnErr result (Rose (S.faults sink.old) (S.faults sink.new)) }
+    ensures faults_kept { S.faults sink.old ≤ S.faults sink.new }
+{
+    let mut done = 0;
+    while done < bytes.len() {
+        done += sink.put(piece_from(bytes, done))?;
+    }
+    Ok(())
+}
+
+/// The next piece to offer where so many bytes are done.
+#[tactic(auto, using(crate::proofs::Fronts::take_to_end))]
+fn piece_from(bytes: &[u8], done: usize) -> &[u8]
+    requires { done < length bytes.now }
+    ensures { result.now ≡ take PIECE_MOST (drop done bytes.now) }
+{
+    let count = PIECE_MOST.min(bytes.len() - done);
+    &bytes[done..done + count]
+}
+
+#[cfg(test)]
+mod tests {
+    use super::*;
+    use crate::MemorySink;
+    use std::test::Fail;
+
+    #[test]
+    fn puts_all_or_a_front(rt: HostRuntime) -> Result<(), Fail> {
+        let rows = [
+            (5, 0, Ok(()), "hello"),
+            (2, 0, Ok(()), "hello"),
+            (2, 2, Err(Failed), "he"),
+            (9, 1, Err(Failed), ""),
+        ];
+        for (most, failing, answer, written) in rows {
+            let fail = vec![in rt.alloc(); failing]?;
+            let mut sink = MemorySink::new(rt.alloc(), most, 16, fail)?;
+            assert_eq!(rt; put_all(&mut sink, b"hello"), answer);
+            assert_eq!(rt; sink.written(), written.as_bytes());
+        }
+        Ok(())
+    }
+
+    #[test]
+    fn puts_more_than_one_piece(rt: HostRuntime) -> Result<(), Fail> {
+        let bytes = vec![in rt.alloc(); 7; PIECE_MOST + 1]?;
+        let fail = vec![in rt.alloc(); 2]?;
+        let mut sink = MemorySink::new(rt.alloc(), usize::MAX, 2 * PIECE_MOST, fail)?;
+        assert_eq!(rt; put_all(&mut sink, &bytes), Err(Failed));
+        assert_eq!(rt; sink.written().len(), PIECE_MOST);
+        assert_eq!(rt; put_all(&mut sink, &bytes[..1]), Ok(()));
+        assert_eq!(rt; put_all(&mut sink, b""), Ok(()));
+        assert_eq!(rt; sink.written(), bytes.as_slice());
+        Ok(())
+    }
+}
