@@ -1,0 +1,14 @@
+pub mod Aliases
+pub mod Asks
+pub mod Counts
+pub mod Ends
+pub mod FaultOrder
+pub mod Paths
+pub mod Pops
+pub mod Rights
+pub mod RootLists
+pub mod Runs
+pub mod Spawns
+pub mod StepLaws
+pub mod Steps
+pub mod Still

@@ -1,0 +1,6 @@
+use Rattle.std.proofs.Common.{◌≡◌}
+use Rattle.swan_model.specs.Elision.{serial}
+use Rattle.serial_elision.proofs.elision.elide.Given as goal
+
+abbrev pub invariant-loop-turn : goal.invariant-loop-turn
+invariant-loop-turn g l = l.state ≡ serial g.B.Body l.fn.plan l._turn

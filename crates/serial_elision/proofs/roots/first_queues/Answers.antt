@@ -1,0 +1,7 @@
+use Rattle.std.proofs.Common.{arith, length, ◌≤◌}
+use Rattle.serial_elision.proofs.RootLists.{le-first_queues}
+use Rattle.serial_elision.proofs.roots.first_queues.Goals as goal
+
+pub overflow_cast-number : goal.overflow_cast-number
+overflow_cast-number c =
+    let most : length c.loop-root.queues.items ≤ length c.args.roots = le-first_queues _ _ _ c.loop-root.invariant.2 in omega arith

@@ -1,0 +1,22 @@
+-- What the code says that an ask did, and what the definitions say.
+use Rattle.std.specs.Prelude.{◌≡◌, ℕ, ◌+◌, ◌∷◌, ◌++◌, []}
+use Rattle.swan_model.specs.SerialState.{Activation, Store, State}
+use Rattle.swan_model.specs.SerialStep.{told}
+use Rattle.swan_model.specs.SerialStep as serial
+use Rattle.serial_elision.specs.declared.effect.Effect.{Effect}
+use Rattle.serial_elision.specs.declared.effect.Effect.TheVariants.{Answered, Spawned, Ended, Faulted}
+
+-- The activation and the store that the code leaves are those of the effect; an activation that ends
+-- leaves the store as it was.
+abbrev pub IsEffect : {L : Type 0} → Effect L → Activation L → Store → Store → serial.Effect L → Type 0
+IsEffect (Answered answer) a before after effect = effect ≡ serial.goes_on (told a answer) after
+IsEffect (Spawned child) a before after effect = effect ≡ serial.spawns a child after
+IsEffect Ended a before after effect = (effect ≡ serial.ends) × (after ≡ before)
+IsEffect (Faulted kind) a before after effect = (effect ≡ serial.faults kind) × (after ≡ before)
+
+-- The state once an effect has come to the activation that was taken off its stack.
+abbrev pub settled : {L : Type 0} → Effect L → Activation L → ℕ → State L → State L
+settled (Answered answer) a place s = record s { steps = s.steps + 1; stack = told a answer ∷ s.stack }
+settled (Spawned child) a place s = record s { steps = s.steps + 1; stack = child ∷ a ∷ s.stack }
+settled Ended a place s = record s { steps = s.steps + 1 }
+settled (Faulted kind) a place s = record s { steps = s.steps + 1; faults = s.faults ++ (record { path = a.path; place = place; kind = kind }) ∷ [] }

@@ -1,0 +1,35 @@
+// The queues of an elision.
+ghost use Rattle.std.specs.Prelude.{◌≡◌, [], ◌∷◌, MatchOption, IfNone};
+
+use std::collections::VecDeque;
+use std::marker::Model;
+use swan_model::{Origin, Value};
+
+/// A queue. Contracts see it as the queue of the serial state.
+#[derive(Drop)]
+pub struct Queue {
+    /// What made it.
+    pub origin: Origin,
+    /// Its items, the first one in front.
+    pub items: VecDeque<Value>,
+}
+
+impl Model for Queue {
+    ghost use Rattle.swan_model.specs.SerialState.{Queue as Listed};
+
+    ghost Value = { Listed };
+
+    ghost view = { λ queue. record { origin = queue.origin; items = queue.items.items } };
+}
+
+impl Queue {
+    /// Takes the first item off, and None exactly where there is none. `O(1)`.
+    pub fn pop(&mut self) -> Option<Value>
+        ensures first { MatchOption result (self.old.items ≡ [])
+            (λ item. self.old.items ≡ item ∷ self.new.items) }
+        ensures none { IfNone result (self.new ≡ self.old) }
+        ensures origin { self.new.origin ≡ self.old.origin }
+    {
+        self.items.pop_front()
+    }
+}

@@ -1,0 +1,134 @@
+// The serial state, and the serial step.
+ghost use Rattle.std.specs.Prelude.{◌≡◌, ◌+◌, ◌^◌, ◌<◌, ◌++◌, ◌∷◌, [], IfOk, OnOk, IsTrue, ◌↔◌};
+ghost use Rattle.swan_model.specs.SerialStep.{effect, step};
+ghost use Rattle.serial_elision.specs.Bounds.{HasPaid};
+ghost use Rattle.serial_elision.specs.Effects.{IsEffect, settled};
+
+use crate::spawn::spawn;
+use crate::{Activation, Effect, Stack, Store};
+use std::alloc::Global;
+use std::marker::Model;
+use swan_model::{Answer, Ask, Body, Fault, FaultKind, Faults, NoMemory, Path};
+
+/// The serial state. Contracts see it as the state of the definitions.
+#[derive(Drop)]
+pub struct State<L> {
+    /// How many steps were taken.
+    pub steps: u64,
+    /// The activations that haven't ended.
+    pub stack: Stack<L>,
+    /// The objects and queues.
+    pub store: Store,
+    /// The faults so far.
+    pub faults: Faults,
+}
+
+impl<L> Model for State<L> {
+    ghost use Rattle.swan_model.specs.SerialState.{State as Serial};
+
+    ghost Value = { Serial L };
+
+    ghost view = { λ state. record {
+      steps = state.steps;
+      stack = state.stack;
+      store = state.store;
+      faults = state.faults;
+    } };
+}
+
+impl<L: Drop> State<L> {
+    /// Gives an ask its effect. Its activation has paid for the step.
+    fn perform(
+        &mut self,
+        alloc: Global,
+        top: &mut Activation<L>,
+        ask: Ask<L>,
+    ) -> Result<Effect<L>, NoMemory>
+        requires { HasPaid top.old }
+        ensures effect { IfOk result (λ e.
+            IsEffect e top.new self.old.store self.new.store
+            (effect self.old.steps self.old.store top.old ask)) }
+        ensures path { top.new.path ≡ top.old.path }
+        ensures steps { self.new.steps ≡ self.old.steps }
+        ensures stack { self.new.stack ≡ self.old.stack }
+        ensures faults { self.new.faults ≡ self.old.faults }
+    {
+        match ask {
+            Ask::Work | Ask::Sync => Ok(Effect::Answered(Answer::Nothing)),
+            Ask::Read(place) => self.store.read(top, place),
+            Ask::Write(place, value) => Ok(self.store.write(top, place, value)),
+            Ask::Push(place, value) => self.store.push(top, place, value),
+            Ask::Pop(place) => Ok(self.store.pop(top, place)),
+            Ask::Empty(place) => Ok(self.store.test(top, place)),
+            Ask::NewQueue => self.store.make_queue(alloc, self.steps, top),
+            Ask::NewObject(value) => self.store.make_object(self.steps, top, value),
+            Ask::Spawn(child) => spawn(alloc, &mut self.store, top, child),
+            Ask::Finish => Ok(Effect::Ended),
+            Ask::Fail(trouble) => Ok(Effect::Faulted(FaultKind::Trouble(trouble))),
+        }
+    }
+
+    /// Ends the step of an activation that was taken off the stack: it goes back where it goes on.
+    /// `O(1)` amortised.
+    fn settle(
+        &mut self,
+        mut top: Activation<L>,
+        place: u64,
+        effect: Effect<L>,
+    ) -> Result<(), NoMemory>
+        requires { self.old.steps + 1 < 2 ^ 64 }
+        ensures { OnOk result (self.new ≡ settled effect top place self.old) }
+    {
+        self.steps += 1;
+        match effect {
+            Effect::Answered(answer) => {
+                top.answer = answer;
+                self.stack.push(top)
+            }
+            Effect::Spawned(child) => {
+                self.stack.push(top)?;
+                self.stack.push(child)
+            }
+            Effect::Ended => Ok(()),
+            Effect::Faulted(kind) => self.book(top.path, place, kind),
+        }
+    }
+
+    /// Books a fault. `O(1)` amortised.
+    fn book(&mut self, path: Path, place: u64, kind: FaultKind) -> Result<(), NoMemory>
+        ensures { OnOk result (self.new ≡ record self.old {
+          faults = self.old.faults ++ (record { path = path; place = place; kind = kind }) ∷ [];
+        }) }
+    {
+        match self.faults.push(Fault { path, place, kind }) {
+            Ok(()) => Ok(()),
+            Err(_) => Err(NoMemory),
+        }
+    }
+
+    /// Whether no activation is left. `O(1)`.
+    pub fn is_over(&self) -> bool
+        ensures { IsTrue result ↔ (self.now.stack ≡ []) }
+    {
+        self.stack.is_empty()
+    }
+
+    /// Takes one serial step; where no activation is left there is none. The cost of a spawn of `g`
+    /// gives from a path of `d` parts is `O(g log g + d)`, and each other step is `O(1)` amortised
+    /// beside its body's.
+    pub fn step<B: Body<Local = L>>(&mut self, alloc: Global, body: &B) -> Result<(), NoMemory>
+        requires { self.old.steps + 1 < 2 ^ 64 }
+        ensures { OnOk result (self.new ≡ step B.Body body.now self.old) }
+    {
+        let Some(top) = self.stack.pop() else {
+            return Ok(());
+        };
+        let place = body.place(&top.local);
+        if top.fuel == 0 {
+            return self.settle(top, place, Effect::Faulted(FaultKind::Fuel));
+        }
+        let (mut top, ask) = top.advance(alloc, body)?;
+        let effect = self.perform(alloc, &mut top, ask)?;
+        self.settle(top, place, effect)
+    }
+}
