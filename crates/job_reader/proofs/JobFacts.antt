@@ -1,0 +1,229 @@
+-- What is read is a job.
+use Rattle.std.proofs.Common.{◌≡◌, ℕ, ◌+◌, ◌<◌, ◌≤◌, Bool, true, false, cond, List, [], ◌∷◌, length, Result, Ok, Err, refl, sym, ap, subst, ◌∙◌, ⊎_elim, arith, lit≤}
+use Rattle.std.specs.Prelude.{◌==◌, ◌&&◌, ◌||◌, not, nat_le, nat_lt, bytes_eq, codes}
+use Rattle.std.proofs.lemmas.Bool.{cond-true, cond-false, cases_Bool, or_parts, and_parts, eqb-false, both_ways, ltb-false, lt-ltb, leb-false, not-true, not-false, and_cases}
+use Rattle.swan_model.specs.Lines.{lines}
+use Rattle.job_reader.specs.CanonicalText.{text_of}
+use Rattle.job_reader.specs.Faults.{◌>>=◌}
+use Rattle.job_reader.specs.FirstFault.{balanced, is_nothing, is_one_too_many, is_stray_else, is_unbalanced, job_from, job_of, job_of_lines, line_alone, line_at, opens_block}
+use Rattle.job_reader.specs.Jobs.{IsJob, IsPlaced, may_stand}
+use Rattle.job_reader.specs.LineShape.{do_form, form, formed, header, is_assignment, is_first, is_note, known, name_and_atom, name_and_kind, nothing, one_atom, one_name, spawned, two_names, outside_form, shape, task_form, top_form}
+use Rattle.job_reader.specs.Places.{after, is_open}
+use Rattle.job_reader.specs.Tokens.{tokens, trimmed}
+use Rattle.job_reader.specs.declared.fault.JobKind.{JobKind}
+use Rattle.job_reader.specs.declared.fault.JobKind.TheVariants as kind
+use Rattle.job_reader.specs.declared.job.TheConstants.{JOB_LINES_MOST}
+use Rattle.job_reader.specs.declared.line.Line.{Line}
+use Rattle.job_reader.specs.declared.line.Line.TheVariants as line
+use Rattle.job_reader.specs.declared.place.Place.{Place}
+use Rattle.job_reader.specs.declared.place.Place.TheVariants.{First, Top, InTask, InDo, Outside}
+use Rattle.job_reader.specs.declared.read.TheConstants.{LINE_MOST}
+use Rattle.swan_model.specs.declared.rights.Mode.TheVariants as mode
+use Rattle.swan_model.specs.declared.value.Kind.{Kind}
+use Rattle.job_reader.specs.Atoms.{atoms, name}
+use Rattle.job_reader.specs.Faults.{both}
+use Rattle.job_reader.specs.LineShape.{after_equals, assigned, assignment}
+use Rattle.job_reader.specs.Places.{takes_else}
+use Rattle.job_reader.specs.Words.{arity, do_named, do_text, op_named, task_named, top_named, top_text}
+use Rattle.job_reader.specs.declared.block.Block.{Block}
+use Rattle.job_reader.specs.declared.op.Op.{Op}
+use Rattle.job_reader.specs.declared.place.TheConstants.{BLOCKS_MOST}
+use Rattle.job_reader.specs.declared.words.DoWord.{DoWord}
+use Rattle.job_reader.specs.declared.words.DoWord.TheVariants as step
+use Rattle.job_reader.specs.declared.words.TaskWord.{TaskWord}
+use Rattle.job_reader.specs.declared.words.TaskWord.TheVariants as task
+use Rattle.job_reader.specs.declared.words.TopWord.{TopWord}
+use Rattle.job_reader.specs.declared.words.TopWord.TheVariants as top
+use Rattle.job_reader.specs.declared.words.TheConstants.{TOP_WORDS, DO_WORDS}
+use Rattle.job_reader.proofs.Canon.{bind_ok, found_text, known_some}
+use Rattle.job_reader.proofs.ReadsBack.{kept, reads_back, split, was_read}
+
+-- no line is past the last number
+few_lines : (raw : List (List ℕ)) (number : ℕ) (place : Place) (ls : List Line) → job_from number place raw ≡ Ok ls → number ≤ JOB_LINES_MOST + 1 → number + length ls ≤ JOB_LINES_MOST + 1
+few_lines [] number place ls is fits = let none : [] ≡ ls = cc in subst (λ l. number + length l ≤ JOB_LINES_MOST + 1) none (omega arith)
+few_lines (bytes ∷ more) number place ls is fits =
+    let parts = split number (is_nothing more) place bytes more ls (line_at number (is_nothing more) place bytes) refl is in
+    let alone = bind_ok (line_alone number place bytes) (balanced (is_nothing more) place) parts.first parts.read in
+    let read = was_read number place bytes alone.0 alone.1 in
+    let limits = or_parts (nat_lt JOB_LINES_MOST number || nat_lt LINE_MOST (length (trimmed bytes))) (is_one_too_many place (tokens (trimmed bytes))) read.1 in
+    let numbered : number ≤ JOB_LINES_MOST = ltb-false JOB_LINES_MOST number (or_parts (nat_lt JOB_LINES_MOST number) (nat_lt LINE_MOST (length (trimmed bytes))) limits.0).0 in
+    let others = few_lines more (number + 1) (after place parts.first) parts.rest parts.others (omega arith) in
+    subst (λ l. number + length l ≤ JOB_LINES_MOST + 1) parts.joined (omega arith)
+
+some_lines : (bytes : List ℕ) (more : List (List ℕ)) (number : ℕ) (place : Place) (ls : List Line) → job_from number place (bytes ∷ more) ≡ Ok ls → 0 < length ls
+some_lines bytes more number place ls is =
+    let parts = split number (is_nothing more) place bytes more ls (line_at number (is_nothing more) place bytes) refl is in
+    subst (λ l. 0 < length l) parts.joined (omega arith)
+
+-- a line that is made of what was read may stand where each line so made may
+made_stands : {A : Type 0} (place : Place) (reading : Result A JobKind) (make : A → Line) → ((x : A) → may_stand place (make x) ≡ true) → (l : Line) → (reading >>= λ x. Ok (make x)) ≡ Ok l → may_stand place l ≡ true
+made_stands place reading make stands l is =
+    let found = bind_ok reading (λ x. Ok (make x)) l is in
+    let same : make found.0 ≡ l = (let h = found.2 in cc) in
+    ap (may_stand place) (sym same) ∙ stands found.0
+
+bare_stands : (place : Place) (one : Line) (rest : List (List ℕ)) → may_stand place one ≡ true → (l : Line) → nothing one rest ≡ Ok l → may_stand place l ≡ true
+bare_stands place one [] stands l is = let same : one ≡ l = cc in ap (may_stand place) (sym same) ∙ stands
+bare_stands place one (token ∷ rest) stands l is = cc
+
+-- there is room for one more input where it isn't one too many
+room_for_input : (left : ℕ) (first : List ℕ) → first ≡ codes "input" → ((left == 0) && bytes_eq first (codes "input")) ≡ false → nat_lt 0 left ≡ true
+room_for_input left first is limit =
+    let none : (left == 0) ≡ false = ⊎_elim (λ h. h) (λ (h : bytes_eq first (codes "input") ≡ false). absurd (both_ways _ h (ap (λ t. bytes_eq t (codes "input")) is))) (and_cases (left == 0) (bytes_eq first (codes "input")) limit) in
+    let isnt : left ≡ 0 → ⊥ = eqb-false left 0 none in
+    lt-ltb 0 left (omega arith)
+
+top_stands : (left : ℕ) (w : TopWord) (rest : List (List ℕ)) (l : Line) → (top_text w ≡ codes "input" → nat_lt 0 left ≡ true) → top_form w rest ≡ Ok l → may_stand (Top left) l ≡ true
+top_stands left top.Input rest l room is = made_stands (Top left) _ (λ n. line.Input n) (λ n. room refl) l is
+top_stands left top.Output rest l room is = made_stands (Top left) (name_and_kind rest) (λ d. line.Output d.0 d.1) (λ d. refl) l is
+top_stands left top.Object rest l room is = made_stands (Top left) (name_and_kind rest) (λ d. line.Object d.0 d.1) (λ d. refl) l is
+top_stands left top.Task rest l room is = made_stands (Top left) _ (λ n. line.Task n) (λ n. refl) l is
+
+outside_stands : (w : TopWord) (rest : List (List ℕ)) (l : Line) → outside_form w rest ≡ Ok l → may_stand Outside l ≡ true
+outside_stands top.Task rest l is = made_stands Outside _ (λ n. line.Task n) (λ n. refl) l is
+outside_stands top.Input rest l is = cc
+outside_stands top.Output rest l is = cc
+outside_stands top.Object rest l is = cc
+
+declared_stands : (rest : List (List ℕ)) (make : List ℕ × Kind → Line) → ((d : List ℕ × Kind) → may_stand InTask (make d) ≡ true) → (l : Line) → (name_and_kind rest >>= λ d. Ok (make d)) ≡ Ok l → may_stand InTask l ≡ true
+declared_stands rest make stands l is = made_stands InTask (name_and_kind rest) make stands l is
+
+task_stands : (w : TaskWord) (rest : List (List ℕ)) (l : Line) → task_form w rest ≡ Ok l → may_stand InTask l ≡ true
+task_stands task.Param rest l is = declared_stands rest (λ d. line.Param d.0 d.1) (λ d. refl) l is
+task_stands task.In rest l is = declared_stands rest (λ d. line.Access mode.In d.0 d.1) (λ d. refl) l is
+task_stands task.Out rest l is = declared_stands rest (λ d. line.Access mode.Out d.0 d.1) (λ d. refl) l is
+task_stands task.InOut rest l is = declared_stands rest (λ d. line.Access mode.InOut d.0 d.1) (λ d. refl) l is
+task_stands task.Push rest l is = declared_stands rest (λ d. line.Access mode.Push d.0 d.1) (λ d. refl) l is
+task_stands task.Pop rest l is = declared_stands rest (λ d. line.Access mode.Pop d.0 d.1) (λ d. refl) l is
+task_stands task.PushPop rest l is = declared_stands rest (λ d. line.Access mode.PushPop d.0 d.1) (λ d. refl) l is
+task_stands task.Var rest l is = declared_stands rest (λ d. line.Var d.0 d.1) (λ d. refl) l is
+task_stands task.Queue rest l is = declared_stands rest (λ d. line.Queue d.0 d.1) (λ d. refl) l is
+task_stands task.Object rest l is = declared_stands rest (λ d. line.Object d.0 d.1) (λ d. refl) l is
+task_stands task.Do rest l is = bare_stands InTask line.Do rest refl l is
+
+-- an `else` that isn't stray belongs to an `if`
+else_stands : (blocks : List Block) (rest : List (List ℕ)) (l : Line) → is_stray_else (InDo blocks) l ≡ false → nothing line.Else rest ≡ Ok l → may_stand (InDo blocks) l ≡ true
+else_stands blocks [] l stray is =
+    let same : line.Else ≡ l = cc in
+    ap (may_stand (InDo blocks)) (sym same) ∙ not-false (takes_else blocks) (ap (is_stray_else (InDo blocks)) same ∙ stray)
+else_stands blocks (token ∷ rest) l stray is = cc
+
+do_stands : (blocks : List Block) (w : DoWord) (rest : List (List ℕ)) (l : Line) → (opens_block (do_text w) rest ≡ true → nat_lt (length blocks) BLOCKS_MOST ≡ true) → is_assignment rest ≡ false → is_stray_else (InDo blocks) l ≡ false → do_form w rest ≡ Ok l → may_stand (InDo blocks) l ≡ true
+do_stands blocks step.Read rest l room not_set stray is = made_stands (InDo blocks) (two_names rest) (λ p. line.Read p.0 p.1) (λ p. refl) l is
+do_stands blocks step.Write rest l room not_set stray is = made_stands (InDo blocks) (name_and_atom rest) (λ p. line.Write p.0 p.1) (λ p. refl) l is
+do_stands blocks step.Push rest l room not_set stray is = made_stands (InDo blocks) (name_and_atom rest) (λ p. line.Push p.0 p.1) (λ p. refl) l is
+do_stands blocks step.Pop rest l room not_set stray is = made_stands (InDo blocks) (two_names rest) (λ p. line.Pop p.0 p.1) (λ p. refl) l is
+do_stands blocks step.Empty rest l room not_set stray is = made_stands (InDo blocks) (two_names rest) (λ p. line.Empty p.0 p.1) (λ p. refl) l is
+do_stands blocks step.Spawn rest l room not_set stray is = made_stands (InDo blocks) (spawned rest) (λ p. line.Spawn p.0 p.1.0 p.1.1) (λ p. refl) l is
+do_stands blocks step.Sync rest l room not_set stray is = bare_stands (InDo blocks) line.Sync rest refl l is
+do_stands blocks step.Fuel rest l room not_set stray is = made_stands (InDo blocks) (one_name rest) (λ n. line.Fuel n) (λ n. refl) l is
+do_stands blocks step.Fail rest l room not_set stray is = made_stands (InDo blocks) (one_atom rest) (λ a. line.Fail a) (λ a. refl) l is
+do_stands blocks step.If rest l room not_set stray is = made_stands (InDo blocks) (one_atom rest) (λ a. line.If a) (λ a. room (ap not not_set)) l is
+do_stands blocks step.Else rest l room not_set stray is = else_stands blocks rest l stray is
+do_stands blocks step.While rest l room not_set stray is = made_stands (InDo blocks) (one_atom rest) (λ a. line.While a) (λ a. room (ap not not_set)) l is
+do_stands blocks step.End rest l room not_set stray is = bare_stands (InDo blocks) line.End rest refl l is
+
+assigned_stands : (blocks : List Block) (v : List ℕ) (o : Op) (args : List (List ℕ)) (b : Bool) (l : Line) → cond b (both (name v) (atoms args) >>= λ p. Ok (line.Assign p.0 o p.1)) (Err kind.BadLine) ≡ Ok l → may_stand (InDo blocks) l ≡ true
+assigned_stands blocks v o args true l is = made_stands (InDo blocks) (both (name v) (atoms args)) (λ p. line.Assign p.0 o p.1) (λ p. refl) l is
+assigned_stands blocks v o args false l is = cc
+
+assignment_stands : (blocks : List Block) (v : List ℕ) (ts : List (List ℕ)) (l : Line) → assignment v ts ≡ Ok l → may_stand (InDo blocks) l ≡ true
+assignment_stands blocks v [] l is = cc
+assignment_stands blocks v (o ∷ args) l is =
+    let found = bind_ok (known (op_named o)) (λ w. assigned v w args) l is in
+    assigned_stands blocks v found.0 args (length args == arity found.0) l found.2
+
+-- there is room for one more block where it isn't one too many
+room_for_block : (blocks : List Block) (opens : Bool) → (nat_le BLOCKS_MOST (length blocks) && opens) ≡ false → opens ≡ true → nat_lt (length blocks) BLOCKS_MOST ≡ true
+room_for_block blocks opens limit is =
+    let few : nat_le BLOCKS_MOST (length blocks) ≡ false = ⊎_elim (λ h. h) (λ (h : opens ≡ false). absurd (both_ways _ h is)) (and_cases (nat_le BLOCKS_MOST (length blocks)) opens limit) in
+    lt-ltb (length blocks) BLOCKS_MOST (leb-false BLOCKS_MOST (length blocks) few)
+
+statement_stands : (blocks : List Block) (first : List ℕ) (rest : List (List ℕ)) (b : Bool) (l : Line) → is_assignment rest ≡ b → (nat_le BLOCKS_MOST (length blocks) && opens_block first rest) ≡ false → is_stray_else (InDo blocks) l ≡ false → cond b (assignment first (after_equals rest)) (known (do_named first) >>= λ w. do_form w rest) ≡ Ok l → may_stand (InDo blocks) l ≡ true
+statement_stands blocks first rest true l equals limit stray is = assignment_stands blocks first (after_equals rest) l is
+statement_stands blocks first rest false l equals limit stray is =
+    let found = bind_ok (known (do_named first)) (λ w. do_form w rest) l is in
+    let word = found_text do_text DO_WORDS first found.0 (known_some (do_named first) found.0 found.1) in
+    do_stands blocks found.0 rest l (λ opens. room_for_block blocks (opens_block first rest) limit (ap (λ t. opens_block t rest) word ∙ opens)) equals stray found.2
+
+header_stands : (ts : List (List ℕ)) (l : Line) → header ts ≡ Ok l → may_stand First l ≡ true
+header_stands [] l is = cc
+header_stands (a ∷ []) l is = cc
+header_stands (a ∷ b ∷ []) l is = by_test (bytes_eq a (codes "swan") && bytes_eq b (codes "1")) is
+  where
+    by_test : (t : Bool) → cond t (Ok line.Header) (Err kind.BadHeader) ≡ Ok l → may_stand First l ≡ true
+    by_test true is = let same : line.Header ≡ l = cc in ap (may_stand First) (sym same)
+    by_test false is = cc
+header_stands (a ∷ b ∷ c ∷ ts) l is = cc
+
+form_stands : (place : Place) (first : List ℕ) (rest : List (List ℕ)) (l : Line) → is_one_too_many place (first ∷ rest) ≡ false → is_stray_else place l ≡ false → form place first rest ≡ Ok l → may_stand place l ≡ true
+form_stands First first rest l limit stray is = header_stands (first ∷ rest) l is
+form_stands (Top left) first rest l limit stray is =
+    let found = bind_ok (known (top_named first)) (λ w. top_form w rest) l is in
+    let word = found_text top_text TOP_WORDS first found.0 (known_some (top_named first) found.0 found.1) in
+    top_stands left found.0 rest l (λ input. room_for_input left first (word ∙ input) limit) found.2
+form_stands InTask first rest l limit stray is =
+    let found = bind_ok (known (task_named first)) (λ w. task_form w rest) l is in
+    task_stands found.0 rest l found.2
+form_stands (InDo blocks) first rest l limit stray is = statement_stands blocks first rest (is_assignment rest) l refl limit stray is
+form_stands Outside first rest l limit stray is =
+    let found = bind_ok (known (top_named first)) (λ w. outside_form w rest) l is in
+    outside_stands found.0 rest l found.2
+
+formed_stands : (place : Place) (ts : List (List ℕ)) (l : Line) → is_one_too_many place ts ≡ false → is_stray_else place l ≡ false → formed place ts ≡ Ok l → may_stand place l ≡ true
+formed_stands place [] l limit stray is = cc
+formed_stands place (first ∷ rest) l limit stray is = form_stands place first rest l limit stray is
+
+note_stands : (place : Place) (text : List ℕ) → is_first place ≡ false → may_stand place (line.Note text) ≡ true
+note_stands First text isnt = cc
+note_stands (Top left) text isnt = refl
+note_stands InTask text isnt = refl
+note_stands (InDo blocks) text isnt = refl
+note_stands Outside text isnt = refl
+
+shape_stands : (place : Place) (text : List ℕ) (l : Line) → is_one_too_many place (tokens text) ≡ false → is_stray_else place l ≡ false → shape place text ≡ Ok l → may_stand place l ≡ true
+shape_stands place text l limit stray is =
+    ⊎_elim
+    (λ (note : (is_note text && not (is_first place)) ≡ true).
+    let made : Ok (line.Note text) ≡ Ok l = sym (cond-true (is_note text && not (is_first place)) _ _ note) ∙ is in
+    let same : line.Note text ≡ l = cc in
+    ap (may_stand place) (sym same) ∙ note_stands place text (not-true (is_first place) (and_parts (is_note text) (not (is_first place)) note).1))
+    (λ (isnt : (is_note text && not (is_first place)) ≡ false).
+    formed_stands place (tokens text) l limit stray (sym (cond-false (is_note text && not (is_first place)) _ _ isnt) ∙ is))
+    (cases_Bool (is_note text && not (is_first place)))
+
+-- what a balanced line says
+in_balance : (last : Bool) (place : Place) (l m : Line) → balanced last place l ≡ Ok m → is_unbalanced last place l ≡ false
+in_balance last place l m is = by_test (is_unbalanced last place l) is
+  where
+    by_test : (b : Bool) → cond b (Err kind.Unbalanced) (Ok l) ≡ Ok m → b ≡ false
+    by_test true is = cc
+    by_test false is = refl
+
+placed_from : (raw : List (List ℕ)) (number : ℕ) (place : Place) (ls : List Line) → job_from number place raw ≡ Ok ls → (is_nothing raw ≡ true → is_open place ≡ false) → IsPlaced place ls
+placed_from [] number place ls is closed = let none : [] ≡ ls = cc in subst (IsPlaced place) none (closed refl)
+placed_from (bytes ∷ more) number place ls is closed =
+    let parts = split number (is_nothing more) place bytes more ls (line_at number (is_nothing more) place bytes) refl is in
+    let alone = bind_ok (line_alone number place bytes) (balanced (is_nothing more) place) parts.first parts.read in
+    let same = kept (is_nothing more) place alone.0 parts.first alone.2 in
+    let read = was_read number place bytes alone.0 alone.1 in
+    let limits = or_parts (nat_lt JOB_LINES_MOST number || nat_lt LINE_MOST (length (trimmed bytes))) (is_one_too_many place (tokens (trimmed bytes))) read.1 in
+    let balance = or_parts (is_stray_else place alone.0) (is_nothing more && is_open (after place alone.0)) (in_balance (is_nothing more) place alone.0 parts.first alone.2) in
+    let stands = shape_stands place (trimmed bytes) alone.0 limits.1 balance.0 read.2 in
+    let ends : (is_nothing more && is_open (after place parts.first)) ≡ false = ap (λ l. is_nothing more && is_open (after place l)) (sym same) ∙ balance.1 in
+    let others = placed_from more (number + 1) (after place parts.first) parts.rest parts.others
+    (λ none. ⊎_elim (λ (h : is_nothing more ≡ false). absurd (both_ways _ h none)) (λ h. h) (and_cases (is_nothing more) (is_open (after place parts.first)) ends)) in
+    subst (IsPlaced place) parts.joined (ap (may_stand place) (sym same) ∙ stands, others)
+
+job_of_raw : (raw : List (List ℕ)) (job : List Line) → job_of_lines raw ≡ Ok job → job_of (text_of job) ≡ Ok job → IsJob job
+job_of_raw [] job is back = cc
+job_of_raw (bytes ∷ more) job is back = record {
+  reads_back = back;
+  some = some_lines bytes more 1 First job is;
+  most = (let few = few_lines (bytes ∷ more) 1 First job is (lit≤ tt) in omega arith);
+  placed = placed_from (bytes ∷ more) 1 First job is (λ none. cc);
+}
+
+-- what a text reads as is a job
+pub is_job : (text : List ℕ) (job : List Line) → job_of text ≡ Ok job → IsJob job
+is_job text job is = job_of_raw (lines text) job is (reads_back text job is)

@@ -1,0 +1,17 @@
+pub mod Trims
+pub mod Scans
+pub mod Decodes
+pub mod Ascii
+pub mod Parses
+pub mod AtomLists
+pub mod LineEnds
+pub mod TextLines
+pub mod Joins
+pub mod Canon
+pub mod WrittenLines
+pub mod Literals
+pub mod CanonTokens
+pub mod WholeTokens
+pub mod SameForms
+pub mod ReadsBack
+pub mod JobFacts

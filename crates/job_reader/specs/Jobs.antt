@@ -1,0 +1,58 @@
+-- What every job keeps.
+use Rattle.std.specs.Prelude.{◌≡◌, ◌<◌, ◌≤◌, nat_lt, Bool, true, false, IsTrue, IsFalse, Ok, List, [], ◌∷◌, length}
+use Rattle.job_reader.specs.CanonicalText.{text_of}
+use Rattle.job_reader.specs.FirstFault.{job_of}
+use Rattle.job_reader.specs.Places.{after, is_open, takes_else}
+use Rattle.job_reader.specs.declared.job.TheConstants.{JOB_LINES_MOST}
+use Rattle.job_reader.specs.declared.line.Line.{Line}
+use Rattle.job_reader.specs.declared.line.Line.TheVariants as line
+use Rattle.job_reader.specs.declared.place.Place.{Place}
+use Rattle.job_reader.specs.declared.place.Place.TheVariants.{First, Top, InTask, InDo, Outside}
+use Rattle.job_reader.specs.declared.place.TheConstants.{BLOCKS_MOST}
+
+-- whether a line may stand at a place
+abbrev pub may_stand : Place → Line → Bool
+may_stand First line.Header = true
+may_stand (Top inputs_left) (line.Note text) = true
+may_stand (Top inputs_left) (line.Input name) = nat_lt 0 inputs_left
+may_stand (Top inputs_left) (line.Output name k) = true
+may_stand (Top inputs_left) (line.Object name k) = true
+may_stand (Top inputs_left) (line.Task name) = true
+may_stand InTask (line.Note text) = true
+may_stand InTask (line.Param name k) = true
+may_stand InTask (line.Access mode name k) = true
+may_stand InTask (line.Var name k) = true
+may_stand InTask (line.Queue name k) = true
+may_stand InTask (line.Object name k) = true
+may_stand InTask line.Do = true
+may_stand (InDo blocks) (line.Note text) = true
+may_stand (InDo blocks) (line.Assign v o args) = true
+may_stand (InDo blocks) (line.Read v o) = true
+may_stand (InDo blocks) (line.Write o a) = true
+may_stand (InDo blocks) (line.Push q a) = true
+may_stand (InDo blocks) (line.Pop v q) = true
+may_stand (InDo blocks) (line.Empty v q) = true
+may_stand (InDo blocks) (line.Spawn fuel task given) = true
+may_stand (InDo blocks) line.Sync = true
+may_stand (InDo blocks) (line.Fuel v) = true
+may_stand (InDo blocks) (line.Fail a) = true
+may_stand (InDo blocks) (line.If a) = nat_lt (length blocks) BLOCKS_MOST
+may_stand (InDo blocks) line.Else = takes_else blocks
+may_stand (InDo blocks) (line.While a) = nat_lt (length blocks) BLOCKS_MOST
+may_stand (InDo blocks) line.End = true
+may_stand Outside (line.Note text) = true
+may_stand Outside (line.Task name) = true
+may_stand _ _ = false
+
+-- each line from a place on may stand where it stands, and no task is open at the end
+abbrev pub IsPlaced : Place → List Line → Type 0
+IsPlaced place [] = IsFalse (is_open place)
+IsPlaced place (line ∷ more) = IsTrue (may_stand place line) × IsPlaced (after place line) more
+
+-- a job: its canonical text reads as it
+pub record IsJob (job : List Line) : Type 0 where
+  pub reads_back : job_of (text_of job) ≡ Ok job
+  -- there is a first line, and there are no more lines than a job may have
+  pub some : 0 < length job
+  pub most : length job ≤ JOB_LINES_MOST
+  pub placed : IsPlaced First job

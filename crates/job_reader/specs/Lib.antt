@@ -1,0 +1,11 @@
+pub mod Characters
+pub mod Texts
+pub mod Tokens
+pub mod Faults
+pub mod Atoms
+pub mod Words
+pub mod Places
+pub mod LineShape
+pub mod FirstFault
+pub mod CanonicalText
+pub mod Jobs

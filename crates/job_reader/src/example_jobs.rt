@@ -1,0 +1,271 @@
+// The example jobs, in their canonical text.
+
+/// Jobs with every kind of line.
+pub const JOBS: [&str; 15] = [
+    "swan 1
+output out bytes
+task main
+  do
+  push out \"hi\"
+end
+",
+    "swan 1
+input text
+task main
+  do
+end
+",
+    "swan 1
+output out int
+task count
+  param n int
+  param base int
+  push out int
+  var i int
+  var go int
+  do
+  go = lt i n
+  while go
+    i = add i 1
+    go = lt i n
+  end
+  push out base
+  i = add base 1
+  push out i
+end
+task main
+  do
+  spawn 1000 count 200 10 out
+  spawn 1000 count 0 20 out
+end
+",
+    "swan 1
+input lines
+output out bytes
+task three
+  pop src bytes
+  push out bytes
+  var s bytes
+  do
+  pop s src
+  push out s
+  pop s src
+  push out s
+  pop s src
+  push out s
+  push out \"--\"
+end
+task rest
+  pop src bytes
+  push out bytes
+  var s bytes
+  var none int
+  var more int
+  do
+  empty none src
+  more = not none
+  while more
+    pop s src
+    push out s
+    empty none src
+    more = not none
+  end
+end
+task main
+  do
+  spawn 20 three lines out
+  spawn 100 rest lines out
+end
+",
+    "swan 1
+output out int
+task idle
+  push q int
+  var i int
+  do
+  i = add i 1
+end
+task main
+  queue q int
+  var none int
+  do
+  spawn 10 idle q
+  empty none q
+  push out none
+end
+",
+    "swan 1
+output out bytes
+task bad
+  pop q bytes
+  push out bytes
+  var s bytes
+  do
+  push out \"before\"
+  pop s q
+  push out \"never\"
+end
+task good
+  push out bytes
+  do
+  push out \"after\"
+end
+task main
+  queue q bytes
+  do
+  spawn 9 bad q out
+  spawn 9 good out
+end
+",
+    "swan 1
+output out int
+task look
+  pop q int
+  push out int
+  var none int
+  do
+  empty none q
+  push out none
+end
+task main
+  queue q int
+  var n int
+  do
+  spawn 9 look q out
+  push q 5
+  pop n q
+  push out n
+end
+",
+    "swan 1
+output out int
+task leaf
+  push q int
+  do
+  push q 1
+end
+task mid
+  push q int
+  do
+  spawn 5 leaf q
+  push q 2
+end
+task main
+  do
+  spawn 20 mid out
+  push out 3
+end
+",
+    "swan 1
+output out int
+object x int
+task show
+  in x int
+  push out int
+  var v int
+  do
+  read v x
+  push out v
+end
+task set9
+  out x int
+  do
+  write x 9
+end
+task main
+  do
+  write x 4
+  spawn 5 show x out
+  spawn 5 set9 x
+  spawn 5 show x out
+end
+",
+    "swan 1
+object x int
+task quiet
+  out x int
+  do
+end
+task main
+  do
+  write x 4
+  spawn 2 quiet x
+end
+",
+    "swan 1
+object x int
+task main
+  var v int
+  do
+  v = add 9223372036854775807 1
+  write x v
+end
+",
+    "swan 1
+task eat
+  pop q int
+  do
+end
+task feed
+  push q int
+  do
+  spawn 1 eat q
+end
+task main
+  do
+end
+",
+    "swan 1
+task two
+  push a int
+  push b int
+  do
+end
+task both
+  in a int
+  in b int
+  do
+end
+task main
+  queue q int
+  object x int
+  do
+  spawn 1 both x x
+  spawn 1 two q q
+end
+",
+    "swan 1
+task down
+  var f int
+  do
+  fuel f
+  f = sub f 3
+  spawn f down
+end
+task main
+  do
+  spawn 1000 down
+end
+",
+    "swan 1
+# How many lines an input has, as a number.
+input text
+output count int
+task main
+  var line bytes
+  var none int
+  var more int
+  var n int
+  do
+  empty none text
+  more = not none
+  while more
+    pop line text
+    n = add n 1
+    empty none text
+    more = not none
+  end
+  push count n
+end
+",
+];

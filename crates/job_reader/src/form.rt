@@ -1,0 +1,129 @@
+// The line that a text is at a place.
+ghost use Rattle.std.specs.Prelude.{◌≡◌, ◌∷◌, length, true, false, MatchOption, IsUtf8};
+ghost use Rattle.std.specs.List.{list_all};
+ghost use Rattle.job_reader.specs.Characters.{is_allowed};
+ghost use Rattle.job_reader.specs.Faults.{Gives};
+ghost use Rattle.job_reader.specs.LineShape.{after_equals, assigned, assignment, form, formed, header, is_assignment, is_note, shape, statement};
+ghost use Rattle.job_reader.specs.Texts.{texts};
+ghost use Rattle.job_reader.specs.Tokens.{tokens};
+
+use crate::atom::{read_atoms, read_name, word};
+use crate::fault::{ReadLine, both};
+use crate::place::Place;
+use crate::shape::{do_line, outside_line, task_line, top_line};
+use crate::words::{DoWord, TaskWord, TopWord, is_text};
+use crate::{JobKind, Line, Op};
+use std::alloc::Global;
+
+/// The first line.
+fn header(first: &[u8], rest: &[&[u8]]) -> Result<Line, ReadLine>
+    ensures { Gives result (header (first.now ∷ texts rest.now)) }
+{
+    match rest {
+        [second] => {
+            if is_text(first, "swan") && is_text(second, "1") {
+                Ok(Line::Header)
+            } else {
+                Err(ReadLine::Refused(JobKind::BadHeader))
+            }
+        }
+        _ => Err(ReadLine::Refused(JobKind::BadHeader)),
+    }
+}
+
+/// What follows the `=` of an assignment, by the tokens after its first. None exactly where it is none.
+pub fn after_equals<'a, 'b>(tokens: &'a [&'b [u8]]) -> Option<&'a [&'b [u8]]>
+    ensures { MatchOption result (is_assignment (texts tokens.now) ≡ false)
+        (λ rest. (is_assignment (texts tokens.now) ≡ true) × (texts rest.now ≡ after_equals (texts tokens.now))) }
+{
+    let (equals, rest) = tokens.split_first()?;
+    if is_text(equals, "=") {
+        Some(rest)
+    } else {
+        None
+    }
+}
+
+/// An assignment by an operation.
+fn assigned(alloc: Global, variable: &[u8], op: Op, args: &[&[u8]]) -> Result<Line, ReadLine>
+    ensures { Gives result (assigned variable.now op (texts args.now)) }
+{
+    if args.len() != op.arity() {
+        return Err(ReadLine::Refused(JobKind::BadLine));
+    }
+    let (variable, args) = both(read_name(alloc, variable), read_atoms(alloc, args))?;
+    Ok(Line::Assign(variable, op, args))
+}
+
+/// An assignment, by what follows its `=`.
+fn assignment(alloc: Global, variable: &[u8], tokens: &[&[u8]]) -> Result<Line, ReadLine>
+    ensures { Gives result (assignment variable.now (texts tokens.now)) }
+{
+    let Some((op, args)) = tokens.split_first() else {
+        return Err(ReadLine::Refused(JobKind::BadLine));
+    };
+    match Op::named(op) {
+        Some(op) => assigned(alloc, variable, op, args),
+        None => Err(ReadLine::Refused(JobKind::BadLine)),
+    }
+}
+
+/// A statement.
+fn statement(alloc: Global, first: &[u8], rest: &[&[u8]]) -> Result<Line, ReadLine>
+    ensures { Gives result (statement first.now (texts rest.now)) }
+{
+    match after_equals(rest) {
+        Some(tokens) => assignment(alloc, first, tokens),
+        None => match DoWord::named(first) {
+            Some(word) => do_line(alloc, word, rest),
+            None => Err(ReadLine::Refused(JobKind::BadLine)),
+        },
+    }
+}
+
+/// The line that tokens make at a place.
+fn form(alloc: Global, place: &Place, first: &[u8], rest: &[&[u8]]) -> Result<Line, ReadLine>
+    ensures { Gives result (form place.now first.now (texts rest.now)) }
+{
+    match place {
+        Place::First => header(first, rest),
+        Place::Top(_) => match TopWord::named(first) {
+            Some(word) => top_line(alloc, word, rest),
+            None => Err(ReadLine::Refused(JobKind::BadLine)),
+        },
+        Place::InTask => match TaskWord::named(first) {
+            Some(word) => task_line(alloc, word, rest),
+            None => Err(ReadLine::Refused(JobKind::BadLine)),
+        },
+        Place::InDo(_) => statement(alloc, first, rest),
+        Place::Outside => match TopWord::named(first) {
+            Some(word) => outside_line(alloc, word, rest),
+            None => Err(ReadLine::Refused(JobKind::BadLine)),
+        },
+    }
+}
+
+/// Whether a text without outer spaces is a note, where it isn't the first line.
+fn is_note(text: &[u8]) -> bool
+    ensures { result ≡ is_note text.now }
+{
+    match text.first() {
+        Some(byte) => *byte == b'#',
+        None => true,
+    }
+}
+
+/// The line that a text without outer spaces is at a place, by its tokens. `O(length)`.
+pub fn shape(alloc: Global, place: &Place, text: &[u8], found: &[&[u8]]) -> Result<Line, ReadLine>
+    requires tokens { texts found.now ≡ tokens text.now }
+    requires ascii { IsUtf8 text.now }
+    ensures { Gives result (shape place.now text.now) }
+{
+    if is_note(text) && !place.is_first() {
+        return Ok(Line::Note(word(alloc, text)?));
+    }
+    match found.split_first() {
+        Some((first, rest)) => form(alloc, place, first, rest),
+        None => Err(ReadLine::Refused(JobKind::BadHeader)),
+    }
+}

@@ -1,0 +1,52 @@
+//! The text of a job: its reader and its canonical writer.
+//!
+//! A job is a list of lines, each of which says one thing: a note, a declaration, or a statement of a
+//! task. People write jobs by hand, so the reader refuses exactly what is wrong: it names the first
+//! faulty line and what is wrong with it. The writer prints any job in one form, which reads back as
+//! the same job.
+//!
+//! What a text means is a relation between lines, tokens and the job, in `specs/`, from the tokens of
+//! a line up to the first fault of a text. It is meant to be read in the order of `specs/Lib.antt`,
+//! without any code beside it. Whether a job's names are known, of the right kinds and used as they
+//! may be isn't asked here.
+//!
+//! The reader goes over the bytes once, line by line, and stops at the first fault. The one answer
+//! that is free is want of memory.
+#![tactic(auto)]
+
+mod atom;
+mod block;
+#[cfg(test)]
+mod example_jobs;
+mod fault;
+mod form;
+mod job;
+mod laws;
+mod line;
+#[cfg(test)]
+mod line_tests;
+mod lines;
+mod literal;
+mod number;
+mod op;
+mod place;
+mod read;
+mod scan;
+mod shape;
+#[cfg(test)]
+mod tests;
+mod trim;
+mod words;
+mod write;
+mod write_atom;
+
+pub use atom::{Atom, Atoms, NAME_MOST};
+pub use fault::{JobFault, JobKind, ReadJob};
+pub use job::{JOB_LINES_MOST, Job};
+pub use laws::text_reads_back;
+pub use line::Line;
+pub use number::read_number;
+pub use op::Op;
+pub use place::{BLOCKS_MOST, INPUTS_MOST};
+pub use read::{LINE_MOST, read_job};
+pub use write::write_job;

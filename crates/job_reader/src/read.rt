@@ -1,0 +1,134 @@
+// Reading a job.
+ghost use Rattle.std.specs.Prelude.{◌≡◌, IfOk, Some, if◌then◌else◌};
+ghost use Rattle.job_reader.specs.Faults.{Gives};
+ghost use Rattle.job_reader.specs.FirstFault.{balanced, first_fault, is_one_too_many, job_of, line_alone, line_at, opens_block, with_place};
+ghost use Rattle.job_reader.specs.Texts.{texts};
+
+use crate::fault::ReadLine;
+use crate::form::{after_equals, shape};
+use crate::lines::first_line;
+use crate::place::{BLOCKS_MOST, Place};
+use crate::scan::tokens;
+use crate::trim::{are_allowed, trimmed};
+use crate::words::is_text;
+use crate::{JOB_LINES_MOST, Job, JobFault, JobKind, Line, ReadJob};
+use std::alloc::Global;
+
+/// The largest number of bytes of a line without its outer spaces.
+pub const LINE_MOST: usize = 4_096;
+
+/// Whether tokens open a block after a `do`, by the first two.
+fn opens_block(first: &[u8], rest: &[&[u8]]) -> bool
+    ensures { result ≡ opens_block first.now (texts rest.now) }
+{
+    (is_text(first, "if") || is_text(first, "while")) && after_equals(rest).is_none()
+}
+
+/// Whether tokens are one input or one block too many at a place.
+fn is_one_too_many(place: &Place, tokens: &[&[u8]]) -> bool
+    ensures { result ≡ is_one_too_many place.now (texts tokens.now) }
+{
+    let Some((first, rest)) = tokens.split_first() else {
+        return false;
+    };
+    match place {
+        Place::Top(inputs_left) => *inputs_left == 0 && is_text(first, "input"),
+        Place::InDo(blocks) => blocks.len() >= BLOCKS_MOST && opens_block(first, rest),
+        _ => false,
+    }
+}
+
+/// The line that bytes are at a place, by their number in the text, but for its balance. `O(length)`.
+fn line_alone(alloc: Global, number: u64, place: &Place, bytes: &[u8]) -> Result<Line, ReadLine>
+    ensures { Gives result (line_alone number place.now bytes.now) }
+{
+    if !are_allowed(bytes) {
+        return Err(ReadLine::Refused(JobKind::BadByte));
+    }
+    let text = trimmed(bytes);
+    if number > JOB_LINES_MOST as u64 || text.len() > LINE_MOST {
+        return Err(ReadLine::Refused(JobKind::Limit));
+    }
+    let tokens = tokens(alloc, text)?;
+    if is_one_too_many(place, &tokens) {
+        return Err(ReadLine::Refused(JobKind::Limit));
+    }
+    shape(alloc, place, text, &tokens)
+}
+
+/// A line and the place after it, where the line is in balance. `O(1)` amortised.
+fn balanced(
+    alloc: Global,
+    is_last: bool,
+    place: Place,
+    line: Line,
+) -> Result<(Line, Place), ReadLine>
+    ensures { Gives result (with_place place (balanced is_last place line)) }
+{
+    let is_stray = place.is_stray_else(&line);
+    let next = place.after(alloc, &line)?;
+    let leaves_open = is_last && next.is_open();
+    in_balance(is_stray || leaves_open, line, next)
+}
+
+/// A line and the place after it, where it isn't out of balance.
+fn in_balance(is_out: bool, line: Line, next: Place) -> Result<(Line, Place), ReadLine>
+    ensures { Gives result (if is_out then Err JobKind.Unbalanced else Ok (line, next)) }
+{
+    if is_out {
+        Err(ReadLine::Refused(JobKind::Unbalanced))
+    } else {
+        Ok((line, next))
+    }
+}
+
+/// The line that bytes are at a place, by their number in the text, and the place after it. `O(length)`.
+fn read_line(
+    alloc: Global,
+    number: u64,
+    is_last: bool,
+    place: Place,
+    bytes: &[u8],
+) -> Result<(Line, Place), ReadLine>
+    ensures { Gives result (with_place place (line_at number is_last place bytes.now)) }
+{
+    let line = line_alone(alloc, number, &place, bytes)?;
+    balanced(alloc, is_last, place, line)
+}
+
+/// Reads the text of a job. Refused comes exactly where the text has a fault, and names the first faulty
+/// line and the first kind of fault that it has. It goes from line to line and looks at nothing after
+/// that one. `O(length)`, and a few allocations a line.
+pub fn read_job(alloc: Global, bytes: &[u8]) -> Result<Job, ReadJob>
+    ensures ok { IfOk result (λ job. job_of bytes.now ≡ Ok job) }
+    ensures refused { (fault : JobFault) → result ≡ Err (ReadJob.Refused fault) → first_fault bytes.now ≡ Some fault }
+{
+    if bytes.is_empty() {
+        return Err(refused(1, JobKind::BadHeader));
+    }
+    let mut lines = Vec::new(alloc);
+    let mut place = Place::First;
+    let mut rest = bytes;
+    let mut number = 0;
+    while !rest.is_empty() {
+        number += 1;
+        let (line, more) = first_line(rest);
+        match read_line(alloc, number, more.is_empty(), place, line) {
+            Ok((line, next)) => {
+                lines.push(line)?;
+                place = next;
+            }
+            Err(ReadLine::Refused(kind)) => return Err(refused(number, kind)),
+            Err(ReadLine::NoMemory) => return Err(ReadJob::NoMemory),
+        }
+        rest = more;
+    }
+    Ok(Job::of(lines))
+}
+
+/// The refusal of a line.
+fn refused(line: u64, kind: JobKind) -> ReadJob
+    ensures { result ≡ ReadJob.Refused (record { line = line; kind = kind }) }
+{
+    ReadJob::Refused(JobFault { line, kind })
+}

@@ -1,0 +1,321 @@
+// The rows of the text: what is accepted, what is refused with which line and kind, and how it is
+// written.
+use crate::example_jobs::JOBS;
+use crate::{Job, JobFault, JobKind, Line, ReadJob, read_job, text_reads_back, write_job};
+use std::alloc::{AllocError, Global};
+use std::process::Abort;
+use std::test::Fail;
+
+/// A text with one line that stands at the top level, in a task, or after its `do`.
+#[derive(Clone, Copy, PartialEq, Eq, Debug)]
+pub enum At {
+    Top,
+    Task,
+    Do,
+}
+
+impl At {
+    /// The place with this name.
+    pub fn named(name: &str) -> At {
+        match name {
+            "Top" => At::Top,
+            "Task" => At::Task,
+            _ => At::Do,
+        }
+    }
+}
+
+/// The kind with this name, if it is one of the text's.
+pub fn kind_named(name: &str) -> Option<JobKind> {
+    match name {
+        "BadByte" => Some(JobKind::BadByte),
+        "BadHeader" => Some(JobKind::BadHeader),
+        "BadLine" => Some(JobKind::BadLine),
+        "BadName" => Some(JobKind::BadName),
+        "BadNumber" => Some(JobKind::BadNumber),
+        "Unbalanced" => Some(JobKind::Unbalanced),
+        "Limit" => Some(JobKind::Limit),
+        _ => None,
+    }
+}
+
+/// A text with a line at a place.
+pub fn text_with(alloc: Global, at: At, line: &str) -> Result<String, AllocError> {
+    match at {
+        At::Top => format!(in alloc; "swan 1\n{line}\ntask t\n  do\nend\n"),
+        At::Task => format!(in alloc; "swan 1\ntask t\n{line}\n  do\nend\n"),
+        At::Do => format!(in alloc; "swan 1\ntask t\n  do\n{line}\nend\n"),
+    }
+}
+
+/// The number of that line.
+pub fn number_of(at: At) -> u64 {
+    match at {
+        At::Top => 2,
+        At::Task => 3,
+        At::Do => 4,
+    }
+}
+
+/// What is refused of a text, if anything.
+pub fn refusal(rt: &impl Abort, alloc: Global, text: &[u8]) -> Option<(u64, JobKind)> {
+    match read_job(alloc, text) {
+        Ok(_) => None,
+        Err(ReadJob::Refused(JobFault { line, kind })) => Some((line, kind)),
+        Err(ReadJob::NoMemory) => panic!(rt; "no memory"),
+    }
+}
+
+/// The job that a text is.
+fn job_of(rt: &impl Abort, alloc: Global, text: &[u8]) -> Job {
+    match read_job(alloc, text) {
+        Ok(job) => job,
+        Err(_) => panic!(rt; "refused"),
+    }
+}
+
+/// The canonical text of what a text is.
+pub fn rewritten(rt: &impl Abort, alloc: Global, text: &str) -> Vec<u8> {
+    match write_job(alloc, &job_of(rt, alloc, text.as_bytes())) {
+        Ok(text) => text,
+        Err(_) => panic!(rt; "no memory"),
+    }
+}
+
+#[test]
+fn example_jobs(rt: HostRuntime) -> Result<(), Fail> {
+    for text in JOBS {
+        let again = rewritten(&rt, rt.alloc(), text);
+        assert_eq!(rt; again.as_slice(), text.as_bytes(), "{text}");
+    }
+    let job = job_of(&rt, rt.alloc(), JOBS[0].as_bytes());
+    assert_eq!(rt; job.len(), 6);
+    assert_eq!(rt; job.as_slice().len(), 6);
+    assert!(rt; matches!(job.line(0), Some(Line::Header)));
+    assert!(rt; matches!(job.line(5), Some(Line::End)));
+    assert!(rt; matches!(job.line(6), None));
+    text_reads_back();
+    Ok(())
+}
+
+/// Whole texts: the line that is refused, the kind, and the text with / in the place of line feeds.
+const TEXTS: &str = r#"1 BadHeader 
+1 BadHeader /
+1 BadHeader # swan 1/
+1 BadHeader swan "1/
+1 BadHeader swan 1 "/
+0 Ok   swan   1  
+4 Unbalanced swan 1/task main/  do/  push out "hi"/
+2 BadLine swan 1/frob/output out bytes/
+4 BadNumber swan 1/task main/ do/ push out 9223372036854775808/end
+2 Unbalanced swan 1/task t/
+5 BadLine swan 1/task t/do/end/end/
+5 BadLine swan 1/task t/do/end/else/
+5 BadLine swan 1/task t/do/end/input a/
+0 Ok swan 1/task t/do/end/# a note//task t/do/end
+7 Unbalanced swan 1/task t/do/end/task t/do/# a note
+0 Ok swan 1/task t/do/if 1/else/end/end/
+6 Unbalanced swan 1/task t/do/if 1/else/else/end/end/
+5 Unbalanced swan 1/task t/do/while 1/else/end/end/
+0 Ok swan 1/task t/do/if 1/while 1/end/else/end/end/
+5 Unbalanced swan 1/task t/do/if 1/end/
+4 Unbalanced swan 1/task t/do/else
+4 BadLine swan 1/task t/do/else 1/frob/"#;
+
+/// Every prefix of the first example job.
+const PREFIXES: &str = r#"1 BadHeader 
+1 BadHeader s
+1 BadHeader sw
+1 BadHeader swa
+1 BadHeader swan
+1 BadHeader swan 
+0 Ok swan 1
+0 Ok swan 1/
+2 BadLine swan 1/o
+2 BadLine swan 1/ou
+2 BadLine swan 1/out
+2 BadLine swan 1/outp
+2 BadLine swan 1/outpu
+2 BadLine swan 1/output
+2 BadLine swan 1/output 
+2 BadLine swan 1/output o
+2 BadLine swan 1/output ou
+2 BadLine swan 1/output out
+2 BadLine swan 1/output out 
+2 BadLine swan 1/output out b
+2 BadLine swan 1/output out by
+2 BadLine swan 1/output out byt
+2 BadLine swan 1/output out byte
+0 Ok swan 1/output out bytes
+0 Ok swan 1/output out bytes/
+3 BadLine swan 1/output out bytes/t
+3 BadLine swan 1/output out bytes/ta
+3 BadLine swan 1/output out bytes/tas
+3 BadLine swan 1/output out bytes/task
+3 BadLine swan 1/output out bytes/task 
+3 Unbalanced swan 1/output out bytes/task m
+3 Unbalanced swan 1/output out bytes/task ma
+3 Unbalanced swan 1/output out bytes/task mai
+3 Unbalanced swan 1/output out bytes/task main
+3 Unbalanced swan 1/output out bytes/task main/
+4 Unbalanced swan 1/output out bytes/task main/ 
+4 Unbalanced swan 1/output out bytes/task main/  
+4 BadLine swan 1/output out bytes/task main/  d
+4 Unbalanced swan 1/output out bytes/task main/  do
+4 Unbalanced swan 1/output out bytes/task main/  do/
+5 Unbalanced swan 1/output out bytes/task main/  do/ 
+5 Unbalanced swan 1/output out bytes/task main/  do/  
+5 BadLine swan 1/output out bytes/task main/  do/  p
+5 BadLine swan 1/output out bytes/task main/  do/  pu
+5 BadLine swan 1/output out bytes/task main/  do/  pus
+5 BadLine swan 1/output out bytes/task main/  do/  push
+5 BadLine swan 1/output out bytes/task main/  do/  push 
+5 BadLine swan 1/output out bytes/task main/  do/  push o
+5 BadLine swan 1/output out bytes/task main/  do/  push ou
+5 BadLine swan 1/output out bytes/task main/  do/  push out
+5 BadLine swan 1/output out bytes/task main/  do/  push out 
+5 BadLine swan 1/output out bytes/task main/  do/  push out "
+5 BadLine swan 1/output out bytes/task main/  do/  push out "h
+5 BadLine swan 1/output out bytes/task main/  do/  push out "hi
+5 Unbalanced swan 1/output out bytes/task main/  do/  push out "hi"
+5 Unbalanced swan 1/output out bytes/task main/  do/  push out "hi"/
+6 BadLine swan 1/output out bytes/task main/  do/  push out "hi"/e
+6 BadLine swan 1/output out bytes/task main/  do/  push out "hi"/en
+0 Ok swan 1/output out bytes/task main/  do/  push out "hi"/end
+0 Ok swan 1/output out bytes/task main/  do/  push out "hi"/end/"#;
+
+/// A text with line feeds in the place of each /.
+fn with_line_feeds(alloc: Global, text: &str) -> Result<Vec<u8>, AllocError> {
+    let mut bytes = Vec::new(alloc);
+    for byte in text.as_bytes() {
+        bytes.push(if *byte == b'/' { b'\n' } else { *byte })?;
+    }
+    Ok(bytes)
+}
+
+/// Checks each row of a table of texts.
+fn check_texts(rt: &impl Abort, alloc: Global, table: &str) -> Result<(), Fail> {
+    for row in table.lines() {
+        let (line, rest) = row.split_once(' ').ok_or("row")?;
+        let (kind, text) = rest.split_once(' ').ok_or("row")?;
+        let line = line.parse::<u64>().ok().ok_or("row")?;
+        let bytes = with_line_feeds(alloc, text)?;
+        let expected = kind_named(kind).map(|kind| (line, kind));
+        assert_eq!(rt; refusal(rt, alloc, bytes.as_slice()), expected, "{row}");
+    }
+    Ok(())
+}
+
+#[test]
+fn texts(rt: HostRuntime) -> Result<(), Fail> {
+    check_texts(&rt, rt.alloc(), TEXTS)?;
+    check_texts(&rt, rt.alloc(), PREFIXES)
+}
+
+/// Bytes that may not stand in a line.
+#[test]
+fn bytes(rt: HostRuntime) -> Result<(), Fail> {
+    for text in [
+        "swan 1\n\t#\n",
+        "swan 1\n\r\n\t",
+        "swan 1\n\u{e9}",
+        "swan 1\n\u{7f}\u{0}",
+    ] {
+        let found = refusal(&rt, rt.alloc(), text.as_bytes());
+        assert_eq!(rt; found, Some((2, JobKind::BadByte)), "{text}");
+    }
+    Ok(())
+}
+
+/// A text with this many copies of a line after its first lines, and then its last lines.
+fn repeated(
+    alloc: Global,
+    first: &str,
+    line: &str,
+    count: usize,
+    last: &str,
+) -> Result<String, AllocError> {
+    let mut text = String::from_str(alloc, first)?;
+    for _ in 0..count {
+        text.push_str(line)?;
+    }
+    text.push_str(last)?;
+    Ok(text)
+}
+
+/// The limits, and what is past them.
+#[test]
+fn limits(rt: HostRuntime) -> Result<(), Fail> {
+    let limit = |line: u64| Some((line, JobKind::Limit));
+    let blocks = "swan 1\ntask t\ndo\n";
+    let ends = "end\nend\nend\nend\nend\nend\nend\nend\n";
+    let closed = repeated(rt.alloc(), "", ends, 4, "end\n")?;
+    let closed = closed.as_str();
+    let main = "task main\ndo\nend\n";
+    let rows = [
+        (JOBS[0], "\n", 19_994, "", None),
+        (JOBS[0], "\n", 19_995, "", limit(20_001)),
+        (
+            JOBS[0],
+            "\n",
+            19_994,
+            "\t",
+            Some((20_001, JobKind::BadByte)),
+        ),
+        ("swan 1\n#", "x", 4_095, "   \n", None),
+        ("swan 1\n  #", "x", 4_096, "\n", limit(2)),
+        ("swan 1", " ", 5_000, "\n", None),
+        ("swan 1 ", "x", 4_096, "\n", limit(1)),
+        ("swan 1\n", "input a\n", 16, main, None),
+        ("swan 1\n", "input a\n", 17, main, limit(18)),
+        ("swan 1\n", "input a\n", 16, "input 1 2 \"\n", limit(18)),
+        ("swan 1\n", "input a\n", 16, "object a int\n#input", None),
+        (
+            "swan 1\n",
+            "input a\n",
+            16,
+            "input \t\n",
+            Some((18, JobKind::BadByte)),
+        ),
+        (blocks, "if 1\n", 32, closed, None),
+        (blocks, "if 1\n", 33, "", limit(36)),
+        (blocks, "while 1\n", 32, "if\n", limit(36)),
+        (blocks, "if 1\nelse\n", 32, "while \"\n", limit(68)),
+        (
+            blocks,
+            "while 1\n",
+            32,
+            "if = set 1\n",
+            Some((36, JobKind::Unbalanced)),
+        ),
+    ];
+    for (first, line, count, last, expected) in rows {
+        let text = repeated(rt.alloc(), first, line, count, last)?;
+        assert_eq!(rt;
+            refusal(&rt, rt.alloc(), text.as_str().as_bytes()),
+            expected,
+            "{count}"
+        );
+    }
+    Ok(())
+}
+
+/// Notes, indentation and spaces.
+#[test]
+fn canonical_text(rt: HostRuntime) -> Result<(), Fail> {
+    let text = "  swan   1 \n   # top  \n\n object   x   int\n#\ntask t\n# in\n   \nvar v int\n\
+        #before do\ndo\n# in do\nif   v\n# in if\nwhile -1\n# in while\nend\n#else next\nelse\n\n\
+        # after else\nend\nspawn  1   t   \"  \"  -0x\n#last\nend\n#between\ntask u\ndo\nend\n  #end";
+    let refused = refusal(&rt, rt.alloc(), text.as_bytes());
+    assert_eq!(rt; refused, Some((23, JobKind::BadNumber)));
+    let text = "  swan   1 \n   # top  \n\n object   x   int\n#\ntask t\n# in\n   \nvar v int\n\
+        #before do\ndo\n# in do\nif   v\n# in if\nwhile -1\n# in while\nend\n#else next\nelse\n\n\
+        # after else\nend\nspawn  1   t   \"  \"  -10\n#last\nend\n#between\ntask u\ndo\nend\n  #end";
+    let expected = "swan 1\n# top\n\nobject x int\n#\ntask t\n  # in\n\n  var v int\n  #before do\n\
+        \x20 do\n  # in do\n  if v\n    # in if\n    while -1\n      # in while\n    end\n    \
+        #else next\n  else\n\n    # after else\n  end\n  spawn 1 t \"  \" -10\n  #last\nend\n\
+        #between\ntask u\n  do\nend\n#end\n";
+    let written = rewritten(&rt, rt.alloc(), text);
+    assert_eq!(rt; str::from_utf8(written.as_slice()).ok(), Some(expected));
+    Ok(())
+}
