@@ -1,0 +1,90 @@
+-- What the lines before a line say: which names are known at it and what they stand for, which tasks
+-- there are, and what each of them takes.
+use Rattle.std.specs.Prelude.{ℕ, Bool, Option, Some, None, List, [], ◌∷◌, ◌++◌, codes, bytes_eq, option_map, if◌then◌else◌}
+use Rattle.std.specs.Map.{update}
+use Rattle.std.specs.Option.{option_or}
+use Rattle.swan_model.specs.declared.rights.Mode.TheVariants.{InOut, Push, Pop, PushPop}
+use Rattle.swan_model.specs.declared.value.Kind.TheVariants as kind
+use Rattle.job_reader.specs.declared.line.Line.{Line}
+use Rattle.job_reader.specs.declared.line.Line.TheVariants as line
+use Rattle.privilege_check.specs.declared.meaning.Meaning.{Meaning}
+use Rattle.privilege_check.specs.declared.meaning.Meaning.TheVariants.{Variable, Held}
+
+-- what each name stands for, if it is known
+abbrev pub Names : Type 0
+Names = List ℕ → Option Meaning
+
+abbrev pub no_names : {A : Type 0} → List ℕ → Option A
+no_names name = None
+
+-- What the lines before a line say: the names of the top level; the open task, if a task is open or
+-- was, and the names that it declares; and what each task takes, in order: values where it takes a
+-- variable, and else an object or a queue and the rights to it.
+pub record Before : Type 0 where
+  pub top : List ℕ → Option Meaning
+  pub open_task : Option (List ℕ)
+  pub own : List ℕ → Option Meaning
+  pub tasks : List ℕ → Option (List Meaning)
+
+-- before the first line
+abbrev pub at_start : Before
+at_start = record { top = no_names; open_task = None; own = no_names; tasks = no_names }
+
+abbrev pub is_main : List ℕ → Bool
+is_main task = bytes_eq task (codes "main")
+
+-- The names that are known: at the top level its own, in a task those that it declares, and in main
+-- those of the top level too.
+abbrev pub known_in : Option (List ℕ) → Names → Names → Names
+known_in None own top name = top name
+known_in (Some task) own top name = option_or (own name) (if is_main task then top name else None)
+
+abbrev pub known : Before → Names
+known before = known_in before.open_task before.own before.top
+
+-- A declaration adds a name at the top level, or to the open task.
+abbrev pub with_name : List ℕ → Meaning → Names → Names
+with_name name meaning names = update bytes_eq names name (Some meaning)
+
+abbrev pub declared_in : Option (List ℕ) → List ℕ → Meaning → Before → Before
+declared_in None name meaning before = record before { top = with_name name meaning before.top }
+declared_in (Some task) name meaning before = record before { own = with_name name meaning before.own }
+
+abbrev pub declared : List ℕ → Meaning → Before → Before
+declared name meaning before = declared_in before.open_task name meaning before
+
+-- A `param` or access line says what the open task takes next.
+abbrev pub with_next : List ℕ → Meaning → (List ℕ → Option (List Meaning)) → List ℕ → Option (List Meaning)
+with_next task meaning tasks = update bytes_eq tasks task (option_map (λ takes. takes ++ meaning ∷ []) (tasks task))
+
+abbrev pub taken_by : Option (List ℕ) → Meaning → Before → Before
+taken_by None meaning before = before
+taken_by (Some task) meaning before = record before { tasks = with_next task meaning before.tasks }
+
+abbrev pub with_taken : Meaning → Before → Before
+with_taken meaning before = taken_by before.open_task meaning before
+
+abbrev pub taken : List ℕ → Meaning → Before → Before
+taken name meaning before = with_taken meaning (declared name meaning before)
+
+-- a `task` line opens a task, which takes and declares nothing so far
+abbrev pub opened : List ℕ → Before → Before
+opened task before =
+    record {
+      top = before.top;
+      open_task = Some task;
+      own = no_names;
+      tasks = update bytes_eq before.tasks task (Some []);
+    }
+
+-- what the lines up to a line say, by what the lines before it say
+abbrev pub after : Before → Line → Before
+after before (line.Input name) = declared name (Held Pop kind.Bytes) before
+after before (line.Output name k) = declared name (Held Push k) before
+after before (line.Object name k) = declared name (Held InOut k) before
+after before (line.Task name) = opened name before
+after before (line.Param name k) = taken name (Variable k) before
+after before (line.Access mode name k) = taken name (Held mode k) before
+after before (line.Var name k) = declared name (Variable k) before
+after before (line.Queue name k) = declared name (Held PushPop k) before
+after before _ = before

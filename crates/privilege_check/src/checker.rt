@@ -1,0 +1,189 @@
+// What a check has found out.
+ghost use Rattle.std.specs.Prelude.{◌≡◌, Some, OnOk, bytes_eq, codes};
+ghost use Rattle.std.specs.BTreeMap.{get_by_text};
+ghost use Rattle.std.specs.Map.{update};
+ghost use Rattle.std.specs.Option.{option_copied};
+ghost use Rattle.privilege_check.specs.Checking.{state_of};
+ghost use Rattle.privilege_check.specs.Names.{after, at_start, declared, is_main, known, opened, taken, with_next, with_taken};
+ghost use Rattle.privilege_check.specs.FirstFault.{has_main, is_in_main};
+
+use crate::meaning::Meaning;
+use job_reader::{JobFault, JobKind, Line};
+use std::alloc::Global;
+use std::collections::BTreeMap;
+use swan_model::{Kind, Listed, Mode, NoMemory, Word};
+
+/// What the lines so far say.
+#[derive(Drop)]
+pub struct Checker {
+    alloc: Global,
+    /// The names of the top level.
+    top: BTreeMap<String, Meaning>,
+    /// The task that was opened last.
+    open_task: Option<Word>,
+    /// The names that it declares.
+    own: BTreeMap<String, Meaning>,
+    /// What each task takes.
+    tasks: BTreeMap<String, Listed<Meaning>>,
+}
+
+/// Whether a task is `main`.
+pub fn is_main(task: &Word) -> bool
+    ensures { result ≡ is_main task.now }
+{
+    task.as_str() == "main"
+}
+
+/// Sets what a name stands for. `O(log names)`, and an allocation or two.
+fn set<V: Drop>(
+    alloc: Global,
+    names: &mut BTreeMap<String, V>,
+    name: &Word,
+    value: V,
+) -> Result<(), NoMemory>
+    ensures { OnOk result (get_by_text names.new ≡ update bytes_eq (get_by_text names.old) name.now (Some value)) }
+{
+    names.insert(String::from_str(alloc, name.as_str())?, value)?;
+    Ok(())
+}
+
+/// Adds to what a task takes, if it is known. `O(log tasks)`.
+fn take_next(
+    tasks: &mut BTreeMap<String, Listed<Meaning>>,
+    task: &Word,
+    meaning: Meaning,
+) -> Result<(), NoMemory>
+    ensures { OnOk result (get_by_text tasks.new ≡ with_next task.now meaning (get_by_text tasks.old)) }
+{
+    let Some(takes) = tasks.get_mut(task.as_str()) else {
+        return Ok(());
+    };
+    match takes.push(meaning) {
+        Ok(()) => Ok(()),
+        Err(_) => Err(NoMemory),
+    }
+}
+
+impl Checker {
+    /// Before the first line. It takes no memory. `O(1)`.
+    pub fn new(alloc: Global) -> Checker
+        ensures { state_of result ≡ at_start }
+    {
+        Checker {
+            alloc,
+            top: BTreeMap::new(alloc),
+            open_task: None,
+            own: BTreeMap::new(alloc),
+            tasks: BTreeMap::new(alloc),
+        }
+    }
+
+    /// Where memory comes from.
+    pub fn allocator(&self) -> Global
+        ensures { result ≡ self.now.alloc }
+    {
+        self.alloc
+    }
+
+    /// What a name stands for, if it is known. `O(log names)`.
+    pub fn meaning(&self, name: &Word) -> Option<Meaning>
+        ensures { result ≡ known (state_of self.now) name.now }
+    {
+        let Some(task) = &self.open_task else {
+            return self.top.get(name.as_str()).copied();
+        };
+        match self.own.get(name.as_str()) {
+            Some(meaning) => Some(*meaning),
+            None if is_main(task) => self.top.get(name.as_str()).copied(),
+            None => None,
+        }
+    }
+
+    /// Whether main is open.
+    pub fn is_in_main(&self) -> bool
+        ensures { result ≡ is_in_main (state_of self.now).open_task }
+    {
+        match &self.open_task {
+            None => false,
+            Some(task) => is_main(task),
+        }
+    }
+
+    /// What a task takes, if it is known. `O(log tasks)`.
+    pub fn takes(&self, task: &str) -> Option<&Listed<Meaning>>
+        ensures { option_copied result ≡ (state_of self.now).tasks task.now }
+    {
+        self.tasks.get(task)
+    }
+
+    /// NoMain at the last line, exactly where there is no task `main`.
+    pub fn without_main(&self, last: u64) -> Option<JobFault>
+        ensures { result ≡ has_main last ((state_of self.now).tasks (codes "main")) }
+    {
+        match self.tasks.get("main") {
+            Some(_) => None,
+            None => Some(JobFault {
+                line: last,
+                kind: JobKind::NoMain,
+            }),
+        }
+    }
+
+    /// Adds what a line says. `O(log names)`, and an allocation or two.
+    pub fn learn(&mut self, line: &Line) -> Result<(), NoMemory>
+        ensures { OnOk result (state_of self.new ≡ after (state_of self.old) line.now) }
+    {
+        match line {
+            Line::Input(name) => self.declare(name, Meaning::Held(Mode::Pop, Kind::Bytes)),
+            Line::Output(name, kind) => self.declare(name, Meaning::Held(Mode::Push, *kind)),
+            Line::Object(name, kind) => self.declare(name, Meaning::Held(Mode::InOut, *kind)),
+            Line::Task(name) => self.open(name),
+            Line::Param(name, kind) => self.declare_taken(name, Meaning::Variable(*kind)),
+            Line::Access(mode, name, kind) => self.declare_taken(name, Meaning::Held(*mode, *kind)),
+            Line::Var(name, kind) => self.declare(name, Meaning::Variable(*kind)),
+            Line::Queue(name, kind) => self.declare(name, Meaning::Held(Mode::PushPop, *kind)),
+            _ => Ok(()),
+        }
+    }
+
+    /// Adds a name at the top level, or to the open task.
+    fn declare(&mut self, name: &Word, meaning: Meaning) -> Result<(), NoMemory>
+        ensures { OnOk result (state_of self.new ≡ declared name.now meaning (state_of self.old)) }
+    {
+        if self.open_task.is_some() {
+            set(self.alloc, &mut self.own, name, meaning)
+        } else {
+            set(self.alloc, &mut self.top, name, meaning)
+        }
+    }
+
+    /// Adds to what the open task takes.
+    fn take(&mut self, meaning: Meaning) -> Result<(), NoMemory>
+        ensures { OnOk result (state_of self.new ≡ with_taken meaning (state_of self.old)) }
+    {
+        let Some(task) = &self.open_task else {
+            return Ok(());
+        };
+        take_next(&mut self.tasks, task, meaning)?;
+        Ok(())
+    }
+
+    /// Adds a name that the open task takes.
+    fn declare_taken(&mut self, name: &Word, meaning: Meaning) -> Result<(), NoMemory>
+        ensures { OnOk result (state_of self.new ≡ taken name.now meaning (state_of self.old)) }
+    {
+        self.declare(name, meaning)?;
+        self.take(meaning)?;
+        Ok(())
+    }
+
+    /// Opens a task.
+    fn open(&mut self, task: &Word) -> Result<(), NoMemory>
+        ensures { OnOk result (state_of self.new ≡ opened task.now (state_of self.old)) }
+    {
+        set(self.alloc, &mut self.tasks, task, Listed::new(self.alloc))?;
+        self.open_task = Some(Word::of(self.alloc, task.as_str())?);
+        self.own = BTreeMap::new(self.alloc);
+        Ok(())
+    }
+}
