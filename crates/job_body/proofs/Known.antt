@@ -1,0 +1,66 @@
+-- What is known at a line once one more line is read.
+use Rattle.std.proofs.Common.{◌≡◌, ℕ, zero, suc, ◌+◌, Some, List, [], ◌∷◌, ◌++◌, length, take, flat_map, slice_get, refl, sym, ap, ◌∙◌, arith}
+use native.Mathlib.Numerals.{unary_clauses}
+use Rattle.std.proofs.lemmas.List.{append-nil}
+use Rattle.std.proofs.lemmas.Grind.{flat_map-append}
+use Rattle.job_reader.specs.declared.line.Line.{Line}
+use Rattle.job_reader.specs.declared.line.Line.TheVariants as line
+use Rattle.job_body.specs.declared.block.Block.{Block}
+use Rattle.job_body.specs.declared.scope.Scope.{Scope as Known}
+use Rattle.job_body.specs.Blocks.{blocks_after, blocks_at, blocks_from}
+use Rattle.job_body.specs.Compiled.{entered, seen_at}
+use Rattle.job_body.specs.Tasks.{Scope, access_of, is_main, made_of, param_of, roots, scope_after, scope_at, scope_from, top_lines, var_of}
+
+-- what a scope and open blocks say
+abbrev seen : List (List ℕ) → Scope → List Block → Known
+seen names scope blocks = record {
+  roots = names;
+  is_main = is_main scope.name;
+  params = flat_map param_of scope.lines;
+  vars = flat_map var_of scope.lines;
+  accesses = flat_map access_of scope.lines;
+  made = flat_map made_of scope.lines;
+  blocks = blocks;
+}
+
+seen-after : (i : ℕ) (names : List (List ℕ)) (scope : Scope) (blocks : List Block) (line : Line) → entered i (seen names scope blocks) line ≡ seen names (scope_after scope line) (blocks_after i blocks line)
+seen-after i names scope blocks (line.Task name) = refl
+seen-after i names scope blocks line = simp (flat_map-append, append-nil)
+
+scope-push : (scope : Scope) (lines : List Line) (line : Line) → scope_from scope (lines ++ line ∷ []) ≡ scope_after (scope_from scope lines) line
+scope-push scope [] line = refl
+scope-push scope (first ∷ lines) line = scope-push (scope_after scope first) lines line
+
+blocks-push : (i : ℕ) (blocks : List Block) (lines : List Line) (line : Line) → blocks_from i blocks (lines ++ line ∷ []) ≡ blocks_after (i + length lines) (blocks_from i blocks lines) line
+blocks-push i blocks [] line = ap (λ k. blocks_after k blocks line) (omega arith)
+blocks-push i blocks (first ∷ lines) line =
+    blocks-push (i + 1) (blocks_after i blocks first) lines line
+    ∙ ap (λ k. blocks_after k (blocks_from (i + 1) (blocks_after i blocks first) lines) line) (omega arith)
+
+take-push : {A : Type 0} (xs : List A) (i : ℕ) (x : A) → slice_get xs i ≡ Some x → take (i + 1) xs ≡ take i xs ++ x ∷ []
+take-push [] i x h = absurd (cc)
+take-push (y ∷ ys) zero x h = let same : y ≡ x = cc in ap (λ z. z ∷ []) same
+take-push (y ∷ ys) (suc i) x h = simp unary_clauses (simp unary_clauses at (ap (λ zs. y ∷ zs) (take-push ys i x h)))
+
+length-taken : {A : Type 0} (xs : List A) (i : ℕ) (x : A) → slice_get xs i ≡ Some x → length (take i xs) ≡ i
+length-taken [] i x h = absurd (cc)
+length-taken (y ∷ ys) zero x h = refl
+length-taken (y ∷ ys) (suc i) x h = ap suc (length-taken ys i x h)
+
+-- what is known after the line at an index
+pub seen-next : (lines : List Line) (i : ℕ) (line : Line) → slice_get lines i ≡ Some line → entered i (seen_at lines i) line ≡ seen_at lines (i + 1)
+seen-next lines i line h =
+    seen-after i (roots (top_lines lines)) (scope_at lines i) (blocks_at lines i) line
+    ∙ ap (λ scope. seen (roots (top_lines lines)) scope (blocks_after i (blocks_at lines i) line)) (sym scopes)
+    ∙ ap (λ blocks. seen (roots (top_lines lines)) (scope_at lines (i + 1)) blocks) (sym blocks) where
+      scopes : scope_at lines (i + 1) ≡ scope_after (scope_at lines i) line
+      scopes = ap (λ taken. scope_from (record { name = []; lines = [] }) taken) (take-push lines i line h) ∙ scope-push _ (take i lines) line
+
+      at_index : 0 + length (take i lines) ≡ i
+      at_index = omega (arith, length-taken lines i line h)
+
+      blocks : blocks_at lines (i + 1) ≡ blocks_after i (blocks_at lines i) line
+      blocks =
+          ap (λ taken. blocks_from 0 [] taken) (take-push lines i line h)
+          ∙ blocks-push 0 [] (take i lines) line
+          ∙ ap (λ k. blocks_after k (blocks_at lines i) line) at_index

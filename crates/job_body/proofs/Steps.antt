@@ -1,0 +1,162 @@
+-- The steps of a program are those of its job.
+use Rattle.std.proofs.Common.{◌≡◌, ℕ, ◌+◌, ◌-◌, ◌^◌, min, Bool, true, false, if◌then◌else◌, arith, drop, Option, Some, None, Result, Ok, Err, List, [], ◌∷◌, map, flat_map, zip, slice_get, option_map, pos, negsuc, ℤ, refl, sym, ap, ◌∙◌}
+use Rattle.job_reader.specs.declared.atom.Atom.{Atom}
+use Rattle.job_reader.specs.declared.line.Line.{Line}
+use Rattle.job_reader.specs.declared.line.Line.TheVariants as line
+use Rattle.swan_model.specs.declared.body.Answer.{Answer}
+use Rattle.swan_model.specs.declared.body.Answer.TheVariants as answer
+use Rattle.swan_model.specs.declared.body.Ask.{Ask}
+use Rattle.swan_model.specs.declared.body.Ask.TheVariants as ask
+use Rattle.swan_model.specs.declared.fault.Trouble.{Trouble}
+use Rattle.swan_model.specs.declared.fault.Trouble.TheVariants as trouble
+use Rattle.swan_model.specs.declared.value.Value.{Value}
+use Rattle.swan_model.specs.declared.value.Value.TheVariants.{Int}
+use Rattle.job_body.specs.declared.block.Block.{Block}
+use Rattle.job_body.specs.declared.block.Block.TheVariants as opened
+use Rattle.job_body.specs.declared.scope.Scope.{Scope}
+use Rattle.job_body.specs.Blocks.{blocks_at, exit_at, innermost}
+use Rattle.job_body.specs.Compiled as compiled
+use Rattle.job_body.specs.Compiled.{deed_of, next_of, program_of, seen_at, task_named, tasks_of}
+use Rattle.job_body.specs.Names.{slot}
+use Rattle.job_body.specs.Operations.{operation, flag, is_true, number_of}
+use Rattle.job_body.specs.Steps.{is_kind}
+use Rattle.swan_model.specs.Values.{kind_of}
+use Rattle.job_body.specs.declared.take.Take.{Take}
+use Rattle.job_body.specs.declared.tasks.Task.{Task}
+use Rattle.job_body.specs.Runs as runs
+use Rattle.job_body.specs.Standing.{Standing}
+use Rattle.job_body.specs.Steps as steps
+use Rattle.job_body.specs.Tasks.{before_task, executed_from, lines_of_task, takes, task_index}
+use Rattle.job_body.proofs.Programs.{instruction-at, instruction, IsFound, at_line, nowhere, task-found, begun-named}
+use Rattle.job_body.proofs.Suffixes.{drop_past}
+use Rattle.job_body.proofs.Values.{value-slot, set-slot, place-name, value-operand, values-given, gives-given}
+
+-- ---- assignments
+
+assigned-is : (lines : List Line) (s : Standing) (v : List ℕ) (result : Result Value Trouble) → runs.assigned s (executed_from lines (s.at + 1)) (compiled.slot_in (seen_at lines s.at) v) result ≡ steps.assigned lines s v result
+assigned-is lines s v (Ok value) = ap (λ values. (runs.gone_with s (executed_from lines (s.at + 1)) values, ask.Work)) (sym (set-slot (steps.names_at lines s.at) s.values v value))
+assigned-is lines s v (Err why) = refl
+
+argument-is : (lines : List Line) (s : Standing) (a : Option Atom) → steps.value_of_argument lines s a ≡ runs.value_of s.values (compiled.or_zero (seen_at lines s.at) a)
+argument-is lines s None = refl
+argument-is lines s (Some a) = value-operand lines s.at s.values a
+
+-- ---- spawns
+
+spawned-is : (lines : List Line) (s : Standing) (n : ℤ) (p : ℕ) (given : List (Take × Atom))
+    → ((values : List Value) → runs.begun_in (program_of lines) p values ≡ steps.begun lines p values)
+    → runs.spawned (program_of lines) s (executed_from lines (s.at + 1)) n p (flat_map (compiled.param_given (seen_at lines s.at)) given) (flat_map (compiled.give_given (seen_at lines s.at)) given)
+    ≡ steps.spawned lines s n p given
+spawned-is lines s (negsuc n) p given begins = refl
+spawned-is lines s (pos fuel) p given begins =
+    ap (λ local. (steps.moved_on lines s, ask.Spawn (record { local = local; gives = flat_map (compiled.give_given (seen_at lines s.at)) given; fuel = fuel })))
+    (begins (map (runs.value_of s.values) (flat_map (compiled.param_given (seen_at lines s.at)) given)) ∙ ap (steps.begun lines p) (sym (values-given lines s given)))
+    ∙ ap (λ gives. (steps.moved_on lines s, ask.Spawn (record { local = steps.begun lines p (flat_map (steps.value_given lines s) given); gives = gives; fuel = fuel }))) (sym (gives-given lines s given))
+
+abbrev spawn : List Line → Standing → ℕ → Atom → Option Task → List Atom → Standing × Ask Standing
+spawn lines s f fuel found args = runs.done (program_of lines) s (executed_from lines (s.at + 1)) f (compiled.spawn_of lines (seen_at lines s.at) fuel found args)
+
+spawn-found : (lines : List Line) (s : Standing) (f : ℕ) (fuel : Atom) (p : ℕ) (found : Option Task) (args : List Atom)
+    → ((values : List Value) → runs.begun_in (program_of lines) p values ≡ steps.begun lines p values)
+    → IsFound lines 0 p found
+    → spawn lines s f fuel found args ≡ steps.spawned lines s (number_of (runs.value_of s.values (compiled.operand_of (seen_at lines s.at) fuel))) p (zip (takes (lines_of_task lines p)) args)
+spawn-found lines s f fuel p found args begins (at_line name h e) =
+    ap (λ found. spawn lines s f fuel found args) e
+    ∙ ap (λ i. spawn lines s f fuel (Some (record { index = i; takes = takes (before_task (drop (p + 1) lines)) })) args) (let same : 0 + p ≡ p = omega arith in same)
+    ∙ spawned-is lines s (number_of (runs.value_of s.values (compiled.operand_of (seen_at lines s.at) fuel))) p (zip (takes (lines_of_task lines p)) args) begins
+spawn-found lines s f fuel p found args begins (nowhere e none) =
+    ap (λ found. spawn lines s f fuel found args) none
+    ∙ ap (λ i. runs.spawned (program_of lines) s (executed_from lines (s.at + 1)) (number_of (runs.value_of s.values (compiled.operand_of (seen_at lines s.at) fuel))) i [] []) (sym e)
+    ∙ spawned-is lines s (number_of (runs.value_of s.values (compiled.operand_of (seen_at lines s.at) fuel))) p [] begins
+    ∙ ap (λ rest. steps.spawned lines s (number_of (runs.value_of s.values (compiled.operand_of (seen_at lines s.at) fuel))) p (zip (takes (before_task rest)) args)) (sym (drop_past lines (p + 1) (omega arith)))
+
+-- ---- the ends of blocks and of tasks
+
+end-is : (lines : List Line) (s : Standing) (fuel : ℕ) (blocks : List Block) → runs.done (program_of lines) s (compiled.after_end_of lines s.at (innermost blocks)) fuel (compiled.end_deed (innermost blocks)) ≡ steps.ended lines s blocks
+end-is lines s fuel [] = refl
+end-is lines s fuel (opened.If ∷ blocks) = refl
+end-is lines s fuel (opened.While i ∷ blocks) = refl
+
+-- ---- all lines
+
+branch-is : (lines : List Line) (s : Standing) (b : Bool) (to other : ℕ) → ◌≡◌ {A = Standing × Ask Standing} (runs.gone s (if b then to else executed_from lines other), ask.Work) ((if b then runs.gone s to else steps.moved_to lines s other), ask.Work)
+branch-is lines s true to other = refl
+branch-is lines s false to other = refl
+
+-- what a line does in the program of its job
+done-line : (lines : List Line) (s : Standing) (fuel : ℕ) (line : Line) → runs.done (program_of lines) s (next_of lines (seen_at lines s.at) (exit_at lines s.at) s.at line) fuel (deed_of lines (tasks_of lines) (seen_at lines s.at) (exit_at lines s.at) s.at line) ≡ steps.step lines s fuel line
+done-line lines s fuel (line.Assign v op args) =
+    ap (λ a. runs.assigned s (executed_from lines (s.at + 1)) (compiled.slot_in (seen_at lines s.at) v) (operation op a (runs.value_of s.values (compiled.or_zero (seen_at lines s.at) (slice_get args 1))) (runs.value_of s.values (compiled.or_zero (seen_at lines s.at) (slice_get args 2))))) (sym (argument-is lines s (slice_get args 0)))
+    ∙ ap (λ b. runs.assigned s (executed_from lines (s.at + 1)) (compiled.slot_in (seen_at lines s.at) v) (operation op (steps.result_of lines s args 0) b (runs.value_of s.values (compiled.or_zero (seen_at lines s.at) (slice_get args 2))))) (sym (argument-is lines s (slice_get args 1)))
+    ∙ ap (λ c. runs.assigned s (executed_from lines (s.at + 1)) (compiled.slot_in (seen_at lines s.at) v) (operation op (steps.result_of lines s args 0) (steps.result_of lines s args 1) c)) (sym (argument-is lines s (slice_get args 2)))
+    ∙ assigned-is lines s v (operation op (steps.result_of lines s args 0) (steps.result_of lines s args 1) (steps.result_of lines s args 2))
+done-line lines s fuel (line.Read v o) = ap (λ place. (steps.moved_on lines s, ask.Read place)) (sym (place-name lines s.at o))
+done-line lines s fuel (line.Write o a) =
+    ap (λ place. (steps.moved_on lines s, ask.Write place (runs.value_of s.values (compiled.operand_of (seen_at lines s.at) a)))) (sym (place-name lines s.at o))
+    ∙ ap (λ value. (steps.moved_on lines s, ask.Write (steps.place_at lines s.at o) value)) (sym (value-operand lines s.at s.values a))
+done-line lines s fuel (line.Push q a) =
+    ap (λ place. (steps.moved_on lines s, ask.Push place (runs.value_of s.values (compiled.operand_of (seen_at lines s.at) a)))) (sym (place-name lines s.at q))
+    ∙ ap (λ value. (steps.moved_on lines s, ask.Push (steps.place_at lines s.at q) value)) (sym (value-operand lines s.at s.values a))
+done-line lines s fuel (line.Pop v q) = ap (λ place. (steps.moved_on lines s, ask.Pop place)) (sym (place-name lines s.at q))
+done-line lines s fuel (line.Empty v q) = ap (λ place. (steps.moved_on lines s, ask.Empty place)) (sym (place-name lines s.at q))
+done-line lines s fuel (line.Spawn a task args) =
+    spawn-found lines s fuel a (task_index lines task) (task_named (tasks_of lines) task) args (begun-named lines task) (task-found lines task)
+    ∙ ap (λ value. steps.spawned lines s (number_of value) (task_index lines task) (zip (takes (lines_of_task lines (task_index lines task))) args)) (sym (value-operand lines s.at s.values a))
+done-line lines s fuel (line.Fuel v) = ap (λ values. (runs.gone_with s (executed_from lines (s.at + 1)) values, ask.Work)) (sym (set-slot (steps.names_at lines s.at) s.values v (Int (pos (min fuel (2 ^ 63 - 1))))))
+done-line lines s fuel (line.Fail a) = ap (λ value. (s, ask.Fail (trouble.User (number_of value)))) (sym (value-operand lines s.at s.values a))
+done-line lines s fuel (line.If a) =
+    ap (λ value. (runs.gone s (if is_true value then executed_from lines (s.at + 1) else executed_from lines (exit_at lines s.at).otherwise), ask.Work)) (sym (value-operand lines s.at s.values a))
+    ∙ branch-is lines s (is_true (steps.value_at lines s.at s.values a)) (executed_from lines (s.at + 1)) (exit_at lines s.at).otherwise
+done-line lines s fuel (line.While a) =
+    ap (λ value. (runs.gone s (if is_true value then executed_from lines (s.at + 1) else executed_from lines (exit_at lines s.at).after), ask.Work)) (sym (value-operand lines s.at s.values a))
+    ∙ branch-is lines s (is_true (steps.value_at lines s.at s.values a)) (executed_from lines (s.at + 1)) (exit_at lines s.at).after
+done-line lines s fuel line.End = end-is lines s fuel (blocks_at lines s.at)
+done-line lines s fuel line = refl
+
+-- ---- answers
+
+received-is : (lines : List Line) (s : Standing) (v : List ℕ) (new : Value) → runs.set_by s.values (compiled.slot_in (seen_at lines s.before) v) new ≡ steps.received lines s v new
+received-is lines s v new =
+    ap (λ value. if is_kind (kind_of value) (kind_of new) then runs.with_slot s.values (slot (steps.names_at lines s.before) v) new else s.values) (sym (value-slot (steps.names_at lines s.before) s.values v))
+    ∙ ap (λ values. if is_kind (kind_of (steps.value_named (steps.names_at lines s.before) s.values v)) (kind_of new) then values else s.values) (sym (set-slot (steps.names_at lines s.before) s.values v new))
+
+answered-end : (values : List Value) (block : Option Block) (a : Answer) → runs.answered values (compiled.end_deed block) a ≡ values
+answered-end values None a = refl
+answered-end values (Some block) a = refl
+
+answered-spawn : (lines : List Line) (values : List Value) (scope : Scope) (fuel : Atom) (found : Option Task) (args : List Atom) (a : Answer) → runs.answered values (compiled.spawn_of lines scope fuel found args) a ≡ values
+answered-spawn lines values scope fuel None args a = refl
+answered-spawn lines values scope fuel (Some task) args a = refl
+
+answered-line : (lines : List Line) (s : Standing) (line : Line) (a : Answer) → runs.answered s.values (deed_of lines (tasks_of lines) (seen_at lines s.before) (exit_at lines s.before) s.before line) a ≡ steps.received_by lines s (Some line) a
+answered-line lines s (line.Read v o) (answer.Item value) = received-is lines s v value
+answered-line lines s (line.Read v o) a = refl
+answered-line lines s (line.Pop v q) (answer.Item value) = received-is lines s v value
+answered-line lines s (line.Pop v q) a = refl
+answered-line lines s (line.Empty v q) (answer.Flag is_empty) = received-is lines s v (flag is_empty)
+answered-line lines s (line.Empty v q) a = refl
+answered-line lines s line.End a = answered-end s.values (innermost (blocks_at lines s.before)) a
+answered-line lines s (line.Spawn fuel task args) a = answered-spawn lines s.values (seen_at lines s.before) fuel (task_named (tasks_of lines) task) args a
+answered-line lines s line a = refl
+
+-- ---- steps
+
+answered-by : (lines : List Line) (s : Standing) (line : Option Line) (a : Answer) → runs.answered_by s.values (option_map (instruction lines s.before) line) a ≡ steps.received_by lines s line a
+answered-by lines s None a = refl
+answered-by lines s (Some line) a = answered-line lines s line a
+
+told-is : (lines : List Line) (s : Standing) (a : Answer) → runs.told_by (program_of lines) s a ≡ steps.told lines s a
+told-is lines s a =
+    ap (λ values. record { before = s.before; at = s.at; values = values })
+    (ap (λ i. runs.answered_by s.values i a) (instruction-at lines s.before) ∙ answered-by lines s (slice_get lines s.before) a)
+
+run-is : (lines : List Line) (s : Standing) (fuel : ℕ) (line : Option Line) → runs.run (program_of lines) s fuel (option_map (instruction lines s.at) line) ≡ steps.step_at lines s fuel line
+run-is lines s fuel None = refl
+run-is lines s fuel (Some line) = done-line lines s fuel line
+
+-- the step of a program is that of its job
+pub next-program : (lines : List Line) (s : Standing) (a : Answer) (fuel : ℕ) → runs.next_by (program_of lines) s a fuel ≡ steps.next lines s a fuel
+next-program lines s a fuel =
+    ap (λ told. runs.run (program_of lines) told fuel (slice_get (program_of lines) s.at)) (told-is lines s a)
+    ∙ ap (λ i. runs.run (program_of lines) (steps.told lines s a) fuel i) (instruction-at lines s.at)
+    ∙ run-is lines (steps.told lines s a) fuel (slice_get lines s.at)

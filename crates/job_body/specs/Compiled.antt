@@ -1,0 +1,187 @@
+-- How the code keeps a job: an instruction for each line, which knows the places of its variables,
+-- objects and queues and where it goes on. The code alone is stated by this, and no public clause.
+use Rattle.std.specs.Prelude.{ℕ, ◌+◌, false, Option, Some, None, List, [], ◌∷◌, ◌++◌, length, drop, flat_map, zip, slice_get, unwrap_or, pos, if◌then◌else◌}
+use Rattle.job_body.specs.Blocks.{after_end, blocks_at, exits, first_exit, innermost}
+use Rattle.job_body.specs.Names.{slot}
+use Rattle.job_body.specs.Tasks.{access_of, before_task, executed_from, is_main, made_of, param_of, roots, scope_at, takes, top_lines, var_kinds, var_of}
+use Rattle.job_body.specs.declared.block.Block.{Block}
+use Rattle.job_body.specs.declared.block.Block.TheVariants as opened
+use Rattle.job_body.specs.declared.exit.Exit.{Exit}
+use Rattle.job_body.specs.declared.instruction.Deed.{Deed}
+use Rattle.job_body.specs.declared.instruction.Deed.TheVariants as deed
+use Rattle.job_body.specs.declared.instruction.Instruction.{Instruction}
+use Rattle.job_body.specs.declared.instruction.Operand.{Operand}
+use Rattle.job_body.specs.declared.instruction.Operand.TheVariants as operand
+use Rattle.job_body.specs.declared.scope.Scope.{Scope}
+use Rattle.job_body.specs.declared.take.Take.{Take}
+use Rattle.job_body.specs.declared.take.Take.TheVariants as given
+use Rattle.job_body.specs.declared.tasks.Task.{Task}
+use Rattle.job_body.specs.declared.tasks.Tasks.{Tasks}
+use Rattle.job_reader.specs.declared.atom.Atom.{Atom}
+use Rattle.job_reader.specs.declared.atom.Atom.TheVariants as atom
+use Rattle.job_reader.specs.declared.line.Line.{Line}
+use Rattle.job_reader.specs.declared.line.Line.TheVariants as line
+use Rattle.swan_model.specs.declared.rights.Give.{Give}
+use Rattle.swan_model.specs.declared.value.Kind.{Kind}
+
+-- what is known of the tasks: their names, and for each its index and what it takes
+abbrev pub name_of_task : Line → List (List ℕ)
+name_of_task (line.Task name) = name ∷ []
+name_of_task _ = []
+
+abbrev pub tasks_from : ℕ → List Line → List Task
+tasks_from i [] = []
+tasks_from i (line.Task name ∷ lines) =
+    (record { index = i; takes = takes (before_task lines) }) ∷ tasks_from (i + 1) lines
+tasks_from i (line ∷ lines) = tasks_from (i + 1) lines
+
+abbrev pub tasks_of : List Line → Tasks
+tasks_of lines = record { names = flat_map name_of_task lines; tasks = tasks_from 0 lines }
+
+abbrev pub task_at : List Task → Option ℕ → Option Task
+task_at tasks None = None
+task_at tasks (Some i) = slice_get tasks i
+
+abbrev pub task_named : Tasks → List ℕ → Option Task
+task_named tasks name = task_at tasks.tasks (slot tasks.names name)
+
+-- how the block goes on that each line opens
+abbrev pub exits_from : ℕ → ℕ → List Line → List Exit
+exits_from end i [] = []
+exits_from end i (line ∷ lines) = first_exit end (exits (i + 1) lines) ∷ exits_from end (i + 1) lines
+
+abbrev pub exits_of : List Line → List Exit
+exits_of lines = exits_from (length lines) 0 lines
+
+-- what is known before the first line, and after a `task` line
+abbrev pub scope_before : List (List ℕ) → Scope
+scope_before roots = record { roots = roots; is_main = false; params = []; vars = []; accesses = []; made = []; blocks = [] }
+
+abbrev pub entered_task : List (List ℕ) → List ℕ → Scope
+entered_task roots name = record { roots = roots; is_main = is_main name; params = []; vars = []; accesses = []; made = []; blocks = [] }
+
+-- what is known after a line
+abbrev pub entered : ℕ → Scope → Line → Scope
+entered i s (line.Task name) = entered_task s.roots name
+entered i s (line.Param name kind) = record s { params = s.params ++ name ∷ [] }
+entered i s (line.Var name kind) = record s { vars = s.vars ++ name ∷ [] }
+entered i s (line.Access mode name kind) = record s { accesses = s.accesses ++ name ∷ [] }
+entered i s (line.Queue name kind) = record s { made = s.made ++ name ∷ [] }
+entered i s (line.Object name kind) = record s { made = s.made ++ name ∷ [] }
+entered i s (line.If a) = record s { blocks = opened.If ∷ s.blocks }
+entered i s (line.While a) = record s { blocks = opened.While i ∷ s.blocks }
+entered i s line.End = record s { blocks = after_end s.blocks }
+entered i s _ = s
+
+-- what is known at the line with an index
+abbrev pub seen_at : List Line → ℕ → Scope
+seen_at lines i = record {
+  roots = roots (top_lines lines);
+  is_main = is_main (scope_at lines i).name;
+  params = flat_map param_of (scope_at lines i).lines;
+  vars = flat_map var_of (scope_at lines i).lines;
+  accesses = flat_map access_of (scope_at lines i).lines;
+  made = flat_map made_of (scope_at lines i).lines;
+  blocks = blocks_at lines i;
+}
+
+-- the slot of a variable, and the place of an object or a queue
+abbrev pub slot_in : Scope → List ℕ → Option ℕ
+slot_in s name = slot (s.params ++ s.vars) name
+
+abbrev pub roots_in : Scope → List (List ℕ)
+roots_in s = if s.is_main then s.roots else []
+
+abbrev pub places_in : Scope → List (List ℕ)
+places_in s = roots_in s ++ (s.accesses ++ s.made)
+
+abbrev pub place_in : Scope → List ℕ → ℕ
+place_in s name = unwrap_or (slot (places_in s) name) (length (places_in s))
+
+-- an atom as an operand; an unknown name is the number 0
+abbrev pub variable : Option ℕ → Operand
+variable None = operand.Int (pos 0)
+variable (Some i) = operand.Variable i
+
+abbrev pub operand_of : Scope → Atom → Operand
+operand_of s (atom.Int n) = operand.Int n
+operand_of s (atom.Bytes bytes) = operand.Bytes bytes
+operand_of s (atom.Name name) = variable (slot_in s name)
+
+abbrev pub or_zero : Scope → Option Atom → Operand
+or_zero s None = operand.Int (pos 0)
+or_zero s (Some a) = operand_of s a
+
+abbrev pub place_of_atom : Scope → Atom → ℕ
+place_of_atom s (atom.Name name) = place_in s name
+place_of_atom s _ = length (places_in s)
+
+-- what a child is given
+abbrev pub param_given : Scope → Take × Atom → List Operand
+param_given s (given.Param, a) = operand_of s a ∷ []
+param_given s _ = []
+
+abbrev pub give_given : Scope → Take × Atom → List Give
+give_given s (given.Access mode, a) = (record { place = place_of_atom s a; mode = mode }) ∷ []
+give_given s _ = []
+
+-- a spawn; an unknown task stands past all lines and takes nothing
+abbrev pub spawn_of : List Line → Scope → Atom → Option Task → List Atom → Deed
+spawn_of lines s fuel None args = deed.Spawn (operand_of s fuel) (length lines) [] []
+spawn_of lines s fuel (Some task) args =
+    deed.Spawn (operand_of s fuel) task.index (flat_map (param_given s) (zip task.takes args)) (flat_map (give_given s) (zip task.takes args))
+
+-- the kinds of the variables of the task at an index
+abbrev pub kinds_after : List Line → ℕ → List Kind
+kinds_after lines i = var_kinds (before_task (drop (i + 1) lines))
+
+-- what the `end` of the innermost block does, or that of the task
+abbrev pub end_deed : Option Block → Deed
+end_deed None = deed.Finish
+end_deed (Some block) = deed.Go
+
+abbrev pub after_end_of : List Line → ℕ → Option Block → ℕ
+after_end_of lines i (Some (opened.While index)) = executed_from lines index
+after_end_of lines i _ = executed_from lines (i + 1)
+
+-- what a line does
+abbrev pub deed_of : List Line → Tasks → Scope → Exit → ℕ → Line → Deed
+deed_of lines tasks s exit i (line.Task name) = deed.Begin (kinds_after lines i)
+deed_of lines tasks s exit i (line.Queue name kind) = deed.NewQueue
+deed_of lines tasks s exit i (line.Object name kind) = deed.NewObject kind
+deed_of lines tasks s exit i (line.Assign v op args) =
+    deed.Assign (slot_in s v) op (or_zero s (slice_get args 0)) (or_zero s (slice_get args 1)) (or_zero s (slice_get args 2))
+deed_of lines tasks s exit i (line.Read v o) = deed.Read (slot_in s v) (place_in s o)
+deed_of lines tasks s exit i (line.Write o a) = deed.Write (place_in s o) (operand_of s a)
+deed_of lines tasks s exit i (line.Push q a) = deed.Push (place_in s q) (operand_of s a)
+deed_of lines tasks s exit i (line.Pop v q) = deed.Pop (slot_in s v) (place_in s q)
+deed_of lines tasks s exit i (line.Empty v q) = deed.Empty (slot_in s v) (place_in s q)
+deed_of lines tasks s exit i (line.Spawn fuel task args) = spawn_of lines s fuel (task_named tasks task) args
+deed_of lines tasks s exit i line.Sync = deed.Sync
+deed_of lines tasks s exit i (line.Fuel v) = deed.Fuel (slot_in s v)
+deed_of lines tasks s exit i (line.Fail a) = deed.Fail (operand_of s a)
+deed_of lines tasks s exit i (line.If a) = deed.Branch (operand_of s a) (executed_from lines exit.otherwise)
+deed_of lines tasks s exit i line.Else = deed.Go
+deed_of lines tasks s exit i (line.While a) = deed.Branch (operand_of s a) (executed_from lines exit.after)
+deed_of lines tasks s exit i line.End = end_deed (innermost s.blocks)
+deed_of lines tasks s exit i _ = deed.Finish
+
+-- where a line goes on
+abbrev pub next_of : List Line → Scope → Exit → ℕ → Line → ℕ
+next_of lines s exit i line.Else = executed_from lines exit.after
+next_of lines s exit i line.End = after_end_of lines i (innermost s.blocks)
+next_of lines s exit i _ = executed_from lines (i + 1)
+
+abbrev pub instruction_of : List Line → Tasks → Scope → Exit → ℕ → Line → Instruction
+instruction_of lines tasks s exit i line =
+    record { deed = deed_of lines tasks s exit i line; next = next_of lines s exit i line }
+
+-- the instructions of lines, the first of which has this index
+abbrev pub instructions_from : List Line → ℕ → List Line → List Instruction
+instructions_from job i [] = []
+instructions_from job i (line ∷ lines) =
+    instruction_of job (tasks_of job) (seen_at job i) (first_exit (length job) (exits (i + 1) lines)) i line
+    ∷ instructions_from job (i + 1) lines
+
+abbrev pub program_of : List Line → List Instruction
+program_of job = instructions_from job 0 job

@@ -1,0 +1,10 @@
+pub mod Operations
+pub mod Standing
+pub mod Tasks
+pub mod Blocks
+pub mod Steps
+pub mod PlanOfJob
+pub mod NamesOfJob
+pub mod Names
+pub mod Compiled
+pub mod Runs

@@ -1,0 +1,110 @@
+-- What instructions do. The code alone is stated by this, and no public clause.
+use Rattle.std.specs.Prelude.{ℕ, ◌+◌, ◌-◌, ◌^◌, min, ℤ, pos, negsuc, Option, Some, None, Result, Ok, Err, List, ◌++◌, map, slice_get, slice_set, unwrap_or, if◌then◌else◌}
+use Rattle.job_body.specs.Operations.{flag, is_true, number_of, operation}
+use Rattle.job_body.specs.Standing.{Standing}
+use Rattle.job_body.specs.Steps.{is_kind}
+use Rattle.job_body.specs.declared.instruction.Deed.{Deed}
+use Rattle.job_body.specs.declared.instruction.Deed.TheVariants as deed
+use Rattle.job_body.specs.declared.instruction.Instruction.{Instruction}
+use Rattle.job_body.specs.declared.instruction.Operand.{Operand}
+use Rattle.job_body.specs.declared.instruction.Operand.TheVariants as operand
+use Rattle.swan_model.specs.declared.body.Answer.{Answer}
+use Rattle.swan_model.specs.declared.body.Answer.TheVariants as answer
+use Rattle.swan_model.specs.declared.body.Ask.{Ask}
+use Rattle.swan_model.specs.declared.body.Ask.TheVariants as ask
+use Rattle.swan_model.specs.declared.fault.Trouble.{Trouble}
+use Rattle.swan_model.specs.declared.fault.Trouble.TheVariants as trouble
+use Rattle.swan_model.specs.declared.rights.Give.{Give}
+use Rattle.swan_model.specs.declared.value.Value.{Value}
+use Rattle.swan_model.specs.declared.value.Value.TheVariants.{Int, Bytes}
+use Rattle.swan_model.specs.Values.{kind_of, zero_of}
+
+-- the value in a slot, or the number 0 where there is none
+abbrev pub value_in : List Value → Option ℕ → Value
+value_in values None = Int (pos 0)
+value_in values (Some i) = unwrap_or (slice_get values i) (Int (pos 0))
+
+abbrev pub with_slot : List Value → Option ℕ → Value → List Value
+with_slot values None new = values
+with_slot values (Some i) new = slice_set values i new
+
+abbrev pub value_of : List Value → Operand → Value
+value_of values (operand.Int n) = Int n
+value_of values (operand.Bytes bytes) = Bytes bytes
+value_of values (operand.Variable i) = value_in values (Some i)
+
+-- the values once an answer has come
+abbrev pub set_by : List Value → Option ℕ → Value → List Value
+set_by values to new = if is_kind (kind_of (value_in values to)) (kind_of new) then with_slot values to new else values
+
+abbrev pub answered : List Value → Deed → Answer → List Value
+answered values (deed.Read to place) (answer.Item value) = set_by values to value
+answered values (deed.Pop to place) (answer.Item value) = set_by values to value
+answered values (deed.Empty to place) (answer.Flag is_empty) = set_by values to (flag is_empty)
+answered values _ _ = values
+
+abbrev pub answered_by : List Value → Option Instruction → Answer → List Value
+answered_by values None answer = values
+answered_by values (Some instruction) answer = answered values instruction.deed answer
+
+-- the activation at another line
+abbrev pub gone : Standing → ℕ → Standing
+gone s to = record { before = s.at; at = to; values = s.values }
+
+abbrev pub gone_with : Standing → ℕ → List Value → Standing
+gone_with s to values = record { before = s.at; at = to; values = values }
+
+abbrev pub assigned : Standing → ℕ → Option ℕ → Result Value Trouble → Standing × Ask Standing
+assigned s to slot (Ok value) = (gone_with s to (with_slot s.values slot value), ask.Work)
+assigned s to slot (Err why) = (s, ask.Fail why)
+
+-- an activation of the task at an index before its first step
+abbrev pub begun_at : ℕ → List Value → ℕ → Deed → Standing
+begun_at index values next (deed.Begin kinds) = record { before = index; at = next; values = values ++ map zero_of kinds }
+begun_at index values next _ = record { before = index; at = index + 1; values = values }
+
+abbrev pub begun_by : ℕ → List Value → Option Instruction → Standing
+begun_by index values None = record { before = index; at = index + 1; values = values }
+begun_by index values (Some instruction) = begun_at index values instruction.next instruction.deed
+
+abbrev pub begun_in : List Instruction → ℕ → List Value → Standing
+begun_in program index values = begun_by index values (slice_get program index)
+
+abbrev pub spawned : List Instruction → Standing → ℕ → ℤ → ℕ → List Operand → List Give → Standing × Ask Standing
+spawned program s to (negsuc n) index params gives = (s, ask.Fail trouble.Range)
+spawned program s to (pos fuel) index params gives =
+    (gone s to, ask.Spawn (record { local = begun_in program index (map (value_of s.values) params); gives = gives; fuel = fuel }))
+
+-- what an instruction does that goes on at a line
+abbrev pub done : List Instruction → Standing → ℕ → ℕ → Deed → Standing × Ask Standing
+done program s to fuel (deed.Begin kinds) = (s, ask.Finish)
+done program s to fuel deed.NewQueue = (gone s to, ask.NewQueue)
+done program s to fuel (deed.NewObject kind) = (gone s to, ask.NewObject (zero_of kind))
+done program s to fuel (deed.Assign slot op a b c) =
+    assigned s to slot (operation op (value_of s.values a) (value_of s.values b) (value_of s.values c))
+done program s to fuel (deed.Read slot place) = (gone s to, ask.Read place)
+done program s to fuel (deed.Write place a) = (gone s to, ask.Write place (value_of s.values a))
+done program s to fuel (deed.Push place a) = (gone s to, ask.Push place (value_of s.values a))
+done program s to fuel (deed.Pop slot place) = (gone s to, ask.Pop place)
+done program s to fuel (deed.Empty slot place) = (gone s to, ask.Empty place)
+done program s to fuel (deed.Spawn a index params gives) =
+    spawned program s to (number_of (value_of s.values a)) index params gives
+done program s to fuel deed.Sync = (gone s to, ask.Sync)
+done program s to fuel (deed.Fuel slot) =
+    (gone_with s to (with_slot s.values slot (Int (pos (min fuel (2 ^ 63 - 1))))), ask.Work)
+done program s to fuel (deed.Fail a) = (s, ask.Fail (trouble.User (number_of (value_of s.values a))))
+done program s to fuel (deed.Branch a otherwise) =
+    (gone s (if is_true (value_of s.values a) then to else otherwise), ask.Work)
+done program s to fuel deed.Go = (gone s to, ask.Work)
+done program s to fuel deed.Finish = (s, ask.Finish)
+
+abbrev pub run : List Instruction → Standing → ℕ → Option Instruction → Standing × Ask Standing
+run program s fuel None = (s, ask.Finish)
+run program s fuel (Some instruction) = done program s instruction.next fuel instruction.deed
+
+abbrev pub told_by : List Instruction → Standing → Answer → Standing
+told_by program s answer = record s { values = answered_by s.values (slice_get program s.before) answer }
+
+-- the step of a program
+abbrev pub next_by : List Instruction → Standing → Answer → ℕ → Standing × Ask Standing
+next_by program s answer fuel = run program (told_by program s answer) fuel (slice_get program s.at)

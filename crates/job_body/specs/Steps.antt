@@ -1,0 +1,170 @@
+-- The steps of a job. One executed line is one step: by the line at which an activation stands, the
+-- values of its variables by their names, and the answer to its last ask, it asks for something and
+-- stands at another line.
+use Rattle.std.specs.Prelude.{ℕ, ◌+◌, ◌-◌, ◌^◌, min, Bool, true, false, ℤ, pos, negsuc, Option, Some, None, Result, Ok, Err, List, [], ◌∷◌, ◌++◌, length, flat_map, zip, bytes_eq, slice_get, if◌then◌else◌}
+use Rattle.std.specs.List.{position_or_len}
+use Rattle.job_reader.specs.declared.atom.Atom.{Atom}
+use Rattle.job_reader.specs.declared.atom.Atom.TheVariants as atom
+use Rattle.job_reader.specs.declared.line.Line.{Line}
+use Rattle.job_reader.specs.declared.line.Line.TheVariants as line
+use Rattle.swan_model.specs.declared.body.Answer.{Answer}
+use Rattle.swan_model.specs.declared.body.Answer.TheVariants as answer
+use Rattle.swan_model.specs.declared.body.Ask.{Ask}
+use Rattle.swan_model.specs.declared.body.Ask.TheVariants as ask
+use Rattle.swan_model.specs.declared.fault.Trouble.{Trouble}
+use Rattle.swan_model.specs.declared.fault.Trouble.TheVariants as trouble
+use Rattle.swan_model.specs.declared.rights.Give.{Give}
+use Rattle.swan_model.specs.declared.value.Kind.{Kind}
+use Rattle.swan_model.specs.declared.value.Kind.TheVariants as kind
+use Rattle.swan_model.specs.declared.value.Value.{Value}
+use Rattle.swan_model.specs.declared.value.Value.TheVariants.{Int, Bytes}
+use Rattle.swan_model.specs.Values.{kind_of, zero_of}
+use Rattle.job_body.specs.declared.block.Block.{Block}
+use Rattle.job_body.specs.declared.block.Block.TheVariants as block
+use Rattle.job_body.specs.declared.take.Take.{Take}
+use Rattle.job_body.specs.declared.take.Take.TheVariants as given
+use Rattle.job_body.specs.Blocks.{blocks_at, exit_at}
+use Rattle.job_body.specs.Operations.{number_of, is_true, flag, operation}
+use Rattle.job_body.specs.Standing.{Standing}
+use Rattle.job_body.specs.Tasks.{executed_from, task_index, lines_of_task, scope_at, variables, zeros, takes, places}
+
+-- the value of the variable with this name, where the values stand in the order of the names; the number 0
+-- where there is none
+abbrev pub value_named : List (List ℕ) → List Value → List ℕ → Value
+value_named (other ∷ names) (value ∷ values) name = if bytes_eq other name then value else value_named names values name
+value_named _ _ name = Int (pos 0)
+
+-- the values where the variable with this name has a new one
+abbrev pub with_value : List (List ℕ) → List Value → List ℕ → Value → List Value
+with_value (other ∷ names) (value ∷ values) name new =
+    if bytes_eq other name then new ∷ values else value ∷ with_value names values name new
+with_value _ values name new = values
+
+-- the names of the variables at a line
+abbrev pub names_at : List Line → ℕ → List (List ℕ)
+names_at lines i = variables (scope_at lines i).lines
+
+-- what an atom means at a line
+abbrev pub value_at : List Line → ℕ → List Value → Atom → Value
+value_at lines i values (atom.Int n) = Int n
+value_at lines i values (atom.Bytes bytes) = Bytes bytes
+value_at lines i values (atom.Name name) = value_named (names_at lines i) values name
+
+-- the place of an object or a queue at a line; the number of places where it isn't there
+abbrev pub place_at : List Line → ℕ → List ℕ → ℕ
+place_at lines i name = position_or_len (λ other. bytes_eq other name) (places lines (scope_at lines i))
+
+abbrev pub place_of_atom : List Line → ℕ → Atom → ℕ
+place_of_atom lines i (atom.Name name) = place_at lines i name
+place_of_atom lines i _ = length (places lines (scope_at lines i))
+
+-- What is received for the last ask. An answer that wasn't asked for is nothing, and a value of the
+-- other kind leaves the variable as it is.
+abbrev pub is_kind : Kind → Kind → Bool
+is_kind kind.Int kind.Int = true
+is_kind kind.Bytes kind.Bytes = true
+is_kind _ _ = false
+
+abbrev pub received : List Line → Standing → List ℕ → Value → List Value
+received lines s name new =
+    if is_kind (kind_of (value_named (names_at lines s.before) s.values name)) (kind_of new)
+    then with_value (names_at lines s.before) s.values name new
+    else s.values
+
+abbrev pub received_by : List Line → Standing → Option Line → Answer → List Value
+received_by lines s (Some (line.Read v o)) (answer.Item value) = received lines s v value
+received_by lines s (Some (line.Pop v q)) (answer.Item value) = received lines s v value
+received_by lines s (Some (line.Empty v q)) (answer.Flag is_empty) = received lines s v (flag is_empty)
+received_by lines s _ _ = s.values
+
+abbrev pub told : List Line → Standing → Answer → Standing
+told lines s answer = record s { values = received_by lines s (slice_get lines s.before) answer }
+
+-- the activation once it has moved on to the first step from this line on
+abbrev pub moved_to : List Line → Standing → ℕ → Standing
+moved_to lines s to = record { before = s.at; at = executed_from lines to; values = s.values }
+
+abbrev pub moved_on : List Line → Standing → Standing
+moved_on lines s = moved_to lines s (s.at + 1)
+
+-- the activation once a variable has a new value and it has moved on
+abbrev pub with_variable : List Line → Standing → List ℕ → Value → Standing
+with_variable lines s name new =
+    record { before = s.at; at = executed_from lines (s.at + 1); values = with_value (names_at lines s.at) s.values name new }
+
+-- an assignment, by what its operation gives
+abbrev pub assigned : List Line → Standing → List ℕ → Result Value Trouble → Standing × Ask Standing
+assigned lines s name (Ok value) = (with_variable lines s name value, ask.Work)
+assigned lines s name (Err why) = (s, ask.Fail why)
+
+-- the value of the atom at an index among those of an operation, or the number 0 where there is none
+abbrev pub value_of_argument : List Line → Standing → Option Atom → Value
+value_of_argument lines s None = Int (pos 0)
+value_of_argument lines s (Some a) = value_at lines s.at s.values a
+
+abbrev pub result_of : List Line → Standing → List Atom → ℕ → Value
+result_of lines s args index = value_of_argument lines s (slice_get args index)
+
+-- What a child is given: the values of its `param` lines, and the places of its access lines.
+abbrev pub value_given : List Line → Standing → Take × Atom → List Value
+value_given lines s (given.Param, a) = value_at lines s.at s.values a ∷ []
+value_given lines s _ = []
+
+abbrev pub give_of : List Line → Standing → Take × Atom → List Give
+give_of lines s (given.Access mode, a) = (record { place = place_of_atom lines s.at a; mode = mode }) ∷ []
+give_of lines s _ = []
+
+-- an activation of the task at this index before its first step, by the values of its `param` lines
+abbrev pub begun : List Line → ℕ → List Value → Standing
+begun lines index values =
+    record { before = index; at = executed_from lines (index + 1); values = values ++ zeros (lines_of_task lines index) }
+
+-- a spawn, by its fuel, by the index of its task, and by what the task is given
+abbrev pub spawned : List Line → Standing → ℤ → ℕ → List (Take × Atom) → Standing × Ask Standing
+spawned lines s (negsuc n) index given = (s, ask.Fail trouble.Range)
+spawned lines s (pos fuel) index given =
+    (moved_on lines s, ask.Spawn (record { local = begun lines index (flat_map (value_given lines s) given); gives = flat_map (give_of lines s) given; fuel = fuel }))
+
+-- the end of the innermost of these blocks, or of the task where there is none
+abbrev pub ended : List Line → Standing → List Block → Standing × Ask Standing
+ended lines s [] = (s, ask.Finish)
+ended lines s (block.If ∷ blocks) = (moved_on lines s, ask.Work)
+ended lines s (block.While i ∷ blocks) = (moved_to lines s i, ask.Work)
+
+-- The step of a line. The number is the fuel that is left after the step's own unit. It is a number of
+-- the language, since a run has less fuel than a number can say.
+abbrev pub step : List Line → Standing → ℕ → Line → Standing × Ask Standing
+step lines s fuel (line.Queue name kind) = (moved_on lines s, ask.NewQueue)
+step lines s fuel (line.Object name kind) = (moved_on lines s, ask.NewObject (zero_of kind))
+step lines s fuel (line.Assign v o args) =
+    assigned lines s v (operation o (result_of lines s args 0) (result_of lines s args 1) (result_of lines s args 2))
+step lines s fuel (line.Read v o) = (moved_on lines s, ask.Read (place_at lines s.at o))
+step lines s fuel (line.Write o a) = (moved_on lines s, ask.Write (place_at lines s.at o) (value_at lines s.at s.values a))
+step lines s fuel (line.Push q a) = (moved_on lines s, ask.Push (place_at lines s.at q) (value_at lines s.at s.values a))
+step lines s fuel (line.Pop v q) = (moved_on lines s, ask.Pop (place_at lines s.at q))
+step lines s fuel (line.Empty v q) = (moved_on lines s, ask.Empty (place_at lines s.at q))
+step lines s fuel (line.Spawn a task args) =
+    spawned lines s (number_of (value_at lines s.at s.values a)) (task_index lines task)
+    (zip (takes (lines_of_task lines (task_index lines task))) args)
+step lines s fuel line.Sync = (moved_on lines s, ask.Sync)
+step lines s fuel (line.Fuel v) = (with_variable lines s v (Int (pos (min fuel (2 ^ 63 - 1)))), ask.Work)
+step lines s fuel (line.Fail a) = (s, ask.Fail (trouble.User (number_of (value_at lines s.at s.values a))))
+step lines s fuel (line.If a) =
+    ((if is_true (value_at lines s.at s.values a) then moved_on lines s else moved_to lines s (exit_at lines s.at).otherwise), ask.Work)
+step lines s fuel line.Else = (moved_to lines s (exit_at lines s.at).after, ask.Work)
+step lines s fuel (line.While a) =
+    ((if is_true (value_at lines s.at s.values a) then moved_on lines s else moved_to lines s (exit_at lines s.at).after), ask.Work)
+step lines s fuel line.End = ended lines s (blocks_at lines s.at)
+step lines s fuel _ = (s, ask.Finish)
+
+-- at a line that isn't there the task finishes
+abbrev pub step_at : List Line → Standing → ℕ → Option Line → Standing × Ask Standing
+step_at lines s fuel None = (s, ask.Finish)
+step_at lines s fuel (Some line) = step lines s fuel line
+
+abbrev pub next : List Line → Standing → Answer → ℕ → Standing × Ask Standing
+next lines s answer fuel = step_at lines (told lines s answer) fuel (slice_get lines s.at)
+
+-- the number of the line at which an activation stands, from 1 on
+abbrev pub place_of : List Line → Standing → ℕ
+place_of lines s = s.at + 1

@@ -1,0 +1,64 @@
+// Open blocks.
+ghost use Rattle.std.specs.Prelude.{◌≡◌, ◌∷◌, [], OnOk};
+ghost use Rattle.job_body.specs.Blocks.{after_end, innermost};
+
+use std::alloc::Global;
+use std::marker::Model;
+use swan_model::NoMemory;
+
+/// An open block of statements.
+#[derive(Clone, Copy, Debug, PartialEq, Eq)]
+pub enum Block {
+    /// An `if`.
+    If,
+    /// A `while` at the line with this index.
+    While(usize),
+}
+
+/// The open blocks. Contracts see them as a list, the innermost first.
+#[derive(Drop)]
+pub struct Blocks {
+    from_outside: Vec<Block>,
+}
+
+impl Model for Blocks {
+    ghost use Rattle.std.specs.Prelude.{List, reverse};
+    ghost use Rattle.job_body.specs.declared.block.Block.{Block};
+
+    ghost Value = { List Block };
+
+    ghost view = { λ it. reverse it.from_outside.items };
+}
+
+impl Blocks {
+    /// No open block. It takes no memory. `O(1)`.
+    pub fn new(alloc: Global) -> Blocks
+        ensures { result ≡ [] }
+    {
+        Blocks {
+            from_outside: Vec::new(alloc),
+        }
+    }
+
+    /// The innermost block. `O(1)`.
+    pub fn innermost(&self) -> Option<Block>
+        ensures { result ≡ innermost self.now }
+    {
+        self.from_outside.last().copied()
+    }
+
+    /// Opens a block. `O(1)` amortised.
+    pub fn open(&mut self, block: Block) -> Result<(), NoMemory>
+        ensures { OnOk result (self.new ≡ block ∷ self.old) }
+    {
+        self.from_outside.push(block)?;
+        Ok(())
+    }
+
+    /// Closes the innermost block, where there is one. `O(1)`.
+    pub fn close(&mut self)
+        ensures { self.new ≡ after_end self.old }
+    {
+        let _block = self.from_outside.pop();
+    }
+}

@@ -1,0 +1,126 @@
+// Locals of activations.
+use crate::instruction::{Deed, Operand};
+use crate::operation::flag;
+use std::marker::Model;
+use swan_model::{Answer, Kind, NoMemory, Value};
+
+/// What an activation of a job keeps between its steps: where it stands, and the values of its
+/// variables. Contracts see it as a standing of the definitions.
+#[derive(Drop)]
+pub struct JobLocal {
+    before: u32,
+    at: u32,
+    values: Vec<Value>,
+}
+
+impl Model for JobLocal {
+    ghost use Rattle.job_body.specs.Standing.{Standing};
+
+    ghost Value = { Standing };
+
+    ghost view = { λ local. record { before = local.before; at = local.at; values = local.values.items } };
+}
+
+impl JobLocal {
+    ghost use Rattle.std.specs.Prelude.{◌≡◌, ◌+◌, IfOk};
+    ghost use Rattle.job_body.specs.Runs.{answered, gone, set_by, value_in, value_of, with_slot};
+    ghost use Rattle.swan_model.specs.Values.{kind_of};
+
+    /// A local with these parts. `O(1)`.
+    pub(crate) fn new(before: u32, at: u32, values: Vec<Value>) -> JobLocal
+        ensures { result ≡ record { before = before; at = at; values = values.items } }
+    {
+        JobLocal { before, at, values }
+    }
+
+    /// The index of the line of the last step. `O(1)`.
+    pub(crate) fn before(&self) -> u32
+        ensures { result ≡ self.now.before }
+    {
+        self.before
+    }
+
+    /// The index of the line of the next step. `O(1)`.
+    pub(crate) fn at(&self) -> u32
+        ensures { result ≡ self.now.at }
+    {
+        self.at
+    }
+
+    /// The value of an operand. A record shares its bytes. `O(1)`.
+    pub(crate) fn value(&self, operand: &Operand) -> Result<Value, NoMemory>
+        ensures { IfOk result (λ it. it ≡ value_of self.now.values operand.now) }
+    {
+        match operand {
+            Operand::Int(number) => Ok(Value::Int(*number)),
+            Operand::Bytes(record) => Ok(Value::Bytes(record.copy()?)),
+            Operand::Variable(slot) => match self.values.get(*slot as usize) {
+                Some(value) => value.copy(),
+                None => Ok(Value::Int(0)),
+            },
+        }
+    }
+
+    /// The kind of the value in a slot. `O(1)`.
+    fn kind(&self, slot: Option<u32>) -> Kind
+        ensures { result ≡ kind_of (value_in self.now.values slot) }
+    {
+        let Some(slot) = slot else {
+            return Kind::Int;
+        };
+        match self.values.get(slot as usize) {
+            Some(value) => value.kind(),
+            None => Kind::Int,
+        }
+    }
+
+    /// Sets a slot, where it is there. `O(1)`.
+    pub(crate) fn set(&mut self, slot: Option<u32>, value: Value)
+        ensures { self.new ≡ record self.old { values = with_slot self.old.values slot value } }
+    {
+        let Some(slot) = slot else {
+            return;
+        };
+        if let Some(place) = self.values.get_mut(slot as usize) {
+            *place = value;
+        }
+    }
+
+    /// Sets a slot to a value of its kind; one of the other kind leaves it as it is. `O(1)`.
+    fn receive(&mut self, slot: Option<u32>, value: Value)
+        ensures { self.new ≡ record self.old { values = set_by self.old.values slot value } }
+    {
+        if self.kind(slot) == value.kind() {
+            self.set(slot, value);
+        }
+    }
+
+    /// Takes the answer to what the last step asked for. One that it didn't ask for is nothing.
+    /// `O(1)`.
+    pub(crate) fn tell(&mut self, last: &Deed, answer: Answer)
+        ensures { self.new ≡ record self.old { values = answered self.old.values last.now answer } }
+    {
+        match (last, answer) {
+            (Deed::Read(slot, _) | Deed::Pop(slot, _), Answer::Item(value)) => {
+                self.receive(*slot, value);
+            }
+            (Deed::Empty(slot, _), Answer::Flag(is_empty)) => self.receive(*slot, flag(is_empty)),
+            _ => {}
+        }
+    }
+
+    /// Goes on to a line. `O(1)`.
+    pub(crate) fn go(&mut self, to: u32)
+        ensures { self.new ≡ gone self.old to }
+    {
+        self.before = self.at;
+        self.at = to;
+    }
+
+    /// The number of the line at which the activation stands, from 1 on. `O(1)`.
+    pub fn line(&self) -> u64
+        ensures { result ≡ self.now.at + 1 }
+    {
+        u64::from(self.at) + 1
+    }
+}

@@ -1,0 +1,91 @@
+// Names in order.
+ghost use Rattle.std.specs.Prelude.{◌≡◌, ◌∷◌, ◌++◌, ◌≤◌, [], length, ℕ, List, IfOk};
+ghost use Rattle.job_body.specs.Names.{slot, with_place};
+ghost use Rattle.std.specs.BTreeMap.{get_by_text};
+
+use std::alloc::Global;
+use std::collections::BTreeMap;
+use std::marker::Model;
+use swan_model::{NoMemory, Word, Words};
+
+/// The largest number of names.
+pub const NAMES_MOST: u32 = 4_294_967_295;
+
+/// Names in the order in which they were added, and the first place of each. Contracts see it as the
+/// list of the names.
+#[derive(Drop)]
+pub struct NameTable {
+    names: Words,
+    places: BTreeMap<String, u32>,
+}
+
+impl Model for NameTable {
+    ghost use Rattle.std.specs.Prelude.{List, ℕ};
+    ghost use Rattle.job_body.specs.Names.{IsNameTable};
+
+    ghost Value = { List (List ℕ) };
+
+    ghost view = { λ table. table.names };
+
+    ghost invariant = { λ table. IsNameTable table.names table.places };
+}
+
+// The places where a name has this place, unless it has one.
+fn places_with(
+    alloc: Global,
+    mut places: BTreeMap<String, u32>,
+    name: &str,
+    place: u32,
+) -> Result<BTreeMap<String, u32>, NoMemory>
+    ensures { IfOk result (λ all. (other : List ℕ) → get_by_text all other ≡ with_place (get_by_text places) name.now place other) }
+{
+    if places.contains_key(name) {
+        return Ok(places);
+    }
+    let key = String::from_str(alloc, name)?;
+    places.insert(key, place)?;
+    Ok(places)
+}
+
+impl NameTable {
+    /// No names. It takes no memory. `O(1)`.
+    pub fn new(alloc: Global) -> NameTable
+        ensures { result ≡ [] }
+    {
+        NameTable {
+            names: Words::new(alloc),
+            places: BTreeMap::new(alloc),
+        }
+    }
+
+    /// How many names there are. `O(1)`.
+    pub fn len(&self) -> u32
+        ensures { result ≡ length self.now }
+    {
+        self.names.len() as u32
+    }
+
+    /// The first place at which a name stands. `O(log names)`.
+    pub fn place(&self, name: &Word) -> Option<u32>
+        ensures { result ≡ slot self.now name.now }
+    {
+        self.places.get(name.as_str()).copied()
+    }
+
+    /// The table with one more name after the others. `O(log names)`, and a few allocations.
+    pub fn with(self, alloc: Global, name: &Word) -> Result<NameTable, NoMemory>
+        ensures { IfOk result (λ table. table ≡ self ++ name.now ∷ []) }
+    {
+        let NameTable { mut names, places } = self;
+        let place = names.len();
+        if place >= NAMES_MOST as usize {
+            return Err(NoMemory);
+        }
+        let text = name.as_str();
+        let places = places_with(alloc, places, text, place as u32)?;
+        if names.push(Word::of(alloc, text)?).is_err() {
+            return Err(NoMemory);
+        }
+        Ok(NameTable { names, places })
+    }
+}

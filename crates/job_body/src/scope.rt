@@ -1,0 +1,180 @@
+// What is known in tasks.
+ghost use Rattle.std.specs.Prelude.{◌≡◌, IfOk};
+ghost use Rattle.job_body.specs.Names.{joined_slot};
+
+use crate::block::{Block, Blocks};
+use crate::instruction::Operand;
+use crate::name_table::NameTable;
+use crate::narrow::narrow;
+use job_reader::{Atom, Line};
+use std::alloc::Global;
+use swan_model::{NoMemory, Word};
+
+/// What is known at a line of a task, by the lines before it.
+#[derive(Drop)]
+pub struct Scope {
+    /// The names of the root queues and then of the root objects.
+    pub roots: NameTable,
+    /// Whether the task is `main`.
+    pub is_main: bool,
+    /// The names of its `param` lines.
+    pub params: NameTable,
+    /// The names of its `var` lines.
+    pub vars: NameTable,
+    /// The names of its access lines.
+    pub accesses: NameTable,
+    /// The names of the queues and objects that it makes.
+    pub made: NameTable,
+    /// The open blocks.
+    pub blocks: Blocks,
+}
+
+// The place in two lists of names, one after the other, by the place in each and the number of names in
+// the first.
+fn joined(first: Option<u32>, count: u32, second: Option<u32>) -> Result<Option<u32>, NoMemory>
+    ensures { IfOk result (λ place. place ≡ joined_slot first count second) }
+{
+    match (first, second) {
+        (Some(place), _) => Ok(Some(place)),
+        (None, Some(place)) => Ok(Some(narrow(count as usize + place as usize)?)),
+        (None, None) => Ok(None),
+    }
+}
+
+impl Scope {
+    ghost use Rattle.std.specs.Prelude.{◌≡◌, length, IfOk};
+    ghost use Rattle.job_body.specs.Compiled.{entered, entered_task, operand_of, place_in, place_of_atom, places_in, roots_in, scope_before, slot_in};
+    ghost use Rattle.job_body.specs.Names.{slot};
+    ghost use Rattle.job_body.specs.Tasks.{is_main};
+
+    /// What is known before the first line. `O(1)`.
+    pub fn new(alloc: Global, roots: NameTable) -> Scope
+        ensures { result ≡ scope_before roots }
+    {
+        Scope {
+            roots,
+            is_main: false,
+            params: NameTable::new(alloc),
+            vars: NameTable::new(alloc),
+            accesses: NameTable::new(alloc),
+            made: NameTable::new(alloc),
+            blocks: Blocks::new(alloc),
+        }
+    }
+
+    /// What is known after the `task` line of a task.
+    fn enter_task(self, alloc: Global, name: &Word) -> Scope
+        ensures { result ≡ entered_task self.roots name.now }
+    {
+        let mut scope = Scope::new(alloc, self.roots);
+        scope.is_main = name.as_str() == "main";
+        scope
+    }
+
+    /// What is known after a line with this index. `O(log names)`.
+    pub fn enter(mut self, alloc: Global, index: usize, line: &Line) -> Result<Scope, NoMemory>
+        ensures { IfOk result (λ scope. scope ≡ entered index self line.now) }
+    {
+        match line {
+            Line::Task(name) => return Ok(self.enter_task(alloc, name)),
+            Line::Param(name, _) => self.params = self.params.with(alloc, name)?,
+            Line::Var(name, _) => self.vars = self.vars.with(alloc, name)?,
+            Line::Access(_, name, _) => self.accesses = self.accesses.with(alloc, name)?,
+            Line::Queue(name, _) | Line::Object(name, _) => {
+                self.made = self.made.with(alloc, name)?;
+            }
+            Line::If(_) => self.blocks.open(Block::If)?,
+            Line::While(_) => self.blocks.open(Block::While(index))?,
+            Line::End => self.blocks.close(),
+            _ => {}
+        }
+        Ok(self)
+    }
+
+    /// The slot of a variable, and None where the name isn't known. `O(log names)`.
+    #[tactic(auto, using(crate::proofs::NameLemmas::slot_joined))]
+    pub fn slot(&self, name: &Word) -> Result<Option<u32>, NoMemory>
+        ensures { IfOk result (λ slot. slot ≡ slot_in self.now name.now) }
+    {
+        joined(
+            self.params.place(name),
+            self.params.len(),
+            self.vars.place(name),
+        )
+    }
+
+    /// How many root places there are.
+    fn root_count(&self) -> u32
+        ensures { result ≡ length (roots_in self.now) }
+    {
+        if self.is_main { self.roots.len() } else { 0 }
+    }
+
+    /// The root place of a name.
+    fn root_place(&self, name: &Word) -> Option<u32>
+        ensures { result ≡ slot (roots_in self.now) name.now }
+    {
+        if self.is_main {
+            self.roots.place(name)
+        } else {
+            None
+        }
+    }
+
+    /// The place of an object or a queue among those that are known.
+    #[tactic(auto, using(crate::proofs::NameLemmas::slot_joined))]
+    fn known_place(&self, name: &Word) -> Result<Option<u32>, NoMemory>
+        ensures { IfOk result (λ place. place ≡ slot (places_in self.now) name.now) }
+    {
+        let own = joined(
+            self.accesses.place(name),
+            self.accesses.len(),
+            self.made.place(name),
+        )?;
+        joined(self.root_place(name), self.root_count(), own)
+    }
+
+    /// The number of places, which is the place of what isn't there.
+    #[tactic(auto, using(crate::proofs::NameLemmas::length_places))]
+    fn no_place(&self) -> Result<u32, NoMemory>
+        ensures { IfOk result (λ place. place ≡ length (places_in self.now)) }
+    {
+        let roots = self.root_count() as usize;
+        narrow(roots + self.accesses.len() as usize + self.made.len() as usize)
+    }
+
+    /// The place of an object or a queue; the number of places where the name isn't known.
+    /// `O(log names)`.
+    pub fn place(&self, name: &Word) -> Result<u32, NoMemory>
+        ensures { IfOk result (λ place. place ≡ place_in self.now name.now) }
+    {
+        match self.known_place(name)? {
+            Some(place) => Ok(place),
+            None => self.no_place(),
+        }
+    }
+
+    /// The place that an atom names. `O(log names)`.
+    pub fn place_of(&self, atom: &Atom) -> Result<u32, NoMemory>
+        ensures { IfOk result (λ place. place ≡ place_of_atom self.now atom.now) }
+    {
+        match atom {
+            Atom::Name(name) => self.place(name),
+            _ => self.no_place(),
+        }
+    }
+
+    /// An atom as an operand. A record shares its bytes. `O(log names)`.
+    pub fn operand(&self, atom: &Atom) -> Result<Operand, NoMemory>
+        ensures { IfOk result (λ operand. operand ≡ operand_of self.now atom.now) }
+    {
+        match atom {
+            Atom::Int(number) => Ok(Operand::Int(*number)),
+            Atom::Bytes(record) => Ok(Operand::Bytes(record.copy()?)),
+            Atom::Name(name) => match self.slot(name)? {
+                Some(slot) => Ok(Operand::Variable(slot)),
+                None => Ok(Operand::Int(0)),
+            },
+        }
+    }
+}
