@@ -1,0 +1,68 @@
+-- What reading, accepting and running lead to.
+use Rattle.std.proofs.Common.{◌≡◌, ℕ, ◌≤◌, List, [], ◌∷◌, Option, Some, None, Result, Ok, Err, refl, sym, ap, subst, ◌∙◌}
+use Rattle.job_body.specs.Standing.{Standing}
+use Rattle.job_reader.specs.declared.line.Line.{Line}
+use Rattle.job_reader.specs.CanonicalText.{text_of}
+use Rattle.swan_model.specs.declared.outcome.Outcome.{Outcome}
+use Rattle.swan_model.specs.declared.plan.Plan.{Plan}
+use Rattle.swan_outside.specs.Told.{Tells}
+use Rattle.swan_top.specs.Decision.{Verdict, accepted, checked, unread, unless_unread, next_of_check, next_of_job, next_of_run, ran}
+use Rattle.swan_top.specs.Headline.{AreRead, FilesSeen, Follows, Leads, ReadRefused, files_seen}
+use Rattle.swan_top.specs.Settled.{Is, Stops, IsRefused, InputRefused}
+use Rattle.swan_top.specs.declared.verdict.Settled.{Settled}
+use Rattle.swan_top.specs.declared.verdict.Stop.{Stop}
+use Rattle.swan_top.proofs.TextsRead.{Stops-map, ReadRefused-since}
+
+-- texts of told contents, told at another moment
+pub AreRead-as : (content mid : List ℕ → Option (List ℕ)) → ((other : List ℕ) → mid other ≡ content other) → (files texts : List (List ℕ)) → AreRead mid files texts → AreRead content files texts
+AreRead-as content mid same files [] read = tt
+AreRead-as content mid same [] (text ∷ texts) read = read
+AreRead-as content mid same (file ∷ files) (text ∷ texts) read =
+    let P : Option (List ℕ) → Type 0 = λ o. Tells o text in
+    (subst P (same file) read.0, AreRead-as content mid same files texts read.1)
+
+module _ (files : FilesSeen) (job text : List ℕ) (told : Tells (files.content job) text) where
+  -- a job that is refused when it is checked
+  pub refused_check : (why : Stop) → Stops (IsRefused text) why → Stops (Leads files (job ∷ []) (next_of_check job)) why
+  refused_check = Stops-map (IsRefused text) (Leads files (job ∷ []) (next_of_check job))
+      (λ verdict refused. record { texts = text ∷ []; are_read = (told, tt); follows = refused.refused ∙ sym (ap checked refused.first) })
+
+  -- and one that is accepted
+  pub accepted_check : (lines : List Line) (verdict : Verdict) → accepted text ≡ Ok lines → verdict ≡ checked (Ok lines) → Leads files (job ∷ []) (next_of_check job) verdict
+  accepted_check lines verdict is done = record { texts = text ∷ []; are_read = (told, tt); follows = done ∙ sym (ap checked is) }
+
+  module _ (outcome_of : Plan (List Line) Standing → Outcome) (fuel : ℕ) (names : List (List ℕ)) where
+    abbrev pub RunLeads : Verdict → Type 0
+    RunLeads = Leads files (job ∷ names) (next_of_run outcome_of fuel job names)
+
+    -- a job that is refused when it is to run
+    pub refused_run : (why : Stop) → Stops (IsRefused text) why → Stops RunLeads why
+    refused_run = Stops-map (IsRefused text) RunLeads
+        (λ verdict refused.
+        let P : Result (List Line) _ → Type 0 = λ r. Follows files (next_of_job outcome_of fuel names r []) verdict in
+        record { texts = text ∷ []; are_read = (told, tt); follows = subst P (sym refused.first) refused.refused })
+
+    module _ (lines : List Line) (is : accepted text ≡ Ok lines) (mid : List ℕ → Option (List ℕ)) (same : (other : List ℕ) → mid other ≡ files.content other) where
+      -- an input that couldn't be read
+      pub unread_run : (f1 l1 : ℕ) → files.faults_before ≤ f1 → files.long_before ≤ l1 → (why : Stop) → Stops (InputRefused (files_seen mid f1 files.faults_after l1 files.long_after) names) why → Stops RunLeads why
+      unread_run f1 l1 faults long = Stops-map (InputRefused (files_seen mid f1 files.faults_after l1 files.long_after) names) RunLeads
+          (λ verdict refused.
+          let P : Result (List Line) _ → Type 0 = λ r. Follows files (next_of_job outcome_of fuel names r refused.texts) verdict in
+          let Q : Option (List ℕ) → Type 0 = λ o. Follows files (unless_unread o (ran outcome_of lines refused.texts fuel)) verdict in
+          record {
+            texts = text ∷ refused.texts;
+            are_read = (told, AreRead-as files.content mid same names refused.texts refused.are_read);
+            follows = subst P (sym is) (subst Q (sym refused.is_next)
+                (ReadRefused-since files.content mid files.faults_before f1 files.faults_after files.long_before l1 files.long_after faults long refused.file verdict refused.refused));
+          })
+
+      -- a run over inputs that were all read
+      pub ran_run : (texts : List (List ℕ)) → AreRead mid names texts → unread names texts ≡ None → (verdict : Verdict) → verdict ≡ ran outcome_of lines texts fuel → RunLeads verdict
+      ran_run texts read all verdict ended =
+          let P : Result (List Line) _ → Type 0 = λ r. Follows files (next_of_job outcome_of fuel names r texts) verdict in
+          let Q : Option (List ℕ) → Type 0 = λ o. Follows files (unless_unread o (ran outcome_of lines texts fuel)) verdict in
+          record {
+            texts = text ∷ texts;
+            are_read = (told, AreRead-as files.content mid same names texts read);
+            follows = subst P (sym is) (subst Q (sym all) ended);
+          }

@@ -1,0 +1,58 @@
+-- Reading the inputs of a job one after another.
+use Rattle.std.proofs.Common.{◌≡◌, ℕ, ◌<◌, ◌≤◌, List, [], ◌∷◌, ◌++◌, length, get_or, Option, Some, None, refl, sym, ap, subst, arith}
+use Rattle.std.proofs.Common.{inl, inr, Result, Ok, Err, IfErr}
+use Rattle.swan_top.specs.declared.verdict.Settled.{Settled}
+use Rattle.swan_outside.specs.Counts.{Rose}
+use Rattle.swan_outside.specs.Told.{Tells}
+use Rattle.swan_top.specs.Decision.{Verdict, unread}
+use Rattle.swan_top.specs.Headline.{AreRead, ReadRefused, files_seen}
+use Rattle.swan_top.specs.Settled.{Is, Stops, InputRefused, verdict_of}
+use Rattle.swan_top.specs.declared.verdict.Stop.{Stop}
+use Rattle.swan_top.specs.declared.verdict.Stop.TheVariants as stop
+
+-- one more text of the file that comes next
+pub AreRead-push : (content : List ℕ → Option (List ℕ)) (files texts : List (List ℕ)) (text file : List ℕ) → AreRead content files texts → length texts < length files → get_or files (length texts) file ≡ file → Tells (content file) text → AreRead content files (texts ++ text ∷ [])
+AreRead-push content [] texts text file read within at tells = absurd (omega arith)
+AreRead-push content (name ∷ names) [] text file read within at tells =
+    let P : List ℕ → Type 0 = λ f. Tells (content f) text in (subst P (sym at) tells, tt)
+AreRead-push content (name ∷ names) (other ∷ texts) text file read within at tells =
+    (read.0, AreRead-push content names texts text file read.1 (omega arith) at tells)
+
+-- the file that comes next has no text yet
+pub unread_next : (files texts : List (List ℕ)) (file : List ℕ) → length texts < length files → get_or files (length texts) file ≡ file → unread files texts ≡ Some file
+unread_next [] texts file within at = absurd (omega arith)
+unread_next (name ∷ names) [] file within at = ap (λ f. Some f) at
+unread_next (name ∷ names) (other ∷ texts) file within at = unread_next names texts file (omega arith) at
+
+pub unread_none : (files texts : List (List ℕ)) → length files ≤ length texts → unread files texts ≡ None
+unread_none [] texts within = refl
+unread_none (name ∷ names) [] within = absurd (omega arith)
+unread_none (name ∷ names) (text ∷ texts) within = unread_none names texts (omega arith)
+
+-- a count that rose since a later moment rose since an earlier one
+pub Rose-since : (earlier before now : ℕ) → earlier ≤ before → Rose before now → Rose earlier now
+Rose-since earlier before now kept rose = omega (arith, rose)
+
+-- a verdict that is so is so in another way
+pub Stops-map : (P Q : Verdict → Type 0) → ((verdict : Verdict) → P verdict → Q verdict) → (why : Stop) → Stops P why → Stops Q why
+Stops-map P Q f (stop.Settled verdict) is = record { fact = f (verdict_of verdict) is.fact; ends = is.ends }
+Stops-map P Q f stop.NoMemory is = tt
+
+module _ (content mid : List ℕ → Option (List ℕ)) (f0 f1 f2 l0 l1 l2 : ℕ) (faults : f0 ≤ f1) (long : l0 ≤ l1) where
+  -- a refusal of a later read is one of the whole call
+  pub ReadRefused-since : (file : List ℕ) (verdict : Verdict) → ReadRefused (files_seen mid f1 f2 l1 l2) file verdict → ReadRefused (files_seen content f0 f2 l0 l2) file verdict
+  ReadRefused-since file verdict (inl failed) = inl (failed.0, Rose-since f0 f1 f2 faults failed.1)
+  ReadRefused-since file verdict (inr longer) = inr (longer.0, Rose-since l0 l1 l2 long longer.1)
+
+  pub input_refused : (names texts : List (List ℕ)) (file : List ℕ) → AreRead content names texts → unread names texts ≡ Some file → (why : Stop) → Stops (ReadRefused (files_seen mid f1 f2 l1 l2) file) why → Stops (InputRefused (files_seen content f0 f2 l0 l2) names) why
+  input_refused names texts file read is_next =
+      Stops-map (ReadRefused (files_seen mid f1 f2 l1 l2) file) (InputRefused (files_seen content f0 f2 l0 l2) names)
+      (λ verdict refused. record { texts = texts; are_read = read; file = file; is_next = is_next; refused = ReadRefused-since file verdict refused })
+
+pub Is-map : (P Q : Verdict → Type 0) → ((verdict : Verdict) → P verdict → Q verdict) → (verdict : Settled) → Is P verdict → Is Q verdict
+Is-map P Q f verdict is = record { fact = f (verdict_of verdict) is.fact; ends = is.ends }
+
+-- what holds of an error, said in another way
+pub IfErr-map : {T E : Type 0} (r : Result T E) (P Q : E → Type 0) → ((e : E) → P e → Q e) → IfErr r P → IfErr r Q
+IfErr-map (Ok x) P Q f is = is
+IfErr-map (Err e) P Q f is = f e is

@@ -1,0 +1,93 @@
+-- The command that words are, if they are one. A number is 0 or digits without a leading zero, and has
+-- no sign. A word that names a file isn't empty.
+use Rattle.std.specs.Prelude.{ℕ, ◌≡◌, ◌≤◌, ℤ, pos, nat_le, Result, Ok, Err, Bool, true, false, ◌&&◌, Option, Some, None, List, [], ◌∷◌, codes, bytes_eq, if◌then◌else◌}
+use Rattle.std.specs.List.{list_all}
+use Rattle.std.specs.Borrow.{Bor}
+use Rattle.job_reader.specs.Atoms.{number as job_number}
+use Rattle.swan_top.specs.declared.command.Command.{Command as Asked}
+use Rattle.swan_top.specs.declared.command.Command.TheVariants as code
+use Rattle.swan_top.specs.declared.command.Usage.{Usage}
+use Rattle.swan_top.specs.declared.command.TheConstants.{FUEL_WORD_MOST, WORKERS_MOST}
+
+pub data Command : Type 0 where
+  help : Command
+  version : Command
+  check : (job : List ℕ) → Command
+  elide : (fuel : ℕ) (job : List ℕ) (inputs : List (List ℕ)) → Command
+  run : (workers : ℕ) (fuel : ℕ) (job : List ℕ) (inputs : List (List ℕ)) → Command
+
+-- the number from low to high that a word is
+abbrev pub within : ℕ → ℕ → Option ℤ → Option ℕ
+within low high (Some (pos n)) = if nat_le low n && nat_le n high then Some n else None
+within low high _ = None
+
+abbrev pub number : ℕ → ℕ → List ℕ → Option ℕ
+number low high word = within low high (job_number word)
+
+abbrev pub is_file : List ℕ → Bool
+is_file [] = false
+is_file (byte ∷ bytes) = true
+
+-- a command of no further words
+abbrev pub alone : Command → List (List ℕ) → Option Command
+alone command [] = Some command
+alone command (word ∷ words) = None
+
+-- JOB
+abbrev pub job_alone : List (List ℕ) → Option Command
+job_alone (job ∷ []) = if is_file job then Some (check job) else None
+job_alone _ = None
+
+-- JOB INPUT*, after a fuel
+abbrev pub job_and_inputs : (ℕ → List ℕ → List (List ℕ) → Command) → Option ℕ → List (List ℕ) → Option Command
+job_and_inputs command (Some fuel) (job ∷ inputs) = if is_file job && list_all is_file inputs then Some (command fuel job inputs) else None
+job_and_inputs command _ _ = None
+
+-- FUEL JOB INPUT*
+abbrev pub fueled : (ℕ → List ℕ → List (List ℕ) → Command) → List (List ℕ) → Option Command
+fueled command [] = None
+fueled command (fuel ∷ words) = job_and_inputs command (number 1 FUEL_WORD_MOST fuel) words
+
+-- WORKERS FUEL JOB INPUT*
+abbrev pub with_workers : Option ℕ → List (List ℕ) → Option Command
+with_workers (Some workers) words = fueled (run workers) words
+with_workers None words = None
+
+abbrev pub manned : List (List ℕ) → Option Command
+manned [] = None
+manned (workers ∷ words) = with_workers (number 1 WORKERS_MOST workers) words
+
+abbrev pub command : List (List ℕ) → Option Command
+command [] = None
+command (word ∷ words) =
+    if bytes_eq word (codes "check") then job_alone words
+    else if bytes_eq word (codes "elide") then fueled elide words
+    else if bytes_eq word (codes "run") then manned words
+    else if bytes_eq word (codes "--help") then alone help words
+    else if bytes_eq word (codes "--version") then alone version words
+    else None
+
+-- a command as the code keeps it
+abbrev pub asked : Asked → Command
+asked code.Help = help
+asked code.Version = version
+asked (code.Check job) = check job.now
+asked (code.Elide fuel job inputs) = elide fuel job.now inputs.now
+asked (code.Run workers fuel job inputs) = run workers fuel job.now inputs.now
+
+-- no command asks for more fuel than words can
+abbrev pub IsFueled : Command → Type 0
+IsFueled (elide fuel job inputs) = fuel ≤ FUEL_WORD_MOST
+IsFueled (run workers fuel job inputs) = fuel ≤ FUEL_WORD_MOST
+IsFueled _ = Unit {0}
+
+-- what the words are was answered
+abbrev pub Reads : Option Command → Result Asked Usage → Type 0
+Reads wanted (Ok command) = (wanted ≡ Some (asked command)) × IsFueled (asked command)
+Reads wanted (Err usage) = wanted ≡ None
+
+-- a job and its inputs, where all words can name files
+abbrev pub FilesOf : Option (Bor (List ℕ) × Bor (List (List ℕ))) → List (List ℕ) → Type 0
+FilesOf (Some (job, inputs)) words = (words ≡ job.now ∷ inputs.now) × (is_file job.now ≡ true) × (list_all is_file inputs.now ≡ true)
+FilesOf None [] = Unit {0}
+FilesOf None (job ∷ inputs) = (is_file job && list_all is_file inputs) ≡ false

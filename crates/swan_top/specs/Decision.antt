@@ -1,0 +1,134 @@
+-- What is done for a command, by the texts that were read so far: read one more file, or settle it. So
+-- the order of refusals is the order in which this definition asks.
+use Rattle.std.specs.Prelude.{ℕ, if◌then◌else◌, Option, Some, None, Result, Ok, Err, List, [], ◌∷◌, ◌++◌, codes}
+use Rattle.std.specs.Fmt.{decimal}
+use Rattle.job_body.specs.NamesOfJob.{names_of_job}
+use Rattle.job_body.specs.PlanOfJob.{plan_of_job, refusal_of_plan}
+use Rattle.job_body.specs.Standing.{Standing}
+use Rattle.job_body.specs.declared.answer.PlanAnswer.{PlanAnswer}
+use Rattle.job_body.specs.declared.answer.PlanAnswer.TheVariants as plan
+use Rattle.job_reader.specs.CanonicalText.{text_of}
+use Rattle.job_reader.specs.FirstFault.{job_of}
+use Rattle.job_reader.specs.declared.fault.JobFault.{JobFault}
+use Rattle.job_reader.specs.declared.fault.JobKind.{JobKind}
+use Rattle.job_reader.specs.declared.fault.JobKind.TheVariants as kind
+use Rattle.job_reader.specs.declared.line.Line.{Line}
+use Rattle.privilege_check.specs.FirstFault.{first_fault}
+use Rattle.swan_model.specs.Texts.{out_bytes, report_bytes, has_fault}
+use Rattle.swan_model.specs.declared.outcome.Names.{Names}
+use Rattle.swan_model.specs.declared.outcome.Outcome.{Outcome}
+use Rattle.swan_model.specs.declared.plan.Plan.{Plan}
+use Rattle.swan_top.specs.Command.{Command, help, version, check, elide, run}
+use Rattle.swan_top.specs.declared.help.TheConstants.{HELP, VERSION}
+use Rattle.swan_top.specs.declared.status.Status.{Status}
+use Rattle.swan_top.specs.declared.status.Status.TheVariants as status
+
+-- What is settled: both texts and a status, or a refusal's one line of the report and a status.
+pub data Verdict : Type 0 where
+  prints : (out : List ℕ) (report : List ℕ) → Status → Verdict
+  refuses : (line : List ℕ) → Status → Verdict
+
+pub data Next : Type 0 where
+  reads : (file : List ℕ) → Next
+  settled : Verdict → Next
+
+abbrev pub kind_text : JobKind → List ℕ
+kind_text kind.BadByte = codes "BadByte"
+kind_text kind.BadHeader = codes "BadHeader"
+kind_text kind.BadLine = codes "BadLine"
+kind_text kind.BadName = codes "BadName"
+kind_text kind.BadNumber = codes "BadNumber"
+kind_text kind.Unbalanced = codes "Unbalanced"
+kind_text kind.Limit = codes "Limit"
+kind_text kind.Duplicate = codes "Duplicate"
+kind_text kind.Unknown = codes "Unknown"
+kind_text kind.Kind = codes "Kind"
+kind_text kind.Arity = codes "Arity"
+kind_text kind.Privilege = codes "Privilege"
+kind_text kind.Alias = codes "Alias"
+kind_text kind.NoMain = codes "NoMain"
+kind_text kind.MainParams = codes "MainParams"
+
+-- A job is accepted where its text has no fault, and then its names, kinds and rights have none.
+abbrev pub unless_fault : List Line → Option JobFault → Result (List Line) JobFault
+unless_fault job None = Ok job
+unless_fault job (Some fault) = Err fault
+
+abbrev pub accepted_lines : Result (List Line) JobFault → Result (List Line) JobFault
+accepted_lines (Ok job) = unless_fault job (first_fault job)
+accepted_lines (Err fault) = Err fault
+
+abbrev pub accepted : List ℕ → Result (List Line) JobFault
+accepted text = accepted_lines (job_of text)
+
+abbrev pub job_line : JobFault → List ℕ
+job_line fault = codes "refused " ++ (decimal fault.line ++ (codes " " ++ (kind_text fault.kind ++ codes "\n")))
+
+abbrev pub job_refused : JobFault → Verdict
+job_refused fault = refuses (job_line fault) status.JobRefused
+
+-- what `check` does with an accepted job
+abbrev pub checked : Result (List Line) JobFault → Verdict
+checked (Ok job) = prints (text_of job) (codes "checked\n") status.Done
+checked (Err fault) = job_refused fault
+
+-- the status of a run that ended
+abbrev pub status_of : Outcome → Status
+status_of outcome = if has_fault outcome then status.Faulted else status.Done
+
+abbrev pub printed : Names → Outcome → Verdict
+printed names outcome = prints (out_bytes names outcome) (report_bytes names outcome) (status_of outcome)
+
+abbrev pub input_line : PlanAnswer → List ℕ
+input_line (plan.Inputs wanted given) = codes "inputs " ++ (decimal wanted ++ (codes " " ++ (decimal given ++ codes "\n")))
+input_line (plan.RecordTooLong input line) = codes "long line " ++ (decimal input ++ (codes " " ++ (decimal line ++ codes "\n")))
+input_line (plan.TooManyRecords input) = codes "too many lines " ++ (decimal input ++ codes "\n")
+input_line plan.NoMemory = []
+
+-- the first of these files of which no text was read
+abbrev pub unread : (files : List (List ℕ)) → (texts : List (List ℕ)) → Option (List ℕ)
+unread [] texts = None
+unread (file ∷ files) [] = Some file
+unread (file ∷ files) (text ∷ texts) = unread files texts
+
+abbrev pub unless_unread : Option (List ℕ) → Verdict → Next
+unless_unread (Some file) verdict = reads file
+unless_unread None verdict = settled verdict
+
+abbrev pub next_of_check : List ℕ → (texts : List (List ℕ)) → Next
+next_of_check job [] = reads job
+next_of_check job (text ∷ texts) = settled (checked (accepted text))
+
+-- What the elision of a plan leaves is an argument: `outcome_of`.
+module _ (outcome_of : Plan (List Line) Standing → Outcome) where
+  -- the run of an accepted job over all its inputs
+  abbrev pub unless_refused : List Line → List (List ℕ) → ℕ → Option PlanAnswer → Verdict
+  unless_refused job inputs fuel None = printed (names_of_job job) (outcome_of (plan_of_job job inputs fuel))
+  unless_refused job inputs fuel (Some why) = refuses (input_line why) status.InputRefused
+
+  abbrev pub ran : List Line → List (List ℕ) → ℕ → Verdict
+  ran job inputs fuel = unless_refused job inputs fuel (refusal_of_plan job inputs)
+
+  -- a run, by whether its job is accepted, and by the inputs that were read
+  abbrev pub next_of_job : ℕ → (files : List (List ℕ)) → Result (List Line) JobFault → (inputs : List (List ℕ)) → Next
+  next_of_job fuel files (Ok job) inputs = unless_unread (unread files inputs) (ran job inputs fuel)
+  next_of_job fuel files (Err fault) inputs = settled (job_refused fault)
+
+  abbrev pub next_of_run : ℕ → List ℕ → (files : List (List ℕ)) → (texts : List (List ℕ)) → Next
+  next_of_run fuel job files [] = reads job
+  next_of_run fuel job files (text ∷ inputs) = next_of_job fuel files (accepted text) inputs
+
+  abbrev pub next : Command → (texts : List (List ℕ)) → Next
+  next help texts = settled (prints HELP.now [] status.Done)
+  next version texts = settled (prints VERSION.now [] status.Done)
+  next (check job) texts = next_of_check job texts
+  next (elide fuel job inputs) texts = next_of_run fuel job inputs texts
+  next (run workers fuel job inputs) texts = next_of_run fuel job inputs texts
+
+-- the files of a command, in the order in which they are read
+abbrev pub files_of : Command → List (List ℕ)
+files_of help = []
+files_of version = []
+files_of (check job) = job ∷ []
+files_of (elide fuel job inputs) = job ∷ inputs
+files_of (run workers fuel job inputs) = job ∷ inputs

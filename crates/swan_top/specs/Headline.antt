@@ -1,0 +1,107 @@
+-- The headline: what a call answers, and what is then in the sinks.
+use Rattle.std.specs.Prelude.{◌≡◌, ℕ, ◌⊎◌, Option, Some, None, List, [], ◌∷◌, ◌++◌, codes}
+use Rattle.job_body.specs.Standing.{Standing}
+use Rattle.job_reader.specs.declared.line.Line.{Line}
+use Rattle.swan_model.specs.declared.outcome.Outcome.{Outcome}
+use Rattle.swan_model.specs.declared.plan.Plan.{Plan}
+use Rattle.swan_outside.specs.Counts.{Rose}
+use Rattle.swan_outside.specs.Told.{Appends, AppendsFront, Tells}
+use Rattle.swan_top.specs.Command.{Command, command}
+use Rattle.swan_top.specs.Decision.{Verdict, prints, refuses, Next, reads, settled, next, files_of}
+use Rattle.swan_top.specs.Refusals.{file_line}
+use Rattle.swan_top.specs.declared.status.Status.{Status}
+use Rattle.swan_top.specs.declared.status.Status.TheVariants as status
+
+-- What is known of a sink before and after a call: all bytes in it, where it tells them, and its count
+-- of faults.
+pub record SinkSeen : Type 0 where
+  pub before : Option (List ℕ)
+  pub after : Option (List ℕ)
+  pub faults_before : ℕ
+  pub faults_after : ℕ
+
+abbrev pub seen_of : Option (List ℕ) → Option (List ℕ) → ℕ → ℕ → SinkSeen
+seen_of before after faults_before faults_after = record { before = before; after = after; faults_before = faults_before; faults_after = faults_after }
+
+abbrev pub Took : SinkSeen → List ℕ → Type 0
+Took sink text = Appends sink.before text sink.after
+
+-- a put to the sink failed, and a front of the text was appended
+abbrev pub TookFront : SinkSeen → List ℕ → Type 0
+TookFront sink text = Rose sink.faults_before sink.faults_after × AppendsFront sink.before text sink.after
+
+-- What was settled was written whole.
+abbrev pub Wrote : (out report : SinkSeen) → Verdict → Type 0
+Wrote out report (prints out_text report_text ends) = Took out out_text × Took report report_text
+Wrote out report (refuses line ends) = Took out [] × Took report line
+
+-- It wasn't: the sink that failed took a front of its text, and what comes after it wasn't begun.
+abbrev pub FailedToWrite : (out report : SinkSeen) → Verdict → Type 0
+FailedToWrite out report (prints out_text report_text ends) =
+    (TookFront out out_text × Took report []) ⊎ (Took out out_text × TookFront report report_text)
+FailedToWrite out report (refuses line ends) = Took out [] × TookFront report line
+
+abbrev pub WroteNothing : (out report : SinkSeen) → Type 0
+WroteNothing out report = Took out [] × Took report []
+
+-- how the call ends where all is written
+abbrev pub status_of : Verdict → Status
+status_of (prints out report ends) = ends
+status_of (refuses line ends) = ends
+
+-- The call ends with this status after it settled this verdict.
+abbrev pub Ends : (out report : SinkSeen) → Verdict → Status → Type 0
+Ends out report verdict status.WriteFailed = FailedToWrite out report verdict
+Ends out report verdict ends = (ends ≡ status_of verdict) × Wrote out report verdict
+
+-- What is known of the files: what stands under each name, where that is told, and the counts of reads
+-- that failed and of files that are too long, before and after.
+pub record FilesSeen : Type 0 where
+  pub content : List ℕ → Option (List ℕ)
+  pub faults_before : ℕ
+  pub faults_after : ℕ
+  pub long_before : ℕ
+  pub long_after : ℕ
+
+abbrev pub files_seen : (List ℕ → Option (List ℕ)) → ℕ → ℕ → ℕ → ℕ → FilesSeen
+files_seen content faults_before faults_after long_before long_after =
+    record { content = content; faults_before = faults_before; faults_after = faults_after; long_before = long_before; long_after = long_after }
+
+-- These texts were read of these files, one of each from the first on: each is the told content, where one
+-- is told.
+abbrev pub AreRead : (List ℕ → Option (List ℕ)) → (files : List (List ℕ)) → (texts : List (List ℕ)) → Type 0
+AreRead content files [] = Unit {0}
+AreRead content (file ∷ files) (text ∷ texts) = Tells (content file) text × AreRead content files texts
+AreRead content [] (text ∷ texts) = ⊥
+
+-- a file that couldn't be read, and for which the count of failed reads rose, or that is too long, and for
+-- which the count of long reads did
+abbrev pub ReadRefused : FilesSeen → List ℕ → Verdict → Type 0
+ReadRefused files file verdict =
+    ((verdict ≡ refuses (file_line (codes "read failed ") file) status.ReadFailed) × Rose files.faults_before files.faults_after)
+    ⊎ ((verdict ≡ refuses (file_line (codes "too long ") file) status.ReadFailed) × Rose files.long_before files.long_after)
+
+abbrev pub Follows : FilesSeen → Next → Verdict → Type 0
+Follows files (settled verdict) verdict' = verdict' ≡ verdict
+Follows files (reads file) verdict = ReadRefused files file verdict
+
+-- The verdict is what comes of these files, by texts that were read of them in their order.
+pub record Leads (files : FilesSeen) (names : List (List ℕ)) (next_of : List (List ℕ) → Next) (verdict : Verdict) : Type 0 where
+  pub texts : List (List ℕ)
+  pub are_read : AreRead files.content names texts
+  pub follows : Follows files (next_of texts) verdict
+
+-- the verdict is what comes of a command
+abbrev pub Settles : (Plan (List Line) Standing → Outcome) → FilesSeen → Command → Verdict → Type 0
+Settles outcome_of files command = Leads files (files_of command) (next outcome_of command)
+
+-- What a call answers. Words that are no command are refused without a read and without memory. Else the
+-- call ends as the verdict says that its command leads to; or memory ran out, and nothing was written.
+abbrev pub usage : Verdict
+usage = refuses (codes "usage\n") status.Usage
+
+abbrev pub Answers : (Plan (List Line) Standing → Outcome) → FilesSeen → (out report : SinkSeen) → Option Command → Status → Type 0
+Answers outcome_of files out report None ends = Ends out report usage ends
+Answers outcome_of files out report (Some command) status.NoMemory = WroteNothing out report
+Answers outcome_of files out report (Some command) ends =
+    (verdict : Verdict) × Settles outcome_of files command verdict × Ends out report verdict ends

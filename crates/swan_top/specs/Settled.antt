@@ -1,0 +1,49 @@
+-- A verdict as the code keeps it, and what stops it from reading on.
+use Rattle.std.specs.Prelude.{◌≡◌, ℕ, List, Some, Err}
+use Rattle.job_reader.specs.declared.fault.JobFault.{JobFault}
+use Rattle.swan_top.specs.Decision.{Verdict, prints, refuses, unread, accepted, job_refused}
+use Rattle.swan_top.specs.Headline.{FilesSeen, AreRead, ReadRefused}
+use Rattle.swan_top.specs.declared.status.Status.{Status}
+use Rattle.swan_top.specs.declared.status.Status.TheVariants as status
+use Rattle.swan_top.specs.declared.verdict.Settled.{Settled}
+use Rattle.swan_top.specs.declared.verdict.Settled.TheVariants as settled
+use Rattle.swan_top.specs.declared.verdict.Stop.{Stop}
+use Rattle.swan_top.specs.declared.verdict.Stop.TheVariants as stop
+
+abbrev pub verdict_of : Settled → Verdict
+verdict_of (settled.Prints out report ends) = prints out report ends
+verdict_of (settled.Refuses line ends) = refuses line ends
+
+-- a verdict neither fails to write nor wants memory
+abbrev pub IsEnd : Status → Type 0
+IsEnd status.WriteFailed = ⊥
+IsEnd status.NoMemory = ⊥
+IsEnd _ = Unit {0}
+
+abbrev pub EndsSo : Settled → Type 0
+EndsSo (settled.Prints out report ends) = IsEnd ends
+EndsSo (settled.Refuses line ends) = IsEnd ends
+
+-- the verdict is so
+pub record Is (P : Verdict → Type 0) (verdict : Settled) : Type 0 where
+  pub fact : P (verdict_of verdict)
+  pub ends : EndsSo verdict
+
+-- where a verdict stops it, the verdict is so
+abbrev pub Stops : (Verdict → Type 0) → Stop → Type 0
+Stops P (stop.Settled verdict) = Is P verdict
+Stops P stop.NoMemory = Unit {0}
+
+-- An input couldn't be read, and those before it were.
+pub record InputRefused (files : FilesSeen) (names : List (List ℕ)) (verdict : Verdict) : Type 0 where
+  pub texts : List (List ℕ)
+  pub are_read : AreRead files.content names texts
+  pub file : List ℕ
+  pub is_next : unread names texts ≡ Some file
+  pub refused : ReadRefused files file verdict
+
+-- The text isn't an accepted job.
+pub record IsRefused (text : List ℕ) (verdict : Verdict) : Type 0 where
+  pub fault : JobFault
+  pub first : accepted text ≡ Err fault
+  pub refused : verdict ≡ job_refused fault

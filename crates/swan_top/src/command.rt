@@ -1,0 +1,184 @@
+// The command that words are.
+ghost use Rattle.std.specs.Prelude.{◌≡◌, ◌^◌, ◌<◌, bytes_eq, IfOk, OnErr, Some, None};
+ghost use Rattle.swan_top.specs.Command.{command, number, is_file, alone, asked, job_alone, fueled, manned, elide, run, IsFueled, Reads, FilesOf};
+ghost use Rattle.std.specs.List.{list_all};
+
+use job_reader::read_number;
+use swan_model::Word;
+
+/// The largest fuel that words can ask for.
+pub const FUEL_WORD_MOST: u64 = 10_000_000;
+
+/// The largest number of workers that words can ask for.
+pub const WORKERS_MOST: u64 = 1;
+
+/// What the program is asked to do.
+#[derive(Clone, Copy)]
+pub enum Command<'a> {
+    /// Write the help.
+    Help,
+    /// Write the version.
+    Version,
+    /// Check a job, and write it in its canonical form.
+    Check {
+        /// The job's file.
+        job: &'a Word,
+    },
+    /// Run the serial elision of a job.
+    Elide {
+        /// The most steps that are taken.
+        fuel: u64,
+        /// The job's file.
+        job: &'a Word,
+        /// The files of its inputs, in order.
+        inputs: &'a [Word],
+    },
+    /// Run a job.
+    Run {
+        /// How many workers run it.
+        workers: u32,
+        /// The most steps that are taken.
+        fuel: u64,
+        /// The job's file.
+        job: &'a Word,
+        /// The files of its inputs, in order.
+        inputs: &'a [Word],
+    },
+}
+
+/// The words are no command.
+#[derive(Clone, Copy, Debug, PartialEq, Eq)]
+pub struct Usage;
+
+// Whether a word is a text.
+fn is_word(word: &Word, text: &str) -> bool
+    ensures { result ≡ bytes_eq word.now text.now }
+{
+    word.as_str().as_bytes() == text.as_bytes()
+}
+
+// The number from low to high that a word is.
+fn number(low: u64, high: u64, word: &Word) -> Option<u64>
+    ensures { result ≡ number low high word.now }
+{
+    let number = u64::try_from(read_number(word.as_str().as_bytes())?).ok()?;
+    if low <= number && number <= high {
+        Some(number)
+    } else {
+        None
+    }
+}
+
+// Whether a word can name a file.
+fn is_file(word: &Word) -> bool
+    ensures { result ≡ is_file word.now }
+{
+    !word.as_str().is_empty()
+}
+
+// A command of no further words.
+fn alone<'a>(command: Command<'a>, words: &[Word]) -> Result<Command<'a>, Usage>
+    requires { IsFueled (asked command) }
+    ensures { Reads (alone (asked command.entry) words.now) result }
+{
+    match words {
+        [] => Ok(command),
+        _ => Err(Usage),
+    }
+}
+
+// JOB.
+fn job_alone(words: &[Word]) -> Result<Command<'_>, Usage>
+    ensures { Reads (job_alone words.now) result }
+{
+    match words {
+        [job] if is_file(job) => Ok(Command::Check { job }),
+        _ => Err(Usage),
+    }
+}
+
+// Whether all words can name files.
+fn are_files(words: &[Word]) -> bool
+    ensures { result ≡ list_all is_file words.now }
+{
+    words.iter().all(|word| is_file(word))
+}
+
+// A job and its inputs, after a fuel.
+fn job_and_inputs(words: &[Word]) -> Option<(&Word, &[Word])>
+    ensures { FilesOf result words.now }
+{
+    let (job, inputs) = words.split_first()?;
+    if is_file(job) && are_files(inputs) {
+        Some((job, inputs))
+    } else {
+        None
+    }
+}
+
+// FUEL JOB INPUT*.
+fn elide_command(words: &[Word]) -> Result<Command<'_>, Usage>
+    ensures { Reads (fueled elide words.now) result }
+{
+    let Some((fuel, files)) = words.split_first() else {
+        return Err(Usage);
+    };
+    match (number(1, FUEL_WORD_MOST, fuel), job_and_inputs(files)) {
+        (Some(fuel), Some((job, inputs))) => Ok(Command::Elide { fuel, job, inputs }),
+        _ => Err(Usage),
+    }
+}
+
+// FUEL JOB INPUT*, after so many workers.
+fn run_command(workers: u32, words: &[Word]) -> Result<Command<'_>, Usage>
+    ensures { Reads (fueled (run workers) words.now) result }
+{
+    let Some((fuel, files)) = words.split_first() else {
+        return Err(Usage);
+    };
+    match (number(1, FUEL_WORD_MOST, fuel), job_and_inputs(files)) {
+        (Some(fuel), Some((job, inputs))) => Ok(Command::Run {
+            workers,
+            fuel,
+            job,
+            inputs,
+        }),
+        _ => Err(Usage),
+    }
+}
+
+// WORKERS FUEL JOB INPUT*.
+fn manned(words: &[Word]) -> Result<Command<'_>, Usage>
+    ensures { Reads (manned words.now) result }
+{
+    let Some((workers, words)) = words.split_first() else {
+        return Err(Usage);
+    };
+    match number(1, WORKERS_MOST, workers) {
+        Some(workers) => run_command(workers as u32, words),
+        None => Err(Usage),
+    }
+}
+
+/// The command that words are. Usage comes exactly where they are none. It takes no memory, and goes
+/// over the words once.
+pub fn read_words(words: &[Word]) -> Result<Command<'_>, Usage>
+    ensures { Reads (command words.now) result }
+{
+    let Some((word, words)) = words.split_first() else {
+        return Err(Usage);
+    };
+    if is_word(word, "check") {
+        job_alone(words)
+    } else if is_word(word, "elide") {
+        elide_command(words)
+    } else if is_word(word, "run") {
+        manned(words)
+    } else if is_word(word, "--help") {
+        alone(Command::Help, words)
+    } else if is_word(word, "--version") {
+        alone(Command::Version, words)
+    } else {
+        Err(Usage)
+    }
+}

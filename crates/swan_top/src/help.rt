@@ -1,0 +1,29 @@
+// The texts of the words --help and --version.
+
+/// The text that `--version` writes.
+pub const VERSION: &str = "swan 0.1.0\n";
+
+/// The text that `--help` writes.
+pub const HELP: &str = "\
+swan runs jobs: trees of tasks over objects and hyperqueues. What it writes is what the serial
+elision of the job writes, in which each spawn is an ordinary call.
+
+  swan check JOB
+      reads and checks a job, and writes its text in the one canonical form
+  swan elide FUEL JOB INPUT*
+      runs the job's serial elision, with FUEL steps at most
+  swan run WORKERS FUEL JOB INPUT*
+      runs the job with WORKERS workers, which is 1 in this version
+  swan --help
+  swan --version
+
+FUEL is 1 to 10000000. Numbers have no sign and no leading zero. JOB and each INPUT name a file.
+The items that are left in the job's outputs go to standard output. A report goes to standard error:
+the job's objects, how many items are left in its inputs, and the faults.
+
+The exit status is 0 where the run has no fault, 1 where it has one, 2 where the words are no
+command, 3 where the job is refused, 4 where a file can't be read or is too long, 5 where a text
+can't be written, 6 where memory runs out, 7 where the inputs are refused.
+
+For example: swan run 1 100 examples/hello.swan
+";

@@ -1,0 +1,32 @@
+// Reading the inputs of a job.
+ghost use Rattle.std.specs.Prelude.{◌≡◌, ◌≤◌, ℕ, List, Some, None, IfOk, IfErr};
+ghost use Rattle.swan_top.specs.Decision.{unread};
+ghost use Rattle.swan_top.specs.Headline.{AreRead, ReadRefused, files_seen};
+ghost use Rattle.swan_top.specs.Settled.{Stops, InputRefused};
+
+use crate::read::read_file;
+use crate::verdict::Stop;
+use std::alloc::Global;
+use swan_model::{Blob, Word};
+use swan_outside::Files;
+
+// Reads all inputs in order, or settles that one of them can't be read.
+pub(crate) fn read_inputs<F: Files>(
+    alloc: Global,
+    files: &mut F,
+    names: &[Word],
+) -> Result<Vec<Blob>, Stop>
+    ensures read { IfOk result (λ inputs. AreRead (F.content files.old) names.now inputs.items) }
+    ensures all { IfOk result (λ inputs. unread names.now inputs.items ≡ None) }
+    ensures refused { IfErr result (λ stop. Stops (InputRefused (files_seen (F.content files.old)
+        (F.faults files.old) (F.faults files.new) (F.long_reads files.old) (F.long_reads files.new)) names.now) stop) }
+    ensures faults_kept { F.faults files.old ≤ F.faults files.new }
+    ensures long_reads_kept { F.long_reads files.old ≤ F.long_reads files.new }
+{
+    let mut inputs = Vec::new(alloc);
+    for name in names {
+        let text = read_file(alloc, files, name)?;
+        inputs.push(Blob::new(text))?;
+    }
+    Ok(inputs)
+}

@@ -1,0 +1,98 @@
+// What a command leads to.
+ghost use Rattle.std.specs.Prelude.{◌≡◌, ◌≤◌, ◌∷◌, [], IfOk, IfErr, Ok, Some};
+ghost use Rattle.swan_model.specs.Elision.{outcome};
+ghost use Rattle.swan_model.specs.declared.plan.TheConstants.{FUEL_MOST};
+ghost use Rattle.swan_top.specs.Command.{asked, IsFueled};
+ghost use Rattle.swan_top.specs.Decision.{next_of_check, next_of_run, prints};
+ghost use Rattle.swan_top.specs.Headline.{Leads, Settles, files_seen};
+ghost use Rattle.swan_top.specs.Settled.{Is, Stops, verdict_of};
+ghost use Rattle.swan_top.specs.declared.status.Status.TheVariants as status;
+
+use crate::accept::accept;
+use crate::inputs::read_inputs;
+use crate::read::read_file;
+use crate::run::run_job;
+use crate::verdict::{Settled, Stop};
+use crate::{Command, HELP, Status, VERSION};
+use job_body::JobBody;
+use job_reader::write_job;
+use std::alloc::{AllocError, Global};
+use swan_model::{Blob, Body, Word};
+use swan_outside::Files;
+
+// A text for the output, and nothing to report.
+fn settle_text(alloc: Global, text: &str) -> Result<Settled, AllocError>
+    ensures { IfOk result (Is (λ verdict. verdict ≡ prints text.now [] status.Done)) }
+{
+    Ok(Settled::Prints {
+        out: Blob::new(Vec::from_slice(alloc, text.as_bytes())?),
+        report: Blob::new(Vec::new(alloc)),
+        ends: Status::Done,
+    })
+}
+
+// What the check of a job leads to.
+fn settle_check<F: Files>(alloc: Global, files: &mut F, job: &Word) -> Result<Settled, Stop>
+    ensures ok { IfOk result (Is (Leads (files_seen (F.content files.old)
+        (F.faults files.old) (F.faults files.new) (F.long_reads files.old) (F.long_reads files.new))
+        (job.now ∷ []) (next_of_check job.now))) }
+    ensures err { IfErr result (Stops (Leads (files_seen (F.content files.old)
+        (F.faults files.old) (F.faults files.new) (F.long_reads files.old) (F.long_reads files.new))
+        (job.now ∷ []) (next_of_check job.now))) }
+{
+    let text = read_file(alloc, files, job)?;
+    let job = accept(alloc, text.as_slice())?;
+    Ok(Settled::Prints {
+        out: Blob::new(write_job(alloc, job.job())?),
+        report: Blob::new(Vec::from_slice(alloc, b"checked\n")?),
+        ends: Status::Done,
+    })
+}
+
+// What a run of a job leads to.
+fn settle_run<F: Files>(
+    alloc: Global,
+    files: &mut F,
+    fuel: u64,
+    job: &Word,
+    inputs: &[Word],
+) -> Result<Settled, Stop>
+    requires { fuel ≤ FUEL_MOST }
+    ensures ok { IfOk result (Is (Leads (files_seen (F.content files.old)
+        (F.faults files.old) (F.faults files.new) (F.long_reads files.old) (F.long_reads files.new))
+        (job.now ∷ inputs.now) (next_of_run (outcome ⟦<JobBody as Body>⟧) fuel job.now inputs.now))) }
+    ensures err { IfErr result (Stops (Leads (files_seen (F.content files.old)
+        (F.faults files.old) (F.faults files.new) (F.long_reads files.old) (F.long_reads files.new))
+        (job.now ∷ inputs.now) (next_of_run (outcome ⟦<JobBody as Body>⟧) fuel job.now inputs.now))) }
+{
+    let text = read_file(alloc, files, job)?;
+    let job = accept(alloc, text.as_slice())?;
+    let inputs = read_inputs(alloc, files, inputs)?;
+    run_job(alloc, fuel, job, inputs)
+}
+
+// What a command leads to.
+pub(crate) fn settle<F: Files>(
+    alloc: Global,
+    files: &mut F,
+    command: Command<'_>,
+) -> Result<Settled, Stop>
+    requires { IsFueled (asked command) }
+    ensures ok { IfOk result (Is (Settles (outcome ⟦<JobBody as Body>⟧) (files_seen (F.content files.old)
+        (F.faults files.old) (F.faults files.new) (F.long_reads files.old) (F.long_reads files.new)) (asked command.entry))) }
+    ensures err { IfErr result (Stops (Settles (outcome ⟦<JobBody as Body>⟧) (files_seen (F.content files.old)
+        (F.faults files.old) (F.faults files.new) (F.long_reads files.old) (F.long_reads files.new)) (asked command.entry))) }
+{
+    match command {
+        Command::Help => Ok(settle_text(alloc, HELP)?),
+        Command::Version => Ok(settle_text(alloc, VERSION)?),
+        Command::Check { job } => settle_check(alloc, files, job),
+        Command::Elide { fuel, job, inputs } => settle_run(alloc, files, fuel, job, inputs),
+        Command::Run {
+            fuel,
+            job,
+            inputs,
+            ..
+        } => settle_run(alloc, files, fuel, job, inputs),
+    }
+}

@@ -1,0 +1,42 @@
+// How a call ends.
+ghost use Rattle.std.specs.Prelude.{◌≡◌};
+ghost use Rattle.swan_top.specs.Codes.{code_of};
+
+/// How a call ends.
+#[derive(Clone, Copy, Debug, PartialEq, Eq)]
+pub enum Status {
+    /// Both texts were written, and the run has no fault.
+    Done,
+    /// Both texts were written, and the run has a fault.
+    Faulted,
+    /// The words are no command.
+    Usage,
+    /// The job has a fault.
+    JobRefused,
+    /// A file couldn't be read, or is too long.
+    ReadFailed,
+    /// A text couldn't be written whole.
+    WriteFailed,
+    /// Memory ran out before anything was written.
+    NoMemory,
+    /// The job can't begin with these inputs.
+    InputRefused,
+}
+
+impl Status {
+    /// The code that the program ends with. It takes no memory.
+    pub fn code(&self) -> u8
+        ensures { result ≡ code_of self.now }
+    {
+        match self {
+            Status::Done => 0,
+            Status::Faulted => 1,
+            Status::Usage => 2,
+            Status::JobRefused => 3,
+            Status::ReadFailed => 4,
+            Status::WriteFailed => 5,
+            Status::NoMemory => 6,
+            Status::InputRefused => 7,
+        }
+    }
+}

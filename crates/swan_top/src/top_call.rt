@@ -1,0 +1,52 @@
+// The top call.
+ghost use Rattle.std.specs.Prelude.{◌≡◌};
+ghost use Rattle.swan_model.specs.Elision.{outcome};
+ghost use Rattle.swan_top.specs.Command.{command};
+ghost use Rattle.swan_top.specs.Headline.{Answers, files_seen, seen_of};
+
+use crate::settle::settle;
+use crate::verdict::Stop;
+use crate::write::{write_line, write_settled};
+use crate::{Status, Usage, read_words};
+use job_body::JobBody;
+use std::alloc::Global;
+use swan_model::{Body, Word};
+use swan_outside::{Files, Sink};
+
+/// Does what the words ask for, and answers how it ended.
+///
+/// The order is: the words (Usage), the read of the job (ReadFailed), the job's text, then its names,
+/// kinds and rights (JobRefused), the reads of the inputs in order (ReadFailed), their number and then
+/// each of them (InputRefused), the run, the write of `out`, the write of `report` (WriteFailed). Want
+/// of memory may take the place of any of these but Usage and the writes, and then nothing is written.
+///
+/// Done and Faulted come only where both texts were written whole. Usage, JobRefused, ReadFailed and
+/// InputRefused write one line to `report` and nothing to `out`. WriteFailed comes only where a sink's
+/// count of faults rose, and leaves in that sink a front of its text; where that was `out`, nothing was
+/// written to `report`.
+///
+/// The contents are those that `files` tells, and what is said of written bytes holds where the sinks
+/// tell them. It always returns.
+pub fn swan<F: Files, O: Sink, R: Sink>(
+    alloc: Global,
+    words: &[Word],
+    files: &mut F,
+    out: &mut O,
+    report: &mut R,
+) -> Status
+    ensures answered { Answers (outcome ⟦<JobBody as Body>⟧)
+        (files_seen (F.content files.old) (F.faults files.old) (F.faults files.new) (F.long_reads files.old) (F.long_reads files.new))
+        (seen_of (O.written out.old) (O.written out.new) (O.faults out.old) (O.faults out.new))
+        (seen_of (R.written report.old) (R.written report.new) (R.faults report.old) (R.faults report.new))
+        (command words.now) result }
+{
+    let command = match read_words(words) {
+        Ok(command) => command,
+        Err(Usage) => return write_line(out, report, b"usage\n", Status::Usage),
+    };
+    match settle(alloc, files, command) {
+        Ok(settled) => write_settled(out, report, &settled),
+        Err(Stop::Settled(settled)) => write_settled(out, report, &settled),
+        Err(Stop::NoMemory) => Status::NoMemory,
+    }
+}

@@ -1,0 +1,61 @@
+// What is settled, and what stops the reading.
+ghost use Rattle.std.specs.Prelude.{◌≡◌};
+ghost use Rattle.swan_top.specs.declared.verdict.Stop.TheVariants as stop;
+
+use crate::Status;
+use std::alloc::{AllocError, AllocFailed};
+use swan_model::{Blob, NoMemory};
+
+/// What is settled: what is written, and how the call ends.
+#[derive(Drop)]
+pub enum Settled {
+    /// Both texts.
+    Prints {
+        /// The output.
+        out: Blob,
+        /// The report.
+        report: Blob,
+        /// How the call ends.
+        ends: Status,
+    },
+    /// A refusal's one line of the report.
+    Refuses {
+        /// The line, with its line feed.
+        line: Blob,
+        /// How the call ends.
+        ends: Status,
+    },
+}
+
+/// Why nothing more is read.
+#[derive(Drop)]
+pub enum Stop {
+    /// It is settled.
+    Settled(Settled),
+    /// Memory ran out.
+    NoMemory,
+}
+
+impl From<NoMemory> for Stop {
+    ghost from_gives = { λ _ why. why ≡ stop.NoMemory };
+
+    fn from(_error: NoMemory) -> Stop {
+        Stop::NoMemory
+    }
+}
+
+impl From<AllocError> for Stop {
+    ghost from_gives = { λ _ why. why ≡ stop.NoMemory };
+
+    fn from(_error: AllocError) -> Stop {
+        Stop::NoMemory
+    }
+}
+
+impl<T: Drop> From<AllocFailed<T>> for Stop {
+    ghost from_gives = { λ _ why. why ≡ stop.NoMemory };
+
+    fn from(_failed: AllocFailed<T>) -> Stop {
+        Stop::NoMemory
+    }
+}

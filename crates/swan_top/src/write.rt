@@ -1,0 +1,79 @@
+// Writing what was settled.
+ghost use Rattle.std.specs.Prelude.{◌≡◌};
+ghost use Rattle.swan_top.specs.Decision.{prints, refuses};
+ghost use Rattle.swan_top.specs.Headline.{Ends, seen_of};
+ghost use Rattle.swan_top.specs.Settled.{EndsSo, IsEnd, verdict_of};
+
+use crate::Status;
+use crate::verdict::Settled;
+use swan_outside::{Sink, put_all};
+
+// Writes both texts, the output first.
+fn write_texts<O: Sink, R: Sink>(
+    out: &mut O,
+    report: &mut R,
+    out_text: &[u8],
+    report_text: &[u8],
+    ends: Status,
+) -> Status
+    requires { IsEnd ends }
+    ensures { Ends
+        (seen_of (O.written out.old) (O.written out.new) (O.faults out.old) (O.faults out.new))
+        (seen_of (R.written report.old) (R.written report.new) (R.faults report.old) (R.faults report.new))
+        (prints out_text.now report_text.now ends) result }
+{
+    if put_all(out, out_text).is_err() {
+        return Status::WriteFailed;
+    }
+    if put_all(report, report_text).is_err() {
+        return Status::WriteFailed;
+    }
+    ends
+}
+
+// Writes a refusal's line to the report, and nothing to the output.
+pub(crate) fn write_line<O: Sink, R: Sink>(
+    _out: &mut O,
+    report: &mut R,
+    line: &[u8],
+    ends: Status,
+) -> Status
+    requires { IsEnd ends }
+    ensures { Ends
+        (seen_of (O.written _out.old) (O.written _out.new) (O.faults _out.old) (O.faults _out.new))
+        (seen_of (R.written report.old) (R.written report.new) (R.faults report.old) (R.faults report.new))
+        (refuses line.now ends) result }
+{
+    if put_all(report, line).is_err() {
+        return Status::WriteFailed;
+    }
+    ends
+}
+
+// Writes what was settled.
+pub(crate) fn write_settled<O: Sink, R: Sink>(
+    out: &mut O,
+    report: &mut R,
+    settled: &Settled,
+) -> Status
+    requires { EndsSo settled.now }
+    ensures { Ends
+        (seen_of (O.written out.old) (O.written out.new) (O.faults out.old) (O.faults out.new))
+        (seen_of (R.written report.old) (R.written report.new) (R.faults report.old) (R.faults report.new))
+        (verdict_of settled.now) result }
+{
+    match settled {
+        Settled::Prints {
+            out: out_text,
+            report: report_text,
+            ends,
+        } => write_texts(
+            out,
+            report,
+            out_text.as_slice(),
+            report_text.as_slice(),
+            *ends,
+        ),
+        Settled::Refuses { line, ends } => write_line(out, report, line.as_slice(), *ends),
+    }
+}
