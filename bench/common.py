@@ -1,0 +1,41 @@
+"""What the scripts share: they run the built program and take the least of several times."""
+import os
+import pathlib
+import subprocess
+import tempfile
+import time
+
+ROOT = pathlib.Path(__file__).resolve().parent.parent
+SWAN = ROOT / "crates" / "swan" / "out" / "swan"
+
+
+def folder():
+    return tempfile.TemporaryDirectory(prefix="swan-bench-")
+
+
+def run(words, status=0):
+    """The seconds, the peak memory in bytes, and the output of one run."""
+    began = time.perf_counter()
+    child = subprocess.Popen([str(SWAN), *map(str, words)], stdout=subprocess.PIPE, stderr=subprocess.PIPE)
+    out = child.stdout.read()
+    report = child.stderr.read()
+    _, ended, usage = os.wait4(child.pid, 0)
+    seconds = time.perf_counter() - began
+    child.returncode = os.waitstatus_to_exitcode(ended)
+    if child.returncode != status:
+        raise SystemExit(f"swan {words} ended with {child.returncode}: {report[:200]!r}")
+    return seconds, usage.ru_maxrss * 1024, out
+
+
+def least(words, times=5):
+    """The least seconds and the least peak memory of several runs."""
+    runs = [run(words)[:2] for _ in range(times)]
+    return min(seconds for seconds, _ in runs), min(memory for _, memory in runs)
+
+
+def growth(name, measures):
+    """Prints the measures of n, 2n and 4n, and their ratios to linear growth from n on."""
+    first = measures[0][1]
+    for times, measure in measures:
+        ratio = measure / (first * times)
+        print(f"{name:34} {times}n  {measure:12.4g}  {ratio:5.2f} of linear")

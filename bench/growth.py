@@ -1,0 +1,83 @@
+"""How time and memory grow with inputs, with tasks, with the lines of a job and with its names."""
+from common import folder, growth, least
+
+COPY = """swan 1
+input lines
+output page bytes
+task main
+  var line bytes
+  var none int
+  var more int
+  do
+  empty none lines
+  more = not none
+  while more
+    pop line lines
+    push page line
+    empty none lines
+    more = not none
+  end
+end
+"""
+
+# Each turn spawns a child that makes a queue, pushes, pops and ends.
+TASKS = """swan 1
+task child
+  queue q int
+  var n int
+  do
+  push q 1
+  pop n q
+end
+task main
+  param_free
+  var i int
+  var more int
+  do
+  more = lt i {n}
+  while more
+    spawn 5 child
+    i = add i 1
+    more = lt i {n}
+  end
+end
+""".replace("  param_free\n", "")
+
+
+def lines_job(count):
+    body = "".join(f"  v = add v {i % 10}\n" for i in range(count))
+    return f"swan 1\ntask main\n  var v int\n  do\n{body}end\n"
+
+
+def names_job(count):
+    names = "".join(f"  var v{i} int\n" for i in range(count))
+    return f"swan 1\ntask main\n{names}  do\n  v0 = set 1\nend\n"
+
+
+def tasks_job(count):
+    tasks = "".join(f"task t{i}\n  do\nend\n" for i in range(count))
+    return f"swan 1\n{tasks}task main\n  do\n  spawn 1 t0\nend\n"
+
+
+with folder() as here:
+    def file(name, text):
+        path = f"{here}/{name}"
+        with open(path, "w", encoding="ascii") as out:
+            out.write(text)
+        return path
+
+    def series(name, words):
+        measures = [(times, *least(words(times), 3)) for times in (1, 2, 4)]
+        growth(f"{name}: seconds", [(times, seconds) for times, seconds, _ in measures])
+        growth(f"{name}: bytes", [(times, memory) for times, _, memory in measures])
+
+    copy = file("copy", COPY)
+    inputs = {times: file(f"in{times}", "some text of a line\n" * (250_000 * times)) for times in (1, 2, 4)}
+    series("elide over n lines", lambda times: ["elide", 10_000_000, copy, inputs[times]])
+
+    jobs = {times: file(f"tasks{times}", TASKS.format(n=200_000 * times)) for times in (1, 2, 4)}
+    series("elide of n tasks", lambda times: ["elide", 10_000_000, jobs[times]])
+
+    for name, text in [("lines", lines_job), ("names", names_job), ("tasks", lambda n: tasks_job(n // 3))]:
+        made = {times: file(f"{name}{times}", text(4_800 * times)) for times in (1, 2, 4)}
+        series(f"check of n {name}", lambda times: ["check", made[times]])

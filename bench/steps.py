@@ -1,0 +1,96 @@
+"""The time of a step: lines of int arithmetic and lines of text, as ratios to the like loop in python3."""
+import time
+
+from common import folder, least
+
+TURNS = 1_500_000
+
+INTS = f"""swan 1
+output sum int
+task main
+  var i int
+  var s int
+  var more int
+  do
+  more = lt i {TURNS}
+  while more
+    i = add i 1
+    s = add s i
+    more = lt i {TURNS}
+  end
+  push sum s
+end
+"""
+
+TEXTS = f"""swan 1
+output left int
+task main
+  var i int
+  var line bytes
+  var at int
+  var part bytes
+  var more int
+  do
+  line = set "some text with a few words in it"
+  more = lt i {TURNS // 2}
+  while more
+    at = find line 119 0
+    part = slice line at 14
+    i = add i 1
+    more = lt i {TURNS // 2}
+  end
+  at = len part
+  push left at
+end
+"""
+
+EMPTY = "swan 1\ntask main\n  do\nend\n"
+
+
+def ints():
+    i = s = 0
+    more = i < TURNS
+    while more:
+        i = i + 1
+        s = s + i
+        more = i < TURNS
+    return s
+
+
+def texts():
+    i = 0
+    line = b"some text with a few words in it"
+    more = i < TURNS // 2
+    while more:
+        at = line.find(119, 0)
+        part = line[at:14]
+        i = i + 1
+        more = i < TURNS // 2
+    return len(part)
+
+
+def least_of(function):
+    times = []
+    for _ in range(3):
+        began = time.perf_counter()
+        function()
+        times.append(time.perf_counter() - began)
+    return min(times)
+
+
+with folder() as here:
+    def job(name, text):
+        path = f"{here}/{name}"
+        with open(path, "w", encoding="ascii") as file:
+            file.write(text)
+        return path
+
+    start, _ = least(["elide", 10, job("empty", EMPTY)])
+    for name, text, function, steps in [
+        ("int arithmetic", INTS, ints, 5 * TURNS),
+        ("text", TEXTS, texts, 6 * (TURNS // 2)),
+    ]:
+        seconds, _ = least(["elide", 10_000_000, job(name.split()[0], text)], 3)
+        other = least_of(function)
+        each = (seconds - start) / steps * 1e9
+        print(f"{name:16} {each:6.1f} ns a step, {(seconds - start) / other:5.2f} of the loop in python3")
