@@ -50,14 +50,14 @@ pub record IsCellAfter (holdings : List Holding) (number : ℕ) (before after : 
 
 -- What a step may make of the items of a queue: nothing; or one item more at the end, by the right to
 -- push; or without the first item, by the right to pop.
-pub data Items (holdings : List Holding) (number : ℕ) (before after : List Value) : Type 0 where
-  stayed : after ≡ before → Items holdings number before after
-  pushed : MayUse holdings Push number → (item : Value) → after ≡ before ++ item ∷ [] → Items holdings number before after
-  popped : MayUse holdings Pop number → (item : Value) → before ≡ item ∷ after → Items holdings number before after
+pub data AreItemsAfter (holdings : List Holding) (number : ℕ) (before after : List Value) : Type 0 where
+  stayed : after ≡ before → AreItemsAfter holdings number before after
+  pushed : MayUse holdings Push number → (item : Value) → after ≡ before ++ item ∷ [] → AreItemsAfter holdings number before after
+  popped : MayUse holdings Pop number → (item : Value) → before ≡ item ∷ after → AreItemsAfter holdings number before after
 
 pub record IsQueueAfter (holdings : List Holding) (number : ℕ) (before after : Queue) : Type 0 where
   pub origin : after.origin ≡ before.origin
-  pub items : Items holdings number before.items after.items
+  pub items : AreItemsAfter holdings number before.items after.items
 
 -- what stood at each index stands there still, as something that this may have become
 abbrev pub EachStill : {A : Type 0} → (ℕ → A → A → Type 0) → List A → List A → Type 0

@@ -30,9 +30,9 @@ pub fn faults_are_in_order<B: Body>()
 {}
 
 /// The law that rights bind: each object and each queue that stood before a step stands after it, of
-/// the same origin and kind. An object's value changes only where the task whose step it was may write
-/// it; a queue gets one item more at its end only where this task may push to it, and loses its first
-/// item only where it may pop from it.
+/// the same origin, and the object of the same kind. An object's value changes only where the task
+/// whose step it was may write it. A queue gets one item more at its end only where this task may push
+/// to it, loses its first item only where it may pop from it, and changes in no other way.
 pub fn rights_bind<B: Body>()
     ensures { (plan : Plan B B.Local) (n : ℕ) → let before = serial B.Body plan n in
         RightsBind (top_holdings before.stack) before.store (serial B.Body plan (n + 1)).store }

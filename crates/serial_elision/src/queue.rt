@@ -23,13 +23,19 @@ impl Model for Queue {
 }
 
 impl Queue {
-    /// Takes the first item off, and None exactly where there is none. `O(1)`.
+    /// Takes the first item off, and None exactly where there is none. It gives memory back once less
+    /// than a quarter of the queue's room is used. `O(1)` amortised.
     pub fn pop(&mut self) -> Option<Value>
         ensures first { MatchOption result (self.old.items ≡ [])
             (λ item. self.old.items ≡ item ∷ self.new.items) }
         ensures none { IfNone result (self.new ≡ self.old) }
         ensures origin { self.new.origin ≡ self.old.origin }
     {
-        self.items.pop_front()
+        let first = self.items.pop_front();
+        let room = self.items.capacity();
+        if self.items.len() < room / 4 {
+            self.items.shrink_to(room / 2);
+        }
+        first
     }
 }

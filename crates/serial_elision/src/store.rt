@@ -82,7 +82,7 @@ impl Store {
         Ok(Effect::Answered(Answer::Nothing))
     }
 
-    /// Pops from the queue at a place of the holder. `O(1)`.
+    /// Pops from the queue at a place of the holder. `O(1)` amortised.
     pub fn pop<L>(&mut self, holder: &Activation<L>, place: u32) -> Effect<L>
         ensures { (n : ℕ) →
             IsEffect result holder.now self.old self.new (effect n self.old holder.now (ask.Pop place)) }
