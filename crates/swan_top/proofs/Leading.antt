@@ -5,9 +5,8 @@ use Rattle.job_reader.specs.declared.line.Line.{Line}
 use Rattle.job_reader.specs.CanonicalText.{text_of}
 use Rattle.swan_model.specs.declared.outcome.Outcome.{Outcome}
 use Rattle.swan_model.specs.declared.plan.Plan.{Plan}
-use Rattle.swan_outside.specs.Told.{Tells}
 use Rattle.swan_top.specs.Decision.{Verdict, accepted, checked, unread, unless_unread, next_of_check, next_of_job, next_of_run, ran}
-use Rattle.swan_top.specs.Headline.{AreRead, FilesSeen, Follows, Leads, ReadRefused, files_seen}
+use Rattle.swan_top.specs.Headline.{AreRead, IsRead, FilesSeen, Follows, Leads, ReadRefused, files_seen}
 use Rattle.swan_top.specs.Settled.{Is, Stops, IsRefused, InputRefused}
 use Rattle.swan_top.specs.declared.verdict.Settled.{Settled}
 use Rattle.swan_top.specs.declared.verdict.Stop.{Stop}
@@ -18,10 +17,10 @@ pub AreRead-as : (content mid : List ℕ → Option (List ℕ)) → ((other : Li
 AreRead-as content mid same files [] read = tt
 AreRead-as content mid same [] (text ∷ texts) read = read
 AreRead-as content mid same (file ∷ files) (text ∷ texts) read =
-    let P : Option (List ℕ) → Type 0 = λ o. Tells o text in
+    let P : Option (List ℕ) → Type 0 = λ o. IsRead o text in
     (subst P (same file) read.0, AreRead-as content mid same files texts read.1)
 
-module _ (files : FilesSeen) (job text : List ℕ) (told : Tells (files.content job) text) where
+module _ (files : FilesSeen) (job text : List ℕ) (told : IsRead (files.content job) text) where
   -- a job that is refused when it is checked
   pub refused_check : (why : Stop) → Stops (IsRefused text) why → Stops (Leads files (job ∷ []) (next_of_check job)) why
   refused_check = Stops-map (IsRefused text) (Leads files (job ∷ []) (next_of_check job))
@@ -53,7 +52,7 @@ module _ (files : FilesSeen) (job text : List ℕ) (told : Tells (files.content 
             texts = text ∷ refused.texts;
             are_read = (told, AreRead-as files.content mid same names refused.texts refused.are_read);
             follows = subst P (sym is) (subst Q (sym refused.is_next)
-                (ReadRefused-since files.content mid files.faults_before f1 files.faults_after files.long_before l1 files.long_after faults long refused.file verdict refused.refused));
+                (ReadRefused-since files.content mid files.faults_before f1 files.faults_after files.long_before l1 files.long_after faults long same refused.file verdict refused.refused));
           })
 
       -- a run over inputs that were all read

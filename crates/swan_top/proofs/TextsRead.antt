@@ -3,18 +3,18 @@ use Rattle.std.proofs.Common.{◌≡◌, ℕ, ◌<◌, ◌≤◌, List, [], ◌�
 use Rattle.std.proofs.Common.{inl, inr, Result, Ok, Err, IfErr}
 use Rattle.swan_top.specs.declared.verdict.Settled.{Settled}
 use Rattle.swan_outside.specs.Counts.{Rose}
-use Rattle.swan_outside.specs.Told.{Tells}
+use Rattle.swan_outside.specs.Reads.{IsTooLong}
 use Rattle.swan_top.specs.Decision.{Verdict, unread}
-use Rattle.swan_top.specs.Headline.{AreRead, ReadRefused, files_seen}
+use Rattle.swan_top.specs.Headline.{AreRead, IsRead, ReadRefused, files_seen}
 use Rattle.swan_top.specs.Settled.{Is, Stops, InputRefused, verdict_of}
 use Rattle.swan_top.specs.declared.verdict.Stop.{Stop}
 use Rattle.swan_top.specs.declared.verdict.Stop.TheVariants as stop
 
 -- one more text of the file that comes next
-pub AreRead-push : (content : List ℕ → Option (List ℕ)) (files texts : List (List ℕ)) (text file : List ℕ) → AreRead content files texts → length texts < length files → get_or files (length texts) file ≡ file → Tells (content file) text → AreRead content files (texts ++ text ∷ [])
+pub AreRead-push : (content : List ℕ → Option (List ℕ)) (files texts : List (List ℕ)) (text file : List ℕ) → AreRead content files texts → length texts < length files → get_or files (length texts) file ≡ file → IsRead (content file) text → AreRead content files (texts ++ text ∷ [])
 AreRead-push content [] texts text file read within at tells = absurd (omega arith)
 AreRead-push content (name ∷ names) [] text file read within at tells =
-    let P : List ℕ → Type 0 = λ f. Tells (content f) text in (subst P (sym at) tells, tt)
+    let P : List ℕ → Type 0 = λ f. IsRead (content f) text in (subst P (sym at) tells, tt)
 AreRead-push content (name ∷ names) (other ∷ texts) text file read within at tells =
     (read.0, AreRead-push content names texts text file read.1 (omega arith) at tells)
 
@@ -38,11 +38,13 @@ pub Stops-map : (P Q : Verdict → Type 0) → ((verdict : Verdict) → P verdic
 Stops-map P Q f (stop.Settled verdict) is = record { fact = f (verdict_of verdict) is.fact; ends = is.ends }
 Stops-map P Q f stop.NoMemory is = tt
 
-module _ (content mid : List ℕ → Option (List ℕ)) (f0 f1 f2 l0 l1 l2 : ℕ) (faults : f0 ≤ f1) (long : l0 ≤ l1) where
+module _ (content mid : List ℕ → Option (List ℕ)) (f0 f1 f2 l0 l1 l2 : ℕ) (faults : f0 ≤ f1) (long : l0 ≤ l1) (same : (other : List ℕ) → mid other ≡ content other) where
   -- a refusal of a later read is one of the whole call
   pub ReadRefused-since : (file : List ℕ) (verdict : Verdict) → ReadRefused (files_seen mid f1 f2 l1 l2) file verdict → ReadRefused (files_seen content f0 f2 l0 l2) file verdict
   ReadRefused-since file verdict (inl failed) = inl (failed.0, Rose-since f0 f1 f2 faults failed.1)
-  ReadRefused-since file verdict (inr longer) = inr (longer.0, Rose-since l0 l1 l2 long longer.1)
+  ReadRefused-since file verdict (inr longer) =
+      let P : Option (List ℕ) → Type 0 = λ o. IsTooLong o in
+      inr (longer.0, Rose-since l0 l1 l2 long longer.1, subst P (same file) longer.2)
 
   pub input_refused : (names texts : List (List ℕ)) (file : List ℕ) → AreRead content names texts → unread names texts ≡ Some file → (why : Stop) → Stops (ReadRefused (files_seen mid f1 f2 l1 l2) file) why → Stops (InputRefused (files_seen content f0 f2 l0 l2) names) why
   input_refused names texts file read is_next =

@@ -1,12 +1,10 @@
 -- The command that words are, if they are one. A number is 0 or digits without a leading zero, and has
 -- no sign. A word that names a file isn't empty.
-use Rattle.std.specs.Prelude.{ℕ, ◌≡◌, ◌≤◌, ℤ, pos, nat_le, Result, Ok, Err, Bool, true, false, ◌&&◌, Option, Some, None, List, [], ◌∷◌, codes, bytes_eq, if◌then◌else◌}
+use Rattle.std.specs.Prelude.{ℕ, ◌≤◌, ℤ, pos, nat_le, Bool, true, false, ◌&&◌, Option, Some, None, List, [], ◌∷◌, codes, bytes_eq, if◌then◌else◌}
 use Rattle.std.specs.List.{list_all}
-use Rattle.std.specs.Borrow.{Bor}
 use Rattle.job_reader.specs.Atoms.{number as job_number}
 use Rattle.swan_top.specs.declared.command.Command.{Command as Asked}
 use Rattle.swan_top.specs.declared.command.Command.TheVariants as code
-use Rattle.swan_top.specs.declared.command.Usage.{Usage}
 use Rattle.swan_top.specs.declared.command.TheConstants.{FUEL_WORD_MOST, WORKERS_MOST}
 
 pub data Command : Type 0 where
@@ -80,14 +78,3 @@ abbrev pub IsFueled : Command → Type 0
 IsFueled (elide fuel job inputs) = fuel ≤ FUEL_WORD_MOST
 IsFueled (run workers fuel job inputs) = fuel ≤ FUEL_WORD_MOST
 IsFueled _ = Unit {0}
-
--- what the words are was answered
-abbrev pub Reads : Option Command → Result Asked Usage → Type 0
-Reads wanted (Ok command) = (wanted ≡ Some (asked command)) × IsFueled (asked command)
-Reads wanted (Err usage) = wanted ≡ None
-
--- a job and its inputs, where all words can name files
-abbrev pub FilesOf : Option (Bor (List ℕ) × Bor (List (List ℕ))) → List (List ℕ) → Type 0
-FilesOf (Some (job, inputs)) words = (words ≡ job.now ∷ inputs.now) × (is_file job.now ≡ true) × (list_all is_file inputs.now ≡ true)
-FilesOf None [] = Unit {0}
-FilesOf None (job ∷ inputs) = (is_file job && list_all is_file inputs) ≡ false

@@ -1,12 +1,14 @@
 -- The headline: what a call answers, and what is then in the sinks.
-use Rattle.std.specs.Prelude.{◌≡◌, ℕ, ◌⊎◌, Option, Some, None, List, [], ◌∷◌, ◌++◌, codes}
+use Rattle.std.specs.Prelude.{◌≡◌, ℕ, ◌≤◌, ◌⊎◌, length, Option, Some, None, List, [], ◌∷◌, ◌++◌, codes}
 use Rattle.job_body.specs.Standing.{Standing}
 use Rattle.job_reader.specs.declared.line.Line.{Line}
 use Rattle.swan_model.specs.declared.outcome.Outcome.{Outcome}
 use Rattle.swan_model.specs.declared.plan.Plan.{Plan}
 use Rattle.swan_outside.specs.Counts.{Rose}
+use Rattle.swan_outside.specs.Reads.{IsTooLong}
 use Rattle.swan_outside.specs.Told.{Appends, AppendsFront, Tells}
-use Rattle.swan_top.specs.Command.{Command, command}
+use Rattle.swan_outside.specs.declared.files.TheConstants.{FILE_MOST}
+use Rattle.swan_top.specs.Command.{Command}
 use Rattle.swan_top.specs.Decision.{Verdict, prints, refuses, Next, reads, settled, next, files_of}
 use Rattle.swan_top.specs.Refusals.{file_line}
 use Rattle.swan_top.specs.declared.status.Status.{Status}
@@ -45,14 +47,14 @@ abbrev pub WroteNothing : (out report : SinkSeen) → Type 0
 WroteNothing out report = Took out [] × Took report []
 
 -- how the call ends where all is written
-abbrev pub status_of : Verdict → Status
-status_of (prints out report ends) = ends
-status_of (refuses line ends) = ends
+abbrev pub ends_of : Verdict → Status
+ends_of (prints out report ends) = ends
+ends_of (refuses line ends) = ends
 
 -- The call ends with this status after it settled this verdict.
 abbrev pub Ends : (out report : SinkSeen) → Verdict → Status → Type 0
 Ends out report verdict status.WriteFailed = FailedToWrite out report verdict
-Ends out report verdict ends = (ends ≡ status_of verdict) × Wrote out report verdict
+Ends out report verdict ends = (ends ≡ ends_of verdict) × Wrote out report verdict
 
 -- What is known of the files: what stands under each name, where that is told, and the counts of reads
 -- that failed and of files that are too long, before and after.
@@ -67,19 +69,23 @@ abbrev pub files_seen : (List ℕ → Option (List ℕ)) → ℕ → ℕ → ℕ
 files_seen content faults_before faults_after long_before long_after =
     record { content = content; faults_before = faults_before; faults_after = faults_after; long_before = long_before; long_after = long_after }
 
--- These texts were read of these files, one of each from the first on: each is the told content, where one
--- is told.
+-- A text was read: it is within the limit of files, and it is the told content, where one is told.
+pub record IsRead (content : Option (List ℕ)) (text : List ℕ) : Type 0 where
+  pub told : Tells content text
+  pub most : length text ≤ FILE_MOST
+
+-- These texts were read of these files, one of each from the first on.
 abbrev pub AreRead : (List ℕ → Option (List ℕ)) → (files : List (List ℕ)) → (texts : List (List ℕ)) → Type 0
 AreRead content files [] = Unit {0}
-AreRead content (file ∷ files) (text ∷ texts) = Tells (content file) text × AreRead content files texts
+AreRead content (file ∷ files) (text ∷ texts) = IsRead (content file) text × AreRead content files texts
 AreRead content [] (text ∷ texts) = ⊥
 
--- a file that couldn't be read, and for which the count of failed reads rose, or that is too long, and for
--- which the count of long reads did
+-- A file couldn't be read, and the count of failed reads rose; or it is too long, where it tells its content,
+-- and the count of long reads rose.
 abbrev pub ReadRefused : FilesSeen → List ℕ → Verdict → Type 0
 ReadRefused files file verdict =
     ((verdict ≡ refuses (file_line (codes "read failed ") file) status.ReadFailed) × Rose files.faults_before files.faults_after)
-    ⊎ ((verdict ≡ refuses (file_line (codes "too long ") file) status.ReadFailed) × Rose files.long_before files.long_after)
+    ⊎ ((verdict ≡ refuses (file_line (codes "too long ") file) status.ReadFailed) × Rose files.long_before files.long_after × IsTooLong (files.content file))
 
 abbrev pub Follows : FilesSeen → Next → Verdict → Type 0
 Follows files (settled verdict) verdict' = verdict' ≡ verdict

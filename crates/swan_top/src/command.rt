@@ -1,6 +1,7 @@
 // The command that words are.
 ghost use Rattle.std.specs.Prelude.{◌≡◌, ◌^◌, ◌<◌, bytes_eq, IfOk, OnErr, Some, None};
-ghost use Rattle.swan_top.specs.Command.{command, number, is_file, alone, asked, job_alone, fueled, manned, elide, run, IsFueled, Reads, FilesOf};
+ghost use Rattle.swan_top.specs.Command.{command, number, is_file, alone, asked, job_alone, fueled, manned, elide, run, IsFueled};
+ghost use Rattle.swan_top.specs.Forms.{Reads, FilesOf};
 ghost use Rattle.std.specs.List.{list_all};
 
 use job_reader::read_number;
@@ -163,7 +164,9 @@ fn manned(words: &[Word]) -> Result<Command<'_>, Usage>
 /// The command that words are. Usage comes exactly where they are none. It takes no memory, and goes
 /// over the words once.
 pub fn read_words(words: &[Word]) -> Result<Command<'_>, Usage>
-    ensures { Reads (command words.now) result }
+    ensures command { IfOk result (λ command'. command words.now ≡ Some (asked command')) }
+    ensures usage { OnErr result (command words.now ≡ None) }
+    ensures fueled { IfOk result (λ command'. IsFueled (asked command')) }
 {
     let Some((word, words)) = words.split_first() else {
         return Err(Usage);

@@ -15,7 +15,9 @@ elision of the job writes, in which each spawn is an ordinary call.
   swan run WORKERS FUEL JOB INPUT*
       runs the job with WORKERS workers, which is 1 in this version
   swan --help
+      writes this text
   swan --version
+      writes the version
 
 FUEL is 1 to 10000000. Numbers have no sign and no leading zero. JOB and each INPUT name a file.
 The items that are left in the job's outputs go to standard output. A report goes to standard error:

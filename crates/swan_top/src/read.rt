@@ -1,8 +1,7 @@
 // Reading files.
 ghost use Rattle.std.specs.Prelude.{◌≡◌, ◌≤◌, ℕ, List, Some, None, IfOk, IfErr};
-ghost use Rattle.swan_outside.specs.Told.{Tells};
 ghost use Rattle.swan_top.specs.Decision.{unread};
-ghost use Rattle.swan_top.specs.Headline.{AreRead, ReadRefused, files_seen};
+ghost use Rattle.swan_top.specs.Headline.{IsRead, ReadRefused, files_seen};
 ghost use Rattle.swan_top.specs.Refusals.{file_line};
 ghost use Rattle.swan_top.specs.Settled.{Stops};
 
@@ -28,7 +27,7 @@ pub(crate) fn read_file<F: Files>(
     files: &mut F,
     file: &Word,
 ) -> Result<Vec<u8>, Stop>
-    ensures read { IfOk result (λ text. Tells (F.content files.old file.now) text.items) }
+    ensures read { IfOk result (λ text. IsRead (F.content files.old file.now) text.items) }
     ensures refused { IfErr result (λ stop. Stops (ReadRefused (files_seen (F.content files.old)
         (F.faults files.old) (F.faults files.new) (F.long_reads files.old) (F.long_reads files.new)) file.now) stop) }
     ensures faults_kept { F.faults files.old ≤ F.faults files.new }

@@ -1,5 +1,4 @@
-// The worked rows: what the program writes for known words and files. The expected texts come from the
-// reference of the language, and not from the program.
+// What the program writes for known jobs, words and files.
 use crate::*;
 use std::alloc::{AllocError, Global};
 use std::process::Abort;
@@ -23,18 +22,20 @@ fn word(alloc: Global, text: &str) -> Result<Word, AllocError> {
     Word::of(alloc, text).map_err(|_| AllocError)
 }
 
-// The words between the spaces of a text.
+// The words between the spaces of a text. A word `-` stands for the empty one.
 fn words_of(alloc: Global, text: &str) -> Result<Words, AllocError> {
     let mut words = Words::new(alloc);
     for part in text.split_whitespace() {
+        let part = if part == "-" { "" } else { part };
         words.push(word(alloc, part)?).map_err(|_| AllocError)?;
     }
     Ok(words)
 }
 
-fn files_of(alloc: Global, texts: &[(&str, &str)]) -> Result<Vec<FileBlob>, AllocError> {
+// Files of these names, which stand between spaces, with these contents.
+fn files_of(alloc: Global, names: &str, texts: &[&str]) -> Result<Vec<FileBlob>, AllocError> {
     let mut files = Vec::new(alloc);
-    for (name, text) in texts {
+    for (name, text) in names.split_whitespace().zip(texts) {
         let name = word(alloc, name)?;
         let content = Blob::new(text.as_bytes().to_vec(alloc)?);
         files.push(FileBlob { name, content })?;
@@ -42,32 +43,17 @@ fn files_of(alloc: Global, texts: &[(&str, &str)]) -> Result<Vec<FileBlob>, Allo
     Ok(files)
 }
 
-// A call with these words over these files, where the read of this number fails, and the puts of these
-// numbers take 2 bytes at most.
-fn called(alloc: Global, texts: &[(&str, &str)], words: &str, failing: u64) -> Result<Ended, Fail> {
-    let words = words_of(alloc, words)?;
+fn sink(alloc: Global, most: usize, failing: u64) -> Result<MemorySink, AllocError> {
     let fail = vec![in alloc; failing]?;
-    let mut files = MemoryFiles::new(files_of(alloc, texts)?, fail);
-    let mut out = sink(alloc, Vec::new(alloc))?;
-    let mut report = sink(alloc, Vec::new(alloc))?;
-    let status = swan(alloc, words.as_slice(), &mut files, &mut out, &mut report);
-    left(alloc, &out, &report, status)
+    MemorySink::new(alloc, most.max(1), 65_536, fail).map_err(|_| AllocError)
 }
 
-fn sink(alloc: Global, fail: Vec<u64>) -> Result<MemorySink, Fail> {
-    Ok(
-        MemorySink::new(alloc, 4096, 65_536, fail)
-            .ok()
-            .ok_or("no sink")?,
-    )
-}
-
-fn left(
+fn end_of(
     alloc: Global,
     out: &MemorySink,
     report: &MemorySink,
     status: Status,
-) -> Result<Ended, Fail> {
+) -> Result<Ended, AllocError> {
     Ok(Ended {
         out: String::from_utf8_lossy(alloc, out.written())?,
         report: String::from_utf8_lossy(alloc, report.written())?,
@@ -75,21 +61,67 @@ fn left(
     })
 }
 
-// One row: the words, the output, the report, and the code.
-type Row<'a> = (&'a str, &'a str, &'a str, u8);
+// A call with these words over these files, where the read of this number fails.
+fn called(
+    alloc: Global,
+    files: Vec<FileBlob>,
+    words: &str,
+    failing: u64,
+) -> Result<Ended, AllocError> {
+    let words = words_of(alloc, words)?;
+    let mut files = MemoryFiles::new(files, vec![in alloc; failing]?);
+    let mut out = sink(alloc, 4_096, 0)?;
+    let mut report = sink(alloc, 4_096, 0)?;
+    let status = swan(alloc, words.as_slice(), &mut files, &mut out, &mut report);
+    end_of(alloc, &out, &report, status)
+}
 
-// Asserts that each row is so over these files.
+// A text with line feeds in the place of each ~.
+fn with_line_feeds(alloc: Global, text: &str) -> Result<String, AllocError> {
+    text.chars()
+        .map(|c| if c == '~' { '\n' } else { c })
+        .collect(alloc)
+}
+
+// Asserts that a call ended so.
+fn assert_ended(rt: &impl Abort, got: &Ended, row: &str, out: &str, report: &str, code: &str) {
+    assert_eq!(rt; got.out.as_str(), out, "the output of {row}");
+    assert_eq!(rt; got.report.as_str(), report, "the report of {row}");
+    assert_eq!(rt; Ok(got.code), code.parse::<u8>(), "the code of {row}");
+}
+
+// Asserts a row over these files: the words, the output, the report and the code, with | between them
+// and ~ for each line feed. The command stands before the words.
+fn hold_row(
+    rt: &impl Abort,
+    alloc: Global,
+    names: &str,
+    texts: &[&str],
+    command: &str,
+    row: &str,
+) -> Result<(), Fail> {
+    let mut parts = row.split('|');
+    let words = parts.next().ok_or("no words")?;
+    let out = with_line_feeds(alloc, parts.next().ok_or("no output")?)?;
+    let report = with_line_feeds(alloc, parts.next().ok_or("no report")?)?;
+    let code = parts.next().ok_or("no code")?;
+    let words = format!(in alloc; "{command} {words}")?;
+    let got = called(alloc, files_of(alloc, names, texts)?, words.as_str(), 0)?;
+    assert_ended(rt, &got, row, out.as_str(), report.as_str(), code);
+    Ok(())
+}
+
+// Asserts each row of a table.
 fn hold(
     rt: &impl Abort,
     alloc: Global,
-    texts: &[(&str, &str)],
-    rows: &[Row<'_>],
+    names: &str,
+    texts: &[&str],
+    command: &str,
+    table: &str,
 ) -> Result<(), Fail> {
-    for (words, out, report, code) in rows {
-        let left = called(alloc, texts, words, 0)?;
-        assert_eq!(rt; left.out.as_str(), *out, "the output of {words}");
-        assert_eq!(rt; left.report.as_str(), *report, "the report of {words}");
-        assert_eq!(rt; left.code, *code, "the code of {words}");
+    for row in table.lines() {
+        hold_row(rt, alloc, names, texts, command, row)?;
     }
     Ok(())
 }

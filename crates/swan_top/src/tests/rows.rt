@@ -1,172 +1,99 @@
 // What jobs write, with `run` by one worker and with `elide`.
-use super::jobs::*;
+use super::jobs::{NAMES, TEXTS};
 use super::*;
 
-const FILES: [(&str, &str); 25] = [
-    ("a", A),
-    ("b", B),
-    ("c", C),
-    ("d", D),
-    ("e", E),
-    ("f", F),
-    ("g", G),
-    ("h", H),
-    ("i", I),
-    ("j", J),
-    ("k", K),
-    ("least", K_LEAST),
-    ("zero", K_ZERO),
-    ("l", L),
-    ("m", M),
-    ("once", M_ONCE),
-    ("n", N),
-    ("empty", ""),
-    ("five", "a\nb\nc\nd\ne\n"),
-    ("three", "a\n\nb"),
-    ("frob", "swan 1\nfrob\n"),
-    (
-        "int",
-        "swan 1\noutput out int\ntask main\n  do\n  push out \"hi\"\nend\n",
-    ),
-    (
-        "minus",
-        "swan 1\noutput out int\ntask main\n  var v int\n  do\n  v = add -2 1\n  push out v\nend\n",
-    ),
-    (
-        "over",
-        "swan 1\noutput out int\ntask main\n  var v int\n  do\n  v = add 9223372036854775807 1\n  push out v\nend\n",
-    ),
-    (
-        "hex",
-        "swan 1\nobject r bytes\ntask main\n  do\n  write r \"hi\\n\"\nend\n",
-    ),
-];
+/// Fuel, job and inputs; then the output, the report and the code.
+const RUNS: &str = "\
+100 a|hi~|faults 0~|0
+1 a|hi~|faults 1~fault / 6 Fuel~|1
+5 b empty||left text 0~faults 0~|0
+2003 c|10~11~20~21~|faults 0~|0
+123 d five|a~b~c~--~d~e~|left lines 0~faults 0~|0
+15 e|1~|faults 0~|0
+22 f|before~after~|faults 1~fault /0 9 PopEmpty~|1
+15 g|1~5~|faults 0~|0
+23 h|1~2~3~|faults 0~|0
+20 i|4~9~|object x int 9~faults 0~|0
+5 j||object x int 0~faults 0~|0
+3 j||object x int 4~faults 1~fault / 10 Fuel~|1
+9 k||object x int 0~faults 1~fault / 6 Overflow~|1
+9 least||object x int 0~faults 1~fault / 6 Overflow~|1
+9 zero||object x int 0~faults 1~fault / 6 DivideByZero~|1
+1002 n||faults 1~fault /0/0/0/0/0/0/0/0/0/0/0/0/0/0/0/0/0/0/0/0/0/0/0/0/0/0/0/0/0/0/0/0/0/0/0/0/0/0/0/0/0/0/0/0/0/0/0/0/0/0/0/0/0/0/0/0/0/0/0/0/0/0/0/0 7 Depth~|1
+5 b three||left text 3~faults 0~|0
+9 hex||object r bytes 68690a~faults 0~|0
+9 minus|-1~|faults 0~|0
+9 over||faults 1~fault / 6 Overflow~|1
+5 b three three||inputs 1 2~|7
+5 b||inputs 1 0~|7
+5 frob||refused 2 BadLine~|3
+5 int||refused 5 Kind~|3
+5 missing||read failed missing~|4
+5 b missing||read failed missing~|4
+10000000 a|hi~|faults 0~|0
+10000001 a||usage~|2
+0 a||usage~|2
+05 a||usage~|2
++5 a||usage~|2
+-5 a||usage~|2
+5||usage~|2
+5 -||usage~|2
+5 a -||usage~|2";
 
 #[test]
-fn jobs_write_what_their_elision_writes(rt: HostRuntime) -> Result<(), Fail> {
-    let rows = [
-        ("100 a", "hi\n", "faults 0\n", 0),
-        ("1 a", "hi\n", "faults 1\nfault / 6 Fuel\n", 1),
-        ("5 b empty", "", "left text 0\nfaults 0\n", 0),
-        ("2003 c", "10\n11\n20\n21\n", "faults 0\n", 0),
-        (
-            "123 d five",
-            "a\nb\nc\n--\nd\ne\n",
-            "left lines 0\nfaults 0\n",
-            0,
-        ),
-        ("15 e", "1\n", "faults 0\n", 0),
-        (
-            "22 f",
-            "before\nafter\n",
-            "faults 1\nfault /0 9 PopEmpty\n",
-            1,
-        ),
-        ("15 g", "1\n5\n", "faults 0\n", 0),
-        ("23 h", "1\n2\n3\n", "faults 0\n", 0),
-        ("20 i", "4\n9\n", "object x int 9\nfaults 0\n", 0),
-        ("5 j", "", "object x int 0\nfaults 0\n", 0),
-        ("3 j", "", "object x int 4\nfaults 1\nfault / 10 Fuel\n", 1),
-        (
-            "9 k",
-            "",
-            "object x int 0\nfaults 1\nfault / 6 Overflow\n",
-            1,
-        ),
-        (
-            "9 least",
-            "",
-            "object x int 0\nfaults 1\nfault / 6 Overflow\n",
-            1,
-        ),
-        (
-            "9 zero",
-            "",
-            "object x int 0\nfaults 1\nfault / 6 DivideByZero\n",
-            1,
-        ),
-        ("5 b three", "", "left text 3\nfaults 0\n", 0),
-        ("9 hex", "", "object r bytes 68690a\nfaults 0\n", 0),
-        ("9 minus", "-1\n", "faults 0\n", 0),
-        ("9 over", "", "faults 1\nfault / 6 Overflow\n", 1),
-    ];
-    for (words, out, report, code) in rows {
-        let run = format!(in rt.alloc(); "run 1 {words}")?;
-        let elide = format!(in rt.alloc(); "elide {words}")?;
-        hold(
-            &rt,
-            rt.alloc(),
-            &FILES,
-            &[
-                (run.as_str(), out, report, code),
-                (elide.as_str(), out, report, code),
-            ],
-        )?;
-    }
-    Ok(())
+fn run_writes_what_the_elision_writes(rt: HostRuntime) -> Result<(), Fail> {
+    hold(&rt, rt.alloc(), NAMES, &TEXTS, "run 1", RUNS)
 }
 
 #[test]
-fn a_path_has_at_most_64_parts(rt: HostRuntime) -> Result<(), Fail> {
-    let path = "/0".repeat(rt.alloc(), 64)?;
-    let report = format!(in rt.alloc(); "faults 1\nfault {path} 7 Depth\n")?;
-    hold(
-        &rt,
-        rt.alloc(),
-        &FILES,
-        &[("run 1 1002 n", "", report.as_str(), 1)],
-    )
+fn elide_writes_the_same(rt: HostRuntime) -> Result<(), Fail> {
+    hold(&rt, rt.alloc(), NAMES, &TEXTS, "elide", RUNS)
+}
+
+/// Whole command lines.
+const COMMANDS: &str = "\
+check l||refused 9 Privilege~|3
+check m||refused 17 Alias~|3
+check empty||refused 1 BadHeader~|3
+check frob||refused 2 BadLine~|3
+check tab||refused 4 BadByte~|3
+check big||refused 5 BadNumber~|3
+check int||refused 5 Kind~|3
+check a|swan 1~output out bytes~task main~  do~  push out \"hi\"~end~|checked~|0
+check a a||usage~|2
+check||usage~|2
+check -||usage~|2
+Check a||usage~|2
+||usage~|2
+run||usage~|2
+run 1||usage~|2
+run 0 5 a||usage~|2
+run 2 5 a||usage~|2
+run 01 5 a||usage~|2
+run 65 5 a||usage~|2
+bulk 7 3 1||usage~|2
+--help --help||usage~|2
+--version a||usage~|2
+help||usage~|2
+--version|swan 0.1.0~||0";
+
+#[test]
+fn commands_are_their_words(rt: HostRuntime) -> Result<(), Fail> {
+    hold(&rt, rt.alloc(), NAMES, &TEXTS, "", COMMANDS)
 }
 
 #[test]
-fn jobs_are_refused_before_they_run(rt: HostRuntime) -> Result<(), Fail> {
-    let rows = [
-        ("check l", "", "refused 9 Privilege\n", 3),
-        ("check m", "", "refused 17 Alias\n", 3),
-        ("check once", M_ONCE, "checked\n", 0),
-        ("check a", A, "checked\n", 0),
-        ("check empty", "", "refused 1 BadHeader\n", 3),
-        ("run 1 5 frob", "", "refused 2 BadLine\n", 3),
-        ("elide 5 int", "", "refused 5 Kind\n", 3),
-        ("run 1 5 b three three", "", "inputs 1 2\n", 7),
-        ("run 1 5 b", "", "inputs 1 0\n", 7),
-    ];
-    hold(&rt, rt.alloc(), &FILES, &rows)
-}
-
-#[test]
-fn words_that_are_no_command_are_refused(rt: HostRuntime) -> Result<(), Fail> {
-    for words in [
-        "",
-        "run",
-        "run 1",
-        "run 1 5",
-        "run 0 5 a",
-        "run 2 5 a",
-        "run 65 5 a",
-        "run 1 0 a",
-        "run 1 05 a",
-        "run 1 +5 a",
-        "run 1 -5 a",
-        "run 1 10000001 a",
-        "elide 10000001 a",
-        "elide a",
-        "check",
-        "check a a",
-        "Check a",
-        "--help --help",
-        "--version a",
-        "help",
+fn the_help_lists_each_command(rt: HostRuntime) -> Result<(), Fail> {
+    let got = called(rt.alloc(), Vec::new(rt.alloc()), "--help", 0)?;
+    for command in [
+        "check JOB",
+        "elide FUEL JOB INPUT*",
+        "run WORKERS FUEL JOB INPUT*",
+        "--version",
     ] {
-        hold(&rt, rt.alloc(), &FILES, &[(words, "", "usage\n", 2)])?;
+        assert!(rt; got.out.as_str().contains(command), "{command}");
     }
-    hold(
-        &rt,
-        rt.alloc(),
-        &FILES,
-        &[
-            ("run 1 10000000 a", "hi\n", "faults 0\n", 0),
-            ("--version", "swan 0.1.0\n", "", 0),
-        ],
-    )
+    assert_eq!(rt; got.report.as_str(), "");
+    assert_eq!(rt; got.code, 0);
+    Ok(())
 }

@@ -1,8 +1,7 @@
 use Rattle.std.proofs.Common.{◌≡◌, ◌<◌, ◌∙◌, List, ℕ, length, get_or, ap, sym, subst, arith, length-append}
 use Rattle.std.proofs.lemmas.Result.{err_from_is_err_and}
-use Rattle.swan_outside.specs.Told.{Tells}
 use Rattle.swan_top.proofs.TextsRead.{AreRead-push, unread_next, unread_none, input_refused}
-use Rattle.swan_top.specs.Headline.{AreRead}
+use Rattle.swan_top.specs.Headline.{AreRead, IsRead}
 use Rattle.swan_top.proofs.inputs.read_inputs.Goals as goal
 
 pub returns-in_err-text-clause-refused : goal.returns-in_err-text-clause-refused
@@ -13,7 +12,7 @@ returns-in_err-text-clause-refused g c =
     let inputs = c.loop-name.inputs.items in
     let at : get_or names (length inputs) c.name-item.result ≡ c.name-item.result =
     ap (λ i. get_or names i c.name-item.result) keeps.count ∙ sym c.name-item.is in
-    rw (p.1, p.2) (input_refused (g.F.Files.content c.args.files.now) (g.F.Files.content c.loop-name.files) _ _ _ _ _ _ keeps.faults_kept keeps.long_reads_kept names inputs c.name-item.result keeps.read (unread_next names inputs c.name-item.result (omega arith) at) _ c.in_err-text.ensures.refused)
+    rw (p.1, p.2) (input_refused (g.F.Files.content c.args.files.now) (g.F.Files.content c.loop-name.files) _ _ _ _ _ _ keeps.faults_kept keeps.long_reads_kept keeps.contents names inputs c.name-item.result keeps.read (unread_next names inputs c.name-item.result (omega arith) at) _ c.in_err-text.ensures.refused)
 
 pub loop-name-preserved : goal.loop-name-preserved
 loop-name-preserved g c =
@@ -23,7 +22,7 @@ loop-name-preserved g c =
     let at : get_or names (length inputs) c.name-item.result ≡ c.name-item.result =
     ap (λ i. get_or names i c.name-item.result) keeps.count ∙ sym c.name-item.is in
     let content = g.F.Files.content in
-    let told : Tells (content c.args.files.now c.name-item.result) c.new.result =
+    let told : IsRead (content c.args.files.now c.name-item.result) c.new.result =
     rw (← keeps.contents c.name-item.result, c.new.ensures) c.in_ok-text.ensures.read in
     record {
       count = rw c.in_ok-push.ensures.items (simp length-append (omega arith));
