@@ -14,22 +14,22 @@ def folder():
 
 
 def run(words, status=0):
-    """The seconds, the peak memory in bytes, and the output of one run."""
+    """The seconds and the peak memory in bytes of one run."""
     began = time.perf_counter()
-    child = subprocess.Popen([str(SWAN), *map(str, words)], stdout=subprocess.PIPE, stderr=subprocess.PIPE)
-    out = child.stdout.read()
-    report = child.stderr.read()
-    _, ended, usage = os.wait4(child.pid, 0)
-    seconds = time.perf_counter() - began
-    child.returncode = os.waitstatus_to_exitcode(ended)
-    if child.returncode != status:
-        raise SystemExit(f"swan {words} ended with {child.returncode}: {report[:200]!r}")
-    return seconds, usage.ru_maxrss * 1024, out
+    with tempfile.TemporaryFile() as report:
+        child = subprocess.Popen([str(SWAN), *map(str, words)], stdout=subprocess.DEVNULL, stderr=report)
+        _, ended, usage = os.wait4(child.pid, 0)
+        seconds = time.perf_counter() - began
+        child.returncode = os.waitstatus_to_exitcode(ended)
+        if child.returncode != status:
+            report.seek(0)
+            raise SystemExit(f"swan {words} ended with {child.returncode}: {report.read(200)!r}")
+    return seconds, usage.ru_maxrss * 1024
 
 
 def least(words, times=5):
     """The least seconds and the least peak memory of several runs."""
-    runs = [run(words)[:2] for _ in range(times)]
+    runs = [run(words) for _ in range(times)]
     return min(seconds for seconds, _ in runs), min(memory for _, memory in runs)
 
 

@@ -54,6 +54,11 @@ def names_job(count):
     return f"swan 1\ntask main\n{names}  do\n  v0 = set 1\nend\n"
 
 
+def notes_job(count):
+    notes = "# a note\n" * count
+    return f"swan 1\ntask main\n{notes}  do\nend\n"
+
+
 def tasks_job(count):
     tasks = "".join(f"task t{i}\n  do\nend\n" for i in range(count))
     return f"swan 1\n{tasks}task main\n  do\n  spawn 1 t0\nend\n"
@@ -78,6 +83,12 @@ with folder() as here:
     jobs = {times: file(f"tasks{times}", TASKS.format(n=200_000 * times)) for times in (1, 2, 4)}
     series("elide of n tasks", lambda times: ["elide", 10_000_000, jobs[times]])
 
-    for name, text in [("lines", lines_job), ("names", names_job), ("tasks", lambda n: tasks_job(n // 3))]:
+    for name, text in [
+        ("lines", lines_job),
+        ("names", names_job),
+        ("tasks", lambda n: tasks_job(n // 3)),
+        ("notes", notes_job),
+    ]:
         made = {times: file(f"{name}{times}", text(4_800 * times)) for times in (1, 2, 4)}
         series(f"check of n {name}", lambda times: ["check", made[times]])
+        series(f"elide of n {name}", lambda times: ["elide", 10_000_000, made[times]])
