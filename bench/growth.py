@@ -1,4 +1,6 @@
 """How time and memory grow with inputs, with tasks, with the lines of a job and with its names."""
+from itertools import repeat
+
 from common import folder, growth, least
 
 COPY = """swan 1
@@ -71,13 +73,19 @@ with folder() as here:
             out.write(text)
         return path
 
+    def lines(name, count):
+        path = f"{here}/{name}"
+        with open(path, "w", encoding="ascii") as out:
+            out.writelines(repeat("some text of a line\n", count))
+        return path
+
     def series(name, words):
         measures = [(times, *least(words(times), 3)) for times in (1, 2, 4)]
         growth(f"{name}: seconds", [(times, seconds) for times, seconds, _ in measures])
         growth(f"{name}: bytes", [(times, memory) for times, _, memory in measures])
 
     copy = file("copy", COPY)
-    inputs = {times: file(f"in{times}", "some text of a line\n" * (250_000 * times)) for times in (1, 2, 4)}
+    inputs = {times: lines(f"in{times}", 250_000 * times) for times in (1, 2, 4)}
     series("elide over n lines", lambda times: ["elide", 10_000_000, copy, inputs[times]])
 
     jobs = {times: file(f"tasks{times}", TASKS.format(n=200_000 * times)) for times in (1, 2, 4)}
