@@ -13,6 +13,14 @@ def folder():
     return tempfile.TemporaryDirectory(prefix="swan-bench-")
 
 
+def written(here, name, pieces):
+    """The path of a new file of these pieces of ASCII in the folder."""
+    path = f"{here}/{name}"
+    with open(path, "w", encoding="ascii") as file:
+        file.writelines(pieces)
+    return path
+
+
 def run(words, status=0):
     """The seconds and the peak memory in bytes of one run."""
     began = time.perf_counter()

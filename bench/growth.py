@@ -1,7 +1,7 @@
 """How time and memory grow with inputs, with tasks, with the lines of a job and with its names."""
 from itertools import repeat
 
-from common import folder, growth, least
+from common import folder, growth, least, written
 
 COPY = """swan 1
 input lines
@@ -67,28 +67,16 @@ def tasks_job(count):
 
 
 with folder() as here:
-    def file(name, text):
-        path = f"{here}/{name}"
-        with open(path, "w", encoding="ascii") as out:
-            out.write(text)
-        return path
-
-    def lines(name, count):
-        path = f"{here}/{name}"
-        with open(path, "w", encoding="ascii") as out:
-            out.writelines(repeat("some text of a line\n", count))
-        return path
-
     def series(name, words):
         measures = [(times, *least(words(times), 3)) for times in (1, 2, 4)]
         growth(f"{name}: seconds", [(times, seconds) for times, seconds, _ in measures])
         growth(f"{name}: bytes", [(times, memory) for times, _, memory in measures])
 
-    copy = file("copy", COPY)
-    inputs = {times: lines(f"in{times}", 250_000 * times) for times in (1, 2, 4)}
+    copy = written(here, "copy", [COPY])
+    inputs = {times: written(here, f"in{times}", repeat("some text of a line\n", 250_000 * times)) for times in (1, 2, 4)}
     series("elide over n lines", lambda times: ["elide", 10_000_000, copy, inputs[times]])
 
-    jobs = {times: file(f"tasks{times}", TASKS.format(n=200_000 * times)) for times in (1, 2, 4)}
+    jobs = {times: written(here, f"tasks{times}", [TASKS.format(n=200_000 * times)]) for times in (1, 2, 4)}
     series("elide of n tasks", lambda times: ["elide", 10_000_000, jobs[times]])
 
     for name, text in [
@@ -97,6 +85,6 @@ with folder() as here:
         ("tasks", lambda n: tasks_job(n // 3)),
         ("notes", notes_job),
     ]:
-        made = {times: file(f"{name}{times}", text(4_800 * times)) for times in (1, 2, 4)}
+        made = {times: written(here, f"{name}{times}", [text(4_800 * times)]) for times in (1, 2, 4)}
         series(f"check of n {name}", lambda times: ["check", made[times]])
         series(f"elide of n {name}", lambda times: ["elide", 10_000_000, made[times]])

@@ -1,7 +1,7 @@
 """The time of a step: lines of int arithmetic and lines of text, as ratios to the like loop in python3."""
 import time
 
-from common import folder, least
+from common import folder, least, written
 
 TURNS = 1_500_000
 
@@ -79,18 +79,12 @@ def least_of(function):
 
 
 with folder() as here:
-    def job(name, text):
-        path = f"{here}/{name}"
-        with open(path, "w", encoding="ascii") as file:
-            file.write(text)
-        return path
-
-    start, _ = least(["elide", 10, job("empty", EMPTY)])
+    start, _ = least(["elide", 10, written(here, "empty", [EMPTY])])
     for name, text, function, steps in [
         ("int arithmetic", INTS, ints, 5 * TURNS),
         ("text", TEXTS, texts, 6 * (TURNS // 2)),
     ]:
-        seconds, _ = least(["elide", 10_000_000, job(name.split()[0], text)], 3)
+        seconds, _ = least(["elide", 10_000_000, written(here, name.split()[0], [text])], 3)
         other = least_of(function)
         each = (seconds - start) / steps * 1e9
         print(f"{name:16} {each:6.1f} ns a step, {(seconds - start) / other:5.2f} of the loop in python3")
