@@ -1,5 +1,5 @@
 -- The first line of a text is what stands before its first line feed.
-use Rattle.std.proofs.Common.{◌≡◌, ℕ, zero, suc, ◌+◌, ◌<◌, ◌≤◌, Bool, true, false, not, eqb, cond, List, [], ◌∷◌, length, take, drop, refl, ap, ◌∙◌, sym, arith, add-one, Some, rules}
+use Rattle.std.proofs.Common.{◌≡◌, ℕ, suc, ◌+◌, ◌<◌, ◌≤◌, true, false, not, eqb, cond, List, [], ◌∷◌, length, take, drop, refl, arith, add-one, Some}
 use Rattle.std.proofs.lemmas.Grind.{common_steps}
 use Rattle.std.specs.List.{prefix_len}
 use Rattle.swan_model.specs.declared.lines.LinesAnswer.TheVariants as answer

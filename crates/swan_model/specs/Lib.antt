@@ -1,5 +1,6 @@
--- The book of the project: what a plan is, and what its serial elision leaves and prints. It is meant to be
--- read in this order, from top to bottom, without any code beside it.
+-- The book of the project: what a plan is, what its serial elision leaves and prints, and, from `Script` on,
+-- what `when` means in a run out of order. It is meant to be read in this order, from top to bottom, without
+-- any code beside it.
 pub mod Values
 pub mod Rights
 pub mod Roots
@@ -8,3 +9,9 @@ pub mod SerialStep
 pub mod Elision
 pub mod Texts
 pub mod Lines
+pub mod Script
+pub mod Told
+pub mod SerialTime
+pub mod Granted
+pub mod Nested
+pub mod Ripe

@@ -10,7 +10,6 @@ use Rattle.swan_model.specs.declared.fault.Trouble.{Trouble}
 use Rattle.swan_model.specs.declared.fault.Trouble.TheVariants as trouble
 use Rattle.swan_model.specs.declared.outcome.Names.{Names}
 use Rattle.swan_model.specs.declared.outcome.Outcome.{Outcome}
-use Rattle.swan_model.specs.declared.outcome.QueueName.{QueueName}
 use Rattle.swan_model.specs.declared.outcome.Shown.{Shown}
 use Rattle.swan_model.specs.declared.outcome.Shown.TheVariants as shown
 use Rattle.swan_model.specs.declared.value.Value.{Value}

@@ -3,8 +3,9 @@
 //! A program is a tree of tasks over objects and hyperqueues. Its meaning is its serial elision, in
 //! which each spawn is an ordinary call. This crate has the types that every other crate speaks of,
 //! and in `specs/` the definitions that a reader must believe: values and plans, rights, the serial
-//! state, the serial step, the elision, and the texts that are printed of its outcome. They are
-//! meant to be read in that order, without any code beside them.
+//! state, the serial step, the elision, and the texts that are printed of its outcome; and then, for
+//! runs out of order, scripts, what they tell, serial time, readings and ripe items. They are meant to be
+//! read in that order, without any code beside them. `RunName` is a name that means a script.
 //!
 //! The crate runs nothing. Each of its calls is proved to answer exactly what its clauses say; the
 //! one answer that is free everywhere is want of memory.
@@ -14,13 +15,18 @@ mod body;
 mod fault;
 mod lines;
 mod listed;
+mod meaning;
 mod memory;
+#[cfg(test)]
+mod name_tests;
 mod origin;
 mod outcome;
 mod path;
 mod plan;
 mod record;
 mod rights;
+mod run_name;
+mod script;
 #[cfg(test)]
 mod tests;
 mod text;
@@ -30,6 +36,7 @@ pub use body::{Answer, Ask, Body, Child};
 pub use fault::{Fault, FaultKind, Faults, Trouble};
 pub use lines::{LINES_MOST, LinesAnswer, lines_of};
 pub use listed::Listed;
+pub use meaning::{Meaning, Means};
 pub use memory::NoMemory;
 pub use origin::Origin;
 pub use outcome::{Names, Outcome, QueueName, QueueNames, Shown};
@@ -39,5 +46,7 @@ pub use plan::{
 };
 pub use record::{RECORD_MOST, Record, RecordAnswer};
 pub use rights::{GIVES_MOST, Give, Gives, Mode};
+pub use run_name::{ENTRIES_MOST, RunName};
+pub use script::{Deed, Entries, Entry, OriginGive, OriginGives, Script};
 pub use text::{Blob, Word, Words};
 pub use value::{Kind, Value, ValueLists, Values};

@@ -1,5 +1,5 @@
 // Records of bytes.
-ghost use Rattle.std.specs.Prelude.{◌≡◌, ◌<◌, ◌≤◌, length, IfOk};
+ghost use Rattle.std.specs.Prelude.{◌≡◌, ◌<◌, ◌≤◌, length, slice_range, IfOk};
 ghost use Rattle.swan_model.specs.declared.record.RecordAnswer.TheVariants as answer;
 
 use crate::NoMemory;
@@ -73,6 +73,17 @@ impl Record {
         ensures most { length self.now ≤ RECORD_MOST }
     {
         self.bytes.as_slice()
+    }
+
+    /// The bytes from one place up to, without, another, as a record that shares them: the bytes of the
+    /// whole record stay in memory as long as one of its parts does. `O(1)`.
+    pub fn part(&self, from: usize, to: usize) -> Result<Record, NoMemory>
+        requires in_order { from ≤ to }
+        requires within { to ≤ length self.now }
+        ensures { IfOk result (λ it. it ≡ slice_range self.now from to) }
+    {
+        let bytes = self.bytes.slice(from..to)?;
+        Ok(Record { bytes })
     }
 
     /// The same record once more. It shares the bytes. `O(1)`.
