@@ -1,5 +1,5 @@
 // Files by name.
-ghost use Rattle.std.specs.Prelude.{◌≡◌, ◌≤◌, List, ℕ, Option, OnOk, OnErr};
+ghost use Rattle.std.specs.Prelude.{◌≡◌, ◌≢◌, ◌≤◌, List, ℕ, Option, OnOk, OnErr};
 ghost use Rattle.swan_outside.specs.Counts.{Rose};
 ghost use Rattle.swan_outside.specs.Reads.{Reads, IsTooLong};
 ghost use Rattle.swan_outside.specs.declared.answer.ReadAnswer.TheVariants as answer;
@@ -32,10 +32,11 @@ pub trait Files {
 
     /// Adds the whole content of a file to the end of the buffer.
     ///
-    /// Failed comes only where the count of faults rose in this call. TooLong comes only where the
-    /// count of long reads rose in this call, and where contents are told, exactly where the told
-    /// content passes `FILE_MOST` bytes, but for a call that is Failed. After any refusal the
-    /// buffer is as it was. A read leaves all told contents as they are.
+    /// Failed comes exactly where the count of faults rose in this call, and TooLong exactly where
+    /// the count of long reads did: a read that answers otherwise leaves that count as it was.
+    /// Where contents are told, TooLong comes exactly where the told content passes `FILE_MOST`
+    /// bytes, but for a call that is Failed. After any refusal the buffer is as it was. A read
+    /// leaves all told contents as they are.
     fn read(&mut self, name: &Word, into: &mut Vec<u8>) -> Result<(), ReadAnswer>
         ensures whole { OnOk result
             (Reads (content self.old name.now) into.old.items into.new.items) }
@@ -45,6 +46,9 @@ pub trait Files {
             Rose (long_reads self.old) (long_reads self.new) }
         ensures long_where_told { result ≡ Err answer.TooLong →
             IsTooLong (content self.old name.now) }
+        ensures no_fault { result ≢ Err answer.Failed → faults self.new ≡ faults self.old }
+        ensures no_long_read { result ≢ Err answer.TooLong →
+            long_reads self.new ≡ long_reads self.old }
         ensures faults_kept { faults self.old ≤ faults self.new }
         ensures long_reads_kept { long_reads self.old ≤ long_reads self.new }
         ensures contents_kept { (other : List ℕ) →

@@ -12,9 +12,10 @@
 //!   exactly where the told content passes the limit.
 //! - A put takes a front of its piece, at least one byte, or nothing. `put_all` leaves all bytes in
 //!   the sink, or a front of them.
-//! - A fault of reading or writing comes only where the object's count of faults rose in that call,
-//!   and a file that is too long only where its count of long reads did. No count ever falls. A
-//!   count stops at the last value of 64 bits, so "rose" means there that it stands at it.
+//! - A fault of reading comes exactly where the count of faults of the files rose in that call, and a
+//!   file that is too long exactly where their count of long reads did. A fault of writing comes
+//!   only where the sink's count of faults rose. No count ever falls. A count stops at the last
+//!   value of 64 bits, so "rose" means there that it stands at it.
 //!
 //! Not promised: that the system reads or writes at all. `OsFiles` and `OsSink` tell no content: that
 //! a read gives what stands in the file, and that what a put took comes out, rests on the system.

@@ -1,5 +1,5 @@
 // Files in memory.
-ghost use Rattle.std.specs.Prelude.{◌≡◌, ◌≤◌, List, ℕ, Some, OnOk, OnErr, find};
+ghost use Rattle.std.specs.Prelude.{◌≡◌, ◌≢◌, ◌≤◌, List, ℕ, Some, OnOk, OnErr, find};
 ghost use Rattle.std.specs.Option.{option_copied};
 ghost use Rattle.std.specs.Str.{bytes_eq};
 ghost use Rattle.swan_outside.specs.Counts.{Rose};
@@ -73,6 +73,10 @@ impl Files for MemoryFiles {
             Rose self.old.counts.long_reads self.new.counts.long_reads }
         ensures long_where_told { result ≡ Err answer.TooLong →
             IsTooLong (content_of self.old.files name.now) }
+        ensures no_fault { result ≢ Err answer.Failed →
+            self.new.counts.faults ≡ self.old.counts.faults }
+        ensures no_long_read { result ≢ Err answer.TooLong →
+            self.new.counts.long_reads ≡ self.old.counts.long_reads }
         ensures faults_kept { self.old.counts.faults ≤ self.new.counts.faults }
         ensures long_reads_kept { self.old.counts.long_reads ≤ self.new.counts.long_reads }
         ensures contents_kept { (other : List ℕ) →

@@ -75,6 +75,9 @@ impl<T: Runtime> Files for OsFiles<T> {
         ensures long { result ≡ Err answer.TooLong → Rose self.old.long_reads self.new.long_reads }
         ensures long_file { result ≡ Err answer.TooLong →
             (file : T.File) × IsTooLong (T.File.remaining file) }
+        ensures no_fault { result ≢ Err answer.Failed → self.new.faults ≡ self.old.faults }
+        ensures no_long_read { result ≢ Err answer.TooLong →
+            self.new.long_reads ≡ self.old.long_reads }
         ensures faults_kept { self.old.faults ≤ self.new.faults }
         ensures long_reads_kept { self.old.long_reads ≤ self.new.long_reads }
     {
