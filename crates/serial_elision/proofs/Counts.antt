@@ -122,7 +122,7 @@ module _ {B L : Type 0} (G : Ghosts B L) where
       after-keeps s below top.path (G.place_of body top.local) (effect_of G body s.steps s.store top)
       (if-keeps s.store (nat_eq top.fuel 0) _ _ tt (effect-keeps s.steps s.store (moved top asked.0) asked.1))
 
-  serial-keeps : (plan : Plan B L) (n : ℕ) → HasGrown (serial G plan zero).store (serial G plan n).store
+  pub serial-keeps : (plan : Plan B L) (n : ℕ) → HasGrown (serial G plan zero).store (serial G plan n).store
   serial-keeps plan zero = same (serial G plan zero).store
   serial-keeps plan (suc n) =
       let before = serial-keeps plan n in

@@ -22,16 +22,16 @@ use Rattle.serial_elision.proofs.Asks.{on_object-either, on_queue-either, if-eit
 use Rattle.serial_elision.proofs.Paths.{is_left, left-before, left-below_other, left-below, before-below, before-parent, left-sibling}
 
 -- a path comes before an activation, and leaves towards the left of the children that it may yet spawn
-record Precedes {L : Type 0} (path : List ℕ) (a : Activation L) : Type 0 where
+pub record Precedes {L : Type 0} (path : List ℕ) (a : Activation L) : Type 0 where
   pub task : comes_before path a.path ≡ true
   pub children : (number : ℕ) → a.children ≤ number → is_left path (a.path ++ number ∷ []) ≡ true
 
-abbrev PrecedesEach : {L : Type 0} → List ℕ → List (Activation L) → Type 0
+abbrev pub PrecedesEach : {L : Type 0} → List ℕ → List (Activation L) → Type 0
 PrecedesEach path [] = Unit {0}
 PrecedesEach path (a ∷ below) = Precedes path a × PrecedesEach path below
 
 -- each activation comes before those below it
-abbrev IsNested : {L : Type 0} → List (Activation L) → Type 0
+abbrev pub IsNested : {L : Type 0} → List (Activation L) → Type 0
 IsNested [] = Unit {0}
 IsNested (top ∷ below) = PrecedesEach top.path below × IsNested below
 
@@ -40,7 +40,7 @@ abbrev FaultsPrecede : {L : Type 0} → List Fault → List (Activation L) → T
 FaultsPrecede [] stack = Unit {0}
 FaultsPrecede (fault ∷ booked) stack = PrecedesEach fault.path stack × FaultsPrecede booked stack
 
-record IsOrdered {L : Type 0} (stack : List (Activation L)) (booked : List Fault) : Type 0 where
+pub record IsOrdered {L : Type 0} (stack : List (Activation L)) (booked : List Fault) : Type 0 where
   pub nested : IsNested stack
   pub before : FaultsPrecede booked stack
   pub in_order : AreInOrder booked
@@ -57,7 +57,7 @@ precedes-child path number (a ∷ below) before = (
 )
 
 -- what comes before an activation comes before it still when it has spawned
-precedes-moved : {L : Type 0} (path : List ℕ) (a b : Activation L) → b.path ≡ a.path → a.children ≤ b.children → Precedes path a → Precedes path b
+pub precedes-moved : {L : Type 0} (path : List ℕ) (a b : Activation L) → b.path ≡ a.path → a.children ≤ b.children → Precedes path a → Precedes path b
 precedes-moved path a b same more before =
     record {
       task = ap (comes_before path) same ∙ before.task;
@@ -65,7 +65,7 @@ precedes-moved path a b same more before =
     }
 
 -- what comes before an activation comes before the child that it spawns now
-precedes-spawned : {L : Type 0} (path : List ℕ) (a child : Activation L) → child.path ≡ a.path ++ a.children ∷ [] → Precedes path a → Precedes path child
+pub precedes-spawned : {L : Type 0} (path : List ℕ) (a child : Activation L) → child.path ≡ a.path ++ a.children ∷ [] → Precedes path a → Precedes path child
 precedes-spawned path a child is before =
     let left : is_left path child.path ≡ true = ap (is_left path) is ∙ before.children a.children (omega arith) in
     record {
@@ -74,7 +74,7 @@ precedes-spawned path a child is before =
     }
 
 -- the child comes before its parent, and leaves towards the left of the later ones
-precedes-parent : {L : Type 0} (path : List ℕ) (number : ℕ) (parent : Activation L) → parent.path ≡ path → parent.children ≡ number + 1 → Precedes (path ++ number ∷ []) parent
+pub precedes-parent : {L : Type 0} (path : List ℕ) (number : ℕ) (parent : Activation L) → parent.path ≡ path → parent.children ≡ number + 1 → Precedes (path ++ number ∷ []) parent
 precedes-parent path number parent same more =
     record {
       task = ap (comes_before (path ++ number ∷ [])) same ∙ before-parent path number;
@@ -182,7 +182,7 @@ module _ {B L : Type 0} (G : Ghosts B L) where
       let stands = if-either (StandsAt top) (nat_eq top.fuel 0) _ _ tt (effect-stands s.steps s.store (moved top asked.0) asked.1) in
       after-ordered s top below (G.place_of body top.local) (effect_of G body s.steps s.store top) stands ordered
 
-  serial-ordered : (plan : Plan B L) (n : ℕ) → IsOrdered (serial G plan n).stack (serial G plan n).faults
+  pub serial-ordered : (plan : Plan B L) (n : ℕ) → IsOrdered (serial G plan n).stack (serial G plan n).faults
   serial-ordered plan zero =
       record { nested = (tt, tt); before = tt; in_order = λ i j d less within. absurd (omega arith) }
   serial-ordered plan (suc n) =

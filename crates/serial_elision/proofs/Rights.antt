@@ -68,7 +68,7 @@ zeroed_by-binds held Pop cells n may = cells-same held cells
 zeroed_by-binds held PushPop cells n may = cells-same held cells
 
 -- a holder may use all that a child holds as the child holds it
-abbrev MayUseEach : List Holding → List Holding → Type 0
+abbrev pub MayUseEach : List Holding → List Holding → Type 0
 MayUseEach held [] = Unit {0}
 MayUseEach held (holding ∷ holdings) = MayUse held holding.mode holding.number × MayUseEach held holdings
 
@@ -77,7 +77,7 @@ given_also-may held give None rest is may = tt
 given_also-may held give (Some number) None is may = tt
 given_also-may held give (Some number) (Some holdings) is may = (record { place = give.place; held = is }, may)
 
-given-may : (held : List Holding) (gives : List Give) → IfSome (given held gives) (MayUseEach held)
+pub given-may : (held : List Holding) (gives : List Give) → IfSome (given held gives) (MayUseEach held)
 given-may held [] = tt
 given-may held (give ∷ gives) =
     given_also-may held give (number_at held give.place give.mode) (given held gives) refl (given-may held gives)
@@ -149,7 +149,7 @@ after-binds s held below path place ends binds = store-same held s.store
 after-binds s held below path place (faults kind) binds = store-same held s.store
 
 module _ {B L : Type 0} (G : Ghosts B L) where
-  step_on-binds : (body : B) (s : State L) (stack : List (Activation L)) → RightsBind (top_holdings stack) s.store (step_on G body s stack).store
+  pub step_on-binds : (body : B) (s : State L) (stack : List (Activation L)) → RightsBind (top_holdings stack) s.store (step_on G body s stack).store
   step_on-binds body s [] = store-same [] s.store
   step_on-binds body s (top ∷ below) =
       let asked = G.next body top.local top.answer (top.fuel - 1) in

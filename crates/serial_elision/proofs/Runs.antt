@@ -8,9 +8,10 @@ use Rattle.swan_model.specs.declared.value.Value.{Value}
 use Rattle.swan_model.specs.Elision.{serial, final, most_steps, outcome}
 use Rattle.swan_model.specs.SerialState.{Activation, Cell, Queue, State}
 use Rattle.swan_model.specs.SerialStep.{Effect, goes_on, spawns, ends, faults, after, step, step_on, effect_of}
+use Rattle.serial_elision.specs.Working.{after_steps}
 
 -- an effect counts one step
-steps-after : {L : Type 0} (s : State L) (below : List (Activation L)) (path : List ℕ) (place : ℕ) (effect : Effect L) → (after s below path place effect).steps ≡ s.steps + 1
+pub steps-after : {L : Type 0} (s : State L) (below : List (Activation L)) (path : List ℕ) (place : ℕ) (effect : Effect L) → (after s below path place effect).steps ≡ s.steps + 1
 steps-after s below path place (goes_on a store) = refl
 steps-after s below path place (spawns parent child store) = refl
 steps-after s below path place ends = refl
@@ -51,3 +52,8 @@ module _ {B L : Type 0} (G : Ghosts B L) where
       ap {B = Outcome} (λ o. record { objects = o; queues = queues; faults = s.faults }) (objects_are ∙ sym (take-map value (length plan.roots.objects) s.store.cells))
       ∙ ap {B = Outcome} (λ q. record { objects = take (length plan.roots.objects) (map value s.store.cells); queues = q; faults = s.faults }) (queues_are ∙ sym (take-map items (length plan.roots.queues) s.store.queues))
       ∙ ap {B = Outcome} (λ t. record { objects = take (length plan.roots.objects) (map value t.store.cells); queues = take (length plan.roots.queues) (map items t.store.queues); faults = t.faults }) last
+
+  -- the state after more steps
+  pub serial-more : (plan : Plan B L) (k n : ℕ) → after_steps G plan.body (serial G plan k) n ≡ serial G plan (k + n)
+  serial-more plan k zero = ap (serial G plan) (sym (add-zero k))
+  serial-more plan k (suc n) = ap (step G plan.body) (serial-more plan k n) ∙ ap (serial G plan) (sym (add-suc k n))

@@ -74,15 +74,23 @@ module _ {B L : Type 0} (G : Ghosts B L) where
   step-over body s stack over same =
       ap {B = State L} (λ rest. record s { stack = rest }) same ∙ ap (step_on G body s) (sym over)
 
+  -- where there is fuel, the effect is that of the ask, whatever the activation was told before
+  pub effect-paid : (body : B) (n : ℕ) (store : Store) (top paid : Activation L) (asked : Ask L) → (top.fuel ≡ 0 → ⊥) → paid ≡ told (moved top (stepped body top).0) answer.Nothing → asked ≡ (stepped body top).1 → effect n store paid asked ≡ effect_of G body n store top
+  effect-paid body n store top paid asked fuel moved_is asked_is =
+      let body_moved : Activation L = moved top (stepped body top).0 in
+      let full : nat_eq top.fuel 0 ≡ false = search (rules, tests) in
+      ap (λ p. effect n store p asked) moved_is
+      ∙ effect-told n store body_moved answer.Nothing asked
+      ∙ ap (effect n store body_moved) asked_is
+      ∙ ap (λ b. cond b (serial.faults kind.Fuel) (effect n store body_moved (stepped body top).1)) (sym full)
+
   -- A step that costs fuel: the body has said what it asks for, the ask has its effect on the
   -- activation and on the store, and the rest of the state is the old one without its top.
   pub step-paid : (body : B) (s new : State L) (top paid a : Activation L) (asked : Ask L) (below : List (Activation L)) (done : code.Effect L) → s.stack ≡ top ∷ below → (top.fuel ≡ 0 → ⊥) → paid ≡ told (moved top (stepped body top).0) answer.Nothing → asked ≡ (stepped body top).1 → a.path ≡ paid.path → IsEffect done a s.store new.store (effect s.steps s.store paid asked) → new.steps ≡ s.steps → new.stack ≡ below → new.faults ≡ s.faults → settled done a (G.place_of body top.local) new ≡ step G body s
   step-paid body s new top paid a asked below done stack fuel moved_is asked_is path is steps stack_is faults_is =
       let place = G.place_of body top.local in
-      let body_moved : Activation L = moved top (stepped body top).0 in
       let said : serial.Effect L = effect s.steps s.store paid asked in
-      let full : nat_eq top.fuel 0 ≡ false = search (rules, tests) in
-      let same : said ≡ effect_of G body s.steps s.store top = ap (λ p. effect s.steps s.store p asked) moved_is ∙ effect-told s.steps s.store body_moved answer.Nothing asked ∙ ap (effect s.steps s.store body_moved) asked_is ∙ ap (λ b. cond b (serial.faults kind.Fuel) (effect s.steps s.store body_moved (stepped body top).1)) (sym full) in
+      let same : said ≡ effect_of G body s.steps s.store top = effect-paid body s.steps s.store top paid asked fuel moved_is asked_is in
       ap (settled done a place) (with_rest s new below steps stack_is faults_is)
       ∙ settled-after s a below place new.store done said is
       ∙ ap (λ p. after s below p place said) (path ∙ ap (λ p. p.path) moved_is)

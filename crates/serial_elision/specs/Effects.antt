@@ -1,5 +1,8 @@
 -- What the code says that an ask did, and what the definitions say.
-use Rattle.std.specs.Prelude.{◌≡◌, ℕ, ◌+◌, ◌∷◌, ◌++◌, []}
+use Rattle.std.specs.Prelude.{◌≡◌, ℕ, ◌+◌, ◌∷◌, ◌++◌, [], Bool, true, false}
+use Rattle.swan_model.specs.declared.fault.FaultKind.TheVariants.{PopEmpty}
+use Rattle.swan_model.specs.declared.script.Deed.{Deed}
+use Rattle.swan_model.specs.declared.script.Deed.TheVariants as deed
 use Rattle.swan_model.specs.SerialState.{Activation, Store, State}
 use Rattle.swan_model.specs.SerialStep.{told}
 use Rattle.swan_model.specs.SerialStep as serial
@@ -20,3 +23,15 @@ settled (Answered answer) a place s = record s { steps = s.steps + 1; stack = to
 settled (Spawned child) a place s = record s { steps = s.steps + 1; stack = child ∷ a ∷ s.stack }
 settled Ended a place s = record s { steps = s.steps + 1 }
 settled (Faulted kind) a place s = record s { steps = s.steps + 1; faults = s.faults ++ (record { path = a.path; place = place; kind = kind }) ∷ [] }
+
+-- What an ask with this effect did, where it was to do that; and whether its activation ends by it.
+abbrev pub kept : {L : Type 0} → Deed → Effect L → Deed
+kept does (Faulted PopEmpty) = does
+kept does (Faulted kind) = deed.Quiet
+kept does effect = does
+
+abbrev pub is_over : {L : Type 0} → Effect L → Bool
+is_over (Answered answer) = false
+is_over (Spawned child) = false
+is_over Ended = true
+is_over (Faulted kind) = true

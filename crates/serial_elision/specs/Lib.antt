@@ -1,3 +1,4 @@
 pub mod Bounds
 pub mod Effects
 pub mod Laws
+pub mod Working

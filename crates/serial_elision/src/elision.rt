@@ -34,7 +34,7 @@ pub fn elide<B: Body>(alloc: Global, plan: Plan<B>) -> Result<Outcome, NoMemory>
         if state.is_over() {
             break;
         }
-        state.step(alloc, &body)?;
+        state.turn(alloc, &body)?;
     }
     let store = state.store;
     Ok(Outcome {

@@ -12,18 +12,25 @@
 //! - A fault ends its task and nothing else, the faults are in serial order, and a step changes only
 //!   what its task holds so, by the laws `a_fault_ends_its_task`, `faults_are_in_order` and
 //!   `rights_bind`, which `one_step_more` joins to single steps.
+//! - `script_of` answers the script of a plan, which says what each step does without the body. A script has
+//!   one entry for each step, tells what stood in each queue and object, and the times of a task rise in it, by
+//!   the laws `each_step_has_its_entry`, `a_script_tells_queues_and_objects` and `times_of_a_task_rise`.
+//! - Scripts are nested: each task ends once, each child runs whole at the step that spawns it, points stand in
+//!   serial order, and each deed is within what its task holds, by the laws `each_task_ends_once`,
+//!   `scripts_are_nested`, `points_stand_in_serial_order` and `deeds_are_within_rights`.
 //! - `print` answers exactly the two texts that the definitions give an outcome.
 //!
 //! Not promised: that memory is found, and how long a body takes for a step.
 //!
-//! Inside, `State` is the serial state, with the step of the definitions as a method. Its parts are
-//! seen by contracts as the parts of the state of the definitions. `Store` has the objects and the
+//! Inside, `State` is the serial state. Its `turn` takes the steps of the top task that are work alone, and
+//! then one more. Its parts are seen by contracts as the parts of the state of the definitions. `Store` has the objects and the
 //! queues, with a method for each ask about them; `spawn` has the one ask that makes a task.
 #![tactic(auto)]
 
 mod activation;
 mod alias;
 mod cell;
+mod deeds;
 mod effect;
 mod elision;
 mod holding;
@@ -31,10 +38,14 @@ mod laws;
 mod output;
 mod printed;
 mod queue;
+mod recorded;
 mod report;
 mod roots;
 #[cfg(test)]
 mod script;
+mod script_laws;
+#[cfg(test)]
+mod script_tests;
 mod spawn;
 mod stack;
 mod state;
@@ -42,6 +53,7 @@ mod store;
 #[cfg(test)]
 mod tests;
 mod text;
+mod work;
 
 use activation::Activation;
 use cell::Cell;
@@ -51,6 +63,11 @@ use holding::Holding;
 pub use laws::{a_fault_ends_its_task, faults_are_in_order, one_step_more, rights_bind};
 pub use printed::{Printed, print};
 use queue::Queue;
+pub use recorded::script_of;
+pub use script_laws::{
+    a_script_tells_queues_and_objects, deeds_are_within_rights, each_step_has_its_entry,
+    each_task_ends_once, points_stand_in_serial_order, scripts_are_nested, times_of_a_task_rise,
+};
 use stack::Stack;
 use state::State;
 use store::Store;

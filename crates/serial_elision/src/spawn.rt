@@ -54,7 +54,7 @@ pub fn spawn<L: Drop>(
 
 /// What a child holds by its gives, and None exactly where the parent doesn't hold one of them so.
 /// `O(gives)`, one allocation.
-fn given<L>(
+pub fn given<L>(
     alloc: Global,
     parent: &Activation<L>,
     gives: &Gives,

@@ -1,8 +1,10 @@
 // The serial state, and the serial step.
-ghost use Rattle.std.specs.Prelude.{◌≡◌, ◌+◌, ◌^◌, ◌<◌, ◌++◌, ◌∷◌, [], IfOk, OnOk, IsTrue, ◌↔◌};
-ghost use Rattle.swan_model.specs.SerialStep.{effect, step};
+ghost use Rattle.std.specs.Prelude.{◌≡◌, ℕ, suc, ◌+◌, ◌^◌, ◌<◌, ◌++◌, ◌∷◌, [], IfOk, OnOk, IsTrue, ◌↔◌};
+ghost use Rattle.swan_model.specs.SerialStep.{effect};
+ghost use Rattle.swan_model.specs.declared.plan.TheConstants.{FUEL_MOST};
 ghost use Rattle.serial_elision.specs.Bounds.{HasPaid};
 ghost use Rattle.serial_elision.specs.Effects.{IsEffect, settled};
+ghost use Rattle.serial_elision.specs.Working.{after_steps};
 
 use crate::spawn::spawn;
 use crate::{Activation, Effect, Stack, Store};
@@ -38,7 +40,7 @@ impl<L> Model for State<L> {
 
 impl<L: Drop> State<L> {
     /// Gives an ask its effect. Its activation has paid for the step.
-    fn perform(
+    pub fn perform(
         &mut self,
         alloc: Global,
         top: &mut Activation<L>,
@@ -70,7 +72,7 @@ impl<L: Drop> State<L> {
 
     /// Ends the step of an activation that was taken off the stack: it goes back where it goes on.
     /// `O(1)` amortised.
-    fn settle(
+    pub fn settle(
         &mut self,
         mut top: Activation<L>,
         place: u64,
@@ -113,22 +115,25 @@ impl<L: Drop> State<L> {
         self.stack.is_empty()
     }
 
-    /// Takes one serial step; where no activation is left there is none. The cost of a spawn of `g`
-    /// gives from a path of `d` parts is `O(g log g + d)`, and each other step is `O(1)` amortised
-    /// beside its body's.
-    pub fn step<B: Body<Local = L>>(&mut self, alloc: Global, body: &B) -> Result<(), NoMemory>
-        requires { self.old.steps + 1 < 2 ^ 64 }
-        ensures { OnOk result (self.new ≡ step B.Body body.now self.old) }
+    /// Takes serial steps: those of the top activation that are work alone, and then one more; where no
+    /// activation is left there is none. The cost of a spawn of `g` gives from a path of `d` parts is
+    /// `O(g log g + d)`, and each other step is `O(1)` amortised beside its body's.
+    pub fn turn<B: Body<Local = L>>(&mut self, alloc: Global, body: &B) -> Result<(), NoMemory>
+        requires { self.old.steps + FUEL_MOST + 1 < 2 ^ 64 }
+        ensures { OnOk result ((n : ℕ) × (self.new ≡ after_steps B.Body body.now self.old (suc n))) }
     {
         let Some(top) = self.stack.pop() else {
             return Ok(());
         };
-        let place = body.place(&top.local);
         if top.fuel == 0 {
+            let place = body.place(&top.local);
             return self.settle(top, place, Effect::Faulted(FaultKind::Fuel));
         }
-        let (mut top, ask) = top.advance(alloc, body)?;
-        let effect = self.perform(alloc, &mut top, ask)?;
+        let worked = top.work(alloc, body)?;
+        self.steps += worked.works;
+        let place = worked.place;
+        let mut top = worked.top;
+        let effect = self.perform(alloc, &mut top, worked.ask)?;
         self.settle(top, place, effect)
     }
 }

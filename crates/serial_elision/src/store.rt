@@ -1,5 +1,6 @@
 // The objects and the queues of an elision together, and the asks about them.
 ghost use Rattle.std.specs.Prelude.{◌≡◌, ℕ, IfOk, OnOk, slice_get};
+ghost use Rattle.swan_model.specs.Script.{origin_of, origin_at};
 ghost use Rattle.swan_model.specs.SerialStep.{effect, zeroed, zeroed_by, zero_cell};
 ghost use Rattle.swan_model.specs.declared.body.Ask.TheVariants as ask;
 ghost use Rattle.serial_elision.specs.Bounds.{HasPaid};
@@ -157,6 +158,26 @@ impl Store {
         })?;
         let place = holder.add_place(Mode::InOut, number)?;
         Ok(Effect::Answered(Answer::Place(place)))
+    }
+
+    /// What made the queue, or for a mode of objects the object, that has this number. `O(1)`.
+    pub fn origin_of(&self, mode: Mode, number: usize) -> Option<Origin>
+        ensures { result ≡ origin_of self.now mode number }
+    {
+        if mode.is_of_queues() {
+            self.queues.get(number).map(|queue| queue.origin)
+        } else {
+            self.cells.get(number).map(|cell| cell.origin)
+        }
+    }
+
+    /// What made the object or queue at a place of the holder, and None exactly where it may not be
+    /// used so. `O(1)`.
+    pub fn origin_at<L>(&self, holder: &Activation<L>, place: u32, mode: Mode) -> Option<Origin>
+        ensures { result ≡ origin_at self.now holder.now.holdings place mode }
+    {
+        let number = holder.number_at(place, mode)?;
+        self.origin_of(mode, number)
     }
 
     /// Gives each object that is held by Out its zero. `O(holdings)`.

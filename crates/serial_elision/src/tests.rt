@@ -7,15 +7,15 @@ use std::test::Fail;
 use std::thread::{Threads, join};
 use swan_model::{
     Ask, Body, Child, GIVES_MOST, Give, Gives, Mode, NoMemory, Outcome, Plan, PlanFuel, Record,
-    RootQueue, Roots, Trouble, Value, Values, Word, Words,
+    RootQueue, Roots, RunName, Trouble, Value, Values, Word, Words,
 };
 
 // The places of the root in all rows.
-const JOBS: u32 = 0;
+pub const JOBS: u32 = 0;
 
-const LINES: u32 = 1;
+pub const LINES: u32 = 1;
 
-const COUNT: u32 = 2;
+pub const COUNT: u32 = 2;
 
 const NAME: u32 = 3;
 
@@ -69,6 +69,22 @@ fn names(alloc: Global) -> Result<Names, Fail> {
     Ok(Names { queues, objects })
 }
 
+/// The plan of a script with this much fuel.
+pub fn plan_of(
+    rt: &impl Abort,
+    alloc: Global,
+    asks: Vec<Ask<usize>>,
+    fuel: u64,
+) -> Result<Plan<Script>, Fail> {
+    assert!(rt; fuel <= 1_000_000);
+    Ok(Plan {
+        body: Script { asks },
+        root_local: 0,
+        roots: roots(alloc)?,
+        fuel: PlanFuel::new(fuel),
+    })
+}
+
 /// The two texts that a script leaves with this much fuel.
 fn texts(
     rt: &impl Abort,
@@ -76,14 +92,7 @@ fn texts(
     asks: Vec<Ask<usize>>,
     fuel: u64,
 ) -> Result<Printed, Fail> {
-    assert!(rt; fuel <= 1_000_000);
-    let plan = Plan {
-        body: Script { asks },
-        root_local: 0,
-        roots: roots(alloc)?,
-        fuel: PlanFuel::new(fuel),
-    };
-    let outcome = elide(alloc, plan)?;
+    let outcome = elide(alloc, plan_of(rt, alloc, asks, fuel)?)?;
     let names = names(alloc)?;
     assert_eq!(rt; names.queues.len(), outcome.queues.len());
     assert_eq!(rt; names.objects.len(), outcome.objects.len());
@@ -91,7 +100,12 @@ fn texts(
 }
 
 /// A child that begins at an index of the list.
-fn spawn(alloc: Global, at: usize, gives: &[(u32, Mode)], fuel: u64) -> Result<Ask<usize>, Fail> {
+pub fn spawn(
+    alloc: Global,
+    at: usize,
+    gives: &[(u32, Mode)],
+    fuel: u64,
+) -> Result<Ask<usize>, Fail> {
     let mut list = Gives::new(alloc);
     for (place, mode) in gives {
         if list.len() < GIVES_MOST {
@@ -310,6 +324,17 @@ fn elide_there<R: Threads + Sync, B: Body>(
 ) -> Result<Outcome, NoMemory> {
     let (outcome, ()) = join(rt, move || elide(alloc, plan), || ());
     outcome
+}
+
+/// Copies a name on another thread.
+fn again_there<R: Threads + Sync>(rt: &R, name: RunName) -> RunName {
+    let (again, ()) = join(rt, move || name.again(), || ());
+    again
+}
+
+#[test]
+fn names_cross_threads(rt: HostRuntime) {
+    drop(again_there(&rt, RunName::free()));
 }
 
 #[test]

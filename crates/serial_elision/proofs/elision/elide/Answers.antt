@@ -1,24 +1,26 @@
-use Rattle.std.proofs.Common.{◌≡◌, ◌≤◌, ◌∙◌, sym, refl, arith, ap, [], map, take, length}
-use Rattle.swan_model.specs.Elision.{serial, final, most_steps}
+use Rattle.std.proofs.Common.{◌≡◌, ◌≤◌, ◌+◌, suc, ◌∙◌, sym, refl, arith, ap, [], map, take, length}
+use Rattle.swan_model.specs.Elision.{final, most_steps}
 use Rattle.swan_model.specs.SerialState.{Cell, Queue}
 use Rattle.serial_elision.proofs.Counts.{length-outcome_queues, length-outcome_objects}
-use Rattle.serial_elision.proofs.Runs.{le-serial, final-over, outcome-final}
+use Rattle.serial_elision.specs.Working.{after_steps}
+use Rattle.serial_elision.proofs.Finals.{final-past, final-empty, le-most}
+use Rattle.serial_elision.proofs.Runs.{outcome-final, serial-more}
 use Rattle.serial_elision.proofs.elision.elide.Goals as goal
 use Rattle.serial_elision.proofs.elision.elide.Goals.{else-loop-turn-test, then-loop-turn-test+then-is_over}
 
-pub step-requires-after_bounds : goal.step-requires-after_bounds
-step-requires-after_bounds g c = λ κs live. omega (arith, le-serial g.B.Body c.args.plan c.loop-turn._turn, ap (λ s. s.steps) c.loop-turn.invariant)
+pub turn-requires-after_bounds : goal.turn-requires-after_bounds
+turn-requires-after_bounds g c = λ κs live. omega (arith, le-most g.B.Body c.args.plan c.loop-turn.invariant.steps, ap (λ s. s.steps) c.loop-turn.invariant.now)
 
 pub returns-clause-outcome : goal.returns-clause-outcome
 returns-clause-outcome g c =
     let plan = c.args.plan in
-    let turn = c.loop-turn._turn in
     let last : c.loop-turn.state ≡ final g.B.Body plan = elim c.loop-turn-test.branch [
-      | else-loop-turn-test w ↦ let end : turn ≡ most_steps plan = omega arith in c.loop-turn.invariant ∙ ap (serial g.B.Body plan) end
+      | else-loop-turn-test w ↦
+          let past : most_steps plan ≤ c.loop-turn.invariant.steps = omega (arith, c.loop-turn.invariant.turns) in
+          c.loop-turn.invariant.now ∙ final-past g.B.Body plan c.loop-turn.invariant.steps past
       | then-loop-turn-test+then-is_over w ↦
-          let most : turn ≤ most_steps plan = omega arith in
           let over : c.loop-turn.state.stack ≡ [] = w.if-is_over.ensures.0 refl in
-          c.loop-turn.invariant ∙ final-over g.B.Body plan turn most (ap (λ s. s.stack) (sym c.loop-turn.invariant) ∙ over)
+          c.loop-turn.invariant.now ∙ final-empty g.B.Body plan c.loop-turn.invariant.steps (ap (λ s. s.stack) (sym c.loop-turn.invariant.now) ∙ over)
     ] in
     let objects = c.in_ok-first_values.ensures
     ∙ ap (λ n. map (λ (cell : Cell). cell.value) (take n c.store.inside.cells.items)) (c.len-objects.ensures ∙ ap length c.objects.ensures.objects)
@@ -35,3 +37,14 @@ returns-clause-queues g c =
 pub returns-clause-objects : goal.returns-clause-objects
 returns-clause-objects g c =
     ap (λ left. length left.objects) (returns-clause-outcome g c) ∙ length-outcome_objects g.B.Body c.args.plan
+
+pub loop-turn-preserved : goal.loop-turn-preserved
+loop-turn-preserved g c =
+    let plan = c.args.plan in
+    let n = c.in_ok-turn.ensures.0 in
+    let k = c.loop-turn.invariant.steps in
+    record {
+      steps = k + suc n;
+      now = c.in_ok-turn.ensures.1 ∙ ap (λ s. after_steps g.B.Body plan.body s (suc n)) c.loop-turn.invariant.now ∙ serial-more g.B.Body plan k (suc n);
+      turns = omega (arith, c.loop-turn.invariant.turns);
+    }

@@ -1,0 +1,28 @@
+use Rattle.std.proofs.Common.{◌≡◌, Some, ◌∙◌, ap}
+use Rattle.swan_model.specs.Script.{next_entry}
+use Rattle.swan_model.specs.SerialState.{State}
+use Rattle.swan_model.specs.SerialStep.{step}
+use Rattle.serial_elision.specs.Effects.{settled}
+use Rattle.serial_elision.proofs.Scripts.{entry-paid}
+use Rattle.serial_elision.proofs.Steps.{step-paid}
+use Rattle.serial_elision.proofs.state.State.tell.Goals as goal
+
+pub returns-clause-state : goal.returns-clause-state
+returns-clause-state g c =
+    let body = c.args.body.now in
+    let fuelled : c.in-Some.top.fuel ≡ 0 → ⊥ = λ dry. c.if-top-eq0.false (ap (λ a. a.fuel) c.top.view_is ∙ dry) in
+    let place : c.place-place.result ≡ g.B.Body.place_of body c.in-Some.top.local = c.place-place.ensures ∙ ap (λ a. g.B.Body.place_of body a.local) c.top.view_is in
+    let paid = step-paid g.B.Body body _ c.perform.new.self c.in-Some.top c.in_ok-top.top c.perform.new.top c.in_ok-top.ask _ c.in_ok-effect.effect c.in-Some.ensures.top fuelled c.in_ok-top.ensures.moved c.in_ok-top.ensures.ask c.in_ok-effect.ensures.path c.in_ok-effect.ensures.effect c.in_ok-effect.ensures.steps c.in_ok-effect.ensures.stack c.in_ok-effect.ensures.faults in
+    c.in_ok-settle-2.ensures
+    ∙ ap (λ p. settled c.in_ok-effect.effect c.perform.new.top p c.perform.new.self) place
+    ∙ paid
+    ∙ ap (step g.B.Body body) c.self.view_is
+
+pub returns-clause-entry : goal.returns-clause-entry
+returns-clause-entry g c =
+    let body = c.args.body.now in
+    let fuelled : c.in-Some.top.fuel ≡ 0 → ⊥ = λ dry. c.if-top-eq0.false (ap (λ a. a.fuel) c.top.view_is ∙ dry) in
+    let path : c.in_ok-path.path ≡ c.in-Some.top.path = c.in_ok-path.ensures ∙ ap (λ a. a.path) c.top.view_is in
+    let before : State g.row.L.Denot = record { steps = c.self.inside.steps; stack = c.self.inside.stack; store = c.self.inside.store; faults = c.self.inside.faults } in
+    let paid = entry-paid g.B.Body body before c.in-Some.top c.in_ok-top.top c.perform.new.top c.in_ok-top.ask _ c.in_ok-effect.effect c.perform.new.self.store c.in_ok-path.path c.in_ok-deed.deed c.in-Some.ensures.top fuelled c.in_ok-top.ensures.moved c.in_ok-top.ensures.ask path c.in_ok-deed.ensures c.in_ok-effect.ensures.effect in
+    ap Some c.entry-told.ensures ∙ paid ∙ ap (next_entry g.B.Body body) c.self.view_is

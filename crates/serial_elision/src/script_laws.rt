@@ -1,0 +1,111 @@
+// Laws of scripts.
+ghost use Rattle.std.specs.Prelude.{◌≡◌, ◌≢◌, ℕ, ◌+◌, ◌<◌, ◌≤◌, List, [], ◌∷◌, ◌++◌, Some, IfSome, IsSomeAnd, IsTrue, length, map, slice_get};
+ghost use Rattle.swan_model.specs.declared.origin.Origin.TheVariants.{Root};
+ghost use Rattle.swan_model.specs.declared.plan.Plan.{Plan};
+ghost use Rattle.swan_model.specs.Elision.{final, most_steps, outcome, serial};
+ghost use Rattle.swan_model.specs.declared.script.Entry.{Entry};
+ghost use Rattle.swan_model.specs.declared.script.Script.{Script};
+ghost use Rattle.swan_model.specs.Granted.{children_before, holds, is_spawn, is_within};
+ghost use Rattle.swan_model.specs.Roots.{IsWithinBounds};
+ghost use Rattle.swan_model.specs.Nested.{spawn_time, IsEntryUnder, IsEndOf, IsNested, IsLeft, HasTasks};
+ghost use Rattle.swan_model.specs.Script.{next_entry, script};
+ghost use Rattle.swan_model.specs.SerialTime.{Progress, Reading, is_of, times, time, point, is_earlier};
+ghost use Rattle.swan_model.specs.Told.{items, cell};
+ghost use Rattle.serial_elision.specs.Laws.{comes_before};
+
+use swan_model::Body;
+
+/// The law that a script has one entry for each step of the elision. At its place n stands the entry of
+/// the step after n steps, and none where no task is left then. So it has as many entries as the
+/// elision takes steps, which are at most twice the fuel and two. It begins with the plan's lists and
+/// values.
+#[tactic(auto, using(crate::proofs::Entries::get_script, crate::proofs::Entries::length_script, crate::proofs::Entries::le_script))]
+pub fn each_step_has_its_entry<B: Body>()
+    ensures entry { (plan : Plan B B.Local) (n : ℕ) →
+        slice_get (script B.Body plan).entries n ≡ next_entry B.Body plan.body (serial B.Body plan n) }
+    ensures number { (plan : Plan B B.Local) →
+        length (script B.Body plan).entries ≡ (final B.Body plan).steps }
+    ensures most { (plan : Plan B B.Local) → length (script B.Body plan).entries ≤ most_steps plan }
+    ensures queues { (plan : Plan B B.Local) →
+        (script B.Body plan).queues ≡ map (λ queue. queue.items) plan.roots.queues }
+    ensures objects { (plan : Plan B B.Local) → (script B.Body plan).objects ≡ plan.roots.objects }
+{}
+
+/// The law that a script tells its queues and objects: after n steps of the elision each queue has the
+/// items, and each object the value, that the script tells before its entry n. So what the elision
+/// leaves of the plan's queues and objects is told by the script alone.
+#[tactic(auto, using(crate::proofs::SerialTold::items_told, crate::proofs::SerialTold::cells_told, crate::proofs::SerialTold::queues_left, crate::proofs::SerialTold::objects_left))]
+pub fn a_script_tells_queues_and_objects<B: Body>()
+    ensures items { (plan : Plan B B.Local) (n i : ℕ) →
+        IfSome (slice_get (serial B.Body plan n).store.queues i)
+        (λ queue. queue.items ≡ items (script B.Body plan) queue.origin n) }
+    ensures values { (plan : Plan B B.Local) (n i : ℕ) →
+        IfSome (slice_get (serial B.Body plan n).store.cells i)
+        (λ object. cell (script B.Body plan) object.origin n ≡ Some object.value) }
+    ensures items_left { (plan : Plan B B.Local) (i : ℕ) → let s = script B.Body plan in
+        IfSome (slice_get (outcome B.Body plan).queues i)
+        (λ left. left ≡ items s (Root i) (length s.entries)) }
+    ensures values_left { (plan : Plan B B.Local) (i : ℕ) → let s = script B.Body plan in
+        IfSome (slice_get (outcome B.Body plan).objects i)
+        (λ left. cell s (Root i) (length s.entries) ≡ Some left) }
+{}
+
+/// The law that a task's times rise, and that at each of them stands an entry of the task.
+#[tactic(auto, using(crate::proofs::Times::times_rise, crate::proofs::Times::times_are))]
+pub fn times_of_a_task_rise()
+    ensures rise { (s : Script) (path : List ℕ) (k m : ℕ) → k < m → m < length (times s path) →
+        time s path k < time s path m }
+    ensures own { (s : Script) (path : List ℕ) (k : ℕ) → k < length (times s path) →
+        IsSomeAnd (slice_get s.entries (time s path k)) (λ entry. IsTrue (is_of path entry)) }
+{}
+
+/// The law of the ends of tasks. An entry that ends its task is the last one of the task and of all
+/// tasks below it. So no task ends twice. Each spawn is that of its task's next child, which ends after it;
+/// and between the two stand only entries of the child and of tasks below it. The root ends at the last
+/// entry of all.
+pub fn each_task_ends_once<B: Body>()
+    ensures last { (plan : Plan B B.Local) (path : List ℕ) (end t : ℕ) → let s = script B.Body plan in
+        IsEndOf s path end → IsEntryUnder s path t → t ≤ end }
+    ensures once { (plan : Plan B B.Local) (path : List ℕ) (end other : ℕ) → let s = script B.Body plan in
+        IsEndOf s path end → IsEndOf s path other → end ≡ other }
+    ensures spawned { (s : Script) (n : ℕ) (entry : Entry) → slice_get s.entries n ≡ Some entry
+        → IsTrue (is_spawn entry.deed) → spawn_time s entry.path (children_before s entry.path n) ≡ Some n }
+    ensures ends { (plan : Plan B B.Local) (path : List ℕ) (child spawn : ℕ) → let s = script B.Body plan in
+        spawn_time s path child ≡ Some spawn
+        → (end : ℕ) × (spawn < end) × IsEndOf s (path ++ child ∷ []) end }
+    ensures between { (plan : Plan B B.Local) (path : List ℕ) (child spawn end t : ℕ) → let s = script B.Body plan in
+        spawn_time s path child ≡ Some spawn → IsEndOf s (path ++ child ∷ []) end → spawn < t → t < end
+        → IsEntryUnder s (path ++ child ∷ []) t }
+    ensures root { (plan : Plan B B.Local) → let s = script B.Body plan in
+        (end : ℕ) × (length s.entries ≡ end + 1) × IsEndOf s [] end }
+{}
+
+/// The law that scripts are nested: each child runs whole at the step that spawns it. Its entries, and
+/// those of the tasks below it, come after its spawn and before the next entry of its parent.
+pub fn scripts_are_nested<B: Body>()
+    ensures nested { (plan : Plan B B.Local) → IsNested (script B.Body plan) }
+{}
+
+/// The law that points stand in serial order. In a reading of a nested script, whose frames are different
+/// tasks and in which the spawn of each child is done, no two frames that have an entry left have the same
+/// point. The earlier one comes before the other by its path: it is below it, or on the side of an older
+/// sibling. And the one that comes before is the earlier one.
+pub fn points_stand_in_serial_order()
+    ensures different { (s : Script) (r : Reading) → IsNested s → HasTasks s r → (i j : ℕ) (frame other : Progress)
+        → IsLeft s r i frame → IsLeft s r j other → i ≢ j → point s frame ≢ point s other }
+    ensures before { (s : Script) (r : Reading) → IsNested s → HasTasks s r → (i j : ℕ) (frame other : Progress)
+        → IsLeft s r i frame → IsLeft s r j other → IsTrue (is_earlier s frame other)
+        → IsTrue (comes_before frame.path other.path) }
+    ensures earlier { (s : Script) (r : Reading) → IsNested s → HasTasks s r → (i j : ℕ) (frame other : Progress)
+        → IsLeft s r i frame → IsLeft s r j other → IsTrue (comes_before frame.path other.path)
+        → IsTrue (is_earlier s frame other) }
+{}
+
+/// The law that rights, counted from the script alone, bind: each deed, and each give of a spawn, is
+/// within what its task holds before it. The plan's lists are within their bounds, as those of each plan
+/// that is made are.
+pub fn deeds_are_within_rights<B: Body>()
+    ensures within { (plan : Plan B B.Local) → IsWithinBounds plan.roots.queues plan.roots.objects
+        → (n : ℕ) → let s = script B.Body plan in
+        IfSome (slice_get s.entries n) (λ entry. IsTrue (is_within (holds s entry.path n) entry.deed)) }
+{}
