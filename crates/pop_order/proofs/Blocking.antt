@@ -1,0 +1,43 @@
+-- Which older siblings block a child, by the set of poppers.
+use Rattle.std.proofs.Common.{◌≡◌, ℕ, ◌<◌, true, Option, Some, List, sym, ap, subst, ◌∙◌}
+use Rattle.swan_model.specs.SerialState.{Holding}
+use Rattle.swan_model.specs.declared.rights.Mode.TheVariants.{Pop}
+use Rattle.pop_order.specs.Children.{Entry, has}
+use Rattle.pop_order.specs.Frames.{Frame, Frames, frame_at, holds}
+use Rattle.pop_order.specs.Turns.{Blocks}
+use Rattle.pop_order.specs.Poppers.{IsAmong}
+use Rattle.pop_order.specs.Kept.{HasHolders}
+
+pub same_frame : (found : Option Frame) (f g : Frame) → found ≡ Some f → found ≡ Some g → f ≡ g
+same_frame found f g a b = let e : Some f ≡ Some g = sym a ∙ b in cc
+
+module _ (frames : Frames) (set : List Entry) (pops : (queue : ℕ) → HasHolders frames Pop queue set)
+    (child : ℕ) (f : Frame) (active : frame_at frames child ≡ Some f)
+    (parent : ℕ) (of : f.parent ≡ parent) (holdings : List Holding) (same : f.holdings ≡ holdings) where
+  -- an older one that is found blocks the child
+  pub blocks_found : (n : ℕ) → n < child → IsAmong set parent holdings n → Blocks frames child n
+  blocks_found n lt a =
+      let popper = (pops a.queue).holders parent n a.known in
+      let P : List Holding → Type 0 = λ hs. holds hs a.queue Pop ≡ true in
+      record {
+        parent = parent;
+        younger = record { frame = f; active = active; of = of };
+        older = popper.0;
+        before = lt;
+        queue = a.queue;
+        both = record { frame = f; active = active; held = subst P (sym same) a.popped };
+        pops = popper.1;
+      }
+
+  -- one that blocks the child is found
+  pub found_blocks : (n : ℕ) → Blocks frames child n → IsAmong set parent holdings n
+  found_blocks n b =
+      let P : List Holding → Type 0 = λ hs. holds hs b.queue Pop ≡ true in
+      let Q : ℕ → Type 0 = λ p. has set p b.queue n ≡ true in
+      let one = same_frame (frame_at frames child) b.both.frame f b.both.active active in
+      let parents : b.parent ≡ parent = sym b.younger.of ∙ ap (λ (g : Frame). g.parent) (same_frame (frame_at frames child) b.younger.frame f b.younger.active active) ∙ of in
+      record {
+        queue = b.queue;
+        popped = subst P (ap (λ (g : Frame). g.holdings) one ∙ same) b.both.held;
+        known = subst Q parents ((pops b.queue).all b.parent n b.older b.pops);
+      }

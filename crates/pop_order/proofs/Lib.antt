@@ -1,0 +1,16 @@
+pub mod Flags
+pub mod Blocking
+pub mod Empty
+pub mod Entries
+pub mod Holders
+pub mod Lineage
+pub mod Walks
+pub mod Changes
+pub mod Reach
+pub mod Growing
+pub mod Shrinking
+pub mod Noted
+pub mod Lookups
+pub mod Enlisting
+pub mod Returning
+pub mod SerialOrder

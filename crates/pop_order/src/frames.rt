@@ -1,0 +1,89 @@
+// The frames by number.
+ghost use Rattle.std.specs.Prelude.{◌≡◌, ℕ, ◌<◌, OnOk};
+ghost use Rattle.std.specs.Ordering.{nat_cmp};
+ghost use Rattle.std.specs.List.Sorted.{IsStrictlySortedBy};
+ghost use Rattle.std.specs.Map.{keys_of};
+ghost use Rattle.pop_order.specs.Frames.{Frames, enlisted, lent_to, AreUpTo, MayGet};
+ghost use Rattle.pop_order.specs.Kept.{AreBelowParents, IsKept, IsKeptFor};
+ghost use Rattle.pop_order.specs.Steps.{IsShrunk, HoldsNoOther};
+
+use crate::{Frame, Holding, Sets};
+use std::alloc::Global;
+use std::collections::BTreeMap;
+use swan_model::NoMemory;
+
+/// Gives a child one more queue, or puts it in with its first one. `O(log n)`.
+pub fn give(
+    alloc: Global,
+    frames: &mut BTreeMap<u64, Frame>,
+    parent: u64,
+    child: u64,
+    holding: Holding,
+) -> Result<(), NoMemory>
+    ensures given { OnOk result (frames.new.entries ≡ enlisted frames.old.entries parent child holding) }
+    ensures sorted { IsStrictlySortedBy nat_cmp (keys_of frames.new.entries) }
+{
+    if let Some(frame) = frames.get_mut(&child) {
+        return frame.hold(holding);
+    }
+    let mut holdings = Vec::new(alloc);
+    holdings.push(holding)?;
+    let first = Frame {
+        parent,
+        holdings,
+        lent: false,
+    };
+    frames.insert(child, first)?;
+    Ok(())
+}
+
+/// Notes that the queue views of a child's popped queues were moved to it. `O(log n)`.
+pub fn lend(frames: &mut BTreeMap<u64, Frame>, child: u64)
+    ensures lent { frames.new.entries ≡ lent_to frames.old.entries child }
+    ensures sorted { IsStrictlySortedBy nat_cmp (keys_of frames.new.entries) }
+{
+    if let Some(frame) = frames.get_mut(&child) {
+        frame.lend();
+    }
+}
+
+/// Gives a child one more queue, in the frames and in the sets. `O(log n)`, and as much again for each
+/// frame above that did not reach before.
+pub fn add(
+    alloc: Global,
+    frames: &mut BTreeMap<u64, Frame>,
+    sets: &mut Sets,
+    parent: u64,
+    child: u64,
+    holding: Holding,
+) -> Result<(), NoMemory>
+    requires kept { IsKept frames.old.entries sets.old.poppers sets.old.pushers sets.old.reaching }
+    requires rising { parent < child }
+    requires newest { AreUpTo frames.old.entries child }
+    requires fits { MayGet frames.old.entries parent child holding.number }
+    ensures given { OnOk result (frames.new.entries ≡ enlisted frames.old.entries parent child holding) }
+    ensures kept { OnOk result (IsKept frames.new.entries sets.new.poppers sets.new.pushers sets.new.reaching) }
+{
+    give(alloc, frames, parent, child, holding)?;
+    sets.add(frames, parent, child, holding)?;
+    Ok(())
+}
+
+/// Takes a child that is gone from the frames out of the sets, for each of its queues. `O(k log n)` for k
+/// holdings, and as much again for each frame above at or below which no frame pushes any more.
+pub fn take_out(
+    frames: &BTreeMap<u64, Frame>,
+    sets: &mut Sets,
+    parent: u64,
+    child: u64,
+    holdings: &[Holding],
+)
+    requires { AreBelowParents frames.now.entries }
+    ensures { (before : Frames) → IsShrunk before frames.now.entries parent child → HoldsNoOther before child holdings.now
+        → ((queue : ℕ) → IsKeptFor before sets.old.poppers sets.old.pushers sets.old.reaching queue)
+        → (queue : ℕ) → IsKeptFor frames.now.entries sets.new.poppers sets.new.pushers sets.new.reaching queue }
+{
+    for holding in holdings {
+        sets.take_out(frames, parent, child, holding.queue);
+    }
+}
