@@ -12,8 +12,7 @@ use Rattle.std.proofs.lemmas.Slice.Eq.{bytes_eq-Decides}
 use Rattle.swan_model.specs.declared.value.Kind.{Kind}
 use Rattle.swan_model.specs.declared.value.Kind.TheVariants as value
 use Rattle.job_reader.specs.LineShape.{known}
-use Rattle.job_reader.specs.Words.{kind_named, kind_text}
-use Rattle.job_reader.specs.declared.words.TheConstants.{KINDS}
+use Rattle.job_reader.specs.Words.{kind_named, kind_text, kinds}
 use Rattle.job_reader.specs.CanonicalText.{atom_text, literal_text}
 use Rattle.job_reader.specs.Faults.{both, ◌>>=◌}
 use Rattle.job_reader.specs.declared.atom.Atom.{Atom}
@@ -180,5 +179,5 @@ kind_stays value.Bytes = (refl, refl)
 
 pub kind_canon : (token : List ℕ) (k : Kind) → known (kind_named token) ≡ Ok k → (kind_text k ≡ canon token) × (is_fine token ≡ true)
 kind_canon token k is =
-    let same = found_text kind_text KINDS token k (known_some (kind_named token) k is) in
+    let same = found_text kind_text kinds token k (known_some (kind_named token) k is) in
     (sym (kind_stays k).0 ∙ ap canon (sym same), ap is_fine same ∙ (kind_stays k).1)

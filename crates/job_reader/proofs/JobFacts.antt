@@ -24,7 +24,7 @@ use Rattle.job_reader.specs.Atoms.{atoms, name}
 use Rattle.job_reader.specs.Faults.{both}
 use Rattle.job_reader.specs.LineShape.{after_equals, assigned, assignment}
 use Rattle.job_reader.specs.Places.{takes_else}
-use Rattle.job_reader.specs.Words.{arity, do_named, do_text, op_named, task_named, top_named, top_text}
+use Rattle.job_reader.specs.Words.{arity, do_named, do_text, do_words, op_named, task_named, top_named, top_text, top_words}
 use Rattle.job_reader.specs.declared.block.Block.{Block}
 use Rattle.job_reader.specs.declared.op.Op.{Op}
 use Rattle.job_reader.specs.declared.place.TheConstants.{BLOCKS_MOST}
@@ -34,7 +34,6 @@ use Rattle.job_reader.specs.declared.words.TaskWord.{TaskWord}
 use Rattle.job_reader.specs.declared.words.TaskWord.TheVariants as task
 use Rattle.job_reader.specs.declared.words.TopWord.{TopWord}
 use Rattle.job_reader.specs.declared.words.TopWord.TheVariants as top
-use Rattle.job_reader.specs.declared.words.TheConstants.{TOP_WORDS, DO_WORDS}
 use Rattle.job_reader.proofs.Canon.{bind_ok, found_text, known_some}
 use Rattle.job_reader.proofs.ReadsBack.{kept, reads_back, split, was_read}
 
@@ -143,7 +142,7 @@ statement_stands : (blocks : List Block) (first : List ℕ) (rest : List (List �
 statement_stands blocks first rest true l equals limit stray is = assignment_stands blocks first (after_equals rest) l is
 statement_stands blocks first rest false l equals limit stray is =
     let found = bind_ok (known (do_named first)) (λ w. do_form w rest) l is in
-    let word = found_text do_text DO_WORDS first found.0 (known_some (do_named first) found.0 found.1) in
+    let word = found_text do_text do_words first found.0 (known_some (do_named first) found.0 found.1) in
     do_stands blocks found.0 rest l (λ opens. room_for_block blocks (opens_block first rest) limit (ap (λ t. opens_block t rest) word ∙ opens)) equals stray found.2
 
 header_stands : (ts : List (List ℕ)) (l : Line) → header ts ≡ Ok l → may_stand First l ≡ true
@@ -160,7 +159,7 @@ form_stands : (place : Place) (first : List ℕ) (rest : List (List ℕ)) (l : L
 form_stands First first rest l limit stray is = header_stands (first ∷ rest) l is
 form_stands (Top left) first rest l limit stray is =
     let found = bind_ok (known (top_named first)) (λ w. top_form w rest) l is in
-    let word = found_text top_text TOP_WORDS first found.0 (known_some (top_named first) found.0 found.1) in
+    let word = found_text top_text top_words first found.0 (known_some (top_named first) found.0 found.1) in
     top_stands left found.0 rest l (λ input. room_for_input left first (word ∙ input) limit) found.2
 form_stands InTask first rest l limit stray is =
     let found = bind_ok (known (task_named first)) (λ w. task_form w rest) l is in

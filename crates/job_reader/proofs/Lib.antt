@@ -15,3 +15,6 @@ pub mod WholeTokens
 pub mod SameForms
 pub mod ReadsBack
 pub mod JobFacts
+pub mod LinePieces
+pub mod TokenPieces
+pub mod LiteralPieces

@@ -16,21 +16,21 @@ use Rattle.job_reader.specs.declared.literal.Inside.{Inside}
 use Rattle.job_reader.specs.declared.literal.Inside.TheVariants.{Plain, Escape, HighDigit, LowDigit, Closed}
 
 -- one byte, and then what is decoded after it
-abbrev after_byte : ℕ → Option (List ℕ) → Option (List ℕ)
+abbrev pub after_byte : ℕ → Option (List ℕ) → Option (List ℕ)
 after_byte byte more = option_map (λ bytes. byte ∷ bytes) more
 
-unchanged : (o : Option (List ℕ)) → option_map (λ more. more) o ≡ o
+pub unchanged : (o : Option (List ℕ)) → option_map (λ more. more) o ≡ o
 unchanged (Some bytes) = refl
 unchanged None = refl
 
-step : (inside : Inside) (byte : ℕ) (rest : List ℕ) → decoded inside (byte ∷ rest) ≡ and_then (decode inside byte) (λ s. option_map (λ more. option_to_list s.1 ++ more) (decoded s.0 rest))
+pub step : (inside : Inside) (byte : ℕ) (rest : List ℕ) → decoded inside (byte ∷ rest) ≡ and_then (decode inside byte) (λ s. option_map (λ more. option_to_list s.1 ++ more) (decoded s.0 rest))
 step Plain byte rest = refl
 step Escape byte rest = refl
 step HighDigit byte rest = refl
 step (LowDigit high) byte rest = refl
 step Closed byte rest = refl
 
-by_step : (inside : Inside) (byte : ℕ) (rest : List ℕ) (next : Inside) (out : Option ℕ) → decode inside byte ≡ Some (next, out) → decoded inside (byte ∷ rest) ≡ option_map (λ more. option_to_list out ++ more) (decoded next rest)
+pub by_step : (inside : Inside) (byte : ℕ) (rest : List ℕ) (next : Inside) (out : Option ℕ) → decode inside byte ≡ Some (next, out) → decoded inside (byte ∷ rest) ≡ option_map (λ more. option_to_list out ++ more) (decoded next rest)
 by_step inside byte rest next out is = step inside byte rest ∙ ap (λ d. and_then d (λ s. option_map (λ more. option_to_list s.1 ++ more) (decoded s.0 rest))) is
 
 hex_digit : (d : ℕ) → d < 16 → is_digit (digit_char d) 16 ≡ true
@@ -58,7 +58,7 @@ hex_decodes byte rest small =
     ∙ by_step (LowDigit (byte / 16)) (digit_char (byte % 16)) rest Plain (Some (16 * (byte / 16) + byte % 16)) (low_digit (byte / 16) (byte % 16) low)
     ∙ ap (λ b. after_byte b (decoded Plain rest)) whole
 
-plain_byte : (byte : ℕ) → (byte == 34) ≡ false → (byte == 92) ≡ false → decode Plain byte ≡ Some (Plain, Some byte)
+pub plain_byte : (byte : ℕ) → (byte == 34) ≡ false → (byte == 92) ≡ false → decode Plain byte ≡ Some (Plain, Some byte)
 plain_byte byte quote backslash = cond-false (byte == 34) _ _ quote ∙ cond-false (byte == 92) _ _ backslash
 
 -- how a byte is escaped, by cases
@@ -176,11 +176,11 @@ costs HighDigit byte fits allowed = high_costs byte
 costs (LowDigit high) byte fits allowed = low_costs high byte fits
 costs Closed byte fits allowed = tt
 
-then_some : {A B : Type 0} (o : Option A) (f : A → Option B) (y : B) → and_then o f ≡ Some y → (x : A) × (o ≡ Some x) × (f x ≡ Some y)
+pub then_some : {A B : Type 0} (o : Option A) (f : A → Option B) (y : B) → and_then o f ≡ Some y → (x : A) × (o ≡ Some x) × (f x ≡ Some y)
 then_some (Some x) f y is = (x, refl, is)
 then_some None f y is = cc
 
-mapped_some : (front : List ℕ) (o : Option (List ℕ)) (y : List ℕ) → option_map (λ more. front ++ more) o ≡ Some y → (x : List ℕ) × (o ≡ Some x) × (front ++ x ≡ y)
+pub mapped_some : (front : List ℕ) (o : Option (List ℕ)) (y : List ℕ) → option_map (λ more. front ++ more) o ≡ Some y → (x : List ℕ) × (o ≡ Some x) × (front ++ x ≡ y)
 mapped_some front (Some x) y is = let same : front ++ x ≡ y = cc in (x, refl, same)
 mapped_some front None y is = cc
 

@@ -97,7 +97,7 @@ pub record StandsAlone (token : List ℕ) : Type 0 where
   pub ends : without_end_spaces token ≡ token
   pub some : 0 < length token
 
-in_front_of : (byte : ℕ) (front : List ℕ) (tokens : List (List ℕ)) → in_front byte (with_front front tokens) ≡ with_front (byte ∷ front) tokens
+pub in_front_of : (byte : ℕ) (front : List ℕ) (tokens : List (List ℕ)) → in_front byte (with_front front tokens) ≡ with_front (byte ∷ front) tokens
 in_front_of byte front [] = refl
 in_front_of byte front (token ∷ tokens) = refl
 
@@ -112,7 +112,7 @@ no_front (byte ∷ rest) =
     nothing_before byte [] = refl
     nothing_before byte (token ∷ tokens) = refl
 
-in_token : (bytes rest : List ℕ) → list_all (λ b. not (b == 32)) bytes ≡ true → tokens_from Token (bytes ++ rest) ≡ with_front bytes (tokens_from Token rest)
+pub in_token : (bytes rest : List ℕ) → list_all (λ b. not (b == 32)) bytes ≡ true → tokens_from Token (bytes ++ rest) ≡ with_front bytes (tokens_from Token rest)
 in_token [] rest none = sym (no_front rest)
 in_token (byte ∷ bytes) rest none =
     let parts = and_parts (not (byte == 32)) (list_all (λ b. not (b == 32)) bytes) none in
@@ -131,7 +131,7 @@ no_end_space (byte ∷ other ∷ bytes) none =
 no_front_space : (byte : ℕ) (bytes : List ℕ) → (byte == 32) ≡ false → without_front_spaces (byte ∷ bytes) ≡ byte ∷ bytes
 no_front_space byte bytes space = cond-false (byte == 32) _ _ space
 
-plain_alone : (byte : ℕ) (bytes : List ℕ) → (byte == 32) ≡ false → (byte == 34) ≡ false → list_all (λ b. not (b == 32)) bytes ≡ true → StandsAlone (byte ∷ bytes)
+pub plain_alone : (byte : ℕ) (bytes : List ℕ) → (byte == 32) ≡ false → (byte == 34) ≡ false → list_all (λ b. not (b == 32)) bytes ≡ true → StandsAlone (byte ∷ bytes)
 plain_alone byte bytes space quote none = record {
   scanned = λ rest.
       let begins : next Between byte ≡ Token = cond-false (byte == 32) _ _ space ∙ cond-false (byte == 34) _ _ quote in
@@ -151,7 +151,7 @@ hex_stays d small =
     (λ large. let above : 10 ≤ d = ltb-false d 10 large in cond-false (87 + d == 34) _ _ (ne_eqb (87 + d) 34 (λ is. omega arith)) ∙ cond-false (87 + d == 92) _ _ (ne_eqb (87 + d) 92 (λ is. omega arith)))
 
 -- a byte of a literal after which one is still inside its quotes
-stays_quoted : (byte : ℕ) (rest : List ℕ) → next Quoted byte ≡ Quoted → tokens_from Quoted (byte ∷ rest) ≡ in_front byte (tokens_from Quoted rest)
+pub stays_quoted : (byte : ℕ) (rest : List ℕ) → next Quoted byte ≡ Quoted → tokens_from Quoted (byte ∷ rest) ≡ in_front byte (tokens_from Quoted rest)
 stays_quoted byte rest stays = ap (λ n. with_byte Quoted byte n (tokens_from n rest)) stays
 
 two_in_front : (a b : ℕ) (tokens : List (List ℕ)) → in_front a (in_front b tokens) ≡ with_front (a ∷ b ∷ []) tokens
@@ -162,7 +162,7 @@ one_in_front : (a : ℕ) (tokens : List (List ℕ)) → in_front a tokens ≡ wi
 one_in_front a [] = refl
 one_in_front a (token ∷ tokens) = refl
 
-joined_front : (xs ys : List ℕ) (tokens : List (List ℕ)) → with_front xs (with_front ys tokens) ≡ with_front (xs ++ ys) tokens
+pub joined_front : (xs ys : List ℕ) (tokens : List (List ℕ)) → with_front xs (with_front ys tokens) ≡ with_front (xs ++ ys) tokens
 joined_front xs ys [] = refl
 joined_front xs ys (token ∷ tokens) = ap (λ t. t ∷ tokens) (sym (append_assoc xs ys token))
 
@@ -182,7 +182,7 @@ escape_scanned byte _ (by_digits isnt) small rest =
     ∙ ap (with_front (92 ∷ 120 ∷ [])) (stays_quoted h (l ∷ rest) (hex_stays (byte / 16) high) ∙ ap (in_front h) (stays_quoted l rest (hex_stays (byte % 16) low)) ∙ two_in_front h l (tokens_from Quoted rest))
     ∙ joined_front (92 ∷ 120 ∷ []) (h ∷ l ∷ []) (tokens_from Quoted rest)
 
-closed_quote : (rest : List ℕ) → tokens_from Quoted (34 ∷ rest) ≡ with_front (34 ∷ []) (tokens_from Token rest)
+pub closed_quote : (rest : List ℕ) → tokens_from Quoted (34 ∷ rest) ≡ with_front (34 ∷ []) (tokens_from Token rest)
 closed_quote rest = one_in_front 34 (tokens_from Token rest)
 
 inside_scanned : (bytes : List ℕ) → AreBytes bytes → (rest : List ℕ) → tokens_from Quoted (flat_map escaped bytes ++ 34 ∷ rest) ≡ with_front (flat_map escaped bytes ++ 34 ∷ []) (tokens_from Token rest)

@@ -10,7 +10,7 @@ use Rattle.job_reader.specs.Atoms.{atom, atoms, name}
 use Rattle.job_reader.specs.CanonicalText.{atom_text, line_tokens}
 use Rattle.job_reader.specs.Faults.{both, ◌>>=◌}
 use Rattle.job_reader.specs.LineShape.{after_equals, assigned, assignment, do_form, form, formed, header, is_assignment, known, name_and_atom, name_and_kind, nothing, one_atom, one_name, outside_form, spawned, task_form, top_form, two_names}
-use Rattle.job_reader.specs.Words.{arity, do_named, do_text, kind_named, kind_text, op_named, op_text, task_named, task_text, top_named, top_text}
+use Rattle.job_reader.specs.Words.{arity, do_named, do_text, kind_named, kind_text, op_named, op_text, ops, do_words, task_named, task_text, task_words, top_named, top_text, top_words}
 use Rattle.job_reader.specs.declared.atom.Atom.{Atom}
 use Rattle.job_reader.specs.declared.fault.JobKind.{JobKind}
 use Rattle.job_reader.specs.declared.fault.JobKind.TheVariants as kind
@@ -18,7 +18,6 @@ use Rattle.job_reader.specs.declared.line.Line.{Line}
 use Rattle.job_reader.specs.declared.line.Line.TheVariants as line
 use Rattle.job_reader.specs.declared.op.Op.{Op}
 use Rattle.job_reader.specs.declared.op.Op.TheVariants as op
-use Rattle.job_reader.specs.declared.op.TheConstants.{OPS}
 use Rattle.job_reader.specs.declared.place.Place.{Place}
 use Rattle.job_reader.specs.declared.place.Place.TheVariants.{First, Top, InTask, InDo, Outside}
 use Rattle.job_reader.specs.declared.words.DoWord.{DoWord}
@@ -27,7 +26,6 @@ use Rattle.job_reader.specs.declared.words.TaskWord.{TaskWord}
 use Rattle.job_reader.specs.declared.words.TaskWord.TheVariants as task
 use Rattle.job_reader.specs.declared.words.TopWord.{TopWord}
 use Rattle.job_reader.specs.declared.words.TopWord.TheVariants as top
-use Rattle.job_reader.specs.declared.words.TheConstants.{TOP_WORDS, TASK_WORDS, DO_WORDS}
 use Rattle.job_reader.proofs.Canon.{Written, atom_canon, atoms_canon, bind_ok, both_ok, canon, found_text, is_fine, kind_canon, known_some, name_canon}
 
 one_written : (token text : List ℕ) → (text ≡ canon token) × (is_fine token ≡ true) → Written (token ∷ []) (text ∷ [])
@@ -254,7 +252,7 @@ assignment_written v (token ∷ []) l equals is = cc
 assignment_written v (token ∷ first ∷ args) l equals is =
     let found = bind_ok (known (op_named first)) (λ o. assigned v o args) l is in
     let o = found.0 in
-    let word = found_text op_text OPS first o (known_some (op_named first) o found.1) in
+    let word = found_text op_text ops first o (known_some (op_named first) o found.1) in
     let written = assigned_written v o args (length args == arity o) l found.2 in
     let sign = (bytes_eq-Decides token (codes "=")).0 equals in (
       written.0 ∙ ap (λ t. canon v ∷ canon t ∷ op_text o ∷ map canon args) (sym sign) ∙ ap (λ t. canon v ∷ canon token ∷ t ∷ map canon args) (sym (op_stays o).0 ∙ ap canon (sym word)),
@@ -265,20 +263,20 @@ statement_written : (first : List ℕ) (rest : List (List ℕ)) (b : Bool) (l : 
 statement_written first rest true l equals is = assignment_written first rest l equals is
 statement_written first rest false l equals is =
     let found = bind_ok (known (do_named first)) (λ w. do_form w rest) l is in
-    worded first (do_text found.0) rest l (found_text do_text DO_WORDS first found.0 (known_some (do_named first) found.0 found.1)) (do_stays found.0) (do_written found.0 rest l found.2)
+    worded first (do_text found.0) rest l (found_text do_text do_words first found.0 (known_some (do_named first) found.0 found.1)) (do_stays found.0) (do_written found.0 rest l found.2)
 
 form_written : (place : Place) (first : List ℕ) (rest : List (List ℕ)) (l : Line) → form place first rest ≡ Ok l → IsWritten l (first ∷ rest)
 form_written First first rest l is = header_written (first ∷ rest) l is
 form_written (Top n) first rest l is =
     let found = bind_ok (known (top_named first)) (λ w. top_form w rest) l is in
-    worded first (top_text found.0) rest l (found_text top_text TOP_WORDS first found.0 (known_some (top_named first) found.0 found.1)) (top_stays found.0) (top_written found.0 rest l found.2)
+    worded first (top_text found.0) rest l (found_text top_text top_words first found.0 (known_some (top_named first) found.0 found.1)) (top_stays found.0) (top_written found.0 rest l found.2)
 form_written InTask first rest l is =
     let found = bind_ok (known (task_named first)) (λ w. task_form w rest) l is in
-    worded first (task_text found.0) rest l (found_text task_text TASK_WORDS first found.0 (known_some (task_named first) found.0 found.1)) (task_stays found.0) (task_written found.0 rest l found.2)
+    worded first (task_text found.0) rest l (found_text task_text task_words first found.0 (known_some (task_named first) found.0 found.1)) (task_stays found.0) (task_written found.0 rest l found.2)
 form_written (InDo blocks) first rest l is = statement_written first rest (is_assignment rest) l refl is
 form_written Outside first rest l is =
     let found = bind_ok (known (top_named first)) (λ w. outside_form w rest) l is in
-    worded first (top_text found.0) rest l (found_text top_text TOP_WORDS first found.0 (known_some (top_named first) found.0 found.1)) (top_stays found.0) (outside_written found.0 rest l found.2)
+    worded first (top_text found.0) rest l (found_text top_text top_words first found.0 (known_some (top_named first) found.0 found.1)) (top_stays found.0) (outside_written found.0 rest l found.2)
 
 pub formed_written : (place : Place) (tokens : List (List ℕ)) (l : Line) → formed place tokens ≡ Ok l → IsWritten l tokens
 formed_written place [] l is = cc

@@ -45,9 +45,11 @@ abbrev pub number : List ℕ → Option ℤ
 number [] = None
 number (byte ∷ bytes) = if byte == minus then negative_number bytes else plain_number (byte ∷ bytes)
 
--- What a byte inside a literal does: where one stands after it, and the byte that is complete by it, if
--- one is. A quote closes the literal. After a backslash stand a backslash, a quote, n for a line feed,
--- t for a tab, or x and two hexadecimal digits. Nothing follows the closing quote.
+-- A literal, as it is decoded byte by byte; `StandsFor` says what it stands for.
+
+-- What a byte inside a literal does: where one stands after it, and the byte that is complete by it, if one is.
+-- A quote closes the literal. After a backslash stand a backslash, a quote, n for a line feed, t for a tab, or x
+-- and two hexadecimal digits. Nothing follows the closing quote.
 abbrev pub decode : Inside → ℕ → Option (Inside × Option ℕ)
 decode Plain byte =
     if byte == quote then Some (Closed, None)

@@ -1,5 +1,6 @@
 pub mod Characters
 pub mod Texts
+pub mod Pieces
 pub mod Tokens
 pub mod Faults
 pub mod Atoms

@@ -1,6 +1,7 @@
--- The tokens of a line. Spaces separate them. A token that begins with a quote is a literal: it goes on
--- to the next quote that has no backslash before it, and the spaces inside are its own. What follows
--- the closing quote without a space is still of the token, which is then no literal.
+-- The tokens of a line, as they are found byte by byte; `AreTokens` says what they are. Spaces separate them.
+-- A token that begins with a quote goes on to the next quote that isn't escaped, and the spaces inside are its
+-- own. A backslash inside the quotes escapes the byte after it. What follows the closing quote without a space
+-- is still of the token, which is then no literal.
 use Rattle.std.specs.Prelude.{ℕ, ◌==◌, Bool, true, false, List, [], ◌∷◌, if◌then◌else◌}
 use Rattle.job_reader.specs.Characters.{space, quote, backslash}
 use Rattle.job_reader.specs.declared.scan.Scan.{Scan}

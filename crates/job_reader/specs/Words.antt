@@ -1,17 +1,15 @@
 -- The words of the language: its operations, kinds, and the words that lines begin with.
-use Rattle.std.specs.Prelude.{ℕ, Option, List, codes, bytes_eq, find}
+use Rattle.std.specs.Prelude.{ℕ, Option, List, [], ◌∷◌, codes, bytes_eq, find}
 use Rattle.swan_model.specs.declared.value.Kind.{Kind}
 use Rattle.swan_model.specs.declared.value.Kind.TheVariants as kind
 use Rattle.job_reader.specs.declared.op.Op.{Op}
 use Rattle.job_reader.specs.declared.op.Op.TheVariants as op
-use Rattle.job_reader.specs.declared.op.TheConstants.{OPS}
 use Rattle.job_reader.specs.declared.words.TopWord.{TopWord}
 use Rattle.job_reader.specs.declared.words.TopWord.TheVariants as top
 use Rattle.job_reader.specs.declared.words.TaskWord.{TaskWord}
 use Rattle.job_reader.specs.declared.words.TaskWord.TheVariants as task
 use Rattle.job_reader.specs.declared.words.DoWord.{DoWord}
 use Rattle.job_reader.specs.declared.words.DoWord.TheVariants as step
-use Rattle.job_reader.specs.declared.words.TheConstants.{KINDS, TOP_WORDS, TASK_WORDS, DO_WORDS}
 
 abbrev pub kind_text : Kind → List ℕ
 kind_text kind.Int = codes "int"
@@ -86,18 +84,40 @@ do_text step.Else = codes "else"
 do_text step.While = codes "while"
 do_text step.End = codes "end"
 
--- what is written so, if anything is
+-- all kinds, operations, and first words of a line at the top level, of a task and of a statement
+abbrev pub kinds : List Kind
+kinds = kind.Int ∷ kind.Bytes ∷ []
+
+abbrev pub ops : List Op
+ops =
+    op.Set ∷ op.Add ∷ op.Sub ∷ op.Mul ∷ op.Div ∷ op.Rem ∷ op.Lt ∷ op.Le ∷ op.Eq ∷ op.And ∷ op.Or ∷ op.Not
+    ∷ op.Len ∷ op.At ∷ op.Slice ∷ op.Cat ∷ op.Find ∷ op.Num ∷ op.Text ∷ []
+
+abbrev pub top_words : List TopWord
+top_words = top.Input ∷ top.Output ∷ top.Object ∷ top.Task ∷ []
+
+abbrev pub task_words : List TaskWord
+task_words =
+    task.Param ∷ task.In ∷ task.Out ∷ task.InOut ∷ task.Push ∷ task.Pop ∷ task.PushPop
+    ∷ task.Var ∷ task.Queue ∷ task.Object ∷ task.Do ∷ []
+
+abbrev pub do_words : List DoWord
+do_words =
+    step.Read ∷ step.Write ∷ step.Push ∷ step.Pop ∷ step.Empty ∷ step.Spawn ∷ step.Sync ∷ step.Fuel ∷ step.Fail
+    ∷ step.If ∷ step.Else ∷ step.While ∷ step.End ∷ []
+
+-- the one of them that is written so, if one is
 abbrev pub kind_named : List ℕ → Option Kind
-kind_named token = find (λ k. bytes_eq token (kind_text k)) KINDS
+kind_named token = find (λ k. bytes_eq token (kind_text k)) kinds
 
 abbrev pub op_named : List ℕ → Option Op
-op_named token = find (λ o. bytes_eq token (op_text o)) OPS
+op_named token = find (λ o. bytes_eq token (op_text o)) ops
 
 abbrev pub top_named : List ℕ → Option TopWord
-top_named token = find (λ w. bytes_eq token (top_text w)) TOP_WORDS
+top_named token = find (λ w. bytes_eq token (top_text w)) top_words
 
 abbrev pub task_named : List ℕ → Option TaskWord
-task_named token = find (λ w. bytes_eq token (task_text w)) TASK_WORDS
+task_named token = find (λ w. bytes_eq token (task_text w)) task_words
 
 abbrev pub do_named : List ℕ → Option DoWord
-do_named token = find (λ w. bytes_eq token (do_text w)) DO_WORDS
+do_named token = find (λ w. bytes_eq token (do_text w)) do_words

@@ -14,7 +14,7 @@ use std::alloc::Global;
 use swan_model::{Listed, NoMemory, Record, Word};
 
 /// The largest number of bytes of a name.
-pub const NAME_MOST: usize = 32;
+pub(crate) const NAME_MOST: usize = 32;
 
 /// What stands in a statement in the place of a value.
 #[derive(Drop)]

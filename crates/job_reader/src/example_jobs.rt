@@ -1,7 +1,53 @@
 // The example jobs, in their canonical text.
 
-/// Jobs with every kind of line.
-pub const JOBS: [&str; 15] = [
+/// A job with every kind of line, and notes at the top, in a task and in a block.
+pub const EVERY_LINE: &str = "swan 1
+# what a job may say
+input lines
+output text bytes
+object total int
+
+task helper
+  # what it takes
+  param count int
+  in seen int
+  out done int
+  inout both bytes
+  push left bytes
+  pop right bytes
+  pushpop ring int
+  var number int
+  var word bytes
+  queue own int
+  object last bytes
+  do
+  read number seen
+  write done number
+  push left \"a\"
+  pop word right
+  empty number ring
+  number = slice word 0 -1
+  spawn 3 helper
+  sync
+  fuel number
+  if number
+    # not 0
+    fail 4
+  else
+
+    while count
+      pop number own
+    end
+  end
+end
+# between
+task main
+  do
+end
+";
+
+/// Whole jobs. The last two stand in docs/LANGUAGE.md.
+pub const JOBS: [&str; 18] = [
     "swan 1
 output out bytes
 task main
@@ -266,6 +312,110 @@ task main
     more = not none
   end
   push count n
+end
+",
+    "swan 1
+input lines
+output summary int
+object total int
+object count int
+task parse
+  param block bytes
+  push nums int
+  var from int
+  var to int
+  var piece bytes
+  var n int
+  var size int
+  var more int
+  do
+  size = len block
+  more = lt from size
+  while more
+    to = find block 32 from
+    piece = slice block from to
+    n = num piece
+    push nums n
+    from = add to 1
+    more = lt from size
+  end
+end
+task fold
+  pop nums int
+  out total int
+  out count int
+  push summary int
+  var n int
+  var sum int
+  var items int
+  var none int
+  var more int
+  do
+  empty none nums
+  more = not none
+  while more
+    pop n nums
+    sum = add sum n
+    items = add items 1
+    empty none nums
+    more = not none
+  end
+  write total sum
+  write count items
+  push summary sum
+  push summary items
+end
+task main
+  queue nums int
+  var block bytes
+  var line bytes
+  var held int
+  var none int
+  var more int
+  var full int
+  do
+  empty none lines
+  more = not none
+  while more
+    pop line lines
+    block = cat block line
+    block = cat block \" \"
+    held = add held 1
+    full = eq held 100
+    if full
+      spawn 1000 parse block nums
+      block = set \"\"
+      held = set 0
+    end
+    empty none lines
+    more = not none
+  end
+  spawn 1000 parse block nums
+  spawn 7008 fold nums total count summary
+end
+",
+    "swan 1
+output greetings bytes
+task main
+  do
+  push greetings \"Hello, world\"
+end
+",
+    "swan 1
+output squares int
+task square
+  param n int
+  push result int
+  var s int
+  do
+  s = mul n n
+  push result s
+end
+task main
+  do
+  spawn 10 square 1 squares
+  spawn 10 square 2 squares
+  push squares 0
 end
 ",
 ];

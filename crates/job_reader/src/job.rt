@@ -6,7 +6,7 @@ use crate::Line;
 use std::marker::Model;
 
 /// The largest number of lines of a job.
-pub const JOB_LINES_MOST: usize = 20_000;
+pub(crate) const JOB_LINES_MOST: usize = 20_000;
 
 /// A job: the lines of a text that has no fault. The line with number n stands at index n - 1. It keeps
 /// all that its text needs to be read back: each line has its shape, with names, notes and literals

@@ -5,13 +5,14 @@
 //! faulty line and what is wrong with it. The writer prints any job in one form, which reads back as
 //! the same job.
 //!
-//! What a text means is a relation between lines, tokens and the job, in `specs/`, from the tokens of
-//! a line up to the first fault of a text. It is meant to be read in the order of `specs/Lib.antt`,
-//! without any code beside it. Whether a job's names are known, of the right kinds and used as they
-//! may be isn't asked here.
+//! What a text means stands in `specs/`, which is meant to be read in the order of `specs/Lib.antt`, without
+//! any code beside it. What lines, tokens and literals are is said by relations over their pieces. The job of
+//! a text and its first fault are functions of the lines and tokens that are found byte by byte, and the laws
+//! `lines_are_pieces`, `tokens_are_pieces` and `literals_are_pieces` say that what is found so is what the
+//! relations say. Whether a job's names are known, of the right kinds and used as they may be isn't asked here.
 //!
-//! The reader goes over the bytes once, line by line, and stops at the first fault. The one answer
-//! that is free is want of memory.
+//! The reader goes over the text line by line, in time linear in it, and stops at the first fault. The one
+//! answer that is free is want of memory.
 #![tactic(auto)]
 
 mod atom;
@@ -40,13 +41,12 @@ mod words;
 mod write;
 mod write_atom;
 
-pub use atom::{Atom, Atoms, NAME_MOST};
+pub use atom::{Atom, Atoms};
 pub use fault::{JobFault, JobKind, ReadJob};
-pub use job::{JOB_LINES_MOST, Job};
-pub use laws::text_reads_back;
+pub use job::Job;
+pub use laws::{lines_are_pieces, literals_are_pieces, text_reads_back, tokens_are_pieces};
 pub use line::Line;
 pub use number::read_number;
 pub use op::Op;
-pub use place::{BLOCKS_MOST, INPUTS_MOST};
-pub use read::{LINE_MOST, read_job};
+pub use read::read_job;
 pub use write::write_job;

@@ -14,6 +14,7 @@ Top BadName input "a"
 Top BadLine input "a
 Top BadName input +1
 Top Ok input abcdefghijklmnopqrstuvwxyz_12345
+Top BadName input abcdefghijklmnopqrstuvwxyz_123456
 Top Ok output a int
 Top Ok output a bytes
 Top BadLine output a
@@ -39,6 +40,7 @@ Task Ok var a int
 Task Ok queue a bytes
 Task Ok object a bytes
 Task BadLine task u
+Task BadLine frob
 Task BadLine input a
 Task BadLine output a int
 Task BadLine v = set 1
@@ -80,6 +82,9 @@ Do BadLine fail
 Do BadLine if
 Do BadLine while 1 2
 Do BadLine do
+Do BadLine frob
+Do BadLine input a
+Do BadLine output a int
 Do BadLine param a int
 Do BadLine in a int
 Do BadLine out a int
@@ -113,6 +118,7 @@ Do BadName v = set ab"c
 Do BadName v = cat ab"c d"
 Do BadLine v = set "a"b
 Do BadLine v = set "abc\"
+Do Ok v = set "\\"
 Do BadLine v = set "\q"
 Do BadLine v = set "\x1"
 Do BadLine v = set "\xg0"

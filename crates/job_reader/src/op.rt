@@ -49,7 +49,7 @@ pub enum Op {
 
 impl Op {
     /// The word of the operation. `O(1)`.
-    pub fn text(self) -> &'static str
+    pub(crate) fn text(self) -> &'static str
         ensures { result.now ≡ op_text self }
     {
         match self {
@@ -76,7 +76,7 @@ impl Op {
     }
 
     /// How many atoms the operation takes. `O(1)`.
-    pub fn arity(self) -> usize
+    pub(crate) fn arity(self) -> usize
         ensures { result ≡ arity self }
     {
         match self {

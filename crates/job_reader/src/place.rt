@@ -11,10 +11,10 @@ use std::alloc::Global;
 use swan_model::NoMemory;
 
 /// The largest number of inputs of a job.
-pub const INPUTS_MOST: usize = 16;
+pub(crate) const INPUTS_MOST: usize = 16;
 
 /// The largest number of blocks that are open at once.
-pub const BLOCKS_MOST: usize = 32;
+pub(crate) const BLOCKS_MOST: usize = 32;
 
 /// A place between two lines of a job: what the lines before it say of which lines may come.
 #[derive(Drop)]

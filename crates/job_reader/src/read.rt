@@ -6,16 +6,17 @@ ghost use Rattle.job_reader.specs.Texts.{texts};
 
 use crate::fault::ReadLine;
 use crate::form::{after_equals, shape};
+use crate::job::JOB_LINES_MOST;
 use crate::lines::first_line;
 use crate::place::{BLOCKS_MOST, Place};
 use crate::scan::tokens;
 use crate::trim::{are_allowed, trimmed};
 use crate::words::is_text;
-use crate::{JOB_LINES_MOST, Job, JobFault, JobKind, Line, ReadJob};
+use crate::{Job, JobFault, JobKind, Line, ReadJob};
 use std::alloc::Global;
 
 /// The largest number of bytes of a line without its outer spaces.
-pub const LINE_MOST: usize = 4_096;
+pub(crate) const LINE_MOST: usize = 4_096;
 
 /// Whether tokens open a block after a `do`, by the first two.
 fn opens_block(first: &[u8], rest: &[&[u8]]) -> bool

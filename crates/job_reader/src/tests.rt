@@ -1,7 +1,10 @@
 // The rows of the text: what is accepted, what is refused with which line and kind, and how it is
 // written.
-use crate::example_jobs::JOBS;
-use crate::{Job, JobFault, JobKind, Line, ReadJob, read_job, text_reads_back, write_job};
+use crate::example_jobs::{EVERY_LINE, JOBS};
+use crate::{
+    Job, JobFault, JobKind, Line, ReadJob, lines_are_pieces, literals_are_pieces, read_job,
+    text_reads_back, tokens_are_pieces, write_job,
+};
 use std::alloc::{AllocError, Global};
 use std::process::Abort;
 use std::test::Fail;
@@ -94,8 +97,22 @@ fn example_jobs(rt: HostRuntime) -> Result<(), Fail> {
     assert!(rt; matches!(job.line(0), Some(Line::Header)));
     assert!(rt; matches!(job.line(5), Some(Line::End)));
     assert!(rt; matches!(job.line(6), None));
-    text_reads_back();
     Ok(())
+}
+
+#[test]
+fn a_job_with_every_kind_of_line_is_written_back(rt: HostRuntime) {
+    let again = rewritten(&rt, rt.alloc(), EVERY_LINE);
+    assert_eq!(rt; str::from_utf8(again.as_slice()).ok(), Some(EVERY_LINE));
+}
+
+/// The laws are calls that do nothing.
+#[test]
+fn laws(_rt: HostRuntime) {
+    lines_are_pieces();
+    tokens_are_pieces();
+    literals_are_pieces();
+    text_reads_back();
 }
 
 /// Whole texts: the line that is refused, the kind, and the text with / in the place of line feeds.
@@ -112,6 +129,9 @@ const TEXTS: &str = r#"1 BadHeader
 5 BadLine swan 1/task t/do/end/end/
 5 BadLine swan 1/task t/do/end/else/
 5 BadLine swan 1/task t/do/end/input a/
+5 BadLine swan 1/task t/do/end/output a int/
+5 BadLine swan 1/task t/do/end/object a int/
+5 BadLine swan 1/task t/do/end/do/
 0 Ok swan 1/task t/do/end/# a note//task t/do/end
 7 Unbalanced swan 1/task t/do/end/task t/do/# a note
 0 Ok swan 1/task t/do/if 1/else/end/end/
@@ -217,8 +237,10 @@ fn texts(rt: HostRuntime) -> Result<(), Fail> {
 fn bytes(rt: HostRuntime) -> Result<(), Fail> {
     for text in [
         "swan 1\n\t#\n",
+        "swan 1\ninput\ta\n",
+        "swan 1\ninput a\r\n",
         "swan 1\n\r\n\t",
-        "swan 1\n\u{e9}",
+        "swan 1\n# caf\u{e9}",
         "swan 1\n\u{7f}\u{0}",
     ] {
         let found = refusal(&rt, rt.alloc(), text.as_bytes());
@@ -297,6 +319,31 @@ fn limits(rt: HostRuntime) -> Result<(), Fail> {
             "{count}"
         );
     }
+    Ok(())
+}
+
+/// Past a limit only what would be one more is Limit: an input after a task stands where none may, and an
+/// `if` whose second token is a literal is no assignment.
+#[test]
+fn limits_go_by_what_would_be_one_more(rt: HostRuntime) -> Result<(), Fail> {
+    let inputs = repeated(
+        rt.alloc(),
+        "swan 1\n",
+        "input a\n",
+        16,
+        "task main\ndo\nend\ninput x\n",
+    )?;
+    let found = refusal(&rt, rt.alloc(), inputs.as_str().as_bytes());
+    assert_eq!(rt; found, Some((21, JobKind::BadLine)));
+    let blocks = repeated(
+        rt.alloc(),
+        "swan 1\ntask t\ndo\n",
+        "while 1\n",
+        32,
+        "if \"=\" 1\n",
+    )?;
+    let found = refusal(&rt, rt.alloc(), blocks.as_str().as_bytes());
+    assert_eq!(rt; found, Some((36, JobKind::Limit)));
     Ok(())
 }
 
