@@ -36,14 +36,6 @@ impl CheckedJob {
     {
         &self.job
     }
-
-    /// The job, without a copy. It takes no memory. `O(1)`.
-    pub fn into_job(self) -> Job
-        ensures job { result ≡ self }
-        ensures faultless { first_fault self ≡ None }
-    {
-        self.job
-    }
 }
 
 /// Why there is no checked job.
@@ -75,8 +67,8 @@ fn first_fault(alloc: Global, lines: &[Line]) -> Result<Option<JobFault>, NoMemo
 
 /// The same job, checked. Refused comes exactly where a line has a fault of names, kinds or rights,
 /// or where there is no task `main`, and names the first faulty line with the first fault that it has.
-/// `O(n log n)` for all names and values of the job, and an allocation or two for each declaration and
-/// for each object or queue that a spawn gives.
+/// `O(n log n)` for all names and values of the job, and an allocation now and then for what is
+/// declared and for what spawns give. Names aren't copied.
 pub fn check(alloc: Global, job: Job) -> Result<CheckedJob, CheckJob>
     ensures job { IfOk result (λ checked. checked ≡ job) }
     ensures accepted { OnOk result (first_fault job ≡ None) }

@@ -1,9 +1,8 @@
 // What a check has found out.
 ghost use Rattle.std.specs.Prelude.{◌≡◌, Some, OnOk, bytes_eq, codes};
-ghost use Rattle.std.specs.BTreeMap.{get_by_text};
 ghost use Rattle.std.specs.Map.{update};
 ghost use Rattle.std.specs.Option.{option_copied};
-ghost use Rattle.privilege_check.specs.Checking.{state_of};
+ghost use Rattle.privilege_check.specs.Checking.{by_name, state_of};
 ghost use Rattle.privilege_check.specs.Names.{after, at_start, declared, is_main, known, opened, taken, with_next, with_taken};
 ghost use Rattle.privilege_check.specs.FirstFault.{has_main, is_in_main};
 
@@ -13,18 +12,18 @@ use std::alloc::Global;
 use std::collections::BTreeMap;
 use swan_model::{Kind, Listed, Mode, NoMemory, Word};
 
-/// What the lines so far say.
+/// What the lines so far say. Names are those of the lines, which aren't copied.
 #[derive(Drop)]
-pub struct Checker {
+pub struct Checker<'a> {
     alloc: Global,
     /// The names of the top level.
-    top: BTreeMap<String, Meaning>,
+    top: BTreeMap<&'a str, Meaning>,
     /// The task that was opened last.
-    open_task: Option<Word>,
+    open_task: Option<&'a Word>,
     /// The names that it declares.
-    own: BTreeMap<String, Meaning>,
+    own: BTreeMap<&'a str, Meaning>,
     /// What each task takes.
-    tasks: BTreeMap<String, Listed<Meaning>>,
+    tasks: BTreeMap<&'a str, Listed<Meaning>>,
 }
 
 /// Whether a task is `main`.
@@ -34,26 +33,25 @@ pub fn is_main(task: &Word) -> bool
     task.as_str() == "main"
 }
 
-/// Sets what a name stands for. `O(log names)`, and an allocation or two.
-fn set<V: Drop>(
-    alloc: Global,
-    names: &mut BTreeMap<String, V>,
-    name: &Word,
+/// Sets what a name stands for. `O(log names)`, and an allocation now and then.
+fn set<'a, V: Drop>(
+    names: &mut BTreeMap<&'a str, V>,
+    name: &'a Word,
     value: V,
 ) -> Result<(), NoMemory>
-    ensures { OnOk result (get_by_text names.new ≡ update bytes_eq (get_by_text names.old) name.now (Some value)) }
+    ensures { OnOk result (by_name names.new ≡ update bytes_eq (by_name names.old) name.now (Some value)) }
 {
-    names.insert(String::from_str(alloc, name.as_str())?, value)?;
+    names.insert(name.as_str(), value)?;
     Ok(())
 }
 
 /// Adds to what a task takes, if it is known. `O(log tasks)`.
-fn take_next(
-    tasks: &mut BTreeMap<String, Listed<Meaning>>,
+fn take_next<'a>(
+    tasks: &mut BTreeMap<&'a str, Listed<Meaning>>,
     task: &Word,
     meaning: Meaning,
 ) -> Result<(), NoMemory>
-    ensures { OnOk result (get_by_text tasks.new ≡ with_next task.now meaning (get_by_text tasks.old)) }
+    ensures { OnOk result (by_name tasks.new ≡ with_next task.now meaning (by_name tasks.old)) }
 {
     let Some(takes) = tasks.get_mut(task.as_str()) else {
         return Ok(());
@@ -64,9 +62,9 @@ fn take_next(
     }
 }
 
-impl Checker {
+impl<'a> Checker<'a> {
     /// Before the first line. It takes no memory. `O(1)`.
-    pub fn new(alloc: Global) -> Checker
+    pub fn new(alloc: Global) -> Checker<'a>
         ensures { state_of result ≡ at_start }
     {
         Checker {
@@ -89,7 +87,7 @@ impl Checker {
     pub fn meaning(&self, name: &Word) -> Option<Meaning>
         ensures { result ≡ known (state_of self.now) name.now }
     {
-        let Some(task) = &self.open_task else {
+        let Some(task) = self.open_task else {
             return self.top.get(name.as_str()).copied();
         };
         match self.own.get(name.as_str()) {
@@ -103,7 +101,7 @@ impl Checker {
     pub fn is_in_main(&self) -> bool
         ensures { result ≡ is_in_main (state_of self.now).open_task }
     {
-        match &self.open_task {
+        match self.open_task {
             None => false,
             Some(task) => is_main(task),
         }
@@ -129,8 +127,8 @@ impl Checker {
         }
     }
 
-    /// Adds what a line says. `O(log names)`, and an allocation or two.
-    pub fn learn(&mut self, line: &Line) -> Result<(), NoMemory>
+    /// Adds what a line says. `O(log names)`, and an allocation now and then.
+    pub fn learn(&mut self, line: &'a Line) -> Result<(), NoMemory>
         ensures { OnOk result (state_of self.new ≡ after (state_of self.old) line.now) }
     {
         match line {
@@ -147,13 +145,13 @@ impl Checker {
     }
 
     /// Adds a name at the top level, or to the open task.
-    fn declare(&mut self, name: &Word, meaning: Meaning) -> Result<(), NoMemory>
+    fn declare(&mut self, name: &'a Word, meaning: Meaning) -> Result<(), NoMemory>
         ensures { OnOk result (state_of self.new ≡ declared name.now meaning (state_of self.old)) }
     {
         if self.open_task.is_some() {
-            set(self.alloc, &mut self.own, name, meaning)
+            set(&mut self.own, name, meaning)
         } else {
-            set(self.alloc, &mut self.top, name, meaning)
+            set(&mut self.top, name, meaning)
         }
     }
 
@@ -161,7 +159,7 @@ impl Checker {
     fn take(&mut self, meaning: Meaning) -> Result<(), NoMemory>
         ensures { OnOk result (state_of self.new ≡ with_taken meaning (state_of self.old)) }
     {
-        let Some(task) = &self.open_task else {
+        let Some(task) = self.open_task else {
             return Ok(());
         };
         take_next(&mut self.tasks, task, meaning)?;
@@ -169,7 +167,7 @@ impl Checker {
     }
 
     /// Adds a name that the open task takes.
-    fn declare_taken(&mut self, name: &Word, meaning: Meaning) -> Result<(), NoMemory>
+    fn declare_taken(&mut self, name: &'a Word, meaning: Meaning) -> Result<(), NoMemory>
         ensures { OnOk result (state_of self.new ≡ taken name.now meaning (state_of self.old)) }
     {
         self.declare(name, meaning)?;
@@ -178,11 +176,11 @@ impl Checker {
     }
 
     /// Opens a task.
-    fn open(&mut self, task: &Word) -> Result<(), NoMemory>
+    fn open(&mut self, task: &'a Word) -> Result<(), NoMemory>
         ensures { OnOk result (state_of self.new ≡ opened task.now (state_of self.old)) }
     {
-        set(self.alloc, &mut self.tasks, task, Listed::new(self.alloc))?;
-        self.open_task = Some(Word::of(self.alloc, task.as_str())?);
+        set(&mut self.tasks, task, Listed::new(self.alloc))?;
+        self.open_task = Some(task);
         self.own = BTreeMap::new(self.alloc);
         Ok(())
     }

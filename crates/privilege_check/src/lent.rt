@@ -1,7 +1,8 @@
 // What a spawn lends to a child.
 ghost use Rattle.std.specs.Prelude.{◌≡◌, IfOk, OnOk, Some, bytes_eq, length};
 ghost use Rattle.std.specs.Map.{update};
-ghost use Rattle.privilege_check.specs.Lending.{clashes, modes_of};
+ghost use Rattle.privilege_check.specs.Checking.{by_name};
+ghost use Rattle.privilege_check.specs.Lending.{clashes};
 ghost use Rattle.privilege_check.specs.Spawns.{is_lent_twice, lent};
 
 use crate::meaning::Meaning;
@@ -22,8 +23,8 @@ fn clashes(mode: Mode, other: Option<Mode>) -> bool
 
 /// Lends a name once more, and whether that clashes with how it was lent last. `O(log names)`.
 fn lend<'a>(lent: &mut BTreeMap<&'a str, Mode>, name: &'a str, mode: Mode) -> Result<bool, NoMemory>
-    ensures clash { IfOk result (λ clash. clash ≡ clashes mode (modes_of lent.old name.now)) }
-    ensures lent { OnOk result (modes_of lent.new ≡ update bytes_eq (modes_of lent.old) name.now (Some mode)) }
+    ensures clash { IfOk result (λ clash. clash ≡ clashes mode (by_name lent.old name.now)) }
+    ensures lent { OnOk result (by_name lent.new ≡ update bytes_eq (by_name lent.old) name.now (Some mode)) }
 {
     let clash = clashes(mode, lent.get(name).copied());
     lent.insert(name, mode)?;

@@ -10,7 +10,7 @@ use crate::refusal::CheckLine;
 use job_reader::{Atom, JobKind, Line};
 use swan_model::{Kind, Mode, Word};
 
-impl Checker {
+impl Checker<'_> {
     /// A name that is declared. Duplicate comes exactly where it is known. `O(log names)`.
     fn fresh(&self, name: &Word) -> Result<(), JobKind>
         ensures { result ≡ fresh (known (state_of self.now) name.now) }

@@ -44,7 +44,7 @@ fn later_kind(op: Op, first: Kind) -> Kind
     }
 }
 
-impl Checker {
+impl Checker<'_> {
     /// The kind of a variable. Unknown or Kind comes exactly where the name isn't one of the kind that
     /// is asked. `O(log names)`.
     pub fn variable(&self, asked: Option<Kind>, name: &Word) -> Result<Kind, JobKind>

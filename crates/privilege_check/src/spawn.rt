@@ -11,7 +11,7 @@ use crate::refusal::CheckLine;
 use job_reader::{Atom, JobKind};
 use swan_model::{Kind, Word};
 
-impl Checker {
+impl Checker<'_> {
     /// An argument for what a task takes: an atom for a variable, and else a name with the rights.
     /// `O(log names)`.
     fn argument(&self, taken: Meaning, atom: &Atom) -> Result<Kind, JobKind>
