@@ -27,7 +27,7 @@ seen-after : (i : ℕ) (names : List (List ℕ)) (scope : Scope) (blocks : List 
 seen-after i names scope blocks (line.Task name) = refl
 seen-after i names scope blocks line = simp (flat_map-append, append-nil)
 
-scope-push : (scope : Scope) (lines : List Line) (line : Line) → scope_from scope (lines ++ line ∷ []) ≡ scope_after (scope_from scope lines) line
+pub scope-push : (scope : Scope) (lines : List Line) (line : Line) → scope_from scope (lines ++ line ∷ []) ≡ scope_after (scope_from scope lines) line
 scope-push scope [] line = refl
 scope-push scope (first ∷ lines) line = scope-push (scope_after scope first) lines line
 
@@ -37,7 +37,7 @@ blocks-push i blocks (first ∷ lines) line =
     blocks-push (i + 1) (blocks_after i blocks first) lines line
     ∙ ap (λ k. blocks_after k (blocks_from (i + 1) (blocks_after i blocks first) lines) line) (omega arith)
 
-take-push : {A : Type 0} (xs : List A) (i : ℕ) (x : A) → slice_get xs i ≡ Some x → take (i + 1) xs ≡ take i xs ++ x ∷ []
+pub take-push : {A : Type 0} (xs : List A) (i : ℕ) (x : A) → slice_get xs i ≡ Some x → take (i + 1) xs ≡ take i xs ++ x ∷ []
 take-push [] i x h = absurd (cc)
 take-push (y ∷ ys) zero x h = let same : y ≡ x = cc in ap (λ z. z ∷ []) same
 take-push (y ∷ ys) (suc i) x h = simp unary_clauses (simp unary_clauses at (ap (λ zs. y ∷ zs) (take-push ys i x h)))

@@ -1,4 +1,5 @@
--- The places of names in a list, by a map from names to them.
+-- The places of names in a list, by a map from names to them. The code alone is stated by this, and no
+-- public clause.
 use Rattle.std.specs.Prelude.{String, ◌≡◌, ℕ, ◌+◌, ◌≤◌, ◌^◌, ◌-◌, suc, Option, Some, None, List, [], ◌∷◌, length, bytes_eq, option_map, is_some, if◌then◌else◌}
 use Rattle.std.specs.BTreeMap.{BTreeMap, get_by_text}
 

@@ -33,6 +33,11 @@ value_of values (operand.Int n) = Int n
 value_of values (operand.Bytes bytes) = Bytes bytes
 value_of values (operand.Variable i) = value_in values (Some i)
 
+-- the record that a value is, where it is one
+abbrev pub record_of : Value → Option (List ℕ)
+record_of (Int n) = None
+record_of (Bytes bytes) = Some bytes
+
 -- the values once an answer has come
 abbrev pub set_by : List Value → Option ℕ → Value → List Value
 set_by values to new = if is_kind (kind_of (value_in values to)) (kind_of new) then with_slot values to new else values

@@ -2,7 +2,7 @@
 ghost use Rattle.std.specs.Prelude.{◌≡◌, ◌<◌, ◌≤◌, length, flat_map, slice_get, zip, IfOk};
 ghost use Rattle.job_body.specs.Compiled.{after_end_of, deed_of, end_deed, give_given, instruction_of, next_of, or_zero, param_given, program_of, spawn_of, task_named};
 ghost use Rattle.job_body.specs.Blocks.{innermost};
-ghost use Rattle.job_body.specs.Tasks.{before_task, executed_from, is_executed, passed_over, var_kinds};
+ghost use Rattle.job_body.specs.Tasks.{before_task, var_kinds};
 
 use crate::block::Block;
 use crate::exit::Exit;
@@ -11,48 +11,12 @@ use crate::instruction::{Deed, Instruction, Operand};
 use crate::narrow::narrow;
 use crate::roots::roots_of;
 use crate::scope::Scope;
+use crate::source::{Source, firsts_of};
 use crate::take::Take;
 use crate::tasks::Tasks;
 use job_reader::{Atom, Atoms, Line};
 use std::alloc::Global;
 use swan_model::{GIVES_MOST, Give, Gives, Kind, Listed, NoMemory, Word};
-
-/// Whether a line is a step.
-#[tactic(auto, unfolding(crate::specs::Tasks::is_executed))]
-fn is_executed(line: &Line) -> bool
-    ensures { result ≡ is_executed line.now }
-{
-    match line {
-        Line::Note(_) | Line::Header | Line::Input(_) | Line::Output(_, _) | Line::Task(_) => false,
-        Line::Param(_, _) | Line::Access(_, _, _) | Line::Var(_, _) | Line::Do => false,
-        _ => true,
-    }
-}
-
-/// How many lines are passed over before the first step.
-fn passed_over(lines: &[Line]) -> usize
-    ensures most { result ≤ length lines.now }
-    ensures passed { result ≡ passed_over lines.now }
-{
-    let mut count = 0;
-    for line in lines {
-        if is_executed(line) {
-            break;
-        }
-        count += 1;
-    }
-    count
-}
-
-/// The index of the first step from this index on. `O(lines passed over)`.
-fn executed_from(lines: &[Line], from: usize) -> Result<u32, NoMemory>
-    ensures { IfOk result (λ index. index ≡ executed_from lines.now from) }
-{
-    if from > lines.len() {
-        return narrow(from);
-    }
-    narrow(from + passed_over(&lines[from..]))
-}
 
 /// The kinds of the variables of the task whose lines stand first among these.
 fn kinds_of(alloc: Global, lines: &[Line]) -> Result<Listed<Kind>, NoMemory>
@@ -163,18 +127,18 @@ fn end_of(scope: &Scope) -> Deed
 /// What a line does.
 fn deed_of(
     alloc: Global,
-    lines: &[Line],
+    job: &Source,
     tasks: &Tasks,
     scope: &Scope,
     exit: Exit,
     index: usize,
     line: &Line,
 ) -> Result<Deed, NoMemory>
-    requires { index < length lines.now }
-    ensures { IfOk result (λ deed. deed ≡ deed_of lines.now tasks.now scope.now exit index line.now) }
+    requires { index < length job.now }
+    ensures { IfOk result (λ deed. deed ≡ deed_of job.now tasks.now scope.now exit index line.now) }
 {
     match line {
-        Line::Task(_) => Ok(Deed::Begin(kinds_of(alloc, &lines[index + 1..])?)),
+        Line::Task(_) => Ok(Deed::Begin(kinds_of(alloc, &job.lines()[index + 1..])?)),
         Line::Queue(_, _) => Ok(Deed::NewQueue),
         Line::Object(_, kind) => Ok(Deed::NewObject(*kind)),
         Line::Assign(v, op, args) => Ok(Deed::Assign(
@@ -189,62 +153,71 @@ fn deed_of(
         Line::Push(q, a) => Ok(Deed::Push(scope.place(q)?, scope.operand(a)?)),
         Line::Pop(v, q) => Ok(Deed::Pop(scope.slot(v)?, scope.place(q)?)),
         Line::Empty(v, q) => Ok(Deed::Empty(scope.slot(v)?, scope.place(q)?)),
-        Line::Spawn(fuel, task, args) => spawn_of(alloc, lines, tasks, scope, fuel, task, args),
+        Line::Spawn(fuel, task, args) => spawn_of(
+            alloc,
+            job.lines(),
+            tasks,
+            scope,
+            fuel,
+            task,
+            args,
+        ),
         Line::Sync => Ok(Deed::Sync),
         Line::Fuel(v) => Ok(Deed::Fuel(scope.slot(v)?)),
         Line::Fail(a) => Ok(Deed::Fail(scope.operand(a)?)),
-        Line::If(a) => Ok(Deed::Branch(scope.operand(a)?, executed_from(lines, exit.otherwise)?)),
+        Line::If(a) => Ok(Deed::Branch(scope.operand(a)?, job.step_from(exit.otherwise)?)),
         Line::Else => Ok(Deed::Go),
-        Line::While(a) => Ok(Deed::Branch(scope.operand(a)?, executed_from(lines, exit.after)?)),
+        Line::While(a) => Ok(Deed::Branch(scope.operand(a)?, job.step_from(exit.after)?)),
         Line::End => Ok(end_of(scope)),
         _ => Ok(Deed::Finish),
     }
 }
 
 /// Where the task goes on after an `end`.
-fn after_end_of(lines: &[Line], index: usize, block: Option<Block>) -> Result<u32, NoMemory>
-    requires { index < length lines.now }
-    ensures { IfOk result (λ next. next ≡ after_end_of lines.now index block) }
+fn after_end_of(job: &Source, index: usize, block: Option<Block>) -> Result<u32, NoMemory>
+    requires { index < usize.MAX }
+    ensures { IfOk result (λ next. next ≡ after_end_of job.now index block) }
 {
     match block {
-        Some(Block::While(opener)) => executed_from(lines, opener),
-        _ => executed_from(lines, index + 1),
+        Some(Block::While(opener)) => job.step_from(opener),
+        _ => job.step_from(index + 1),
     }
 }
 
 /// Where the task goes on after a line.
 fn next_of(
-    lines: &[Line],
+    job: &Source,
     scope: &Scope,
     exit: Exit,
     index: usize,
     line: &Line,
 ) -> Result<u32, NoMemory>
-    requires { index < length lines.now }
-    ensures { IfOk result (λ next. next ≡ next_of lines.now scope.now exit index line.now) }
+    requires { index < usize.MAX }
+    ensures { IfOk result (λ next. next ≡ next_of job.now scope.now exit index line.now) }
 {
     match line {
-        Line::Else => executed_from(lines, exit.after),
-        Line::End => after_end_of(lines, index, scope.blocks.innermost()),
-        _ => executed_from(lines, index + 1),
+        Line::Else => job.step_from(exit.after),
+        Line::End => after_end_of(job, index, scope.blocks.innermost()),
+        _ => job.step_from(index + 1),
     }
 }
 
 /// The instruction of a line.
 fn instruction_of(
     alloc: Global,
-    lines: &[Line],
+    job: &Source,
     tasks: &Tasks,
     scope: &Scope,
     exit: Exit,
     index: usize,
     line: &Line,
 ) -> Result<Instruction, NoMemory>
-    requires { index < length lines.now }
-    ensures { IfOk result (λ it. it ≡ instruction_of lines.now tasks.now scope.now exit index line.now) }
+    requires within { index < length job.now }
+    requires fits { index < usize.MAX }
+    ensures { IfOk result (λ it. it ≡ instruction_of job.now tasks.now scope.now exit index line.now) }
 {
-    let deed = deed_of(alloc, lines, tasks, scope, exit, index, line)?;
-    let next = next_of(lines, scope, exit, index, line)?;
+    let deed = deed_of(alloc, job, tasks, scope, exit, index, line)?;
+    let next = next_of(job, scope, exit, index, line)?;
     Ok(Instruction { deed, next })
 }
 
@@ -254,10 +227,11 @@ pub fn program_of(alloc: Global, lines: &[Line]) -> Result<Listed<Instruction>, 
 {
     let tasks = Tasks::of(alloc, lines)?;
     let exits = exits_of(alloc, lines)?;
+    let job = Source::new(lines, firsts_of(alloc, lines)?);
     let mut scope = Scope::new(alloc, roots_of(alloc, lines)?);
     let mut program = Listed::new(alloc);
     for (index, line) in lines.iter().enumerate() {
-        let instruction = instruction_of(alloc, lines, &tasks, &scope, exits[index], index, line)?;
+        let instruction = instruction_of(alloc, &job, &tasks, &scope, exits[index], index, line)?;
         if program.push(instruction).is_err() {
             return Err(NoMemory);
         }

@@ -5,10 +5,14 @@
 //! for each executed line.
 //!
 //! What a step means is a definition over the lines of the job, in `specs/`: it speaks of lines, names
-//! and values. It is meant to be read in the order of `specs/Lib.antt`, without any code beside it.
+//! and values. Its files come first in `specs/Lib.antt`, and are meant to be read in that order without
+//! any code beside them. By the files after them the code alone is stated.
 //! When the plan is made, the lines become instructions, which know the places of their variables,
 //! objects and queues and the lines at which they go on. So a step costs the same in a long job as in a
 //! short one.
+//!
+//! A checked job keeps to the rights of its tasks: in the elision of its plan no fault is one of rights.
+//! `plan_of` says so of each plan, and the law `rights_are_kept` of each job that has no fault.
 //!
 //! Each call answers exactly what its clauses say; the one answer that is free everywhere is want of
 //! memory.
@@ -21,16 +25,19 @@ mod compile;
 mod exit;
 mod exits;
 mod instruction;
+mod laws;
 mod lines;
 mod local;
 mod name_table;
 mod names;
 mod narrow;
 mod operation;
+mod outcome;
 mod plan;
 mod roots;
 mod run;
 mod scope;
+mod source;
 mod take;
 mod tasks;
 #[cfg(test)]
@@ -38,6 +45,7 @@ mod tests;
 
 pub use answer::PlanAnswer;
 pub use body::JobBody;
+pub use laws::rights_are_kept;
 pub use local::JobLocal;
 pub use names::names_of;
 pub use plan::plan_of;

@@ -1,8 +1,8 @@
 // Locals of activations.
 use crate::instruction::{Deed, Operand};
-use crate::operation::flag;
+use crate::operation::{flag, number_of};
 use std::marker::Model;
-use swan_model::{Answer, Kind, NoMemory, Value};
+use swan_model::{Answer, Kind, NoMemory, Record, Value};
 
 /// What an activation of a job keeps between its steps: where it stands, and the values of its
 /// variables. Contracts see it as a standing of the definitions.
@@ -22,8 +22,11 @@ impl Model for JobLocal {
 }
 
 impl JobLocal {
-    ghost use Rattle.std.specs.Prelude.{◌≡◌, ◌+◌, IfOk};
-    ghost use Rattle.job_body.specs.Runs.{answered, gone, set_by, value_in, value_of, with_slot};
+    ghost use Rattle.std.specs.Prelude.{◌≡◌, ◌≤◌, ◌+◌, length, IfOk};
+    ghost use Rattle.std.specs.Option.{option_copied};
+    ghost use Rattle.job_body.specs.Operations.{bytes_of, is_true, number_of};
+    ghost use Rattle.job_body.specs.Runs.{answered, gone, record_of, set_by, value_in, value_of, with_slot};
+    ghost use Rattle.swan_model.specs.declared.record.TheConstants.{RECORD_MOST};
     ghost use Rattle.swan_model.specs.Values.{kind_of};
 
     /// A local with these parts. `O(1)`.
@@ -48,6 +51,7 @@ impl JobLocal {
     }
 
     /// The value of an operand. A record shares its bytes. `O(1)`.
+    #[inline(always)]
     pub(crate) fn value(&self, operand: &Operand) -> Result<Value, NoMemory>
         ensures { IfOk result (λ it. it ≡ value_of self.now.values operand.now) }
     {
@@ -58,6 +62,53 @@ impl JobLocal {
                 Some(value) => value.copy(),
                 None => Ok(Value::Int(0)),
             },
+        }
+    }
+
+    /// The number that an operand means; 0 where it means bytes. `O(1)`.
+    #[inline(always)]
+    pub(crate) fn number(&self, operand: &Operand) -> i64
+        ensures { result ≡ number_of (value_of self.now.values operand.now) }
+    {
+        match operand {
+            Operand::Int(number) => *number,
+            Operand::Bytes(_) => 0,
+            Operand::Variable(slot) => match self.values.get(*slot as usize) {
+                Some(value) => number_of(value),
+                None => 0,
+            },
+        }
+    }
+
+    /// Whether an operand means a number that is true. `O(1)`.
+    pub(crate) fn is_true(&self, operand: &Operand) -> bool
+        ensures { result ≡ is_true (value_of self.now.values operand.now) }
+    {
+        self.number(operand) != 0
+    }
+
+    /// The record that an operand means; None where it means a number. `O(1)`.
+    pub(crate) fn record<'a>(&'a self, operand: &'a Operand) -> Option<&'a Record>
+        ensures { option_copied result ≡ record_of (value_of self.now.values operand.now) }
+    {
+        match operand {
+            Operand::Int(_) => None,
+            Operand::Bytes(record) => Some(record),
+            Operand::Variable(slot) => match self.values.get(*slot as usize) {
+                Some(Value::Bytes(record)) => Some(record),
+                _ => None,
+            },
+        }
+    }
+
+    /// The bytes that an operand means; none where it means a number. `O(1)`.
+    pub(crate) fn bytes<'a>(&'a self, operand: &'a Operand) -> &'a [u8]
+        ensures bytes { result.now ≡ bytes_of (value_of self.now.values operand.now) }
+        ensures most { length result.now ≤ RECORD_MOST }
+    {
+        match self.record(operand) {
+            Some(record) => record.as_slice(),
+            None => &[],
         }
     }
 
@@ -75,6 +126,7 @@ impl JobLocal {
     }
 
     /// Sets a slot, where it is there. `O(1)`.
+    #[inline(always)]
     pub(crate) fn set(&mut self, slot: Option<u32>, value: Value)
         ensures { self.new ≡ record self.old { values = with_slot self.old.values slot value } }
     {
@@ -118,7 +170,7 @@ impl JobLocal {
     }
 
     /// The number of the line at which the activation stands, from 1 on. `O(1)`.
-    pub fn line(&self) -> u64
+    pub(crate) fn line(&self) -> u64
         ensures { result ≡ self.now.at + 1 }
     {
         u64::from(self.at) + 1

@@ -19,24 +19,6 @@ pub fn number_of(value: &Value) -> i64
     }
 }
 
-/// A value where bytes are asked.
-fn bytes_of(value: &Value) -> &[u8]
-    ensures bytes { result.now ≡ bytes_of value.now }
-    ensures most { length result.now ≤ RECORD_MOST }
-{
-    match value {
-        Value::Int(_) => &[],
-        Value::Bytes(record) => record.as_slice(),
-    }
-}
-
-/// Whether a value is true.
-pub fn is_true(value: &Value) -> bool
-    ensures { result ≡ is_true value.now }
-{
-    number_of(value) != 0
-}
-
 /// The number that says yes or no.
 pub fn flag(yes: bool) -> Value
     ensures { result ≡ flag yes }
@@ -44,7 +26,7 @@ pub fn flag(yes: bool) -> Value
     Value::Int(if yes { 1 } else { 0 })
 }
 
-fn sum(a: i64, b: i64) -> Result<Value, Trouble>
+pub fn sum(a: i64, b: i64) -> Result<Value, Trouble>
     ensures { result ≡ fitting (a +ℤ b) }
 {
     match a.checked_add(b) {
@@ -53,7 +35,7 @@ fn sum(a: i64, b: i64) -> Result<Value, Trouble>
     }
 }
 
-fn difference(a: i64, b: i64) -> Result<Value, Trouble>
+pub fn difference(a: i64, b: i64) -> Result<Value, Trouble>
     ensures { result ≡ fitting (a -ℤ b) }
 {
     match a.checked_sub(b) {
@@ -62,7 +44,7 @@ fn difference(a: i64, b: i64) -> Result<Value, Trouble>
     }
 }
 
-fn product(a: i64, b: i64) -> Result<Value, Trouble>
+pub fn product(a: i64, b: i64) -> Result<Value, Trouble>
     ensures { result ≡ fitting (a *ℤ b) }
 {
     match a.checked_mul(b) {
@@ -71,7 +53,7 @@ fn product(a: i64, b: i64) -> Result<Value, Trouble>
     }
 }
 
-fn quotient(a: i64, b: i64) -> Result<Value, Trouble>
+pub fn quotient(a: i64, b: i64) -> Result<Value, Trouble>
     ensures { result ≡ quotient a b }
 {
     if b == 0 {
@@ -83,7 +65,7 @@ fn quotient(a: i64, b: i64) -> Result<Value, Trouble>
     }
 }
 
-fn rest(a: i64, b: i64) -> Result<Value, Trouble>
+pub fn rest(a: i64, b: i64) -> Result<Value, Trouble>
     ensures { result ≡ rest a b }
 {
     if b == 0 {
@@ -95,17 +77,6 @@ fn rest(a: i64, b: i64) -> Result<Value, Trouble>
     Ok(Value::Int(a % b))
 }
 
-/// Whether two values are the same.
-fn is_equal(a: &Value, b: &Value) -> bool
-    ensures { result ≡ is_equal a.now b.now }
-{
-    match (a, b) {
-        (Value::Int(a), Value::Int(b)) => *a == *b,
-        (Value::Bytes(a), Value::Bytes(b)) => a.as_slice() == b.as_slice(),
-        _ => false,
-    }
-}
-
 /// A number that isn't negative and at most this.
 fn up_to(most: usize, number: i64) -> Option<usize>
     ensures { result ≡ up_to most number }
@@ -115,7 +86,7 @@ fn up_to(most: usize, number: i64) -> Option<usize>
 }
 
 /// The byte at a place, as a number.
-fn byte_at(bytes: &[u8], i: i64) -> Result<Value, Trouble>
+pub fn byte_at(bytes: &[u8], i: i64) -> Result<Value, Trouble>
     ensures { result ≡ byte_at bytes.now i }
 {
     let Ok(i) = usize::try_from(i) else {
@@ -138,18 +109,17 @@ fn record_of(alloc: Global, bytes: &[u8]) -> Result<Result<Value, Trouble>, NoMe
     }
 }
 
-/// The bytes from the place i on up to, without, the place j.
-fn part(alloc: Global, bytes: &[u8], i: i64, j: i64) -> Result<Result<Value, Trouble>, NoMemory>
-    requires { length bytes.now ≤ RECORD_MOST }
-    ensures { IfOk result (λ it. it ≡ part bytes.now i j) }
+/// The bytes from the place i on up to, without, the place j. They are shared. `O(1)`.
+pub fn part(whole: &Record, i: i64, j: i64) -> Result<Result<Value, Trouble>, NoMemory>
+    ensures { IfOk result (λ it. it ≡ part whole.now i j) }
 {
-    let Some(to) = up_to(bytes.len(), j) else {
+    let Some(to) = up_to(whole.as_slice().len(), j) else {
         return Ok(Err(Trouble::Range));
     };
     let Some(from) = up_to(to, i) else {
         return Ok(Err(Trouble::Range));
     };
-    record_of(alloc, &bytes[from..to])
+    Ok(Ok(Value::Bytes(whole.part(from, to)?)))
 }
 
 /// The first place at which a byte stands.
@@ -172,7 +142,7 @@ fn place_from(bytes: &[u8], byte: usize, from: usize) -> i64
 }
 
 /// The least place from i on at which the byte c stands, or -1.
-fn found(bytes: &[u8], c: i64, i: i64) -> Result<Value, Trouble>
+pub fn found(bytes: &[u8], c: i64, i: i64) -> Result<Value, Trouble>
     requires { length bytes.now ≤ RECORD_MOST }
     ensures { result ≡ found bytes.now c i }
 {
@@ -186,23 +156,30 @@ fn found(bytes: &[u8], c: i64, i: i64) -> Result<Value, Trouble>
 }
 
 /// How many bytes there are.
-fn length_of(a: &Value) -> Value
-    ensures { result ≡ value.Int (pos (length (bytes_of a.now))) }
+pub fn length_of(bytes: &[u8]) -> Value
+    requires { length bytes.now ≤ RECORD_MOST }
+    ensures { result ≡ value.Int (pos (length bytes.now)) }
 {
-    Value::Int(bytes_of(a).len() as i64)
+    Value::Int(bytes.len() as i64)
 }
 
-/// Both, joined.
-fn joined(alloc: Global, a: &[u8], b: &[u8]) -> Result<Result<Value, Trouble>, NoMemory>
+/// Both, joined. What is too long isn't made. `O(length)`, and a few allocations.
+pub fn joined(alloc: Global, a: &[u8], b: &[u8]) -> Result<Result<Value, Trouble>, NoMemory>
+    requires first { length a.now ≤ RECORD_MOST }
+    requires second { length b.now ≤ RECORD_MOST }
     ensures { IfOk result (λ it. it ≡ fitting_bytes (a.now ++ b.now)) }
 {
-    let mut bytes = a.to_vec(alloc)?;
+    if a.len() + b.len() > RECORD_MOST {
+        return Ok(Err(Trouble::TooLong));
+    }
+    let mut bytes = Vec::with_capacity(alloc, a.len() + b.len())?;
+    bytes.extend_from_slice(a)?;
     bytes.extend_from_slice(b)?;
     record_of(alloc, bytes.as_slice())
 }
 
 /// The number that bytes are the text of.
-fn numbered(bytes: &[u8]) -> Result<Value, Trouble>
+pub fn numbered(bytes: &[u8]) -> Result<Value, Trouble>
     ensures { result ≡ numbered (number bytes.now) }
 {
     match read_number(bytes) {
@@ -212,46 +189,12 @@ fn numbered(bytes: &[u8]) -> Result<Value, Trouble>
 }
 
 /// The decimal text of a number.
-fn text(alloc: Global, number: i64) -> Result<Value, NoMemory>
+pub fn text(alloc: Global, number: i64) -> Result<Value, NoMemory>
     ensures { IfOk result (λ it. it ≡ value.Bytes (signed_decimal number)) }
 {
     let text = format!(in alloc; "{number}")?;
     match Record::of(alloc, text.as_bytes()) {
         Ok(it) => Ok(Value::Bytes(it)),
         Err(_) => Err(NoMemory),
-    }
-}
-
-/// The value of an operation, or its trouble. `O(1)`, but `O(length)` for an operation that looks at all
-/// bytes or makes new ones, with an allocation or two.
-pub fn operate(
-    alloc: Global,
-    op: Op,
-    a: Value,
-    b: &Value,
-    c: &Value,
-) -> Result<Result<Value, Trouble>, NoMemory>
-    ensures { IfOk result (λ it. it ≡ operation op a b.now c.now) }
-{
-    match op {
-        Op::Set => Ok(Ok(a)),
-        Op::Add => Ok(sum(number_of(&a), number_of(b))),
-        Op::Sub => Ok(difference(number_of(&a), number_of(b))),
-        Op::Mul => Ok(product(number_of(&a), number_of(b))),
-        Op::Div => Ok(quotient(number_of(&a), number_of(b))),
-        Op::Rem => Ok(rest(number_of(&a), number_of(b))),
-        Op::Lt => Ok(Ok(flag(number_of(&a) < number_of(b)))),
-        Op::Le => Ok(Ok(flag(number_of(&a) <= number_of(b)))),
-        Op::Eq => Ok(Ok(flag(is_equal(&a, b)))),
-        Op::And => Ok(Ok(flag(is_true(&a) && is_true(b)))),
-        Op::Or => Ok(Ok(flag(is_true(&a) || is_true(b)))),
-        Op::Not => Ok(Ok(flag(!is_true(&a)))),
-        Op::Len => Ok(Ok(length_of(&a))),
-        Op::At => Ok(byte_at(bytes_of(&a), number_of(b))),
-        Op::Slice => part(alloc, bytes_of(&a), number_of(b), number_of(c)),
-        Op::Cat => joined(alloc, bytes_of(&a), bytes_of(b)),
-        Op::Find => Ok(found(bytes_of(&a), number_of(b), number_of(c))),
-        Op::Num => Ok(numbered(bytes_of(&a))),
-        Op::Text => Ok(Ok(text(alloc, number_of(&a))?)),
     }
 }

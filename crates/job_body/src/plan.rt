@@ -1,6 +1,7 @@
 // Plans of jobs.
 ghost use Rattle.std.specs.Prelude.{◌≡◌, ◌+◌, ◌<◌, ◌≤◌, ◌⊎◌, IsTrue, ◌++◌, ◌∷◌, [], length, filter, IfOk, IfErr, Some, None, Option};
 ghost use Rattle.job_body.specs.PlanOfJob.{first_refused, input_count, is_input, items_of, of_input, or_refused, plan_of_job, refusal_of_plan, root_objects, root_queues};
+ghost use Rattle.job_body.specs.RightsKept.{KeepsRights};
 ghost use Rattle.job_body.specs.Tasks.{before_task, top_lines};
 ghost use Rattle.job_body.specs.declared.answer.PlanAnswer.{PlanAnswer};
 ghost use Rattle.job_body.specs.declared.answer.PlanAnswer.TheVariants as answer;
@@ -15,7 +16,7 @@ use job_reader::Line;
 use privilege_check::CheckedJob;
 use std::alloc::Global;
 use swan_model::{
-    Blob, FIRST_ITEMS_MOST, FUEL_MOST, Kind, LinesAnswer, Mode, NoMemory, Plan, PlanFuel,
+    Blob, Body, FIRST_ITEMS_MOST, FUEL_MOST, Kind, LinesAnswer, Mode, NoMemory, Plan, PlanFuel,
     ROOTS_MOST, RootQueue, Roots, Value, Values, lines_of,
 };
 
@@ -119,11 +120,12 @@ fn fill(alloc: Global, lines: &[Line], inputs: &[Blob]) -> Result<Roots, PlanAns
 
 /// The plan of a job over its inputs, with this fuel. The root queues are the job's inputs, to pop
 /// from and each with its lines, and its outputs, to push to, in the order of their lines. The objects
-/// start at the zero of their kinds.
+/// start at the zero of their kinds. In the elision of the plan no fault is Privilege and none is Alias,
+/// since the check has refused each line that could meet one.
 ///
 /// Inputs comes exactly where the number of inputs isn't the job's. Otherwise the first input, counted
-/// from 1, that `lines_of` refuses is named, by RecordTooLong or by TooManyRecords. `O(lines)` of the
-/// job and of the inputs.
+/// from 1, that `lines_of` refuses is named, by RecordTooLong or by TooManyRecords. `O(lines log names)`
+/// of the job, and linear in the inputs.
 pub fn plan_of(
     alloc: Global,
     job: CheckedJob,
@@ -132,6 +134,7 @@ pub fn plan_of(
 ) -> Result<Plan<JobBody>, PlanAnswer>
     requires { fuel ≤ FUEL_MOST }
     ensures plan { IfOk result (λ plan. plan ≡ plan_of_job job inputs.items fuel) }
+    ensures rights { IfOk result (λ plan. KeepsRights ⟦<JobBody as Body>⟧ plan) }
     ensures accepted { IfOk result (λ _. refusal_of_plan job inputs.items ≡ None) }
     ensures refused { IfErr result (λ why. (why ≡ answer.NoMemory) ⊎ (refusal_of_plan job inputs.items ≡ Some why)) }
 {

@@ -1,14 +1,12 @@
 // Running instructions.
 ghost use Rattle.std.specs.Prelude.{◌≡◌, ◌++◌, ◌-◌, ◌^◌, min, map, pos, IfOk};
 ghost use Rattle.job_body.specs.Runs.{assigned, begun_in, done, gone, next_by, spawned, value_of};
-ghost use Rattle.job_body.specs.Operations.{operation};
 ghost use Rattle.swan_model.specs.declared.value.Value.TheVariants as value;
 ghost use Rattle.swan_model.specs.Values.{zero_of};
 
 use crate::JobLocal;
 use crate::instruction::{Deed, Instruction, Operand};
-use crate::operation::{is_true, number_of, operate};
-use job_reader::Op;
+use crate::outcome::outcome_of;
 use std::alloc::Global;
 use swan_model::{Answer, Ask, Child, Gives, Kind, Listed, NoMemory, Trouble, Value};
 
@@ -58,6 +56,7 @@ fn values_of(alloc: Global, local: &JobLocal, operands: &[Operand]) -> Result<Ve
 fn copy_of(alloc: Global, gives: &Gives) -> Result<Gives, NoMemory>
     ensures { IfOk result (λ all. all ≡ gives.now) }
 {
+    // By the clause `most` of `len` there is room for each of them.
     let _count = gives.len();
     let mut all = Gives::new(alloc);
     for give in gives.as_slice() {
@@ -69,21 +68,22 @@ fn copy_of(alloc: Global, gives: &Gives) -> Result<Gives, NoMemory>
 }
 
 /// An assignment, by what its operation gives.
+#[inline(always)]
 fn assign(
-    mut local: JobLocal,
+    local: &mut JobLocal,
     to: u32,
     slot: Option<u32>,
     outcome: Result<Value, Trouble>,
-) -> (JobLocal, Ask<JobLocal>)
-    ensures { (result.0, result.1) ≡ assigned local to slot outcome }
+) -> Ask<JobLocal>
+    ensures { (local.new, result) ≡ assigned local.old to slot outcome }
 {
     match outcome {
         Ok(value) => {
             local.set(slot, value);
             local.go(to);
-            (local, Ask::Work)
+            Ask::Work
         }
-        Err(trouble) => (local, Ask::Fail(trouble)),
+        Err(trouble) => Ask::Fail(trouble),
     }
 }
 
@@ -91,26 +91,26 @@ fn assign(
 fn spawn(
     alloc: Global,
     program: &Listed<Instruction>,
-    mut local: JobLocal,
+    local: &mut JobLocal,
     to: u32,
     fuel: i64,
     index: u32,
     params: &Listed<Operand>,
     gives: &Gives,
-) -> Result<(JobLocal, Ask<JobLocal>), NoMemory>
-    ensures { IfOk result (λ r. (r.0, r.1) ≡ spawned program.now local to fuel index params.now gives.now) }
+) -> Result<Ask<JobLocal>, NoMemory>
+    ensures { IfOk result (λ ask. (local.new, ask) ≡ spawned program.now local.old to fuel index params.now gives.now) }
 {
     let Ok(fuel) = u64::try_from(fuel) else {
-        return Ok((local, Ask::Fail(Trouble::Range)));
+        return Ok(Ask::Fail(Trouble::Range));
     };
-    let values = values_of(alloc, &local, params.as_slice())?;
+    let values = values_of(alloc, local, params.as_slice())?;
     let child = Child {
         local: begin(alloc, program, index, values)?,
         gives: copy_of(alloc, gives)?,
         fuel,
     };
     local.go(to);
-    Ok((local, Ask::Spawn(child)))
+    Ok(Ask::Spawn(child))
 }
 
 /// A fuel as a number.
@@ -121,47 +121,31 @@ fn fuel_value(fuel: u64) -> Value
 }
 
 /// The local at another line, with what is asked for there.
-fn gone(mut local: JobLocal, to: u32, ask: Ask<JobLocal>) -> (JobLocal, Ask<JobLocal>)
-    ensures local { result.0 ≡ gone local to }
-    ensures ask { result.1 ≡ ask }
+fn gone(local: &mut JobLocal, to: u32, ask: Ask<JobLocal>) -> Ask<JobLocal>
+    ensures local { local.new ≡ gone local.old to }
+    ensures ask { result ≡ ask }
 {
     local.go(to);
-    (local, ask)
-}
-
-/// The value of an operation on operands, or its trouble.
-fn outcome_of(
-    alloc: Global,
-    local: &JobLocal,
-    op: Op,
-    a: &Operand,
-    b: &Operand,
-    c: &Operand,
-) -> Result<Result<Value, Trouble>, NoMemory>
-    ensures { IfOk result (λ it. it ≡ operation op (value_of local.now.values a.now) (value_of local.now.values b.now) (value_of local.now.values c.now)) }
-{
-    let b = local.value(b)?;
-    let c = local.value(c)?;
-    operate(alloc, op, local.value(a)?, &b, &c)
+    ask
 }
 
 /// Does what an instruction says that goes on at a line.
 fn perform(
     alloc: Global,
     program: &Listed<Instruction>,
-    local: JobLocal,
+    local: &mut JobLocal,
     to: u32,
     fuel: u64,
     deed: &Deed,
-) -> Result<(JobLocal, Ask<JobLocal>), NoMemory>
-    ensures { IfOk result (λ r. (r.0, r.1) ≡ done program.now local to fuel deed.now) }
+) -> Result<Ask<JobLocal>, NoMemory>
+    ensures { IfOk result (λ ask. (local.new, ask) ≡ done program.now local.old to fuel deed.now) }
 {
     match deed {
-        Deed::Begin(_) | Deed::Finish => Ok((local, Ask::Finish)),
+        Deed::Begin(_) | Deed::Finish => Ok(Ask::Finish),
         Deed::NewQueue => Ok(gone(local, to, Ask::NewQueue)),
         Deed::NewObject(kind) => Ok(gone(local, to, Ask::NewObject(Value::zero(alloc, *kind)?))),
         Deed::Assign(slot, op, a, b, c) => {
-            let outcome = outcome_of(alloc, &local, *op, a, b, c)?;
+            let outcome = outcome_of(alloc, local, *op, a, b, c)?;
             Ok(assign(local, to, *slot, outcome))
         }
         Deed::Read(_, place) => Ok(gone(local, to, Ask::Read(*place))),
@@ -176,18 +160,18 @@ fn perform(
         Deed::Pop(_, place) => Ok(gone(local, to, Ask::Pop(*place))),
         Deed::Empty(_, place) => Ok(gone(local, to, Ask::Empty(*place))),
         Deed::Spawn(a, index, params, gives) => {
-            let fuel = number_of(&local.value(a)?);
+            let fuel = local.number(a);
             spawn(alloc, program, local, to, fuel, *index, params, gives)
         }
         Deed::Sync => Ok(gone(local, to, Ask::Sync)),
         Deed::Fuel(slot) => Ok(assign(local, to, *slot, Ok(fuel_value(fuel)))),
-        Deed::Fail(a) => {
-            let number = number_of(&local.value(a)?);
-            Ok((local, Ask::Fail(Trouble::User(number))))
-        }
+        Deed::Fail(a) => Ok(Ask::Fail(Trouble::User(local.number(a)))),
         Deed::Branch(condition, otherwise) => {
-            let holds = is_true(&local.value(condition)?);
-            let to = if holds { to } else { *otherwise };
+            let to = if local.is_true(condition) {
+                to
+            } else {
+                *otherwise
+            };
             Ok(gone(local, to, Ask::Work))
         }
         Deed::Go => Ok(gone(local, to, Ask::Work)),
@@ -208,14 +192,11 @@ pub fn step(
         local.tell(&last.deed, answer);
     }
     match program.get(local.at() as usize) {
-        Some(instruction) => perform(
-            alloc,
-            program,
-            local,
-            instruction.next,
-            fuel,
-            &instruction.deed,
-        ),
+        Some(instruction) => {
+            let to = instruction.next;
+            let ask = perform(alloc, program, &mut local, to, fuel, &instruction.deed)?;
+            Ok((local, ask))
+        }
         None => Ok((local, Ask::Finish)),
     }
 }

@@ -18,6 +18,7 @@ loop-index-preserved c =
     ∙ exit_is c.args.lines.now c.loop-index.index c.index.result.now c.loop-index-test.true in
     let made : c.in_ok-instruction.instruction ≡ instruction_of c.args.lines.now (tasks_of c.args.lines.now) (seen_at c.args.lines.now c.loop-index.index) (exit_at c.args.lines.now c.loop-index.index) c.loop-index.index c.index-lines-index.result =
     c.in_ok-instruction.ensures
+    ∙ ap (λ job. instruction_of job c.in_ok-tasks.tasks c.loop-index.scope c.index.result.now c.loop-index.index c.index-lines-index.result) c.new-job.ensures
     ∙ ap (λ tasks. instruction_of c.args.lines.now tasks c.loop-index.scope c.index.result.now c.loop-index.index c.index-lines-index.result) c.in_ok-tasks.ensures
     ∙ ap (λ scope. instruction_of c.args.lines.now (tasks_of c.args.lines.now) scope c.index.result.now c.loop-index.index c.index-lines-index.result) c.loop-index.invariant.known
     ∙ ap (λ exit. instruction_of c.args.lines.now (tasks_of c.args.lines.now) (seen_at c.args.lines.now c.loop-index.index) exit c.loop-index.index c.index-lines-index.result) exit in

@@ -10,7 +10,7 @@ use Rattle.job_body.proofs.body.JobBody.main.Goals as goal
 pub returns : goal.returns
 returns c =
     let Is : Standing → Type 0 = λ standing. IfOk c.begin.result (λ local. local ≡ standing) in
-    let lines : c.lines.result.now ≡ c.args.self.now = c.lines.ensures ∙ c.self.view_is in
+    let lines : c.lines.result.now ≡ c.args.self.now = c.lines.ensures.lines ∙ c.self.view_is in
     let index : c.in_ok-index.index ≡ task_index c.args.self.now (codes "main") =
     c.in_ok-index.ensures ∙ c.main_index.ensures ∙ ap (λ job. task_index job (codes "main")) lines in
     let begins : begun_in c.self.inside.program c.in_ok-index.index c.new.result.items ≡ begun c.args.self.now (task_index c.args.self.now (codes "main")) [] =

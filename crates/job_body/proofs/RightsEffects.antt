@@ -1,0 +1,227 @@
+-- What a step of a checked job does to the serial state: it meets no fault of rights, and each
+-- activation stands where it holds what the check knows there.
+use Rattle.std.proofs.Common.{◌≡◌, ℕ, zero, suc, ◌+◌, ◌-◌, ◌<◌, ◌≤◌, Bool, true, false, Option, Some, None, List, [], ◌∷◌, ◌++◌, length, slice_get, slice_set, nat_lt, nat_le, if◌then◌else◌, refl, sym, ap, ◌∙◌, subst, arith, length-append}
+use Rattle.swan_model.specs.declared.body.Answer.{Answer}
+use Rattle.swan_model.specs.declared.body.Answer.TheVariants as answer
+use Rattle.swan_model.specs.declared.body.Ask.TheVariants as ask
+use Rattle.swan_model.specs.declared.body.Child.{Child}
+use Rattle.swan_model.specs.declared.fault.FaultKind.TheVariants as kind
+use Rattle.swan_model.specs.declared.origin.Origin.TheVariants as origin
+use Rattle.swan_model.specs.declared.path.TheConstants.{PATH_MOST}
+use Rattle.swan_model.specs.declared.rights.Mode.{Mode}
+use Rattle.swan_model.specs.declared.rights.Mode.TheVariants.{In, Out, InOut, Push, Pop, PushPop}
+use Rattle.swan_model.specs.declared.value.Value.{Value}
+use Rattle.swan_model.specs.Rights.{is_aliased, is_queue_mode}
+use Rattle.swan_model.specs.SerialState.{Activation, Cell, Holding, Queue, Store}
+use Rattle.swan_model.specs.SerialStep as serial
+use Rattle.swan_model.specs.SerialStep.{Effect, goes_on, spawns, ends, faults, effect, number_at, on_cell, on_list, on_object, on_queue, popped, spawned, told, zero_cell, zeroed, zeroed_by}
+use Rattle.swan_model.specs.Values.{kind_of, zero_of}
+use Rattle.job_reader.specs.declared.line.Line.{Line}
+use Rattle.job_body.specs.RightsKept.{is_of_rights}
+use Rattle.job_body.specs.Standing.{Standing}
+use Rattle.std.proofs.lemmas.List.{map-append}
+use Rattle.job_body.proofs.RightsSpawns.{ChildHolds, HeldAt, InStore, held-stored, held_modes_of, number-held, room}
+use Rattle.job_body.proofs.RightsStands.{Stands}
+
+-- an activation stands where it holds what it holds, all of which stands in the store
+pub record Fits (job : List Line) (store : Store) (a : Activation Standing) : Type 0 where
+  pub stands : Stands job a.local.at (held_modes_of a.holdings)
+  pub stored : InStore (length store.cells) (length store.queues) a.holdings
+
+-- a store has no fewer objects and queues than another
+pub record Grows (before after : Store) : Type 0 where
+  pub cells : length before.cells ≤ length after.cells
+  pub queues : length before.queues ≤ length after.queues
+
+-- an effect leaves activations that fit, and is no fault of rights
+abbrev pub EffectFits : List Line → Store → Effect Standing → Type 0
+EffectFits job store (goes_on a after) = Grows store after × Fits job after a
+EffectFits job store (spawns parent child after) = Grows store after × Fits job after parent × Fits job after child
+EffectFits job store ends = Unit {0}
+EffectFits job store (faults kind) = is_of_rights kind ≡ false
+
+same-store : (store : Store) → Grows store store
+same-store store = record { cells = omega arith; queues = omega arith }
+
+-- ---- stores that have grown
+
+in_store-grown : (c q d r : ℕ) (holdings : List Holding) → c ≤ d → q ≤ r → InStore c q holdings → InStore d r holdings
+in_store-grown c q d r [] cells queues stored = tt
+in_store-grown c q d r (holding ∷ holdings) cells queues stored =
+    (go (is_queue_mode holding.mode) stored.0, in_store-grown c q d r holdings cells queues stored.1) where
+      go : (b : Bool) → holding.number < (if b then q else c) → holding.number < (if b then r else d)
+      go true less = omega (arith, less, queues)
+      go false less = omega (arith, less, cells)
+
+pub fits-grown : (job : List Line) (before after : Store) (a : Activation Standing) → Grows before after → Fits job before a → Fits job after a
+fits-grown job before after a grows fits =
+    record {
+      stands = fits.stands;
+      stored = in_store-grown (length before.cells) (length before.queues) (length after.cells) (length after.queues) a.holdings grows.cells grows.queues fits.stored;
+    }
+
+length-slice_set : {A : Type 0} (xs : List A) (i : ℕ) (x : A) → length (slice_set xs i x) ≡ length xs
+length-slice_set [] i x = refl
+length-slice_set (y ∷ ys) zero x = refl
+length-slice_set (y ∷ ys) (suc i) x = ap suc (length-slice_set ys i x)
+
+length-zero_cell : (cells : List Cell) (n : ℕ) (cell : Option Cell) → length (zero_cell cells n cell) ≡ length cells
+length-zero_cell cells n None = refl
+length-zero_cell cells n (Some cell) = length-slice_set cells n (record cell { value = zero_of cell.kind })
+
+length-zeroed_by : (mode : Mode) (cells : List Cell) (n : ℕ) → length (zeroed_by mode cells n) ≡ length cells
+length-zeroed_by Out cells n = length-zero_cell cells n (slice_get cells n)
+length-zeroed_by In cells n = refl
+length-zeroed_by InOut cells n = refl
+length-zeroed_by Push cells n = refl
+length-zeroed_by Pop cells n = refl
+length-zeroed_by PushPop cells n = refl
+
+length-zeroed : (cells : List Cell) (holdings : List Holding) → length (zeroed cells holdings) ≡ length cells
+length-zeroed cells [] = refl
+length-zeroed cells (holding ∷ holdings) =
+    length-zeroed (zeroed_by holding.mode cells holding.number) holdings ∙ length-zeroed_by holding.mode cells holding.number
+
+-- ---- asks for what is held
+
+item-there : {A : Type 0} (xs : List A) (n : ℕ) → n < length xs → (x : A) × (slice_get xs n ≡ Some x)
+item-there [] n less = absurd (omega (arith, less))
+item-there (x ∷ xs) zero less = (x, refl)
+item-there (x ∷ xs) (suc n) less = item-there xs n (omega (arith, less))
+
+object-held : (P : Effect Standing → Type 0) (store : Store) (holdings : List Holding) (place : ℕ) (mode : Mode) (f : ℕ → Cell → Effect Standing) → is_queue_mode mode ≡ false → HeldAt holdings place mode → InStore (length store.cells) (length store.queues) holdings → ((n : ℕ) (cell : Cell) → P (f n cell)) → P (on_object store (number_at holdings place mode) f)
+object-held P store holdings place mode f sort h stored each =
+    let n = h.holding.number in
+    let there = item-there store.cells n (subst (λ b. n < (if b then length store.queues else length store.cells)) sort (held-stored (length store.cells) (length store.queues) holdings place mode h stored)) in
+    subst (λ at. P (on_object store at f)) (sym (number-held holdings place mode h))
+    (subst (λ cell. P (on_cell cell (f n))) (sym there.1) (each n there.0))
+
+queue-held : (P : Effect Standing → Type 0) (store : Store) (holdings : List Holding) (place : ℕ) (mode : Mode) (f : ℕ → Queue → Effect Standing) → is_queue_mode mode ≡ true → HeldAt holdings place mode → InStore (length store.cells) (length store.queues) holdings → ((n : ℕ) (queue : Queue) → P (f n queue)) → P (on_queue store (number_at holdings place mode) f)
+queue-held P store holdings place mode f sort h stored each =
+    let n = h.holding.number in
+    let there = item-there store.queues n (subst (λ b. n < (if b then length store.queues else length store.cells)) sort (held-stored (length store.cells) (length store.queues) holdings place mode h stored)) in
+    subst (λ at. P (on_queue store at f)) (sym (number-held holdings place mode h))
+    (subst (λ queue. P (on_list queue (f n))) (sym there.1) (each n there.0))
+
+fits-told : (job : List Line) (store after : Store) (a : Activation Standing) (said : Answer) → Grows store after → Fits job store a → EffectFits job store (goes_on (told a said) after)
+fits-told job store after a said grows fits =
+    let now = fits-grown job store after a grows fits in
+    (grows, record { stands = now.stands; stored = now.stored })
+
+pub work-fits : (job : List Line) (n : ℕ) (store : Store) (a : Activation Standing) → Fits job store a → EffectFits job store (effect n store a ask.Work)
+work-fits job n store a fits = fits-told job store store a answer.Nothing (same-store store) fits
+
+pub sync-fits : (job : List Line) (n : ℕ) (store : Store) (a : Activation Standing) → Fits job store a → EffectFits job store (effect n store a ask.Sync)
+sync-fits job n store a fits = fits-told job store store a answer.Nothing (same-store store) fits
+
+pub read-fits : (job : List Line) (n : ℕ) (store : Store) (a : Activation Standing) (place : ℕ) → HeldAt a.holdings place In → Fits job store a → EffectFits job store (effect n store a (ask.Read place))
+read-fits job n store a place h fits =
+    object-held (EffectFits job store) store a.holdings place In _ refl h fits.stored
+    (λ number cell. fits-told job store store a (answer.Item cell.value) (same-store store) fits)
+
+set-cells : (store : Store) (number : ℕ) (cell : Cell) (value : Value) → Grows store (serial.with_value store number cell value)
+set-cells store number cell value =
+    record { cells = omega (arith, length-slice_set store.cells number (record cell { value = value })); queues = omega arith }
+
+set-items : (store : Store) (number : ℕ) (queue : Queue) (items : List Value) → Grows store (serial.with_items store number queue items)
+set-items store number queue items =
+    record { cells = omega arith; queues = omega (arith, length-slice_set store.queues number (record queue { items = items })) }
+
+pub write-fits : (job : List Line) (n : ℕ) (store : Store) (a : Activation Standing) (place : ℕ) (value : Value) → HeldAt a.holdings place Out → Fits job store a → EffectFits job store (effect n store a (ask.Write place value))
+write-fits job n store a place value h fits =
+    object-held (EffectFits job store) store a.holdings place Out _ refl h fits.stored
+    (λ number cell. fits-told job store (serial.with_value store number cell value) a answer.Nothing (set-cells store number cell value) fits)
+
+pub push-fits : (job : List Line) (n : ℕ) (store : Store) (a : Activation Standing) (place : ℕ) (value : Value) → HeldAt a.holdings place Push → Fits job store a → EffectFits job store (effect n store a (ask.Push place value))
+push-fits job n store a place value h fits =
+    queue-held (EffectFits job store) store a.holdings place Push _ refl h fits.stored
+    (λ number queue. fits-told job store (serial.with_items store number queue (queue.items ++ value ∷ [])) a answer.Nothing (set-items store number queue (queue.items ++ value ∷ [])) fits)
+
+popped-fits : (job : List Line) (store : Store) (a : Activation Standing) (number : ℕ) (queue : Queue) (items : List Value) → Fits job store a → EffectFits job store (popped store a number queue items)
+popped-fits job store a number queue [] fits = refl
+popped-fits job store a number queue (item ∷ items) fits =
+    fits-told job store (serial.with_items store number queue items) a (answer.Item item) (set-items store number queue items) fits
+
+pub pop-fits : (job : List Line) (n : ℕ) (store : Store) (a : Activation Standing) (place : ℕ) → HeldAt a.holdings place Pop → Fits job store a → EffectFits job store (effect n store a (ask.Pop place))
+pop-fits job n store a place h fits =
+    queue-held (EffectFits job store) store a.holdings place Pop _ refl h fits.stored
+    (λ number queue. popped-fits job store a number queue queue.items fits)
+
+pub empty-fits : (job : List Line) (n : ℕ) (store : Store) (a : Activation Standing) (place : ℕ) → HeldAt a.holdings place Pop → Fits job store a → EffectFits job store (effect n store a (ask.Empty place))
+empty-fits job n store a place h fits =
+    queue-held (EffectFits job store) store a.holdings place Pop _ refl h fits.stored
+    (λ number queue. fits-told job store store a _ (same-store store) fits)
+
+-- ---- what is made
+
+in_store-more : (c q : ℕ) (holdings : List Holding) (holding : Holding) → holding.number < room c q holding.mode → InStore c q holdings → InStore c q (holdings ++ holding ∷ [])
+in_store-more c q [] holding less stored = (less, tt)
+in_store-more c q (first ∷ holdings) holding less stored = (stored.0, in_store-more c q holdings holding less stored.1)
+
+modes-more : (holdings : List Holding) (holding : Holding) → held_modes_of holdings ++ holding.mode ∷ [] ≡ held_modes_of (holdings ++ holding ∷ [])
+modes-more holdings holding = sym (map-append (λ (h : Holding). h.mode) holdings (holding ∷ []))
+
+made-fits : (job : List Line) (store after : Store) (a : Activation Standing) (holding : Holding) → Grows store after → Stands job a.local.at (held_modes_of a.holdings ++ holding.mode ∷ []) → InStore (length store.cells) (length store.queues) a.holdings → holding.number < room (length after.cells) (length after.queues) holding.mode → EffectFits job store (goes_on (serial.with_place a holding) after)
+made-fits job store after a holding grows stands stored less = (
+  grows,
+  record {
+    stands = subst (Stands job a.local.at) (modes-more a.holdings holding) stands;
+    stored = in_store-more (length after.cells) (length after.queues) a.holdings holding less
+        (in_store-grown (length store.cells) (length store.queues) (length after.cells) (length after.queues) a.holdings grows.cells grows.queues stored);
+  },
+)
+
+length-more : {A : Type 0} (xs : List A) (x : A) → length (xs ++ x ∷ []) ≡ length xs + 1
+length-more xs x = length-append xs (x ∷ [])
+
+pub queue-fits : (job : List Line) (n : ℕ) (store : Store) (a : Activation Standing) → Stands job a.local.at (held_modes_of a.holdings ++ PushPop ∷ []) → InStore (length store.cells) (length store.queues) a.holdings → EffectFits job store (effect n store a ask.NewQueue)
+queue-fits job n store a stands stored =
+    let queue : Queue = record { origin = origin.Step n; items = [] } in
+    let after : Store = record store { queues = store.queues ++ queue ∷ [] } in
+    made-fits job store after a (record { mode = PushPop; number = length store.queues }) (record { cells = omega arith; queues = omega (arith, length-more store.queues queue) }) stands stored (omega (arith, length-more store.queues queue))
+
+pub object-fits : (job : List Line) (n : ℕ) (store : Store) (a : Activation Standing) (value : Value) → Stands job a.local.at (held_modes_of a.holdings ++ InOut ∷ []) → InStore (length store.cells) (length store.queues) a.holdings → EffectFits job store (effect n store a (ask.NewObject value))
+object-fits job n store a value stands stored =
+    let cell : Cell = record { origin = origin.Step n; kind = kind_of value; value = value } in
+    let after : Store = record store { cells = store.cells ++ cell ∷ [] } in
+    made-fits job store after a (record { mode = InOut; number = length store.cells }) (record { cells = omega (arith, length-more store.cells cell); queues = omega arith }) stands stored (omega (arith, length-more store.cells cell))
+
+-- ---- a spawn
+
+either-fits : (P : Effect Standing → Type 0) (b : Bool) (x y : Effect Standing) → P x → P y → P (if b then x else y)
+either-fits P true x y p q = p
+either-fits P false x y p q = q
+
+pub spawn-fits : (job : List Line) (n : ℕ) (store : Store) (a : Activation Standing) (child : Child Standing) (held : List Mode) → is_aliased child.gives ≡ false → ChildHolds (length store.cells) (length store.queues) a.holdings child.gives held → Stands job child.local.at held → Fits job store a → EffectFits job store (effect n store a (ask.Spawn child))
+spawn-fits job n store a child held apart holds stands fits =
+    subst (λ given. EffectFits job store (spawned store a child given)) (sym holds.given)
+    (subst (λ b. EffectFits job store (if b then faults kind.Alias else rest)) (sym apart)
+    (either-fits (EffectFits job store) (nat_le PATH_MOST (length a.path)) (faults kind.Depth) more refl
+    (either-fits (EffectFits job store) (nat_lt a.fuel child.fuel) (faults kind.Fuel) goes refl (
+      grows,
+      record { stands = parent_now.stands; stored = parent_now.stored },
+      record {
+        stands = subst (Stands job child.local.at) (sym holds.modes) stands;
+        stored = in_store-grown (length store.cells) (length store.queues) (length after.cells) (length after.queues) holds.child grows.cells grows.queues holds.stored;
+      },
+    )))) where
+      after : Store
+      after = record store { cells = zeroed store.cells holds.child }
+
+      grows : Grows store after
+      grows = record { cells = omega (arith, length-zeroed store.cells holds.child); queues = omega arith }
+
+      parent_now : Fits job after a
+      parent_now = fits-grown job store after a grows fits
+
+      goes : Effect Standing
+      goes = spawns
+          (record a { answer = answer.Nothing; fuel = a.fuel - child.fuel; children = a.children + 1 })
+          (record { path = a.path ++ a.children ∷ []; local = child.local; answer = answer.Start; fuel = child.fuel; holdings = holds.child; children = 0 })
+          after
+
+      more : Effect Standing
+      more = if nat_lt a.fuel child.fuel then faults kind.Fuel else goes
+
+      rest : Effect Standing
+      rest = if nat_le PATH_MOST (length a.path) then faults kind.Depth else more

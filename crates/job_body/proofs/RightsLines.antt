@@ -1,0 +1,244 @@
+-- What holds where a statement of a checked job stands, and where a task begins.
+use Rattle.std.proofs.Common.{◌≡◌, ℕ, zero, suc, ◌+◌, Bool, true, false, cond, Option, Some, None, Result, Ok, Err, List, [], ◌∷◌, ◌++◌, length, flat_map, take, drop, slice_get, nat_eq, bytes_eq, if◌then◌else◌, refl, sym, ap, ◌∙◌, subst, eqb-true}
+use Rattle.std.proofs.lemmas.Bool.{false≢true}
+use Rattle.std.proofs.lemmas.List.{append-nil, map-append}
+use Rattle.std.specs.List.{position_or_len}
+use Rattle.swan_model.specs.declared.rights.Mode.{Mode}
+use Rattle.swan_model.specs.declared.value.Kind.TheVariants as kind
+use Rattle.job_reader.specs.Faults.{◌>>=◌}
+use Rattle.job_reader.specs.Jobs.{IsPlaced, may_stand}
+use Rattle.job_reader.specs.Places as places
+use Rattle.job_reader.specs.Places.{is_open}
+use Rattle.job_reader.specs.declared.atom.Atom.{Atom}
+use Rattle.job_reader.specs.declared.block.Block.{Block as Opened}
+use Rattle.job_reader.specs.declared.fault.JobKind.{JobKind}
+use Rattle.job_reader.specs.declared.fault.JobKind.TheVariants as fault
+use Rattle.job_reader.specs.declared.line.Line.{Line}
+use Rattle.job_reader.specs.declared.line.Line.TheVariants as line
+use Rattle.job_reader.specs.declared.place.Place.{Place}
+use Rattle.job_reader.specs.declared.place.Place.TheVariants.{First, Top, InTask, InDo, Outside}
+use Rattle.privilege_check.specs.Names.{Before, at_start, known}
+use Rattle.privilege_check.specs.Names as checks
+use Rattle.privilege_check.specs.Spawns as spawns
+use Rattle.privilege_check.specs.Spawns.{arguments, as_child, is_lent_twice, lent}
+use Rattle.privilege_check.specs.Uses.{value}
+use Rattle.privilege_check.specs.declared.meaning.Meaning.{Meaning}
+use Rattle.job_body.specs.Steps as steps
+use Rattle.job_body.specs.Tasks.{Scope, before_task, is_main, scope_at, task_index, top_lines}
+use Rattle.job_body.proofs.RightsEntries.{access_entry, entries, held_at, held_with, made_entry, names-entries, root_entries, roots_held}
+use Rattle.job_body.proofs.RightsKnown.{KnownAt, KnownInTask, known-at}
+use Rattle.job_body.proofs.RightsNames.{mode_known, mode_of, modes, position}
+use Rattle.job_body.proofs.RightsPlaces.{Passes, before_at, before_from, passes-from, place_at, place-next, placed-from, scope-next}
+use Rattle.job_body.proofs.RightsStands.{Stands, stands_here}
+use Rattle.job_body.proofs.RightsTasks.{IsTaskAt, held_modes, kept, learnt, meaning_of, meanings, modes-meanings, task-found}
+
+abbrev pub is_statement : Line → Bool
+is_statement (line.Assign v o args) = true
+is_statement (line.Read v o) = true
+is_statement (line.Write o a) = true
+is_statement (line.Push q a) = true
+is_statement (line.Pop v q) = true
+is_statement (line.Empty v q) = true
+is_statement (line.Spawn fuel task args) = true
+is_statement line.Sync = true
+is_statement (line.Fuel v) = true
+is_statement (line.Fail a) = true
+is_statement (line.If a) = true
+is_statement line.Else = true
+is_statement (line.While a) = true
+is_statement line.End = true
+is_statement _ = false
+
+-- a statement of a task stands after its `do`
+pub in-do : (place : Place) (line : Line) → is_open place ≡ true → may_stand place line ≡ true → is_statement line ≡ true → (inside : List Opened) × (place ≡ InDo inside)
+in-do First line within stands e = absurd (false≢true within)
+in-do (Top n) line within stands e = absurd (false≢true within)
+in-do Outside line within stands e = absurd (false≢true within)
+in-do (InDo inside) line within stands e = (inside, refl)
+in-do InTask (line.Note text) within stands e = absurd (false≢true e)
+in-do InTask (line.Param name k) within stands e = absurd (false≢true e)
+in-do InTask (line.Access mode name k) within stands e = absurd (false≢true e)
+in-do InTask (line.Var name k) within stands e = absurd (false≢true e)
+in-do InTask (line.Queue name k) within stands e = absurd (false≢true e)
+in-do InTask (line.Object name k) within stands e = absurd (false≢true e)
+in-do InTask line.Do within stands e = absurd (false≢true e)
+in-do InTask line within stands e = absurd (false≢true stands)
+
+-- ---- after `do` a task takes nothing more
+
+abbrev is_past : Place → Bool
+is_past (InDo inside) = true
+is_past Outside = true
+is_past _ = false
+
+past-statement : (inside : List Opened) (line : Line) → is_past (places.after_statement inside line) ≡ true
+past-statement inside (line.If a) = refl
+past-statement inside (line.While a) = refl
+past-statement [] line.Else = refl
+past-statement (innermost ∷ inside) line.Else = refl
+past-statement [] line.End = refl
+past-statement (innermost ∷ inside) line.End = refl
+past-statement inside line = refl
+
+past-line : (place : Place) (line : Line) → is_past place ≡ true → may_stand place line ≡ true → (access_entry line ≡ []) × (meaning_of line ≡ [])
+past-line First line past stands = absurd (false≢true past)
+past-line (Top n) line past stands = absurd (false≢true past)
+past-line InTask line past stands = absurd (false≢true past)
+past-line (InDo inside) (line.Param name k) past stands = absurd (false≢true stands)
+past-line (InDo inside) (line.Access mode name k) past stands = absurd (false≢true stands)
+past-line (InDo inside) line past stands = (refl, refl)
+past-line Outside (line.Param name k) past stands = absurd (false≢true stands)
+past-line Outside (line.Access mode name k) past stands = absurd (false≢true stands)
+past-line Outside line past stands = (refl, refl)
+
+record TakesNothing (lines : List Line) : Type 0 where
+  pub access : flat_map access_entry (before_task lines) ≡ []
+  pub meaning : meanings (before_task lines) ≡ []
+
+takes-more : (line : Line) (lines : List Line) → (access_entry line ≡ []) × (meaning_of line ≡ []) → TakesNothing lines → TakesNothing (line ∷ lines)
+takes-more (line.Task name) lines none rest = record { access = refl; meaning = refl }
+takes-more (line.Param name k) lines none rest = absurd (let e = none.1 in cc)
+takes-more (line.Access mode name k) lines none rest = absurd (let e = none.0 in cc)
+takes-more line lines none rest = record { access = rest.access; meaning = rest.meaning }
+
+takes-nothing : (lines : List Line) (place : Place) → is_past place ≡ true → IsPlaced place lines → TakesNothing lines
+takes-nothing [] place past placed = record { access = refl; meaning = refl }
+takes-nothing (line ∷ lines) First past placed = absurd (false≢true past)
+takes-nothing (line ∷ lines) (Top n) past placed = absurd (false≢true past)
+takes-nothing (line ∷ lines) InTask past placed = absurd (false≢true past)
+takes-nothing (line ∷ lines) (InDo inside) past placed =
+    takes-more line lines (past-line (InDo inside) line past placed.0) (takes-nothing lines (places.after_statement inside line) (past-statement inside line) placed.1)
+takes-nothing (line.Task name ∷ lines) Outside past placed = record { access = refl; meaning = refl }
+takes-nothing (line.Note text ∷ lines) Outside past placed =
+    takes-more (line.Note text) lines (refl, refl) (takes-nothing lines Outside refl placed.1)
+takes-nothing (line ∷ lines) Outside past placed = absurd (false≢true placed.0)
+
+-- ---- a statement
+
+pub record IsStatementAt (job : List Line) (i : ℕ) (held : List Mode) : Type 0 where
+  pub inside : List Opened
+  pub at : place_at job i ≡ InDo inside
+  pub task : (before_at job i).open_task ≡ Some (scope_at job i).name
+  pub names : (query : List ℕ) → mode_of (entries job (scope_at job i)) query ≡ mode_known (known (before_at job i) query)
+  pub holds : held ≡ modes (entries job (scope_at job i))
+  pub place : (name : List ℕ) → steps.place_at job i name ≡ position (entries job (scope_at job i)) name
+  pub rest : meanings (before_task (drop i job)) ≡ []
+
+held-statement : (job : List Line) (i : ℕ) → flat_map access_entry (before_task (drop i job)) ≡ [] → held_at job i ≡ entries job (scope_at job i)
+held-statement job i none =
+    let scope = scope_at job i in
+    ap (λ es. roots_held job scope.name ++ ((flat_map access_entry scope.lines ++ es) ++ flat_map made_entry scope.lines)) none
+    ∙ ap (λ es. roots_held job scope.name ++ (es ++ flat_map made_entry scope.lines)) (append-nil (flat_map access_entry scope.lines))
+
+pub statement-at : (job : List Line) → IsPlaced First job → Passes at_start job → (i : ℕ) (line : Line) (held : List Mode) → slice_get job i ≡ Some line → Stands job i held → is_statement line ≡ true → IsStatementAt job i held
+statement-at job placed passes i line held is at e =
+    let doing = in-do (place_at job i) line at.within (stands_here job i line placed is) e in
+    let here : IsPlaced (InDo doing.0) (drop i job) = subst (λ p. IsPlaced p (drop i job)) doing.1 (placed-from First job i placed) in
+    let nothing = takes-nothing (drop i job) (InDo doing.0) refl here in
+    let known_here : KnownInTask job (scope_at job i) (before_at job i) = subst (λ p. KnownAt p job (take i job) (scope_at job i) (before_at job i)) doing.1 (known-at job placed passes i) in
+    record {
+      inside = doing.0;
+      at = doing.1;
+      task = known_here.task;
+      names = known_here.names;
+      holds = at.holds ∙ ap modes (held-statement job i nothing.access);
+      place = λ name. ap (position_or_len (λ other. bytes_eq other name)) (sym (names-entries job (scope_at job i)));
+      rest = nothing.meaning;
+    }
+
+-- ---- a spawn
+
+before-split : (before : Before) (lines : List Line) (i : ℕ) → before_from before lines ≡ before_from (before_from before (take i lines)) (drop i lines)
+before-split before lines zero = refl
+before-split before [] (suc i) = refl
+before-split before (line ∷ lines) (suc i) = before-split (checks.after before line) lines i
+
+-- what the check knows of a task at a statement is what its lines say
+pub task-known : (job : List Line) → Passes at_start job → (i : ℕ) (held : List Mode) → IsStatementAt job i held → (task : List ℕ) (taken : List Meaning) → (before_at job i).tasks task ≡ Some taken → IsTaskAt job (task_index job task) task taken
+task-known job passes i held at task taken is =
+    let all = kept (drop i job) (before_at job i) (scope_at job i).name task taken at.task (passes-from at_start job i passes) is in
+    let ends : (before_from at_start job).tasks task ≡ Some taken =
+    ap (λ (b : Before). b.tasks task) (before-split at_start job i)
+    ∙ all
+    ∙ ap (λ ms. Some (taken ++ cond (bytes_eq (scope_at job i).name task) ms [])) at.rest
+    ∙ ap Some (nothing-more (bytes_eq (scope_at job i).name task)) in
+    task-found job task taken (sym (learnt at_start job task passes refl) ∙ ends) where
+      nothing-more : (b : Bool) → taken ++ cond b [] [] ≡ taken
+      nothing-more true = append-nil taken
+      nothing-more false = append-nil taken
+
+pub record SpawnPasses (before : Before) (task : List ℕ) (args : List Atom) : Type 0 where
+  pub taken : List Meaning
+  pub known : before.tasks task ≡ Some taken
+  pub child : is_main task ≡ false
+  pub all : arguments (checks.known before) taken args ≡ Ok tt
+  pub once : is_lent_twice (lent taken args) ≡ false
+  pub count : length args ≡ length taken
+
+child-parts : (task : List ℕ) (takes : Option (List Meaning)) (next : List Meaning → Result (Unit {0}) JobKind) → (as_child task takes >>= next) ≡ Ok tt → (taken : List Meaning) × (takes ≡ Some taken) × (is_main task ≡ false) × (next taken ≡ Ok tt)
+child-parts task None next e = absurd (cc)
+child-parts task (Some taken) next e = let is = go (is_main task) refl e in (taken, refl, is.0, is.1) where
+  go : (b : Bool) → is_main task ≡ b → ((if b then Err fault.MainParams else Ok taken) >>= next) ≡ Ok tt → (is_main task ≡ false) × (next taken ≡ Ok tt)
+  go true is e = absurd (cc)
+  go false is e = (is, e)
+
+second-part : {A : Type 0} (r : Result A JobKind) (x : Result (Unit {0}) JobKind) → (r >>= λ _. x) ≡ Ok tt → x ≡ Ok tt
+second-part (Ok a) x e = e
+second-part (Err k) x e = absurd (cc)
+
+first-part : (r : Result (Unit {0}) JobKind) (x : Result (Unit {0}) JobKind) → (r >>= λ _. x) ≡ Ok tt → r ≡ Ok tt
+first-part (Ok a) x e = refl
+first-part (Err k) x e = absurd (cc)
+
+unaliased-once : (gifts : List (List ℕ × Mode)) → spawns.unaliased gifts ≡ Ok tt → is_lent_twice gifts ≡ false
+unaliased-once gifts e = go (is_lent_twice gifts) e where
+  go : (b : Bool) → ◌≡◌ {A = Result (Unit {0}) JobKind} (if b then Err fault.Alias else Ok tt) (Ok tt) → b ≡ false
+  go true e = absurd (cc)
+  go false e = refl
+
+pub spawn-passes : (before : Before) (fuel : Atom) (task : List ℕ) (args : List Atom) → spawns.spawn before fuel task args ≡ Ok tt → SpawnPasses before task args
+spawn-passes before fuel task args e =
+    let rest = second-part (value (known before) (Some kind.Int) fuel) (as_child task (before.tasks task) >>= spawns.given (known before) args) e in
+    let child = child-parts task (before.tasks task) (spawns.given (known before) args) rest in
+    go child.0 child.1 child.2 (nat_eq (length args) (length child.0)) refl child.3 where
+      go : (taken : List Meaning) → before.tasks task ≡ Some taken → is_main task ≡ false → (b : Bool) → nat_eq (length args) (length taken) ≡ b → (if b then (arguments (known before) taken args >>= λ _. spawns.unaliased (lent taken args)) else Err fault.Arity) ≡ Ok tt → SpawnPasses before task args
+      go taken is other false count e = absurd (cc)
+      go taken is other true count e =
+          record {
+            taken = taken;
+            known = is;
+            child = other;
+            all = first-part (arguments (known before) taken args) (spawns.unaliased (lent taken args)) e;
+            once = unaliased-once (lent taken args) (second-part (arguments (known before) taken args) (spawns.unaliased (lent taken args)) e);
+            count = eqb-true (length args) (length taken) count;
+          }
+
+-- ---- where a task begins
+
+opens-task : (place : Place) (name : List ℕ) → may_stand place (line.Task name) ≡ true → places.after place (line.Task name) ≡ InTask
+opens-task First name stands = absurd (false≢true stands)
+opens-task (Top n) name stands = refl
+opens-task InTask name stands = absurd (false≢true stands)
+opens-task (InDo inside) name stands = absurd (false≢true stands)
+opens-task Outside name stands = refl
+
+-- a task begins with what the top level lends it and with what it takes
+pub task-stands : (job : List Line) → IsPlaced First job → (index : ℕ) (name : List ℕ) (taken : List Meaning) → IsTaskAt job index name taken → Stands job (index + 1) (modes (roots_held job name) ++ held_modes taken)
+task-stands job placed index name taken at =
+    let opened : Scope = record { name = name; lines = [] } in
+    let within : place_at job (index + 1) ≡ InTask =
+    place-next job index (line.Task name) at.at ∙ opens-task (place_at job index) name (stands_here job index (line.Task name) placed at.at) in
+    let access = flat_map access_entry (before_task (drop (index + 1) job)) in
+    let here : held_at job (index + 1) ≡ roots_held job name ++ access =
+    ap (λ scope. held_with job scope (drop (index + 1) job)) (scope-next job index (line.Task name) at.at)
+    ∙ ap (λ es. roots_held job name ++ es) (append-nil access) in
+    record {
+      within = ap is_open within;
+      holds = sym (ap modes here ∙ map-append (λ entry. entry.1) (roots_held job name) access
+          ∙ ap (λ ms. modes (roots_held job name) ++ ms) (modes-meanings (before_task (drop (index + 1) job)) ∙ ap held_modes at.takes));
+    }
+
+-- a child begins with what its task takes
+pub child-stands : (job : List Line) → IsPlaced First job → (index : ℕ) (name : List ℕ) (taken : List Meaning) → is_main name ≡ false → IsTaskAt job index name taken → Stands job (index + 1) (held_modes taken)
+child-stands job placed index name taken other at =
+    subst (λ b. Stands job (index + 1) (modes (if b then root_entries (top_lines job) else []) ++ held_modes taken)) other (task-stands job placed index name taken at)

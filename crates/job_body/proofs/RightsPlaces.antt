@@ -1,0 +1,90 @@
+-- Where the lines of a job stand, and what the lines before each of them say.
+use Rattle.std.proofs.Common.{◌≡◌, ℕ, zero, suc, ◌+◌, Option, Some, None, Ok, List, [], ◌∷◌, ◌++◌, take, drop, slice_get, IsTrue, refl, ap, ◌∙◌, subst, add-one}
+use native.Mathlib.Numerals.{unary_clauses}
+use Rattle.job_reader.specs.Jobs.{IsPlaced, may_stand}
+use Rattle.job_reader.specs.Places as places
+use Rattle.job_reader.specs.declared.line.Line.{Line}
+use Rattle.job_reader.specs.declared.place.Place.{Place}
+use Rattle.job_reader.specs.declared.place.Place.TheVariants.{First}
+use Rattle.privilege_check.specs.FirstFault.{check_line}
+use Rattle.privilege_check.specs.Names as checks
+use Rattle.privilege_check.specs.Names.{Before, at_start}
+use Rattle.job_body.specs.Tasks.{scope_after, scope_at, scope_from}
+use Rattle.job_body.proofs.Known.{scope-push, take-push}
+use Rattle.job_body.proofs.Suffixes.{drop_item}
+
+-- the place after lines, and what they say
+abbrev pub place_from : Place → List Line → Place
+place_from place [] = place
+place_from place (line ∷ lines) = place_from (places.after place line) lines
+
+abbrev pub before_from : Before → List Line → Before
+before_from before [] = before
+before_from before (line ∷ lines) = before_from (checks.after before line) lines
+
+-- the place at an index, and what the lines before it say
+abbrev pub place_at : List Line → ℕ → Place
+place_at job i = place_from First (take i job)
+
+abbrev pub before_at : List Line → ℕ → Before
+before_at job i = before_from at_start (take i job)
+
+-- each line passes the check, by what the lines before it say
+abbrev pub Passes : Before → List Line → Type 0
+Passes before [] = Unit {0}
+Passes before (line ∷ lines) = (check_line before line ≡ Ok tt) × Passes (checks.after before line) lines
+
+-- what is known of the line at an index
+pub record IsLineAt (job : List Line) (i : ℕ) (line : Line) : Type 0 where
+  pub stands : IsTrue (may_stand (place_at job i) line)
+  pub passes : check_line (before_at job i) line ≡ Ok tt
+
+-- ---- one line more
+
+pub take-past : {A : Type 0} (xs : List A) (i : ℕ) → slice_get xs i ≡ None → take (i + 1) xs ≡ take i xs
+take-past [] zero h = refl
+take-past [] (suc i) h = rw add-one refl
+take-past (y ∷ ys) zero h = absurd (cc)
+take-past (y ∷ ys) (suc i) h = simp unary_clauses (simp unary_clauses at (ap (λ zs. y ∷ zs) (take-past ys i h)))
+
+pub place-push : (place : Place) (lines : List Line) (line : Line) → place_from place (lines ++ line ∷ []) ≡ places.after (place_from place lines) line
+place-push place [] line = refl
+place-push place (first ∷ lines) line = place-push (places.after place first) lines line
+
+pub before-push : (before : Before) (lines : List Line) (line : Line) → before_from before (lines ++ line ∷ []) ≡ checks.after (before_from before lines) line
+before-push before [] line = refl
+before-push before (first ∷ lines) line = before-push (checks.after before first) lines line
+
+pub place-next : (job : List Line) (i : ℕ) (line : Line) → slice_get job i ≡ Some line → place_at job (i + 1) ≡ places.after (place_at job i) line
+place-next job i line h = ap (place_from First) (take-push job i line h) ∙ place-push First (take i job) line
+
+pub scope-next : (job : List Line) (i : ℕ) (line : Line) → slice_get job i ≡ Some line → scope_at job (i + 1) ≡ scope_after (scope_at job i) line
+scope-next job i line h = ap (scope_from (record { name = []; lines = [] })) (take-push job i line h) ∙ scope-push _ (take i job) line
+
+-- what holds of the first lines of a job by a fact that each line keeps holds of any number of them
+pub along : (job : List Line) (P : ℕ → Type 0) → P 0 → ((i : ℕ) → slice_get job i ≡ None → P i → P (i + 1)) → ((i : ℕ) (line : Line) → slice_get job i ≡ Some line → P i → P (i + 1)) → (i : ℕ) → P i
+along job P first past more zero = first
+along job P first past more (suc i) = rw⁻¹ add-one (go (slice_get job i) refl (along job P first past more i)) where
+  go : (line : Option Line) → slice_get job i ≡ line → P i → P (i + 1)
+  go None e before = past i e before
+  go (Some line) e before = more i line e before
+
+-- ---- the rest of a job
+
+pub placed-from : (place : Place) (lines : List Line) (i : ℕ) → IsPlaced place lines → IsPlaced (place_from place (take i lines)) (drop i lines)
+placed-from place lines zero placed = placed
+placed-from place [] (suc i) placed = placed
+placed-from place (line ∷ lines) (suc i) placed = placed-from (places.after place line) lines i placed.1
+
+pub passes-from : (before : Before) (lines : List Line) (i : ℕ) → Passes before lines → Passes (before_from before (take i lines)) (drop i lines)
+passes-from before lines zero passes = passes
+passes-from before [] (suc i) passes = tt
+passes-from before (line ∷ lines) (suc i) passes = passes-from (checks.after before line) lines i passes.1
+
+pub line-at : (job : List Line) (i : ℕ) (line : Line) → IsPlaced First job → Passes at_start job → slice_get job i ≡ Some line → IsLineAt job i line
+line-at job i line placed passes h =
+    let next = drop_item job i line h in
+    record {
+      stands = (subst (IsPlaced (place_at job i)) next (placed-from First job i placed)).0;
+      passes = (subst (Passes (before_at job i)) next (passes-from at_start job i passes)).0;
+    }

@@ -1,0 +1,209 @@
+// Each line, in one task and in a child.
+use super::jobs::{first_wrong, plan_of_text, told};
+use crate::{JobBody, JobLocal};
+use std::alloc::Global;
+use std::test::Fail;
+use swan_model::{Answer, Ask, Body, Child, NoMemory, Plan, Value};
+
+/// Statements of a task that has a number `v`, bytes `b` and an object `x`, and what `v` is then. A read is
+/// answered by 7, a pop by `ab`, and a test in the first statement by yes and in a later one by no.
+const STATEMENTS: &str = "\
+v = add v 0 => 0
+v = len b => 0
+v = eq b \"\" => 1
+read v x => 7
+empty v q => 1
+v = set 5; empty v q => 0
+pop b q; v = eq b \"ab\" => 1
+push q \"ab\" => 0
+write x 3 => 0
+sync => 0
+fuel v => 198
+v = set 1; fuel v => 197
+fail -4 => User(-4) at 12
+v = set 5; fail v => User(5) at 13
+spawn -1 idle => Range at 12
+spawn 5 idle => 0";
+
+/// Blocks, and what `v` is after them.
+const BLOCKS: &str = "\
+if 1; v = set 1; else; v = set 2; end => 1
+if 0; v = set 1; else; v = set 2; end => 2
+if -1; v = set 1; end => 1
+if 0; v = set 1; end => 0
+if 0; v = set 1; # a note; else; # a note; end; # a note => 0
+while v; fail 9; end; fuel v => 197
+v = set 3; while v; v = sub v 1; end => 0
+v = set 2; while v; if 1; v = sub v 1; else; fail 1; end; end => 0
+if 1; while v; end; else; v = set 4; end => 0
+fail 1; # a note => User(1) at 12
+# a note; fail 1 => User(1) at 13";
+
+#[test]
+fn lines_do_what_they_say(rt: HostRuntime) -> Result<(), Fail> {
+    assert_eq!(rt; first_wrong(rt.alloc(), STATEMENTS, "")?, None);
+    Ok(())
+}
+
+#[test]
+fn blocks_go_on_where_they_should(rt: HostRuntime) -> Result<(), Fail> {
+    assert_eq!(rt; first_wrong(rt.alloc(), BLOCKS, "")?, None);
+    Ok(())
+}
+
+/// Whether this is told of blocks 32 deep round a statement, the outermost and the others of these forms.
+fn is_told_32_deep(
+    alloc: Global,
+    outermost: &str,
+    others: &str,
+    statement: &str,
+    want: &str,
+) -> Result<bool, NoMemory> {
+    let mut statements = String::from_str(alloc, outermost)?;
+    for _ in 0..31 {
+        statements.push_str("; ")?;
+        statements.push_str(others)?;
+    }
+    statements.push_str("; ")?;
+    statements.push_str(statement)?;
+    for _ in 0..32 {
+        statements.push_str("; end")?;
+    }
+    let told = told(alloc, statements.as_str())?;
+    Ok(told.as_str() == want)
+}
+
+#[test]
+fn conditions_stand_32_deep(rt: HostRuntime) -> Result<(), Fail> {
+    assert!(rt; is_told_32_deep(rt.alloc(), "if 1", "if 1", "v = set 5", "5")?);
+    assert!(rt; is_told_32_deep(rt.alloc(), "if 0", "if 1", "v = set 5", "0")?);
+    Ok(())
+}
+
+#[test]
+fn loops_stand_32_deep(rt: HostRuntime) -> Result<(), Fail> {
+    assert!(rt;
+        is_told_32_deep(
+            rt.alloc(),
+            "v = set 1; while v",
+            "while v",
+            "v = set 0",
+            "0"
+        )?
+    );
+    assert!(rt; is_told_32_deep(rt.alloc(), "while v", "while 1", "fail 9", "0")?);
+    Ok(())
+}
+
+/// A task that makes an object and a queue, and pushes bytes.
+const MAKER: &str = "\
+swan 1
+output out bytes
+task main
+  object kept int
+  queue mine bytes
+  do
+  push out \"ab\"
+  push mine \"\"
+end
+";
+
+/// A task that spawns itself with one less, and gives its queue on.
+const RECURSION: &str = "\
+swan 1
+output out int
+task down
+  push to int
+  param n int
+  var less int
+  do
+  less = sub n 1
+  push to n
+  spawn 5 down to less
+end
+task main
+  queue mine int
+  do
+  spawn 20 down mine 3
+end
+";
+
+/// What an ask is, in words.
+fn words_of(alloc: Global, ask: &Ask<JobLocal>) -> Result<String, NoMemory> {
+    let words = match ask {
+        Ask::Work => String::from_str(alloc, "work")?,
+        Ask::Push(place, Value::Int(number)) => format!(in alloc; "push {place} {number}")?,
+        Ask::Push(place, Value::Bytes(record)) => {
+            let length = record.as_slice().len();
+            format!(in alloc; "push {place} of {length} bytes")?
+        }
+        Ask::NewQueue => String::from_str(alloc, "queue")?,
+        Ask::NewObject(Value::Int(number)) => format!(in alloc; "object {number}")?,
+        Ask::Spawn(child) => {
+            let fuel = child.fuel;
+            let count = child.gives.len();
+            format!(in alloc; "spawn {fuel} {count}")?
+        }
+        Ask::Finish => String::from_str(alloc, "finish")?,
+        _ => String::from_str(alloc, "other")?,
+    };
+    Ok(words)
+}
+
+/// The local of the child that was spawned, or else the task's own.
+fn below(moved: JobLocal, ask: Ask<JobLocal>) -> JobLocal {
+    match ask {
+        Ask::Spawn(
+            Child {
+                local,
+                gives: _,
+                fuel: _,
+            },
+        ) => local,
+        _ask => moved,
+    }
+}
+
+/// The asks of a task and then of the child that it spawned last, and so on, each with its line.
+fn descend(alloc: Global, body: &JobBody, root: JobLocal, steps: u32) -> Result<String, NoMemory> {
+    let mut asks = String::new(alloc);
+    let mut local = root;
+    for _ in 0..steps {
+        let line = body.place(&local);
+        let (moved, ask) = body.advance(alloc, local, Answer::Nothing, 9)?;
+        let words = words_of(alloc, &ask)?;
+        let words = format!(in alloc; "{line} {words}; ")?;
+        asks.push_str(words.as_str())?;
+        local = below(moved, ask);
+    }
+    Ok(asks)
+}
+
+#[test]
+fn a_task_spawns_itself_with_what_it_gives(rt: HostRuntime) -> Result<(), Fail> {
+    let Plan {
+        body,
+        root_local,
+        roots: _,
+        fuel: _,
+    } = plan_of_text(rt.alloc(), RECURSION)?;
+    let asks = descend(rt.alloc(), &body, root_local, 9)?;
+    let want =
+        "13 queue; 15 spawn 20 1; 8 work; 9 push 0 3; 10 spawn 5 1; 8 work; 9 push 0 2; 10 spawn 5 1; 8 work; ";
+    assert!(rt; asks.as_str() == want);
+    Ok(())
+}
+
+#[test]
+fn a_task_makes_objects_and_pushes_bytes(rt: HostRuntime) -> Result<(), Fail> {
+    let Plan {
+        body,
+        root_local,
+        roots: _,
+        fuel: _,
+    } = plan_of_text(rt.alloc(), MAKER)?;
+    let asks = descend(rt.alloc(), &body, root_local, 5)?;
+    let want = "4 object 0; 5 queue; 7 push 0 of 2 bytes; 8 push 2 of 0 bytes; 9 finish; ";
+    assert!(rt; asks.as_str() == want);
+    Ok(())
+}
