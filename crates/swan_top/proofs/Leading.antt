@@ -1,14 +1,12 @@
 -- What reading, accepting and running lead to.
-use Rattle.std.proofs.Common.{◌≡◌, ℕ, ◌≤◌, List, [], ◌∷◌, Option, Some, None, Result, Ok, Err, refl, sym, ap, subst, ◌∙◌}
+use Rattle.std.proofs.Common.{◌≡◌, ℕ, List, [], ◌∷◌, Option, None, Result, Ok, sym, ap, subst, ◌∙◌}
 use Rattle.job_body.specs.Standing.{Standing}
 use Rattle.job_reader.specs.declared.line.Line.{Line}
-use Rattle.job_reader.specs.CanonicalText.{text_of}
 use Rattle.swan_model.specs.declared.outcome.Outcome.{Outcome}
 use Rattle.swan_model.specs.declared.plan.Plan.{Plan}
 use Rattle.swan_top.specs.Decision.{Verdict, accepted, checked, unread, unless_unread, next_of_check, next_of_job, next_of_run, ran}
-use Rattle.swan_top.specs.Headline.{AreRead, IsRead, FilesSeen, Follows, Leads, ReadRefused, files_seen}
-use Rattle.swan_top.specs.Settled.{Is, Stops, IsRefused, InputRefused}
-use Rattle.swan_top.specs.declared.verdict.Settled.{Settled}
+use Rattle.swan_top.specs.Headline.{AreRead, IsRead, FilesSeen, Follows, Leads, NoReadFailed, NoneTooLong, files_seen}
+use Rattle.swan_top.specs.Settled.{Stops, IsRefused, InputRefused}
 use Rattle.swan_top.specs.declared.verdict.Stop.{Stop}
 use Rattle.swan_top.proofs.TextsRead.{Stops-map, ReadRefused-since}
 
@@ -22,28 +20,28 @@ AreRead-as content mid same (file ∷ files) (text ∷ texts) read =
 
 module _ (files : FilesSeen) (job text : List ℕ) (told : IsRead (files.content job) text) where
   -- a job that is refused when it is checked
-  pub refused_check : (why : Stop) → Stops (IsRefused text) why → Stops (Leads files (job ∷ []) (next_of_check job)) why
-  refused_check = Stops-map (IsRefused text) (Leads files (job ∷ []) (next_of_check job))
-      (λ verdict refused. record { texts = text ∷ []; are_read = (told, tt); follows = refused.refused ∙ sym (ap checked refused.first) })
+  pub refused_check : NoReadFailed files → NoneTooLong files → (why : Stop) → Stops (IsRefused text) why → Stops (Leads files (job ∷ []) (next_of_check job)) why
+  refused_check read short = Stops-map (IsRefused text) (Leads files (job ∷ []) (next_of_check job))
+      (λ verdict refused. record { texts = text ∷ []; are_read = (told, tt); follows = (refused.refused ∙ sym (ap checked refused.first), read, short) })
 
   -- and one that is accepted
-  pub accepted_check : (lines : List Line) (verdict : Verdict) → accepted text ≡ Ok lines → verdict ≡ checked (Ok lines) → Leads files (job ∷ []) (next_of_check job) verdict
-  accepted_check lines verdict is done = record { texts = text ∷ []; are_read = (told, tt); follows = done ∙ sym (ap checked is) }
+  pub accepted_check : NoReadFailed files → NoneTooLong files → (lines : List Line) (verdict : Verdict) → accepted text ≡ Ok lines → verdict ≡ checked (Ok lines) → Leads files (job ∷ []) (next_of_check job) verdict
+  accepted_check read short lines verdict is done = record { texts = text ∷ []; are_read = (told, tt); follows = (done ∙ sym (ap checked is), read, short) }
 
   module _ (outcome_of : Plan (List Line) Standing → Outcome) (fuel : ℕ) (names : List (List ℕ)) where
     abbrev pub RunLeads : Verdict → Type 0
     RunLeads = Leads files (job ∷ names) (next_of_run outcome_of fuel job names)
 
     -- a job that is refused when it is to run
-    pub refused_run : (why : Stop) → Stops (IsRefused text) why → Stops RunLeads why
-    refused_run = Stops-map (IsRefused text) RunLeads
+    pub refused_run : NoReadFailed files → NoneTooLong files → (why : Stop) → Stops (IsRefused text) why → Stops RunLeads why
+    refused_run read short = Stops-map (IsRefused text) RunLeads
         (λ verdict refused.
         let P : Result (List Line) _ → Type 0 = λ r. Follows files (next_of_job outcome_of fuel names r []) verdict in
-        record { texts = text ∷ []; are_read = (told, tt); follows = subst P (sym refused.first) refused.refused })
+        record { texts = text ∷ []; are_read = (told, tt); follows = subst P (sym refused.first) (refused.refused, read, short) })
 
     module _ (lines : List Line) (is : accepted text ≡ Ok lines) (mid : List ℕ → Option (List ℕ)) (same : (other : List ℕ) → mid other ≡ files.content other) where
       -- an input that couldn't be read
-      pub unread_run : (f1 l1 : ℕ) → files.faults_before ≤ f1 → files.long_before ≤ l1 → (why : Stop) → Stops (InputRefused (files_seen mid f1 files.faults_after l1 files.long_after) names) why → Stops RunLeads why
+      pub unread_run : (f1 l1 : ℕ) → f1 ≡ files.faults_before → l1 ≡ files.long_before → (why : Stop) → Stops (InputRefused (files_seen mid f1 files.faults_after l1 files.long_after) names) why → Stops RunLeads why
       unread_run f1 l1 faults long = Stops-map (InputRefused (files_seen mid f1 files.faults_after l1 files.long_after) names) RunLeads
           (λ verdict refused.
           let P : Result (List Line) _ → Type 0 = λ r. Follows files (next_of_job outcome_of fuel names r refused.texts) verdict in
@@ -56,12 +54,12 @@ module _ (files : FilesSeen) (job text : List ℕ) (told : IsRead (files.content
           })
 
       -- a run over inputs that were all read
-      pub ran_run : (texts : List (List ℕ)) → AreRead mid names texts → unread names texts ≡ None → (verdict : Verdict) → verdict ≡ ran outcome_of lines texts fuel → RunLeads verdict
-      ran_run texts read all verdict ended =
+      pub ran_run : NoReadFailed files → NoneTooLong files → (texts : List (List ℕ)) → AreRead mid names texts → unread names texts ≡ None → (verdict : Verdict) → verdict ≡ ran outcome_of lines texts fuel → RunLeads verdict
+      ran_run well short texts read all verdict ended =
           let P : Result (List Line) _ → Type 0 = λ r. Follows files (next_of_job outcome_of fuel names r texts) verdict in
           let Q : Option (List ℕ) → Type 0 = λ o. Follows files (unless_unread o (ran outcome_of lines texts fuel)) verdict in
           record {
             texts = text ∷ texts;
             are_read = (told, AreRead-as files.content mid same names texts read);
-            follows = subst P (sym is) (subst Q (sym all) ended);
+            follows = subst P (sym is) (subst Q (sym all) (ended, well, short));
           }

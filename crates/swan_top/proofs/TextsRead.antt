@@ -1,5 +1,5 @@
 -- Reading the inputs of a job one after another.
-use Rattle.std.proofs.Common.{◌≡◌, ℕ, ◌<◌, ◌≤◌, List, [], ◌∷◌, ◌++◌, length, get_or, Option, Some, None, refl, sym, ap, subst, arith}
+use Rattle.std.proofs.Common.{◌≡◌, ℕ, ◌<◌, ◌≤◌, List, [], ◌∷◌, ◌++◌, length, get_or, Option, Some, None, refl, sym, ap, subst, arith, ◌∙◌}
 use Rattle.std.proofs.Common.{inl, inr, Result, Ok, Err, IfErr}
 use Rattle.swan_top.specs.declared.verdict.Settled.{Settled}
 use Rattle.swan_outside.specs.Counts.{Rose}
@@ -29,22 +29,21 @@ unread_none [] texts within = refl
 unread_none (name ∷ names) [] within = absurd (omega arith)
 unread_none (name ∷ names) (text ∷ texts) within = unread_none names texts (omega arith)
 
--- a count that rose since a later moment rose since an earlier one
-pub Rose-since : (earlier before now : ℕ) → earlier ≤ before → Rose before now → Rose earlier now
-Rose-since earlier before now kept rose = omega (arith, rose)
-
 -- a verdict that is so is so in another way
 pub Stops-map : (P Q : Verdict → Type 0) → ((verdict : Verdict) → P verdict → Q verdict) → (why : Stop) → Stops P why → Stops Q why
 Stops-map P Q f (stop.Settled verdict) is = record { fact = f (verdict_of verdict) is.fact; ends = is.ends }
 Stops-map P Q f stop.NoMemory is = tt
 
-module _ (content mid : List ℕ → Option (List ℕ)) (f0 f1 f2 l0 l1 l2 : ℕ) (faults : f0 ≤ f1) (long : l0 ≤ l1) (same : (other : List ℕ) → mid other ≡ content other) where
+module _ (content mid : List ℕ → Option (List ℕ)) (f0 f1 f2 l0 l1 l2 : ℕ) (faults : f1 ≡ f0) (long : l1 ≡ l0) (same : (other : List ℕ) → mid other ≡ content other) where
   -- a refusal of a later read is one of the whole call
   pub ReadRefused-since : (file : List ℕ) (verdict : Verdict) → ReadRefused (files_seen mid f1 f2 l1 l2) file verdict → ReadRefused (files_seen content f0 f2 l0 l2) file verdict
-  ReadRefused-since file verdict (inl failed) = inl (failed.0, Rose-since f0 f1 f2 faults failed.1)
+  ReadRefused-since file verdict (inl failed) =
+      let P : ℕ → Type 0 = λ before. Rose before f2 in
+      inl (failed.0, subst P faults failed.1, failed.2 ∙ long)
   ReadRefused-since file verdict (inr longer) =
-      let P : Option (List ℕ) → Type 0 = λ o. IsTooLong o in
-      inr (longer.0, Rose-since l0 l1 l2 long longer.1, subst P (same file) longer.2)
+      let P : ℕ → Type 0 = λ before. Rose before l2 in
+      let Q : Option (List ℕ) → Type 0 = λ o. IsTooLong o in
+      inr (longer.0, subst P long longer.1, longer.2 ∙ faults, subst Q (same file) longer.3)
 
   pub input_refused : (names texts : List (List ℕ)) (file : List ℕ) → AreRead content names texts → unread names texts ≡ Some file → (why : Stop) → Stops (ReadRefused (files_seen mid f1 f2 l1 l2) file) why → Stops (InputRefused (files_seen content f0 f2 l0 l2) names) why
   input_refused names texts file read is_next =

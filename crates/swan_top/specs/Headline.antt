@@ -1,5 +1,5 @@
 -- The headline: what a call answers, and what is then in the sinks.
-use Rattle.std.specs.Prelude.{◌≡◌, ℕ, ◌≤◌, ◌⊎◌, length, Option, Some, None, List, [], ◌∷◌, ◌++◌, codes}
+use Rattle.std.specs.Prelude.{◌≡◌, ℕ, ◌≤◌, ◌⊎◌, length, Option, Some, None, List, [], ◌∷◌, codes}
 use Rattle.job_body.specs.Standing.{Standing}
 use Rattle.job_reader.specs.declared.line.Line.{Line}
 use Rattle.swan_model.specs.declared.outcome.Outcome.{Outcome}
@@ -80,15 +80,24 @@ AreRead content files [] = Unit {0}
 AreRead content (file ∷ files) (text ∷ texts) = IsRead (content file) text × AreRead content files texts
 AreRead content [] (text ∷ texts) = ⊥
 
+abbrev pub NoReadFailed : FilesSeen → Type 0
+NoReadFailed files = files.faults_after ≡ files.faults_before
+
+abbrev pub NoneTooLong : FilesSeen → Type 0
+NoneTooLong files = files.long_after ≡ files.long_before
+
 -- A file couldn't be read, and the count of failed reads rose; or it is too long, where it tells its content,
--- and the count of long reads rose.
+-- and the count of long reads rose. The other count is as it was.
 abbrev pub ReadRefused : FilesSeen → List ℕ → Verdict → Type 0
 ReadRefused files file verdict =
-    ((verdict ≡ refuses (file_line (codes "read failed ") file) status.ReadFailed) × Rose files.faults_before files.faults_after)
-    ⊎ ((verdict ≡ refuses (file_line (codes "too long ") file) status.ReadFailed) × Rose files.long_before files.long_after × IsTooLong (files.content file))
+    ((verdict ≡ refuses (file_line (codes "read failed ") file) status.ReadFailed)
+    × Rose files.faults_before files.faults_after × NoneTooLong files)
+    ⊎ ((verdict ≡ refuses (file_line (codes "too long ") file) status.ReadFailed)
+    × Rose files.long_before files.long_after × NoReadFailed files × IsTooLong (files.content file))
 
+-- A verdict that is settled comes only where no read was refused.
 abbrev pub Follows : FilesSeen → Next → Verdict → Type 0
-Follows files (settled verdict) verdict' = verdict' ≡ verdict
+Follows files (settled verdict) verdict' = (verdict' ≡ verdict) × NoReadFailed files × NoneTooLong files
 Follows files (reads file) verdict = ReadRefused files file verdict
 
 -- The verdict is what comes of these files, by texts that were read of them in their order.
@@ -101,13 +110,13 @@ pub record Leads (files : FilesSeen) (names : List (List ℕ)) (next_of : List (
 abbrev pub Settles : (Plan (List Line) Standing → Outcome) → FilesSeen → Command → Verdict → Type 0
 Settles outcome_of files command = Leads files (files_of command) (next outcome_of command)
 
--- What a call answers. Words that are no command are refused without a read and without memory. Else the
+-- What a call answers. Words that are no command are refused without memory, and no read was refused. Else the
 -- call ends as the verdict says that its command leads to; or memory ran out, and nothing was written.
 abbrev pub usage : Verdict
 usage = refuses (codes "usage\n") status.Usage
 
 abbrev pub Answers : (Plan (List Line) Standing → Outcome) → FilesSeen → (out report : SinkSeen) → Option Command → Status → Type 0
-Answers outcome_of files out report None ends = Ends out report usage ends
+Answers outcome_of files out report None ends = Ends out report usage ends × NoReadFailed files × NoneTooLong files
 Answers outcome_of files out report (Some command) status.NoMemory = WroteNothing out report
 Answers outcome_of files out report (Some command) ends =
     (verdict : Verdict) × Settles outcome_of files command verdict × Ends out report verdict ends

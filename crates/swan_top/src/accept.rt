@@ -56,16 +56,17 @@ fn refuse(alloc: Global, fault: JobFault) -> Stop
     }
 }
 
-// The job that a text is, or its refusal.
-pub(crate) fn accept(alloc: Global, text: &[u8]) -> Result<CheckedJob, Stop>
-    ensures job { IfOk result (λ job. accepted text.now ≡ Ok job) }
-    ensures refused { IfErr result (λ why. Stops (IsRefused text.now) why) }
+// The job that a text is, or its refusal. The text is given up once it is read.
+pub(crate) fn accept(alloc: Global, text: Vec<u8>) -> Result<CheckedJob, Stop>
+    ensures job { IfOk result (λ job. accepted text.items ≡ Ok job) }
+    ensures refused { IfErr result (λ why. Stops (IsRefused text.items) why) }
 {
-    let job = match read_job(alloc, text) {
+    let job = match read_job(alloc, text.as_slice()) {
         Ok(job) => job,
         Err(ReadJob::Refused(fault)) => return Err(refuse(alloc, fault)),
         Err(ReadJob::NoMemory) => return Err(Stop::NoMemory),
     };
+    drop(text);
     match check(alloc, job) {
         Ok(job) => Ok(job),
         Err(CheckJob::Refused(fault)) => Err(refuse(alloc, fault)),

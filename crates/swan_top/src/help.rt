@@ -28,4 +28,5 @@ command, 3 where the job is refused, 4 where a file can't be read or is too long
 can't be written, 6 where memory runs out, 7 where the inputs are refused.
 
 For example: swan run 1 100 examples/hello.swan
+The language of jobs is explained in docs/LANGUAGE.md.
 ";

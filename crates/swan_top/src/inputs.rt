@@ -1,5 +1,5 @@
 // Reading the inputs of a job.
-ghost use Rattle.std.specs.Prelude.{◌≡◌, ◌≤◌, ℕ, List, Some, None, IfOk, IfErr};
+ghost use Rattle.std.specs.Prelude.{◌≡◌, ℕ, List, Some, None, IfOk, OnOk, IfErr};
 ghost use Rattle.swan_top.specs.Decision.{unread};
 ghost use Rattle.swan_top.specs.Headline.{AreRead, ReadRefused, files_seen};
 ghost use Rattle.swan_top.specs.Settled.{Stops, InputRefused};
@@ -20,8 +20,8 @@ pub(crate) fn read_inputs<F: Files>(
     ensures all { IfOk result (λ inputs. unread names.now inputs.items ≡ None) }
     ensures refused { IfErr result (λ stop. Stops (InputRefused (files_seen (F.content files.old)
         (F.faults files.old) (F.faults files.new) (F.long_reads files.old) (F.long_reads files.new)) names.now) stop) }
-    ensures faults_kept { F.faults files.old ≤ F.faults files.new }
-    ensures long_reads_kept { F.long_reads files.old ≤ F.long_reads files.new }
+    ensures no_fault { OnOk result (F.faults files.new ≡ F.faults files.old) }
+    ensures no_long_read { OnOk result (F.long_reads files.new ≡ F.long_reads files.old) }
 {
     let mut inputs = Vec::new(alloc);
     for name in names {

@@ -1,5 +1,5 @@
 // Reading files.
-ghost use Rattle.std.specs.Prelude.{◌≡◌, ◌≤◌, ℕ, List, Some, None, IfOk, IfErr};
+ghost use Rattle.std.specs.Prelude.{◌≡◌, ℕ, List, Some, None, IfOk, OnOk, IfErr};
 ghost use Rattle.swan_top.specs.Decision.{unread};
 ghost use Rattle.swan_top.specs.Headline.{IsRead, ReadRefused, files_seen};
 ghost use Rattle.swan_top.specs.Refusals.{file_line};
@@ -30,8 +30,8 @@ pub(crate) fn read_file<F: Files>(
     ensures read { IfOk result (λ text. IsRead (F.content files.old file.now) text.items) }
     ensures refused { IfErr result (λ stop. Stops (ReadRefused (files_seen (F.content files.old)
         (F.faults files.old) (F.faults files.new) (F.long_reads files.old) (F.long_reads files.new)) file.now) stop) }
-    ensures faults_kept { F.faults files.old ≤ F.faults files.new }
-    ensures long_reads_kept { F.long_reads files.old ≤ F.long_reads files.new }
+    ensures no_fault { OnOk result (F.faults files.new ≡ F.faults files.old) }
+    ensures no_long_read { OnOk result (F.long_reads files.new ≡ F.long_reads files.old) }
     ensures contents_kept { (other : List ℕ) → F.content files.new other ≡ F.content files.old other }
 {
     let mut text = Vec::new(alloc);

@@ -41,7 +41,7 @@ fn settle_check<F: Files>(alloc: Global, files: &mut F, job: &Word) -> Result<Se
         (job.now ∷ []) (next_of_check job.now))) }
 {
     let text = read_file(alloc, files, job)?;
-    let job = accept(alloc, text.as_slice())?;
+    let job = accept(alloc, text)?;
     Ok(Settled::Prints {
         out: Blob::new(write_job(alloc, job.job())?),
         report: Blob::new(Vec::from_slice(alloc, b"checked\n")?),
@@ -66,7 +66,7 @@ fn settle_run<F: Files>(
         (job.now ∷ inputs.now) (next_of_run (outcome ⟦<JobBody as Body>⟧) fuel job.now inputs.now))) }
 {
     let text = read_file(alloc, files, job)?;
-    let job = accept(alloc, text.as_slice())?;
+    let job = accept(alloc, text)?;
     let inputs = read_inputs(alloc, files, inputs)?;
     run_job(alloc, fuel, job, inputs)
 }

@@ -9,6 +9,7 @@ use swan_outside::{FileBlob, MemoryFiles, MemorySink};
 mod jobs;
 mod limits;
 mod rows;
+mod scripts;
 
 // How a call ended, and what it wrote.
 #[derive(Drop)]

@@ -21,9 +21,9 @@ use swan_outside::{Files, Sink};
 /// of memory may take the place of any of these but Usage and the writes, and then nothing is written.
 ///
 /// Done and Faulted come only where both texts were written whole. Usage, JobRefused, ReadFailed and
-/// InputRefused write one line to `report` and nothing to `out`. WriteFailed comes only where a sink's
-/// count of faults rose, and leaves in that sink a front of its text; where that was `out`, nothing was
-/// written to `report`.
+/// InputRefused write one line to `report` and nothing to `out`. ReadFailed comes exactly where a read was
+/// refused, for which a count of `files` rose. WriteFailed comes only where a sink's count of faults rose,
+/// and leaves in that sink a front of its text; where that was `out`, nothing was written to `report`.
 ///
 /// The contents are those that `files` tells, and what is said of written bytes holds where the sinks
 /// tell them. It always returns.

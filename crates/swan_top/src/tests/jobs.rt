@@ -26,7 +26,7 @@ pub const TEXTS: [&str; 27] = [
     "",
     "a\nb\nc\nd\ne\n",
     "a\n\nb",
-    "swan 1\nfrob\n",
+    "swan 1\nfrob\noutput out bytes\ntask main\n  do\n  push out \"hi\"\nend\n",
     "swan 1\noutput out int\ntask main\n  do\n  push out \"hi\"\nend\n",
     "swan 1\noutput out int\ntask main\n  var v int\n  do\n  v = add -2 1\n  push out v\nend\n",
     "swan 1\noutput out int\ntask main\n  var v int\n  do\n  v = add 9223372036854775807 1\n  push out v\nend\n",

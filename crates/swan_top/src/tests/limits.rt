@@ -2,13 +2,44 @@
 use super::jobs::TEXTS;
 use super::*;
 
+/// The number of the read that fails, the file that is named, and the words.
+const FAILING_READS: &str = "\
+1 b run 1 5 b x y
+2 x run 1 5 b x y
+3 y run 1 5 b x y
+1 b elide 5 b x y
+2 x elide 5 b x y
+3 y elide 5 b x y
+1 b check b";
+
+// Asserts a row of the failing reads.
+fn hold_failing_read(rt: &impl Abort, alloc: Global, row: &str) -> Result<(), Fail> {
+    let (number, rest) = row.split_once(' ').ok_or("no number")?;
+    let (name, words) = rest.split_once(' ').ok_or("no name")?;
+    let files = files_of(alloc, "b x y", &[TEXTS[1], "1", "2"])?;
+    let got = called(alloc, files, words, number_of(Some(number))? as u64)?;
+    let report = format!(in alloc; "read failed {name}\n")?;
+    assert_ended(rt, &got, row, "", report.as_str(), "4");
+    Ok(())
+}
+
 #[test]
 fn a_failing_read_is_named(rt: HostRuntime) -> Result<(), Fail> {
-    for (failing, name) in [(1u64, "b"), (2, "x"), (3, "y")] {
-        let files = files_of(rt.alloc(), "b x y", &[TEXTS[1], "1", "2"])?;
-        let got = called(rt.alloc(), files, "run 1 5 b x y", failing)?;
-        let report = format!(in rt.alloc(); "read failed {name}\n")?;
-        assert_ended(&rt, &got, name, "", report.as_str(), "4");
+    for row in FAILING_READS.lines() {
+        hold_failing_read(&rt, rt.alloc(), row)?;
+    }
+    Ok(())
+}
+
+#[test]
+fn an_input_past_the_limit_of_files_is_too_long(rt: HostRuntime) -> Result<(), Fail> {
+    for words in ["run 1 5 b x", "elide 5 b x"] {
+        let mut files = files_of(rt.alloc(), "b", &[TEXTS[1]])?;
+        let name = word(rt.alloc(), "x")?;
+        let content = Blob::new(vec![in rt.alloc(); b'x'; 67_108_865]?);
+        files.push(FileBlob { name, content })?;
+        let got = called(rt.alloc(), files, words, 0)?;
+        assert_ended(&rt, &got, words, "", "too long x\n", "4");
     }
     Ok(())
 }
@@ -35,6 +66,7 @@ fn a_failing_write_leaves_a_front(rt: HostRuntime) -> Result<(), Fail> {
     for (words, out_fails, report_fails, out) in [
         ("run 1 100 a", 2u64, 0u64, "hi"),
         ("run 1 100 a", 1, 0, ""),
+        ("elide 100 a", 2, 0, "hi"),
         ("run 1 100 a", 0, 1, "hi\n"),
         ("", 0, 1, ""),
     ] {
@@ -83,6 +115,21 @@ fn hold_front(rt: &impl Abort, alloc: Global, row: &str) -> Result<(), Fail> {
 }
 
 #[test]
+fn a_whole_job_is_printed_with_and_without_its_last_line_feed(rt: HostRuntime) -> Result<(), Fail> {
+    for len in [58, 59] {
+        let front = TEXTS[0].get(..len).ok_or("too long")?;
+        let got = called(
+            rt.alloc(),
+            files_of(rt.alloc(), "a", &[front])?,
+            "check a",
+            0,
+        )?;
+        assert_ended(&rt, &got, front, TEXTS[0], "checked\n", "0");
+    }
+    Ok(())
+}
+
+#[test]
 fn each_front_of_a_job_is_refused_at_its_line(rt: HostRuntime) -> Result<(), Fail> {
     for row in FRONTS.lines() {
         hold_front(&rt, rt.alloc(), row)?;
@@ -90,27 +137,82 @@ fn each_front_of_a_job_is_refused_at_its_line(rt: HostRuntime) -> Result<(), Fai
     Ok(())
 }
 
-// A call over an input of this many copies of a text, and then another one.
-fn with_input(alloc: Global, part: &str, times: usize, last: &str) -> Result<Ended, AllocError> {
-    let mut text = part.repeat(alloc, times)?;
-    text.push_str(last)?;
+/// An input as its first bytes, then so many copies of some, and its last bytes; then the report and
+/// the code, with ~ for each line feed.
+const INPUTS: &str = "\
+|x|65535|~|left text 1~faults 0~|0
+|x|65536|~|long line 1 1~|7
+a~|x|65536|~b|long line 1 2~|7
+|~|1000000||left text 1000000~faults 0~|0
+|~|1000000|~|too many lines 1~|7";
+
+// The input of a row, by its first three parts.
+fn input_of(alloc: Global, first: &str, part: &str, times: usize) -> Result<String, AllocError> {
+    let copies = with_line_feeds(alloc, part)?.repeat(alloc, times)?;
+    let mut text = with_line_feeds(alloc, first)?;
+    text.push_str(copies.as_str())?;
+    Ok(text)
+}
+
+// A call with these words over this input.
+fn with_input(alloc: Global, words: &str, text: String) -> Result<Ended, AllocError> {
     let mut files = files_of(alloc, "b", &[TEXTS[1]])?;
     let name = word(alloc, "x")?;
     let content = Blob::new(text.into_bytes());
     files.push(FileBlob { name, content })?;
-    called(alloc, files, "run 1 5 b x", 0)
+    called(alloc, files, words, 0)
+}
+
+// Asserts a row of the inputs.
+fn hold_input(rt: &impl Abort, alloc: Global, words: &str, row: &str) -> Result<(), Fail> {
+    let mut parts = row.split('|');
+    let first = parts.next().ok_or("no first bytes")?;
+    let part = parts.next().ok_or("no part")?;
+    let times = number_of(parts.next())?;
+    let last = with_line_feeds(alloc, parts.next().ok_or("no last bytes")?)?;
+    let report = with_line_feeds(alloc, parts.next().ok_or("no report")?)?;
+    let code = parts.next().ok_or("no code")?;
+    let mut text = input_of(alloc, first, part, times)?;
+    text.push_str(last.as_str())?;
+    let got = with_input(alloc, words, text)?;
+    assert_ended(rt, &got, row, "", report.as_str(), code);
+    Ok(())
 }
 
 #[test]
-fn inputs_are_refused_at_their_limits(rt: HostRuntime) -> Result<(), Fail> {
-    for (part, times, last, report, code) in [
-        ("x", 65_535usize, "\n", "left text 1\nfaults 0\n", "0"),
-        ("x", 65_536, "\n", "long line 1 1\n", "7"),
-        ("\n", 1_000_000, "", "left text 1000000\nfaults 0\n", "0"),
-        ("\n", 1_000_000, "\n", "too many lines 1\n", "7"),
-    ] {
-        let got = with_input(rt.alloc(), part, times, last)?;
-        assert_ended(&rt, &got, report, "", report, code);
+fn run_refuses_inputs_past_their_limits(rt: HostRuntime) -> Result<(), Fail> {
+    for row in INPUTS.lines() {
+        hold_input(&rt, rt.alloc(), "run 1 5 b x", row)?;
     }
     Ok(())
+}
+
+#[test]
+fn elide_refuses_the_same_inputs(rt: HostRuntime) -> Result<(), Fail> {
+    for row in INPUTS.lines() {
+        hold_input(&rt, rt.alloc(), "elide 5 b x", row)?;
+    }
+    Ok(())
+}
+
+/// Jobs of 16 and of 17 inputs, and two inputs.
+const MANY: [&str; 4] = [
+    "swan 1\ninput a\ninput b\ninput c\ninput d\ninput e\ninput f\ninput g\ninput h\ninput i\ninput j\ninput k\ninput l\ninput m\ninput n\ninput o\ninput p\ntask main\n  do\nend\n",
+    "swan 1\ninput a\ninput b\ninput c\ninput d\ninput e\ninput f\ninput g\ninput h\ninput i\ninput j\ninput k\ninput l\ninput m\ninput n\ninput o\ninput p\ninput q\ntask main\n  do\nend\n",
+    "1\n2\n",
+    "3\n",
+];
+
+/// Fuel, job and inputs; then the output, the report and the code.
+const MANY_RUNS: &str = "\
+1 sixteen x x x x x x x x x x x x x x x y||left a 2~left b 2~left c 2~left d 2~left e 2~left f 2~left g 2~left h 2~left i 2~left j 2~left k 2~left l 2~left m 2~left n 2~left o 2~left p 1~faults 0~|0
+1 sixteen x x x x x x x x x x x x x x x||inputs 16 15~|7
+1 sixteen x x x x x x x x x x x x x x x x y||inputs 16 17~|7
+1 seventeen x x x x x x x x x x x x x x x x y||refused 18 Limit~|3";
+
+#[test]
+fn a_job_has_sixteen_inputs_at_most(rt: HostRuntime) -> Result<(), Fail> {
+    let names = "sixteen seventeen x y";
+    hold(&rt, rt.alloc(), names, &MANY, "run 1", MANY_RUNS)?;
+    hold(&rt, rt.alloc(), names, &MANY, "elide", MANY_RUNS)
 }

@@ -54,6 +54,7 @@ fn elide_writes_the_same(rt: HostRuntime) -> Result<(), Fail> {
 const COMMANDS: &str = "\
 check l||refused 9 Privilege~|3
 check m||refused 17 Alias~|3
+check once|swan 1~task two~  push a int~  push b int~  do~end~task both~  in a int~  in b int~  do~end~task main~  queue q int~  object x int~  do~  spawn 1 both x x~end~|checked~|0
 check empty||refused 1 BadHeader~|3
 check frob||refused 2 BadLine~|3
 check tab||refused 4 BadByte~|3
@@ -71,7 +72,7 @@ run 0 5 a||usage~|2
 run 2 5 a||usage~|2
 run 01 5 a||usage~|2
 run 65 5 a||usage~|2
-bulk 7 3 1||usage~|2
+bulk 7 300001 1||usage~|2
 --help --help||usage~|2
 --version a||usage~|2
 help||usage~|2
@@ -82,16 +83,30 @@ fn commands_are_their_words(rt: HostRuntime) -> Result<(), Fail> {
     hold(&rt, rt.alloc(), NAMES, &TEXTS, "", COMMANDS)
 }
 
+/// What the help says of commands, numbers and statuses, and its example.
+const HELP_SAYS: &str = "\
+check JOB
+elide FUEL JOB INPUT*
+run WORKERS FUEL JOB INPUT*
+--help
+--version
+WORKERS workers, which is 1 in this version
+FUEL is 1 to 10000000.
+0 where the run has no fault
+1 where it has one
+2 where the words are no
+3 where the job is refused
+4 where a file can't be read or is too long
+5 where a text
+6 where memory runs out
+7 where the inputs are refused
+For example: swan run 1 100 examples/hello.swan";
+
 #[test]
-fn the_help_lists_each_command(rt: HostRuntime) -> Result<(), Fail> {
+fn the_help_lists_each_command_range_and_status(rt: HostRuntime) -> Result<(), Fail> {
     let got = called(rt.alloc(), Vec::new(rt.alloc()), "--help", 0)?;
-    for command in [
-        "check JOB",
-        "elide FUEL JOB INPUT*",
-        "run WORKERS FUEL JOB INPUT*",
-        "--version",
-    ] {
-        assert!(rt; got.out.as_str().contains(command), "{command}");
+    for part in HELP_SAYS.lines() {
+        assert!(rt; got.out.as_str().contains(part), "{part}");
     }
     assert_eq!(rt; got.report.as_str(), "");
     assert_eq!(rt; got.code, 0);

@@ -14,6 +14,9 @@ pub returns-in-Err-Refused-clause-refused : goal.returns-in-Err-Refused-clause-r
 returns-in-Err-Refused-clause-refused c =
     let fault = c.in-Err-Refused.fault in
     let first = c.in-Err-Refused.ensures.refused fault (ap (λ e. Err e) c.in-Err-Refused.field-0-is) in
+    let text = c.args.text.items in
+    let is_text : c.as_slice.result.now ≡ text = c.as_slice.ensures.value in
+    let named : fault_of (job_of text) ≡ Some fault = rw (← is_text) first in
     Stops-map _ _
-    (λ verdict is. record { fault = fault; first = ap accepted_lines (fault_is (job_of c.args.text.now) fault first); refused = is })
+    (λ verdict is. record { fault = fault; first = ap accepted_lines (fault_is (job_of text) fault named); refused = is })
     c.refuse.result c.refuse.ensures

@@ -1,7 +1,7 @@
-use Rattle.std.proofs.Common.{◌≡◌, ◌<◌, ◌∙◌, List, ℕ, length, get_or, ap, sym, subst, arith, length-append}
+use Rattle.std.proofs.Common.{◌≡◌, ◌∙◌, length, get_or, ap, sym, arith, length-append}
 use Rattle.std.proofs.lemmas.Result.{err_from_is_err_and}
 use Rattle.swan_top.proofs.TextsRead.{AreRead-push, unread_next, unread_none, input_refused}
-use Rattle.swan_top.specs.Headline.{AreRead, IsRead}
+use Rattle.swan_top.specs.Headline.{IsRead}
 use Rattle.swan_top.proofs.inputs.read_inputs.Goals as goal
 
 pub returns-in_err-text-clause-refused : goal.returns-in_err-text-clause-refused
@@ -12,7 +12,7 @@ returns-in_err-text-clause-refused g c =
     let inputs = c.loop-name.inputs.items in
     let at : get_or names (length inputs) c.name-item.result ≡ c.name-item.result =
     ap (λ i. get_or names i c.name-item.result) keeps.count ∙ sym c.name-item.is in
-    rw (p.1, p.2) (input_refused (g.F.Files.content c.args.files.now) (g.F.Files.content c.loop-name.files) _ _ _ _ _ _ keeps.faults_kept keeps.long_reads_kept keeps.contents names inputs c.name-item.result keeps.read (unread_next names inputs c.name-item.result (omega arith) at) _ c.in_err-text.ensures.refused)
+    rw (p.1, p.2) (input_refused (g.F.Files.content c.args.files.now) (g.F.Files.content c.loop-name.files) _ _ _ _ _ _ keeps.no_fault keeps.no_long_read keeps.contents names inputs c.name-item.result keeps.read (unread_next names inputs c.name-item.result (omega arith) at) _ c.in_err-text.ensures.refused)
 
 pub loop-name-preserved : goal.loop-name-preserved
 loop-name-preserved g c =
@@ -28,8 +28,8 @@ loop-name-preserved g c =
       count = rw c.in_ok-push.ensures.items (simp length-append (omega arith));
       read = rw c.in_ok-push.ensures.items (AreRead-push (content c.args.files.now) names inputs c.new.result c.name-item.result keeps.read (omega arith) at told);
       contents = λ other. c.read_file.ensures.contents_kept other ∙ keeps.contents other;
-      faults_kept = omega arith;
-      long_reads_kept = omega arith;
+      no_fault = c.in_ok-text.ensures.no_fault ∙ keeps.no_fault;
+      no_long_read = c.in_ok-text.ensures.no_long_read ∙ keeps.no_long_read;
     }
 
 pub returns-clause-all : goal.returns-clause-all

@@ -1,14 +1,14 @@
-use Rattle.std.proofs.Common.{◌≡◌, ℕ, ◌≤◌, List, Option, length}
+use Rattle.std.proofs.Common.{◌≡◌, ℕ, List, Option, length}
 use Rattle.swan_top.specs.Headline.{AreRead}
 use Rattle.swan_top.proofs.inputs.read_inputs.Given as goal
 
--- The inputs so far were read of the first names; contents stayed, and no count fell.
+-- The inputs so far were read of the first names; contents and counts stayed.
 pub record Keeps (before content : List ℕ → Option (List ℕ)) (names inputs : List (List ℕ)) (index faults_before faults long_before long : ℕ) : Type 0 where
   pub count : length inputs ≡ index
   pub read : AreRead before names inputs
   pub contents : (other : List ℕ) → content other ≡ before other
-  pub faults_kept : faults_before ≤ faults
-  pub long_reads_kept : long_before ≤ long
+  pub no_fault : faults ≡ faults_before
+  pub no_long_read : long ≡ long_before
 
 abbrev pub invariant-loop-name : goal.invariant-loop-name
 invariant-loop-name g l = let F = g.F.Files in
