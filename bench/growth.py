@@ -32,7 +32,6 @@ task child
   pop n q
 end
 task main
-  param_free
   var i int
   var more int
   do
@@ -43,7 +42,7 @@ task main
     more = lt i {n}
   end
 end
-""".replace("  param_free\n", "")
+"""
 
 
 def lines_job(count):
@@ -77,7 +76,7 @@ with folder() as here:
     series("elide over n lines", lambda times: ["elide", 10_000_000, copy, inputs[times]])
 
     jobs = {times: written(here, f"tasks{times}", [TASKS.format(n=200_000 * times)]) for times in (1, 2, 4)}
-    series("elide of n tasks", lambda times: ["elide", 10_000_000, jobs[times]])
+    series("elide of n spawned tasks", lambda times: ["elide", 10_000_000, jobs[times]])
 
     for name, text in [
         ("lines", lines_job),
@@ -86,5 +85,5 @@ with folder() as here:
         ("notes", notes_job),
     ]:
         made = {times: written(here, f"{name}{times}", [text(4_800 * times)]) for times in (1, 2, 4)}
-        series(f"check of n {name}", lambda times: ["check", made[times]])
-        series(f"elide of n {name}", lambda times: ["elide", 10_000_000, made[times]])
+        series(f"check of a job of n {name}", lambda times: ["check", made[times]])
+        series(f"elide of a job of n {name}", lambda times: ["elide", 10_000_000, made[times]])

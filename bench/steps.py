@@ -5,6 +5,9 @@ from common import folder, least, written
 
 TURNS = 1_500_000
 
+# Each turn has eight lines of text and four others.
+TEXT_TURNS = 750_000
+
 INTS = f"""swan 1
 output sum int
 task main
@@ -32,12 +35,18 @@ task main
   var more int
   do
   line = set "some text with a few words in it"
-  more = lt i {TURNS // 2}
+  more = lt i {TEXT_TURNS}
   while more
     at = find line 119 0
     part = slice line at 14
+    at = find line 102 at
+    part = slice line at 20
+    at = find line 119 at
+    part = slice line at 26
+    at = find line 105 at
+    part = slice line at 29
     i = add i 1
-    more = lt i {TURNS // 2}
+    more = lt i {TEXT_TURNS}
   end
   at = len part
   push left at
@@ -60,12 +69,18 @@ def ints():
 def texts():
     i = 0
     line = b"some text with a few words in it"
-    more = i < TURNS // 2
+    more = i < TEXT_TURNS
     while more:
         at = line.find(119, 0)
         part = line[at:14]
+        at = line.find(102, at)
+        part = line[at:20]
+        at = line.find(119, at)
+        part = line[at:26]
+        at = line.find(105, at)
+        part = line[at:29]
         i = i + 1
-        more = i < TURNS // 2
+        more = i < TEXT_TURNS
     return len(part)
 
 
@@ -82,7 +97,7 @@ with folder() as here:
     start, _ = least(["elide", 10, written(here, "empty", [EMPTY])])
     for name, text, function, steps in [
         ("int arithmetic", INTS, ints, 5 * TURNS),
-        ("text", TEXTS, texts, 6 * (TURNS // 2)),
+        ("text", TEXTS, texts, 12 * TEXT_TURNS),
     ]:
         seconds, _ = least(["elide", 10_000_000, written(here, name.split()[0], [text])], 3)
         other = least_of(function)
