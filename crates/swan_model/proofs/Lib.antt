@@ -1,2 +1,16 @@
 pub mod FirstLine
 pub mod ScriptLength
+pub mod Lists
+pub mod Origins
+pub mod PathOrder
+pub mod Paths
+pub mod Places
+pub mod Points
+pub mod ScriptCells
+pub mod ScriptCounts
+pub mod ScriptDeeds
+pub mod ScriptRights
+pub mod ScriptSteps
+pub mod TaskEntries
+pub mod Times
+pub mod Uses

@@ -1,0 +1,27 @@
+-- Paths that are the same, and paths that are below another one.
+use Rattle.std.proofs.Common.{◌≡◌, ℕ, true, nat_eq, List, [], ◌∷◌, ◌++◌, length, refl, ap, arith, length-append, rules, tests}
+use Rattle.std.proofs.lemmas.Bool.{and_parts, and_from, eqb-true}
+use Rattle.std.specs.Cmp.Lexicographic.{pointwise}
+
+pub same_part : (part : ℕ) → nat_eq part part ≡ true
+same_part part = search (rules, tests)
+
+-- a path is none of those below it
+pub not_below-itself : (path rest : List ℕ) (number : ℕ) → path ≡ path ++ number ∷ rest → ⊥
+not_below-itself path rest number is =
+    let e : length path ≡ length (path ++ number ∷ rest) = ap length is in
+    omega (arith, length-append path (number ∷ rest))
+
+pub same_path : (path other : List ℕ) → pointwise nat_eq path other ≡ true → path ≡ other
+same_path [] [] is = refl
+same_path [] (part ∷ parts) is = absurd (cc)
+same_path (part ∷ parts) [] is = absurd (cc)
+same_path (part ∷ parts) (other ∷ others) is =
+    let both = and_parts (nat_eq part other) (pointwise nat_eq parts others) is in
+    let head : part ≡ other = eqb-true part other both.0 in
+    let tail : parts ≡ others = same_path parts others both.1 in
+    cc
+
+pub path_is-itself : (path : List ℕ) → pointwise nat_eq path path ≡ true
+path_is-itself [] = refl
+path_is-itself (part ∷ parts) = and_from (nat_eq part part) (pointwise nat_eq parts parts) (same_part part) (path_is-itself parts)
