@@ -33,7 +33,7 @@ still : (n : ℕ) (store : Store) → Becomes n deed.Quiet store store
 still n store = becomes-still n deed.Quiet store quiet-still
 
 -- the deed about what a place names
-named : (store : Store) (held : List Holding) (place : ℕ) (mode : Mode) (number : ℕ) (origin : Origin) → number_at held place mode ≡ Some number → origin_of store mode number ≡ Some origin → (does : Origin → Deed) → does origin ≡ about (origin_at store held place mode) does
+pub named : (store : Store) (held : List Holding) (place : ℕ) (mode : Mode) (number : ℕ) (origin : Origin) → number_at held place mode ≡ Some number → origin_of store mode number ≡ Some origin → (does : Origin → Deed) → does origin ≡ about (origin_at store held place mode) does
 named store held place mode number origin at is does =
     sym (ap (λ n. about (option_and_then (origin_of store mode) n) does) at ∙ ap (λ o. about o does) is)
 

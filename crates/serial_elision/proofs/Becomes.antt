@@ -14,7 +14,7 @@ use Rattle.swan_model.specs.Told.{is_same, changed_by}
 use Rattle.swan_model.specs.Values.{kind_of}
 use Rattle.serial_elision.proofs.At.{get-push, get-set}
 use Rattle.serial_elision.proofs.ItemsTold.{items_by, without_first}
-use Rattle.serial_elision.proofs.Origins.{IsOld, is_same-self, old-differs}
+use Rattle.swan_model.proofs.Origins.{IsOld, is_same-self, old-differs}
 
 -- What stands at an index once the step n has done a deed: what stood there, as the deed leaves it; or, at
 -- the end, what this step made.

@@ -1,39 +1,25 @@
 -- Each task ends once, and between its spawn and its end stand only its own entries and those of the tasks
 -- below it. So scripts of plans are nested.
-use Rattle.std.proofs.Common.{◌≡◌, ◌⊎◌, inl, inr, ℕ, true, zero, suc, ◌+◌, ◌<◌, ◌≤◌, List, [], ◌∷◌, ◌++◌, Some, None, length, refl, sym, ap, subst, ◌∙◌, append_assoc, arith}
-use Rattle.std.proofs.lemmas.Bool.{and_from, cases_lt, cases_order}
+use Rattle.std.proofs.Common.{◌≡◌, ◌⊎◌, inl, inr, ℕ, zero, suc, ◌+◌, ◌<◌, ◌≤◌, List, [], ◌∷◌, ◌++◌, Some, None, length, refl, sym, ap, subst, ◌∙◌, append_assoc, arith}
+use Rattle.std.proofs.lemmas.Bool.{cases_lt, cases_order}
 use Rattle.std.proofs.lemmas.List.{append-nil}
 use Rattle.std.proofs.lemmas.Option.{slice_get_past}
 use Rattle.std.specs.Prelude.{slice_get}
 use Rattle.swan_model.specs.declared.body.Body.{Ghosts}
 use Rattle.swan_model.specs.declared.plan.Plan.{Plan}
 use Rattle.swan_model.specs.declared.script.Entry.{Entry}
-use Rattle.swan_model.specs.declared.script.Script.{Script}
 use Rattle.swan_model.specs.Elision.{serial, most_steps}
-use Rattle.swan_model.specs.Granted.{is_spawn, children_before}
+use Rattle.swan_model.specs.Granted.{is_spawn}
 use Rattle.swan_model.specs.Nested.{spawn_time, IsEntryUnder, IsEntryOf, IsEndOf, IsNested}
 use Rattle.swan_model.specs.Script.{entry_of, entry_on, script}
 use Rattle.swan_model.specs.SerialState.{Activation}
 use Rattle.swan_model.specs.SerialStep.{step_on, effect_of, after}
-use Rattle.swan_model.specs.SerialTime.{is_of}
 use Rattle.serial_elision.proofs.Entries.{get_script, over-after}
 use Rattle.serial_elision.proofs.Nesting.{next_stack, end_is_last, not_yet, spawn_at}
-use Rattle.serial_elision.proofs.Passing.{is_spawn_of, IsNotYetEach, IsRunning, after-running, after-spawn}
-use Rattle.serial_elision.proofs.Paths.{not_below-itself, path_is-itself}
-use Rattle.serial_elision.proofs.Places.{place_of}
+use Rattle.serial_elision.proofs.Passing.{IsNotYetEach, IsRunning, after-running, after-spawn}
+use Rattle.swan_model.proofs.Lists.{some_within}
 use Rattle.serial_elision.proofs.Turns.{next_deed, step-fits}
-
-some_within : {X : Type 0} (xs : List X) (n : ℕ) → n < length xs → (x : X) × (slice_get xs n ≡ Some x)
-some_within [] n less = absurd (omega arith)
-some_within (x ∷ xs) zero less = (x, refl)
-some_within (x ∷ xs) (suc n) less = some_within xs n (omega arith)
-
--- a spawn is that of its parent's next child
-pub spawn_is_next : (s : Script) (n : ℕ) (entry : Entry) → slice_get s.entries n ≡ Some entry → is_spawn entry.deed ≡ true → spawn_time s entry.path (children_before s entry.path n) ≡ Some n
-spawn_is_next s n entry is spawns =
-    let yes = and_from (is_of entry.path entry) (is_spawn entry.deed) (path_is-itself entry.path) spawns in
-    let zero_n : 0 + n ≡ n = omega arith in
-    place_of (is_spawn_of entry.path) 0 s.entries n entry is yes ∙ ap Some zero_n
+use Rattle.swan_model.proofs.Paths.{not_below-itself}
 
 module _ {B L : Type 0} (G : Ghosts B L) where
   -- an entry of the script at the time of a step of this activation

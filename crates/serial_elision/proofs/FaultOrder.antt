@@ -17,9 +17,10 @@ use Rattle.swan_model.specs.Elision.{serial}
 use Rattle.swan_model.specs.Rights.{is_aliased}
 use Rattle.swan_model.specs.SerialState.{Activation, Holding, Queue, Store, State}
 use Rattle.swan_model.specs.SerialStep.{Effect, goes_on, spawns, ends, faults, after, effect, effect_of, step_on, moved, number_at, popped, spawned, given}
-use Rattle.serial_elision.specs.Laws.{comes_before, AreInOrder}
+use Rattle.swan_model.specs.PathOrder.{comes_before}
+use Rattle.serial_elision.specs.Laws.{AreInOrder}
 use Rattle.serial_elision.proofs.Asks.{on_object-either, on_queue-either, if-either}
-use Rattle.serial_elision.proofs.Paths.{is_left, left-before, left-below_other, left-below, before-below, before-parent, left-sibling}
+use Rattle.swan_model.proofs.PathOrder.{is_left, left-before, left-below_other, left-below, before-below, before-parent, left-sibling}
 
 -- a path comes before an activation, and leaves towards the left of the children that it may yet spawn
 pub record Precedes {L : Type 0} (path : List ℕ) (a : Activation L) : Type 0 where

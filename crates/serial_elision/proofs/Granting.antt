@@ -2,7 +2,7 @@
 use Rattle.std.proofs.Common.{◌≡◌, ◌⊎◌, inl, inr, ℕ, suc, Bool, true, false, ◌&&◌, nat_eq, nat_lt, nat_le, cond, List, [], ◌∷◌, ◌++◌, Option, Some, None, length, refl, sym, ap, subst, ◌∙◌}
 use Rattle.std.proofs.lemmas.Bool.{and_from, or_left}
 use Rattle.std.specs.Cmp.Lexicographic.{pointwise}
-use Rattle.std.specs.Option.{option_map, option_map_or}
+use Rattle.std.specs.Option.{option_map}
 use Rattle.std.specs.Prelude.{slice_get}
 use Rattle.swan_model.specs.declared.body.Ask.{Ask}
 use Rattle.swan_model.specs.declared.body.Ask.TheVariants as ask
@@ -27,13 +27,14 @@ use Rattle.swan_model.specs.SerialTime.{is_of}
 use Rattle.swan_model.specs.Told.{is_same}
 use Rattle.serial_elision.proofs.Asks.{on_object-either, on_queue-either, if-either}
 use Rattle.serial_elision.proofs.At.{get-append-at}
-use Rattle.serial_elision.proofs.Held.{IsHeldBy, AreHeldBy, HasMore, Stand, more-append, more-after, held-more, held-append, gives-held, given-each}
-use Rattle.serial_elision.proofs.Origins.{is_same-self}
-use Rattle.serial_elision.proofs.Passing.{is_spawn_of}
-use Rattle.serial_elision.proofs.Paths.{path_is-itself}
-use Rattle.serial_elision.proofs.Places.{passing}
+use Rattle.serial_elision.proofs.Held.{IsHeldBy, AreHeldBy, Stand, held-more, held-append, gives-held, given-each}
+use Rattle.swan_model.proofs.Origins.{is_same-self}
+use Rattle.swan_model.proofs.Places.{passing}
 use Rattle.serial_elision.proofs.Rights.{MayUseEach}
 use Rattle.serial_elision.proofs.Turns.{Fits}
+use Rattle.swan_model.proofs.Paths.{path_is-itself}
+use Rattle.swan_model.proofs.TaskEntries.{is_spawn_of}
+use Rattle.swan_model.proofs.Uses.{HasMore, holds-next, more-after, more-next, own-made}
 
 -- one holding more is of what this step made, with both rights
 pub record IsMade (n : ℕ) (does : Deed) (after : Store) (before now : List Holding) : Type 0 where
@@ -106,24 +107,6 @@ effect-grants n store a ask.Finish = tt
 effect-grants n store a (ask.Fail trouble) = tt
 
 -- ---- what the script grants at an entry
-
-pub holds-next : (s : Script) (path : List ℕ) (n : ℕ) (e : Entry) → slice_get s.entries n ≡ Some e → holds s path (suc n) ≡ holds s path n ++ granted_by s path n e
-holds-next s path n e is =
-    ap (λ o. holds s path n ++ option_map_or (granted_by s path n) o []) is
-
-pub more-next : (s : Script) (path : List ℕ) (n : ℕ) (e : Entry) → slice_get s.entries n ≡ Some e → HasMore (holds s path n) (holds s path (suc n))
-more-next s path n e is =
-    subst (HasMore (holds s path n)) (sym (holds-next s path n e is)) (more-append (holds s path n) (granted_by s path n e))
-
--- what a task may use by what its own step made
-own-made : (s : Script) (path : List ℕ) (n : ℕ) (e : Entry) (mode : Mode) → slice_get s.entries n ≡ Some e → e.path ≡ path → ((is_child : Bool) → may_use (granted true is_child n e.deed) mode (Step n) ≡ true) → may_use (holds s path (suc n)) mode (Step n) ≡ true
-own-made s path n e mode is own may =
-    let child = pointwise nat_eq (child_path s e.path n) path in
-    let of : is_of path e ≡ true = ap (λ p. pointwise nat_eq p path) own ∙ path_is-itself path in
-    let here : may_use (granted_by s path n e) mode (Step n) ≡ true =
-    ap (λ b. may_use (granted b child n e.deed) mode (Step n)) of ∙ may child in
-    ap (λ h. may_use h mode (Step n)) (holds-next s path n e is)
-    ∙ (more-after (holds s path n) (granted_by s path n e)).may mode (Step n) here
 
 -- what a child is given is granted to it
 child-granted : (s : Script) (path child : List ℕ) (children n : ℕ) (e : Entry) (gives : List OriginGive) → slice_get s.entries n ≡ Some e → e.path ≡ path → passing (is_spawn_of path) n s.entries ≡ children → child ≡ path ++ children ∷ [] → e.deed ≡ deed.Spawn gives → HasMore gives (holds s child (suc n))

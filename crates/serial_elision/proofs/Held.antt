@@ -1,7 +1,6 @@
 -- What is held, counted by origins: each holding is within a list of gives.
 use Rattle.std.proofs.Common.{◌≡◌, ℕ, zero, suc, Bool, true, false, ◌&&◌, cond, List, [], ◌∷◌, ◌++◌, Option, Some, None, refl, sym, ap, subst, ◌∙◌}
-use Rattle.std.proofs.lemmas.Bool.{and_from, or_left, or_right}
-use Rattle.std.proofs.lemmas.List.Folds.{list_any-append}
+use Rattle.std.proofs.lemmas.Bool.{and_from, or_left}
 use Rattle.std.specs.List.{list_all, cons_option}
 use Rattle.std.specs.Option.{option_map, option_and_then}
 use Rattle.std.specs.Prelude.{IfSome, slice_get}
@@ -20,8 +19,9 @@ use Rattle.swan_model.specs.Script.{about, asked, give_of, gives_of, origin_at, 
 use Rattle.swan_model.specs.SerialState.{Cell, Queue, Holding, Store}
 use Rattle.swan_model.specs.SerialStep.{given, number_at, used_by}
 use Rattle.swan_model.specs.Told.{is_same}
-use Rattle.serial_elision.proofs.Origins.{is_same-self}
+use Rattle.swan_model.proofs.Origins.{is_same-self}
 use Rattle.serial_elision.proofs.Rights.{MayUseEach, given-may}
+use Rattle.swan_model.proofs.Uses.{HasMore, more-after}
 
 -- a mode allows only modes of its own kind
 pub same_kind : (mode right : Mode) → allows mode right ≡ true → is_queue_mode mode ≡ is_queue_mode right
@@ -52,30 +52,11 @@ abbrev pub AreHeldBy : List OriginGive → Store → List Holding → Type 0
 AreHeldBy held store [] = Unit {0}
 AreHeldBy held store (h ∷ hs) = IsHeldBy held store h × AreHeldBy held store hs
 
-pub record HasMore (held more : List OriginGive) : Type 0 where
-  pub may : (mode : Mode) (origin : Origin) → may_use held mode origin ≡ true → may_use more mode origin ≡ true
-
 pub record Stand (before after : Store) : Type 0 where
   pub origins : (mode : Mode) (number : ℕ) (origin : Origin) → origin_of before mode number ≡ Some origin → origin_of after mode number ≡ Some origin
 
 pub stand-same : (store : Store) → Stand store store
 stand-same store = record { origins = λ mode number origin is. is }
-
-pub more-append : (held more : List OriginGive) → HasMore held (held ++ more)
-more-append held more =
-    record {
-      may = λ mode origin is.
-          list_any-append (λ (has : OriginGive). allows has.mode mode && is_same has.origin origin) held more
-          ∙ or_left (may_use held mode origin) (may_use more mode origin) is;
-    }
-
-pub more-after : (held more : List OriginGive) → HasMore more (held ++ more)
-more-after held more =
-    record {
-      may = λ mode origin is.
-          list_any-append (λ (has : OriginGive). allows has.mode mode && is_same has.origin origin) held more
-          ∙ or_right (may_use held mode origin) (may_use more mode origin) is;
-    }
 
 pub one-more : (held more : List OriginGive) (before after : Store) (h : Holding) → HasMore held more → Stand before after → IsHeldBy held before h → IsHeldBy more after h
 one-more held more before after h has stand is =
@@ -139,7 +120,7 @@ may-at held store hs place mode origin are is =
 
 -- ---- what a child is given
 
-give-of : (store : Store) (h : Holding) (origin : Origin) → origin_of store h.mode h.number ≡ Some origin → give_of store h ≡ Some (record { origin = origin; mode = h.mode })
+pub give-of : (store : Store) (h : Holding) (origin : Origin) → origin_of store h.mode h.number ≡ Some origin → give_of store h ≡ Some (record { origin = origin; mode = h.mode })
 give-of store h origin is =
     ap (option_map (λ o. let give : OriginGive = record { origin = o; mode = h.mode } in give)) is
 

@@ -12,14 +12,16 @@ use Rattle.swan_model.specs.Script.{deed_of, is_end, entry_of, entry_on, script}
 use Rattle.swan_model.specs.SerialState.{Activation, State}
 use Rattle.swan_model.specs.SerialStep.{step_on, effect_of, after}
 use Rattle.swan_model.specs.SerialTime.{is_of}
-use Rattle.serial_elision.specs.Laws.{comes_before}
+use Rattle.swan_model.specs.PathOrder.{comes_before}
 use Rattle.serial_elision.proofs.Entries.{get_script}
 use Rattle.serial_elision.proofs.FaultOrder.{PrecedesEach, serial-ordered}
 use Rattle.serial_elision.proofs.FaultOrder as order
-use Rattle.serial_elision.proofs.Passing.{after-precedes, IsNotYetEach, not_yet-top, after-not_yet, after-end, is_spawn_of, AreCounted, AreNotYet, after-counted}
-use Rattle.serial_elision.proofs.Paths.{not_before-under, same_path}
-use Rattle.serial_elision.proofs.Places.{passing, placed}
+use Rattle.serial_elision.proofs.Passing.{after-precedes, IsNotYetEach, not_yet-top, after-not_yet, after-end, AreCounted, AreNotYet, after-counted}
+use Rattle.swan_model.proofs.PathOrder.{not_before-under}
+use Rattle.swan_model.proofs.Places.{passing, placed}
 use Rattle.serial_elision.proofs.Turns.{next_deed, step-fits}
+use Rattle.swan_model.proofs.Paths.{same_path}
+use Rattle.swan_model.proofs.TaskEntries.{is_spawn_of}
 
 -- what holds after some steps, and after each step that follows, holds from then on
 pub stays : (P : ℕ → Type 0) → ((n : ℕ) → P n → P (suc n)) → (from now : ℕ) → from ≤ now → P from → P now

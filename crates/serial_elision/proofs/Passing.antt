@@ -1,6 +1,6 @@
 -- What stays so while the elision goes on: what a path comes before, the children that an activation may yet
 -- spawn, how many it has spawned, and what stands on the stack until an activation ends.
-use Rattle.std.proofs.Common.{◌≡◌, ◌⊎◌, inl, inr, ℕ, suc, ◌+◌, ◌<◌, ◌≤◌, Bool, true, false, ◌&&◌, nat_eq, List, [], ◌∷◌, ◌++◌, Some, refl, sym, ap, ◌∙◌, append_assoc, arith}
+use Rattle.std.proofs.Common.{◌≡◌, ◌⊎◌, inl, inr, ℕ, suc, ◌+◌, ◌<◌, ◌≤◌, true, false, nat_eq, List, [], ◌∷◌, ◌++◌, Some, refl, sym, ap, ◌∙◌, append_assoc, arith}
 use Rattle.std.proofs.lemmas.Bool.{both_ways, cases_lt, false_from_ne_true, and_left, and_right, and_from}
 use Rattle.std.proofs.lemmas.List.{append-nil}
 use Rattle.std.specs.Cmp.Lexicographic.{pointwise}
@@ -12,11 +12,13 @@ use Rattle.swan_model.specs.Script.{deed_of, is_end}
 use Rattle.swan_model.specs.SerialState.{Activation, State}
 use Rattle.swan_model.specs.SerialStep.{Effect, goes_on, spawns, ends, faults, after}
 use Rattle.swan_model.specs.SerialTime.{is_of}
-use Rattle.serial_elision.specs.Laws.{comes_before}
+use Rattle.swan_model.specs.PathOrder.{comes_before}
 use Rattle.serial_elision.proofs.FaultOrder.{Precedes, PrecedesEach, precedes-moved, precedes-spawned}
-use Rattle.serial_elision.proofs.Paths.{is_left, not_before-under, not_left-above, not_below-itself, same_path, path_is-itself}
-use Rattle.serial_elision.proofs.Places.{one_if, passing, passing-more, passing-none}
+use Rattle.swan_model.proofs.PathOrder.{is_left, not_before-under, not_left-above}
+use Rattle.swan_model.proofs.Places.{one_if, passing, passing-more, passing-none}
 use Rattle.serial_elision.proofs.Turns.{Fits}
+use Rattle.swan_model.proofs.Paths.{not_below-itself, path_is-itself, same_path}
+use Rattle.swan_model.proofs.TaskEntries.{is_spawn_of}
 
 -- what comes before all activations comes before them still after a step
 pub after-precedes : {L : Type 0} (path : List ℕ) (s : State L) (top : Activation L) (below : List (Activation L)) (place : ℕ) (does : Deed) (done : Effect L) → Fits top does done → PrecedesEach path (top ∷ below) → PrecedesEach path (after s below top.path place done).stack
@@ -115,10 +117,6 @@ after-spawn s top below place does (goes_on a store) fits is = absurd (both_ways
 after-spawn s top below place does (spawns parent child store) fits is = inl fits.2
 after-spawn {L = L} s top below place does ends fits is = absurd (both_ways (is_spawn (deed_of {L = L} does ends)) fits is)
 after-spawn {L = L} s top below place does (faults kind) fits is = absurd (both_ways (is_spawn (deed_of {L = L} does (faults kind))) fits is)
-
--- whether an entry is a spawn of the task with this path
-abbrev pub is_spawn_of : List ℕ → Entry → Bool
-is_spawn_of path entry = is_of path entry && is_spawn entry.deed
 
 -- as many of the first n entries are spawns of each activation as it has spawned children
 abbrev pub AreCounted : {L : Type 0} → List Entry → ℕ → List (Activation L) → Type 0

@@ -28,14 +28,15 @@ use Rattle.serial_elision.specs.Laws.{RightsBind, IsCellAfter, IsQueueAfter}
 use Rattle.serial_elision.proofs.Asks.{if-either}
 use Rattle.serial_elision.proofs.Entries.{get_script}
 use Rattle.serial_elision.proofs.Granting.{Grants, effect-grants, HoldEach, after-hold, deed-within}
-use Rattle.serial_elision.proofs.Held.{IsHeldBy, AreHeldBy, Stand, more-append, more-after, origin-kind, held-append, asked-within}
+use Rattle.serial_elision.proofs.Held.{IsHeldBy, AreHeldBy, Stand, origin-kind, held-append, asked-within}
 use Rattle.serial_elision.proofs.Nesting.{top_at, counted}
-use Rattle.serial_elision.proofs.Origins.{is_same-self}
+use Rattle.swan_model.proofs.Origins.{is_same-self}
 use Rattle.serial_elision.proofs.Passing.{AreCounted}
 use Rattle.serial_elision.proofs.Rights.{step_on-binds}
 use Rattle.serial_elision.proofs.SerialTold.{steps-are}
 use Rattle.serial_elision.proofs.StateTold.{get-first_queues, get-first_cells}
 use Rattle.serial_elision.proofs.Turns.{next_deed, step-fits}
+use Rattle.swan_model.proofs.Uses.{more-after, more-append}
 
 -- ---- origins stay
 
@@ -161,7 +162,7 @@ module _ {B L : Type 0} (G : Ghosts B L) where
       after-hold s n e state top below (G.place_of plan.body top.local) (next_deed G plan.body state.store top) (effect_of G plan.body state.steps state.store top)
       (step-fits G plan.body state.steps state.store top) (step-grants plan n top below is) stands refl refl many.0 stay each
 
-  hold-each : (plan : Plan B L) → IsWithinBounds plan.roots.queues plan.roots.objects → (n : ℕ) → HoldEach (script G plan) n (serial G plan n).store (serial G plan n).stack
+  pub hold-each : (plan : Plan B L) → IsWithinBounds plan.roots.queues plan.roots.objects → (n : ℕ) → HoldEach (script G plan) n (serial G plan n).store (serial G plan n).stack
   hold-each plan bounds zero = hold-zero plan bounds
   hold-each plan bounds (suc n) =
       hold-on plan n (serial G plan n).stack refl (hold-each plan bounds n)

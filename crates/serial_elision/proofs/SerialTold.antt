@@ -27,7 +27,7 @@ use Rattle.serial_elision.proofs.Becomes.{Becomes, HasOrigins, QueueAfter, staye
 use Rattle.serial_elision.proofs.Counts.{serial-keeps}
 use Rattle.serial_elision.proofs.Entries.{get_script, steps-exact, le_script}
 use Rattle.serial_elision.proofs.ItemsTold.{items_by, items-come, items-suc}
-use Rattle.serial_elision.proofs.Origins.{IsOld, is_same-equal}
+use Rattle.swan_model.proofs.Origins.{IsOld, is_same-equal}
 use Rattle.serial_elision.proofs.RootLists.{length-first_queues, length-first_cells}
 use Rattle.serial_elision.proofs.StateTold.{IsCellTold, IsTold, told-after, get-first_queues, get-first_cells}
 

@@ -15,7 +15,7 @@ use Rattle.swan_model.specs.Told.{is_same, deed_at, items, first_value, cell_fro
 use Rattle.swan_model.specs.Values.{kind_of}
 use Rattle.serial_elision.proofs.Becomes.{Becomes, HasOrigins, QueueAfter, stayed, is_new, CellAfter, kept, is_made}
 use Rattle.serial_elision.proofs.ItemsTold.{items_by, items-suc}
-use Rattle.serial_elision.proofs.Origins.{IsOld, old-differs, old-later, is_same-equal}
+use Rattle.swan_model.proofs.Origins.{IsOld, old-differs, old-later, is_same-equal}
 
 -- the script tells this object before the entry n
 pub record IsCellTold (s : Script) (n : ℕ) (c : Cell) : Type 0 where

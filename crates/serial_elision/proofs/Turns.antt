@@ -26,7 +26,7 @@ Fits {L = L} a does ends = is_spawn (deed_of {L = L} does ends) ≡ false
 Fits {L = L} a does (faults kind) = is_spawn (deed_of {L = L} does (faults kind)) ≡ false
 
 -- what is asked about an object or a queue is no spawn
-about-is : (origin : Option Origin) (does : Origin → Deed) → ((o : Origin) → is_spawn (does o) ≡ false) → is_spawn (about origin does) ≡ false
+pub about-is : (origin : Option Origin) (does : Origin → Deed) → ((o : Origin) → is_spawn (does o) ≡ false) → is_spawn (about origin does) ≡ false
 about-is None does each = refl
 about-is (Some origin) does each = each origin
 

@@ -16,7 +16,7 @@ use Rattle.swan_model.specs.Told.{is_same, is_out, is_given_out}
 use Rattle.swan_model.specs.Values.{zero_of}
 use Rattle.serial_elision.proofs.At.{get-set}
 use Rattle.serial_elision.proofs.Becomes.{kept, stayed, HasOrigins, Becomes}
-use Rattle.serial_elision.proofs.Origins.{IsOld, is_same-self, old-differs}
+use Rattle.swan_model.proofs.Origins.{IsOld, is_same-self, old-differs}
 
 -- the cells that stand have the origins that they had
 abbrev pub SameOrigins : List Cell → List Cell → Type 0

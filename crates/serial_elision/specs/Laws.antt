@@ -1,12 +1,28 @@
--- What the laws of the elision say of a step and of the faults.
-use Rattle.std.specs.Prelude.{◌≡◌, ℕ, ◌==◌, nat_lt, Bool, true, false, ◌⊎◌, Some, List, [], ◌∷◌, ◌++◌, if◌then◌else◌, IsTrue, IfSome, IsSomeAnd, AllPairs, slice_get}
+-- What the laws of the elision and of scripts say: of a step, of the faults, of what a spawn gives, and of readings.
+use Rattle.std.specs.Option.{option_map}
+use Rattle.std.specs.Prelude.{◌≡◌, ℕ, ◌-◌, ◌<◌, ◌⊎◌, Option, Some, List, [], ◌∷◌, ◌++◌, length, map, IsTrue, IfSome, IsSomeAnd, AllPairs, slice_get}
+use Rattle.swan_model.specs.declared.body.Ask.TheVariants.{Spawn}
 use Rattle.swan_model.specs.declared.body.Body.{Ghosts}
+use Rattle.swan_model.specs.declared.body.Child.{Child}
 use Rattle.swan_model.specs.declared.fault.Fault.{Fault}
-use Rattle.swan_model.specs.declared.rights.Mode.{Mode}
+use Rattle.swan_model.specs.declared.rights.Give.{Give}
 use Rattle.swan_model.specs.declared.rights.Mode.TheVariants.{Out, Push, Pop}
+use Rattle.swan_model.specs.declared.rights.Mode.{Mode}
+use Rattle.swan_model.specs.declared.script.OriginGive.{OriginGive}
+use Rattle.swan_model.specs.declared.script.Script.{Script}
 use Rattle.swan_model.specs.declared.value.Value.{Value}
+use Rattle.swan_model.specs.Nested.{spawn_time}
+use Rattle.swan_model.specs.PathOrder.{comes_before}
+use Rattle.swan_model.specs.Script.{origin_at}
 use Rattle.swan_model.specs.SerialState.{Holding, Activation, Cell, Queue, Store, State}
 use Rattle.swan_model.specs.SerialStep.{number_at}
+use Rattle.swan_model.specs.SerialTime.{Progress, Reading, is_done, times}
+
+-- what a give is in a script: the object or queue at its place, named by what made it, where the giver holds
+-- it so, and the give's mode
+abbrev pub named_give : Store → List Holding → Give → Option OriginGive
+named_give store holdings give =
+    option_map (λ origin. record { origin = origin; mode = give.mode }) (origin_at store holdings give.place give.mode)
 
 module _ {B L : Type 0} (G : Ghosts B L) where
   -- One fault was booked: that of the top activation, where it stood in the program. The activation is
@@ -20,17 +36,21 @@ module _ {B L : Type 0} (G : Ghosts B L) where
     pub booked : after.faults ≡ before.faults ++ fault ∷ []
     pub store : after.store ≡ before.store
 
+  -- The next step asks for a child, and to give it this. Each give of the ask is named by what made the
+  -- object or queue that the top activation holds at its place.
+  pub record AsksToGive (body : B) (s : State L) (gives : List OriginGive) : Type 0 where
+    pub top : Activation L
+    pub below : List (Activation L)
+    pub stack : s.stack ≡ top ∷ below
+    pub child : Child L
+    pub asks : (G.next body top.local top.answer (top.fuel - 1)).1 ≡ Spawn child
+    pub many : length gives ≡ length child.gives
+    pub modes : map (λ give. give.mode) gives ≡ map (λ give. give.mode) child.gives
+    pub named : map Some gives ≡ map (named_give s.store top.holdings) child.gives
+
   -- a step books no fault, or one that ends its task
   abbrev pub EndsWhereItFaults : B → State L → State L → Type 0
   EndsWhereItFaults body before after = (after.faults ≡ before.faults) ⊎ EndsByFault body before after
-
--- Whether a task comes before another in serial order, by their paths: a child before its parent, and
--- children of one parent by their numbers, each with all tasks below it. No task comes before itself.
-abbrev pub comes_before : List ℕ → List ℕ → Bool
-comes_before [] path = false
-comes_before (part ∷ parts) [] = true
-comes_before (part ∷ parts) (other ∷ others) =
-    if part == other then comes_before parts others else nat_lt part other
 
 -- each fault comes before all that stand after it; so no task has two
 abbrev pub AreInOrder : List Fault → Type 0
@@ -73,3 +93,19 @@ pub record RightsBind (holdings : List Holding) (before after : Store) : Type 0 
 abbrev pub top_holdings : {L : Type 0} → List (Activation L) → List Holding
 top_holdings [] = []
 top_holdings (top ∷ below) = top.holdings
+
+-- each of these is a frame of the reading
+pub record AreFramesOf (r : Reading) (frames : List Progress) : Type 0 where
+  pub each : (i : ℕ) (frame : Progress) → slice_get frames i ≡ Some frame → (j : ℕ) × (slice_get r.frames j ≡ Some frame)
+
+-- These are the frames of the reading that have an entry left, and maybe some that have ended, each of another
+-- number. The reading has the root, and each child whose spawn is done.
+pub record HasActive (s : Script) (r : Reading) (active : List Progress) : Type 0 where
+  pub frames : AreFramesOf r active
+  pub left : (i : ℕ) (frame : Progress) → slice_get r.frames i ≡ Some frame → frame.done < length (times s frame.path)
+      → (j : ℕ) × (slice_get active j ≡ Some frame)
+  pub numbers : (i j : ℕ) (frame other : Progress) → slice_get active i ≡ Some frame → slice_get active j ≡ Some other
+      → frame.number ≡ other.number → frame ≡ other
+  pub root : (i : ℕ) × (frame : Progress) × (slice_get r.frames i ≡ Some frame) × (frame.path ≡ [])
+  pub children : (path : List ℕ) (child spawn : ℕ) → spawn_time s path child ≡ Some spawn → IsTrue (is_done s r spawn)
+      → (i : ℕ) × (frame : Progress) × (slice_get r.frames i ≡ Some frame) × (frame.path ≡ path ++ child ∷ [])

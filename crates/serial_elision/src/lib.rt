@@ -17,7 +17,11 @@
 //!   the laws `each_step_has_its_entry`, `a_script_tells_queues_and_objects` and `times_of_a_task_rise`.
 //! - Scripts are nested: each task ends once, each child runs whole at the step that spawns it, points stand in
 //!   serial order, and each deed is within what its task holds, by the laws `each_task_ends_once`,
-//!   `scripts_are_nested`, `points_stand_in_serial_order` and `deeds_are_within_rights`.
+//!   `scripts_are_nested`, `points_stand_in_serial_order` and `deeds_are_within_rights`. So they are lawful, by
+//!   the law `scripts_are_lawful`.
+//! - A spawn's gives are those of its ask, by the law `a_spawn_names_each_give`. Where an item is ripe for a
+//!   frame, all that comes before it in its queue is pushed, and it stays ripe as others go on, by the laws
+//!   `nothing_comes_before_a_ripe_item` and `a_ripe_item_stays`.
 //! - `print` answers exactly the two texts that the definitions give an outcome.
 //!
 //! Not promised: that memory is found, and how long a body takes for a step.
@@ -29,6 +33,8 @@
 
 mod activation;
 mod alias;
+#[cfg(test)]
+mod ask_list;
 mod cell;
 mod deeds;
 mod effect;
@@ -41,8 +47,6 @@ mod queue;
 mod recorded;
 mod report;
 mod roots;
-#[cfg(test)]
-mod script;
 mod script_laws;
 #[cfg(test)]
 mod script_tests;
@@ -65,8 +69,10 @@ pub use printed::{Printed, print};
 use queue::Queue;
 pub use recorded::script_of;
 pub use script_laws::{
-    a_script_tells_queues_and_objects, deeds_are_within_rights, each_step_has_its_entry,
-    each_task_ends_once, points_stand_in_serial_order, scripts_are_nested, times_of_a_task_rise,
+    a_ripe_item_stays, a_script_tells_queues_and_objects, a_spawn_names_each_give,
+    deeds_are_within_rights, each_step_has_its_entry, each_task_ends_once,
+    nothing_comes_before_a_ripe_item, points_stand_in_serial_order, scripts_are_lawful,
+    scripts_are_nested, times_of_a_task_rise,
 };
 use stack::Stack;
 use state::State;

@@ -1,17 +1,25 @@
 // Laws of scripts.
 ghost use Rattle.std.specs.Prelude.{◌≡◌, ◌≢◌, ℕ, ◌+◌, ◌<◌, ◌≤◌, List, [], ◌∷◌, ◌++◌, Some, IfSome, IsSomeAnd, IsTrue, length, map, slice_get};
+ghost use Rattle.std.specs.Option.{option_map};
+ghost use Rattle.swan_model.specs.declared.origin.Origin.{Origin};
 ghost use Rattle.swan_model.specs.declared.origin.Origin.TheVariants.{Root};
 ghost use Rattle.swan_model.specs.declared.plan.Plan.{Plan};
 ghost use Rattle.swan_model.specs.Elision.{final, most_steps, outcome, serial};
+ghost use Rattle.swan_model.specs.declared.script.Deed.TheVariants.{Spawn};
 ghost use Rattle.swan_model.specs.declared.script.Entry.{Entry};
+ghost use Rattle.swan_model.specs.declared.script.OriginGive.{OriginGive};
 ghost use Rattle.swan_model.specs.declared.script.Script.{Script};
-ghost use Rattle.swan_model.specs.Granted.{children_before, holds, is_spawn, is_within};
+ghost use Rattle.swan_model.specs.Granted.{child_path, children_before, holds, is_spawn, is_within};
+ghost use Rattle.swan_model.specs.Lawful.{IsLawful};
 ghost use Rattle.swan_model.specs.Roots.{IsWithinBounds};
 ghost use Rattle.swan_model.specs.Nested.{spawn_time, IsEntryUnder, IsEndOf, IsNested, IsLeft, HasTasks};
+ghost use Rattle.swan_model.specs.PathOrder.{comes_before};
+ghost use Rattle.swan_model.specs.Readings.{gone_on, next_deed, one_more, spawned};
+ghost use Rattle.swan_model.specs.Ripe.{is_push_to, is_ripe, push_time};
 ghost use Rattle.swan_model.specs.Script.{next_entry, script};
-ghost use Rattle.swan_model.specs.SerialTime.{Progress, Reading, is_of, times, time, point, is_earlier};
-ghost use Rattle.swan_model.specs.Told.{items, cell};
-ghost use Rattle.serial_elision.specs.Laws.{comes_before};
+ghost use Rattle.swan_model.specs.SerialTime.{Progress, Reading, is_done, is_of, times, time, point, is_earlier};
+ghost use Rattle.swan_model.specs.Told.{items, cell, first_items, taken};
+ghost use Rattle.serial_elision.specs.Laws.{AsksToGive, AreFramesOf, HasActive};
 
 use swan_model::Body;
 
@@ -33,8 +41,10 @@ pub fn each_step_has_its_entry<B: Body>()
 
 /// The law that a script tells its queues and objects: after n steps of the elision each queue has the
 /// items, and each object the value, that the script tells before its entry n. So what the elision
-/// leaves of the plan's queues and objects is told by the script alone.
-#[tactic(auto, using(crate::proofs::SerialTold::items_told, crate::proofs::SerialTold::cells_told, crate::proofs::SerialTold::queues_left, crate::proofs::SerialTold::objects_left))]
+/// leaves of the plan's queues and objects is told by the script alone: at each index of the plan's queues
+/// stand the items, and at each index of its objects the value, that the script tells after its last entry,
+/// and nothing stands past them.
+#[tactic(auto, using(crate::proofs::SerialTold::items_told, crate::proofs::SerialTold::cells_told))]
 pub fn a_script_tells_queues_and_objects<B: Body>()
     ensures items { (plan : Plan B B.Local) (n i : ℕ) →
         IfSome (slice_get (serial B.Body plan n).store.queues i)
@@ -43,20 +53,22 @@ pub fn a_script_tells_queues_and_objects<B: Body>()
         IfSome (slice_get (serial B.Body plan n).store.cells i)
         (λ object. cell (script B.Body plan) object.origin n ≡ Some object.value) }
     ensures items_left { (plan : Plan B B.Local) (i : ℕ) → let s = script B.Body plan in
-        IfSome (slice_get (outcome B.Body plan).queues i)
-        (λ left. left ≡ items s (Root i) (length s.entries)) }
+        slice_get (outcome B.Body plan).queues i
+        ≡ option_map (λ first. items s (Root i) (length s.entries)) (slice_get s.queues i) }
     ensures values_left { (plan : Plan B B.Local) (i : ℕ) → let s = script B.Body plan in
-        IfSome (slice_get (outcome B.Body plan).objects i)
-        (λ left. cell s (Root i) (length s.entries) ≡ Some left) }
+        slice_get (outcome B.Body plan).objects i ≡ cell s (Root i) (length s.entries) }
 {}
 
-/// The law that a task's times rise, and that at each of them stands an entry of the task.
-#[tactic(auto, using(crate::proofs::Times::times_rise, crate::proofs::Times::times_are))]
+/// The law that a task's times rise, that at each of them stands an entry of the task, and that each entry
+/// of the task has its place among them.
+#[tactic(auto, using(swan_model::proofs::Times::times_rise, swan_model::proofs::Times::times_are))]
 pub fn times_of_a_task_rise()
     ensures rise { (s : Script) (path : List ℕ) (k m : ℕ) → k < m → m < length (times s path) →
         time s path k < time s path m }
     ensures own { (s : Script) (path : List ℕ) (k : ℕ) → k < length (times s path) →
         IsSomeAnd (slice_get s.entries (time s path k)) (λ entry. IsTrue (is_of path entry)) }
+    ensures all { (s : Script) (path : List ℕ) (t : ℕ) (entry : Entry) → slice_get s.entries t ≡ Some entry
+        → IsTrue (is_of path entry) → (k : ℕ) × (k < length (times s path)) × (time s path k ≡ t) }
 {}
 
 /// The law of the ends of tasks. An entry that ends its task is the last one of the task and of all
@@ -108,4 +120,53 @@ pub fn deeds_are_within_rights<B: Body>()
     ensures within { (plan : Plan B B.Local) → IsWithinBounds plan.roots.queues plan.roots.objects
         → (n : ℕ) → let s = script B.Body plan in
         IfSome (slice_get s.entries n) (λ entry. IsTrue (is_within (holds s entry.path n) entry.deed)) }
+{}
+
+/// The law that a spawn names each give. An entry that is a spawn is the entry of a step that asks for a
+/// child. It has as many gives as the ask, in the same order and by the same modes, each named by what made
+/// the object or queue that the parent gives. The plan's lists are within their bounds, as those of each plan
+/// that is made are.
+pub fn a_spawn_names_each_give<B: Body>()
+    ensures gives { (plan : Plan B B.Local) → IsWithinBounds plan.roots.queues plan.roots.objects
+        → (n : ℕ) (entry : Entry) (gives : List OriginGive)
+        → slice_get (script B.Body plan).entries n ≡ Some entry → entry.deed ≡ Spawn gives
+        → AsksToGive B.Body plan.body (serial B.Body plan n) gives }
+{}
+
+/// The law that the scripts of plans are lawful. The plan's lists are within their bounds, as those of each
+/// plan that is made are.
+pub fn scripts_are_lawful<B: Body>()
+    ensures lawful { (plan : Plan B B.Local) → IsWithinBounds plan.roots.queues plan.roots.objects
+        → IsLawful (script B.Body plan) }
+{}
+
+/// The law that a ripe item stays ripe. Where the next item of a queue is ripe for a frame that is to pop or
+/// to test it, it is still so once another frame has gone on by one entry, once another one has spawned a
+/// child, and once others are no longer active: no other frame can push before the item any more. The
+/// active frames are frames of a reading of a lawful script, in which the spawn of each child is done.
+pub fn a_ripe_item_stays()
+    ensures goes_on { (s : Script) (r : Reading) (active : List Progress) (frame : Progress) (queue : Origin) (other : ℕ)
+        → IsLawful s → HasTasks s r → AreFramesOf r active → IsTrue (is_ripe s r active frame queue)
+        → IsTrue (is_ripe s (gone_on r other) (map (one_more other) active) frame queue) }
+    ensures spawns { (s : Script) (r : Reading) (active : List Progress) (frame : Progress) (queue : Origin)
+        (parent : Progress) (gives : List OriginGive) (number i : ℕ)
+        → let child : Progress = record { number = number; path = child_path s parent.path (point s parent); done = 0 } in
+        IsLawful s → HasTasks s r → AreFramesOf r active → slice_get active i ≡ Some parent
+        → next_deed s parent ≡ Some (Spawn gives) → parent.number ≢ frame.number → IsTrue (is_ripe s r active frame queue)
+        → IsTrue (is_ripe s (spawned s r parent number) (map (one_more parent.number) active ++ child ∷ []) frame queue) }
+    ensures fewer { (s : Script) (r : Reading) (active fewer : List Progress) (frame : Progress) (queue : Origin)
+        → ((i : ℕ) (other : Progress) → slice_get fewer i ≡ Some other → (j : ℕ) × (slice_get active j ≡ Some other))
+        → IsTrue (is_ripe s r active frame queue) → IsTrue (is_ripe s r fewer frame queue) }
+{}
+
+/// The law that nothing comes before a ripe item. Where the next item of a queue is ripe for an active frame,
+/// and is none of the queue's first items, each push to the queue that comes before its own push in serial
+/// order is done. The reading is one of a lawful script, with the root, with each child whose spawn is done,
+/// and with its frames that have an entry left among the active ones.
+pub fn nothing_comes_before_a_ripe_item()
+    ensures before { (s : Script) (r : Reading) (active : List Progress) (frame : Progress) (queue : Origin)
+        (i t u : ℕ) (entry : Entry) → let index = taken s queue (point s frame) in
+        IsLawful s → HasTasks s r → HasActive s r active → slice_get active i ≡ Some frame
+        → IsTrue (is_ripe s r active frame queue) → length (first_items s queue) ≤ index → push_time s queue index ≡ Some t
+        → slice_get s.entries u ≡ Some entry → IsTrue (is_push_to queue entry.deed) → u < t → IsTrue (is_done s r u) }
 {}

@@ -1,5 +1,5 @@
 // What elisions leave, worked out by hand from what each ask is to do.
-use crate::script::Script;
+use crate::ask_list::AskList;
 use crate::*;
 use std::alloc::Global;
 use std::process::Abort;
@@ -69,23 +69,23 @@ fn names(alloc: Global) -> Result<Names, Fail> {
     Ok(Names { queues, objects })
 }
 
-/// The plan of a script with this much fuel.
+/// The plan of a list of asks with this much fuel.
 pub fn plan_of(
     rt: &impl Abort,
     alloc: Global,
     asks: Vec<Ask<usize>>,
     fuel: u64,
-) -> Result<Plan<Script>, Fail> {
+) -> Result<Plan<AskList>, Fail> {
     assert!(rt; fuel <= 1_000_000);
     Ok(Plan {
-        body: Script { asks },
+        body: AskList { asks },
         root_local: 0,
         roots: roots(alloc)?,
         fuel: PlanFuel::new(fuel),
     })
 }
 
-/// The two texts that a script leaves with this much fuel.
+/// The two texts that a list of asks leaves with this much fuel.
 fn texts(
     rt: &impl Abort,
     alloc: Global,
@@ -123,7 +123,7 @@ pub fn spawn(
     }))
 }
 
-/// Whether the report of a script ends with these lines of faults.
+/// Whether the report of a list of asks ends with these lines of faults.
 fn leaves(
     rt: &impl Abort,
     alloc: Global,
@@ -340,7 +340,7 @@ fn names_cross_threads(rt: HostRuntime) {
 #[test]
 fn plans_and_outcomes_cross_threads(rt: HostRuntime) -> Result<(), Fail> {
     let plan = Plan {
-        body: Script {
+        body: AskList {
             asks: Vec::new(rt.alloc()),
         },
         root_local: 0,

@@ -1,6 +1,7 @@
-use Rattle.serial_elision.proofs.Endings.{one_end, child_ends, between, root_ends, spawn_is_next}
+use Rattle.serial_elision.proofs.Endings.{one_end, child_ends, between, root_ends}
 use Rattle.serial_elision.proofs.Nesting.{end_is_last}
 use Rattle.serial_elision.proofs.script_laws.each_task_ends_once.Goals as goal
+use Rattle.swan_model.proofs.TaskEntries.{spawn_is_next}
 
 pub returns-clause-last : goal.returns-clause-last
 returns-clause-last g c = end_is_last g.B.Body

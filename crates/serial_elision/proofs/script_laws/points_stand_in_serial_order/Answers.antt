@@ -1,4 +1,4 @@
-use Rattle.serial_elision.proofs.Points.{before_earlier, earlier_before, points_differ}
+use Rattle.swan_model.proofs.Points.{before_earlier, earlier_before, points_differ}
 use Rattle.serial_elision.proofs.script_laws.points_stand_in_serial_order.Goals as goal
 
 pub returns-clause-different : goal.returns-clause-different

@@ -12,12 +12,12 @@ use swan_model::{Answer, Ask, Body, Child, Give, Gives, NoMemory, Value};
 /// end it finishes. A push pushes what the step is told, and its own value only where the step is
 /// told nothing. The place of a step is its index.
 #[derive(Drop)]
-pub struct Script {
+pub struct AskList {
     /// The asks.
     pub asks: Vec<Ask<usize>>,
 }
 
-impl Body for Script {
+impl Body for AskList {
     type Local = usize;
 
     ghost next = { λ body at answer fuel.
