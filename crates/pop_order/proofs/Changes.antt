@@ -3,6 +3,7 @@ use Rattle.std.proofs.Common.{◌≡◌, ◌≢◌, ℕ, Bool, true, false, ◌&
 use Rattle.std.proofs.lemmas.Bool.{false≢true}
 use Rattle.std.proofs.lemmas.Bool.Decides.{nat_tests}
 use Rattle.pop_order.specs.Children.{Entry, has, is_entry, IsWith, IsWithout, IsSameFor}
+use Rattle.pop_order.specs.Makers.{Maker, makes, is_maker, IsMakerIn, IsMakerOut}
 
 -- an entry is another one
 pub record IsSame (parent queue child p q c : ℕ) : Type 0 where
@@ -86,3 +87,37 @@ pub others_without : (before after : List Entry) (parent queue child : ℕ) → 
     → (other : ℕ) → other ≢ queue → IsSameFor other before after
 others_without before after parent queue child change other apart = λ p c.
     and_none _ _ _ (change p other c) (λ e. apart (sym (is_same parent queue child p other c e).queues))
+
+-- ---- makers
+
+maker_same : (queue number q n : ℕ) → is_maker queue number q n ≡ true → (queue ≡ q) × (number ≡ n)
+maker_same queue number q n h = (grind (arith, nat_tests), grind (arith, nat_tests))
+
+same_maker : (queue number : ℕ) → is_maker queue number queue number ≡ true
+same_maker queue number = grind (arith, nat_tests)
+
+module _ (before after : List Maker) (queue number : ℕ) (change : IsMakerIn before queue number after) where
+  pub maker_in : makes after queue number ≡ true
+  maker_in = or_first _ _ _ (change queue number) (same_maker queue number)
+
+  pub maker_still : (q n : ℕ) → makes before q n ≡ true → makes after q n ≡ true
+  maker_still q n h = or_second _ _ _ (change q n) h
+
+  pub maker_after : (q n : ℕ) → makes after q n ≡ true → ((queue ≡ q) × (number ≡ n)) ⊎ (makes before q n ≡ true)
+  maker_after q n h = elim (or_split _ _ _ (change q n) h) [
+    | inl same ↦ inl (maker_same queue number q n same)
+    | inr was ↦ inr was
+  ]
+
+module _ (before after : List Maker) (queue number : ℕ) (change : IsMakerOut before queue number after) where
+  pub maker_was : (q n : ℕ) → makes after q n ≡ true → makes before q n ≡ true
+  maker_was q n h = and_second _ _ _ (change q n) h
+
+  pub maker_gone : makes after queue number ≡ true → ⊥
+  maker_gone h = and_not _ _ _ (change queue number) h (same_maker queue number)
+
+  pub maker_stays : (q n : ℕ) → n ≢ number → makes before q n ≡ true → makes after q n ≡ true
+  maker_stays q n apart h = and_stays _ _ _ (change q n) (λ e. apart (sym (maker_same queue number q n e).1)) h
+
+  pub other_makers : (q : ℕ) → q ≢ queue → (n : ℕ) → makes after q n ≡ makes before q n
+  other_makers q apart n = and_none _ _ _ (change q n) (λ e. apart (sym (maker_same queue number q n e).0))

@@ -8,7 +8,8 @@ use Rattle.swan_model.specs.declared.rights.Mode.{Mode}
 use Rattle.pop_order.specs.Children.{Entry, has}
 use Rattle.pop_order.specs.Frames.{Frames}
 use Rattle.pop_order.specs.Order.{IsChild}
-use Rattle.pop_order.specs.Kept.{AreBelowParents, HasHolders, HasReaching, IsKeptFor, IsKept}
+use Rattle.pop_order.specs.Kept.{AreBelowParents, HasHolders, HasMakers, IsKeptFor, IsKept}
+use Rattle.pop_order.specs.Makers.{Maker, makes}
 
 no_child : {p n : ℕ} → IsChild [] p n → ⊥
 no_child child = let e : None ≡ Some child.frame = child.active in cc
@@ -23,22 +24,26 @@ no_holders mode queue = record {
   all = λ p n child holder. absurd (no_child child);
 }
 
-no_reaching : (queue : ℕ) → HasReaching [] queue []
-no_reaching queue = record {
-  children = λ p n h. absurd (no_entry p queue n h);
-  reaching = λ p n h. absurd (no_entry p queue n h);
-  all = λ p n child r. absurd (no_child child);
+no_maker : (q n : ℕ) → makes [] q n ≡ true → ⊥
+unfolding makes
+no_maker q n h = false≢true h
+
+no_makers : (queue : ℕ) → HasMakers [] queue [] []
+no_makers queue = record {
+  made = λ n k. absurd (no_maker queue n k);
+  apart = λ n k. absurd (no_maker queue n k);
+  all = λ n c h never. absurd (no_entry n queue c h);
 }
 
 none_below : AreBelowParents []
 none_below = λ p n child. absurd (no_child child)
 
 none_for : (queue : ℕ) → IsKeptFor [] [] [] [] queue
-none_for queue = record { pops = no_holders _ queue; pushes = no_holders _ queue; reaches = no_reaching queue }
+none_for queue = record { pops = no_holders _ queue; pushes = no_holders _ queue; makes = no_makers queue }
 
-pub empty_kept : (frames : Frames) (poppers pushers reaching : List Entry) → IsStrictlySortedBy nat_cmp (keys_of frames)
-    → frames ≡ [] → poppers ≡ [] → pushers ≡ [] → reaching ≡ [] → IsKept frames poppers pushers reaching
-empty_kept frames poppers pushers reaching sorted f a b c = record {
+pub empty_kept : (frames : Frames) (poppers pushers : List Entry) (makers : List Maker) → IsStrictlySortedBy nat_cmp (keys_of frames)
+    → frames ≡ [] → poppers ≡ [] → pushers ≡ [] → makers ≡ [] → IsKept frames poppers pushers makers
+empty_kept frames poppers pushers makers sorted f a b c = record {
   sorted = sorted;
   below = rw f none_below;
   sets = λ queue. rw (f, a, b, c) (none_for queue);

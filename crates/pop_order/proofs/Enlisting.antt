@@ -14,11 +14,12 @@ use Rattle.pop_order.specs.Children.{Entry}
 use Rattle.pop_order.specs.Frames.{Frame, Frames, frame_at, holds, enlisted, enlisted_at, lent_to, lent_at, without, AreUpTo, HasNoChild, may_get, MayGet}
 use Rattle.pop_order.specs.Order.{IsChild}
 use Rattle.pop_order.specs.Turns.{IsHolder}
-use Rattle.pop_order.specs.Kept.{AreBelowParents, HasHolders, IsReaching, IsKeptFor, IsKept}
+use Rattle.pop_order.specs.Kept.{AreBelowParents, HasHolders, IsKeptFor, IsKept}
+use Rattle.pop_order.specs.Makers.{Maker}
 use Rattle.pop_order.specs.Steps.{IsGrown, IsShrunk}
 use Rattle.pop_order.proofs.Blocking.{same_frame}
 use Rattle.pop_order.proofs.Lookups.{at_inserted, by_inserted, at_set, by_set, at_removed, by_removed, found_passes}
-use Rattle.pop_order.proofs.Walks.{none_or_some}
+use Rattle.pop_order.proofs.Meeting.{none_or_some}
 use Rattle.pop_order.proofs.Flags.{eq_of, eq_same, le_of, or_cases, or_left, or_right, and_parts, and_both, not_true}
 
 abbrev lets : ℕ → Mode → Holding → Bool
@@ -137,10 +138,6 @@ module _ (before after : Frames) (alike : IsAlike before after) where
       let P : List Holding → Type 0 = λ hs. holds hs q m ≡ true in
       record { frame = g.0; active = g.1; held = subst P (sym g.3) is.held }
 
-  reaching_alike : (q : ℕ) (set : List Entry) (n : ℕ) → IsReaching before q set n → IsReaching after q set n
-  reaching_alike q set n (inl holder) = inl (holder_alike q Push n holder)
-  reaching_alike q set n (inr below) = inr below
-
 module _ (before after : Frames) (alike : IsAlike before after) (back : IsAlike after before) where
   holders_alike : (q : ℕ) (m : Mode) (set : List Entry) → HasHolders before m q set → HasHolders after m q set
   holders_alike q m set h = record {
@@ -148,22 +145,22 @@ module _ (before after : Frames) (alike : IsAlike before after) (back : IsAlike 
     all = λ p c is holder. h.all p c (child_alike after before back p c is) (holder_alike after before back q m c holder);
   }
 
-  kept_for_alike : (poppers pushers reaching : List Entry) (q : ℕ) → IsKeptFor before poppers pushers reaching q → IsKeptFor after poppers pushers reaching q
-  kept_for_alike poppers pushers reaching q kept = record {
+  kept_for_alike : (poppers pushers : List Entry) (makers : List Maker) (q : ℕ) → IsKeptFor before poppers pushers makers q → IsKeptFor after poppers pushers makers q
+  kept_for_alike poppers pushers makers q kept = record {
     pops = holders_alike q Pop poppers kept.pops;
     pushes = holders_alike q Push pushers kept.pushes;
-    reaches = record {
-      children = λ p c h. child_alike before after alike p c (kept.reaches.children p c h);
-      reaching = λ p c h. reaching_alike before after alike q reaching c (kept.reaches.reaching p c h);
-      all = λ p c is r. kept.reaches.all p c (child_alike after before back p c is) (reaching_alike after before back q reaching c r);
+    makes = record {
+      made = kept.makes.made;
+      apart = λ n k holder. kept.makes.apart n k (holder_alike after before back q Push n holder);
+      all = λ n c h never. kept.makes.all n c h (λ holder. never (holder_alike before after alike q Push n holder));
     };
   }
 
-  kept_alike : (poppers pushers reaching : List Entry) → IsStrictlySortedBy nat_cmp (keys_of after) → IsKept before poppers pushers reaching → IsKept after poppers pushers reaching
-  kept_alike poppers pushers reaching sorted kept = record {
+  kept_alike : (poppers pushers : List Entry) (makers : List Maker) → IsStrictlySortedBy nat_cmp (keys_of after) → IsKept before poppers pushers makers → IsKept after poppers pushers makers
+  kept_alike poppers pushers makers sorted kept = record {
     sorted = sorted;
     below = λ p n is. kept.below p n (child_alike after before back p n is);
-    sets = λ q. kept_for_alike poppers pushers reaching q (kept.sets q);
+    sets = λ q. kept_for_alike poppers pushers makers q (kept.sets q);
   }
 
 lent_alike : (frames : Frames) (child : ℕ) (found : Option Frame) → frame_at frames child ≡ found → IsAlike frames (lent_at frames child found)
@@ -194,8 +191,8 @@ lent_back frames child (Some g) e = record {
   ];
 }
 
-pub kept_lent : (frames : Frames) (child : ℕ) (poppers pushers reaching : List Entry) → IsStrictlySortedBy nat_cmp (keys_of (lent_to frames child))
-    → IsKept frames poppers pushers reaching → IsKept (lent_to frames child) poppers pushers reaching
-kept_lent frames child poppers pushers reaching sorted kept =
+pub kept_lent : (frames : Frames) (child : ℕ) (poppers pushers : List Entry) (makers : List Maker) → IsStrictlySortedBy nat_cmp (keys_of (lent_to frames child))
+    → IsKept frames poppers pushers makers → IsKept (lent_to frames child) poppers pushers makers
+kept_lent frames child poppers pushers makers sorted kept =
     kept_alike frames (lent_to frames child) (lent_alike frames child (frame_at frames child) refl) (lent_back frames child (frame_at frames child) refl)
-    poppers pushers reaching sorted kept
+    poppers pushers makers sorted kept

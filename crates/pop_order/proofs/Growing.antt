@@ -9,27 +9,21 @@ use Rattle.pop_order.specs.Children.{Entry, has, IsWith, IsSameFor}
 use Rattle.pop_order.specs.Frames.{Frame, Frames, frame_at, holds}
 use Rattle.pop_order.specs.Order.{IsChild}
 use Rattle.pop_order.specs.Turns.{IsHolder}
-use Rattle.pop_order.specs.Kept.{HasHolders, IsReaching, HasReaching}
-use Rattle.pop_order.specs.Reach.{IsShort}
-use Rattle.pop_order.specs.Steps.{IsGrown}
+use Rattle.pop_order.specs.Kept.{HasHolders, HasMakers}
+use Rattle.pop_order.specs.Makers.{Maker, makes}
+use Rattle.pop_order.specs.Steps.{IsGrown, IsMakerNoted, needless, noted}
 use Rattle.pop_order.proofs.Blocking.{same_frame}
-use Rattle.pop_order.proofs.Changes.{came_in, still_in, in_after}
+use Rattle.pop_order.proofs.Changes.{came_in, still_in, in_after, maker_in, maker_still, maker_after}
 
 -- ---- another set with the same children
 
-pub same_reaching : (frames : Frames) (queue : ℕ) (set other : List Entry) → IsSameFor queue set other → HasReaching frames queue set → HasReaching frames queue other
-same_reaching frames queue set other same reaches = record {
-  children = λ p c h. reaches.children p c (sym (same p c) ∙ h);
-  reaching = λ p c h. there c (reaches.reaching p c (sym (same p c) ∙ h));
-  all = λ p c child r. same p c ∙ reaches.all p c child (back c r);
-} where
-  there : (c : ℕ) → IsReaching frames queue set c → IsReaching frames queue other c
-  there c (inl holder) = inl holder
-  there c (inr below) = inr (below.0, same c below.0 ∙ below.1)
-
-  back : (c : ℕ) → IsReaching frames queue other c → IsReaching frames queue set c
-  back c (inl holder) = inl holder
-  back c (inr below) = inr (below.0, sym (same c below.0) ∙ below.1)
+pub same_makers : (frames : Frames) (queue : ℕ) (set other : List Entry) (makers now : List Maker) → IsSameFor queue set other
+    → ((n : ℕ) → makes now queue n ≡ makes makers queue n) → HasMakers frames queue set makers → HasMakers frames queue other now
+same_makers frames queue set other makers now same still kept = record {
+  made = λ n k. let child = kept.made n (sym (still n) ∙ k) in (child.0, same n child.0 ∙ child.1);
+  apart = λ n k. kept.apart n (sym (still n) ∙ k);
+  all = λ n c h never. still n ∙ kept.all n c (sym (same n c) ∙ h) never;
+}
 
 pub same_holders : (frames : Frames) (mode : Mode) (queue : ℕ) (set other : List Entry) → IsSameFor queue set other → HasHolders frames mode queue set → HasHolders frames mode queue other
 same_holders frames mode queue set other same holders = record {
@@ -128,41 +122,72 @@ module _ (before after : Frames) (parent child : ℕ) (holding : Holding) (grown
     ];
   }
 
-  module _ (q : ℕ) (set : List Entry) (reaches : HasReaching before q set) where
-    reaching_after : (n : ℕ) → IsReaching before q set n → IsReaching after q set n
-    reaching_after n (inl holder) = inl (holder_after q Push n holder)
-    reaching_after n (inr below) = inr below
+  -- the child had no children, and has none
+  not_above : (q n c : ℕ) (set : List Entry) → HasHolders before Push q set → has set n q c ≡ true → n ≢ child
+  not_above q n c set pushes h same =
+      grown.childless c (let P : ℕ → Type 0 = λ k. IsChild before k c in subst P same (pushes.holders n c h).0)
 
-    reaching_before : (n : ℕ) → n ≢ child → IsReaching after q set n → IsReaching before q set n
-    reaching_before n apart (inl holder) = inl (holder_before q Push n apart holder)
-    reaching_before n apart (inr below) = inr below
+  module _ (q : ℕ) (set more : List Entry) (pushes : HasHolders before Push q set) (now_pushes : HasHolders after Push q more) where
+    grew : (n c : ℕ) → has set n q c ≡ true → has more n q c ≡ true
+    grew n c h = let was = pushes.holders n c h in now_pushes.all n c (child_after n c was.0) (holder_after q Push c was.1)
 
-    pub reaching_short : holding.number ≡ q → allows holding.mode Push ≡ true → IsShort after q set child
-    reaching_short this allowed = record {
-      children = λ p c h. child_after p c (reaches.children p c h);
-      reaching = λ p c h. reaching_after c (reaches.reaching p c h);
-      all = λ p c apart is r. reaches.all p c (child_before p c apart is) (reaching_before c apart r);
-      here = inl (record { frame = grown.frame; active = grown.active; held = let P : ℕ → Type 0 = λ k. holds grown.frame.holdings k Push ≡ true in subst P this (grown.new Push allowed) });
-    }
-
-    reaches_as_before : (holding.number ≡ q → allows holding.mode Push ≡ true → ⊥) → IsReaching after q set child → has set parent q child ≡ true
-    reaches_as_before other (inl holder) = elim (its_queues q Push holder) [
-      | inl was ↦ reaches.all parent child (was_child q Push was) (inl was)
-      | inr now ↦ absurd (other now.0 now.1)
+    -- an entry of the pushers was there, or is that of the child, which may push
+    entry_from : (n c : ℕ) → has more n q c ≡ true → (has set n q c ≡ true) ⊎ ((holding.number ≡ q) × (allows holding.mode Push ≡ true) × (n ≡ parent))
+    entry_from n c h = let is = now_pushes.holders n c h in elim (cases_eq c child) [
+      | inl same ↦
+          let P : ℕ → Type 0 = λ k. IsChild after n k in
+          let Q : ℕ → Type 0 = λ k. IsHolder after q Push k in
+          let S : ℕ → Type 0 = λ k. has set k q child ≡ true in
+          let T : ℕ → Type 0 = λ k. has set n q k ≡ true in
+          let one = its_parent n (subst P same is.0) in
+          elim (its_queues q Push (subst Q same is.1)) [
+            | inl was ↦ inl (subst T (sym same) (subst S (sym one) (pushes.all parent child (was_child q Push was) was)))
+            | inr now ↦ inr (now.0, now.1, one)
+          ]
+      | inr apart ↦ inl (pushes.all n c (child_before n c apart is.0) (holder_before q Push c apart is.1))
     ]
-    reaches_as_before other (inr below) = absurd (grown.childless below.0 (reaches.children child below.0 below.1))
 
-    pub reaching_kept : (holding.number ≡ q → allows holding.mode Push ≡ true → ⊥) → HasReaching after q set
-    reaching_kept other = record {
-      children = λ p c h. child_after p c (reaches.children p c h);
-      reaching = λ p c h. reaching_after c (reaches.reaching p c h);
-      all = λ p c is r. elim (cases_eq c child) [
+    still_apart : (n c : ℕ) → has set n q c ≡ true → ¬ IsHolder before q Push n → ¬ IsHolder after q Push n
+    still_apart n c h never holder = never (holder_before q Push n (not_above q n c set pushes h) holder)
+
+    pub makers_noted : (makers now : List Maker) → HasMakers before q set makers → IsMakerNoted after parent holding makers now → HasMakers after q more now
+    makers_noted makers now kept (needless need same) =
+        let P : List Maker → Type 0 = λ m. HasMakers after q more m in
+        subst P (sym same) (record {
+          made = λ n k. let c = kept.made n k in (c.0, grew n c.0 c.1);
+          apart = λ n k. let c = kept.made n k in still_apart n c.0 c.1 (kept.apart n k);
+          all = λ n c h never. elim (entry_from n c h) [
+            | inl was ↦ kept.all n c was (λ holder. never (holder_after q Push n holder))
+            | inr own ↦
+                let Q : ℕ → Type 0 = λ k. IsHolder after k Push parent in
+                let R : ℕ → Type 0 = λ k. IsHolder after q Push k in
+                absurd (never (subst R (sym own.2) (subst Q own.0 (need own.1))))
+          ];
+        })
+    makers_noted makers now kept (noted may never change) = record {
+      made = λ n k. elim (maker_after makers now holding.number parent change q n k) [
         | inl same ↦
-            let P : ℕ → Type 0 = λ k. IsChild after p k in
-            let Q : ℕ → Type 0 = λ k. IsReaching after q set k in
-            let S : ℕ → Type 0 = λ k. has set k q child ≡ true in
-            let T : ℕ → Type 0 = λ k. has set p q k ≡ true in
-            subst T (sym same) (subst S (sym (its_parent p (subst P same is))) (reaches_as_before other (subst Q same r)))
-        | inr apart ↦ reaches.all p c (child_before p c apart is) (reaching_before c apart r)
+            let S : ℕ → Type 0 = λ k. (c : ℕ) × (has more k q c ≡ true) in
+            let H : ℕ → Type 0 = λ k. IsHolder after k Push child in
+            subst S same.1 (
+              child,
+              now_pushes.all parent child child_now
+                  (subst H same.0 (record { frame = grown.frame; active = grown.active; held = grown.new Push may })),
+            )
+        | inr was ↦ let c = kept.made n was in (c.0, grew n c.0 c.1)
+      ];
+      apart = λ n k. elim (maker_after makers now holding.number parent change q n k) [
+        | inl same ↦
+            let Q : ℕ → Type 0 = λ k. ¬ IsHolder after k Push n in
+            let R : ℕ → Type 0 = λ k. ¬ IsHolder after holding.number Push k in
+            subst Q same.0 (subst R same.1 never)
+        | inr was ↦ let c = kept.made n was in still_apart n c.0 c.1 (kept.apart n was)
+      ];
+      all = λ n c h apart. elim (entry_from n c h) [
+        | inl was ↦ maker_still makers now holding.number parent change q n (kept.all n c was (λ holder. apart (holder_after q Push n holder)))
+        | inr own ↦
+            let Q : ℕ → Type 0 = λ k. makes now k n ≡ true in
+            let R : ℕ → Type 0 = λ k. makes now holding.number k ≡ true in
+            subst Q own.0 (subst R (sym own.2) (maker_in makers now holding.number parent change))
       ];
     }

@@ -1,5 +1,5 @@
 -- Facts on the sets of children, on holdings and on what the sets have of them.
-use Rattle.std.proofs.Common.{◌≡◌, ℕ, ◌+◌, ◌<◌, ◌≤◌, Bool, true, false, ◌&&◌, ◌||◌, ◌==◌, List, take, get_or, length, sym, ap, subst, ◌∙◌, ◌⊎◌, inl, inr}
+use Rattle.std.proofs.Common.{◌≡◌, ℕ, ◌+◌, ◌<◌, ◌≤◌, Bool, true, false, ◌&&◌, ◌||◌, ◌==◌, List, take, get_or, length, sym, ap, subst, ◌∙◌, ◌⊎◌, inl, inr, Option, Some, None, IfSome, IfNone}
 use Rattle.std.proofs.lemmas.Bool.{false≢true}
 use Rattle.std.proofs.lemmas.List.Folds.{list_any_more, list_any_kept}
 use Rattle.swan_model.specs.Rights.{allows}
@@ -61,3 +61,17 @@ module _ (frames : Frames) (queue : ℕ) (set : List Entry) (pops : HasHolders f
 
   pub none_pops : (frame : ℕ) → ((child : ℕ) → has set frame queue child ≡ false) → (other : ℕ) → ¬ IsPoppingChild frames frame queue other
   none_pops frame none other pop = false≢true (sym (none other) ∙ pops.all frame other pop.0 pop.1)
+
+  pub found_pops : (frame : ℕ) (found : Option ℕ) → IfSome found (IsOldest set frame queue) → IfSome found (IsPoppingChild frames frame queue)
+  found_pops frame None oldest = tt
+  found_pops frame (Some child) oldest = (oldest_pops frame child oldest).0
+
+  pub found_oldest : (frame : ℕ) (found : Option ℕ) → IfSome found (IsOldest set frame queue)
+      → IfSome found (λ child. (other : ℕ) → IsPoppingChild frames frame queue other → child ≤ other)
+  found_oldest frame None oldest = tt
+  found_oldest frame (Some child) oldest = (oldest_pops frame child oldest).1
+
+  pub not_found : (frame : ℕ) (found : Option ℕ) → IfNone found ((child : ℕ) → has set frame queue child ≡ false)
+      → IfNone found ((other : ℕ) → ¬ IsPoppingChild frames frame queue other)
+  not_found frame None none = none_pops frame none
+  not_found frame (Some child) none = tt

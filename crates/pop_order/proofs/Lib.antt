@@ -4,9 +4,10 @@ pub mod Empty
 pub mod Entries
 pub mod Holders
 pub mod Lineage
+pub mod Before
+pub mod Meeting
 pub mod Walks
 pub mod Changes
-pub mod Reach
 pub mod Growing
 pub mod Shrinking
 pub mod Noted

@@ -83,7 +83,7 @@ module _ (frames : Frames) (rising : AreBelowParents frames) where
       ]
 
   -- nothing is above the top of a tree
-  not_top : (top : ℕ) → ((p : ℕ) → IsChild frames p top → ⊥) → (a : ℕ) → IsAtOrBelow frames a top → a ≡ top
+  pub not_top : (top : ℕ) → ((p : ℕ) → IsChild frames p top → ⊥) → (a : ℕ) → IsAtOrBelow frames a top → a ≡ top
   not_top top none a at = refl
   not_top top none a (below parent _ child q) = absurd (none parent child)
 

@@ -1,6 +1,6 @@
 -- The order of a tree of frames is the serial order.
-use Rattle.std.proofs.Common.{◌⊎◌, inl, inr, ◌≡◌, ◌≢◌, ℕ, suc, zero, ◌+◌, ◌-◌, ◌<◌, Bool, true, false, ◌&&◌, cond, Some, None, List, [], ◌∷◌, ◌++◌, length, refl, sym, ap, subst, ◌∙◌, append_assoc, arith, nat_eq, nat_lt}
-use Rattle.std.proofs.lemmas.Bool.{cases_eq, cases_lt, false≢true}
+use Rattle.std.proofs.Common.{inl, inr, ◌≡◌, ◌≢◌, ℕ, suc, zero, ◌+◌, ◌-◌, ◌<◌, Bool, true, false, ◌&&◌, cond, Some, None, List, [], ◌∷◌, ◌++◌, length, refl, sym, ap, subst, ◌∙◌, append_assoc, arith, nat_eq, nat_lt}
+use Rattle.std.proofs.lemmas.Bool.{cases_eq, false≢true}
 use Rattle.std.proofs.lemmas.Bool.Decides.{nat_tests}
 use Rattle.std.proofs.lemmas.List.{append-nil}
 use Rattle.std.proofs.lemmas.Option.{slice_get-get_or}
@@ -14,7 +14,8 @@ use Rattle.swan_model.specs.SerialTime.{Progress, Reading, is_of, times, time, p
 use Rattle.pop_order.specs.Frames.{Frames}
 use Rattle.pop_order.specs.Order.{IsChild, IsAtOrBelow, at, below, ComesBefore, inside, aside}
 use Rattle.pop_order.specs.Readings.{IsAt, IsRead}
-use Rattle.pop_order.proofs.Lineage.{below_below, through}
+use Rattle.pop_order.proofs.Before.{one_is_before}
+use Rattle.pop_order.proofs.Lineage.{through}
 
 -- ---- tests and places
 
@@ -196,39 +197,6 @@ module _ (frames : Frames) (s : Script) (r : Reading) (nested : IsNested s) (rea
 pub order_is_serial : (frames : Frames) (s : Script) (r : Reading) → IsNested s → IsRead frames s r → (n m : ℕ) (a b : Progress)
     → ComesBefore frames n m → frame_of r n ≡ Some a → frame_of r m ≡ Some b → is_earlier s a b ≡ true
 order_is_serial = earlier_points
-
--- ---- of two frames of one tree one comes before the other
-
-module _ (frames : Frames) where
-  -- what is at or below a frame comes before all that the frame comes before
-  before_with : (p n m : ℕ) → n ≢ m → IsAtOrBelow frames p n → ComesBefore frames p m → ComesBefore frames n m
-  before_with p n m differ q (inside apart up) = inside differ (below_below frames m p n up q)
-  before_with p n m differ q (aside r older younger c d lt x y) = aside r older younger c d lt (below_below frames older p n x q) y
-
-  -- a frame below the parent of another one
-  beside : (p n m : ℕ) → IsChild frames p n → n ≢ m → m ≢ p → IsAtOrBelow frames p m → ComesBefore frames n m ⊎ ComesBefore frames m n
-  beside p n m child differ apart q =
-      let step = through frames p m q apart in
-      elim (cases_eq step.0 n) [
-        | inl same ↦ let P : ℕ → Type 0 = λ k. IsAtOrBelow frames k m in inr (inside (λ e. differ (sym e)) (subst P same step.2))
-        | inr other ↦ elim (cases_lt step.0 n) [
-          | inl lt ↦ inr (aside p step.0 n step.1 child lt step.2 at)
-          | inr ge ↦ inl (aside p n step.0 child step.1 (omega arith) at step.2)
-        ]
-      ]
-
-  pub one_is_before : (top n m : ℕ) → n ≢ m → IsAtOrBelow frames top n → IsAtOrBelow frames top m → ComesBefore frames n m ⊎ ComesBefore frames m n
-  one_is_before top n m differ at q = inr (inside (λ e. differ (sym e)) q)
-  one_is_before top n m differ (below p _ child up) q = elim (cases_eq p m) [
-    | inl same ↦ let P : ℕ → Type 0 = λ k. IsAtOrBelow frames k n in inl (inside differ (subst P same (below p n child at)))
-    | inr apart ↦ elim (one_is_before top p m apart up q) [
-      | inl first ↦ inl (before_with p n m differ (below p n child at) first)
-      | inr later ↦ elim later [
-        | inside _ under ↦ beside p n m child differ (λ e. apart (sym e)) under
-        | aside r older younger c d lt x y ↦ inr (aside r older younger c d lt x (below_below frames younger p n y (below p n child at)))
-      ]
-    ]
-  ]
 
 -- Of two frames of one tree the one that is earlier in serial time comes before the other.
 pub serial_is_order : (frames : Frames) (s : Script) (r : Reading) → IsNested s → IsRead frames s r → (top n m : ℕ) (a b : Progress)

@@ -1,17 +1,18 @@
 -- What stays right of the sets when a child was given back.
 use Rattle.std.proofs.Common.{◌≡◌, ◌≢◌, ℕ, true, List, refl, sym, subst, ◌∙◌, inl, inr}
+use Rattle.std.proofs.lemmas.Bool.{cases_eq, false≢true}
 use Rattle.swan_model.specs.declared.rights.Mode.{Mode}
 use Rattle.swan_model.specs.declared.rights.Mode.TheVariants.{Push}
 use Rattle.pop_order.specs.Children.{Entry, has, IsWithout}
 use Rattle.pop_order.specs.Frames.{Frames}
 use Rattle.pop_order.specs.Order.{IsChild}
 use Rattle.pop_order.specs.Turns.{IsHolder}
-use Rattle.pop_order.specs.Kept.{HasHolders, IsReaching, HasReaching}
-use Rattle.pop_order.specs.Reach.{IsLong}
+use Rattle.pop_order.specs.Kept.{HasHolders, HasMakers}
+use Rattle.pop_order.specs.Makers.{Maker, makes, IsSettled, stays, goes}
 use Rattle.pop_order.specs.Steps.{IsShrunk}
-use Rattle.pop_order.proofs.Changes.{IsSame, was_in, is_another, stays_in}
+use Rattle.pop_order.proofs.Changes.{IsSame, was_in, is_another, stays_in, maker_was, maker_gone, maker_stays}
 use Rattle.pop_order.proofs.Lineage.{same_parent}
-use Rattle.pop_order.proofs.Walks.{none_or_some}
+use Rattle.pop_order.proofs.Meeting.{none_or_some}
 
 module _ (before after : Frames) (parent child : ℕ) (shrunk : IsShrunk before after parent child) where
   not_child : (p n : ℕ) → IsChild after p n → n ≢ child
@@ -64,55 +65,80 @@ module _ (before after : Frames) (parent child : ℕ) (shrunk : IsShrunk before 
     all = λ p c is holder. holders.all p c (child_before p c is) (holder_before q m c holder);
   }
 
-  module _ (q : ℕ) (set : List Entry) where
-    reaching_before : (n : ℕ) → IsReaching after q set n → IsReaching before q set n
-    reaching_before n (inl holder) = inl (holder_before q Push n holder)
-    reaching_before n (inr below) = inr below
+  -- the child had no children
+  not_above : (q n c : ℕ) (set : List Entry) → HasHolders before Push q set → has set n q c ≡ true → n ≢ child
+  not_above q n c set pushes h same =
+      shrunk.childless c (let P : ℕ → Type 0 = λ k. IsChild before k c in subst P same (pushes.holders n c h).0)
 
-    reaching_after : (n : ℕ) → n ≢ child → IsReaching before q set n → IsReaching after q set n
-    reaching_after n apart (inl holder) = inl (holder_after q Push n apart holder)
-    reaching_after n apart (inr below) = inr below
+  module _ (q : ℕ) (set : List Entry) (pushes : HasHolders before Push q set) where
+    was_apart : (n c : ℕ) → has set n q c ≡ true → ¬ IsHolder after q Push n → ¬ IsHolder before q Push n
+    was_apart n c h never holder = never (holder_after q Push n (not_above q n c set pushes h) holder)
 
-    pub reaching_untouched : HasReaching before q set → (IsHolder before q Push child → ⊥) → HasReaching after q set
-    reaching_untouched reaches never =
-        let not_it : (p c : ℕ) → has set p q c ≡ true → c ≢ child = λ p c h same.
-        let P : ℕ → Type 0 = λ k. IsReaching before q set k in
-        elim (subst P same (reaches.reaching p c h)) [
-          | inl holder ↦ never holder
-          | inr below ↦ shrunk.childless below.0 (reaches.children child below.0 below.1)
-        ] in
-        record {
-          children = λ p c h. child_after p c (not_it p c h) (reaches.children p c h);
-          reaching = λ p c h. reaching_after c (not_it p c h) (reaches.reaching p c h);
-          all = λ p c is r. reaches.all p c (child_before p c is) (reaching_before c r);
-        }
-
-  module _ (q : ℕ) (set fewer : List Entry) (change : IsWithout set parent q child fewer) where
-    fewer_reach : (frames : Frames) (n : ℕ) → n ≢ parent → IsReaching frames q set n → IsReaching frames q fewer n
-    fewer_reach frames n apart (inl holder) = inl holder
-    fewer_reach frames n apart (inr below) =
-        inr (below.0, stays_in set fewer parent q child change n q below.0 (λ same. apart (sym same.parents)) below.1)
-
-    more_reach : (frames : Frames) (n : ℕ) → IsReaching frames q fewer n → IsReaching frames q set n
-    more_reach frames n (inl holder) = inl holder
-    more_reach frames n (inr below) = inr (below.0, was_in set fewer parent q child change n q below.0 below.1)
-
-    pub reaching_without : HasReaching before q set → IsLong after q fewer parent
-    reaching_without reaches =
-        let not_it : (p c : ℕ) → has fewer p q c ≡ true → c ≢ child = λ p c h same.
-        is_another set fewer parent q child change p q c h (its_entry p q c same (reaches.children p c (was_in set fewer parent q child change p q c h))) in
-        record {
-          children = λ p c h. child_after p c (not_it p c h) (reaches.children p c (was_in set fewer parent q child change p q c h));
-          reaching = λ p c apart h. reaching_after q fewer c (not_it p c h)
-              (fewer_reach before c apart (reaches.reaching p c (was_in set fewer parent q child change p q c h)));
-          all = λ p c is r. stays_in set fewer parent q child change p q c (λ same. not_child p c is (sym same.children))
-              (reaches.all p c (child_before p c is) (reaching_before q set c (more_reach after c r)));
-        }
-
-    pub reaching_again : HasReaching after q set → IsLong after q fewer parent
-    reaching_again reaches = record {
-      children = λ p c h. reaches.children p c (was_in set fewer parent q child change p q c h);
-      reaching = λ p c apart h. fewer_reach after c apart (reaches.reaching p c (was_in set fewer parent q child change p q c h));
-      all = λ p c is r. stays_in set fewer parent q child change p q c (λ same. not_child p c is (sym same.children))
-          (reaches.all p c is (more_reach after c r));
+    pub makers_untouched : (makers : List Maker) → HasMakers before q set makers → HasMakers after q set makers
+    makers_untouched makers kept = record {
+      made = kept.made;
+      apart = λ n k holder. kept.apart n k (holder_before q Push n holder);
+      all = λ n c h never. kept.all n c h (was_apart n c h never);
     }
+
+  module _ (q : ℕ) (set fewer : List Entry) (makers now : List Maker) (now_pushes : HasHolders after Push q fewer) where
+    -- the makers after the child went out, for what they were before
+    pub makers_without : HasHolders before Push q set → IsSettled fewer parent q makers now → HasMakers before q set makers → HasMakers after q fewer now
+    makers_without pushes settled kept = by settled where
+      fewer_was : (n c : ℕ) → has fewer n q c ≡ true → has set n q c ≡ true
+      fewer_was n c h = let is = now_pushes.holders n c h in pushes.all n c (child_before n c is.0) (holder_before q Push c is.1)
+
+      left_of : (n : ℕ) → makes makers q n ≡ true → n ≢ parent → (c : ℕ) × (has fewer n q c ≡ true)
+      left_of n k apart =
+          let c = kept.made n k in
+          let was = pushes.holders n c.0 c.1 in
+          let other : c.0 ≢ child = λ same.
+          apart (same_parent before (let P : ℕ → Type 0 = λ k. IsChild before n k in subst P same was.0) shrunk.was) in
+          (c.0, now_pushes.all n c.0 (child_after n c.0 other was.0) (holder_after q Push c.0 other was.1))
+
+      known : (n c : ℕ) → has fewer n q c ≡ true → ¬ IsHolder after q Push n → makes makers q n ≡ true
+      known n c h never = kept.all n c (fewer_was n c h) (was_apart q set pushes n c (fewer_was n c h) never)
+
+      by : IsSettled fewer parent q makers now → HasMakers after q fewer now
+      by (stays c h same) =
+          let P : List Maker → Type 0 = λ m. HasMakers after q fewer m in
+          subst P (sym same) (record {
+            made = λ n k. elim (cases_eq n parent) [
+              | inl e ↦ let S : ℕ → Type 0 = λ k. (c : ℕ) × (has fewer k q c ≡ true) in subst S (sym e) (c, h)
+              | inr apart ↦ left_of n k apart
+            ];
+            apart = λ n k holder. kept.apart n k (holder_before q Push n holder);
+            all = known;
+          })
+      by (goes none change) = record {
+        made = λ n k. left_of n (maker_was makers now q parent change q n k)
+            (λ e. maker_gone makers now q parent change (let S : ℕ → Type 0 = λ k. makes now q k ≡ true in subst S e k));
+        apart = λ n k holder. kept.apart n (maker_was makers now q parent change q n k) (holder_before q Push n holder);
+        all = λ n c h never. maker_stays makers now q parent change q n
+            (λ e. false≢true (sym (none c) ∙ (let S : ℕ → Type 0 = λ k. has fewer k q c ≡ true in subst S e h))) (known n c h never);
+      }
+
+    -- the same where the child was out already
+    pub makers_again : HasHolders after Push q set → IsSettled fewer parent q makers now → HasMakers after q set makers → HasMakers after q fewer now
+    makers_again pushes settled kept = by settled where
+      fewer_is : (n c : ℕ) → has fewer n q c ≡ true → has set n q c ≡ true
+      fewer_is n c h = let is = now_pushes.holders n c h in pushes.all n c is.0 is.1
+
+      left_of : (n : ℕ) → makes makers q n ≡ true → (c : ℕ) × (has fewer n q c ≡ true)
+      left_of n k = let c = kept.made n k in let is = pushes.holders n c.0 c.1 in (c.0, now_pushes.all n c.0 is.0 is.1)
+
+      by : IsSettled fewer parent q makers now → HasMakers after q fewer now
+      by (stays c h same) =
+          let P : List Maker → Type 0 = λ m. HasMakers after q fewer m in
+          subst P (sym same) (record {
+            made = left_of;
+            apart = kept.apart;
+            all = λ n c h never. kept.all n c (fewer_is n c h) never;
+          })
+      by (goes none change) = record {
+        made = λ n k. left_of n (maker_was makers now q parent change q n k);
+        apart = λ n k. kept.apart n (maker_was makers now q parent change q n k);
+        all = λ n c h never. maker_stays makers now q parent change q n
+            (λ e. false≢true (sym (none c) ∙ (let S : ℕ → Type 0 = λ k. has fewer k q c ≡ true in subst S e h)))
+            (kept.all n c (fewer_is n c h) never);
+      }

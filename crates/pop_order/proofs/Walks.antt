@@ -1,183 +1,221 @@
 -- The steps of the way to the first earlier pusher.
-use Rattle.std.proofs.Common.{◌≡◌, ◌≢◌, ℕ, ◌<◌, ◌≤◌, true, false, Option, Some, None, IfSome, IfNone, List, sym, subst, ◌∙◌, inl, inr, arith}
-use Rattle.std.proofs.lemmas.Bool.{cases_eq, false≢true}
+use Rattle.std.proofs.Common.{◌≡◌, ◌≢◌, ℕ, suc, zero, ◌+◌, ◌<◌, ◌≤◌, Bool, true, false, Option, Some, None, List, refl, sym, subst, ◌∙◌, ◌⊎◌, inl, inr, arith}
+use Rattle.std.proofs.lemmas.Bool.{cases_eq, cases_lt, false≢true}
+use Rattle.swan_model.specs.declared.rights.Mode.TheVariants.{Push}
 use Rattle.pop_order.specs.Children.{Entry, has, IsOldest}
-use Rattle.pop_order.specs.Frames.{Frame, Frames, frame_at}
+use Rattle.pop_order.specs.Frames.{Frame, Frames, frame_at, holds}
+use Rattle.pop_order.specs.Makers.{Maker, makes, IsNext}
 use Rattle.pop_order.specs.Order.{IsChild, IsAtOrBelow, at, below, ComesBefore, inside, aside}
-use Rattle.pop_order.specs.Turns.{IsEarlierPusher}
-use Rattle.pop_order.specs.Kept.{AreBelowParents, IsReaching, HasReaching}
-use Rattle.pop_order.specs.Walk.{IsLead, IsFound, IsFoundInAll, IsStepUp, newer, kept}
-use Rattle.pop_order.proofs.Lineage.{below_below, through, le_below, not_before_below, not_before_older, in_one_tree}
+use Rattle.pop_order.specs.Turns.{IsHolder}
+use Rattle.pop_order.specs.Kept.{AreBelowParents, HasHolders, HasMakers}
+use Rattle.pop_order.specs.Walk.{IsLed, here, further, IsFirstUnder, IsFirstOf, IsFirstEarlier, IsSooner, late, second, taken}
+use Rattle.pop_order.proofs.Before.{one_is_first, before_before}
+use Rattle.pop_order.proofs.Blocking.{same_frame}
+use Rattle.pop_order.proofs.Lineage.{below_below, le_below}
 
-pub none_or_some : {frames : Frames} {p n : ℕ} → frame_at frames n ≡ None → IsChild frames p n → ⊥
-none_or_some top child = let e : None ≡ Some child.frame = sym top ∙ child.active in cc
+-- ---- down from a maker
 
-module _ (frames : Frames) (queue : ℕ) (set : List Entry) (reaches : HasReaching frames queue set) where
-  -- the set has each child at or below which some frame reaches
-  pub known_above : (p c n : ℕ) → IsReaching frames queue set n → IsAtOrBelow frames c n → IsChild frames p c → has set p queue c ≡ true
-  known_above p c n r at child = reaches.all p c child r
-  known_above p c n r (below parent _ step q) child =
-      known_above p c parent (inr (n, reaches.all parent n step r)) q child
+-- The pushers that a maker leads to are led to by the node too, or all at or below the node comes before them.
+pub record IsDown (frames : Frames) (set : List Entry) (queue maker node : ℕ) : Type 0 where
+  pub known : (node ≡ maker) ⊎ IsHolder frames queue Push node
+  pub first : (other : ℕ) → IsLed set queue maker other → other ≢ maker
+      → IsLed set queue node other ⊎ ((n : ℕ) → IsAtOrBelow frames node n → ComesBefore frames n other)
 
-module _ (frames : Frames) (queue : ℕ) (set : List Entry) (rising : AreBelowParents frames) (reaches : HasReaching frames queue set) (frame : ℕ) where
-  -- an earlier pusher below a frame is at or below one of its children that the set has
-  pub known_child : (a n : ℕ) → IsEarlierPusher frames frame queue n → IsAtOrBelow frames a n → n ≢ a
-      → (c : ℕ) × IsChild frames a c × IsAtOrBelow frames c n × (has set a queue c ≡ true)
-  known_child a n pusher up apart =
-      let c = through frames a n up apart in
-      (c.0, c.1, c.2, known_above frames queue set reaches a c.0 n (inl pusher.0) c.2 c.1)
+module _ (set : List Entry) (queue : ℕ) where
+  -- the child through which a frame leads to another one
+  led_through : (top n : ℕ) → IsLed set queue top n → n ≢ top → (c : ℕ) × (has set top queue c ≡ true) × IsLed set queue c n
+  led_through top n here apart = absurd (apart refl)
+  led_through top n (further parent _ h q) apart = elim (cases_eq parent top) [
+    | inl same ↦ (n, let P : ℕ → Type 0 = λ k. has set k queue n ≡ true in subst P same h, here)
+    | inr differ ↦ let up = led_through top parent q differ in (up.0, up.1, further parent n h up.2)
+  ]
 
-  not_itself : (n : ℕ) → IsEarlierPusher frames frame queue n → IsAtOrBelow frames n frame → ⊥
-  not_itself n pusher up = not_before_below frames rising n frame up pusher.1
+module _ (frames : Frames) (queue : ℕ) (set : List Entry) (rising : AreBelowParents frames) (pushes : HasHolders frames Push queue set) where
+  led_below : (top n : ℕ) → IsLed set queue top n → IsAtOrBelow frames top n
+  led_below top n here = at
+  led_below top n (further parent _ h q) = below parent n (pushes.holders parent n h).0 (led_below top parent q)
 
-  apart_from : (a n : ℕ) → IsAtOrBelow frames a frame → IsEarlierPusher frames frame queue n → n ≢ a
-  apart_from a n up pusher e = not_itself n pusher (let P : ℕ → Type 0 = λ k. IsAtOrBelow frames k frame in subst P (sym e) up)
+  pub down_start : (maker : ℕ) → IsDown frames set queue maker maker
+  down_start maker = record { known = inl refl; first = λ other led apart. inl led }
 
-  -- the oldest child that the set has leads to what is below its parent
-  pub lead_by : (p oldest : ℕ) (Picks : ℕ → Type 0) → has set p queue oldest ≡ true
-      → ((child : ℕ) → has set p queue child ≡ true → oldest ≤ child)
-      → ((n : ℕ) → IsAtOrBelow frames oldest n → ComesBefore frames n frame)
-      → ((n : ℕ) → IsEarlierPusher frames frame queue n → Picks n → IsAtOrBelow frames p n × (n ≢ p))
-      → IsLead frames set queue frame Picks oldest
-  lead_by p oldest Picks known least early under = record {
-    parent = p;
-    known = known;
-    earlier = early;
-    first = λ other pusher picked.
-        let where_it_is = under other pusher picked in
-        let c = known_child p other pusher where_it_is.0 where_it_is.1 in
-        elim (cases_eq oldest c.0) [
-          | inl same ↦ inl (let P : ℕ → Type 0 = λ k. IsAtOrBelow frames k other in subst P (sym same) c.2)
-          | inr apart ↦ inr (λ n up. aside p oldest c.0 (reaches.children p oldest known) c.1 (omega (arith, least c.0 c.3)) up c.2)
-        ];
-  }
-
-  -- at the frame itself
-  pub start_some : (oldest : ℕ) → has set frame queue oldest ≡ true → ((child : ℕ) → has set frame queue child ≡ true → oldest ≤ child)
-      → IsFound frames set queue frame frame (Some oldest)
-  start_some oldest known least =
-      let child = reaches.children frame oldest known in
-      let step : IsAtOrBelow frames frame oldest = below frame oldest child at in (
-        lead_by frame oldest (IsAtOrBelow frames frame) known least
-            (λ n up. inside (λ e. omega (arith, le_below frames rising oldest n up, rising frame oldest child)) (below_below frames frame oldest n step up))
-            (λ n pusher up. (up, apart_from frame n at pusher)),
-        step,
-      )
-
-  pub start_none : ((child : ℕ) → has set frame queue child ≡ false) → IsFound frames set queue frame frame None
-  start_none none other pusher up =
-      let c = known_child frame other pusher up (apart_from frame other at pusher) in
-      false≢true (sym (none c.0) ∙ c.3)
-
-  -- one frame up, where an older sibling reaches
-  pub up_found : (p node oldest : ℕ) → IsChild frames p node → IsAtOrBelow frames node frame
-      → has set p queue oldest ≡ true → ((child : ℕ) → has set p queue child ≡ true → oldest ≤ child) → oldest < node
-      → IsFound frames set queue frame p (Some oldest)
-  up_found p node oldest child under known least older =
-      let sibling = reaches.children p oldest known in
-      let whole = below_below frames p node frame (below p node child at) under in (
-        lead_by p oldest (IsAtOrBelow frames p) known least
-            (λ n up. aside p oldest node sibling child older up under)
-            (λ n pusher up. (up, apart_from p n whole pusher)),
-        below p oldest sibling at,
-      )
-
-  -- a pusher that is earlier is at or below no younger sibling of a frame on the way up, so where no older
-  -- one reaches it is at or below that frame
-  in_node : (p node : ℕ) → IsChild frames p node → IsAtOrBelow frames node frame
-      → ((c : ℕ) → has set p queue c ≡ true → node ≤ c)
-      → (n : ℕ) → IsEarlierPusher frames frame queue n → IsAtOrBelow frames p n → IsAtOrBelow frames node n
-  in_node p node child under none n pusher up =
-      let whole = below_below frames p node frame (below p node child at) under in
-      let c = known_child p n pusher up (apart_from p n whole pusher) in
-      elim (cases_eq node c.0) [
-        | inl same ↦ let P : ℕ → Type 0 = λ k. IsAtOrBelow frames k n in subst P (sym same) c.2
-        | inr apart ↦ absurd (not_before_older frames rising p node c.0 n frame child c.1 (omega (arith, none c.0 c.3)) c.2 under pusher.1)
-      ]
-
-  -- one frame up, where none does
-  pub up_kept : (p node : ℕ) (found : Option ℕ) → IsChild frames p node → IsAtOrBelow frames node frame
-      → ((c : ℕ) → has set p queue c ≡ true → node ≤ c)
-      → IsFound frames set queue frame node found → IsFound frames set queue frame p found
-  up_kept p node None child under none found = λ other pusher up.
-      found other pusher (in_node p node child under none other pusher up)
-  up_kept p node (Some number) child under none found = (
-    record {
-      parent = found.0.parent;
-      known = found.0.known;
-      earlier = found.0.earlier;
-      first = λ other pusher up. found.0.first other pusher (in_node p node child under none other pusher up);
-    },
-    below_below frames p node number (below p node child at) found.1,
-  )
-
-  -- at the top of the tree
-  pub at_top : (node : ℕ) (found : Option ℕ) → IsAtOrBelow frames node frame → frame_at frames node ≡ None
-      → IsFound frames set queue frame node found → IsFoundInAll frames set queue frame found
-  at_top node None under top found = λ other pusher.
-      found other pusher (in_one_tree frames rising node other frame (λ p child. none_or_some top child) under pusher.1)
-  at_top node (Some number) under top found = record {
-    parent = found.0.parent;
-    known = found.0.known;
-    earlier = found.0.earlier;
-    first = λ other pusher picked. found.0.first other pusher (in_one_tree frames rising node other frame (λ p child. none_or_some top child) under pusher.1);
-  }
-
-  -- one frame down
-  pub down : (node oldest : ℕ) → has set node queue oldest ≡ true → ((child : ℕ) → has set node queue child ≡ true → oldest ≤ child)
-      → IsLead frames set queue frame (λ _. Unit {0}) node → IsLead frames set queue frame (λ _. Unit {0}) oldest
-  down node oldest known least lead =
-      let child = reaches.children node oldest known in
+  pub down : (maker node oldest : ℕ) → IsOldest set node queue oldest → IsDown frames set queue maker node → IsDown frames set queue maker oldest
+  down maker node oldest is d =
+      let child = (pushes.holders node oldest is.known).0 in
       let step : IsAtOrBelow frames node oldest = below node oldest child at in
       record {
-        parent = node;
-        known = known;
-        earlier = λ n up. lead.earlier n (below_below frames node oldest n step up);
-        first = λ other pusher picked. elim (lead.first other pusher picked) [
+        known = inr (pushes.holders node oldest is.known).1;
+        first = λ other led apart. elim (d.first other led apart) [
           | inl up ↦ elim (cases_eq other node) [
             | inl same ↦ inr (λ n deep. let P : ℕ → Type 0 = λ k. ComesBefore frames n k in
                 subst P (sym same) (inside (λ e. omega (arith, le_below frames rising oldest n deep, rising node oldest child)) (below_below frames node oldest n step deep)))
-            | inr apart ↦ let c = known_child node other pusher up apart in elim (cases_eq oldest c.0) [
-              | inl same ↦ inl (let P : ℕ → Type 0 = λ k. IsAtOrBelow frames k other in subst P (sym same) c.2)
-              | inr differ ↦ inr (λ n deep. aside node oldest c.0 child c.1 (omega (arith, least c.0 c.3)) deep c.2)
+            | inr differ ↦ let c = led_through set queue node other up differ in elim (cases_eq oldest c.0) [
+              | inl same ↦ inl (let P : ℕ → Type 0 = λ k. IsLed set queue k other in subst P (sym same) c.2)
+              | inr next ↦ inr (λ n deep. aside node oldest c.0 child (pushes.holders node c.0 c.1).0 (omega (arith, is.least c.0 c.1)) deep (led_below c.0 other c.2))
             ]
           ]
           | inr all ↦ inr (λ n deep. all n (below_below frames node oldest n step deep))
         ];
       }
 
-  -- where no child reaches, the frame itself is the first
-  pub at_last : (node : ℕ) → ((child : ℕ) → has set node queue child ≡ false) → IsLead frames set queue frame (λ _. Unit {0}) node
-      → IsEarlierPusher frames frame queue node
-      × ((other : ℕ) → other ≢ node → IsEarlierPusher frames frame queue other → ComesBefore frames node other)
-  at_last node none lead =
-      elim (reaches.reaching lead.parent node lead.known) [
-        | inl holder ↦ (
-          (holder, lead.earlier node at),
-          λ other apart pusher. elim (lead.first other pusher tt) [
-            | inl up ↦ let c = known_child node other pusher up apart in absurd (false≢true (sym (none c.0) ∙ c.3))
-            | inr all ↦ all node at
-          ],
-        )
-        | inr some ↦ absurd (false≢true (sym (none some.0) ∙ some.1))
+  -- where no child pushes, the frame itself is the first
+  pub at_last : (maker node child : ℕ) → has set maker queue child ≡ true → ((c : ℕ) → has set node queue c ≡ false) → IsDown frames set queue maker node
+      → IsFirstUnder frames set queue maker node
+  at_last maker node child made none d = record {
+    pushes = elim d.known [
+      | inl same ↦ absurd (let P : ℕ → Type 0 = λ k. has set k queue child ≡ true in false≢true (sym (none child) ∙ subst P (sym same) made))
+      | inr holder ↦ holder
+    ];
+    first = λ other led apart differ. elim (d.first other led apart) [
+      | inl up ↦ let c = led_through set queue node other up differ in absurd (false≢true (sym (none c.0) ∙ c.1))
+      | inr all ↦ all node at
+    ];
+  }
+
+-- ---- from maker to maker
+
+-- a pusher to which a maker leads whose number is lower than one
+pub record IsSeen (set : List Entry) (makers : List Maker) (queue from number : ℕ) : Type 0 where
+  pub maker : ℕ
+  pub known : makes makers queue maker ≡ true
+  pub before : maker < from
+  pub led : IsLed set queue maker number
+  pub younger : maker < number
+
+module _ (frames : Frames) (queue : ℕ) where
+  by_held : (n : ℕ) (f : Frame) (b : Bool) → frame_at frames n ≡ Some f → holds f.holdings queue Push ≡ b → IsHolder frames queue Push n ⊎ (IsHolder frames queue Push n → ⊥)
+  by_held n f true active e = inl (record { frame = f; active = active; held = e })
+  by_held n f false active e = inr (λ holder.
+      let P : Frame → Type 0 = λ g. holds g.holdings queue Push ≡ true in
+      false≢true (sym e ∙ subst P (same_frame (frame_at frames n) holder.frame f holder.active active) holder.held))
+
+  by_frame : (n : ℕ) (found : Option Frame) → frame_at frames n ≡ found → IsHolder frames queue Push n ⊎ (IsHolder frames queue Push n → ⊥)
+  by_frame n None e = inr (λ holder. let never : None ≡ Some holder.frame = sym e ∙ holder.active in cc)
+  by_frame n (Some f) e = by_held n f (holds f.holdings queue Push) e refl
+
+  pushes_or_not : (n : ℕ) → IsHolder frames queue Push n ⊎ (IsHolder frames queue Push n → ⊥)
+  pushes_or_not n = by_frame n (frame_at frames n) refl
+
+module _ (frames : Frames) (queue : ℕ) (set : List Entry) (makers : List Maker) (rising : AreBelowParents frames)
+    (pushes : HasHolders frames Push queue set) (kept : HasMakers frames queue set makers) where
+  -- some maker leads to each pusher
+  led_to : (most n : ℕ) → n < most → IsHolder frames queue Push n
+      → (m : ℕ) × (makes makers queue m ≡ true) × IsLed set queue m n × (m < n)
+  led_to zero n lt holder = absurd (omega arith)
+  led_to (suc most) n lt holder =
+      let p = holder.frame.parent in
+      let child : IsChild frames p n = record { frame = holder.frame; active = holder.active; of = refl } in
+      let known = pushes.all p n child holder in
+      elim (pushes_or_not frames queue p) [
+        | inl above ↦
+            let up = led_to most p (omega (arith, rising p n child)) above in
+            (up.0, up.1, further p n known up.2, omega (arith, up.3, rising p n child))
+        | inr never ↦ (p, kept.all p n known never, further p n known here, rising p n child)
       ]
 
-module _ (frames : Frames) (queue : ℕ) (set : List Entry) (rising : AreBelowParents frames) (reaches : HasReaching frames queue set) (frame : ℕ) where
-  pub start : (found : Option ℕ) → IfSome found (IsOldest set frame queue) → IfNone found ((child : ℕ) → has set frame queue child ≡ false)
-      → IsFound frames set queue frame frame found
-  start None some none = start_none frames queue set rising reaches frame none
-  start (Some oldest) some none = start_some frames queue set rising reaches frame oldest some.known some.least
+  all_seen : (from n : ℕ) → ((m : ℕ) → from ≤ m → makes makers queue m ≡ false) → IsHolder frames queue Push n → IsSeen set makers queue from n
+  all_seen from n none holder =
+      let by = led_to (n + 1) n (omega arith) holder in
+      record {
+        maker = by.0;
+        known = by.1;
+        before = elim (cases_lt by.0 from) [ inl lt ↦ lt | inr ge ↦ absurd (false≢true (sym (none by.0 (omega arith)) ∙ by.1)) ];
+        led = by.2;
+        younger = by.3;
+      }
 
-  same_found : (node : ℕ) (a b : Option ℕ) → a ≡ b → IsFound frames set queue frame node b → IsFound frames set queue frame node a
-  same_found node a b e h = let P : Option ℕ → Type 0 = λ x. IsFound frames set queue frame node x in subst P (sym e) h
+  module _ (frame : ℕ) where
+    pub none_seen : IsFirstOf frames queue frame (IsSeen set makers queue 0) None
+    none_seen other seen before = omega (arith, seen.before)
 
-  pub step_up : (p node : ℕ) (before after : Option ℕ) → IsChild frames p node → IsAtOrBelow frames node frame
-      → IsFound frames set queue frame node before → IsStepUp set p queue node before after
-      → IsFound frames set queue frame p after
-  step_up p node before after child under found (newer oldest is older e) =
-      same_found p after (Some oldest) e (up_found frames queue set rising reaches frame p node oldest child under is.known is.least older)
-  step_up p node before after child under found (kept none e) =
-      same_found p after before e (up_kept frames queue set rising reaches frame p node before child under none found)
+    -- once all makers were seen, what is found is the first of all
+    pub at_end : (from : ℕ) (found : Option ℕ) → ((m : ℕ) → from ≤ m → makes makers queue m ≡ false)
+        → IsFirstOf frames queue frame (IsSeen set makers queue from) found → IsFirstEarlier frames queue frame found
+    at_end from None none found = λ other pusher. found other (all_seen from other none pusher.0) pusher.1
+    at_end from (Some number) none found = (found.0, λ other differ pusher. found.1 other (all_seen from other none pusher.0) differ pusher.1)
 
-pub child_at : {frames : Frames} {n : ℕ} (f : Frame) (p : ℕ) → Some f ≡ frame_at frames n → f.parent ≡ p → IsChild frames p n
-child_at f p active of = record { frame = f; active = sym active; of = of }
+    module _ (from maker n : ℕ) (next : IsNext makers queue from maker) (under : IsFirstUnder frames set queue maker n) where
+      -- what is seen was seen before, or the first below this maker comes before it
+      seen_or_here : (other : ℕ) → IsSeen set makers queue (maker + 1) other → IsSeen set makers queue from other ⊎ (other ≢ n → ComesBefore frames n other)
+      seen_or_here other seen = elim (cases_lt seen.maker from) [
+        | inl lt ↦ inl (record { maker = seen.maker; known = seen.known; before = lt; led = seen.led; younger = seen.younger })
+        | inr ge ↦
+            let same : seen.maker ≡ maker = omega (arith, seen.before, next.least seen.maker (omega arith) seen.known) in
+            let P : ℕ → Type 0 = λ k. IsLed set queue k other in
+            inr (λ differ. under.first other (subst P same seen.led) (λ e. omega (arith, seen.younger)) differ)
+      ]
+
+      not_late : (other : ℕ) → ¬ ComesBefore frames n frame → (other ≢ n → ComesBefore frames n other) → ¬ ComesBefore frames other frame
+      not_late other never first before = elim (cases_eq other n) [
+        | inl same ↦ never (let P : ℕ → Type 0 = λ k. ComesBefore frames k frame in subst P same before)
+        | inr differ ↦ never (before_before frames rising n other frame (first differ) before)
+      ]
+
+      as_found : (found : Option ℕ) → ¬ ComesBefore frames n frame → IsFirstOf frames queue frame (IsSeen set makers queue from) found
+          → IsFirstOf frames queue frame (IsSeen set makers queue (maker + 1)) found
+      as_found None never found = λ other seen before. elim (seen_or_here other seen) [
+        | inl old ↦ found other old before
+        | inr first ↦ not_late other never first before
+      ]
+      as_found (Some number) never found = (
+        found.0,
+        λ other seen differ before. elim (seen_or_here other seen) [
+          | inl old ↦ found.1 other old differ before
+          | inr first ↦ absurd (not_late other never first before)
+        ],
+      )
+
+      as_second : (number : ℕ) → ComesBefore frames number n → IsFirstOf frames queue frame (IsSeen set makers queue from) (Some number)
+          → IsFirstOf frames queue frame (IsSeen set makers queue (maker + 1)) (Some number)
+      as_second number sooner found = (
+        found.0,
+        λ other seen differ before. elim (seen_or_here other seen) [
+          | inl old ↦ found.1 other old differ before
+          | inr first ↦ elim (cases_eq other n) [
+            | inl same ↦ let P : ℕ → Type 0 = λ k. ComesBefore frames number k in subst P (sym same) sooner
+            | inr apart ↦ before_before frames rising number n other sooner (first apart)
+          ]
+        ],
+      )
+
+      -- a frame that is found and doesn't come before this one comes after it
+      before_found : (number : ℕ) → ComesBefore frames n frame → ComesBefore frames number frame → ¬ ComesBefore frames number n
+          → n ≢ number → ComesBefore frames n number
+      before_found number before other never apart = elim (one_is_first frames n number frame apart before other) [ inl first ↦ first | inr last ↦ absurd (never last) ]
+
+      as_taken : (found : Option ℕ) → ComesBefore frames n frame → ((first : ℕ) → found ≡ Some first → ¬ ComesBefore frames first n)
+          → IsFirstOf frames queue frame (IsSeen set makers queue from) found → (other : ℕ) → IsSeen set makers queue from other → other ≢ n
+          → ComesBefore frames other frame → ComesBefore frames n other
+      as_taken None before never found other seen differ earlier = absurd (found other seen earlier)
+      as_taken (Some number) before never found other seen differ earlier = elim (cases_eq n number) [
+        | inl same ↦
+            let P : ℕ → Type 0 = λ k. ComesBefore frames k other in
+            subst P (sym same) (found.1 other seen (λ e. differ (e ∙ sym same)) earlier)
+        | inr apart ↦
+            let first = before_found number before found.0.1 (never number refl) apart in
+            elim (cases_eq other number) [
+              | inl same ↦ let P : ℕ → Type 0 = λ k. ComesBefore frames n k in subst P (sym same) first
+              | inr other_one ↦ before_before frames rising n number other first (found.1 other seen other_one earlier)
+            ]
+      ]
+
+      pub one_more : (found kept : Option ℕ) → IsSooner frames frame found n kept → IsFirstOf frames queue frame (IsSeen set makers queue from) found
+          → IsFirstOf frames queue frame (IsSeen set makers queue (maker + 1)) kept
+      one_more found kept (late never same) first =
+          let P : Option ℕ → Type 0 = λ x. IsFirstOf frames queue frame (IsSeen set makers queue (maker + 1)) x in
+          subst P (sym same) (as_found found never first)
+      one_more found kept (second number before is sooner same) first =
+          let P : Option ℕ → Type 0 = λ x. IsFirstOf frames queue frame (IsSeen set makers queue (maker + 1)) x in
+          let Q : Option ℕ → Type 0 = λ x. IsFirstOf frames queue frame (IsSeen set makers queue from) x in
+          subst P (sym (same ∙ is)) (as_second number sooner (subst Q is first))
+      one_more found kept (taken before never same) first =
+          let P : Option ℕ → Type 0 = λ x. IsFirstOf frames queue frame (IsSeen set makers queue (maker + 1)) x in
+          subst P (sym same) (
+            (under.pushes, before),
+            λ other seen differ earlier. elim (seen_or_here other seen) [
+              | inl old ↦ as_taken found before never first other old differ earlier
+              | inr is_first ↦ is_first differ
+            ],
+          )
+
+pub same_number : (a b : ℕ) → Some a ≡ Some b → a ≡ b
+same_number a b e = cc

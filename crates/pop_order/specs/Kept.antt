@@ -1,5 +1,5 @@
 -- What is kept beside the frames, so that no call looks at all frames.
-use Rattle.std.specs.Prelude.{◌≡◌, ℕ, ◌<◌, true, List, ◌⊎◌}
+use Rattle.std.specs.Prelude.{◌≡◌, ℕ, ◌<◌, true, List}
 use Rattle.std.specs.List.Sorted.{IsStrictlySortedBy}
 use Rattle.std.specs.Ordering.{nat_cmp}
 use Rattle.std.specs.Map.{keys_of}
@@ -9,6 +9,7 @@ use Rattle.pop_order.specs.Frames.{Frames}
 use Rattle.pop_order.specs.Order.{IsChild}
 use Rattle.pop_order.specs.Turns.{IsHolder}
 use Rattle.pop_order.specs.Children.{Entry, has}
+use Rattle.pop_order.specs.Makers.{Maker, makes}
 
 -- each frame's parent has a lower number
 abbrev pub AreBelowParents : Frames → Type 0
@@ -19,24 +20,19 @@ pub record HasHolders (frames : Frames) (mode : Mode) (queue : ℕ) (set : List 
   pub holders : (parent child : ℕ) → has set parent queue child ≡ true → IsChild frames parent child × IsHolder frames queue mode child
   pub all : (parent child : ℕ) → IsChild frames parent child → IsHolder frames queue mode child → has set parent queue child ≡ true
 
--- a frame may push to a queue, or the set has a child of it
-abbrev pub IsReaching : Frames → ℕ → List Entry → ℕ → Type 0
-IsReaching frames queue set number = IsHolder frames queue Push number ⊎ ((child : ℕ) × (has set number queue child ≡ true))
+-- The makers of a queue are exactly the frames that may not push to it and have a child that may.
+pub record HasMakers (frames : Frames) (queue : ℕ) (pushers : List Entry) (makers : List Maker) : Type 0 where
+  pub made : (number : ℕ) → makes makers queue number ≡ true → (child : ℕ) × (has pushers number queue child ≡ true)
+  pub apart : (number : ℕ) → makes makers queue number ≡ true → ¬ IsHolder frames queue Push number
+  pub all : (number child : ℕ) → has pushers number queue child ≡ true → ¬ IsHolder frames queue Push number → makes makers queue number ≡ true
 
--- The set has a child exactly where the child may push to a queue or the set has a child of it: so it has
--- those at which or below which some frame may push.
-pub record HasReaching (frames : Frames) (queue : ℕ) (set : List Entry) : Type 0 where
-  pub children : (parent child : ℕ) → has set parent queue child ≡ true → IsChild frames parent child
-  pub reaching : (parent child : ℕ) → has set parent queue child ≡ true → IsReaching frames queue set child
-  pub all : (parent child : ℕ) → IsChild frames parent child → IsReaching frames queue set child → has set parent queue child ≡ true
-
--- what three sets have for a queue
-pub record IsKeptFor (frames : Frames) (poppers pushers reaching : List Entry) (queue : ℕ) : Type 0 where
+-- what the sets have for a queue
+pub record IsKeptFor (frames : Frames) (poppers pushers : List Entry) (makers : List Maker) (queue : ℕ) : Type 0 where
   pub pops : HasHolders frames Pop queue poppers
   pub pushes : HasHolders frames Push queue pushers
-  pub reaches : HasReaching frames queue reaching
+  pub makes : HasMakers frames queue pushers makers
 
-pub record IsKept (frames : Frames) (poppers pushers reaching : List Entry) : Type 0 where
+pub record IsKept (frames : Frames) (poppers pushers : List Entry) (makers : List Maker) : Type 0 where
   pub sorted : IsStrictlySortedBy nat_cmp (keys_of frames)
   pub below : AreBelowParents frames
-  pub sets : (queue : ℕ) → IsKeptFor frames poppers pushers reaching queue
+  pub sets : (queue : ℕ) → IsKeptFor frames poppers pushers makers queue

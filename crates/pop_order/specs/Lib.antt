@@ -7,5 +7,5 @@ pub mod Children
 pub mod Kept
 pub mod Walk
 pub mod Poppers
-pub mod Reach
+pub mod Makers
 pub mod Steps

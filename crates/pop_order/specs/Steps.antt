@@ -4,9 +4,11 @@ use Rattle.std.specs.List.{list_any}
 use Rattle.swan_model.specs.Rights.{allows}
 use Rattle.swan_model.specs.SerialState.{Holding}
 use Rattle.swan_model.specs.declared.rights.Mode.{Mode}
+use Rattle.swan_model.specs.declared.rights.Mode.TheVariants.{Push}
 use Rattle.pop_order.specs.Frames.{Frame, Frames, frame_at, holds}
 use Rattle.pop_order.specs.Order.{IsChild}
 use Rattle.pop_order.specs.Turns.{IsHolder}
+use Rattle.pop_order.specs.Makers.{Maker, IsMakerIn}
 
 -- A child without children was given one more queue, and all other frames are as they were.
 pub record IsGrown (before after : Frames) (parent child : ℕ) (holding : Holding) : Type 0 where
@@ -35,3 +37,10 @@ is_given holdings queue = list_any (λ h. h.number == queue) holdings
 -- a frame holds no queue that isn't among these holdings
 abbrev pub HoldsNoOther : Frames → ℕ → List Holding → Type 0
 HoldsNoOther frames number holdings = (queue : ℕ) (mode : Mode) → IsHolder frames queue mode number → is_given holdings queue ≡ true
+
+-- The makers after a child was given a queue: its parent comes in where the child may push and the parent may not.
+pub data IsMakerNoted (frames : Frames) (parent : ℕ) (holding : Holding) (before after : List Maker) : Type 0 where
+  needless : (allows holding.mode Push ≡ true → IsHolder frames holding.number Push parent) → after ≡ before
+      → IsMakerNoted frames parent holding before after
+  noted : allows holding.mode Push ≡ true → ¬ IsHolder frames holding.number Push parent → IsMakerIn before holding.number parent after
+      → IsMakerNoted frames parent holding before after

@@ -49,14 +49,12 @@ impl Children {
         Ok(())
     }
 
-    /// Takes a child out, and says whether it was in. `O(log n)`; it takes no memory.
+    /// Takes a child out. `O(log n)`; it takes no memory.
     #[tactic(auto, unfolding(crate::specs::Children::has))]
-    pub fn remove(&mut self, parent: u64, queue: u32, child: u64) -> bool
-        ensures was_in { result ≡ has self.old parent queue child }
-        ensures unchanged { result ≡ false → self.new ≡ self.old }
-        ensures removed { IsWithout self.old parent queue child self.new }
+    pub fn remove(&mut self, parent: u64, queue: u32, child: u64)
+        ensures { IsWithout self.old parent queue child self.new }
     {
-        self.entries.remove(&(parent, queue, child))
+        self.entries.remove(&(parent, queue, child));
     }
 
     /// Takes all children out. `O(n)`.

@@ -4,7 +4,7 @@ ghost use Rattle.std.specs.Ordering.{nat_cmp};
 ghost use Rattle.std.specs.List.Sorted.{IsStrictlySortedBy};
 ghost use Rattle.std.specs.Map.{keys_of};
 ghost use Rattle.pop_order.specs.Frames.{Frames, enlisted, lent_to, AreUpTo, MayGet};
-ghost use Rattle.pop_order.specs.Kept.{AreBelowParents, IsKept, IsKeptFor};
+ghost use Rattle.pop_order.specs.Kept.{IsKept, IsKeptFor};
 ghost use Rattle.pop_order.specs.Steps.{IsShrunk, HoldsNoOther};
 
 use crate::{Frame, Holding, Sets};
@@ -47,8 +47,7 @@ pub fn lend(frames: &mut BTreeMap<u64, Frame>, child: u64)
     }
 }
 
-/// Gives a child one more queue, in the frames and in the sets. `O(log n)`, and as much again for each
-/// frame above that did not reach before.
+/// Gives a child one more queue, in the frames and in the sets. `O(log n)`.
 pub fn add(
     alloc: Global,
     frames: &mut BTreeMap<u64, Frame>,
@@ -57,12 +56,12 @@ pub fn add(
     child: u64,
     holding: Holding,
 ) -> Result<(), NoMemory>
-    requires kept { IsKept frames.old.entries sets.old.poppers sets.old.pushers sets.old.reaching }
+    requires kept { IsKept frames.old.entries sets.old.poppers sets.old.pushers sets.old.makers }
     requires rising { parent < child }
     requires newest { AreUpTo frames.old.entries child }
     requires fits { MayGet frames.old.entries parent child holding.number }
     ensures given { OnOk result (frames.new.entries ≡ enlisted frames.old.entries parent child holding) }
-    ensures kept { OnOk result (IsKept frames.new.entries sets.new.poppers sets.new.pushers sets.new.reaching) }
+    ensures kept { OnOk result (IsKept frames.new.entries sets.new.poppers sets.new.pushers sets.new.makers) }
 {
     give(alloc, frames, parent, child, holding)?;
     sets.add(frames, parent, child, holding)?;
@@ -70,20 +69,13 @@ pub fn add(
 }
 
 /// Takes a child that is gone from the frames out of the sets, for each of its queues. `O(k log n)` for k
-/// holdings, and as much again for each frame above at or below which no frame pushes any more.
-pub fn take_out(
-    frames: &BTreeMap<u64, Frame>,
-    sets: &mut Sets,
-    parent: u64,
-    child: u64,
-    holdings: &[Holding],
-)
-    requires { AreBelowParents frames.now.entries }
-    ensures { (before : Frames) → IsShrunk before frames.now.entries parent child → HoldsNoOther before child holdings.now
-        → ((queue : ℕ) → IsKeptFor before sets.old.poppers sets.old.pushers sets.old.reaching queue)
-        → (queue : ℕ) → IsKeptFor frames.now.entries sets.new.poppers sets.new.pushers sets.new.reaching queue }
+/// holdings.
+pub fn take_out(sets: &mut Sets, parent: u64, child: u64, holdings: &[Holding])
+    ensures { (before after : Frames) → IsShrunk before after parent child → HoldsNoOther before child holdings.now
+        → ((queue : ℕ) → IsKeptFor before sets.old.poppers sets.old.pushers sets.old.makers queue)
+        → (queue : ℕ) → IsKeptFor after sets.new.poppers sets.new.pushers sets.new.makers queue }
 {
     for holding in holdings {
-        sets.take_out(frames, parent, child, holding.queue);
+        sets.take_out(parent, child, holding.queue);
     }
 }

@@ -17,10 +17,12 @@
 //! Promised, and proved of each call: what it answers and what it leaves, with the oldest child, and the
 //! first frame in the order of the tree. By the law `order_is_serial` that is the order of points in a plan's
 //! script, as long as each frame has an entry left. All calls but `new` and `enlist` take no memory. After
-//! want of memory no frames are left.
+//! want of memory nothing is said of the frames.
 //!
-//! Inside, three sets stand beside the frames, each of children by parent and queue: those that pop,
-//! those that push, and those at or below which some frame pushes. So no call looks at all siblings.
+//! Inside, three sets stand beside the frames: the children that pop, and those that push, each by parent
+//! and queue; and the makers, by queue: the frames that may not push to it themselves and have a child that
+//! may. All pushers of a queue are below its makers, and a run's queue has one. So no call looks at all
+//! siblings, and none but `certain` goes up or down a tree.
 #![tactic(auto)]
 
 mod certain;
@@ -28,8 +30,9 @@ mod children;
 mod frame;
 mod frames;
 mod laws;
+mod makers;
+mod order;
 mod poppers;
-mod reaching;
 mod sets;
 #[cfg(test)]
 mod tests;
@@ -40,5 +43,6 @@ pub use certain::Certain;
 use children::Children;
 use frame::{Frame, Holding};
 pub use laws::order_is_serial;
+use makers::Makers;
 use sets::Sets;
 pub use turns::PopTurns;

@@ -2,14 +2,14 @@
 ghost use Rattle.std.specs.Prelude.{◌≡◌, ◌≢◌, ℕ, true, false, [], OnOk, ◌⊎◌};
 ghost use Rattle.swan_model.specs.Rights.{allows};
 ghost use Rattle.swan_model.specs.declared.rights.Mode.TheVariants.{Push};
-ghost use Rattle.pop_order.specs.Children.{IsWith, IsSameFor};
+ghost use Rattle.pop_order.specs.Children.{IsWith};
 ghost use Rattle.pop_order.specs.Frames.{Frames};
-ghost use Rattle.pop_order.specs.Kept.{AreBelowParents, HasReaching, IsKeptFor};
-ghost use Rattle.pop_order.specs.Reach.{IsShort};
-ghost use Rattle.pop_order.specs.Steps.{IsGrown, IsShrunk};
+ghost use Rattle.pop_order.specs.Kept.{HasHolders, IsKeptFor};
+ghost use Rattle.pop_order.specs.Makers.{IsSettled};
+ghost use Rattle.pop_order.specs.Steps.{IsGrown, IsShrunk, IsMakerNoted};
+ghost use Rattle.pop_order.specs.Turns.{IsHolder};
 
-use crate::reaching::{settle, spread};
-use crate::{Children, Frame, Holding};
+use crate::{Children, Frame, Holding, Makers};
 use std::alloc::Global;
 use std::collections::BTreeMap;
 use swan_model::{Mode, NoMemory};
@@ -21,8 +21,9 @@ pub struct Sets {
     pub poppers: Children,
     /// The frames that push, as children by queue.
     pub pushers: Children,
-    /// The frames at or below which some frame pushes, as children by queue.
-    pub reaching: Children,
+    /// The frames, by queue, that have a pushing child and don't push themselves. In a run that is the
+    /// frame that made the queue.
+    pub makers: Makers,
 }
 
 impl Sets {
@@ -30,12 +31,12 @@ impl Sets {
     pub fn new(alloc: Global) -> Sets
         ensures poppers { result.poppers ≡ [] }
         ensures pushers { result.pushers ≡ [] }
-        ensures reaching { result.reaching ≡ [] }
+        ensures makers { result.makers ≡ [] }
     {
         Sets {
             poppers: Children::new(alloc),
             pushers: Children::new(alloc),
-            reaching: Children::new(alloc),
+            makers: Makers::new(alloc),
         }
     }
 
@@ -43,15 +44,14 @@ impl Sets {
     pub fn clear(&mut self)
         ensures poppers { self.new.poppers ≡ [] }
         ensures pushers { self.new.pushers ≡ [] }
-        ensures reaching { self.new.reaching ≡ [] }
+        ensures makers { self.new.makers ≡ [] }
     {
         self.poppers.clear();
         self.pushers.clear();
-        self.reaching.clear();
+        self.makers.clear();
     }
 
-    /// Notes that a child was given a queue, where the frames already say so. `O(log n)`, and as much
-    /// again for each frame above that did not reach before.
+    /// Notes that a child was given a queue, where the frames already say so. `O(log n)`.
     pub fn add(
         &mut self,
         frames: &BTreeMap<u64, Frame>,
@@ -59,33 +59,30 @@ impl Sets {
         child: u64,
         holding: Holding,
     ) -> Result<(), NoMemory>
-        requires { AreBelowParents frames.now.entries }
         ensures { OnOk result ((before : Frames) → IsGrown before frames.now.entries parent child holding
-            → ((queue : ℕ) → IsKeptFor before self.old.poppers self.old.pushers self.old.reaching queue)
-            → (queue : ℕ) → IsKeptFor frames.now.entries self.new.poppers self.new.pushers self.new.reaching queue) }
+            → ((queue : ℕ) → IsKeptFor before self.old.poppers self.old.pushers self.old.makers queue)
+            → (queue : ℕ) → IsKeptFor frames.now.entries self.new.poppers self.new.pushers self.new.makers queue) }
     {
         note(&mut self.poppers, Mode::Pop, parent, child, holding)?;
         note(&mut self.pushers, Mode::Push, parent, child, holding)?;
-        spread_by(frames, &mut self.reaching, child, holding)?;
+        note_maker(frames, &self.pushers, &mut self.makers, parent, holding)?;
         Ok(())
     }
 
-    /// Takes a child that is gone from the frames out of the sets of a queue. `O(log n)`, and as much
-    /// again for each frame above at or below which no frame pushes any more.
-    pub fn take_out(&mut self, frames: &BTreeMap<u64, Frame>, parent: u64, child: u64, queue: u32)
-        requires { AreBelowParents frames.now.entries }
-        ensures this { (before : Frames) → IsShrunk before frames.now.entries parent child
-            → IsKeptFor before self.old.poppers self.old.pushers self.old.reaching queue
-            ⊎ IsKeptFor frames.now.entries self.old.poppers self.old.pushers self.old.reaching queue
-            → IsKeptFor frames.now.entries self.new.poppers self.new.pushers self.new.reaching queue }
+    /// Takes a child that is gone from the frames out of the sets of a queue. `O(log n)`; it takes no
+    /// memory.
+    pub fn take_out(&mut self, parent: u64, child: u64, queue: u32)
+        ensures this { (before after : Frames) → IsShrunk before after parent child
+            → IsKeptFor before self.old.poppers self.old.pushers self.old.makers queue
+            ⊎ IsKeptFor after self.old.poppers self.old.pushers self.old.makers queue
+            → IsKeptFor after self.new.poppers self.new.pushers self.new.makers queue }
         ensures others { (any : Frames) (other : ℕ) → other ≢ queue
-            → IsKeptFor any self.old.poppers self.old.pushers self.old.reaching other
-            → IsKeptFor any self.new.poppers self.new.pushers self.new.reaching other }
+            → IsKeptFor any self.old.poppers self.old.pushers self.old.makers other
+            → IsKeptFor any self.new.poppers self.new.pushers self.new.makers other }
     {
         self.poppers.remove(parent, queue, child);
         self.pushers.remove(parent, queue, child);
-        self.reaching.remove(parent, queue, child);
-        settle(frames, &self.pushers, &mut self.reaching, queue, parent);
+        settle(&self.pushers, &mut self.makers, parent, queue);
     }
 }
 
@@ -107,24 +104,47 @@ fn note(
     }
 }
 
-/// Notes a child that may push, and those above it, as reaching. `O(log n)`, and as much again for each
-/// frame above that did not reach before.
-fn spread_by(
+/// Notes the parent of a child that may push, where it may not push itself, as it may not where it made
+/// the queue. `O(log n)`.
+fn note_maker(
     frames: &BTreeMap<u64, Frame>,
-    reaching: &mut Children,
-    child: u64,
+    pushers: &Children,
+    makers: &mut Makers,
+    parent: u64,
     holding: Holding,
 ) -> Result<(), NoMemory>
-    requires { AreBelowParents frames.now.entries }
-    ensures reaches { OnOk result (allows holding.mode Push ≡ true
-        → IsShort frames.now.entries holding.number reaching.old child
-        → HasReaching frames.now.entries holding.number reaching.new) }
-    ensures others { OnOk result ((other : ℕ) → other ≢ holding.number → IsSameFor other reaching.old reaching.new) }
-    ensures kept { OnOk result (allows holding.mode Push ≡ false → reaching.new ≡ reaching.old) }
+    ensures { OnOk result (HasHolders frames.now.entries Push holding.number pushers.now
+        → IsMakerNoted frames.now.entries parent holding makers.old makers.new) }
 {
-    if holding.mode.allows(Mode::Push) {
-        spread(frames, reaching, holding.queue, child)
-    } else {
-        Ok(())
+    if !holding.mode.allows(Mode::Push) {
+        return Ok(());
+    }
+    if pushes(frames, pushers, holding.queue, parent) {
+        return Ok(());
+    }
+    makers.insert(holding.queue, parent)?;
+    Ok(())
+}
+
+/// Whether a frame may push to a queue. `O(log n)`.
+fn pushes(frames: &BTreeMap<u64, Frame>, pushers: &Children, queue: u32, number: u64) -> bool
+    ensures yes { HasHolders frames.now.entries Push queue pushers.now → result ≡ true
+        → IsHolder frames.now.entries queue Push number }
+    ensures no { HasHolders frames.now.entries Push queue pushers.now → result ≡ false
+        → ¬ IsHolder frames.now.entries queue Push number }
+{
+    match frames.get(&number) {
+        Some(frame) => pushers.has(frame.parent, queue, number),
+        None => false,
+    }
+}
+
+/// Takes a frame out of the makers of a queue where it has no pushing child any more. `O(log n)`.
+fn settle(pushers: &Children, makers: &mut Makers, parent: u64, queue: u32)
+    ensures { IsSettled pushers.now parent queue makers.old makers.new }
+{
+    match pushers.oldest(parent, queue) {
+        Some(_child) => {}
+        None => makers.remove(queue, parent),
     }
 }

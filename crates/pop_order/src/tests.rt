@@ -10,10 +10,13 @@ fn a_popper_waits_for_its_older_sibling(rt: HostRuntime) -> Result<(), Fail> {
     turns.enlist(0, 2, 0, Mode::Pop)?;
     assert_eq!(rt; turns.may_start(2), Err(1));
     assert_eq!(rt; turns.certain(0, 0), Certain::PoppingChild(1));
+    assert_eq!(rt; turns.popping_child(0, 0), Some(1));
     assert_eq!(rt; turns.may_start(1), Ok(()));
     turns.lend(1);
     turns.back(1);
     assert_eq!(rt; turns.may_start(2), Ok(()));
+    assert_eq!(rt; turns.popping_child(0, 0), Some(2));
+    assert_eq!(rt; turns.popping_child(1, 0), None);
     Ok(())
 }
 
@@ -71,6 +74,27 @@ fn pushers_below_an_older_sibling_of_the_parent_are_earlier(rt: HostRuntime) -> 
 }
 
 #[test]
+fn a_queue_stays_below_the_frame_that_made_it(rt: HostRuntime) -> Result<(), Fail> {
+    let mut turns = PopTurns::new(rt.alloc());
+    turns.enlist(0, 1, 0, Mode::Push)?;
+    turns.enlist(1, 2, 7, Mode::Push)?;
+    turns.enlist(2, 3, 7, Mode::Push)?;
+    turns.enlist(1, 4, 7, Mode::Pop)?;
+    assert_eq!(rt; turns.certain(0, 0), Certain::EarlierPusher(1));
+    assert_eq!(rt; turns.certain(1, 7), Certain::PoppingChild(4));
+    assert_eq!(rt; turns.certain(2, 7), Certain::EarlierPusher(3));
+    assert_eq!(rt; turns.certain(4, 7), Certain::EarlierPusher(3));
+    turns.back(3);
+    assert_eq!(rt; turns.certain(4, 7), Certain::EarlierPusher(2));
+    turns.back(2);
+    assert_eq!(rt; turns.certain(4, 7), Certain::Yes);
+    turns.back(4);
+    turns.enlist(1, 5, 7, Mode::Push)?;
+    assert_eq!(rt; turns.certain(1, 7), Certain::EarlierPusher(5));
+    Ok(())
+}
+
+#[test]
 fn push_and_pop_counts_as_both(rt: HostRuntime) -> Result<(), Fail> {
     let mut turns = PopTurns::new(rt.alloc());
     turns.enlist(0, 1, 0, Mode::PushPop)?;
@@ -98,9 +122,10 @@ fn a_child_blocks_by_any_of_its_queues(rt: HostRuntime) -> Result<(), Fail> {
 fn trees_know_nothing_of_each_other(rt: HostRuntime) -> Result<(), Fail> {
     let mut turns = PopTurns::new(rt.alloc());
     turns.enlist(3, 4, 9, Mode::Push)?;
-    turns.enlist(0, 5, 9, Mode::Pop)?;
+    turns.enlist(0, 5, 2, Mode::Pop)?;
     assert_eq!(rt; turns.certain(3, 9), Certain::EarlierPusher(4));
-    assert_eq!(rt; turns.certain(5, 9), Certain::Yes);
+    assert_eq!(rt; turns.certain(0, 2), Certain::PoppingChild(5));
+    assert_eq!(rt; turns.certain(5, 2), Certain::Yes);
     assert_eq!(rt; turns.may_start(8), Ok(()));
     turns.back(8);
     assert_eq!(rt; turns.may_start(5), Ok(()));

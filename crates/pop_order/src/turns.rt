@@ -1,12 +1,12 @@
 // The turns of poppers.
-ghost use Rattle.std.specs.Prelude.{◌≡◌, ℕ, ◌<◌, ◌≤◌, [], IfErr, OnOk, OnErr, IsTrue};
+ghost use Rattle.std.specs.Prelude.{◌≡◌, ℕ, ◌<◌, ◌≤◌, [], IfErr, IfSome, IfNone, OnOk, OnErr, IsTrue};
 ghost use Rattle.swan_model.specs.Rights.{is_queue_mode};
 ghost use Rattle.pop_order.specs.Frames.{enlisted, lent_to, without, AreUpTo, HasNoChild, MayGet};
-ghost use Rattle.pop_order.specs.Turns.{Blocks, IsAnswer};
+ghost use Rattle.pop_order.specs.Turns.{Blocks, IsPoppingChild, IsAnswer};
 
 use crate::frames::{add, lend, take_out};
 use crate::poppers::oldest_popper;
-use crate::walk::{first_lead, first_under};
+use crate::walk::first_earlier;
 use crate::{Certain, Frame, Holding, Sets};
 use std::alloc::Global;
 use std::collections::BTreeMap;
@@ -31,7 +31,7 @@ impl Model for PopTurns {
     ghost view = { λ turns. turns.frames.entries };
 
     ghost invariant = { λ turns.
-        IsKept turns.frames.entries turns.sets.poppers turns.sets.pushers turns.sets.reaching };
+        IsKept turns.frames.entries turns.sets.poppers turns.sets.pushers turns.sets.makers };
 }
 
 impl PopTurns {
@@ -47,9 +47,8 @@ impl PopTurns {
     }
 
     /// Gives a child one more queue, which it may use by this mode, and makes it active where it wasn't.
-    /// Err is want of memory, and leaves no frames. `O(log n)`, and it makes the room that the other calls
-    /// need. Where the parent was not given the queue to push, as where it made it, the first of its
-    /// children that pushes costs as much again for each frame above.
+    /// Err is want of memory, and nothing is said of the frames after it. `O(log n)`, and it makes the room
+    /// that the other calls need.
     pub fn enlist(
         &mut self,
         parent: u64,
@@ -62,7 +61,6 @@ impl PopTurns {
         requires fits { MayGet self.old parent child queue }
         requires of_queues { IsTrue (is_queue_mode mode) }
         ensures ok { OnOk result (self.new ≡ enlisted self.old parent child (record { mode = mode; number = queue })) }
-        ensures err { OnErr result (self.new ≡ []) }
     {
         let holding = Holding { mode, queue };
         match add(
@@ -93,24 +91,17 @@ impl PopTurns {
 
     /// Takes a child out, which isn't active any more; its queue views return to its parent. It changes
     /// nothing for a frame that was not enlisted, or was given back. `O(k log n)` for the child's k queues;
-    /// it takes no memory. Where the parent was not given a queue to push, as where it made it, the last of
-    /// its children that pushes costs as much again for each frame above.
+    /// it takes no memory.
     pub fn back(&mut self, child: u64)
         requires { HasNoChild self.old child }
         ensures { self.new ≡ without self.old child }
     {
         if let Some(frame) = self.frames.remove(&child) {
-            take_out(
-                &self.frames,
-                &mut self.sets,
-                frame.parent,
-                child,
-                &frame.holdings,
-            );
+            take_out(&mut self.sets, frame.parent, child, &frame.holdings);
         }
     }
 
-    /// Whether a child may begin to pop, and its later siblings may not: Ok exactly where no older
+    /// Whether a child may begin to pop: Ok exactly where no older
     /// sibling that pops one of the child's popped queues is active, and else Err with the oldest of
     /// those. It is Ok for a frame that was not enlisted, or was given back. `O(k log n)` for the
     /// child's k queues; it takes no memory.
@@ -126,19 +117,37 @@ impl PopTurns {
         if oldest < child { Err(oldest) } else { Ok(()) }
     }
 
+    /// The oldest active child of a frame that pops a queue; None exactly where no active child of it does.
+    /// `O(log n)`; it takes no memory.
+    pub fn popping_child(&self, frame: u64, queue: u32) -> Option<u64>
+        ensures pops { IfSome result (IsPoppingChild self.now frame queue) }
+        ensures oldest { IfSome result (λ number. (other : ℕ) → IsPoppingChild self.now frame queue other → number ≤ other) }
+        ensures none { IfNone result ((number : ℕ) → ¬ IsPoppingChild self.now frame queue number) }
+    {
+        self.sets.poppers.oldest(frame, queue)
+    }
+
     /// Whether the items of a queue are certain for a frame: PoppingChild exactly where a child of the
     /// frame that pops it is active, and then the oldest; otherwise EarlierPusher exactly where an
     /// active frame that pushes to it comes before the frame's next step in serial order, and then the
-    /// first of those; otherwise Yes. `O(d log n)` for a tree of depth d, however many siblings push; it
-    /// takes no memory.
+    /// first of those; otherwise Yes. `O(d log n)` for a tree of depth d, however many siblings push, as
+    /// long as all that push to the queue are below one frame that made it, as in each run; where several
+    /// frames gave it to children and may not push to it themselves, as much for each of them. It takes
+    /// no memory.
     pub fn certain(&self, frame: u64, queue: u32) -> Certain
         ensures { IsAnswer self.now frame queue result }
     {
-        if let Some(child) = self.sets.poppers.oldest(frame, queue) {
+        if let Some(child) = self.popping_child(frame, queue) {
             return Certain::PoppingChild(child);
         }
-        match first_lead(&self.frames, &self.sets.reaching, frame, queue) {
-            Some(top) => Certain::EarlierPusher(first_under(&self.sets.reaching, top, queue)),
+        match first_earlier(
+            &self.frames,
+            &self.sets.pushers,
+            &self.sets.makers,
+            frame,
+            queue,
+        ) {
+            Some(pusher) => Certain::EarlierPusher(pusher),
             None => Certain::Yes,
         }
     }

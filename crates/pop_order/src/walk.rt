@@ -1,67 +1,71 @@
 // The way to the first earlier pusher.
-ghost use Rattle.std.specs.Prelude.{◌≡◌, ◌≢◌, ℕ, ◌<◌, true};
+ghost use Rattle.std.specs.Prelude.{◌≡◌, ℕ, ◌<◌, true};
+ghost use Rattle.swan_model.specs.declared.rights.Mode.TheVariants.{Push};
 ghost use Rattle.pop_order.specs.Children.{has};
 ghost use Rattle.pop_order.specs.Frames.{Frames};
-ghost use Rattle.pop_order.specs.Order.{ComesBefore};
-ghost use Rattle.pop_order.specs.Turns.{IsEarlierPusher};
-ghost use Rattle.pop_order.specs.Kept.{AreBelowParents, HasReaching};
-ghost use Rattle.pop_order.specs.Walk.{IsLead, IsFoundInAll, IsStepUp};
+ghost use Rattle.pop_order.specs.Kept.{AreBelowParents, HasHolders, HasMakers};
+ghost use Rattle.pop_order.specs.Walk.{IsFirstUnder, IsFirstEarlier, IsSooner};
 
-use crate::{Children, Frame};
+use crate::order::comes_before;
+use crate::{Children, Frame, Makers};
 use std::collections::BTreeMap;
 
-/// The frame under which the first earlier pusher is to be looked for, on the way up from a frame to
-/// the top of its tree: the oldest of the siblings, of the frame or of one above it, that are older
-/// and reach, and among those the one that is nearest to the top; or else its own oldest child that
-/// reaches. `O(depth log n)`.
-pub fn first_lead(
+/// The first, in serial order, of the pushers of a queue that come before a frame. Below each maker of
+/// the queue it is looked for by itself. `O(m d log n)` for m makers and a tree of depth d; in a run a
+/// queue has one maker.
+pub fn first_earlier(
     frames: &BTreeMap<u64, Frame>,
-    reaching: &Children,
+    pushers: &Children,
+    makers: &Makers,
     frame: u64,
     queue: u32,
 ) -> Option<u64>
     requires rising { AreBelowParents frames.now.entries }
-    requires reaches { HasReaching frames.now.entries queue reaching.now }
-    ensures { IsFoundInAll frames.now.entries reaching.now queue frame result }
+    requires pushes { HasHolders frames.now.entries Push queue pushers.now }
+    requires makes { HasMakers frames.now.entries queue pushers.now makers.now }
+    ensures { IsFirstEarlier frames.now.entries queue frame result }
 {
-    let mut found = reaching.oldest(frame, queue);
-    let mut node = frame;
-    while let Some(above) = frames.get(&node) {
-        found = step_up(reaching, above.parent, queue, node, found);
-        node = above.parent;
+    let mut found = None;
+    let mut from = 0;
+    while let Some(maker) = makers.next(queue, from) {
+        let pusher = first_under(pushers, maker, queue);
+        found = sooner(frames, found, pusher, frame);
+        from = maker + 1;
     }
     found
 }
 
-/// What is found one frame further up. `O(log n)`.
-fn step_up(
-    reaching: &Children,
-    parent: u64,
-    queue: u32,
-    node: u64,
-    found: Option<u64>,
-) -> Option<u64>
-    ensures { IsStepUp reaching.now parent queue node found result }
+/// The first pusher below a maker of a queue, in serial order: down by the oldest pushing child, as long
+/// as there is one. `O(d log n)` for a tree of depth d.
+fn first_under(pushers: &Children, maker: u64, queue: u32) -> u64
+    requires rising { (parent child : ℕ) → has pushers.now parent queue child ≡ true → parent < child }
+    requires made { (child : ℕ) × (has pushers.now maker queue child ≡ true) }
+    ensures younger { maker < result }
+    ensures first { (frames : Frames) → AreBelowParents frames → HasHolders frames Push queue pushers.now
+        → IsFirstUnder frames pushers.now queue maker result }
 {
-    match reaching.oldest(parent, queue) {
-        Some(oldest) if oldest < node => Some(oldest),
-        _ => found,
-    }
-}
-
-/// The first pusher at or below a frame, in serial order: down by the oldest child that reaches, as
-/// long as there is one. `O(depth log n)`.
-pub fn first_under(reaching: &Children, top: u64, queue: u32) -> u64
-    requires { (parent child : ℕ) → has reaching.now parent queue child ≡ true → parent < child }
-    ensures { (frames : Frames) (frame : ℕ) →
-        AreBelowParents frames → HasReaching frames queue reaching.now →
-        IsLead frames reaching.now queue frame (λ _. Unit {0}) top →
-        IsEarlierPusher frames frame queue result
-        × ((other : ℕ) → other ≢ result → IsEarlierPusher frames frame queue other → ComesBefore frames result other) }
-{
-    let mut node = top;
-    while let Some(oldest) = reaching.oldest(node, queue) {
+    let mut node = maker;
+    while let Some(oldest) = pushers.oldest(node, queue) {
         node = oldest;
     }
     node
+}
+
+/// The one that comes first of a frame found before and of a pusher, where the pusher comes before a
+/// frame, and else what was found before. `O(d log n)` for a tree of depth d.
+fn sooner(frames: &BTreeMap<u64, Frame>, found: Option<u64>, pusher: u64, frame: u64) -> Option<u64>
+    requires { AreBelowParents frames.now.entries }
+    ensures { IsSooner frames.now.entries frame found pusher result }
+{
+    if !comes_before(frames, pusher, frame) {
+        return found;
+    }
+    let Some(first) = found else {
+        return Some(pusher);
+    };
+    if comes_before(frames, first, pusher) {
+        found
+    } else {
+        Some(pusher)
+    }
 }

@@ -5,12 +5,6 @@ use Rattle.pop_order.specs.Steps.{IsGrown}
 use Rattle.pop_order.proofs.Enlisting.{grown_enlisted, below_enlisted}
 use Rattle.pop_order.proofs.frames.add.Goals as goal
 
-pub add-requires : goal.add-requires
-add-requires c =
-    let P : Frames → Type 0 = λ fs. AreBelowParents fs in
-    subst P (sym c.in_ok-give.ensures.given)
-    (below_enlisted c.args.frames.now.entries c.args.parent c.args.child c.args.holding c.requires.kept.below c.requires.newest c.requires.rising c.requires.fits)
-
 pub returns-clause-kept : goal.returns-clause-kept
 returns-clause-kept c =
     let before = c.args.frames.now.entries in

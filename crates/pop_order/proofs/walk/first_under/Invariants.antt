@@ -1,13 +1,15 @@
-use Rattle.std.proofs.Common.{ℕ, ◌-◌, ◌^◌}
+use Rattle.std.proofs.Common.{◌-◌, ◌^◌, ◌≤◌}
+use Rattle.swan_model.specs.declared.rights.Mode.TheVariants.{Push}
 use Rattle.pop_order.specs.Frames.{Frames}
-use Rattle.pop_order.specs.Kept.{AreBelowParents, HasReaching}
-use Rattle.pop_order.specs.Walk.{IsLead}
+use Rattle.pop_order.specs.Kept.{AreBelowParents, HasHolders}
+use Rattle.pop_order.proofs.Walks.{IsDown}
 use Rattle.pop_order.proofs.walk.first_under.Given as goal
 
 abbrev pub invariant-loop-oldest : goal.invariant-loop-oldest
-invariant-loop-oldest l = (frames : Frames) (frame : ℕ) → AreBelowParents frames → HasReaching frames l.queue l.reaching
-    → IsLead frames l.reaching l.queue frame (λ _. Unit {0}) l.top
-    → IsLead frames l.reaching l.queue frame (λ _. Unit {0}) l.node
+invariant-loop-oldest l = record {
+  at_least : l.maker ≤ l.node;
+  down : (frames : Frames) → AreBelowParents frames → HasHolders frames Push l.queue l.pushers → IsDown frames l.pushers l.queue l.maker l.node;
+}
 
 abbrev pub decreases-loop-oldest : goal.decreases-loop-oldest
 decreases-loop-oldest l = 2 ^ 64 - l.node

@@ -4,16 +4,6 @@ use Rattle.pop_order.proofs.Enlisting.{below_shrunk}
 use Rattle.pop_order.proofs.Returning.{is_shrunk, holds_no_other}
 use Rattle.pop_order.proofs.turns.PopTurns.back.Goals as goal
 
-pub take_out-requires : goal.take_out-requires
-take_out-requires c =
-    let frames = c.self.inside.frames.entries in
-    let after = c.remove.new.self.entries in
-    let none = rw (← c.self.view_is) at c.requires in
-    below_shrunk frames after c.frame.inside.parent c.args.child
-    (is_shrunk frames after c.args.child c.frame.inside.parent c.in-Some.frame c.deref.result.now (sym c.in-Some.ensures.value)
-    c.self.invariant.sorted (ap (λ (f : Frame). f.parent) (sym c.frame.view_is)) none c.remove.ensures.entries)
-    c.self.invariant.below
-
 pub invariant_of-self : goal.invariant_of-self
 invariant_of-self c =
     let frames = c.self.inside.frames.entries in
@@ -24,7 +14,7 @@ invariant_of-self c =
     record {
       sorted = c.remove.ensures.ordered;
       below = below_shrunk frames after c.frame.inside.parent c.args.child shrunk c.self.invariant.below;
-      sets = c.take_out.ensures frames shrunk
+      sets = c.take_out.ensures frames after shrunk
           (holds_no_other frames after c.args.child c.frame.inside.parent c.in-Some.frame c.deref.result.now (sym c.in-Some.ensures.value)
           (ap (λ (f : Frame). f.holdings) (sym c.frame.view_is) ∙ sym c.deref.ensures.value))
           c.self.invariant.sets;
