@@ -1,0 +1,187 @@
+-- Which versions a frame waits for.
+use Rattle.std.proofs.Common.{◌≡◌, ℕ, ◌<◌, ◌≤◌, ◌+◌, Option, None, Some, IsSome, Result, Ok, Err, IfOk, IfErr, true, refl, sym, ap, ◌∙◌, subst, arith, ⊎_elim}
+use Rattle.std.proofs.lemmas.Bool.{cases_eq, false≢true}
+use Rattle.slab.specs.Slab.{Slab, get}
+use Rattle.swan_model.specs.declared.rights.Mode.{Mode}
+use Rattle.swan_model.specs.declared.rights.Mode.TheVariants.{In, Out}
+use Rattle.swan_model.specs.declared.value.Value.{Value}
+use Rattle.swan_model.specs.Rights.{allows}
+use Rattle.swan_model.specs.Versions.{Version, settled, owed, owing as owing_of, Placed, Awaits, placed_at, Holds, MayGet}
+use Rattle.object_versions.specs.declared.node.Node.{Node}
+use Rattle.object_versions.specs.declared.place.Place.{Place}
+use Rattle.object_versions.specs.Store.{Entries, place_at, told_of, version_of, version_at, object_at, given_of, placed_of, versions_of, uses}
+use Rattle.object_versions.specs.Whole.{IsWhole, MayGive}
+use Rattle.object_versions.specs.Waiting.{AwaitsAt, AreThere}
+use Rattle.object_versions.proofs.Counts.{used, uses_at, present_used, given_used}
+use Rattle.object_versions.proofs.Seeing.{seen_some, kept_of}
+
+pub settled_owes : (value : Value) (frame : ℕ) → settled value ≡ owed frame → ⊥
+settled_owes value frame e = cc
+
+some_is : {A : Type 0} (a b : A) → Some a ≡ Some b → a ≡ b
+some_is a b e = cc
+
+pub is_some : {A : Type 0} (o : Option A) (x : A) → o ≡ Some x → IsSome o
+is_some {A} o x e = let P : Option A → Type 0 = λ y. IsSome y in subst P (sym e) refl
+
+-- what is read of a node that is there
+pub version_by : (nodes : Slab Node) (key : ℕ) (version : Version) → IsSome (get nodes key) → ((node : Node) → get nodes key ≡ Some node → version_of node.state ≡ version)
+    → version_at nodes key ≡ version
+version_by nodes key version there all = by (get nodes key) refl there where
+  by : (o : Option Node) → get nodes key ≡ o → IsSome o → version_at nodes key ≡ version
+  by None is some = absurd (false≢true some)
+  by (Some node) is some = ap (λ o. (told_of o).1) is ∙ all node is
+
+pub is_there : (entries : Entries) (nodes : Slab Node) (made : ℕ) (held : ℕ → ℕ) (key : ℕ) → IsWhole entries nodes made held → 0 < uses key entries → IsSome (get nodes key)
+is_there entries nodes made held key whole some =
+    let found = used nodes (λ k. uses k entries + held k) key whole.counted (omega arith) in is_some (get nodes key) found.node found.is
+
+pub are_there : (entries : Entries) (nodes : Slab Node) (made : ℕ) → IsWhole entries nodes made (λ _. 0) → AreThere entries nodes
+are_there entries nodes made whole = record {
+  there = λ frame place key has stands given.
+      is_there entries nodes made (λ _. 0) key whole (let most = uses_at entries key frame place has stands in let here = given_used has key given in omega arith);
+}
+
+-- ---- at one place
+
+module _ (entries : Entries) (nodes : Slab Node) (there : AreThere entries nodes) (frame place : ℕ) (has : Place) (key : ℕ)
+    (stands : place_at entries frame place ≡ Some has) (given : has.given ≡ Some key) where
+  pub awaits_here : (owing : ℕ) → ((node : Node) → get nodes key ≡ Some node → version_of node.state ≡ owed owing) → AwaitsAt entries nodes frame place owing
+  awaits_here owing all = record {
+    has = has;
+    key = key;
+    stands = stands;
+    given = given;
+    owes = version_by nodes key (owed owing) (there.there frame place key has stands given) all;
+  }
+
+  pub awaits_none : (value : Value) → ((node : Node) → get nodes key ≡ Some node → version_of node.state ≡ settled value) → (owing : ℕ) → AwaitsAt entries nodes frame place owing → ⊥
+  awaits_none value all owing waits =
+      let this : waits.has ≡ has = some_is waits.has has (sym waits.stands ∙ stands) in
+      let same : waits.key ≡ key = some_is waits.key key (sym waits.given ∙ ap (λ o. o.given) this ∙ given) in
+      settled_owes value owing (sym (version_by nodes key (settled value) (there.there frame place key has stands given) all) ∙ ap (version_at nodes) (sym same) ∙ waits.owes)
+
+-- ---- from place to place
+
+module _ (entries : Entries) (nodes : Slab Node) (frame at : ℕ) (from : (other n : ℕ) → AwaitsAt entries nodes frame other n → at ≤ other)
+    (none : (owing : ℕ) → AwaitsAt entries nodes frame at owing → ⊥) where
+  past : (other n : ℕ) → AwaitsAt entries nodes frame other n → at < other
+  past other n waits =
+      let least = from other n waits in
+      ⊎_elim
+      (λ e. let P : ℕ → Type 0 = λ p. AwaitsAt entries nodes frame p n in absurd (none n (subst P e waits)))
+      (λ apart. omega arith)
+      (cases_eq other at)
+
+  pub next_from : (next : ℕ) → ((other : ℕ) → IsSome (place_at entries frame other) → at < other → next ≤ other) → (other n : ℕ) → AwaitsAt entries nodes frame other n → next ≤ other
+  next_from next least other n waits = least other (is_some (place_at entries frame other) waits.has waits.stands) (past other n waits)
+
+  pub none_left : ((other : ℕ) → IsSome (place_at entries frame other) → other ≤ at) → (other n : ℕ) → AwaitsAt entries nodes frame other n → ⊥
+  none_left most other n waits =
+      let after = past other n waits in
+      let upto = most other (is_some (place_at entries frame other) waits.has waits.stands) in
+      omega arith
+
+-- ---- as contracts see it
+
+owed_by : (version : Version) (frame : ℕ) → owing_of version ≡ Some frame → version ≡ owed frame
+owed_by (settled value) frame e = absurd (cc)
+owed_by (owed other) frame e = ap owed (some_is other frame e)
+
+given_key : (entries : Entries) (nodes : Slab Node) (frame place owing : ℕ) (has : Place) (o : Option ℕ) → has.given ≡ o → place_at entries frame place ≡ Some has
+    → given_of nodes o ≡ Some owing → AwaitsAt entries nodes frame place owing
+given_key entries nodes frame place owing has None given stands owes = absurd (cc)
+given_key entries nodes frame place owing has (Some key) given stands owes =
+    record { has = has; key = key; stands = stands; given = given; owes = owed_by (version_at nodes key) owing owes }
+
+pub awaits_kept : (entries : Entries) (nodes : Slab Node) (made frame place owing : ℕ) → Awaits (versions_of entries nodes made) frame place owing → AwaitsAt entries nodes frame place owing
+awaits_kept entries nodes made frame place owing waits =
+    let kept = kept_of entries nodes made frame place waits.object waits.stands in
+    given_key entries nodes frame place owing kept.has kept.has.given refl kept.stands (sym (ap (λ o. o.given) kept.is) ∙ waits.owes)
+
+pub awaits_seen : (entries : Entries) (nodes : Slab Node) (made frame place owing : ℕ) → AwaitsAt entries nodes frame place owing → Awaits (versions_of entries nodes made) frame place owing
+awaits_seen entries nodes made frame place owing waits = record {
+  object = placed_of nodes waits.has;
+  stands = seen_some entries nodes made frame place waits.has waits.stands;
+  owes = ap (given_of nodes) waits.given ∙ ap owing_of waits.owes;
+}
+
+-- and it may read the object there
+pub awaits_read : (entries : Entries) (nodes : Slab Node) (made frame place owing : ℕ) → IsWhole entries nodes made (λ _. 0) → AwaitsAt entries nodes frame place owing
+    → (waits : Awaits (versions_of entries nodes made) frame place owing) × (allows waits.object.mode In ≡ true)
+unfolding awaits_seen
+awaits_read entries nodes made frame place owing whole waits =
+    (awaits_seen entries nodes made frame place owing waits, (whole.fits frame place waits.has waits.stands).reads waits.key waits.given)
+
+-- ---- who owes a version has the object too, and may write it
+
+abbrev Writes : (entries : Entries) (nodes : Slab Node) (made owing object : ℕ) → Type 0
+Writes entries nodes made owing object = (other : ℕ) × (has : Placed) × (placed_at (versions_of entries nodes made) owing other ≡ Some has) × (has.object ≡ object) × (allows has.mode Out ≡ true)
+
+module _ (entries : Entries) (nodes : Slab Node) (made : ℕ) (whole : IsWhole entries nodes made (λ _. 0)) where
+  writes : (key owing object : ℕ) → 0 < uses key entries → version_at nodes key ≡ owed owing → object_at nodes key ≡ object → Writes entries nodes made owing object
+  writes key owing object some is same =
+      let found = whole.owing key owing some is in
+      let owes = (whole.fits owing found.place found.has found.stands).owes key found.owes in
+      (found.place, placed_of nodes found.has, seen_some entries nodes made owing found.place found.has found.stands, sym owes.same ∙ same, owes.may)
+
+  pub given_owes : (frame place owing : ℕ) (awaits : Awaits (versions_of entries nodes made) frame place owing)
+      → (other : ℕ) × (has : Placed) × (placed_at (versions_of entries nodes made) owing other ≡ Some has) × (has.object ≡ awaits.object.object) × (allows has.mode Out ≡ true)
+  given_owes frame place owing awaits =
+      let kept = kept_of entries nodes made frame place awaits.object awaits.stands in
+      let waits = given_key entries nodes frame place owing kept.has kept.has.given refl kept.stands (sym (ap (λ o. o.given) kept.is) ∙ awaits.owes) in
+      let this : waits.has ≡ kept.has = some_is waits.has kept.has (sym waits.stands ∙ kept.stands) in
+      let some : 0 < uses waits.key entries = let most = uses_at entries waits.key frame place waits.has waits.stands in let here = given_used waits.has waits.key waits.given in omega arith in
+      writes waits.key owing awaits.object.object some waits.owes
+      ((whole.fits frame place waits.has waits.stands).given waits.key waits.given ∙ ap (λ h. h.object) this ∙ sym (ap (λ o. o.object) kept.is))
+
+  pub present_owes : (frame place owing : ℕ) (object : Placed) → placed_at (versions_of entries nodes made) frame place ≡ Some object → object.present ≡ owed owing
+      → (other : ℕ) × (has : Placed) × (placed_at (versions_of entries nodes made) owing other ≡ Some has) × (has.object ≡ object.object) × (allows has.mode Out ≡ true)
+  present_owes frame place owing object stands is =
+      let kept = kept_of entries nodes made frame place object stands in
+      let some : 0 < uses kept.has.present entries = let most = uses_at entries kept.has.present frame place kept.has kept.stands in let here = present_used kept.has in omega arith in
+      writes kept.has.present owing object.object some (sym (ap (λ o. o.present) kept.is) ∙ is)
+      ((whole.fits frame place kept.has kept.stands).present ∙ sym (ap (λ o. o.object) kept.is))
+
+pub map_ok : {T E : Type 0} (r : Result T E) (P Q : T → Type 0) → ((x : T) → P x → Q x) → IfOk r P → IfOk r Q
+map_ok (Ok x) P Q f h = f x h
+map_ok (Err e) P Q f h = tt
+
+pub map_err : {T E : Type 0} (r : Result T E) (P Q : E → Type 0) → ((e : E) → P e → Q e) → IfErr r P → IfErr r Q
+map_err (Ok x) P Q f h = tt
+map_err (Err e) P Q f h = f e h
+
+-- what is read of the node of what contracts see
+pub present_by : (entries : Entries) (nodes : Slab Node) (made frame place : ℕ) (has : Place) (version : Version) → IsWhole entries nodes made (λ _. 0)
+    → place_at entries frame place ≡ Some has → ((node : Node) → get nodes has.present ≡ Some node → version_of node.state ≡ version)
+    → (object : Placed) → placed_at (versions_of entries nodes made) frame place ≡ Some object → object.present ≡ version
+present_by entries nodes made frame place has version whole stands all object seen =
+    let kept = kept_of entries nodes made frame place object seen in
+    let this : kept.has ≡ has = some_is kept.has has (sym kept.stands ∙ stands) in
+    let some : 0 < uses has.present entries = let most = uses_at entries has.present frame place has stands in let here = present_used has in omega arith in
+    ap (λ o. o.present) kept.is ∙ ap (λ h. version_at nodes h.present) this
+    ∙ version_by nodes has.present version (is_there entries nodes made (λ _. 0) has.present whole some) all
+
+pub absent : (entries : Entries) (nodes : Slab Node) (made frame place : ℕ) (object : Placed) → place_at entries frame place ≡ None
+    → placed_at (versions_of entries nodes made) frame place ≡ Some object → ⊥
+absent entries nodes made frame place object none seen =
+    let kept = kept_of entries nodes made frame place object seen in none_some kept.has (sym none ∙ kept.stands)
+  where
+    none_some : (has : Place) → None ≡ Some has → ⊥
+    none_some has e = cc
+
+-- ---- what a parent may give
+
+pub may_give : (entries : Entries) (nodes : Slab Node) (made parent pp child : ℕ) (mode : Mode) → (held : Holds (versions_of entries nodes made) parent pp mode)
+    → ((object : Placed) → placed_at (versions_of entries nodes made) parent pp ≡ Some object → MayGet (versions_of entries nodes made) child object.object mode)
+    → (object : Place) × (place_at entries parent pp ≡ Some object) × (allows object.mode mode ≡ true) × MayGive entries child object.object mode
+may_give entries nodes made parent pp child mode held alone =
+    let kept = kept_of entries nodes made parent pp held.object held.stands in (
+      kept.has,
+      kept.stands,
+      sym (ap (λ o. allows o.mode mode) kept.is) ∙ held.may,
+      record {
+        alone = λ place has stands same.
+            (alone held.object held.stands).alone place (placed_of nodes has) (seen_some entries nodes made child place has stands) (same ∙ sym (ap (λ o. o.object) kept.is));
+      },
+    )

@@ -1,0 +1,28 @@
+-- Versions and modes that aren't the same.
+use Rattle.std.proofs.Common.{◌≡◌, ℕ, Bool, true, false, refl, sym, ap, ◌∙◌}
+use Rattle.std.proofs.lemmas.Bool.{false≢true}
+use Rattle.swan_model.specs.declared.rights.Mode.{Mode}
+use Rattle.swan_model.specs.declared.rights.Mode.TheVariants.{In, Out, InOut, Push, Pop, PushPop}
+use Rattle.swan_model.specs.declared.value.Value.{Value}
+use Rattle.swan_model.specs.Rights.{allows}
+use Rattle.swan_model.specs.Versions.{settled, owed}
+
+pub not_true : (b : Bool) → (b ≡ true → ⊥) → b ≡ false
+not_true true never = absurd (never refl)
+not_true false never = refl
+
+pub settled_not-owed : (value : Value) (frame : ℕ) → settled value ≡ owed frame → ⊥
+settled_not-owed value frame e = cc
+
+-- who may write has another mode than In
+pub writes_not-in : (mode : Mode) → allows mode Out ≡ true → mode ≡ In → ⊥
+writes_not-in mode may is = false≢true (ap (λ m. allows m Out) (sym is) ∙ may)
+
+-- who may only read gives nothing to be written
+pub reads_not-out : (mode : Mode) → allows In mode ≡ true → allows mode Out ≡ true → ⊥
+reads_not-out In reads out = cc
+reads_not-out Out reads out = cc
+reads_not-out InOut reads out = cc
+reads_not-out Push reads out = cc
+reads_not-out Pop reads out = cc
+reads_not-out PushPop reads out = cc

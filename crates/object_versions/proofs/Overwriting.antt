@@ -1,0 +1,145 @@
+-- An object is written where one place alone refers to its version: the version gets the value.
+use Rattle.std.proofs.Common.{◌≡◌, ◌≢◌, ℕ, ◌+◌, ◌<◌, Bool, true, false, cond, Option, None, Some, List, [], ◌∷◌, map, refl, sym, ap, ◌∙◌, subst, arith, ⊎_elim}
+use Rattle.std.proofs.lemmas.Bool.{cases_eq}
+use Rattle.std.proofs.lemmas.Map.Steps.{set_value_same}
+use Rattle.std.specs.BTreeMap.{is_at}
+use Rattle.std.specs.Map.{set_value}
+use Rattle.slab.specs.Slab.{Slab, get, Updates}
+use Rattle.swan_model.specs.declared.value.Value.{Value}
+use Rattle.swan_model.specs.Versions.{settled, owed, owing, place_cmp, with_present, after_write, written_at}
+use Rattle.object_versions.specs.declared.node.Node.{Node}
+use Rattle.object_versions.specs.declared.node.State.TheVariants.{Settled}
+use Rattle.object_versions.specs.declared.place.Place.{Place}
+use Rattle.object_versions.specs.Store.{Entries, place_at, told_of, told_at, version_at, object_at, given_of, placed_of, seen, versions_of, one, one_of, uses, uses_in}
+use Rattle.object_versions.specs.Whole.{IsWhole}
+use Rattle.object_versions.proofs.Counts.{HasNode, one_self, one_other, counted_after, told_here, told_elsewhere, used, uses_at, uses_set, present_used}
+use Rattle.object_versions.proofs.Seeing.{seen_same, seen_set, seen_some}
+
+some_is : {A : Type 0} (a b : A) → Some a ≡ Some b → a ≡ b
+some_is a b e = cc
+
+-- what is set twice has what was set last
+set_twice : {X : Type 0} (test : ℕ × ℕ → Bool) (es : List ((ℕ × ℕ) × X)) (v w : X) → set_value test (set_value test es v) w ≡ set_value test es w
+set_twice test [] v w = refl
+set_twice {X} test (e ∷ es) v w = by (test e.0) refl (set_twice test es v w) where
+  by : (b : Bool) → test e.0 ≡ b → set_value test (set_value test es v) w ≡ set_value test es w
+      → set_value test (cond b ((e.0, v) ∷ es) (e ∷ set_value test es v)) w ≡ cond b ((e.0, w) ∷ es) (e ∷ set_value test es w)
+  by true is rest = ap (λ b. cond {A = List ((ℕ × ℕ) × X)} b ((e.0, w) ∷ es) ((e.0, v) ∷ set_value test es w)) is
+  by false is rest = ap (λ b. cond {A = List ((ℕ × ℕ) × X)} b ((e.0, w) ∷ set_value test es v) (e ∷ set_value test (set_value test es v) w)) is ∙ ap (λ t. e ∷ t) rest
+
+module _ (entries : Entries) (old new : Slab Node) (made f p : ℕ) (was : Place) (value : Value) (whole : IsWhole entries old made (λ _. 0))
+    (stands : place_at entries f p ≡ Some was)
+    (alone : (node : Node) → get old was.present ≡ Some node → node.uses ≡ 1)
+    (change : (node : Node) → get old was.present ≡ Some node → Updates old new was.present (Some (record node { state = Settled value }))) where
+  abbrev key : ℕ
+  key = was.present
+
+  some_use : 0 < uses was.present entries
+  some_use = let most = uses_at entries was.present f p was stands in let here = present_used was in omega arith
+
+  found : HasNode old was.present
+  found = used old (λ k. uses k entries + 0) was.present whole.counted (let some = some_use in omega (arith, some))
+
+  update : Updates old new was.present (Some (record found.node { state = Settled value }))
+  update = change found.node found.is
+
+  one_use : uses was.present entries ≡ 1
+  one_use =
+      let count : found.node.uses ≡ uses was.present entries + 0 = sym (ap uses_in found.is) ∙ whole.counted.exact was.present in
+      let only = alone found.node found.is in omega (arith, count, only)
+
+  told_key : told_at new was.present ≡ (object_at old was.present, settled value)
+  told_key = told_here old new was.present _ update ∙ ap (λ o. (o, settled value)) (sym (ap (λ o. (told_of o).0) found.is))
+
+  told_other : (k : ℕ) → k ≢ was.present → told_at new k ≡ told_at old k
+  told_other k apart = told_elsewhere old new was.present _ update k apart
+
+  settled_owes : (frame : ℕ) → settled value ≡ owed frame → ⊥
+  settled_owes frame e = cc
+
+  same_object : (k : ℕ) → object_at new k ≡ object_at old k
+  same_object k = ⊎_elim
+      (λ e. ap (object_at new) e ∙ ap (λ t. t.0) told_key ∙ ap (object_at old) (sym e))
+      (λ apart. ap (λ t. t.0) (told_other k apart))
+      (cases_eq k was.present)
+
+  owed_before : (k m : ℕ) → version_at new k ≡ owed m → version_at old k ≡ owed m
+  owed_before k m is = ⊎_elim
+      (λ e. absurd (settled_owes m (sym (ap (λ t. t.1) told_key) ∙ ap (version_at new) (sym e) ∙ is)))
+      (λ apart. sym (ap (λ t. t.1) (told_other k apart)) ∙ is)
+      (cases_eq k was.present)
+
+  pub overwritten_whole : IsWhole entries new made (λ _. 0)
+  overwritten_whole = record {
+    sorted = whole.sorted;
+    counted = counted_after old new was.present _ update (λ k. uses k entries + 0) (λ k. uses k entries + 0) whole.counted (λ k apart. refl)
+        (sym (ap uses_in found.is) ∙ whole.counted.exact was.present)
+        (λ other is. let P : Node → Type 0 = λ o. 0 < o.uses in
+        subst P (some_is (record found.node { state = Settled value }) other is) (whole.counted.live was.present found.node found.is));
+    fits = λ frame place other is. let fit = whole.fits frame place other is in record {
+      known = fit.known;
+      present = same_object other.present ∙ fit.present;
+      given = λ k e. same_object k ∙ fit.given k e;
+      reads = fit.reads;
+      owes = λ k e. let owes = fit.owes k e in record {
+        same = same_object k ∙ owes.same;
+        may = owes.may;
+        by = λ m h. owes.by m (owed_before k m h);
+      };
+    };
+    owing = λ k m h is. whole.owing k m h (owed_before k m is);
+    alone = whole.alone;
+  }
+
+  -- the places with another key at this one, so that nobody refers to the version
+  abbrev elsewhere : Entries
+  elsewhere = set_value (is_at (place_cmp (f, p))) entries (record was { present = was.present + 1 })
+
+  unused_there : uses was.present elsewhere ≡ 0
+  unused_there =
+      let sums = uses_set entries was.present f p (was.present + 1) was stands in
+      let self = one_self was.present in
+      let other = one_other was.present (was.present + 1) (λ e. omega arith) in
+      let one_only = one_use in
+      omega (arith, sums, self, other, one_only)
+
+  same_there : map (seen new) elsewhere ≡ map (seen old) elsewhere
+  same_there = seen_same old new elsewhere (λ k h. told_other k (λ e.
+      let P : ℕ → Type 0 = λ n. 0 < uses n elsewhere in
+      let some = subst P e h in let none = unused_there in omega (arith, some, none)))
+
+  given_apart : (k : ℕ) → was.given ≡ Some k → k ≢ was.present
+  given_apart k given e =
+      let most = uses_at entries was.present f p was stands in
+      let self = one_self was.present in
+      let here : one_of was.present was.given ≡ one was.present was.present = ap (one_of was.present) (given ∙ ap Some e) in
+      let one_only = one_use in
+      omega (arith, most, self, here, one_only)
+
+  same_given : (o : Option ℕ) → was.given ≡ o → given_of new was.given ≡ given_of old was.given
+  same_given None is = ap (given_of new) is ∙ sym (ap (given_of old) is)
+  same_given (Some k) is = ap (given_of new) is ∙ ap owing (ap (λ t. t.1) (told_other k (given_apart k is))) ∙ sym (ap (given_of old) is)
+
+  placed_now : placed_of new was ≡ record (placed_of old was) { present = settled value }
+  placed_now =
+      let given = same_given was.given refl in
+      let version : version_at new was.present ≡ settled value = ap (λ t. t.1) told_key in
+      λ i. record { object = was.object; kind = was.kind; mode = was.mode; given = given i; present = version i }
+
+  places : map (seen new) entries ≡ set_value (is_at (place_cmp (f, p))) (map (seen old) entries) (record (placed_of old was) { present = settled value })
+  places =
+      let test : ℕ × ℕ → Bool = is_at (place_cmp (f, p)) in
+      let moved : Place = record was { present = was.present + 1 } in
+      let back : set_value test elsewhere was ≡ entries = set_twice test entries moved was ∙ set_value_same test entries was stands in
+      sym (ap (map (seen new)) back)
+      ∙ seen_set elsewhere new f p was
+      ∙ ap (λ es. set_value test es (placed_of new was)) (same_there ∙ seen_set entries old f p moved)
+      ∙ set_twice test (map (seen old) entries) (placed_of old moved) (placed_of new was)
+      ∙ ap (set_value test (map (seen old) entries)) placed_now
+
+  pub overwritten_seen : versions_of entries new made ≡ after_write (versions_of entries old made) f p value
+  overwritten_seen =
+      let e = places in
+      let state : versions_of entries new made ≡ with_present (versions_of entries old made) f p (placed_of old was) (settled value) =
+      λ i. record { places = e i; made = made } in
+      state ∙ sym (ap (written_at (versions_of entries old made) f p value) (seen_some entries old made f p was stands))

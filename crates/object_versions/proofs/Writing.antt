@@ -1,0 +1,74 @@
+-- An object is written.
+use Rattle.std.proofs.Common.{◌≡◌, ℕ, ◌<◌, None, Some, sym, ap, ◌∙◌, subst, arith}
+use Rattle.std.specs.BTreeMap.{is_at}
+use Rattle.std.specs.Map.{set_value, keys_of}
+use Rattle.std.specs.List.Sorted.{IsStrictlySortedBy}
+use Rattle.slab.specs.Slab.{Slab, get, Updates}
+use Rattle.swan_model.specs.declared.value.Value.{Value}
+use Rattle.swan_model.specs.Versions.{settled, owed, place_cmp, with_present, after_write, written_at}
+use Rattle.object_versions.specs.declared.node.Node.{Node}
+use Rattle.object_versions.specs.declared.node.State.TheVariants.{Settled}
+use Rattle.object_versions.specs.declared.place.Place.{Place}
+use Rattle.object_versions.specs.Store.{Entries, place_at, told_at, placed_of, versions_of, one, uses, released}
+use Rattle.object_versions.specs.Whole.{IsWhole}
+use Rattle.object_versions.proofs.Counts.{one_self, one_other, told_here}
+use Rattle.object_versions.proofs.Steps.{set_in}
+use Rattle.object_versions.proofs.References.{made_whole, made_told, released_whole, released_same}
+use Rattle.object_versions.proofs.Seeing.{seen_present, seen_some, versions_same}
+
+module _ (entries later : Entries) (old middle new : Slab Node) (made f p key : ℕ) (was : Place) (value : Value) (whole : IsWhole entries old made (λ _. 0))
+    (stands : place_at entries f p ≡ Some was) (vacant : get old key ≡ None)
+    (change : Updates old middle key (Some (record { object = was.object; state = Settled value; uses = 1 })))
+    (set : later ≡ set_value (is_at (place_cmp (f, p))) entries (record was { present = key }))
+    (sorted : IsStrictlySortedBy place_cmp (keys_of later))
+    (release : (node : Node) → get middle was.present ≡ Some node → Updates middle new was.present (released node)) where
+  abbrev node : Node
+  node = record { object = was.object; state = Settled value; uses = 1 }
+
+  abbrev after : Entries
+  after = set_value (is_at (place_cmp (f, p))) entries (record was { present = key })
+
+  told : told_at middle key ≡ (was.object, settled value)
+  told = told_here old middle key (Some node) change
+
+  with_node : IsWhole entries middle made (λ k. one k key)
+  with_node = made_whole entries old middle made (λ _. 0) (λ k. one k key) key node whole vacant change (omega arith)
+      (record { here = one_self key; others = λ k apart. one_other k key apart })
+
+  settled_owes : (frame : ℕ) → settled value ≡ owed frame → ⊥
+  settled_owes frame e = cc
+
+  with_set : IsWhole after middle made (λ k. one k was.present)
+  with_set =
+      let Q : Entries → Type 0 = λ es. IsStrictlySortedBy place_cmp (keys_of es) in
+      set_in entries middle made (λ k. one k key) (λ k. one k was.present) f p key was with_node stands
+      (ap (λ t. t.0) told)
+      (λ frame is. absurd (settled_owes frame (sym (ap (λ t. t.1) told) ∙ is)))
+      (λ k. omega arith) (subst Q set sorted)
+
+  some_held : 0 < one was.present was.present
+  some_held = let self = one_self was.present in omega (arith, self)
+
+  whole_after : IsWhole after new made (λ _. 0)
+  whole_after = released_whole after middle new made (λ k. one k was.present) (λ _. 0) was.present with_set some_held release
+      (let self = one_self was.present in omega (arith, self)) (λ k apart. sym (one_other k was.present apart))
+
+  pub written_whole : IsWhole later new made (λ _. 0)
+  written_whole = let P : Entries → Type 0 = λ es. IsWhole es new made (λ _. 0) in subst P (sym set) whole_after
+
+  told_old : (k : ℕ) → 0 < uses k entries → told_at middle k ≡ told_at old k
+  told_old k h = made_told entries old middle made (λ _. 0) (λ k. one k key) key node whole vacant change k (omega arith)
+
+  seen_after : versions_of after middle made ≡ after_write (versions_of entries old made) f p value
+  seen_after =
+      let places = seen_present entries old middle told_old f p was stands key (settled value) (ap (λ t. t.1) told) in
+      let state : versions_of after middle made ≡ with_present (versions_of entries old made) f p (placed_of old was) (settled value) =
+      λ i. record { places = places i; made = made } in
+      state ∙ sym (ap (written_at (versions_of entries old made) f p value) (seen_some entries old made f p was stands))
+
+  pub written_seen : versions_of later new made ≡ after_write (versions_of entries old made) f p value
+  written_seen =
+      ap (λ es. versions_of es new made) set
+      ∙ versions_same middle new after made (λ k h. released_same after middle new made (λ k. one k was.present) (λ _. 0) was.present with_set some_held release
+      (let self = one_self was.present in omega (arith, self)) (λ k apart. sym (one_other k was.present apart)) k (omega arith))
+      ∙ seen_after

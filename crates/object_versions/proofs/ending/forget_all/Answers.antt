@@ -1,0 +1,13 @@
+use Rattle.std.proofs.Common.{sym, arith}
+use Rattle.object_versions.proofs.Releasing.{forgot_one}
+use Rattle.object_versions.proofs.ending.forget_all.Goals as goal
+
+pub loop-at-smaller : goal.loop-at-smaller
+loop-at-smaller c = omega (arith, c.in-Some-take_out.ensures.fewer)
+
+pub loop-at-preserved : goal.loop-at-preserved
+loop-at-preserved c = λ made began.
+    let later = c.take_out.new.places.entries in
+    forgot_one c.args.places.now.entries c.loop-at.places.entries later c.args.nodes.now c.loop-at.nodes c.release_all.new.nodes made c.args.frame c.in-Some.at
+    c.in-Some-take_out.place (c.loop-at.invariant made began) (sym c.in-Some-take_out.ensures.was) c.take_out.ensures.without c.take_out.ensures.sorted
+    (c.release_all.ensures later made)

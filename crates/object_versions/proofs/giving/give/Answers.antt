@@ -1,0 +1,40 @@
+use Rattle.std.proofs.Common.{sym}
+use Rattle.swan_model.specs.declared.rights.Mode.TheVariants.{In, Out, InOut}
+use Rattle.object_versions.proofs.Forgotten.{then_whole, then_given}
+use Rattle.object_versions.proofs.giving.give.Goals as goal
+
+pub returns-in-In-clause-whole : goal.returns-in-In-clause-whole
+returns-in-In-clause-whole c =
+    let own = c.release_given-object in
+    then_whole c.give_to_read.result c.args.places.now.entries own.new.places.entries c.give_to_read.new.places.entries c.args.nodes.now own.new.nodes c.give_to_read.new.nodes
+    own.ensures.whole c.give_to_read.ensures.whole
+
+pub returns-in-In-clause-given : goal.returns-in-In-clause-given
+returns-in-In-clause-given c =
+    let own = c.release_given-object in
+    then_given c.give_to_read.result c.args.places.now.entries own.new.places.entries c.give_to_read.new.places.entries c.args.nodes.now own.new.nodes c.give_to_read.new.nodes
+    c.args.parent c.args.parent_place c.args.child c.args.child_place In c.args.mode (sym c.in-In.is) own.ensures.whole own.ensures.seen c.give_to_read.ensures.given
+
+pub returns-in-Out-clause-whole : goal.returns-in-Out-clause-whole
+returns-in-Out-clause-whole c =
+    let own = c.release_given-object in
+    then_whole c.give_to_write.result c.args.places.now.entries own.new.places.entries c.give_to_write.new.places.entries c.args.nodes.now own.new.nodes c.give_to_write.new.nodes
+    own.ensures.whole c.give_to_write.ensures.whole
+
+pub returns-in-Out-clause-given : goal.returns-in-Out-clause-given
+returns-in-Out-clause-given c =
+    let own = c.release_given-object in
+    then_given c.give_to_write.result c.args.places.now.entries own.new.places.entries c.give_to_write.new.places.entries c.args.nodes.now own.new.nodes c.give_to_write.new.nodes
+    c.args.parent c.args.parent_place c.args.child c.args.child_place Out c.args.mode (sym c.in-Out.is) own.ensures.whole own.ensures.seen c.give_to_write.ensures.given
+
+pub returns-in-InOut-clause-whole : goal.returns-in-InOut-clause-whole
+returns-in-InOut-clause-whole c =
+    let own = c.release_given-object in
+    then_whole c.give_to_change.result c.args.places.now.entries own.new.places.entries c.give_to_change.new.places.entries c.args.nodes.now own.new.nodes c.give_to_change.new.nodes
+    own.ensures.whole c.give_to_change.ensures.whole
+
+pub returns-in-InOut-clause-given : goal.returns-in-InOut-clause-given
+returns-in-InOut-clause-given c =
+    let own = c.release_given-object in
+    then_given c.give_to_change.result c.args.places.now.entries own.new.places.entries c.give_to_change.new.places.entries c.args.nodes.now own.new.nodes c.give_to_change.new.nodes
+    c.args.parent c.args.parent_place c.args.child c.args.child_place InOut c.args.mode (sym c.in-InOut.is) own.ensures.whole own.ensures.seen c.give_to_change.ensures.given

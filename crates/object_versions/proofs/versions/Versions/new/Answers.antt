@@ -1,0 +1,6 @@
+use Rattle.std.proofs.Common.{rules}
+use Rattle.object_versions.proofs.CallsFollow.{new_follows}
+use Rattle.object_versions.proofs.versions.Versions.new.Goals as goal
+
+pub returns-clause-follows : goal.returns-clause-follows
+returns-clause-follows c = new_follows _ (search rules)

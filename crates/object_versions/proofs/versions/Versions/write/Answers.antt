@@ -1,0 +1,20 @@
+use Rattle.std.proofs.Common.{◌≡◌, Some, sym, subst, rules}
+use Rattle.swan_model.specs.Versions.{VersionState, placed_at}
+use Rattle.object_versions.proofs.Awaited.{absent}
+use Rattle.object_versions.proofs.CallsFollow.{write_told}
+use Rattle.object_versions.proofs.GivingCalls.{written_giving}
+use Rattle.object_versions.proofs.versions.Versions.write.Goals as goal
+
+pub unreachable-requires : goal.unreachable-requires
+unreachable-requires c =
+    let P : VersionState → Type 0 = λ state. placed_at state c.args.frame c.args.place ≡ Some c.requires.placed.0 in
+    absent c.self.inside.places.entries c.self.inside.nodes c.self.inside.made c.args.frame c.args.place c.requires.placed.0 (sym c.in_default.ensures.value) (subst P (sym c.self.view_is) c.requires.placed.1)
+
+pub invariant_of-self : goal.invariant_of-self
+invariant_of-self c = c.in-Ok.ensures.whole c.self.inside.made c.self.invariant
+
+pub returns-in-Ok-clause-follows : goal.returns-in-Ok-clause-follows
+returns-in-Ok-clause-follows c = write_told c.args.self.now _ c.args.frame c.args.place c.args.value (search rules)
+
+pub returns-in-Ok-clause-giving : goal.returns-in-Ok-clause-giving
+returns-in-Ok-clause-giving c = written_giving c.args.self.now _ c.args.frame c.args.place c.args.value (search rules)

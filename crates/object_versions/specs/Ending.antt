@@ -1,0 +1,60 @@
+-- How versions are settled and forgotten where a frame ends.
+use Rattle.std.specs.Prelude.{◌≡◌, ℕ, ◌<◌, ◌+◌, ◌==◌, Bool, not, Some, IsSome, filter}
+use Rattle.slab.specs.Slab.{Slab}
+use Rattle.swan_model.specs.declared.value.Value.{Value}
+use Rattle.swan_model.specs.Versions.{settled, owed, settle, IsSettled}
+use Rattle.object_versions.specs.declared.node.Node.{Node}
+use Rattle.object_versions.specs.declared.place.Place.{Place}
+use Rattle.object_versions.specs.Store.{Entries, place_at, told_at, version_at, object_at, versions_of, uses}
+use Rattle.object_versions.specs.Whole.{IsWhole}
+
+-- Some of the versions that a frame owes have got the frame's values.
+pub record IsSettling (entries : Entries) (start now : Slab Node) (made frame : ℕ) : Type 0 where
+  pub began : IsWhole entries start made (λ _. 0)
+  pub ready : IsSettled (versions_of entries start made) frame
+  pub whole : IsWhole entries now made (λ _. 0)
+  pub objects : (key : ℕ) → 0 < uses key entries → object_at now key ≡ object_at start key
+  pub versions : (key : ℕ) → 0 < uses key entries
+      → settle (versions_of entries start made) frame (object_at start key) (version_at now key)
+      ≡ settle (versions_of entries start made) frame (object_at start key) (version_at start key)
+  pub stay : (key : ℕ) (value : Value) → 0 < uses key entries → version_at start key ≡ settled value → version_at now key ≡ settled value
+
+-- what is owed after a step was owed before it
+pub record OwesNoMore (entries : Entries) (old new : Slab Node) : Type 0 where
+  pub before : (key frame : ℕ) → 0 < uses key entries → version_at new key ≡ owed frame → version_at old key ≡ owed frame
+
+-- the version that is owed for a place has its value
+pub record IsPaid (nodes : Slab Node) (place : Place) : Type 0 where
+  pub settled : (key frame : ℕ) → place.owes ≡ Some key → version_at nodes key ≡ owed frame → ⊥
+
+-- the versions of a frame's places below this one have their values, and the frame has an object at this one
+pub record IsUnderWay (entries : Entries) (start now : Slab Node) (frame at : ℕ) : Type 0 where
+  pub stands : IsSome (place_at entries frame at)
+  pub settling : (made : ℕ) → IsSettling entries start start made frame → IsSettling entries start now made frame
+  pub paid : (made place : ℕ) (has : Place) → IsSettling entries start start made frame → place_at entries frame place ≡ Some has → place < at → IsPaid now has
+
+-- each version that a frame owes has its value
+pub record IsAllPaid (entries : Entries) (nodes : Slab Node) (frame : ℕ) : Type 0 where
+  pub paid : (place : ℕ) (has : Place) → place_at entries frame place ≡ Some has → IsPaid nodes has
+
+-- ---- forgetting
+
+-- some who referred to keys do no more
+pub record IsReleased (entries : Entries) (old new : Slab Node) (made : ℕ) (later : ℕ → ℕ) : Type 0 where
+  pub whole : IsWhole entries new made later
+  pub same : (key : ℕ) → 0 < uses key entries + later key → told_at new key ≡ told_at old key
+
+-- whether a key is one of another frame
+abbrev pub is_other : ℕ → (ℕ × ℕ) → Bool
+is_other frame key = not (key.0 == frame)
+
+-- the entries of the other frames
+abbrev pub of_others : ℕ → Entries → Entries
+of_others frame entries = filter (λ e. is_other frame e.0) entries
+
+-- some of a frame's places were forgotten
+pub record IsForgetting (before now : Entries) (old new : Slab Node) (made frame : ℕ) : Type 0 where
+  pub whole : IsWhole now new made (λ _. 0)
+  pub owes_none : (key : ℕ) → 0 < uses key now → version_at new key ≡ owed frame → ⊥
+  pub others : of_others frame now ≡ of_others frame before
+  pub same : (key : ℕ) → 0 < uses key now → told_at new key ≡ told_at old key

@@ -1,0 +1,19 @@
+-- Which versions a frame waits for.
+use Rattle.std.specs.Prelude.{◌≡◌, ℕ, Some, IsSome}
+use Rattle.slab.specs.Slab.{Slab, get}
+use Rattle.swan_model.specs.Versions.{owed}
+use Rattle.object_versions.specs.declared.node.Node.{Node}
+use Rattle.object_versions.specs.declared.place.Place.{Place}
+use Rattle.object_versions.specs.Store.{Entries, place_at, version_at}
+
+-- at this place the frame was given a version that another one owes
+pub record AwaitsAt (entries : Entries) (nodes : Slab Node) (frame place owing : ℕ) : Type 0 where
+  pub has : Place
+  pub key : ℕ
+  pub stands : place_at entries frame place ≡ Some has
+  pub given : has.given ≡ Some key
+  pub owes : version_at nodes key ≡ owed owing
+
+-- each version that was given is there
+pub record AreThere (entries : Entries) (nodes : Slab Node) : Type 0 where
+  pub there : (frame place key : ℕ) (has : Place) → place_at entries frame place ≡ Some has → has.given ≡ Some key → IsSome (get nodes key)

@@ -1,0 +1,113 @@
+// Versions by key, and how often places refer to each.
+ghost use Rattle.std.specs.Prelude.{◌≡◌, ◌+◌, true, IfOk, IfErr, OnOk, Some, None};
+ghost use Rattle.slab.specs.Slab.{get, Updates};
+ghost use Rattle.swan_model.specs.Versions.{settled, owed};
+ghost use Rattle.object_versions.specs.Store.{version_of, released, state_settled};
+ghost use Rattle.object_versions.specs.declared.node.Node.{Node as Kept};
+ghost use Rattle.object_versions.specs.declared.node.State.TheVariants.{Settled};
+
+use crate::{Node, State};
+use slab::Slab;
+use swan_model::{NoMemory, Value};
+
+/// Makes a version to which places will refer so often, and answers its key. `O(1)` amortised.
+pub fn make(nodes: &mut Slab<Node>, object: u64, state: State, uses: u64) -> Result<usize, NoMemory>
+    ensures vacant { IfOk result (λ key. get nodes.old key ≡ None) }
+    ensures made { IfOk result (λ key. Updates nodes.old nodes.new key (Some (record { object = object; state = state; uses = uses }))) }
+{
+    let node = Node {
+        object,
+        state,
+        uses,
+    };
+    match nodes.insert(node) {
+        Ok(key) => Ok(key),
+        Err(_) => Err(NoMemory),
+    }
+}
+
+/// Counts so many more who refer to a version. Err also where the count would pass 64 bits. `O(1)`.
+pub fn share(nodes: &mut Slab<Node>, key: usize, more: u64) -> Result<(), NoMemory>
+    ensures { OnOk result ((node : Kept) → get nodes.old key ≡ Some node → Updates nodes.old nodes.new key (Some (record node { uses = node.uses + more }))) }
+{
+    let Some(node) = nodes.get_mut(key) else {
+        return Ok(());
+    };
+    match node.uses.checked_add(more) {
+        Some(uses) => {
+            node.uses = uses;
+            Ok(())
+        }
+        None => Err(NoMemory),
+    }
+}
+
+/// Counts one less who refers to a version, and gives it up where nobody does any more. `O(1)`; it takes no
+/// memory.
+pub fn release(nodes: &mut Slab<Node>, key: usize)
+    ensures { (node : Kept) → get nodes.old key ≡ Some node → Updates nodes.old nodes.new key (released node) }
+{
+    let Some(node) = nodes.get_mut(key) else {
+        return;
+    };
+    if node.uses > 1 {
+        node.uses -= 1;
+    } else {
+        nodes.try_remove(key);
+    }
+}
+
+/// Gives a version its value where a frame owes it. `O(1)`; it takes no memory.
+pub fn settle(nodes: &mut Slab<Node>, key: usize, value: Value)
+    ensures { (node : Kept) → get nodes.old key ≡ Some node → Updates nodes.old nodes.new key (Some (record node { state = state_settled node.state value })) }
+{
+    let Some(node) = nodes.get_mut(key) else {
+        return;
+    };
+    if let State::Owed(_) = node.state {
+        node.state = State::Settled(value);
+    }
+}
+
+/// Whether one place alone refers to a version. `O(1)`; it takes no memory.
+pub fn is_alone(nodes: &Slab<Node>, key: usize) -> bool
+    ensures { result ≡ true → (node : Kept) → get nodes.now key ≡ Some node → node.uses ≡ 1 }
+{
+    match nodes.get(key) {
+        Some(node) => node.uses == 1,
+        None => false,
+    }
+}
+
+/// Gives a version this value, whatever it is. `O(1)`; it takes no memory.
+pub fn overwrite(nodes: &mut Slab<Node>, key: usize, value: Value)
+    ensures { (node : Kept) → get nodes.old key ≡ Some node → Updates nodes.old nodes.new key (Some (record node { state = Settled value })) }
+{
+    let Some(node) = nodes.get_mut(key) else {
+        return;
+    };
+    node.state = State::Settled(value);
+}
+
+/// The value of a version, and else the frame that owes it, or 0 where there is no version. `O(1)`; it takes
+/// no memory.
+pub fn value_at(nodes: &Slab<Node>, key: usize) -> Result<&Value, u64>
+    ensures ok { IfOk result (λ value. (node : Kept) → get nodes.now key ≡ Some node → version_of node.state ≡ settled value.now) }
+    ensures err { IfErr result (λ owing. (node : Kept) → get nodes.now key ≡ Some node → version_of node.state ≡ owed owing) }
+{
+    match nodes.get(key) {
+        Some(
+            Node {
+                state: State::Settled(value),
+                ..
+            },
+        ) => Ok(value),
+        Some(
+            Node {
+                state: State::Owed(owing),
+                ..
+            },
+        ) => Err(*owing),
+        None => Err(0),
+    }
+}

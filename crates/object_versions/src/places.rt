@@ -1,0 +1,85 @@
+// The places of frames, in rising order.
+ghost use Rattle.std.specs.Prelude.{◌≡◌, ℕ, ◌+◌, length, OnSome, ◌<◌, ◌≤◌, Some, None, IsSome, IfSome, IfNone, OnOk};
+ghost use Rattle.std.specs.BTreeMap.{is_at, insert_entry};
+ghost use Rattle.std.specs.Map.{keys_of, set_value, remove_entry};
+ghost use Rattle.std.specs.List.Sorted.{IsStrictlySortedBy};
+ghost use Rattle.swan_model.specs.Versions.{place_cmp};
+ghost use Rattle.object_versions.specs.Store.{place_at};
+ghost use Rattle.object_versions.specs.declared.place.Place.{Place as Kept};
+
+use crate::Place;
+use std::collections::BTreeMap;
+use std::ops::Bound;
+use swan_model::NoMemory;
+
+/// The first place at which a frame has an object. `O(log n)`; it takes no memory.
+pub fn first_place(places: &BTreeMap<(u64, u32), Place>, frame: u64) -> Option<u32>
+    ensures stands { IfSome result (λ first. IsSome (place_at places.now.entries frame first)) }
+    ensures least { IfSome result (λ first. (place : ℕ) → IsSome (place_at places.now.entries frame place) → first ≤ place) }
+    ensures none { IfNone result ((place : ℕ) → place_at places.now.entries frame place ≡ None) }
+{
+    match places.range((frame, 0)..).next() {
+        Some((&(owner, place), _)) if owner == frame => Some(place),
+        _ => None,
+    }
+}
+
+/// The first place after this one at which a frame has an object. `O(log n)`; it takes no memory.
+pub fn place_after(places: &BTreeMap<(u64, u32), Place>, frame: u64, place: u32) -> Option<u32>
+    ensures stands { IfSome result (λ next. IsSome (place_at places.now.entries frame next)) }
+    ensures after { IfSome result (λ next. place < next) }
+    ensures least { IfSome result (λ next. (other : ℕ) → IsSome (place_at places.now.entries frame other) → place < other → next ≤ other) }
+    ensures none { IfNone result ((other : ℕ) → IsSome (place_at places.now.entries frame other) → other ≤ place) }
+{
+    let later = (Bound::Excluded((frame, place)), Bound::Unbounded);
+    match places.range(later).next() {
+        Some((&(owner, next), _)) if owner == frame => Some(next),
+        _ => None,
+    }
+}
+
+/// Puts in an object at a place of a frame. Err is want of memory. `O(log n)`.
+pub fn put(
+    places: &mut BTreeMap<(u64, u32), Place>,
+    frame: u64,
+    place: u32,
+    object: Place,
+) -> Result<(), NoMemory>
+    ensures put { OnOk result (places.new.entries ≡ insert_entry place_cmp places.old.entries (frame, place) object) }
+    ensures sorted { IsStrictlySortedBy place_cmp (keys_of places.new.entries) }
+{
+    places.insert((frame, place), object)?;
+    Ok(())
+}
+
+/// Gives a frame another version at a place. `O(log n)`; it takes no memory.
+pub fn set_present(places: &mut BTreeMap<(u64, u32), Place>, frame: u64, place: u32, present: usize)
+    ensures set { (object : Kept) → place_at places.old.entries frame place ≡ Some object
+        → places.new.entries ≡ set_value (is_at (place_cmp (frame, place))) places.old.entries (record object { present = present }) }
+    ensures sorted { IsStrictlySortedBy place_cmp (keys_of places.new.entries) }
+{
+    if let Some(object) = places.get_mut(&(frame, place)) {
+        object.present = present;
+    }
+}
+
+/// Forgets which version a frame was given at a place. `O(log n)`; it takes no memory.
+pub fn forget_given(places: &mut BTreeMap<(u64, u32), Place>, frame: u64, place: u32)
+    ensures set { (object : Kept) → place_at places.old.entries frame place ≡ Some object
+        → places.new.entries ≡ set_value (is_at (place_cmp (frame, place))) places.old.entries (record object { given = None }) }
+    ensures sorted { IsStrictlySortedBy place_cmp (keys_of places.new.entries) }
+{
+    if let Some(object) = places.get_mut(&(frame, place)) {
+        object.given = None;
+    }
+}
+
+/// Takes out what a frame has at a place. `O(log n)`; it takes no memory.
+pub fn take_out(places: &mut BTreeMap<(u64, u32), Place>, frame: u64, place: u32) -> Option<Place>
+    ensures was { result ≡ place_at places.old.entries frame place }
+    ensures fewer { OnSome result (length places.new.entries + 1 ≡ length places.old.entries) }
+    ensures without { places.new.entries ≡ remove_entry (is_at (place_cmp (frame, place))) places.old.entries }
+    ensures sorted { IsStrictlySortedBy place_cmp (keys_of places.new.entries) }
+{
+    places.remove(&(frame, place))
+}

@@ -1,0 +1,256 @@
+// Renamed objects.
+ghost use Rattle.std.specs.Prelude.{◌≡◌, ◌≢◌, ℕ, ◌≤◌, false, true, Some, None, List, [], ◌∷◌, ◌++◌, length, slice_get, IfOk, IfErr, OnOk};
+ghost use Rattle.swan_model.specs.declared.origin.Origin.{Origin};
+ghost use Rattle.swan_model.specs.declared.origin.Origin.TheVariants.{Root, Step};
+ghost use Rattle.swan_model.specs.declared.script.Deed.TheVariants as deed;
+ghost use Rattle.swan_model.specs.declared.script.Script.{Script};
+ghost use Rattle.swan_model.specs.Lawful.{IsLawful};
+ghost use Rattle.swan_model.specs.Readings.{at_start, gone_on, next_deed, spawned, with_object};
+ghost use Rattle.swan_model.specs.SerialTime.{Progress, Reading, frame_of, point, times, version};
+ghost use Rattle.swan_model.specs.VersionsFollow.{Access, Follows, IsGiving};
+ghost use Rattle.swan_model.specs.declared.rights.Mode.TheVariants.{In, Out};
+ghost use Rattle.swan_model.specs.Rights.{allows, is_queue_mode};
+ghost use Rattle.swan_model.specs.Versions.{Placed, VersionState, new_versions, placed_at, settled, owed, after_create, after_access, after_write, after_finish, Holds, MayGet, IsSettled, Awaits};
+
+use crate::ending::{forget_all, settle_all};
+use crate::giving::give;
+use crate::nodes::value_at;
+use crate::objects::{create, write};
+use crate::waiting::first_awaited;
+use crate::{Node, Place};
+use slab::Slab;
+use std::alloc::Global;
+use std::collections::BTreeMap;
+use std::marker::Model;
+use swan_model::{Mode, NoMemory, Value};
+
+/// The renamed objects of a run.
+#[derive(Drop)]
+pub struct Versions {
+    alloc: Global,
+    // What each frame has at its places, by frame and place.
+    places: BTreeMap<(u64, u32), Place>,
+    nodes: Slab<Node>,
+    // How many objects were made. Contracts number objects by it; no answer rests on it.
+    made: u64,
+}
+
+impl Model for Versions {
+    ghost use Rattle.swan_model.specs.Versions.{VersionState};
+
+    ghost Value = { VersionState };
+
+    ghost use Rattle.object_versions.specs.Store.{versions_of};
+    ghost use Rattle.object_versions.specs.Whole.{IsWhole};
+
+    ghost view = { λ kept. versions_of kept.places.entries kept.nodes kept.made };
+
+    ghost invariant = { λ kept. IsWhole kept.places.entries kept.nodes kept.made (λ _. 0) };
+}
+
+impl Versions {
+    /// No objects. It takes no memory. `O(1)`.
+    pub fn new(alloc: Global) -> Versions
+        ensures new { result ≡ new_versions }
+        ensures follows { (s : Script) (queues : List Origin) → IsLawful s → Follows s (at_start queues []) result }
+    {
+        Versions {
+            alloc,
+            places: BTreeMap::new(alloc),
+            nodes: Slab::new(alloc),
+            made: 0,
+        }
+    }
+
+    /// Makes an object: the frame then has a version with its first value at the place, and may read and
+    /// write it. Err is want of memory. `O(log n)` for n places of all frames, amortised.
+    pub fn create(&mut self, frame: u64, place: u32, first: Value) -> Result<(), NoMemory>
+        requires free { placed_at self.old frame place ≡ None }
+        ensures ok { OnOk result (self.new ≡ after_create self.old frame place first) }
+        ensures root { OnOk result ((s : Script) (r : Reading) (root : Progress) → IsLawful s → Follows s r self.old → frame ≡ 0
+            → frame_of r 0 ≡ Some root → root.done ≡ 0 → slice_get s.objects self.old.made ≡ Some first
+            → Follows s (with_object r (Root self.old.made)) self.new) }
+        ensures made { OnOk result ((s : Script) (r : Reading) (maker : Progress) → IsLawful s → Follows s r self.old
+            → frame_of r frame ≡ Some maker → next_deed s maker ≡ Some (deed.MakeObject first)
+            → Follows s (with_object (gone_on r frame) (Step (point s maker))) self.new) }
+        ensures giving { OnOk result ((s : Script) (r : Reading) (maker giver : Progress) (child : ℕ) (made left : List Access) → IsLawful s
+            → frame ≢ giver.number → frame ≢ child → IsGiving s r self.old giver child made left
+            → frame_of r frame ≡ Some maker → next_deed s maker ≡ Some (deed.MakeObject first)
+            → IsGiving s (with_object (gone_on r frame) (Step (point s maker))) self.new giver child made left) }
+    {
+        let Some(made) = self.made.checked_add(1) else {
+            return Err(NoMemory);
+        };
+        match create(
+            &mut self.places,
+            &mut self.nodes,
+            self.made,
+            frame,
+            place,
+            first,
+        ) {
+            Ok(()) => {
+                self.made = made;
+                Ok(())
+            }
+            Err(NoMemory) => {
+                self.places.clear();
+                self.nodes.clear();
+                Err(NoMemory)
+            }
+        }
+    }
+
+    /// Gives a child the object at a parent's place, by this mode. To read it the child has the parent's
+    /// version. To write it the child has one of its own, with the zero of the object's kind, and the parent
+    /// has one that the child owes. To read and write it the child has what was the parent's version, and the
+    /// parent has one that the child owes. Err is want of memory. `O(log n)`, amortised.
+    pub fn access(
+        &mut self,
+        parent: u64,
+        parent_place: u32,
+        child: u64,
+        child_place: u32,
+        mode: Mode,
+    ) -> Result<(), NoMemory>
+        requires differ { parent ≢ child }
+        requires held { Holds self.old parent parent_place mode }
+        requires of_objects { is_queue_mode mode ≡ false }
+        requires free { placed_at self.old child child_place ≡ None }
+        requires alone { (object : Placed) → placed_at self.old parent parent_place ≡ Some object → MayGet self.old child object.object mode }
+        ensures ok { OnOk result (self.new ≡ after_access self.old parent parent_place child child_place mode) }
+        ensures others { OnOk result ((frame place : ℕ) → frame ≢ parent → frame ≢ child → placed_at self.new frame place ≡ placed_at self.old frame place) }
+        ensures giving { OnOk result ((s : Script) (r : Reading) (giver : Progress) (made left : List Access) → IsLawful s
+            → frame_of r parent ≡ Some giver
+            → IsGiving s r self.old giver child made ((record { place = parent_place; child_place = child_place; mode = mode }) ∷ left)
+            → IsGiving s r self.new giver child (made ++ (record { place = parent_place; child_place = child_place; mode = mode }) ∷ []) left) }
+        ensures last { OnOk result ((s : Script) (r : Reading) (giver : Progress) (made : List Access) → IsLawful s
+            → frame_of r parent ≡ Some giver
+            → IsGiving s r self.old giver child made ((record { place = parent_place; child_place = child_place; mode = mode }) ∷ [])
+            → Follows s (spawned s r giver child) self.new) }
+        ensures beside { OnOk result ((s : Script) (r : Reading) (own giver : Progress) (other : ℕ) (done rest made left : List Access) → IsLawful s
+            → frame_of r parent ≡ Some own → IsGiving s r self.old own child done ((record { place = parent_place; child_place = child_place; mode = mode }) ∷ rest)
+            → frame_of r giver.number ≡ Some giver → parent ≢ giver.number → child ≢ other → IsGiving s r self.old giver other made left
+            → IsGiving s r self.new giver other made left) }
+        ensures last_beside { OnOk result ((s : Script) (r : Reading) (own giver : Progress) (other : ℕ) (done made left : List Access) → IsLawful s
+            → frame_of r parent ≡ Some own → IsGiving s r self.old own child done ((record { place = parent_place; child_place = child_place; mode = mode }) ∷ [])
+            → frame_of r giver.number ≡ Some giver → parent ≢ giver.number → child ≢ other → IsGiving s r self.old giver other made left
+            → IsGiving s (spawned s r own child) self.new giver other made left) }
+    {
+        match give(
+            self.alloc,
+            &mut self.places,
+            &mut self.nodes,
+            parent,
+            parent_place,
+            child,
+            child_place,
+            mode,
+        ) {
+            Ok(()) => Ok(()),
+            Err(NoMemory) => {
+                self.places.clear();
+                self.nodes.clear();
+                Err(NoMemory)
+            }
+        }
+    }
+
+    /// Whether each version that the frame was given to read has its value: Ok exactly where none is owed any
+    /// more, and else Err with the frame that owes the one of the lowest place. `O(k log n)` for k objects of
+    /// the frame; it takes no memory.
+    pub fn ready(&self, frame: u64) -> Result<(), u64>
+        ensures ok { OnOk result ((place owing : ℕ) → ¬ Awaits self.now frame place owing) }
+        ensures err { IfErr result (λ owing. (place : ℕ) × (awaits : Awaits self.now frame place owing)
+            × (allows awaits.object.mode In ≡ true) × ((other n : ℕ) → Awaits self.now frame other n → place ≤ other)) }
+        ensures owes { IfErr result (λ owing. (place : ℕ) (awaits : Awaits self.now frame place owing)
+            → (other : ℕ) × (has : Placed) × (placed_at self.now owing other ≡ Some has) × (has.object ≡ awaits.object.object) × (allows has.mode Out ≡ true)) }
+    {
+        match first_awaited(&self.places, &self.nodes, frame) {
+            Some(awaited) => Err(awaited.owing),
+            None => Ok(()),
+        }
+    }
+
+    /// The value of the version that a frame has at a place, and Err with the frame that owes it exactly
+    /// where it has none yet. `O(log n)`; it takes no memory.
+    pub fn value(&self, frame: u64, place: u32) -> Result<&Value, u64>
+        requires placed { (object : Placed) × (placed_at self.now frame place ≡ Some object) }
+        ensures ok { IfOk result (λ value. (object : Placed) → placed_at self.now frame place ≡ Some object → object.present ≡ settled value.now) }
+        ensures err { IfErr result (λ owing. (object : Placed) → placed_at self.now frame place ≡ Some object → object.present ≡ owed owing) }
+        ensures follows { IfOk result (λ value. (s : Script) (r : Reading) (reader : Progress) (object : Placed) → Follows s r self.now
+            → frame_of r frame ≡ Some reader → placed_at self.now frame place ≡ Some object → version s r object.object reader ≡ Some value.now) }
+        ensures owes { IfErr result (λ owing. (object : Placed) → placed_at self.now frame place ≡ Some object
+            → (other : ℕ) × (has : Placed) × (placed_at self.now owing other ≡ Some has) × (has.object ≡ object.object) × (allows has.mode Out ≡ true)) }
+    {
+        match self.places.get(&(frame, place)) {
+            Some(object) => value_at(&self.nodes, object.present),
+            None => unreachable!(),
+        }
+    }
+
+    /// Gives the frame a version with this value at the place, at once, whoever reads the one before: the
+    /// frame's own where nobody else has that, and else a new one. Err is want of memory. `O(log n)`,
+    /// amortised where it is a new one.
+    pub fn write(&mut self, frame: u64, place: u32, value: Value) -> Result<(), NoMemory>
+        requires placed { (object : Placed) × (placed_at self.old frame place ≡ Some object) }
+        ensures ok { OnOk result (self.new ≡ after_write self.old frame place value) }
+        ensures follows { OnOk result ((s : Script) (r : Reading) (writer : Progress) (object : Placed) (origin : Origin) → IsLawful s → Follows s r self.old
+            → frame_of r frame ≡ Some writer → placed_at self.old frame place ≡ Some object → allows object.mode Out ≡ true
+            → slice_get r.objects object.object ≡ Some origin → next_deed s writer ≡ Some (deed.Write origin value)
+            → Follows s (gone_on r frame) self.new) }
+        ensures giving { OnOk result ((s : Script) (r : Reading) (writer giver : Progress) (child : ℕ) (made left : List Access) (object : Placed) (origin : Origin)
+            → IsLawful s → frame ≢ giver.number → frame ≢ child → IsGiving s r self.old giver child made left
+            → frame_of r frame ≡ Some writer → placed_at self.old frame place ≡ Some object → allows object.mode Out ≡ true
+            → slice_get r.objects object.object ≡ Some origin → next_deed s writer ≡ Some (deed.Write origin value)
+            → IsGiving s (gone_on r frame) self.new giver child made left) }
+    {
+        let Some(&object) = self.places.get(&(frame, place)) else {
+            unreachable!()
+        };
+        match write(
+            &mut self.places,
+            &mut self.nodes,
+            frame,
+            place,
+            object,
+            value,
+        ) {
+            Ok(()) => Ok(()),
+            Err(NoMemory) => {
+                self.places.clear();
+                self.nodes.clear();
+                Err(NoMemory)
+            }
+        }
+    }
+
+    /// Ends a frame: each version that it owes gets the frame's value, for all who have that version, and
+    /// what the frame has is forgotten. What frame 0 has stays. Err is want of memory for a copy of a value.
+    /// `O(k log n)` for k objects of the frame, however many have its versions.
+    pub fn finish(&mut self, frame: u64) -> Result<(), NoMemory>
+        requires settled { IsSettled self.old frame }
+        ensures ok { OnOk result (self.new ≡ after_finish self.old frame) }
+        ensures follows { OnOk result ((s : Script) (r : Reading) (ended : Progress) → IsLawful s → Follows s r self.old
+            → frame_of r frame ≡ Some ended → ended.done ≡ length (times s ended.path) → Follows s r self.new) }
+        ensures giving { OnOk result ((s : Script) (r : Reading) (ended giver : Progress) (child : ℕ) (made left : List Access) → IsLawful s
+            → frame ≢ giver.number → frame ≢ child → IsGiving s r self.old giver child made left
+            → frame_of r frame ≡ Some ended → ended.done ≡ length (times s ended.path) → IsGiving s r self.new giver child made left) }
+    {
+        match settle_all(&self.places, &mut self.nodes, frame) {
+            Ok(()) => {
+                if frame != 0 {
+                    forget_all(&mut self.places, &mut self.nodes, frame);
+                }
+                Ok(())
+            }
+            Err(NoMemory) => Err(NoMemory),
+        }
+    }
+
+    /// How many versions are kept.
+    #[cfg(test)]
+    pub fn version_count(&self) -> usize {
+        self.nodes.len()
+    }
+}
