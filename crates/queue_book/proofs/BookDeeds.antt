@@ -1,0 +1,136 @@
+-- What holds of hyperqueues in plain form after a push, a pop and a test.
+use Rattle.std.proofs.Common.{◌≡◌, ℕ, ◌+◌, ◌<◌, Bool, true, false, Option, Some, None, List, [], length, refl, sym, ap, subst, ◌∙◌, arith}
+use Rattle.std.specs.Option.{option_map}
+use Rattle.std.specs.Prelude.{slice_get, if◌then◌else◌}
+use Rattle.slab.specs.Slab.{Slab}
+use Rattle.pop_order.specs.Frames.{Frames}
+use Rattle.swan_model.specs.declared.rights.Mode.TheVariants.{Pop, Push}
+use Rattle.swan_model.specs.declared.script.Deed.TheVariants as deed
+use Rattle.swan_model.specs.declared.script.Script.{Script}
+use Rattle.swan_model.specs.declared.value.Value.{Value}
+use Rattle.swan_model.specs.QueueFollows.{origin_in, IsNextAbout}
+use Rattle.swan_model.specs.QueueState.{ActiveFrame, Lent, Maker, QueueState, active, after_deed, with_deed}
+use Rattle.queue_book.specs.Asks.{DEEDS_MOST, MayDo, MayUse, OnNext}
+use Rattle.queue_book.specs.Book.{Chunks, trimmed, with_item, without_first}
+use Rattle.queue_book.specs.Chains.{Link, AreChained, in_line}
+use Rattle.queue_book.specs.Fronts.{IsFrontTold, IsTurnTold}
+use Rattle.queue_book.specs.Kept.{Kept}
+use Rattle.queue_book.specs.Live.{kept_of, key_at, lent_of, IsFrame, IsOne}
+use Rattle.queue_book.specs.Whole.{IsBook, IsPlain}
+use Rattle.queue_book.specs.declared.answers.Tested.TheVariants as tested
+use Rattle.queue_book.specs.declared.live_frames.LiveFrames.{LiveFrames}
+use Rattle.queue_book.proofs.ActiveAfter.{others_changed, own_changed}
+use Rattle.queue_book.proofs.ChainChanges.{chained_same}
+use Rattle.queue_book.proofs.Above.{maker_of}
+use Rattle.queue_book.proofs.BookFronts.{alone_by, found_item, look_of, looked, trim}
+use Rattle.queue_book.proofs.Frames.{has_held, same_frame}
+use Rattle.queue_book.proofs.LiveKept.{keys_same, kept_live, live_kept, live_one}
+use Rattle.queue_book.proofs.PlainDeeds.{deed_alike, plain_empty, plain_pop, plain_push, plain_test}
+use Rattle.queue_book.proofs.PlainSaid.{OnTurn, origin_of}
+use Rattle.queue_book.proofs.TurnsKept.{turns_alike}
+
+abbrev pub counted : Kept → Kept
+counted kept = record kept { deeds = kept.deeds + 1 }
+
+none_lent : (lent : Lent) → None ≡ Some lent → ⊥
+none_lent lent e = cc
+
+-- ends that are back
+pub not_lent : (kept : Kept) (lent : Option Lent) → lent ≡ lent_of kept → lent ≡ None → kept.is_lent ≡ false
+not_lent kept lent is back = by kept.is_lent refl where
+  by : (b : Bool) → kept.is_lent ≡ b → b ≡ false
+  by true e =
+      absurd (none_lent (record { deeds = kept.deeds; ends = [] }) (sym back ∙ is ∙ ap (λ b. if b then Some (record { deeds = kept.deeds; ends = [] }) else None) e))
+  by false e = refl
+
+pub lent_none : (kept : Kept) → kept.is_lent ≡ false → lent_of kept ≡ None
+lent_none kept e = ap (λ b. if b then Some (record { deeds = kept.deeds; ends = [] }) else None) e
+
+module _ (name : Option Script) (state : QueueState) (frames : LiveFrames) (heads : List (Option ℕ)) (nodes : Slab Link) (turns : Frames) (is : IsBook name state frames heads nodes turns)
+    (n : ℕ) (act : MayDo state n) where
+  pub deed_room : (kept : Kept) → kept_of frames n ≡ Some kept → kept.deeds < DEEDS_MOST
+  deed_room kept at =
+      let live = live_kept state frames is.live n kept at in
+      let same : live.0 ≡ act.frame = same_frame (active state n) live.0 act.frame live.1 act.may.live in
+      let room = act.room in
+      let deeds : kept.deeds ≡ act.frame.deeds = live.2.deeds ∙ ap (λ (f : ActiveFrame). f.deeds) same in
+      omega (arith, room, deeds)
+
+  pub book_deed : (after_frames : LiveFrames) → IsOne frames after_frames n (option_map (λ (kept : Kept). record kept { deeds = kept.deeds + 1 }) (kept_of frames n))
+      → (after_heads : List (Option ℕ)) (after_nodes : Slab Link) (lines : ℕ → Chunks) → length after_heads ≡ length heads → IsPlain name (after_deed state n) lines
+      → AreChained (key_at frames) after_heads after_nodes lines → IsBook name (after_deed state n) after_frames after_heads after_nodes turns
+  book_deed after_frames one after_heads after_nodes lines same plain chained =
+      let was = kept_live state frames is.live n act.frame act.may.live in
+      let kept = was.0 in
+      let free = not_lent kept act.frame.lent was.2.lent act.may.back in
+      let P : Option Kept → Type 0 = λ o. IsOne frames after_frames n o in
+      let counted_one : IsOne frames after_frames n (Some (counted kept)) = subst P (ap (option_map counted) was.1) one in
+      let frame : IsFrame (after_deed state n) (counted kept) (with_deed act.frame) = record {
+        deeds = ap (λ k. k + 1) was.2.deeds;
+        lent = act.may.back ∙ sym (lent_none (counted kept) free);
+        places = was.2.places;
+        made = was.2.made;
+        given = was.2.given;
+        pushers = was.2.pushers;
+      } in
+      record {
+        lines = lines;
+        plain = plain;
+        live = live_one state (after_deed state n) is.plain.tree frames after_frames is.live n (others_changed state n with_deed (λ f. refl)) (λ q maker less made. made)
+            (counted kept) (with_deed act.frame) counted_one (own_changed state n with_deed (λ f. refl) act.frame act.may.live) frame;
+        count = same ∙ is.count;
+        chained = chained_same (key_at frames) (key_at after_frames) after_heads after_nodes lines lines
+            (keys_same frames after_frames n kept (counted kept) was.1 counted_one refl) (λ q. refl) chained;
+        turned = turns_alike state (after_deed state n) turns (deed_alike name state is.lines is.plain n act) refl is.turned;
+      }
+
+module _ (name : Option Script) (state : QueueState) (frames : LiveFrames) (heads : List (Option ℕ)) (nodes : Slab Link) (turns : Frames) (is : IsBook name state frames heads nodes turns)
+    (n q : ℕ) where
+  -- a push to the frame's own chunk
+  pub book_push : (may : MayUse state n q Push) (value : Value) → OnNext name state n (λ s f. IsNextAbout (λ origin. deed.Push origin value) s state f q) → OnTurn name state n
+      → (after_heads : List (Option ℕ)) (after_nodes : Slab Link) → after_heads ≡ heads → AreChained (key_at frames) after_heads after_nodes (in_line q (with_item n value) is.lines)
+      → (after_frames : LiveFrames) → IsOne frames after_frames n (option_map (λ (kept : Kept). record kept { deeds = kept.deeds + 1 }) (kept_of frames n))
+      → IsBook name (after_deed state n) after_frames after_heads after_nodes turns
+  book_push may value next turn after_heads after_nodes same chained after_frames one =
+      let has = has_held may.act.frame q Push may.held in
+      let maker = maker_of state is.plain.tree n q may.act.frame may.act.may.live has in
+      book_deed name state frames heads nodes turns is n may.act after_frames one after_heads after_nodes (in_line q (with_item n value) is.lines) (ap length same)
+      (plain_push name state is.lines is.plain n may.act turn q maker.0 maker.1 value next) chained
+
+  module _ (may : MayUse state n q Pop) (after_heads : List (Option ℕ)) (after_nodes : Slab Link) (same : length after_heads ≡ length heads)
+      (after_frames : LiveFrames) (one : IsOne frames after_frames n (option_map (λ (kept : Kept). record kept { deeds = kept.deeds + 1 }) (kept_of frames n)))
+      (turn : OnTurn name state n) where
+    lines : ℕ → Chunks
+    lines = in_line q trimmed is.lines
+
+    plain : IsPlain name state (in_line q trimmed is.lines)
+    plain = trim name state frames heads nodes turns is n q (look_of state n q may)
+
+    maker : (one : Maker) × (slice_get state.makers q ≡ Some one)
+    maker = maker_of state is.plain.tree n q may.act.frame may.act.may.live (has_held may.act.frame q Pop may.held)
+
+    pub book_test : OnNext name state n (λ s f. IsNextAbout deed.Test s state f q) → AreChained (key_at frames) after_heads after_nodes (in_line q trimmed is.lines)
+        → IsBook name (after_deed state n) after_frames after_heads after_nodes turns
+    book_test next chained =
+        book_deed name state frames heads nodes turns is n may.act after_frames one after_heads after_nodes (in_line q trimmed is.lines) same
+        (plain_test name state (in_line q trimmed is.lines) plain n may.act turn q maker.0 maker.1 next) chained
+
+    pub book_empty : OnNext name state n (λ s f. IsNextAbout deed.Pop s state f q) → IsTurnTold turns n q tested.Empty
+        → IsFrontTold frames (key_at frames) after_heads after_nodes is.lines n q tested.Empty → IsBook name (after_deed state n) after_frames after_heads after_nodes turns
+    book_empty next turned told =
+        let found = looked name state frames heads nodes turns is n q (look_of state n q may) after_heads after_nodes same turn tested.Empty turned told in
+        book_deed name state frames heads nodes turns is n may.act after_frames one after_heads after_nodes (in_line q trimmed is.lines) same
+        (plain_empty name state (in_line q trimmed is.lines) plain n may.act turn q maker.0 maker.1 next
+        (λ s named lawful. found s named lawful (origin_in s maker.0) (origin_of s state q maker.0 maker.1))) told.0
+
+    -- the first item leaves the first chunk
+    pub book_pop : OnNext name state n (λ s f. IsNextAbout deed.Pop s state f q) → IsTurnTold turns n q tested.Holds
+        → (told : IsFrontTold frames (key_at frames) after_heads after_nodes is.lines n q tested.Holds)
+        → (last_heads : List (Option ℕ)) (last_nodes : Slab Link) → length last_heads ≡ length after_heads
+        → AreChained (key_at frames) last_heads last_nodes (in_line q without_first (in_line q trimmed is.lines))
+        → IsBook name (after_deed state n) after_frames last_heads last_nodes turns
+    book_pop next turned told last_heads last_nodes last_same chained =
+        let first = found_item name state frames heads nodes turns is n q (look_of state n q may) after_heads after_nodes same told in
+        book_deed name state frames heads nodes turns is n may.act after_frames one last_heads last_nodes (in_line q without_first (in_line q trimmed is.lines)) (last_same ∙ same)
+        (plain_pop name state (in_line q trimmed is.lines) plain n may.act turn q maker.0 maker.1 next may.held
+        (alone_by name state frames heads nodes turns is n q (look_of state n q may) turned) first.first first.rest first.value first.are first.item) chained

@@ -1,0 +1,173 @@
+-- What holds of hyperqueues in plain form once a frame has finished.
+use Rattle.std.proofs.Common.{◌≡◌, ◌≢◌, ℕ, ◌+◌, ◌<◌, Bool, true, false, ◌&&◌, not, ◌==◌, Option, Some, None, List, [], ◌∷◌, length, refl, sym, ap, subst, ◌∙◌, inl, inr, arith, length-append}
+use Rattle.std.proofs.lemmas.Bool.{cases_eq, false≢true}
+use Rattle.std.specs.Option.{option_map}
+use Rattle.std.specs.Prelude.{slice_get, is_some, if◌then◌else◌}
+use Rattle.slab.specs.Slab.{Slab}
+use Rattle.pop_order.proofs.Flags.{and_parts, eq_of, eq_same, not_true}
+use Rattle.pop_order.specs.Frames.{Frames, without}
+use Rattle.swan_model.specs.declared.script.Script.{Script}
+use Rattle.swan_model.specs.QueueFollows.{next_queue_deed, origin_in}
+use Rattle.swan_model.specs.QueueState.{ActiveFrame, Maker, planned, made_by, QueueState, active, after_finish, IsOfRoot}
+use Rattle.swan_model.specs.Readings.{end_time}
+use Rattle.swan_model.proofs.Lists.{some_within}
+use Rattle.queue_book.specs.Asks.{MayJoin, OnNext}
+use Rattle.queue_book.specs.Book.{Chunks, closed}
+use Rattle.queue_book.specs.Chains.{Link, AreChained}
+use Rattle.queue_book.specs.Ended.{ended_line, ended_lines, placed_at, IsAlone}
+use Rattle.queue_book.specs.Kept.{Kept, place_in}
+use Rattle.queue_book.specs.Live.{kept_of, key_at, key_in, IsFrame, IsOne}
+use Rattle.queue_book.specs.Tree.{IsTree, has_queue, maker_path}
+use Rattle.queue_book.specs.Whole.{IsBook, IsInUse, IsLine, IsPlain}
+use Rattle.queue_book.specs.declared.frame.Place.{Place}
+use Rattle.queue_book.specs.declared.live_frames.LiveFrames.{LiveFrames}
+use Rattle.queue_book.proofs.ActiveAfter.{others_finished}
+use Rattle.queue_book.proofs.ChainChanges.{chained_same}
+use Rattle.queue_book.proofs.Finishing.{finished_follows}
+use Rattle.queue_book.proofs.Frames.{same_frame}
+use Rattle.queue_book.proofs.FramesChanged.{find_gone}
+use Rattle.queue_book.proofs.LiveKept.{key_none, kept_live, live_gone, place_has}
+use Rattle.queue_book.proofs.Match.{matches_finish, matches_finish_other}
+use Rattle.queue_book.proofs.PlainSaid.{on_next}
+use Rattle.queue_book.proofs.TreeActed.{acted_finish}
+use Rattle.queue_book.proofs.TreeKept.{tree_finish}
+use Rattle.queue_book.proofs.TreeOwners.{none_has, owners_finish, owners_kept_finish, owners_none}
+use Rattle.queue_book.proofs.TurnsGone.{turns_gone}
+
+gone_now : (state : QueueState) (n : ℕ) → active (after_finish state n) n ≡ None
+gone_now state n = by (active (after_finish state n) n) refl where
+  by : (o : Option ActiveFrame) → active (after_finish state n) n ≡ o → o ≡ None
+  by None e = refl
+  by (Some frame) e = absurd (find_gone state.frames n frame e)
+
+in_use_before : (state : QueueState) (n q : ℕ) (maker : Maker) → IsInUse (after_finish state n) q maker → IsInUse state q maker
+in_use_before state n q maker (inl of_root) = inl of_root
+in_use_before state n q maker (inr (m, frame, live, has)) = elim (cases_eq m n) [
+  | inl here ↦ let never : None ≡ Some frame = sym (gone_now state n) ∙ ap (active (after_finish state n)) (sym here) ∙ live in absurd (cc)
+  | inr other ↦ inr (m, frame, sym (others_finished state n m other) ∙ live, has)
+]
+
+root_path : (maker : Maker) → IsOfRoot (Some maker) → maker_path maker ≡ []
+root_path (planned index) is = refl
+root_path (made_by path deeds) is = is
+
+-- only the root's path is empty
+below_root : (state : QueueState) → IsTree state → (n : ℕ) (frame : ActiveFrame) → active state n ≡ Some frame → n ≢ 0 → frame.path ≡ [] → ⊥
+below_root state tree n frame live other none =
+    let parent = tree.others n frame live other in
+    let above = tree.spawned n parent.0 frame live parent.1 in
+    let long : length frame.path ≡ length above.above.path + 1 = ap length above.path ∙ length-append above.above.path (above.index ∷ []) in
+    let short : length frame.path ≡ 0 = ap length none in
+    omega arith
+
+module _ (name : Option Script) (state : QueueState) (lines : ℕ → Chunks) (is : IsPlain name state lines) (n : ℕ) (may : MayJoin state n)
+    (over : OnNext name state n (λ s f. next_queue_deed s f.path f.deeds ≡ None)) (kept : Kept) (agrees : IsFrame state kept may.frame) where
+  module _ (q : ℕ) (maker : Maker) (made : slice_get state.makers q ≡ Some maker) where
+    line_gone : has_queue may.frame q ≡ false → IsLine name (after_finish state n) q maker (lines q)
+    line_gone lacks =
+        let line = is.queues q maker made in
+        record {
+          owners = owners_kept_finish state n q may.frame (lines q) may.may.live lacks line.owners;
+          matches = λ free in_use s named lawful.
+              matches_finish_other s lawful state q (origin_in s maker) (end_time s (maker_path maker)) (lines q) (line.matches free (in_use_before state n q maker in_use) s named lawful)
+              n may.frame may.may.live (λ index own.
+              let owner = line.owners.owners index n own in
+              let same : owner.0 ≡ may.frame = same_frame (active state n) owner.0 may.frame owner.1 may.may.live in
+              false≢true (sym lacks ∙ ap (λ (f : ActiveFrame). has_queue f q) (sym same) ∙ owner.2));
+          emptied = line.emptied;
+        }
+
+    line_closed : IsLine name (after_finish state n) q maker (closed n (lines q))
+    line_closed =
+        let line = is.queues q maker made in
+        record {
+          owners = owners_finish state n q (lines q) line.owners;
+          matches = λ free in_use s named lawful.
+              matches_finish s lawful state q (origin_in s maker) (end_time s (maker_path maker)) (lines q) (line.matches free (in_use_before state n q maker in_use) s named lawful)
+              n may.frame may.may.live line.owners
+              (on_next name state n (λ t f. next_queue_deed t f.path f.deeds ≡ None) s may.frame over named may.may.live)
+              ((is.follows s named lawful).tasks n may.frame may.may.live).some;
+          emptied = λ taken. ap (closed n) (line.emptied taken);
+        }
+
+    line_over : n ≢ 0 → may.frame.path ≡ maker_path maker → IsLine name (after_finish state n) q maker []
+    line_over other own = record {
+      owners = owners_none state n q maker is.tree may made own;
+      matches = λ free in_use s named lawful. absurd (elim in_use [
+        | inl of_root ↦ below_root state is.tree n may.frame may.may.live other (own ∙ root_path maker of_root)
+        | inr (m, frame, live, has) ↦ none_has state n q maker is.tree may made own m frame live has
+      ]);
+      emptied = λ taken. refl;
+    }
+
+    line_ended : IsLine name (after_finish state n) q maker (ended_line n (place_in kept.places q) (lines q))
+    line_ended = by (place_in kept.places q) refl where
+      given_up : (place : Place) → place_in kept.places q ≡ Some place → (b : Bool) → (place.is_maker && not (n == 0)) ≡ b
+          → IsLine name (after_finish state n) q maker (if b then [] else closed n (lines q))
+      given_up place at true yes_over =
+          let parts = and_parts place.is_maker (not (n == 0)) yes_over in
+          line_over (λ root. not_true (n == 0) parts.1 (ap (λ k. k == 0) root ∙ eq_same 0)) (agrees.made q place maker at made parts.0)
+      given_up place at false stays = line_closed
+
+      by : (o : Option Place) → place_in kept.places q ≡ o → IsLine name (after_finish state n) q maker (ended_line n o (lines q))
+      by None at = line_gone (sym (agrees.places q) ∙ ap is_some at)
+      by (Some place) at = given_up place at (place.is_maker && not (n == 0)) refl
+
+  pub plain_finish : IsPlain name (after_finish state n) (ended_lines n kept.places lines)
+  plain_finish = record {
+    tree = tree_finish state n is.tree may;
+    follows = λ s named lawful. finished_follows s state (is.follows s named lawful) n may.alone;
+    acted = λ s named. acted_finish state n is.tree may (is.acted s named);
+    queues = λ q maker made. line_ended q maker made;
+    rests = is.rests;
+  }
+
+module _ (name : Option Script) (state : QueueState) (frames : LiveFrames) (heads : List (Option ℕ)) (nodes : Slab Link) (turns : Frames) (is : IsBook name state frames heads nodes turns)
+    (n : ℕ) (may : MayJoin state n) (kept : Kept) (at : kept_of frames n ≡ Some kept) where
+  pub kept_frame : IsFrame state kept may.frame
+  kept_frame =
+      let was = kept_live state frames is.live n may.frame may.may.live in
+      let both : Some was.0 ≡ Some kept = sym was.1 ∙ at in
+      let same : was.0 ≡ kept = cc in
+      let P : Kept → Type 0 = λ k. IsFrame state k may.frame in
+      subst P same was.2
+
+  pub place_known : (q : ℕ) (place : Place) → place_in kept.places q ≡ Some place → q < length heads
+  place_known q place found =
+      let less = (is.plain.tree.held n q may.frame may.may.live (place_has state kept may.frame q place kept_frame found)).0 in
+      omega (arith, is.count, less)
+
+  keys_own : (m q : ℕ) → placed_at n kept.places (key_at frames) m q ≡ key_at frames m q
+  keys_own m q = by (m == n) refl where
+    by : (b : Bool) → (m == n) ≡ b → (if b then option_map (λ (place : Place). place.key) (place_in kept.places q) else key_at frames m q) ≡ key_at frames m q
+    by true e = sym (ap (λ k. key_at frames k q) (eq_of m n e) ∙ ap (λ o. key_in o q) at)
+    by false e = refl
+
+  pub alone_in : IsAlone n kept.places (key_at frames)
+  alone_in q place found made top other apart =
+      let less = (is.plain.tree.held n q may.frame may.may.live (place_has state kept may.frame q place kept_frame found)).0 in
+      let maker = some_within state.makers q less in
+      key_none state frames is.live other q (λ frame live has.
+      none_has state n q maker.0 is.plain.tree may maker.1 (kept_frame.made q place maker.0 found maker.1 made) other frame (others_finished state n other apart ∙ live) has)
+
+  pub chained_before : AreChained (placed_at n kept.places (key_at frames)) heads nodes is.lines
+  chained_before = chained_same (key_at frames) (placed_at n kept.places (key_at frames)) heads nodes is.lines is.lines keys_own (λ q. refl) is.chained
+
+  pub book_finish : OnNext name state n (λ s f. next_queue_deed s f.path f.deeds ≡ None) → (after_frames : LiveFrames) → IsOne frames after_frames n None
+      → (after_heads : List (Option ℕ)) (after_nodes : Slab Link) → length after_heads ≡ length heads
+      → AreChained (placed_at n [] (key_at frames)) after_heads after_nodes (ended_lines n kept.places is.lines)
+      → IsBook name (after_finish state n) after_frames after_heads after_nodes (without turns n)
+  book_finish over after_frames one after_heads after_nodes same chained = record {
+    lines = ended_lines n kept.places is.lines;
+    plain = plain_finish name state is.lines is.plain n may over kept kept_frame;
+    live = live_gone state (after_finish state n) is.plain.tree frames after_frames is.live n (others_finished state n) (λ q maker less made. made) one (gone_now state n);
+    count = same ∙ is.count;
+    chained = chained_same (placed_at n [] (key_at frames)) (key_at after_frames) after_heads after_nodes (ended_lines n kept.places is.lines) (ended_lines n kept.places is.lines)
+        keys_after (λ q. refl) chained;
+    turned = turns_gone state (after_finish state n) turns n (others_finished state n) (gone_now state n) refl is.turned;
+  } where
+    keys_after : (m q : ℕ) → key_at after_frames m q ≡ placed_at n [] (key_at frames) m q
+    keys_after m q = by (m == n) refl where
+      by : (b : Bool) → (m == n) ≡ b → key_at after_frames m q ≡ (if b then None else key_at frames m q)
+      by true e = ap (λ k. key_at after_frames k q) (eq_of m n e) ∙ ap (λ o. key_in o q) one.changed
+      by false e = ap (λ o. key_in o q) (one.others m (λ here. false≢true (sym e ∙ ap (λ k. k == n) here ∙ eq_same n)))

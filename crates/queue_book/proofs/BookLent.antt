@@ -1,0 +1,135 @@
+-- What holds of hyperqueues in plain form after ends were lent, and after they came back.
+use Rattle.std.proofs.Common.{◌≡◌, ℕ, Bool, true, false, ◌==◌, Option, Some, None, List, [], refl, sym, ap, subst, ◌∙◌}
+use Rattle.std.specs.Option.{option_map}
+use Rattle.std.specs.Prelude.{if◌then◌else◌}
+use Rattle.slab.specs.Slab.{Slab}
+use Rattle.pop_order.proofs.Flags.{and_both, and_parts, eq_of, eq_same}
+use Rattle.pop_order.specs.Frames.{Frames}
+use Rattle.swan_model.specs.declared.script.Script.{Script}
+use Rattle.swan_model.specs.QueueState.{ActiveFrame, Lent, QueueState, active, after_back, after_lend}
+use Rattle.queue_book.specs.Asks.{IsRecorded}
+use Rattle.queue_book.specs.Calls.{with_active}
+use Rattle.queue_book.specs.Chains.{Link}
+use Rattle.queue_book.specs.Kept.{Kept}
+use Rattle.queue_book.specs.Live.{is_lent_with, kept_of, key_at, lent_of, AreLive, IsFrame, IsOne}
+use Rattle.queue_book.specs.NoEnds.{ends_of}
+use Rattle.queue_book.specs.Whole.{IsBook}
+use Rattle.queue_book.specs.declared.live_frames.LiveFrames.{LiveFrames}
+use Rattle.queue_book.proofs.ActiveAfter.{others_changed, own_changed}
+use Rattle.queue_book.proofs.ChainChanges.{chained_same}
+use Rattle.queue_book.proofs.Frames.{active_number}
+use Rattle.queue_book.proofs.LiveKept.{kept_live, keys_same, live_kept, live_one}
+use Rattle.queue_book.proofs.PlainLent.{back_alike, lend_alike, plain_back, plain_lend}
+use Rattle.queue_book.proofs.TurnsKept.{turns_alike}
+
+abbrev pub with_lent : Bool → Kept → Kept
+with_lent lent kept = record kept { is_lent = lent }
+
+-- what a call makes of an active frame
+pub called : (state : QueueState) (n : ℕ) (f : ActiveFrame) (change : ActiveFrame → QueueState) → active state n ≡ Some f → with_active change state (active state n) ≡ change f
+called state n f change live = ap (with_active change state) live
+
+module _ (name : Option Script) (state : QueueState) (frames : LiveFrames) (heads : List (Option ℕ)) (nodes : Slab Link) (turns : Frames) (is : IsBook name state frames heads nodes turns)
+    (n : ℕ) (frame : ActiveFrame) (live : active state n ≡ Some frame) where
+  pub book_lend : (after_frames : LiveFrames) → IsOne frames after_frames n (option_map (λ (kept : Kept). record kept { is_lent = true }) (kept_of frames n))
+      → IsBook name (after_lend state frame []) after_frames heads nodes turns
+  book_lend after_frames one =
+      let number = active_number state n frame live in
+      let change : ActiveFrame → ActiveFrame = λ f. record f { lent = Some (record { deeds = frame.deeds; ends = [] }) } in
+      let was = kept_live state frames is.live n frame live in
+      let kept = was.0 in
+      let P : Option Kept → Type 0 = λ o. IsOne frames after_frames n o in
+      let lent_one : IsOne frames after_frames n (Some (with_lent true kept)) = subst P (ap (option_map (with_lent true)) was.1) one in
+      let Q : ℕ → Type 0 = λ k. IsOne frames after_frames k (Some (with_lent true kept)) in
+      let own : active state frame.number ≡ Some frame = ap (active state) number ∙ live in
+      let now : IsFrame (after_lend state frame []) (with_lent true kept) (change frame) = record {
+        deeds = was.2.deeds;
+        lent = ap (λ k. Some (record { deeds = k; ends = [] })) (sym was.2.deeds);
+        places = was.2.places;
+        made = was.2.made;
+        given = was.2.given;
+        pushers = was.2.pushers;
+      } in
+      record {
+        lines = is.lines;
+        plain = plain_lend name state is.lines is.plain n frame live [];
+        live = live_one state (after_lend state frame []) is.plain.tree frames after_frames is.live frame.number (others_changed state frame.number change (λ f. refl)) (λ q maker less made. made)
+            (with_lent true kept) (change frame) (subst Q (sym number) lent_one) (own_changed state frame.number change (λ f. refl) frame own) now;
+        count = is.count;
+        chained = chained_same (key_at frames) (key_at after_frames) heads nodes is.lines is.lines
+            (keys_same frames after_frames n kept (with_lent true kept) was.1 lent_one refl) (λ q. refl) is.chained;
+        turned = turns_alike state (after_lend state frame []) turns (lend_alike name state is.lines is.plain n frame live []) refl is.turned;
+      }
+
+  pub book_back : (after_frames : LiveFrames) → IsOne frames after_frames n (option_map (λ (kept : Kept). record kept { is_lent = false }) (kept_of frames n))
+      → IsBook name (after_back state n frame.deeds) after_frames heads nodes turns
+  book_back after_frames one =
+      let change : ActiveFrame → ActiveFrame = λ f. record f { deeds = frame.deeds; lent = None } in
+      let was = kept_live state frames is.live n frame live in
+      let kept = was.0 in
+      let P : Option Kept → Type 0 = λ o. IsOne frames after_frames n o in
+      let back_one : IsOne frames after_frames n (Some (with_lent false kept)) = subst P (ap (option_map (with_lent false)) was.1) one in
+      let now : IsFrame (after_back state n frame.deeds) (with_lent false kept) (change frame) = record {
+        deeds = was.2.deeds;
+        lent = refl;
+        places = was.2.places;
+        made = was.2.made;
+        given = was.2.given;
+        pushers = was.2.pushers;
+      } in
+      record {
+        lines = is.lines;
+        plain = plain_back name state is.lines is.plain n frame live;
+        live = live_one state (after_back state n frame.deeds) is.plain.tree frames after_frames is.live n (others_changed state n change (λ f. refl)) (λ q maker less made. made)
+            (with_lent false kept) (change frame) back_one (own_changed state n change (λ f. refl) frame live) now;
+        count = is.count;
+        chained = chained_same (key_at frames) (key_at after_frames) heads nodes is.lines is.lines
+            (keys_same frames after_frames n kept (with_lent false kept) was.1 back_one refl) (λ q. refl) is.chained;
+        turned = turns_alike state (after_back state n frame.deeds) turns (back_alike name state is.lines is.plain n frame live frame.deeds) refl is.turned;
+      }
+
+-- ---- whether ends are those that were recorded
+
+lent_with : (kept : Option Kept) (deeds : ℕ) → is_lent_with kept deeds ≡ true → (one : Kept) × (kept ≡ Some one) × (one.is_lent ≡ true) × (one.deeds ≡ deeds)
+lent_with None deeds none = let never : false ≡ true = none in absurd (cc)
+lent_with (Some one) deeds both = let parts = and_parts one.is_lent (one.deeds == deeds) both in (one, refl, parts.0, eq_of one.deeds deeds parts.1)
+
+pub recorded : (state : QueueState) (frames : LiveFrames) → AreLive state frames → (n deeds : ℕ) (path : List ℕ) → is_lent_with (kept_of frames n) deeds ≡ true
+    → (is : IsRecorded state n (ends_of n deeds path)) × (is.frame.deeds ≡ deeds)
+recorded state frames live n deeds path lent =
+    let kept = lent_with (kept_of frames n) deeds lent in
+    let frame = live_kept state frames live n kept.0 kept.1 in (
+      record {
+        frame = frame.0;
+        live = frame.1;
+        lent = record { deeds = kept.0.deeds; ends = [] };
+        has = frame.2.lent ∙ ap (λ b. if b then Some (record { deeds = kept.0.deeds; ends = [] }) else None) kept.2;
+        own = refl;
+        deeds = sym kept.3;
+        list = refl;
+      },
+      sym frame.2.deeds ∙ kept.3,
+    )
+
+pub record_is : (state : QueueState) (frames : LiveFrames) → AreLive state frames → (n number deeds : ℕ) (path : List ℕ) → IsRecorded state n (ends_of number deeds path)
+    → (number ≡ n) × (is_lent_with (kept_of frames n) deeds ≡ true)
+record_is state frames live n number deeds path is =
+    let kept = kept_live state frames live n is.frame is.live in
+    let lent : lent_of kept.0 ≡ Some is.lent = sym kept.2.lent ∙ is.has in
+    let both = by_lent kept.0.is_lent refl lent in (
+      is.own,
+      ap (λ o. is_lent_with o deeds) kept.1 ∙ and_both kept.0.is_lent (kept.0.deeds == deeds) both.0
+          (ap (λ k. k == deeds) (both.1 ∙ sym is.deeds) ∙ eq_same deeds),
+    ) where
+      by_lent : (b : Bool) → (kept_live state frames live n is.frame is.live).0.is_lent ≡ b → lent_of (kept_live state frames live n is.frame is.live).0 ≡ Some is.lent
+          → ((kept_live state frames live n is.frame is.live).0.is_lent ≡ true) × ((kept_live state frames live n is.frame is.live).0.deeds ≡ is.lent.deeds)
+      by_lent true e same =
+          let kept = (kept_live state frames live n is.frame is.live).0 in
+          let both : Some (record { deeds = kept.deeds; ends = [] }) ≡ Some is.lent =
+          sym (ap (λ b. if b then Some (record { deeds = kept.deeds; ends = [] }) else None) e) ∙ same in
+          let one : record { deeds = kept.deeds; ends = [] } ≡ is.lent = cc in
+          (e, ap (λ (l : Lent). l.deeds) one)
+      by_lent false e same =
+          let kept = (kept_live state frames live n is.frame is.live).0 in
+          let never : None ≡ Some is.lent = sym (ap (λ b. if b then Some (record { deeds = kept.deeds; ends = [] }) else None) e) ∙ same in
+          absurd (cc)

@@ -1,0 +1,242 @@
+-- What holds of hyperqueues in plain form after a queue was made.
+use Rattle.std.proofs.Common.{◌≡◌, ℕ, ◌+◌, ◌<◌, true, false, Option, Some, None, List, [], ◌∷◌, ◌++◌, length, refl, sym, ap, subst, ◌∙◌, inl, inr, arith, length-append}
+use Rattle.std.proofs.lemmas.Bool.{cases_eq}
+use Rattle.std.specs.Option.{option_map}
+use Rattle.std.specs.Prelude.{slice_get, is_some}
+use Rattle.slab.specs.Slab.{Slab}
+use Rattle.pop_order.specs.Frames.{Frames}
+use Rattle.swan_model.specs.declared.rights.Mode.{Mode}
+use Rattle.swan_model.specs.declared.rights.Mode.TheVariants.{Push}
+use Rattle.swan_model.specs.declared.script.Deed.TheVariants as deed
+use Rattle.swan_model.specs.declared.script.Script.{Script}
+use Rattle.swan_model.specs.declared.value.Value.{Value}
+use Rattle.swan_model.specs.QueueFollows.{next_queue_deed}
+use Rattle.swan_model.specs.QueueState.{ActiveFrame, Maker, planned, made_by, QueueState, active, after_create, after_create_root, holds_queue, with_deed, with_made, IsUntouched}
+use Rattle.queue_book.specs.Asks.{DEEDS_MOST, MayDo, OnNext}
+use Rattle.queue_book.specs.Book.{own}
+use Rattle.queue_book.specs.Chains.{Link, AreChained, in_line, put_at}
+use Rattle.queue_book.specs.Kept.{Kept, place_in}
+use Rattle.queue_book.specs.Live.{kept_of, key_at, lent_of, with_place, IsFrame, IsOne}
+use Rattle.queue_book.specs.Made.{IsMadeIn}
+use Rattle.queue_book.specs.Tree.{has_queue, maker_path}
+use Rattle.queue_book.specs.Turned.{AreTurns}
+use Rattle.queue_book.specs.Whole.{IsBook, IsPlain}
+use Rattle.queue_book.specs.declared.frame.Place.{Place}
+use Rattle.queue_book.specs.declared.live_frames.LiveFrames.{LiveFrames}
+use Rattle.queue_book.proofs.ActiveAfter.{AreOthers, others_changed, own_changed}
+use Rattle.queue_book.proofs.BookDeeds.{counted, lent_none, not_lent}
+use Rattle.queue_book.proofs.ChainChanges.{chained_same}
+use Rattle.queue_book.proofs.Frames.{active_number, has_held, same_frame}
+use Rattle.queue_book.proofs.FramesChanged.{get_front, get_last}
+use Rattle.queue_book.proofs.ListPlaces.{get-push}
+use Rattle.queue_book.proofs.LiveKept.{kept_live, key_none, keys_same, live_one, place_has}
+use Rattle.queue_book.proofs.LivePut.{keys_put, place_elsewhere, place_here, places_made}
+use Rattle.queue_book.proofs.Making.{holds_before, holds_cases}
+use Rattle.queue_book.proofs.OpenOwners.{pushes_made}
+use Rattle.queue_book.proofs.PlainSaid.{OnTurn}
+use Rattle.queue_book.proofs.PlainMade.{plain_create, plain_create_root}
+
+pub one_place : (o : Option Place) (a b : Place) → o ≡ Some a → o ≡ Some b → a ≡ b
+one_place o a b one two = let both : Some a ≡ Some b = sym one ∙ two in cc
+
+module _ (name : Option Script) (state after : QueueState) (frames : LiveFrames) (heads : List (Option ℕ)) (nodes : Slab Link) (turns : Frames) (is : IsBook name state frames heads nodes turns)
+    (n : ℕ) (frame later : ActiveFrame) (maker : Maker) (live : active state n ≡ Some frame) (now : active after n ≡ Some later) (others : AreOthers state after n)
+    (makers : after.makers ≡ state.makers ++ maker ∷ []) (parent : later.parent ≡ frame.parent) (path : later.path ≡ frame.path) (rights : later.rights ≡ (with_made (length state.makers) frame).rights)
+    (own_maker : frame.path ≡ maker_path maker) where
+  i : ℕ
+  i = length state.makers
+
+  old_maker : (q : ℕ) (one : Maker) → q < length state.makers → slice_get after.makers q ≡ Some one → slice_get state.makers q ≡ Some one
+  old_maker q one less at =
+      elim (get-push state.makers maker q one (ap (λ (ms : List Maker). slice_get ms q) (sym makers) ∙ at)) [ inl old ↦ old | inr new ↦ let is_last = new.0 in absurd (omega arith) ]
+
+  new_maker : (one : Maker) → slice_get after.makers (length state.makers) ≡ Some one → one ≡ maker
+  new_maker one at =
+      let both : Some one ≡ Some maker = sym at ∙ ap (λ (ms : List Maker). slice_get ms (length state.makers)) makers ∙ get_last state.makers maker in
+      cc
+
+  later_holds : (q : ℕ) (mode : Mode) → holds_queue later q mode ≡ holds_queue (with_made (length state.makers) frame) q mode
+  later_holds q mode = ap (λ rs. holds_queue (record later { rights = rs }) q mode) rights
+
+  turns_made : AreTurns after turns
+  turns_made = record {
+    apart = is.turned.apart;
+    known = λ m turn at.
+        let was = is.turned.known m turn at in
+        elim (cases_eq m n) [
+          | inl here ↦
+              let same : was.0 ≡ frame = same_frame (active state n) was.0 frame (ap (active state) (sym here) ∙ was.1) live in (
+                later,
+                ap (active after) here ∙ now,
+                parent ∙ ap (λ (f : ActiveFrame). f.parent) (sym same) ∙ was.2,
+                λ q mode held.
+                    let old : holds_queue frame q mode ≡ true = ap (λ (f : ActiveFrame). holds_queue f q mode) (sym same) ∙ was.3 q mode held in
+                    let less = (is.plain.tree.held n q frame live (has_held frame q mode old)).0 in
+                    later_holds q mode ∙ holds_before frame (length state.makers) q mode less ∙ old,
+              )
+          | inr other ↦ (was.0, others m other ∙ was.1, was.2, was.3)
+        ];
+    all = λ m above q mode one live_one of held apart.
+        elim (cases_eq m n) [
+          | inl here ↦
+              let same : one ≡ later = same_frame (active after n) one later (ap (active after) (sym here) ∙ live_one) now in
+              let held_later : holds_queue (with_made (length state.makers) frame) q mode ≡ true =
+              sym (later_holds q mode) ∙ ap (λ (f : ActiveFrame). holds_queue f q mode) (sym same) ∙ held in
+              elim (holds_cases frame (length state.makers) q mode held_later) [
+                | inl old ↦
+                    is.turned.all m above q mode frame (ap (active state) here ∙ live) (sym parent ∙ ap (λ (f : ActiveFrame). f.parent) (sym same) ∙ of) old
+                    (λ old_one made is_own. apart old_one (ap (λ (ms : List Maker). slice_get ms q) makers ∙ get_front state.makers (maker ∷ []) q old_one made)
+                    (ap (λ (f : ActiveFrame). f.path) same ∙ path ∙ is_own))
+                | inr new ↦
+                    absurd (apart maker (ap (λ (ms : List Maker). slice_get ms q) makers ∙ ap (λ k. slice_get (state.makers ++ maker ∷ []) k) new ∙ get_last state.makers maker)
+                    (ap (λ (f : ActiveFrame). f.path) same ∙ path ∙ own_maker))
+              ]
+          | inr other ↦
+              is.turned.all m above q mode one (sym (others m other) ∙ live_one) of held
+              (λ old_one made is_own. apart old_one (ap (λ (ms : List Maker). slice_get ms q) makers ∙ get_front state.makers (maker ∷ []) q old_one made) is_own)
+        ];
+  }
+
+  module _ (after_frames : LiveFrames) (key : ℕ) (kept now_kept : Kept) (was : kept_of frames n ≡ Some kept) (agrees : IsFrame state kept frame)
+      (one : IsOne frames after_frames n (Some now_kept)) (deeds : now_kept.deeds ≡ later.deeds) (lent : later.lent ≡ lent_of now_kept)
+      (places : now_kept.places ≡ (with_place (length state.makers) (record { key = key; is_maker = true; pushes = true }) kept).places) where
+    abbrev place_now : Place
+    place_now = record { key = key; is_maker = true; pushes = true }
+
+    at_place : (q : ℕ) → place_in now_kept.places q ≡ place_in (with_place (length state.makers) (record { key = key; is_maker = true; pushes = true }) kept).places q
+    at_place q = ap (λ ps. place_in ps q) places
+
+    is_frame : IsFrame after now_kept later
+    is_frame = record {
+      deeds = deeds;
+      lent = lent;
+      places = λ q. ap is_some (at_place q) ∙ places_made kept frame (length state.makers) (record { key = key; is_maker = true; pushes = true }) agrees.places q
+          ∙ sym (ap (λ rs. has_queue (record later { rights = rs }) q) rights);
+      made = λ q pl m at made is_maker. elim (cases_eq q (length state.makers)) [
+        | inl here ↦ path ∙ own_maker ∙ ap maker_path (sym (new_maker m (ap (λ k. slice_get after.makers k) (sym here) ∙ made)))
+        | inr other ↦
+            let old = sym (place_elsewhere kept (length state.makers) (record { key = key; is_maker = true; pushes = true }) q other) ∙ sym (at_place q) ∙ at in
+            let less = (is.plain.tree.held n q frame live (place_has state kept frame q pl agrees old)).0 in
+            path ∙ agrees.made q pl m old (old_maker q m less made) is_maker
+      ];
+      given = λ q pl m at made not_maker. elim (cases_eq q (length state.makers)) [
+        | inl here ↦
+            let its : place_in now_kept.places q ≡ Some (record { key = key; is_maker = true; pushes = true }) =
+            ap (λ k. place_in now_kept.places k) here ∙ at_place (length state.makers) ∙ place_here kept (length state.makers) (record { key = key; is_maker = true; pushes = true }) in
+            let same : pl ≡ record { key = key; is_maker = true; pushes = true } = one_place (place_in now_kept.places q) pl (record { key = key; is_maker = true; pushes = true }) at its in
+            let never : true ≡ false = ap (λ (p : Place). p.is_maker) (sym same) ∙ not_maker in
+            absurd (cc)
+        | inr other ↦
+            let old = sym (place_elsewhere kept (length state.makers) (record { key = key; is_maker = true; pushes = true }) q other) ∙ sym (at_place q) ∙ at in
+            let less = (is.plain.tree.held n q frame live (place_has state kept frame q pl agrees old)).0 in
+            λ is_own. agrees.given q pl m old (old_maker q m less made) not_maker (sym path ∙ is_own)
+      ];
+      pushers = λ q pl at. elim (cases_eq q (length state.makers)) [
+        | inl here ↦
+            let its : place_in now_kept.places q ≡ Some place_now =
+            ap (λ k. place_in now_kept.places k) here ∙ at_place (length state.makers) ∙ place_here kept (length state.makers) place_now in
+            let same : pl ≡ place_now = one_place (place_in now_kept.places q) pl place_now at its in
+            ap (λ (p : Place). p.pushes) same ∙ sym (later_holds q Push ∙ ap (λ k. holds_queue (with_made (length state.makers) frame) k Push) here ∙ pushes_made frame (length state.makers))
+        | inr other ↦
+            let old = sym (place_elsewhere kept (length state.makers) place_now q other) ∙ sym (at_place q) ∙ at in
+            let less = (is.plain.tree.held n q frame live (place_has state kept frame q pl agrees old)).0 in
+            agrees.pushers q pl old ∙ sym (later_holds q Push ∙ holds_before frame (length state.makers) q Push less)
+      ];
+    }
+
+    pub book_made : (first : List Value) (after_heads : List (Option ℕ)) (after_nodes : Slab Link) → length after_heads ≡ length heads + 1
+        → IsPlain name after (in_line (length state.makers) (λ old. own n first ∷ []) is.lines)
+        → ((m q : ℕ) → key_at after_frames m q ≡ put_at n (length state.makers) (Some key) (key_at frames) m q)
+        → AreChained (put_at n (length state.makers) (Some key) (key_at frames)) after_heads after_nodes (in_line (length state.makers) (λ old. own n first ∷ []) is.lines)
+        → IsBook name after after_frames after_heads after_nodes turns
+    book_made first after_heads after_nodes more plain keys chained = record {
+      lines = in_line (length state.makers) (λ old. own n first ∷ []) is.lines;
+      plain = plain;
+      live = live_one state after is.plain.tree frames after_frames is.live n others old_maker now_kept later one now is_frame;
+      count =
+          let long : length after.makers ≡ length state.makers + 1 = ap length makers ∙ length-append state.makers (maker ∷ []) in
+          omega (arith, more, is.count, long);
+      chained = chained_same (put_at n (length state.makers) (Some key) (key_at frames)) (key_at after_frames) after_heads after_nodes
+          (in_line (length state.makers) (λ old. own n first ∷ []) is.lines) (in_line (length state.makers) (λ old. own n first ∷ []) is.lines) keys (λ q. refl) chained;
+      turned = turns_made;
+    }
+
+-- one change after another
+pub one_then : (a b c : LiveFrames) (n : ℕ) (kept : Kept) (change : Kept → Kept) → IsOne a b n (Some kept) → IsOne b c n (option_map change (kept_of b n)) → IsOne a c n (Some (change kept))
+one_then a b c n kept change first second = record {
+  changed = second.changed ∙ ap (option_map change) first.changed;
+  others = λ m other. second.others m other ∙ first.others m other;
+}
+
+module _ (name : Option Script) (state : QueueState) (frames : LiveFrames) (heads : List (Option ℕ)) (nodes : Slab Link) (turns : Frames) (is : IsBook name state frames heads nodes turns) where
+  -- no frame has a chunk of a queue that isn't made
+  unplaced : (n q : ℕ) → q ≡ length heads → key_at frames n q ≡ None
+  unplaced n q new = key_none state frames is.live n q (λ frame live has. let less = (is.plain.tree.held n q frame live has).0 in absurd (omega (arith, is.count, new, less)))
+
+  pub book_create_root : (untouched : IsUntouched state) (first : List Value) → ((s : Script) → name ≡ Some s → slice_get s.queues (length state.makers) ≡ Some first)
+      → (q : ℕ) → q ≡ length heads → (after_frames : LiveFrames) (after_heads : List (Option ℕ)) (after_nodes : Slab Link)
+      → IsMadeIn frames after_frames 0 q first heads nodes after_heads after_nodes → length after_heads ≡ length heads + 1
+      → IsBook name (after_create_root state) after_frames after_heads after_nodes turns
+  book_create_root untouched first next q new after_frames after_heads after_nodes made more =
+      let root = untouched.root in
+      let i = length state.makers in
+      let at : q ≡ i = new ∙ is.count in
+      let was = kept_live state frames is.live 0 root untouched.live in
+      let kept = was.0 in
+      let place : Place = record { key = made.key; is_maker = true; pushes = true } in
+      let P : Option Kept → Type 0 = λ o. IsOne frames after_frames 0 o in
+      let Q : ℕ → Type 0 = λ k. IsOne frames after_frames 0 (Some (with_place k place kept)) in
+      let one : IsOne frames after_frames 0 (Some (with_place i place kept)) = subst Q at (subst P (ap (option_map (with_place q place)) was.1) made.place) in
+      let R : ℕ → Type 0 = λ k. AreChained (put_at 0 k (Some made.key) (key_at frames)) after_heads after_nodes (in_line k (λ old. own 0 first ∷ []) is.lines) in
+      let path = (is.plain.tree.root root untouched.live).0 in
+      book_made name state (after_create_root state) frames heads nodes turns is 0 root (with_made i root) (planned i) untouched.live
+      (own_changed state 0 (with_made i) (λ f. refl) root untouched.live) (others_changed state 0 (with_made i) (λ f. refl)) refl refl refl refl path
+      after_frames made.key kept (with_place i place kept) was.1 was.2 one was.2.deeds was.2.lent refl
+      first after_heads after_nodes more (plain_create_root name state is.lines is.plain untouched first next)
+      (keys_put frames after_frames 0 i place kept was.1 one)
+      (subst R at (made.chained is.lines is.chained (unplaced 0 q new)))
+
+  module _ (n : ℕ) (act : MayDo state n) (q : ℕ) (new : q ≡ length heads) (mid_frames : LiveFrames) (after_heads : List (Option ℕ)) (after_nodes : Slab Link)
+      (made : IsMadeIn frames mid_frames n q [] heads nodes after_heads after_nodes) where
+    mid_one : (kept : Kept) → kept_of frames n ≡ Some kept → IsOne frames mid_frames n (Some (with_place q (record { key = made.key; is_maker = true; pushes = true }) kept))
+    mid_one kept was =
+        let P : Option Kept → Type 0 = λ o. IsOne frames mid_frames n o in
+        subst P (ap (option_map (with_place q (record { key = made.key; is_maker = true; pushes = true }))) was) made.place
+
+    pub create_room : (kept : Kept) → kept_of mid_frames n ≡ Some kept → kept.deeds < DEEDS_MOST
+    create_room kept at =
+        let was = kept_live state frames is.live n act.frame act.may.live in
+        let both : Some kept ≡ Some (with_place q (record { key = made.key; is_maker = true; pushes = true }) was.0) = sym at ∙ (mid_one was.0 was.1).changed in
+        let same : kept ≡ with_place q (record { key = made.key; is_maker = true; pushes = true }) was.0 = cc in
+        let deeds : kept.deeds ≡ act.frame.deeds = ap (λ (k : Kept). k.deeds) same ∙ was.2.deeds in
+        let room = act.room in
+        omega (arith, room, deeds)
+
+    pub book_create : OnNext name state n (λ s f. next_queue_deed s f.path f.deeds ≡ Some deed.MakeQueue) → OnTurn name state n → length after_heads ≡ length heads + 1
+        → (after_frames : LiveFrames) → IsOne mid_frames after_frames n (option_map (λ (kept : Kept). record kept { deeds = kept.deeds + 1 }) (kept_of mid_frames n))
+        → IsBook name (after_create state act.frame) after_frames after_heads after_nodes turns
+    book_create next turn more after_frames counted_one =
+        let frame = act.frame in
+        let i = length state.makers in
+        let at : q ≡ i = new ∙ is.count in
+        let change : ActiveFrame → ActiveFrame = λ f. with_deed (with_made i f) in
+        let number = active_number state n frame act.may.live in
+        let own_live : active state frame.number ≡ Some frame = ap (active state) number ∙ act.may.live in
+        let was = kept_live state frames is.live n frame act.may.live in
+        let kept = was.0 in
+        let place : Place = record { key = made.key; is_maker = true; pushes = true } in
+        let free = not_lent kept frame.lent was.2.lent act.may.back in
+        let S : ℕ → Type 0 = λ k. IsOne frames mid_frames n (Some (with_place k place kept)) in
+        let mid : IsOne frames mid_frames n (Some (with_place i place kept)) = subst S at (mid_one kept was.1) in
+        let now_kept : Kept = counted (with_place i place kept) in
+        let one : IsOne frames after_frames n (Some now_kept) = one_then frames mid_frames after_frames n (with_place i place kept) counted mid counted_one in
+        let R : ℕ → Type 0 = λ k. AreChained (put_at n k (Some made.key) (key_at frames)) after_heads after_nodes (in_line k (λ old. own n [] ∷ []) is.lines) in
+        let P : ℕ → Type 0 = λ k. AreOthers state (after_create state frame) k in
+        book_made name state (after_create state frame) frames heads nodes turns is n frame (change frame) (made_by frame.path frame.deeds) act.may.live
+        (ap (active (after_create state frame)) (sym number) ∙ own_changed state frame.number change (λ f. refl) frame own_live)
+        (subst P number (others_changed state frame.number change (λ f. refl))) refl refl refl refl refl
+        after_frames made.key kept now_kept was.1 was.2 one (ap (λ k. k + 1) was.2.deeds) (act.may.back ∙ sym (lent_none now_kept free)) refl
+        [] after_heads after_nodes more (plain_create name state is.lines is.plain n act next turn)
+        (λ m p. keys_same mid_frames after_frames n (with_place i place kept) now_kept mid.changed (record { changed = one.changed; others = counted_one.others }) refl m p
+        ∙ keys_put frames mid_frames n i place kept was.1 mid m p)
+        (subst R at (made.chained is.lines is.chained (unplaced n q new)))

@@ -1,0 +1,276 @@
+-- What holds of hyperqueues in plain form after a spawn.
+use Rattle.std.proofs.Common.{◌≡◌, ◌≢◌, ℕ, ◌+◌, ◌<◌, Bool, true, false, ◌||◌, ◌&&◌, ◌==◌, Option, Some, None, List, [], ◌∷◌, ◌++◌, map, length, refl, sym, ap, subst, ◌∙◌, ◌⊎◌, inl, inr, arith, length-append}
+use Rattle.std.proofs.lemmas.Bool.{cases_eq, false≢true}
+use Rattle.std.specs.List.{list_any}
+use Rattle.std.specs.Option.{option_map}
+use Rattle.std.specs.Prelude.{slice_get, is_some}
+use Rattle.slab.specs.Slab.{Slab}
+use Rattle.pop_order.specs.Frames.{Frame, Frames, frame_at, holds}
+use Rattle.swan_model.specs.declared.rights.Mode.{Mode}
+use Rattle.swan_model.specs.declared.script.Script.{Script}
+use Rattle.swan_model.specs.QueueFollows.{IsNextSpawn}
+use Rattle.swan_model.specs.QueueState.{ActiveFrame, Maker, QueueRight, QueueState, active, after_spawn, child_of, holds_queue, with_deed}
+use Rattle.swan_model.specs.Rights.{allows}
+use Rattle.queue_book.specs.Asks.{MaySpawn, OnNext}
+use Rattle.queue_book.specs.Chains.{Link, AreChained}
+use Rattle.queue_book.specs.Ended.{placed_at}
+use Rattle.queue_book.specs.Handed.{handed_lines, holding_of, turn_of, IsMoved}
+use Rattle.queue_book.specs.Kept.{Kept}
+use Rattle.queue_book.specs.Live.{kept_of, key_at, key_in, Agrees, AreLive, IsFrame}
+use Rattle.queue_book.specs.Spawned.{IsSpawnedIn, MayHandOn}
+use Rattle.queue_book.specs.Tree.{has_queue, maker_path}
+use Rattle.queue_book.specs.Turned.{AreTurns}
+use Rattle.queue_book.specs.Whole.{IsBook, IsInUse}
+use Rattle.queue_book.specs.declared.live_frames.LiveFrames.{LiveFrames}
+use Rattle.queue_book.proofs.Above.{under_maker}
+use Rattle.queue_book.proofs.ActiveAfter.{child_spawned, others_spawned, parent_spawned}
+use Rattle.queue_book.proofs.BookDeeds.{counted, lent_none, not_lent}
+use Rattle.queue_book.proofs.ChainChanges.{chained_same}
+use Rattle.queue_book.proofs.ChainEnds.{other_placed, own_placed}
+use Rattle.queue_book.proofs.Frames.{active_number, same_frame}
+use Rattle.queue_book.proofs.Gives.{gives_had}
+use Rattle.queue_book.proofs.LiveKept.{agrees_on, kept_live, key_none}
+use Rattle.queue_book.proofs.Match.{not_active}
+use Rattle.queue_book.proofs.PlainSaid.{OnTurn}
+use Rattle.queue_book.proofs.PlainSpawned.{plain_spawn}
+
+-- what the turn of a child says of what it was given
+abbrev rights_for : List QueueRight → ℕ → Mode → Bool
+rights_for gives queue mode = list_any (λ right. (right.queue == queue) && allows right.mode mode) gives
+
+holds_given : (gives : List QueueRight) (queue : ℕ) (mode : Mode) → holds (map holding_of gives) queue mode ≡ rights_for gives queue mode
+holds_given [] queue mode = refl
+holds_given (give ∷ gives) queue mode = ap (λ b. ((give.queue == queue) && allows give.mode mode) || b) (holds_given gives queue mode)
+
+turn_known : (parent : ℕ) (gives : List QueueRight) (turn : Frame) → turn_of parent gives ≡ Some turn
+    → (turn.parent ≡ parent) × ((queue : ℕ) (mode : Mode) → holds turn.holdings queue mode ≡ true → rights_for gives queue mode ≡ true)
+turn_known parent [] turn is = let never : None ≡ Some turn = is in absurd (cc)
+turn_known parent (give ∷ gives) turn is =
+    let whole : record { parent = parent; holdings = map holding_of (give ∷ gives); lent = false } ≡ turn = cc in (
+      ap (λ (t : Frame). t.parent) (sym whole),
+      λ queue mode held. sym (holds_given (give ∷ gives) queue mode) ∙ ap (λ (t : Frame). holds t.holdings queue mode) whole ∙ held,
+    )
+
+turn_some : (parent : ℕ) (gives : List QueueRight) (queue : ℕ) (mode : Mode) → rights_for gives queue mode ≡ true
+    → (turn : Frame) × (turn_of parent gives ≡ Some turn) × (turn.parent ≡ parent) × (holds turn.holdings queue mode ≡ true)
+turn_some parent [] queue mode some = absurd (false≢true some)
+turn_some parent (give ∷ gives) queue mode some =
+    (record { parent = parent; holdings = map holding_of (give ∷ gives); lent = false }, refl, refl, holds_given (give ∷ gives) queue mode ∙ some)
+
+module _ (name : Option Script) (state : QueueState) (frames : LiveFrames) (heads : List (Option ℕ)) (nodes : Slab Link) (turns : Frames) (is : IsBook name state frames heads nodes turns)
+    (p child : ℕ) (gives : List QueueRight) (may : MaySpawn state p child gives) where
+  free : active state child ≡ None
+  free = not_active state is.plain.tree child may.newest
+
+  rising : p < child
+  rising = let old = is.plain.tree.latest p may.act.frame may.act.may.live in let newest = may.newest in omega arith
+
+  two : p ≢ child
+  two same = let less = rising in omega arith
+
+  other_child : child ≢ p
+  other_child same = two (sym same)
+
+  pub spawn_may : MayHandOn frames turns p child gives
+  spawn_may =
+      let was = kept_live state frames is.live p may.act.frame may.act.may.live in
+      record {
+        kept = was.0;
+        live = was.1;
+        room = let room = may.act.room in let deeds = was.2.deeds in omega (arith, room, deeds);
+        has = λ q given. was.2.places q ∙ gives_had may.act.frame gives may.lawful q given;
+        frame = may.act.frame;
+        lawful = may.lawful;
+        rising = rising;
+        newest = λ m turn at.
+            let known = is.turned.known m turn at in
+            let old = is.plain.tree.latest m known.0 known.1 in
+            let newest = may.newest in
+            omega arith;
+        apart = is.turned.apart;
+      }
+
+  abbrev after : QueueState
+  after = after_spawn state may.act.frame child gives
+
+  abbrev parent_now : ActiveFrame
+  parent_now = with_deed (record may.act.frame { children = may.act.frame.children + 1 })
+
+  child_live : active after child ≡ Some (child_of may.act.frame child gives)
+  child_live = child_spawned state p child may.act.frame gives may.act.may.live free
+
+  parent_live : active after p ≡ Some parent_now
+  parent_live = parent_spawned state p child may.act.frame gives may.act.may.live free
+
+  other_live : (m : ℕ) → m ≢ p → m ≢ child → active after m ≡ active state m
+  other_live m a b = others_spawned state p child may.act.frame gives may.act.may.live free m a b
+
+  in_use_before : (q : ℕ) (maker : Maker) → IsInUse after q maker → IsInUse state q maker
+  in_use_before q maker (inl of_root) = inl of_root
+  in_use_before q maker (inr (m, frame, live, has)) = by (cases_eq m child) (cases_eq m p) where
+    by : (m ≡ child) ⊎ (m ≢ child) → (m ≡ p) ⊎ (m ≢ p) → IsInUse state q maker
+    by (inl is_child) c =
+        let same : frame ≡ child_of may.act.frame child gives =
+        same_frame (active after child) frame (child_of may.act.frame child gives)
+        (ap (active after) (sym is_child) ∙ live) child_live in
+        inr (p, may.act.frame, may.act.may.live, gives_had may.act.frame gives may.lawful q (ap (λ (g : ActiveFrame). has_queue g q) (sym same) ∙ has))
+    by (inr apart) (inl is_parent) =
+        let same : frame ≡ parent_now =
+        same_frame (active after p) frame parent_now
+        (ap (active after) (sym is_parent) ∙ live) parent_live in
+        inr (p, may.act.frame, may.act.may.live, ap (λ (g : ActiveFrame). has_queue g q) (sym same) ∙ has)
+    by (inr apart) (inr other) = inr (m, frame, sym (other_live m other apart) ∙ live, has)
+
+  module _ (after_frames : LiveFrames) (then_nodes : Slab Link) (then_turns : Frames)
+      (done : IsSpawnedIn frames after_frames p child gives heads nodes then_nodes turns then_turns) where
+    abbrev child_kept : Kept
+    child_kept = record { deeds = 0; is_lent = false; places = done.places }
+
+    -- ---- what is kept of the frames
+
+    kept_child : kept_of after_frames child ≡ Some child_kept
+    kept_child = done.parent_now.others child other_child ∙ done.child_now.changed
+
+    kept_parent : (kept : Kept) → kept_of frames p ≡ Some kept → (one : Kept) × (kept_of done.middle p ≡ Some one) × (kept_of after_frames p ≡ Some (counted one)) × IsMoved kept one
+    kept_parent kept at =
+        let was = done.given.moved kept at in
+        (was.0, was.1, done.parent_now.changed ∙ ap (option_map counted) (done.child_now.others p two ∙ was.1), was.2)
+
+    kept_other : (m : ℕ) → m ≢ p → m ≢ child → kept_of after_frames m ≡ kept_of done.middle m
+    kept_other m a b = done.parent_now.others m a ∙ done.child_now.others m b
+
+    child_frame : IsFrame after child_kept (child_of may.act.frame child gives)
+    child_frame = record {
+      deeds = refl;
+      lent = refl;
+      places = λ q. done.given.given q;
+      made = λ q place maker at made is_maker. absurd (false≢true (sym (done.given.fresh q place at) ∙ is_maker));
+      given = λ q place maker at made not_maker same.
+          let had = gives_had may.act.frame gives may.lawful q (sym (done.given.given q) ∙ ap is_some at) in
+          let under = under_maker state is.plain.tree p q may.act.frame maker may.act.may.live had made in
+          let long : length (may.act.frame.path ++ may.act.frame.children ∷ []) ≡ length may.act.frame.path + 1 = length-append may.act.frame.path (may.act.frame.children ∷ []) in
+          let upper : length may.act.frame.path ≡ length (maker_path maker) + length under.0 = ap length under.1 ∙ length-append (maker_path maker) under.0 in
+          let short : length (may.act.frame.path ++ may.act.frame.children ∷ []) ≡ length (maker_path maker) = ap length same in
+          omega arith;
+      pushers = λ q place at. done.given.pushers q place at;
+    }
+
+    parent_frame : (kept one : Kept) → IsFrame state kept may.act.frame → IsMoved kept one → IsFrame after (counted one) parent_now
+    parent_frame kept one was moved = record {
+      deeds = ap (λ k. k + 1) (moved.deeds ∙ was.deeds);
+      lent = may.act.may.back ∙ sym (lent_none (counted one) (moved.lent ∙ not_lent kept may.act.frame.lent was.lent may.act.may.back));
+      places = λ q. moved.places q ∙ was.places q;
+      made = λ q place maker at made is_maker. let old = moved.makers q place at in was.made q old.0 maker old.1 made (sym old.2 ∙ is_maker);
+      given = λ q place maker at made not_maker. let old = moved.makers q place at in was.given q old.0 maker old.1 made (sym old.2 ∙ not_maker);
+      pushers = λ q place at. let old = moved.makers q place at in old.3 ∙ was.pushers q old.0 old.1;
+    }
+
+    agrees_at : (kept : Option Kept) (found : Option ActiveFrame) (one : Kept) (frame : ActiveFrame) → kept ≡ Some one → found ≡ Some frame
+        → IsFrame after one frame → Agrees after kept found
+    agrees_at kept found one frame a b now =
+        let Q : Option Kept → Type 0 = λ o. Agrees after o found in
+        let R : Option ActiveFrame → Type 0 = λ o. Agrees after (Some one) o in
+        subst Q (sym a) (subst R (sym b) now)
+
+    live_now : AreLive after after_frames
+    live_now m = by (cases_eq m child) (cases_eq m p) where
+      by : (m ≡ child) ⊎ (m ≢ child) → (m ≡ p) ⊎ (m ≢ p) → Agrees after (kept_of after_frames m) (active after m)
+      by (inl is_child) c =
+          agrees_at (kept_of after_frames m) (active after m) child_kept (child_of may.act.frame child gives)
+          (ap (kept_of after_frames) is_child ∙ kept_child) (ap (active after) is_child ∙ child_live) child_frame
+      by (inr apart) (inl is_parent) =
+          let was = kept_live state frames is.live p may.act.frame may.act.may.live in
+          let now = kept_parent was.0 was.1 in
+          agrees_at (kept_of after_frames m) (active after m) (counted now.0) parent_now
+          (ap (kept_of after_frames) is_parent ∙ now.2) (ap (active after) is_parent ∙ parent_live) (parent_frame was.0 now.0 was.2 now.3)
+      by (inr apart) (inr other) =
+          let Q : Option Kept → Type 0 = λ o. Agrees after o (active after m) in
+          let R : Option ActiveFrame → Type 0 = λ o. Agrees after (kept_of frames m) o in
+          subst Q (sym (kept_other m other apart ∙ done.given.others m other)) (subst R (sym (other_live m other apart))
+          (agrees_on state after (kept_of frames m) (active state m) (λ q maker less made. made)
+          (λ frame found q has. (is.plain.tree.held m q frame found has).0) (is.live m)))
+
+    -- ---- the chains
+
+    keys_now : (m q : ℕ) → key_at after_frames m q ≡ placed_at child done.places (key_at done.middle) m q
+    keys_now m q = by (cases_eq m child) (cases_eq m p) where
+      by : (m ≡ child) ⊎ (m ≢ child) → (m ≡ p) ⊎ (m ≢ p) → key_at after_frames m q ≡ placed_at child done.places (key_at done.middle) m q
+      by (inl is_child) c =
+          ap (λ k. key_at after_frames k q) is_child ∙ ap (λ o. key_in o q) kept_child ∙ sym (own_placed child done.places (key_at done.middle) q)
+          ∙ sym (ap (λ k. placed_at child done.places (key_at done.middle) k q) is_child)
+      by (inr apart) (inl is_parent) =
+          let was = kept_live state frames is.live p may.act.frame may.act.may.live in
+          let now = kept_parent was.0 was.1 in
+          ap (λ k. key_at after_frames k q) is_parent ∙ ap (λ o. key_in o q) now.2 ∙ sym (ap (λ o. key_in o q) now.1) ∙ sym (ap (λ k. key_at done.middle k q) is_parent)
+          ∙ sym (other_placed child done.places (key_at done.middle) m q apart)
+      by (inr apart) (inr other) = ap (λ o. key_in o q) (kept_other m other apart) ∙ sym (other_placed child done.places (key_at done.middle) m q apart)
+
+    chained_now : AreChained (key_at after_frames) heads then_nodes (handed_lines p child gives is.lines)
+    chained_now =
+        chained_same (placed_at child done.places (key_at done.middle)) (key_at after_frames) heads then_nodes (handed_lines p child gives is.lines) (handed_lines p child gives is.lines)
+        keys_now (λ q. refl) (done.given.chained is.lines is.chained (λ q. key_none state frames is.live child q (λ frame live has.
+        let never : None ≡ Some frame = sym free ∙ live in absurd (cc))))
+
+    -- ---- the turns
+
+    turns_now : AreTurns after then_turns
+    turns_now = record { apart = done.given.apart is.turned.apart; known = known_now; all = all_now } where
+      known_now : (m : ℕ) (turn : Frame) → frame_at then_turns m ≡ Some turn
+          → (frame : ActiveFrame) × (active after m ≡ Some frame) × (frame.parent ≡ Some turn.parent)
+          × ((queue : ℕ) (mode : Mode) → holds turn.holdings queue mode ≡ true → holds_queue frame queue mode ≡ true)
+      known_now m turn at = by (cases_eq m child) (cases_eq m p) where
+        by : (m ≡ child) ⊎ (m ≢ child) → (m ≡ p) ⊎ (m ≢ p)
+            → (frame : ActiveFrame) × (active after m ≡ Some frame) × (frame.parent ≡ Some turn.parent)
+            × ((queue : ℕ) (mode : Mode) → holds turn.holdings queue mode ≡ true → holds_queue frame queue mode ≡ true)
+        by (inl is_child) c =
+            let told = turn_known p gives turn (sym done.given.turn ∙ ap (frame_at then_turns) (sym is_child) ∙ at) in (
+              child_of may.act.frame child gives,
+              ap (active after) is_child ∙ child_live,
+              ap Some (active_number state p may.act.frame may.act.may.live ∙ sym told.0),
+              told.1,
+            )
+        by (inr apart) (inl is_parent) =
+            let was = is.turned.known m turn (sym (done.given.other_turns m apart) ∙ at) in
+            let same : was.0 ≡ may.act.frame = same_frame (active state p) was.0 may.act.frame (ap (active state) (sym is_parent) ∙ was.1) may.act.may.live in (
+              parent_now,
+              ap (active after) is_parent ∙ parent_live,
+              ap (λ (g : ActiveFrame). g.parent) (sym same) ∙ was.2,
+              λ queue mode held. ap (λ (g : ActiveFrame). holds_queue g queue mode) (sym same) ∙ was.3 queue mode held,
+            )
+        by (inr apart) (inr other) =
+            let was = is.turned.known m turn (sym (done.given.other_turns m apart) ∙ at) in
+            (was.0, other_live m other apart ∙ was.1, was.2, was.3)
+
+      all_now : (m above q : ℕ) (mode : Mode) (one : ActiveFrame) → active after m ≡ Some one → one.parent ≡ Some above
+          → holds_queue one q mode ≡ true → ((maker : Maker) → slice_get state.makers q ≡ Some maker → one.path ≢ maker_path maker)
+          → (turn : Frame) × (frame_at then_turns m ≡ Some turn) × (turn.parent ≡ above) × (holds turn.holdings q mode ≡ true)
+      all_now m above q mode one live of held foreign = by (cases_eq m child) (cases_eq m p) where
+        by : (m ≡ child) ⊎ (m ≢ child) → (m ≡ p) ⊎ (m ≢ p) → (turn : Frame) × (frame_at then_turns m ≡ Some turn) × (turn.parent ≡ above) × (holds turn.holdings q mode ≡ true)
+        by (inl is_child) c =
+            let same : one ≡ child_of may.act.frame child gives =
+            same_frame (active after child) one (child_of may.act.frame child gives)
+            (ap (active after) (sym is_child) ∙ live) child_live in
+            let told = turn_some p gives q mode (ap (λ (g : ActiveFrame). holds_queue g q mode) (sym same) ∙ held) in
+            let both : Some may.act.frame.number ≡ Some above = ap (λ (g : ActiveFrame). g.parent) (sym same) ∙ of in
+            let number : may.act.frame.number ≡ above = cc in
+            (told.0, ap (frame_at then_turns) is_child ∙ done.given.turn ∙ told.1, told.2 ∙ sym (active_number state p may.act.frame may.act.may.live) ∙ number, told.3)
+        by (inr apart) (inl is_parent) =
+            let same : one ≡ parent_now =
+            same_frame (active after p) one parent_now (ap (active after) (sym is_parent) ∙ live) parent_live in
+            let turn = is.turned.all m above q mode may.act.frame (ap (active state) is_parent ∙ may.act.may.live) (ap (λ (g : ActiveFrame). g.parent) (sym same) ∙ of)
+            (ap (λ (g : ActiveFrame). holds_queue g q mode) (sym same) ∙ held) (λ maker made own. foreign maker made (ap (λ (g : ActiveFrame). g.path) same ∙ own)) in
+            (turn.0, done.given.other_turns m apart ∙ turn.1, turn.2, turn.3)
+        by (inr apart) (inr other) =
+            let turn = is.turned.all m above q mode one (sym (other_live m other apart) ∙ live) of held foreign in
+            (turn.0, done.given.other_turns m apart ∙ turn.1, turn.2, turn.3)
+
+    pub book_spawn : OnNext name state p (λ s g. IsNextSpawn s state g gives) → OnTurn name state p
+        → IsBook name (after_spawn state may.act.frame child gives) after_frames heads then_nodes then_turns
+    book_spawn next turn = record {
+      lines = handed_lines p child gives is.lines;
+      plain = plain_spawn name state is.lines is.plain p child gives may next turn in_use_before;
+      live = live_now;
+      count = is.count;
+      chained = chained_now;
+      turned = turns_now;
+    }

@@ -1,0 +1,95 @@
+-- What holds while chunks are dropped from the front of a queue.
+use Rattle.std.proofs.Common.{◌≡◌, ◌≢◌, ℕ, Bool, true, false, ◌==◌, Option, List, [], ◌∷◌, ◌++◌, drop, refl, sym, ap, subst, ◌∙◌, append_assoc, append-nil, rules}
+use Rattle.std.proofs.lemmas.Bool.{false≢true}
+use Rattle.std.specs.Prelude.{if◌then◌else◌}
+use Rattle.pop_order.proofs.Flags.{eq_of, eq_same}
+use Rattle.queue_book.specs.Book.{is_spent}
+use Rattle.queue_book.specs.Chains.{chunk_of, in_line, IsFront}
+use Rattle.queue_book.specs.declared.chains.Front.{Front}
+use Rattle.queue_book.proofs.ChainChanges.{chained_same}
+use Rattle.slab.specs.Slab.{Slab}
+use Rattle.swan_model.specs.declared.value.Value.{Value}
+use Rattle.queue_book.specs.Book.{Chunk, Chunks, trimmed, items_of}
+use Rattle.queue_book.specs.Chains.{Link, AreChained}
+
+-- some chunks of a queue are gone, and all other queues are as they were
+pub record AreLeft (at : ℕ → ℕ → Option ℕ) (lines : ℕ → Chunks) (queue : ℕ) (heads : List (Option ℕ)) (nodes : Slab Link) : Type 0 where
+  pub now : ℕ → Chunks
+  pub kept : AreChained at heads nodes now
+  pub others : (q : ℕ) → q ≢ queue → now q ≡ lines q
+
+-- spent chunks at the front are gone
+pub record AreTrimmed (at : ℕ → ℕ → Option ℕ) (lines : ℕ → Chunks) (queue : ℕ) (heads : List (Option ℕ)) (nodes : Slab Link) : Type 0 where
+  pub left : AreLeft at lines queue heads nodes
+  pub same : trimmed (left.now queue) ≡ trimmed (lines queue)
+
+-- the items of those that are gone were moved
+pub record AreMoved (at : ℕ → ℕ → Option ℕ) (lines : ℕ → Chunks) (queue : ℕ) (heads : List (Option ℕ)) (nodes : Slab Link) (items : List Value) : Type 0 where
+  pub left : AreLeft at lines queue heads nodes
+  pub moved : items ++ items_of (left.now queue) ≡ items_of (lines queue)
+
+pub line_same : (queue : ℕ) (change : Chunks → Chunks) (lines : ℕ → Chunks) → in_line queue change lines queue ≡ change (lines queue)
+line_same queue change lines = ap (λ b. if b then change (lines queue) else lines queue) (eq_same queue)
+
+pub line_other : (queue : ℕ) (change : Chunks → Chunks) (lines : ℕ → Chunks) (q : ℕ) → q ≢ queue → in_line queue change lines q ≡ lines q
+line_other queue change lines q other =
+    let e : (q == queue) ≡ false = search rules in
+    ap (λ b. if b then change (lines q) else lines q) e
+
+-- one queue's chunks are those, and the others are as before
+pub line_is : (queue : ℕ) (change : Chunks → Chunks) (lines now : ℕ → Chunks) → now queue ≡ change (lines queue) → ((q : ℕ) → q ≢ queue → now q ≡ lines q)
+    → (q : ℕ) → in_line queue change lines q ≡ now q
+line_is queue change lines now same others q = at_line (q == queue) refl where
+  at_line : (b : Bool) → (q == queue) ≡ b → (if b then change (lines q) else lines q) ≡ now q
+  at_line true e = let here : q ≡ queue = eq_of q queue e in ap (λ n. change (lines n)) here ∙ sym same ∙ ap now (sym here)
+  at_line false e = sym (others q (λ here. let P : ℕ → Type 0 = λ n. (n == queue) ≡ false in false≢true (sym (subst P here e) ∙ eq_same queue)))
+
+module _ (at : ℕ → ℕ → Option ℕ) (lines : ℕ → Chunks) (queue : ℕ) (heads after : List (Option ℕ)) (nodes then_nodes : Slab Link) where
+  -- one more is gone
+  abbrev pub left_drop : (left : AreLeft at lines queue heads nodes) → AreChained at after then_nodes (in_line queue (λ chunks. drop 1 chunks) left.now) → AreLeft at lines queue after then_nodes
+  left_drop left kept = record {
+    now = in_line queue (λ chunks. drop 1 chunks) left.now;
+    kept = kept;
+    others = λ q other. line_other queue (λ chunks. drop 1 chunks) left.now q other ∙ left.others q other;
+  }
+
+  pub trimmed_drop : (was : AreTrimmed at lines queue heads nodes) (chunk : Chunk) (rest : Chunks) → was.left.now queue ≡ chunk ∷ rest → is_spent chunk ≡ true
+      → AreChained at after then_nodes (in_line queue (λ chunks. drop 1 chunks) was.left.now) → AreTrimmed at lines queue after then_nodes
+  trimmed_drop was chunk rest are spent kept = record {
+    left = left_drop was.left kept;
+    same =
+        ap trimmed (line_same queue (λ chunks. drop 1 chunks) was.left.now ∙ ap (λ (cs : Chunks). drop 1 cs) are)
+        ∙ sym (ap (λ b. if b then trimmed rest else chunk ∷ rest) spent) ∙ sym (ap trimmed are) ∙ was.same;
+  }
+
+  pub moved_drop : (items moved : List Value) (was : AreMoved at lines queue heads nodes items) (link : Link) → was.left.now queue ≡ chunk_of link ∷ drop 1 (was.left.now queue)
+      → moved ≡ items ++ link.items
+      → AreChained at after then_nodes (in_line queue (λ chunks. drop 1 chunks) was.left.now) → AreMoved at lines queue after then_nodes moved
+  moved_drop items moved was link are is_moved kept = record {
+    left = left_drop was.left kept;
+    moved =
+        ap (λ (cs : Chunks). moved ++ items_of cs) (line_same queue (λ chunks. drop 1 chunks) was.left.now)
+        ∙ ap (λ (vs : List Value). vs ++ items_of (drop 1 (was.left.now queue))) is_moved
+        ∙ append_assoc items link.items (items_of (drop 1 (was.left.now queue)))
+        ∙ ap (λ (cs : Chunks). items ++ items_of cs) (sym are) ∙ was.moved;
+  }
+
+module _ (at : ℕ → ℕ → Option ℕ) (lines : ℕ → Chunks) (queue : ℕ) (heads : List (Option ℕ)) (nodes : Slab Link) where
+  abbrev pub left_none : AreChained at heads nodes lines → AreLeft at lines queue heads nodes
+  left_none is = record { now = lines; kept = is; others = λ q other. refl }
+
+  pub trimmed_all : (was : AreTrimmed at lines queue heads nodes) (answer : Front) → trimmed (was.left.now queue) ≡ was.left.now queue → IsFront (was.left.now queue) answer
+      → AreChained at heads nodes (in_line queue trimmed lines) × IsFront (trimmed (lines queue)) answer
+  trimmed_all was answer all front =
+      let same : was.left.now queue ≡ trimmed (lines queue) = sym all ∙ was.same in
+      let P : Chunks → Type 0 = λ cs. IsFront cs answer in (
+        chained_same at at heads nodes was.left.now (in_line queue trimmed lines) (λ n q. refl) (line_is queue trimmed lines was.left.now same was.left.others) was.left.kept,
+        subst P same front,
+      )
+
+  pub moved_all : (items : List Value) (was : AreMoved at lines queue heads nodes items) → was.left.now queue ≡ []
+      → (items ≡ items_of (lines queue)) × AreChained at heads nodes (in_line queue (λ chunks. []) lines)
+  moved_all items was none = (
+    sym (append-nil items) ∙ ap (λ (cs : Chunks). items ++ items_of cs) (sym none) ∙ was.moved,
+    chained_same at at heads nodes was.left.now (in_line queue (λ chunks. []) lines) (λ n q. refl) (line_is queue (λ chunks. []) lines was.left.now none was.left.others) was.left.kept,
+  )

@@ -1,0 +1,61 @@
+-- A frame that has one place more, or another key for a place.
+use Rattle.std.proofs.Common.{◌≡◌, ◌≢◌, ℕ, Bool, true, false, ◌==◌, Some, refl, sym, ap, ◌∙◌, ◌⊎◌, inl, inr, rules}
+use Rattle.std.proofs.lemmas.Bool.{cases_eq}
+use Rattle.std.proofs.lemmas.List.Folds.{list_any-append}
+use Rattle.std.specs.Option.{option_map}
+use Rattle.std.specs.Prelude.{is_some, ◌||◌}
+use Rattle.pop_order.proofs.Flags.{eq_same, or_left, or_right}
+use Rattle.swan_model.specs.QueueState.{ActiveFrame, QueueRight, with_made}
+use Rattle.queue_book.specs.Chains.{put_at}
+use Rattle.queue_book.specs.Kept.{Kept, place_in}
+use Rattle.queue_book.specs.Live.{kept_of, key_at, key_in, with_place, IsOne}
+use Rattle.queue_book.specs.Tree.{has_queue}
+use Rattle.queue_book.specs.declared.frame.Place.{Place}
+use Rattle.queue_book.specs.declared.live_frames.LiveFrames.{LiveFrames}
+use Rattle.queue_book.proofs.ChainChanges.{put_other, put_same}
+use Rattle.queue_book.proofs.Lookups.{at_inserted, by_inserted}
+
+pub place_here : (kept : Kept) (queue : ℕ) (place : Place) → place_in (with_place queue place kept).places queue ≡ Some place
+place_here kept queue place = at_inserted kept.places queue place
+
+pub place_elsewhere : (kept : Kept) (queue : ℕ) (place : Place) (q : ℕ) → q ≢ queue → place_in (with_place queue place kept).places q ≡ place_in kept.places q
+place_elsewhere kept queue place q other = by_inserted kept.places queue place q other
+
+-- the keys after that
+pub keys_put : (frames after : LiveFrames) (n queue : ℕ) (place : Place) (kept : Kept) → kept_of frames n ≡ Some kept → IsOne frames after n (Some (with_place queue place kept))
+    → (m q : ℕ) → key_at after m q ≡ put_at n queue (Some place.key) (key_at frames) m q
+keys_put frames after n queue place kept was one m q = by (cases_eq m n) (cases_eq q queue) where
+  own : (p : ℕ) → key_at after n p ≡ option_map (λ (pl : Place). pl.key) (place_in (with_place queue place kept).places p)
+  own p = ap (λ o. key_in o p) one.changed
+
+  by : (m ≡ n) ⊎ (m ≢ n) → (q ≡ queue) ⊎ (q ≢ queue) → key_at after m q ≡ put_at n queue (Some place.key) (key_at frames) m q
+  by (inl same) (inl here) =
+      ap (λ k. key_at after k q) same ∙ own q ∙ ap (λ p. option_map (λ (pl : Place). pl.key) (place_in (with_place queue place kept).places p)) here
+      ∙ ap (option_map (λ (pl : Place). pl.key)) (place_here kept queue place) ∙ sym (put_same n queue (Some place.key) (key_at frames))
+      ∙ sym (ap (λ k. put_at n queue (Some place.key) (key_at frames) k queue) same) ∙ sym (ap (λ p. put_at n queue (Some place.key) (key_at frames) m p) here)
+  by (inl same) (inr other) =
+      ap (λ k. key_at after k q) same ∙ own q ∙ ap (option_map (λ (pl : Place). pl.key)) (place_elsewhere kept queue place q other)
+      ∙ sym (ap (λ o. key_in o q) was) ∙ sym (ap (λ k. key_at frames k q) same) ∙ sym (put_other n queue (Some place.key) (key_at frames) m q (λ e here. other here))
+  by (inr apart) c = ap (λ o. key_in o q) (one.others m apart) ∙ sym (put_other n queue (Some place.key) (key_at frames) m q (λ e here. apart e))
+
+-- ---- a queue that a frame made
+
+pub has_made : (frame : ActiveFrame) (queue : ℕ) → has_queue (with_made queue frame) queue ≡ true
+has_made frame queue = list_any-append (λ (r : QueueRight). r.queue == queue) frame.rights _ ∙ or_right _ _ (or_left _ false (eq_same queue))
+
+pub has_not_made : (frame : ActiveFrame) (queue q : ℕ) → q ≢ queue → has_queue (with_made queue frame) q ≡ has_queue frame q
+has_not_made frame queue q other =
+    let apart : (queue == q) ≡ false = let ne : queue ≢ q = λ e. other (sym e) in search rules in
+    list_any-append (λ (r : QueueRight). r.queue == q) frame.rights _ ∙ ap (λ b. has_queue frame q || (b || false)) apart ∙ or_none (has_queue frame q) where
+      or_none : (b : Bool) → (b || (false || false)) ≡ b
+      or_none true = refl
+      or_none false = refl
+
+pub places_made : (kept : Kept) (frame : ActiveFrame) (queue : ℕ) (place : Place) → ((q : ℕ) → is_some (place_in kept.places q) ≡ has_queue frame q)
+    → (q : ℕ) → is_some (place_in (with_place queue place kept).places q) ≡ has_queue (with_made queue frame) q
+places_made kept frame queue place same q = elim (cases_eq q queue) [
+  | inl here ↦
+      ap (λ p. is_some (place_in (with_place queue place kept).places p)) here ∙ ap is_some (place_here kept queue place) ∙ sym (has_made frame queue)
+      ∙ sym (ap (λ p. has_queue (with_made queue frame) p) here)
+  | inr other ↦ ap is_some (place_elsewhere kept queue place q other) ∙ same q ∙ sym (has_not_made frame queue q other)
+]

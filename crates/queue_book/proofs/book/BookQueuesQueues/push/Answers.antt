@@ -1,0 +1,55 @@
+use Rattle.std.proofs.Common.{◌≡◌, Some, None, sym, subst, ◌∙◌}
+use Rattle.swan_model.specs.declared.rights.Mode.TheVariants.{Push}
+use Rattle.swan_model.specs.declared.script.Deed.TheVariants as deed
+use Rattle.swan_model.specs.QueueFollows.{IsNextAbout}
+use Rattle.swan_model.specs.QueueState.{QueueState}
+use Rattle.queue_book.specs.Asks.{MayUse, OnNext}
+use Rattle.queue_book.specs.Live.{key_at}
+use Rattle.queue_book.specs.Named.{Named}
+use Rattle.queue_book.specs.Whole.{IsBook}
+use Rattle.queue_book.proofs.BookDeeds.{book_push}
+use Rattle.queue_book.proofs.LiveKept.{has_key, key_of, place_of_key}
+use Rattle.queue_book.proofs.Frames.{has_held}
+use Rattle.queue_book.proofs.PlainSaid.{OnTurn}
+use Rattle.queue_book.proofs.book.BookQueuesQueues.push.Goals as goal
+
+pub returns-in_default-clause-ok : goal.returns-in_default-clause-ok
+returns-in_default-clause-ok c =
+    let is = c.self.invariant in
+    let name = c.self.inside.name in
+    let state = c.self.inside.state.means in
+    let frames = c.self.inside.frames in
+    let heads = c.self.inside.chains.heads.items in
+    let nodes = c.self.inside.chains.nodes in
+    let turns = c.self.inside.turns in
+    let n = c.args.frame in
+    let q = c.args.queue in
+    let May : Named → Type 0 = λ v. MayUse v.state n q Push in
+    let may : MayUse state n q Push = subst May (sym c.self.view_is) c.requires.may in
+    let found = has_key state frames is.live n q may.act.frame may.act.may.live (has_held may.act.frame q Push may.held) in
+    let never : None ≡ Some found.3 = sym c.in_default.is ∙ c.place_of.ensures ∙ place_of_key frames n q found.0 found.3 found.1 found.4 in
+    absurd (cc)
+
+pub invariant_of-self : goal.invariant_of-self
+invariant_of-self c =
+    let is = c.self.invariant in
+    let name = c.self.inside.name in
+    let state = c.self.inside.state.means in
+    let frames = c.self.inside.frames in
+    let heads = c.self.inside.chains.heads.items in
+    let nodes = c.self.inside.chains.nodes in
+    let turns = c.self.inside.turns in
+    let n = c.args.frame in
+    let q = c.args.queue in
+    let May : Named → Type 0 = λ v. MayUse v.state n q Push in
+    let may : MayUse state n q Push = subst May (sym c.self.view_is) c.requires.may in
+    let place = c.in-Some.place in
+    let value = c.args.value in
+    let key : key_at frames n q ≡ Some place.key = key_of frames n q place (sym c.in-Some.ensures) in
+    let Next : Named → Type 0 = λ v. OnNext v.name v.state n (λ s f. IsNextAbout (λ origin. deed.Push origin value) s v.state f q) in
+    let next : OnNext name state n (λ s f. IsNextAbout (λ origin. deed.Push origin value) s state f q) = subst Next (sym c.self.view_is) c.requires.next in
+    let Turn : Named → Type 0 = λ v. OnTurn v.name v.state n in
+    let turn : OnTurn name state n = subst Turn (sym c.self.view_is) c.requires.turn in
+    let P : QueueState → Type 0 = λ st. IsBook name st c.count_deed.new.self c.push.new.self.heads.items c.push.new.self.nodes turns in
+    subst P (sym c.after.ensures) (book_push name state frames heads nodes turns is n q may value next turn c.push.new.self.heads.items c.push.new.self.nodes c.push.ensures.heads
+    (c.in-Ok.ensures.pushed (key_at frames) is.lines n q is.chained key) c.count_deed.new.self c.count_deed.ensures)

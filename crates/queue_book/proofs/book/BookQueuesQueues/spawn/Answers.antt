@@ -1,0 +1,50 @@
+use Rattle.std.proofs.Common.{ℕ, Option, List, sym, subst, ◌∙◌}
+use Rattle.swan_model.specs.QueueFollows.{IsNextSpawn}
+use Rattle.swan_model.specs.QueueState.{QueueState, after_spawn}
+use Rattle.queue_book.specs.Asks.{MaySpawn, OnNext}
+use Rattle.queue_book.specs.Named.{Named}
+use Rattle.queue_book.specs.Whole.{IsBook}
+use Rattle.queue_book.proofs.BookLent.{called}
+use Rattle.queue_book.proofs.BookSpawn.{book_spawn, spawn_may}
+use Rattle.queue_book.proofs.PlainSaid.{OnTurn}
+use Rattle.queue_book.proofs.book.BookQueuesQueues.spawn.Goals as goal
+
+pub spawn-requires : goal.spawn-requires
+spawn-requires c =
+    let is = c.self.invariant in
+    let name = c.self.inside.name in
+    let state = c.self.inside.state.means in
+    let frames = c.self.inside.frames in
+    let heads = c.self.inside.chains.heads.items in
+    let nodes = c.self.inside.chains.nodes in
+    let turns = c.self.inside.turns in
+    let p = c.args.parent in
+    let child = c.args.child in
+    let gives = c.args.gives.now in
+    let May : Named → Type 0 = λ v. MaySpawn v.state p child gives in
+    let may : MaySpawn state p child gives = subst May (sym c.self.view_is) c.requires.may in
+    record { may = spawn_may name state frames heads nodes turns is p child gives may }
+
+pub invariant_of-self : goal.invariant_of-self
+invariant_of-self c =
+    let is = c.self.invariant in
+    let name = c.self.inside.name in
+    let state = c.self.inside.state.means in
+    let frames = c.self.inside.frames in
+    let heads = c.self.inside.chains.heads.items in
+    let nodes = c.self.inside.chains.nodes in
+    let turns = c.self.inside.turns in
+    let p = c.args.parent in
+    let child = c.args.child in
+    let gives = c.args.gives.now in
+    let May : Named → Type 0 = λ v. MaySpawn v.state p child gives in
+    let may : MaySpawn state p child gives = subst May (sym c.self.view_is) c.requires.may in
+    let Next : Named → Type 0 = λ v. OnNext v.name v.state p (λ s f. IsNextSpawn s v.state f gives) in
+    let next : OnNext name state p (λ s f. IsNextSpawn s state f gives) = subst Next (sym c.self.view_is) c.requires.next in
+    let Turn : Named → Type 0 = λ v. OnTurn v.name v.state p in
+    let turn : OnTurn name state p = subst Turn (sym c.self.view_is) c.requires.turn in
+    let nodes_now = c.spawn.new.chains.nodes in
+    let book = book_spawn name state frames heads nodes turns is p child gives may c.spawn.new.frames nodes_now c.spawn.new.turns c.in-Ok.ensures.spawned next turn in
+    let Heads : List (Option ℕ) → Type 0 = λ hs. IsBook name (after_spawn state may.act.frame child gives) c.spawn.new.frames hs nodes_now c.spawn.new.turns in
+    let P : QueueState → Type 0 = λ st. IsBook name st c.spawn.new.frames c.spawn.new.chains.heads.items nodes_now c.spawn.new.turns in
+    subst P (sym (c.of.ensures ∙ called state p may.act.frame (λ f. after_spawn state f child gives) may.act.may.live)) (subst Heads (sym c.in-Ok.ensures.heads) book)

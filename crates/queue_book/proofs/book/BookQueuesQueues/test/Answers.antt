@@ -1,0 +1,167 @@
+use Rattle.std.proofs.Common.{◌≡◌, Some, sym, subst}
+use Rattle.swan_model.specs.declared.rights.Mode.TheVariants.{Pop}
+use Rattle.swan_model.specs.declared.script.Deed.TheVariants as deed
+use Rattle.swan_model.specs.QueueFollows.{IsNextAbout}
+use Rattle.swan_model.specs.QueueState.{ActiveFrame, QueueState, active}
+use Rattle.queue_book.specs.Asks.{MayUse, OnNext}
+use Rattle.queue_book.specs.Live.{key_at}
+use Rattle.queue_book.specs.Named.{Named}
+use Rattle.queue_book.specs.Tells.{IsTested}
+use Rattle.queue_book.specs.Whole.{IsBook}
+use Rattle.queue_book.specs.declared.answers.Tested.TheVariants as tested
+use Rattle.queue_book.proofs.BookDeeds.{book_test}
+use Rattle.queue_book.proofs.BookFronts.{book_looked, known, look_of, looked_all}
+use Rattle.queue_book.proofs.PlainSaid.{OnTurn}
+use Rattle.queue_book.proofs.book.BookQueuesQueues.test.Goals as goal
+
+pub front-requires : goal.front-requires
+front-requires c =
+    let is = c.self.invariant in
+    let name = c.self.inside.name in
+    let state = c.self.inside.state.means in
+    let frames = c.self.inside.frames in
+    let heads = c.self.inside.chains.heads.items in
+    let nodes = c.self.inside.chains.nodes in
+    let turns = c.self.inside.turns in
+    let n = c.args.frame in
+    let q = c.args.queue in
+    let May : Named → Type 0 = λ v. MayUse v.state n q Pop in
+    let may : MayUse state n q Pop = subst May (sym c.self.view_is) c.requires.may in
+    let look = look_of state n q may in
+    let Turn : Named → Type 0 = λ v. OnTurn v.name v.state n in
+    let turn : OnTurn name state n = subst Turn (sym c.self.view_is) c.requires.turn in
+    record { known = known name state frames heads nodes turns is n q look }
+
+pub invariant_of-self : goal.invariant_of-self
+invariant_of-self c =
+    let is = c.self.invariant in
+    let name = c.self.inside.name in
+    let state = c.self.inside.state.means in
+    let frames = c.self.inside.frames in
+    let heads = c.self.inside.chains.heads.items in
+    let nodes = c.self.inside.chains.nodes in
+    let turns = c.self.inside.turns in
+    let n = c.args.frame in
+    let q = c.args.queue in
+    let May : Named → Type 0 = λ v. MayUse v.state n q Pop in
+    let may : MayUse state n q Pop = subst May (sym c.self.view_is) c.requires.may in
+    let look = look_of state n q may in
+    let Turn : Named → Type 0 = λ v. OnTurn v.name v.state n in
+    let turn : OnTurn name state n = subst Turn (sym c.self.view_is) c.requires.turn in
+    let heads_now = c.front.new.chains.heads.items in
+    let nodes_now = c.front.new.chains.nodes in
+    book_looked name state frames heads nodes turns is n q look heads_now nodes_now c.in-NotYet.ensures.same (tested.NotYet c.in-NotYet.wait) (c.in-NotYet.ensures.told (key_at frames) is.lines is.chained)
+
+pub invariant_of-self-in-Empty : goal.invariant_of-self-in-Empty
+invariant_of-self-in-Empty c =
+    let is = c.self.invariant in
+    let name = c.self.inside.name in
+    let state = c.self.inside.state.means in
+    let frames = c.self.inside.frames in
+    let heads = c.self.inside.chains.heads.items in
+    let nodes = c.self.inside.chains.nodes in
+    let turns = c.self.inside.turns in
+    let n = c.args.frame in
+    let q = c.args.queue in
+    let May : Named → Type 0 = λ v. MayUse v.state n q Pop in
+    let may : MayUse state n q Pop = subst May (sym c.self.view_is) c.requires.may in
+    let look = look_of state n q may in
+    let Turn : Named → Type 0 = λ v. OnTurn v.name v.state n in
+    let turn : OnTurn name state n = subst Turn (sym c.self.view_is) c.requires.turn in
+    let heads_now = c.front.new.chains.heads.items in
+    let nodes_now = c.front.new.chains.nodes in
+    let Next : Named → Type 0 = λ v. OnNext v.name v.state n (λ s f. IsNextAbout deed.Test s v.state f q) in
+    let next : OnNext name state n (λ s f. IsNextAbout deed.Test s state f q) = subst Next (sym c.self.view_is) c.requires.next in
+    let P : QueueState → Type 0 = λ st. IsBook name st c.count_deed.new.self heads_now nodes_now turns in
+    subst P (sym c.after.ensures) (book_test name state frames heads nodes turns is n q may heads_now nodes_now c.in-Empty.ensures.same c.count_deed.new.self c.count_deed.ensures turn next
+    (c.in-Empty.ensures.told (key_at frames) is.lines is.chained).0)
+
+pub invariant_of-self-in-Holds : goal.invariant_of-self-in-Holds
+invariant_of-self-in-Holds c =
+    let is = c.self.invariant in
+    let name = c.self.inside.name in
+    let state = c.self.inside.state.means in
+    let frames = c.self.inside.frames in
+    let heads = c.self.inside.chains.heads.items in
+    let nodes = c.self.inside.chains.nodes in
+    let turns = c.self.inside.turns in
+    let n = c.args.frame in
+    let q = c.args.queue in
+    let May : Named → Type 0 = λ v. MayUse v.state n q Pop in
+    let may : MayUse state n q Pop = subst May (sym c.self.view_is) c.requires.may in
+    let look = look_of state n q may in
+    let Turn : Named → Type 0 = λ v. OnTurn v.name v.state n in
+    let turn : OnTurn name state n = subst Turn (sym c.self.view_is) c.requires.turn in
+    let heads_now = c.front.new.chains.heads.items in
+    let nodes_now = c.front.new.chains.nodes in
+    let Next : Named → Type 0 = λ v. OnNext v.name v.state n (λ s f. IsNextAbout deed.Test s v.state f q) in
+    let next : OnNext name state n (λ s f. IsNextAbout deed.Test s state f q) = subst Next (sym c.self.view_is) c.requires.next in
+    let P : QueueState → Type 0 = λ st. IsBook name st c.count_deed-in-Holds.new.self heads_now nodes_now turns in
+    subst P (sym c.after-in-Holds.ensures) (book_test name state frames heads nodes turns is n q may heads_now nodes_now c.in-Holds.ensures.same c.count_deed-in-Holds.new.self c.count_deed-in-Holds.ensures turn next
+    (c.in-Holds.ensures.told (key_at frames) is.lines is.chained).0)
+
+pub returns-in-NotYet-clause-answer : goal.returns-in-NotYet-clause-answer
+returns-in-NotYet-clause-answer c =
+    let is = c.self.invariant in
+    let name = c.self.inside.name in
+    let state = c.self.inside.state.means in
+    let frames = c.self.inside.frames in
+    let heads = c.self.inside.chains.heads.items in
+    let nodes = c.self.inside.chains.nodes in
+    let turns = c.self.inside.turns in
+    let n = c.args.frame in
+    let q = c.args.queue in
+    let May : Named → Type 0 = λ v. MayUse v.state n q Pop in
+    let may : MayUse state n q Pop = subst May (sym c.self.view_is) c.requires.may in
+    let look = look_of state n q may in
+    let Turn : Named → Type 0 = λ v. OnTurn v.name v.state n in
+    let turn : OnTurn name state n = subst Turn (sym c.self.view_is) c.requires.turn in
+    let heads_now = c.front.new.chains.heads.items in
+    let nodes_now = c.front.new.chains.nodes in
+    let P : Named → Type 0 = λ v. (f : ActiveFrame) → active v.state n ≡ Some f → IsTested v.name v.state f q (tested.NotYet c.in-NotYet.wait) in
+    subst P c.self.view_is (looked_all name state frames heads nodes turns is n q look heads_now nodes_now c.in-NotYet.ensures.same turn (tested.NotYet c.in-NotYet.wait) c.in-NotYet.ensures.turn
+    (c.in-NotYet.ensures.told (key_at frames) is.lines is.chained))
+
+pub returns-in-Empty-clause-answer : goal.returns-in-Empty-clause-answer
+returns-in-Empty-clause-answer c =
+    let is = c.self.invariant in
+    let name = c.self.inside.name in
+    let state = c.self.inside.state.means in
+    let frames = c.self.inside.frames in
+    let heads = c.self.inside.chains.heads.items in
+    let nodes = c.self.inside.chains.nodes in
+    let turns = c.self.inside.turns in
+    let n = c.args.frame in
+    let q = c.args.queue in
+    let May : Named → Type 0 = λ v. MayUse v.state n q Pop in
+    let may : MayUse state n q Pop = subst May (sym c.self.view_is) c.requires.may in
+    let look = look_of state n q may in
+    let Turn : Named → Type 0 = λ v. OnTurn v.name v.state n in
+    let turn : OnTurn name state n = subst Turn (sym c.self.view_is) c.requires.turn in
+    let heads_now = c.front.new.chains.heads.items in
+    let nodes_now = c.front.new.chains.nodes in
+    let P : Named → Type 0 = λ v. (f : ActiveFrame) → active v.state n ≡ Some f → IsTested v.name v.state f q tested.Empty in
+    subst P c.self.view_is (looked_all name state frames heads nodes turns is n q look heads_now nodes_now c.in-Empty.ensures.same turn tested.Empty c.in-Empty.ensures.turn
+    (c.in-Empty.ensures.told (key_at frames) is.lines is.chained))
+
+pub returns-in-Holds-clause-answer : goal.returns-in-Holds-clause-answer
+returns-in-Holds-clause-answer c =
+    let is = c.self.invariant in
+    let name = c.self.inside.name in
+    let state = c.self.inside.state.means in
+    let frames = c.self.inside.frames in
+    let heads = c.self.inside.chains.heads.items in
+    let nodes = c.self.inside.chains.nodes in
+    let turns = c.self.inside.turns in
+    let n = c.args.frame in
+    let q = c.args.queue in
+    let May : Named → Type 0 = λ v. MayUse v.state n q Pop in
+    let may : MayUse state n q Pop = subst May (sym c.self.view_is) c.requires.may in
+    let look = look_of state n q may in
+    let Turn : Named → Type 0 = λ v. OnTurn v.name v.state n in
+    let turn : OnTurn name state n = subst Turn (sym c.self.view_is) c.requires.turn in
+    let heads_now = c.front.new.chains.heads.items in
+    let nodes_now = c.front.new.chains.nodes in
+    let P : Named → Type 0 = λ v. (f : ActiveFrame) → active v.state n ≡ Some f → IsTested v.name v.state f q tested.Holds in
+    subst P c.self.view_is (looked_all name state frames heads nodes turns is n q look heads_now nodes_now c.in-Holds.ensures.same turn tested.Holds c.in-Holds.ensures.turn
+    (c.in-Holds.ensures.told (key_at frames) is.lines is.chained))

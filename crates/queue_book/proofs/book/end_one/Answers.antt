@@ -1,0 +1,32 @@
+use Rattle.std.proofs.Common.{◌≡◌, ◌≢◌, true, false, ◌&&◌, not, ◌==◌, None, ap, ◌∙◌}
+use Rattle.queue_book.specs.Book.{closed}
+use Rattle.queue_book.specs.Chains.{in_line, put_at}
+use Rattle.queue_book.proofs.ChainEnds.{chained_closed, chained_over, none_but_own, not_so, still_so}
+use Rattle.queue_book.proofs.book.end_one.Goals as goal
+
+pub returns-then-not-place-clause-ended : goal.returns-then-not-place-clause-ended
+returns-then-not-place-clause-ended c at lines is key alone =
+    let number = c.args.number in
+    let place = c.args.place in
+    chained_closed (put_at number c.args.queue None at) c.close.new.self.heads.items c.close.new.self.nodes lines number c.args.queue place
+    (ap (λ b. b && not (number == 0)) (not_so place.is_maker c.if-not-place.true)) (c.close.ensures.closed at lines number c.args.queue is key)
+
+pub returns-then-number-eq0-clause-ended : goal.returns-then-number-eq0-clause-ended
+returns-then-number-eq0-clause-ended c at lines is key alone =
+    let number = c.args.number in
+    let place = c.args.place in
+    let root : number ≡ 0 = c.if-number-eq0.true in
+    let stays : (place.is_maker && not (number == 0)) ≡ false =
+    ap (λ b. b && not (number == 0)) (still_so place.is_maker c.if-not-place.false) ∙ ap (λ k. true && not (k == 0)) root in
+    chained_closed (put_at number c.args.queue None at) c.close.new.self.heads.items c.close.new.self.nodes lines number c.args.queue place stays
+    (c.close.ensures.closed at lines number c.args.queue is key)
+
+pub returns-clause-ended : goal.returns-clause-ended
+returns-clause-ended c at lines is key alone =
+    let number = c.args.number in
+    let queue = c.args.queue in
+    let place = c.args.place in
+    let other : number ≢ 0 = c.if-number-eq0.false in
+    chained_over (put_at number queue None at) c.give_up.new.self.heads.items c.give_up.new.self.nodes lines number queue place (still_so place.is_maker c.if-not-place.false) other
+    (c.give_up.ensures.given_up (put_at number queue None at) (in_line queue (closed number) lines) (c.close.ensures.closed at lines number queue is key)
+    (none_but_own number queue at (alone (still_so place.is_maker c.if-not-place.false) other)))

@@ -1,0 +1,25 @@
+use Rattle.std.proofs.Common.{◌≡◌, ℕ, Bool, false, Option, Some, List, sym, subst}
+use Rattle.std.specs.BTreeMap.{insert_entry}
+use Rattle.std.specs.Ordering.{nat_cmp}
+use Rattle.queue_book.specs.Book.{handed_on}
+use Rattle.queue_book.specs.Chains.{AreChained, in_line, put_at}
+use Rattle.queue_book.proofs.book.give.Goals as goal
+
+pub returns-clause-given : goal.returns-clause-given
+returns-clause-given c =
+    let q = c.args.queue in
+    let parent = c.args.parent in
+    let child = c.args.child in
+    let Given : Bool → Type 0 = λ b.
+    c.insert.new.self.entries ≡ insert_entry nat_cmp c.args.places.now.entries q (record { key = c.in-Some.place.key; is_maker = false; pushes = b }) in
+    record {
+      new = c.in_ok-new.new;
+      place = c.in-Some.place;
+      was = sym c.in-Some.ensures;
+      parent_now = c.in_ok-put.ensures;
+      child_now = subst Given c.can_push.ensures c.in_ok-insert.ensures.entries;
+      chained = λ at lines is mine free.
+          let P : List (Option ℕ) → Type 0 = λ hs.
+          AreChained (put_at parent q (Some c.in_ok-new.new) (put_at child q (Some c.in-Some.place.key) at)) hs c.hand_on.new.self.nodes (in_line q (handed_on parent child) lines) in
+          subst P c.hand_on.ensures.heads (c.in_ok-new.ensures.handed at lines q is mine free);
+    }

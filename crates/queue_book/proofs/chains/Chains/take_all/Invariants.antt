@@ -1,0 +1,16 @@
+use Rattle.std.proofs.Common.{◌≡◌, ℕ, Option, None, length}
+use Rattle.slab.specs.Slab.{slab_len}
+use Rattle.queue_book.specs.Book.{Chunks}
+use Rattle.queue_book.specs.Chains.{AreChained}
+use Rattle.queue_book.proofs.ChainLoops.{AreMoved}
+use Rattle.queue_book.proofs.chains.Chains.take_all.Given as goal
+
+abbrev pub invariant-loop-node : goal.invariant-loop-node
+invariant-loop-node l = record {
+  same : length l.self.heads.items ≡ length l.initial.self.heads.items;
+  kept : (at : ℕ → ℕ → Option ℕ) (lines : ℕ → Chunks) → AreChained at l.initial.self.heads.items l.initial.self.nodes lines
+      → ((number : ℕ) → at number l.queue ≡ None) → AreMoved at lines l.queue l.self.heads.items l.self.nodes l.items;
+}
+
+abbrev pub decreases-loop-node : goal.decreases-loop-node
+decreases-loop-node l = slab_len l.self.nodes

@@ -1,0 +1,20 @@
+-- What the contracts of this crate cite.
+pub mod Tree
+pub mod Book
+pub mod Asks
+pub mod Ends
+pub mod Tells
+pub mod Named
+pub mod Calls
+pub mod Chains
+pub mod Kept
+pub mod Live
+pub mod Turned
+pub mod Whole
+pub mod Fronts
+pub mod Made
+pub mod Ended
+pub mod Handed
+pub mod Spawned
+pub mod NoEnds
+pub mod Reads

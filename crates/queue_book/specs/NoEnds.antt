@@ -1,0 +1,7 @@
+-- Ends that push and pop nothing.
+use Rattle.std.specs.Prelude.{ℕ, List, []}
+use Rattle.queue_book.specs.Asks.{LentEnds}
+
+-- the ends of a frame that has done so many queue deeds: there are none
+abbrev pub ends_of : (frame deeds : ℕ) → (path : List ℕ) → LentEnds
+ends_of frame deeds path = record { frame = frame; path = path; before = deeds; deeds = deeds; list = [] }

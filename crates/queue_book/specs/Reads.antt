@@ -1,0 +1,57 @@
+-- Active frames, as a full reading has them.
+use Rattle.std.specs.Prelude.{◌≡◌, ℕ, ◌+◌, ◌<◌, ◌==◌, Some, None, length, map, slice_get, if◌then◌else◌}
+use Rattle.swan_model.specs.declared.script.Deed.{Deed}
+use Rattle.swan_model.specs.declared.script.Script.{Script}
+use Rattle.swan_model.specs.Lawful.{IsLawful}
+use Rattle.swan_model.specs.QueueFollows.{Fits, FitsFrame, QueuesFollow}
+use Rattle.swan_model.specs.QueueState.{ActiveFrame, QueueState, active}
+use Rattle.swan_model.specs.Readings.{next_deed}
+use Rattle.swan_model.specs.SerialTime.{Progress, Reading, frame_of, times}
+
+-- what holds of each active frame and its progress in a reading, where hyperqueues follow a lawful script and the reading
+-- fits
+abbrev pub OnRead : Script → QueueState → Reading → (ActiveFrame → Progress → Type 0) → Type 0
+OnRead s state r Holds =
+    IsLawful s → QueuesFollow s state → Fits s state r
+    → (number : ℕ) (frame : ActiveFrame) (progress : Progress) → active state number ≡ Some frame → frame_of r number ≡ Some progress
+    → Holds frame progress
+
+-- and of each two
+abbrev pub OnTwoRead : Script → QueueState → Reading → (ActiveFrame → Progress → ActiveFrame → Progress → Type 0) → Type 0
+OnTwoRead s state r Holds =
+    OnRead s state r (λ frame progress.
+    (number : ℕ) (other : ActiveFrame) (also : Progress) → active state number ≡ Some other → frame_of r number ≡ Some also → Holds frame progress other also)
+
+-- what holds where a frame of the reading, of this number, has this deed as its next entry
+abbrev pub OnEntry : Script → QueueState → Reading → (ℕ → Progress → Deed → Type 0) → Type 0
+OnEntry s state r Holds =
+    IsLawful s → QueuesFollow s state → Fits s state r
+    → (number : ℕ) (progress : Progress) (does : Deed) → frame_of r number ≡ Some progress → next_deed s progress ≡ Some does
+    → Holds number progress does
+
+-- a frame has an entry left after its next one
+abbrev pub HasMore : Script → Progress → Type 0
+HasMore s progress = progress.done + 1 < length (times s progress.path)
+
+-- its next entry is its last one
+abbrev pub IsAtLast : Script → Progress → Type 0
+IsAtLast s progress = progress.done + 1 ≡ length (times s progress.path)
+
+-- Another reading differs from this one only in what queues aren't told of: in the origins of objects, and in how many
+-- entries that are no queue deeds an active frame has done after its last queue deed that is done and before its next one. So
+-- an active frame fits in the other one too, and one that has ended is the same.
+pub record DiffersIdly (s : Script) (state : QueueState) (r other : Reading) : Type 0 where
+  pub queues : other.queues ≡ r.queues
+  pub many : length other.frames ≡ length r.frames
+  pub frames : (index : ℕ) (a b : Progress) → slice_get r.frames index ≡ Some a → slice_get other.frames index ≡ Some b
+      → (b.number ≡ a.number) × (b.path ≡ a.path)
+      × ((frame : ActiveFrame) → active state a.number ≡ Some frame → FitsFrame s frame b)
+      × (active state a.number ≡ None → b.done ≡ a.done)
+
+-- what a frame is once the one of this number has done so many more entries
+abbrev pub more_by : (number many : ℕ) → Progress → Progress
+more_by number many frame = if frame.number == number then record frame { done = frame.done + many } else frame
+
+-- the reading once the frame of this number has done so many more entries
+abbrev pub gone_on_by : Reading → (number many : ℕ) → Reading
+gone_on_by r number many = record r { frames = map (more_by number many) r.frames }

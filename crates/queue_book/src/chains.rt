@@ -1,0 +1,232 @@
+// The chunks of all queues.
+ghost use Rattle.std.specs.Prelude.{◌≡◌, ◌≢◌, ℕ, ◌+◌, ◌<◌, ◌++◌, Option, Some, None, [], ◌∷◌, drop, length, IfOk, IfSome, IfNone, OnOk, IsTrue, true, slice_get};
+ghost use Rattle.slab.specs.Slab.{slab_len};
+ghost use Rattle.queue_book.specs.Book.{Chunk, Chunks, own, is_spent, with_item, handed_on, closed, trimmed, without_first, items_of};
+ghost use Rattle.queue_book.specs.Chains.{AreChained, chunk_of, first_item, in_line, put_at, IsFront};
+
+use crate::Node;
+use slab::Slab;
+use std::alloc::Global;
+use swan_model::{NoMemory, Value, Values};
+
+/// What stands at the front of a queue once its spent chunks are dropped.
+#[derive(Clone, Copy)]
+pub enum Front {
+    /// An item.
+    Item,
+    /// A chunk without items, to which this frame pushes.
+    Open(u64),
+    /// Nothing.
+    Over,
+}
+
+/// The chunks of all queues, in chains. Contracts speak of the chunks of each queue by its number, and of where each
+/// frame's own chunks stand.
+#[derive(Drop)]
+pub struct Chains {
+    /// The first node of each queue, by the queue's number.
+    pub heads: Vec<Option<usize>>,
+    /// The nodes of all queues.
+    pub nodes: Slab<Node>,
+}
+
+impl Chains {
+    /// No queues. It takes no memory. `O(1)`.
+    pub fn new(alloc: Global) -> Chains
+        ensures none { length result.heads.items ≡ 0 }
+        ensures kept { (lines : ℕ → Chunks) → AreChained (λ n q. None) result.heads.items result.nodes lines }
+    {
+        Chains {
+            heads: Vec::new(alloc),
+            nodes: Slab::new(alloc),
+        }
+    }
+
+    /// Makes a queue of one chunk, and answers where it stands. `O(1)` amortised. Err is want of memory.
+    pub fn make(&mut self, queue: u32, owner: u64, items: Values) -> Result<usize, NoMemory>
+        requires number { queue ≡ length self.old.heads.items }
+        ensures more { OnOk result (length self.new.heads.items ≡ length self.old.heads.items + 1) }
+        ensures made { IfOk result (λ key. (at : ℕ → ℕ → Option ℕ) (lines : ℕ → Chunks) → AreChained at self.old.heads.items self.old.nodes lines
+            → at owner queue ≡ None
+            → AreChained (put_at owner queue (Some key) at) self.new.heads.items self.new.nodes (in_line queue (λ old. own owner items ∷ []) lines)) }
+    {
+        let key = self.nodes.insert(Node::first(queue, owner, items))?;
+        self.heads.push(Some(key))?;
+        Ok(key)
+    }
+
+    /// Pushes an item to a chunk. `O(1)` amortised. Err is want of memory.
+    pub fn push(&mut self, key: usize, value: Value) -> Result<(), NoMemory>
+        ensures heads { self.new.heads.items ≡ self.old.heads.items }
+        ensures pushed { OnOk result ((at : ℕ → ℕ → Option ℕ) (lines : ℕ → Chunks) (owner queue : ℕ) → AreChained at self.old.heads.items self.old.nodes lines
+            → at owner queue ≡ Some key
+            → AreChained at self.new.heads.items self.new.nodes (in_line queue (with_item owner value) lines)) }
+    {
+        let Some(node) = self.nodes.get_mut(key) else {
+            return Ok(());
+        };
+        node.push(value)?;
+        Ok(())
+    }
+
+    /// Gives a chunk to a child, and its old owner an empty one right behind; answers where that stands.
+    /// `O(1)` amortised. Err is want of memory.
+    pub fn hand_on(
+        &mut self,
+        alloc: Global,
+        key: usize,
+        parent: u64,
+        child: u64,
+    ) -> Result<usize, NoMemory>
+        requires two { parent ≢ child }
+        ensures heads { self.new.heads.items ≡ self.old.heads.items }
+        ensures handed { IfOk result (λ new. (at : ℕ → ℕ → Option ℕ) (lines : ℕ → Chunks) (queue : ℕ) → AreChained at self.old.heads.items self.old.nodes lines
+            → at parent queue ≡ Some key → at child queue ≡ None
+            → AreChained (put_at parent queue (Some new) (put_at child queue (Some key) at)) self.new.heads.items self.new.nodes
+            (in_line queue (handed_on parent child) lines)) }
+    {
+        let behind = match self.nodes.get(key) {
+            Some(node) => node.behind(alloc, parent),
+            None => return Ok(key),
+        };
+        let new = self.nodes.insert(behind)?;
+        if let Some(node) = self.nodes.get_mut(key) {
+            node.hand_on(child, new);
+        }
+        Ok(new)
+    }
+
+    /// Nobody pushes to a chunk any more. `O(1)`.
+    pub fn close(&mut self, key: usize)
+        ensures heads { self.new.heads.items ≡ self.old.heads.items }
+        ensures closed { (at : ℕ → ℕ → Option ℕ) (lines : ℕ → Chunks) (owner queue : ℕ) → AreChained at self.old.heads.items self.old.nodes lines
+            → at owner queue ≡ Some key
+            → AreChained (put_at owner queue None at) self.new.heads.items self.new.nodes (in_line queue (closed owner) lines) }
+    {
+        if let Some(node) = self.nodes.get_mut(key) {
+            node.close();
+        }
+    }
+
+    /// What stands at the front of a queue, and None where that is a spent chunk. `O(1)`.
+    fn front(&self, queue: u32) -> Option<Front>
+        requires known { queue < length self.now.heads.items }
+        ensures stands { IfSome result (λ front. (at : ℕ → ℕ → Option ℕ) (lines : ℕ → Chunks) → AreChained at self.now.heads.items self.now.nodes lines
+            → IsFront (lines queue) front × (trimmed (lines queue) ≡ lines queue)) }
+        ensures spent { IfNone result ((at : ℕ → ℕ → Option ℕ) (lines : ℕ → Chunks) → AreChained at self.now.heads.items self.now.nodes lines
+            → (chunk : Chunk) × (rest : Chunks) × (lines queue ≡ chunk ∷ rest) × (is_spent chunk ≡ true)) }
+    {
+        let Some(key) = self.heads[queue as usize] else {
+            return Some(Front::Over);
+        };
+        let Some(node) = self.nodes.get(key) else {
+            return Some(Front::Over);
+        };
+        if !node.is_empty() {
+            return Some(Front::Item);
+        }
+        match node.owner() {
+            Some(owner) => Some(Front::Open(owner)),
+            None => None,
+        }
+    }
+
+    /// Drops the first chunk of a queue, where there is one. `O(1)`; it takes no memory.
+    fn drop_first(&mut self, queue: u32) -> Option<Node>
+        requires known { queue < length self.old.heads.items }
+        ensures same { length self.new.heads.items ≡ length self.old.heads.items }
+        ensures fewer { IfSome result (λ node. slab_len self.new.nodes + 1 ≡ slab_len self.old.nodes) }
+        ensures first { IfSome result (λ node. (at : ℕ → ℕ → Option ℕ) (lines : ℕ → Chunks) → AreChained at self.old.heads.items self.old.nodes lines
+            → lines queue ≡ chunk_of node ∷ drop 1 (lines queue)) }
+        ensures dropped { IfSome result (λ node. (at : ℕ → ℕ → Option ℕ) (lines : ℕ → Chunks) → AreChained at self.old.heads.items self.old.nodes lines
+            → node.owner ≡ None
+            → AreChained at self.new.heads.items self.new.nodes (in_line queue (λ chunks. drop 1 chunks) lines)) }
+        ensures unowned { IfSome result (λ node. (at : ℕ → ℕ → Option ℕ) (lines : ℕ → Chunks) → AreChained at self.old.heads.items self.old.nodes lines
+            → ((number : ℕ) → at number queue ≡ None) → node.owner ≡ None) }
+        ensures none { IfNone result ((at : ℕ → ℕ → Option ℕ) (lines : ℕ → Chunks) → AreChained at self.old.heads.items self.old.nodes lines
+            → (lines queue ≡ []) × AreChained at self.new.heads.items self.new.nodes lines) }
+    {
+        let Some(key) = self.heads[queue as usize] else {
+            return None;
+        };
+        let Some(node) = self.nodes.try_remove(key) else {
+            return None;
+        };
+        self.heads[queue as usize] = node.next();
+        Some(node)
+    }
+
+    /// Drops the spent chunks at the front of a queue, and says what stands there then. `O(1)` amortised;
+    /// it takes no memory.
+    pub fn trim(&mut self, queue: u32) -> Front
+        requires known { queue < length self.old.heads.items }
+        ensures same { length self.new.heads.items ≡ length self.old.heads.items }
+        ensures trimmed { (at : ℕ → ℕ → Option ℕ) (lines : ℕ → Chunks) → AreChained at self.old.heads.items self.old.nodes lines
+            → AreChained at self.new.heads.items self.new.nodes (in_line queue trimmed lines) × IsFront (trimmed (lines queue)) result }
+    {
+        loop {
+            if let Some(front) = self.front(queue) {
+                return front;
+            }
+            let Some(_spent) = self.drop_first(queue) else {
+                return Front::Over;
+            };
+        }
+    }
+
+    /// Takes the first item of the first chunk of a queue. `O(1)`; it takes no memory.
+    pub fn take_first(&mut self, queue: u32) -> Option<Value>
+        requires known { queue < length self.old.heads.items }
+        ensures same { length self.new.heads.items ≡ length self.old.heads.items }
+        ensures item { (at : ℕ → ℕ → Option ℕ) (lines : ℕ → Chunks) → AreChained at self.old.heads.items self.old.nodes lines
+            → result ≡ first_item (lines queue) }
+        ensures taken { (at : ℕ → ℕ → Option ℕ) (lines : ℕ → Chunks) → AreChained at self.old.heads.items self.old.nodes lines
+            → AreChained at self.new.heads.items self.new.nodes (in_line queue without_first lines) }
+    {
+        let Some(key) = self.heads[queue as usize] else {
+            return None;
+        };
+        match self.nodes.get_mut(key) {
+            Some(node) => node.pop(),
+            None => None,
+        }
+    }
+
+    /// Gives up all chunks of a queue, of which none is owned. `O(n)` for what is given up; it takes no memory.
+    pub fn give_up(&mut self, queue: u32)
+        requires known { queue < length self.old.heads.items }
+        ensures same { length self.new.heads.items ≡ length self.old.heads.items }
+        ensures given_up { (at : ℕ → ℕ → Option ℕ) (lines : ℕ → Chunks) → AreChained at self.old.heads.items self.old.nodes lines
+            → ((number : ℕ) → at number queue ≡ None)
+            → AreChained at self.new.heads.items self.new.nodes (in_line queue (λ chunks. []) lines) }
+    {
+        while let Some(_node) = self.drop_first(queue) {}
+    }
+
+    /// Takes all items of a queue, and gives up its chunks, of which none is owned. `O(n)` for n items. Err is want of
+    /// memory.
+    pub fn take_all(&mut self, alloc: Global, queue: u32) -> Result<Values, NoMemory>
+        requires known { queue < length self.old.heads.items }
+        ensures same { OnOk result (length self.new.heads.items ≡ length self.old.heads.items) }
+        ensures items { IfOk result (λ items. (at : ℕ → ℕ → Option ℕ) (lines : ℕ → Chunks) → AreChained at self.old.heads.items self.old.nodes lines
+            → ((number : ℕ) → at number queue ≡ None) → items ≡ items_of (lines queue)) }
+        ensures taken { OnOk result ((at : ℕ → ℕ → Option ℕ) (lines : ℕ → Chunks) → AreChained at self.old.heads.items self.old.nodes lines
+            → ((number : ℕ) → at number queue ≡ None)
+            → AreChained at self.new.heads.items self.new.nodes (in_line queue (λ chunks. []) lines)) }
+    {
+        let mut items = Values::new(alloc);
+        while let Some(mut node) = self.drop_first(queue) {
+            node.move_to(&mut items)?;
+        }
+        Ok(items)
+    }
+
+    /// Gives up all queues.
+    pub fn clear(&mut self)
+        ensures none { length self.new.heads.items ≡ 0 }
+        ensures kept { (lines : ℕ → Chunks) → AreChained (λ n q. None) self.new.heads.items self.new.nodes lines }
+    {
+        self.heads.clear();
+        self.nodes.clear();
+    }
+}

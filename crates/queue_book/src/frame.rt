@@ -1,0 +1,79 @@
+// What is kept of an active frame.
+ghost use Rattle.std.specs.Prelude.{◌≡◌, ℕ, ◌+◌, ◌<◌, ◌^◌, Some, None, [], OnOk, true, false};
+ghost use Rattle.queue_book.specs.Kept.{place_in};
+ghost use Rattle.queue_book.specs.Live.{with_place};
+
+use std::alloc::Global;
+use std::collections::BTreeMap;
+use std::marker::Model;
+use swan_model::NoMemory;
+
+/// Where a frame's own chunk of a queue stands.
+#[derive(Clone, Copy)]
+pub struct Place {
+    /// The key of its node.
+    pub key: usize,
+    /// Whether the frame made the queue.
+    pub is_maker: bool,
+    /// Whether the frame may push to the queue.
+    pub pushes: bool,
+}
+
+/// An active frame: how many queue deeds it has done, whether its ends are lent, and its queues.
+#[derive(Drop)]
+pub struct Frame {
+    /// How many queue deeds it has done.
+    pub deeds: u64,
+    /// Whether its ends are lent.
+    pub is_lent: bool,
+    /// Its own chunk of each queue that it has.
+    pub places: BTreeMap<u32, Place>,
+}
+
+impl Model for Frame {
+    ghost use Rattle.queue_book.specs.Kept.{Kept};
+
+    ghost Value = { Kept };
+
+    ghost view = { λ frame. record { deeds = frame.deeds; is_lent = frame.is_lent; places = frame.places.entries } };
+}
+
+impl Frame {
+    /// A frame that has done nothing and has no queue. It takes no memory. `O(1)`.
+    pub fn new(alloc: Global) -> Frame
+        ensures { result ≡ record { deeds = 0; is_lent = false; places = [] } }
+    {
+        Frame {
+            deeds: 0,
+            is_lent: false,
+            places: BTreeMap::new(alloc),
+        }
+    }
+
+    /// Notes where the frame's own chunk of a queue stands. `O(log n)`. Err is want of memory.
+    pub fn put(&mut self, queue: u32, place: Place) -> Result<(), NoMemory>
+        ensures { OnOk result (self.new ≡ with_place queue place self.old) }
+    {
+        self.places.insert(queue, place)?;
+        Ok(())
+    }
+
+    /// Where the frame's own chunk of a queue stands. `O(log n)`.
+    pub fn place(&self, queue: u32) -> Option<Place>
+        ensures { result ≡ place_in self.now.places queue }
+    {
+        self.places.get(&queue).copied()
+    }
+
+    /// The places of the frame's own chunks. `O(1)`.
+    pub fn into_places(self) -> BTreeMap<u32, Place>
+        ensures { result.entries ≡ self.places }
+    {
+        let Frame {
+            deeds: _,
+            is_lent: _,
+            places,
+        } = self;
+        places
+    }
+}

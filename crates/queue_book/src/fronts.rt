@@ -1,0 +1,102 @@
+// What stands at the front of a queue for a frame that pops it.
+ghost use Rattle.std.specs.Prelude.{◌≡◌, ℕ, ◌<◌, Option, length};
+ghost use Rattle.queue_book.specs.Book.{Chunks};
+ghost use Rattle.queue_book.specs.Chains.{AreChained};
+ghost use Rattle.queue_book.specs.Fronts.{IsFrontTold, IsTurnTold, first_open, met_or, open_or};
+ghost use Rattle.queue_book.specs.Live.{is_pusher};
+
+use crate::chains::{Chains, Front};
+use crate::live_frames::LiveFrames;
+use crate::{Tested, WaitFor};
+use pop_order::PopTurns;
+
+/// Whom a walk along the chunks of a queue meets at one of them.
+#[derive(Clone, Copy)]
+pub enum Met {
+    /// The frame that walks.
+    Own,
+    /// Another one, which may push.
+    Pusher(u64),
+    /// Nobody who may push.
+    Nobody,
+}
+
+/// What stands at the front of a queue for a frame that pops it. `O(log n)` for n frames, amortised, where an item is
+/// there, or the first owner may push; so it is where there is a script. Else also a look-up for each owner that
+/// only pops, up to the frame's own chunk. It takes no memory.
+pub fn front(
+    turns: &PopTurns,
+    frames: &LiveFrames,
+    chains: &mut Chains,
+    frame: u64,
+    queue: u32,
+) -> Tested
+    requires known { queue < length chains.old.heads.items }
+    ensures same { length chains.new.heads.items ≡ length chains.old.heads.items }
+    ensures turn { IsTurnTold turns.now frame queue result }
+    ensures told { (at : ℕ → ℕ → Option ℕ) (lines : ℕ → Chunks) → AreChained at chains.old.heads.items chains.old.nodes lines
+        → IsFrontTold frames.now at chains.new.heads.items chains.new.nodes lines frame queue result }
+{
+    if let Some(child) = turns.popping_child(frame, queue) {
+        return Tested::NotYet(WaitFor::PopTurn(child));
+    }
+    if let Front::Item = chains.trim(queue) {
+        return Tested::Holds;
+    }
+    match first_pusher(frames, chains, frame, queue) {
+        Some(owner) => Tested::NotYet(WaitFor::Pusher(owner)),
+        None => Tested::Empty,
+    }
+}
+
+/// The first owner of a chunk before the frame's own one that may push to the queue. A look-up for each owner up to it.
+fn first_pusher(frames: &LiveFrames, chains: &Chains, frame: u64, queue: u32) -> Option<u64>
+    requires known { queue < length chains.now.heads.items }
+    ensures { (at : ℕ → ℕ → Option ℕ) (lines : ℕ → Chunks) → AreChained at chains.now.heads.items chains.now.nodes lines
+        → result ≡ first_open frames.now frame queue (lines queue) }
+{
+    let mut next = chains.heads[queue as usize];
+    for _turn in 0..chains.nodes.len() {
+        let Some(key) = next else {
+            return None;
+        };
+        let Some(node) = chains.nodes.get(key) else {
+            return None;
+        };
+        match meet(frames, node.owner(), frame, queue) {
+            Met::Own => return None,
+            Met::Pusher(owner) => return Some(owner),
+            Met::Nobody => next = node.next(),
+        }
+    }
+    None
+}
+
+/// Whom a walk meets at a chunk of this owner. A look-up.
+fn meet(frames: &LiveFrames, owner: Option<u64>, frame: u64, queue: u32) -> Met
+    ensures { (rest : Option ℕ) → open_or frames.now frame queue owner rest ≡ met_or result rest }
+{
+    let Some(owner) = owner else {
+        return Met::Nobody;
+    };
+    if owner == frame {
+        return Met::Own;
+    }
+    if may_push(frames, owner, queue) {
+        return Met::Pusher(owner);
+    }
+    Met::Nobody
+}
+
+/// Whether a frame may push to a queue. `O(log n)`.
+fn may_push(frames: &LiveFrames, number: u64, queue: u32) -> bool
+    ensures { result ≡ is_pusher frames.now number queue }
+{
+    match frames.get(number) {
+        Some(kept) => match kept.place(queue) {
+            Some(place) => place.pushes,
+            None => false,
+        },
+        None => false,
+    }
+}

@@ -1,0 +1,116 @@
+// The active frames by number.
+ghost use Rattle.std.specs.Prelude.{◌≡◌, ◌≢◌, ℕ, ◌+◌, ◌<◌, Some, None, [], OnOk, IfSome, false};
+ghost use Rattle.std.specs.Option.{option_copied, option_map};
+ghost use Rattle.queue_book.specs.Asks.{DEEDS_MOST};
+ghost use Rattle.queue_book.specs.Live.{kept_of, with_place, IsOne};
+ghost use Rattle.queue_book.specs.Kept.{Kept};
+
+use crate::{Frame, Place};
+use std::alloc::Global;
+use std::collections::BTreeMap;
+use swan_model::NoMemory;
+
+/// The active frames. The root, which is live before any memory is taken, stands beside the others.
+#[derive(Drop)]
+pub struct LiveFrames {
+    /// The root, where it is active.
+    pub root: Option<Frame>,
+    /// The others.
+    pub others: BTreeMap<u64, Frame>,
+}
+
+impl LiveFrames {
+    /// The root alone, which has done nothing and has no queue. It takes no memory. `O(1)`.
+    pub fn new(alloc: Global) -> LiveFrames
+        ensures root { kept_of result 0 ≡ Some (record { deeds = 0; is_lent = false; places = [] }) }
+        ensures others { (number : ℕ) → number ≢ 0 → kept_of result number ≡ None }
+    {
+        LiveFrames {
+            root: Some(Frame::new(alloc)),
+            others: BTreeMap::new(alloc),
+        }
+    }
+
+    /// The active frame of a number. `O(log n)`.
+    pub fn get(&self, number: u64) -> Option<&Frame>
+        ensures { option_copied result ≡ kept_of self.now number }
+    {
+        if number == 0 {
+            self.root.as_ref()
+        } else {
+            self.others.get(&number)
+        }
+    }
+
+    /// Counts one more queue deed of a frame. `O(log n)`.
+    pub fn count_deed(&mut self, number: u64)
+        requires room { (kept : Kept) → kept_of self.old number ≡ Some kept → kept.deeds < DEEDS_MOST }
+        ensures { IsOne self.old self.new number (option_map (λ (kept : Kept). record kept { deeds = kept.deeds + 1 }) (kept_of self.old number)) }
+    {
+        if number == 0 {
+            if let Some(frame) = &mut self.root {
+                frame.deeds += 1;
+            }
+        } else if let Some(frame) = self.others.get_mut(&number) {
+            frame.deeds += 1;
+        }
+    }
+
+    /// Notes whether the ends of a frame are lent. `O(log n)`.
+    pub fn set_lent(&mut self, number: u64, is_lent: bool)
+        ensures { IsOne self.old self.new number (option_map (λ (kept : Kept). record kept { is_lent = is_lent }) (kept_of self.old number)) }
+    {
+        if number == 0 {
+            if let Some(frame) = &mut self.root {
+                frame.is_lent = is_lent;
+            }
+        } else if let Some(frame) = self.others.get_mut(&number) {
+            frame.is_lent = is_lent;
+        }
+    }
+
+    /// Notes where a frame's own chunk of a queue stands. `O(log n)`. Err is want of memory.
+    pub fn put(&mut self, number: u64, queue: u32, place: Place) -> Result<(), NoMemory>
+        ensures { OnOk result (IsOne self.old self.new number (option_map (with_place queue place) (kept_of self.old number))) }
+    {
+        if number == 0 {
+            if let Some(frame) = &mut self.root {
+                frame.put(queue, place)?;
+            }
+            return Ok(());
+        }
+        if let Some(frame) = self.others.get_mut(&number) {
+            frame.put(queue, place)?;
+        }
+        Ok(())
+    }
+
+    /// Adds a frame. `O(log n)`. Err is want of memory.
+    pub fn add(&mut self, number: u64, frame: Frame) -> Result<(), NoMemory>
+        requires other { number ≢ 0 }
+        ensures { OnOk result (IsOne self.old self.new number (Some frame)) }
+    {
+        self.others.insert(number, frame)?;
+        Ok(())
+    }
+
+    /// Takes a frame out. `O(log n)`; it takes no memory.
+    pub fn remove(&mut self, number: u64) -> Option<Frame>
+        ensures frame { result ≡ kept_of self.old number }
+        ensures gone { IsOne self.old self.new number None }
+    {
+        if number == 0 {
+            self.root.take()
+        } else {
+            self.others.remove(&number)
+        }
+    }
+
+    /// Takes all frames out.
+    pub fn clear(&mut self)
+        ensures { (number : ℕ) → kept_of self.new number ≡ None }
+    {
+        self.root = None;
+        self.others.clear();
+    }
+}
