@@ -10,7 +10,7 @@ use std::process::Abort;
 use std::test::Fail;
 
 /// A text with one line that stands at the top level, in a task, or after its `do`.
-#[derive(Clone, Copy, PartialEq, Eq, Debug)]
+#[derive(Clone, Copy)]
 pub enum At {
     Top,
     Task,
@@ -44,11 +44,12 @@ pub fn kind_named(name: &str) -> Option<JobKind> {
 
 /// A text with a line at a place.
 pub fn text_with(alloc: Global, at: At, line: &str) -> Result<String, AllocError> {
-    match at {
-        At::Top => format!(in alloc; "swan 1\n{line}\ntask t\n  do\nend\n"),
-        At::Task => format!(in alloc; "swan 1\ntask t\n{line}\n  do\nend\n"),
-        At::Do => format!(in alloc; "swan 1\ntask t\n  do\n{line}\nend\n"),
-    }
+    let text = match at {
+        At::Top => "swan 1\n@\ntask t\n  do\nend\n",
+        At::Task => "swan 1\ntask t\n@\n  do\nend\n",
+        At::Do => "swan 1\ntask t\n  do\n@\nend\n",
+    };
+    text.replace(alloc, "@", line)
 }
 
 /// The number of that line.
@@ -347,22 +348,27 @@ fn limits_go_by_what_would_be_one_more(rt: HostRuntime) -> Result<(), Fail> {
     Ok(())
 }
 
-/// Notes, indentation and spaces.
+/// Notes, indentation and spaces, with a mistake or without one where @ stands.
+const SPACED: &str =
+    "  swan   1 \n   # top  \n\n object   x   int\n#\ntask t\n# in\n   \nvar v int\n\
+    #before do\ndo\n# in do\nif   v\n# in if\nwhile -1\n# in while\nend\n#else next\nelse\n\n\
+    # after else\nend\nspawn  1   t   \"  \"  -@\n#last\nend\n#between\ntask u\ndo\nend\n  #end";
+
+/// What is written of it.
+const CANONICAL: &str =
+    "swan 1\n# top\n\nobject x int\n#\ntask t\n  # in\n\n  var v int\n  #before do\n\
+    \x20 do\n  # in do\n  if v\n    # in if\n    while -1\n      # in while\n    end\n    \
+    #else next\n  else\n\n    # after else\n  end\n  spawn 1 t \"  \" -10\n  #last\nend\n\
+    #between\ntask u\n  do\nend\n#end\n";
+
+/// What is refused names its line, and what is accepted is written in one way.
 #[test]
 fn canonical_text(rt: HostRuntime) -> Result<(), Fail> {
-    let text = "  swan   1 \n   # top  \n\n object   x   int\n#\ntask t\n# in\n   \nvar v int\n\
-        #before do\ndo\n# in do\nif   v\n# in if\nwhile -1\n# in while\nend\n#else next\nelse\n\n\
-        # after else\nend\nspawn  1   t   \"  \"  -0x\n#last\nend\n#between\ntask u\ndo\nend\n  #end";
-    let refused = refusal(&rt, rt.alloc(), text.as_bytes());
+    let text = SPACED.replace(rt.alloc(), "@", "0x")?;
+    let refused = refusal(&rt, rt.alloc(), text.as_str().as_bytes());
     assert_eq!(rt; refused, Some((23, JobKind::BadNumber)));
-    let text = "  swan   1 \n   # top  \n\n object   x   int\n#\ntask t\n# in\n   \nvar v int\n\
-        #before do\ndo\n# in do\nif   v\n# in if\nwhile -1\n# in while\nend\n#else next\nelse\n\n\
-        # after else\nend\nspawn  1   t   \"  \"  -10\n#last\nend\n#between\ntask u\ndo\nend\n  #end";
-    let expected = "swan 1\n# top\n\nobject x int\n#\ntask t\n  # in\n\n  var v int\n  #before do\n\
-        \x20 do\n  # in do\n  if v\n    # in if\n    while -1\n      # in while\n    end\n    \
-        #else next\n  else\n\n    # after else\n  end\n  spawn 1 t \"  \" -10\n  #last\nend\n\
-        #between\ntask u\n  do\nend\n#end\n";
-    let written = rewritten(&rt, rt.alloc(), text);
-    assert_eq!(rt; str::from_utf8(written.as_slice()).ok(), Some(expected));
+    let text = SPACED.replace(rt.alloc(), "@", "10")?;
+    let written = rewritten(&rt, rt.alloc(), text.as_str());
+    assert_eq!(rt; str::from_utf8(written.as_slice()).ok(), Some(CANONICAL));
     Ok(())
 }
