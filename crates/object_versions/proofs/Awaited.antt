@@ -1,7 +1,7 @@
 -- Which versions a frame waits for.
-use Rattle.std.proofs.Common.{◌≡◌, ℕ, ◌<◌, ◌≤◌, ◌+◌, Option, None, Some, IsSome, Result, Ok, Err, IfOk, IfErr, true, refl, sym, ap, ◌∙◌, subst, arith, ⊎_elim}
-use Rattle.std.proofs.lemmas.Bool.{cases_eq, false≢true}
-use Rattle.slab.specs.Slab.{Slab, get}
+use Rattle.std.proofs.Common.{◌≡◌, ℕ, ◌<◌, ◌≤◌, Option, None, Some, IsSome, Result, Ok, Err, IfOk, IfErr, true, refl, sym, ap, ◌∙◌, subst, arith, ⊎_elim}
+use Rattle.std.proofs.lemmas.Bool.{cases_eq}
+use Rattle.slab.specs.Slab.{Slab}
 use Rattle.swan_model.specs.declared.rights.Mode.{Mode}
 use Rattle.swan_model.specs.declared.rights.Mode.TheVariants.{In, Out}
 use Rattle.swan_model.specs.declared.value.Value.{Value}
@@ -9,10 +9,10 @@ use Rattle.swan_model.specs.Rights.{allows}
 use Rattle.swan_model.specs.Versions.{Version, settled, owed, owing as owing_of, Placed, Awaits, placed_at, Holds, MayGet}
 use Rattle.object_versions.specs.declared.node.Node.{Node}
 use Rattle.object_versions.specs.declared.place.Place.{Place}
-use Rattle.object_versions.specs.Store.{Entries, place_at, told_of, version_of, version_at, object_at, given_of, placed_of, versions_of, uses}
+use Rattle.object_versions.specs.Store.{Entries, place_at, version_at, object_at, given_of, placed_of, versions_of, uses}
 use Rattle.object_versions.specs.Whole.{IsWhole, MayGive}
-use Rattle.object_versions.specs.Waiting.{AwaitsAt, AreThere}
-use Rattle.object_versions.proofs.Counts.{used, uses_at, present_used, given_used}
+use Rattle.object_versions.specs.Waiting.{AwaitsAt}
+use Rattle.object_versions.proofs.Counts.{uses_at, present_used, given_used}
 use Rattle.object_versions.proofs.Seeing.{seen_some, kept_of}
 
 pub settled_owes : (value : Value) (frame : ℕ) → settled value ≡ owed frame → ⊥
@@ -24,42 +24,24 @@ some_is a b e = cc
 pub is_some : {A : Type 0} (o : Option A) (x : A) → o ≡ Some x → IsSome o
 is_some {A} o x e = let P : Option A → Type 0 = λ y. IsSome y in subst P (sym e) refl
 
--- what is read of a node that is there
-pub version_by : (nodes : Slab Node) (key : ℕ) (version : Version) → IsSome (get nodes key) → ((node : Node) → get nodes key ≡ Some node → version_of node.state ≡ version)
-    → version_at nodes key ≡ version
-version_by nodes key version there all = by (get nodes key) refl there where
-  by : (o : Option Node) → get nodes key ≡ o → IsSome o → version_at nodes key ≡ version
-  by None is some = absurd (false≢true some)
-  by (Some node) is some = ap (λ o. (told_of o).1) is ∙ all node is
-
-pub is_there : (entries : Entries) (nodes : Slab Node) (made : ℕ) (held : ℕ → ℕ) (key : ℕ) → IsWhole entries nodes made held → 0 < uses key entries → IsSome (get nodes key)
-is_there entries nodes made held key whole some =
-    let found = used nodes (λ k. uses k entries + held k) key whole.counted (omega arith) in is_some (get nodes key) found.node found.is
-
-pub are_there : (entries : Entries) (nodes : Slab Node) (made : ℕ) → IsWhole entries nodes made (λ _. 0) → AreThere entries nodes
-are_there entries nodes made whole = record {
-  there = λ frame place key has stands given.
-      is_there entries nodes made (λ _. 0) key whole (let most = uses_at entries key frame place has stands in let here = given_used has key given in omega arith);
-}
-
 -- ---- at one place
 
-module _ (entries : Entries) (nodes : Slab Node) (there : AreThere entries nodes) (frame place : ℕ) (has : Place) (key : ℕ)
+module _ (entries : Entries) (nodes : Slab Node) (frame place : ℕ) (has : Place) (key : ℕ)
     (stands : place_at entries frame place ≡ Some has) (given : has.given ≡ Some key) where
-  pub awaits_here : (owing : ℕ) → ((node : Node) → get nodes key ≡ Some node → version_of node.state ≡ owed owing) → AwaitsAt entries nodes frame place owing
-  awaits_here owing all = record {
+  pub awaits_here : (owing : ℕ) → version_at nodes key ≡ owed owing → AwaitsAt entries nodes frame place owing
+  awaits_here owing owes = record {
     has = has;
     key = key;
     stands = stands;
     given = given;
-    owes = version_by nodes key (owed owing) (there.there frame place key has stands given) all;
+    owes = owes;
   }
 
-  pub awaits_none : (value : Value) → ((node : Node) → get nodes key ≡ Some node → version_of node.state ≡ settled value) → (owing : ℕ) → AwaitsAt entries nodes frame place owing → ⊥
-  awaits_none value all owing waits =
+  pub awaits_none : (value : Value) → version_at nodes key ≡ settled value → (owing : ℕ) → AwaitsAt entries nodes frame place owing → ⊥
+  awaits_none value reads owing waits =
       let this : waits.has ≡ has = some_is waits.has has (sym waits.stands ∙ stands) in
       let same : waits.key ≡ key = some_is waits.key key (sym waits.given ∙ ap (λ o. o.given) this ∙ given) in
-      settled_owes value owing (sym (version_by nodes key (settled value) (there.there frame place key has stands given) all) ∙ ap (version_at nodes) (sym same) ∙ waits.owes)
+      settled_owes value owing (sym reads ∙ ap (version_at nodes) (sym same) ∙ waits.owes)
 
 -- ---- from place to place
 
@@ -152,15 +134,13 @@ map_err (Ok x) P Q f h = tt
 map_err (Err e) P Q f h = f e h
 
 -- what is read of the node of what contracts see
-pub present_by : (entries : Entries) (nodes : Slab Node) (made frame place : ℕ) (has : Place) (version : Version) → IsWhole entries nodes made (λ _. 0)
-    → place_at entries frame place ≡ Some has → ((node : Node) → get nodes has.present ≡ Some node → version_of node.state ≡ version)
+pub present_by : (entries : Entries) (nodes : Slab Node) (made frame place : ℕ) (has : Place) (version : Version)
+    → place_at entries frame place ≡ Some has → version_at nodes has.present ≡ version
     → (object : Placed) → placed_at (versions_of entries nodes made) frame place ≡ Some object → object.present ≡ version
-present_by entries nodes made frame place has version whole stands all object seen =
+present_by entries nodes made frame place has version stands reads object seen =
     let kept = kept_of entries nodes made frame place object seen in
     let this : kept.has ≡ has = some_is kept.has has (sym kept.stands ∙ stands) in
-    let some : 0 < uses has.present entries = let most = uses_at entries has.present frame place has stands in let here = present_used has in omega arith in
-    ap (λ o. o.present) kept.is ∙ ap (λ h. version_at nodes h.present) this
-    ∙ version_by nodes has.present version (is_there entries nodes made (λ _. 0) has.present whole some) all
+    ap (λ o. o.present) kept.is ∙ ap (λ h. version_at nodes h.present) this ∙ reads
 
 pub absent : (entries : Entries) (nodes : Slab Node) (made frame place : ℕ) (object : Placed) → place_at entries frame place ≡ None
     → placed_at (versions_of entries nodes made) frame place ≡ Some object → ⊥

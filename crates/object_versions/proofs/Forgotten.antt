@@ -1,5 +1,6 @@
 -- A version that a frame was given, and that has its value, is given up: no contract sees it any more.
-use Rattle.std.proofs.Common.{◌≡◌, ℕ, ◌+◌, ◌<◌, None, Some, Result, Ok, Err, OnOk, map, refl, sym, ap, ◌∙◌, subst, arith}
+use Rattle.std.proofs.Common.{◌≡◌, ℕ, ◌+◌, ◌<◌, Option, None, Some, IsSome, Result, Ok, Err, OnOk, map, refl, sym, ap, ◌∙◌, subst, arith}
+use Rattle.std.proofs.lemmas.Bool.{false≢true}
 use Rattle.std.proofs.lemmas.Map.Steps.{set_value_same}
 use Rattle.std.specs.BTreeMap.{is_at}
 use Rattle.std.specs.Map.{set_value, keys_of}
@@ -10,16 +11,16 @@ use Rattle.swan_model.specs.declared.value.Value.{Value}
 use Rattle.swan_model.specs.Versions.{settled, owed, owing, place_cmp, after_access}
 use Rattle.object_versions.specs.declared.node.Node.{Node}
 use Rattle.object_versions.specs.declared.place.Place.{Place}
-use Rattle.object_versions.specs.Store.{Entries, place_at, version_of, version_at, given_of, placed_of, seen, versions_of, one, one_of, uses_of, uses, released}
+use Rattle.object_versions.specs.Store.{Entries, place_at, version_at, given_of, KeepsOwed, placed_of, seen, versions_of, one, one_of, uses_of, released}
 use Rattle.object_versions.specs.Whole.{IsFit, HasOwing, IsWhole}
-use Rattle.object_versions.proofs.Counts.{one_self, one_other, uses_at, given_used}
-use Rattle.object_versions.proofs.Awaited.{version_by, is_there}
+use Rattle.object_versions.proofs.Counts.{one_self, one_other, uses_at}
+use Rattle.object_versions.proofs.Awaited.{is_some}
 use Rattle.object_versions.proofs.Steps.{change_in}
 use Rattle.object_versions.proofs.References.{released_whole, released_same}
 use Rattle.object_versions.proofs.Seeing.{seen_set, seen_some, versions_same}
 
 module _ (entries later : Entries) (old new : Slab Node) (made f p key : ℕ) (was : Place) (value : Value) (whole : IsWhole entries old made (λ _. 0))
-    (stands : place_at entries f p ≡ Some was) (given : was.given ≡ Some key) (all : (node : Node) → get old key ≡ Some node → version_of node.state ≡ settled value)
+    (stands : place_at entries f p ≡ Some was) (given : was.given ≡ Some key) (reads : version_at old key ≡ settled value)
     (set : later ≡ set_value (is_at (place_cmp (f, p))) entries (record was { given = None })) (sorted : IsStrictlySortedBy place_cmp (keys_of later))
     (release : (node : Node) → get old key ≡ Some node → Updates old new key (released node)) where
   abbrev less : Place
@@ -36,11 +37,6 @@ module _ (entries later : Entries) (old new : Slab Node) (made f p key : ℕ) (w
     reads = λ k is. absurd (cc);
     owes = λ k is. let owes = before.owes k is in record { same = owes.same; may = owes.may; by = owes.by };
   }
-
-  reads : version_at old key ≡ settled value
-  reads =
-      let some : 0 < uses key entries = let most = uses_at entries key f p was stands in let here = given_used was key given in omega arith in
-      version_by old key (settled value) (is_there entries old made (λ _. 0) key whole some) all
 
   one_given : (k : ℕ) → one_of k was.given ≡ one k key
   one_given k = ap (one_of k) given
@@ -84,6 +80,19 @@ module _ (entries later : Entries) (old new : Slab Node) (made f p key : ℕ) (w
       ∙ versions_same old new after made (λ k h. released_same after old new made (λ k. one k key) (λ _. 0) key with_less some_held release
       last_held (λ k apart. sym (one_other k key apart)) k (omega arith))
       ∙ seen_after
+
+-- what is left of what was given is owed
+pub left_owed : (E : Type 0) (old new : Slab Node) (was left : Place) → (given_of old was.given ≡ None → left.given ≡ None)
+    → (KeepsOwed old was.given → (left ≡ was) × E × (new ≡ old)) → KeepsOwed new left.given
+left_owed E old new was left given_up kept = by (given_of old was.given) refl where
+  by : (o : Option ℕ) → given_of old was.given ≡ o → KeepsOwed new left.given
+  by None is = λ some. let P : Option ℕ → Type 0 = λ o. IsSome o in absurd (false≢true (subst P (given_up is) some))
+  by (Some frame) is =
+      let owes : KeepsOwed old was.given = λ _. is_some (given_of old was.given) frame is in
+      let same = kept owes in
+      let P : Place → Type 0 = λ o. KeepsOwed old o.given in
+      let Q : Slab Node → Type 0 = λ nodes. KeepsOwed nodes left.given in
+      subst Q (sym same.2) (subst P (sym same.0) owes)
 
 -- ---- and then the object is given to a child
 

@@ -17,6 +17,7 @@ pub mod Forgotten
 pub mod Overwriting
 pub mod Others
 pub mod Given
+pub mod GivingUp
 pub mod GivingOut
 pub mod GivingInOut
 pub mod GivingIn

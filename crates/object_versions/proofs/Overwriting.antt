@@ -1,5 +1,5 @@
 -- An object is written where one place alone refers to its version: the version gets the value.
-use Rattle.std.proofs.Common.{◌≡◌, ◌≢◌, ℕ, ◌+◌, ◌<◌, Bool, true, false, cond, Option, None, Some, List, [], ◌∷◌, map, refl, sym, ap, ◌∙◌, subst, arith, ⊎_elim}
+use Rattle.std.proofs.Common.{◌≡◌, ◌≢◌, ℕ, ◌+◌, ◌<◌, Bool, true, false, cond, Option, None, Some, IsSome, List, [], ◌∷◌, map, refl, sym, ap, ◌∙◌, subst, arith, ⊎_elim}
 use Rattle.std.proofs.lemmas.Bool.{cases_eq}
 use Rattle.std.proofs.lemmas.Map.Steps.{set_value_same}
 use Rattle.std.specs.BTreeMap.{is_at}
@@ -10,8 +10,8 @@ use Rattle.swan_model.specs.Versions.{settled, owed, owing, place_cmp, with_pres
 use Rattle.object_versions.specs.declared.node.Node.{Node}
 use Rattle.object_versions.specs.declared.node.State.TheVariants.{Settled}
 use Rattle.object_versions.specs.declared.place.Place.{Place}
-use Rattle.object_versions.specs.Store.{Entries, place_at, told_of, told_at, version_at, object_at, given_of, placed_of, seen, versions_of, one, one_of, uses, uses_in}
-use Rattle.object_versions.specs.Whole.{IsWhole}
+use Rattle.object_versions.specs.Store.{Entries, place_at, told_of, told_at, version_at, object_at, given_of, KeepsOwed, placed_of, seen, versions_of, one, one_of, uses, uses_in}
+use Rattle.object_versions.specs.Whole.{IsWhole, HasOwn}
 use Rattle.object_versions.proofs.Counts.{HasNode, one_self, one_other, counted_after, told_here, told_elsewhere, used, uses_at, uses_set, present_used}
 use Rattle.object_versions.proofs.Seeing.{seen_same, seen_set, seen_some}
 
@@ -29,7 +29,7 @@ set_twice {X} test (e ∷ es) v w = by (test e.0) refl (set_twice test es v w) w
 
 module _ (entries : Entries) (old new : Slab Node) (made f p : ℕ) (was : Place) (value : Value) (whole : IsWhole entries old made (λ _. 0))
     (stands : place_at entries f p ≡ Some was)
-    (alone : (node : Node) → get old was.present ≡ Some node → node.uses ≡ 1)
+    (alone : uses_in (get old was.present) ≡ 1)
     (change : (node : Node) → get old was.present ≡ Some node → Updates old new was.present (Some (record node { state = Settled value }))) where
   abbrev key : ℕ
   key = was.present
@@ -46,7 +46,7 @@ module _ (entries : Entries) (old new : Slab Node) (made f p : ℕ) (was : Place
   one_use : uses was.present entries ≡ 1
   one_use =
       let count : found.node.uses ≡ uses was.present entries + 0 = sym (ap uses_in found.is) ∙ whole.counted.exact was.present in
-      let only = alone found.node found.is in omega (arith, count, only)
+      let only : found.node.uses ≡ 1 = sym (ap uses_in found.is) ∙ alone in omega (arith, count, only)
 
   told_key : told_at new was.present ≡ (object_at old was.present, settled value)
   told_key = told_here old new was.present _ update ∙ ap (λ o. (o, settled value)) (sym (ap (λ o. (told_of o).0) found.is))
@@ -143,3 +143,11 @@ module _ (entries : Entries) (old new : Slab Node) (made f p : ℕ) (was : Place
       let state : versions_of entries new made ≡ with_present (versions_of entries old made) f p (placed_of old was) (settled value) =
       λ i. record { places = e i; made = made } in
       state ∙ sym (ap (written_at (versions_of entries old made) f p value) (seen_some entries old made f p was stands))
+
+  pub overwritten_own : KeepsOwed old was.given → HasOwn entries new f p
+  overwritten_own keeps = record {
+    has = was;
+    stands = stands;
+    alone = ap uses_in update.changed ∙ sym (ap uses_in found.is) ∙ alone;
+    given = λ some. let P : Option ℕ → Type 0 = λ o. IsSome o in subst P (sym (same_given was.given refl)) (keeps some);
+  }

@@ -1,10 +1,10 @@
 -- A version that a frame owes gets the frame's value.
-use Rattle.std.proofs.Common.{◌≡◌, ℕ, ◌+◌, ◌<◌, true, cond, ◌==◌, Option, None, Some, refl, sym, ap, ◌∙◌, subst, arith, ⊎_elim}
+use Rattle.std.proofs.Common.{◌≡◌, ℕ, ◌+◌, ◌<◌, true, cond, ◌==◌, None, Some, refl, sym, ap, ◌∙◌, subst, arith, ⊎_elim}
 use Rattle.std.proofs.lemmas.Bool.{cases_eq}
 use Rattle.std.specs.Option.{unwrap_or}
 use Rattle.slab.specs.Slab.{Slab, get, Updates}
 use Rattle.swan_model.specs.declared.value.Value.{Value}
-use Rattle.swan_model.specs.Versions.{Version, settled, owed, VersionState, settle, left_by, IsSettled}
+use Rattle.swan_model.specs.Versions.{settled, owed, VersionState, settle, left_by, IsSettled}
 use Rattle.object_versions.specs.declared.node.Node.{Node}
 use Rattle.object_versions.specs.declared.node.State.{State}
 use Rattle.object_versions.specs.declared.node.State.TheVariants.{Settled, Owed}
@@ -30,11 +30,8 @@ key_is a b e = cc
 
 -- what has a value is not said to be owed
 pub reads_no_owing : (nodes : Slab Node) (key : ℕ) (value : Value) (frame : ℕ) → version_at nodes key ≡ settled value
-    → ((node : Node) → get nodes key ≡ Some node → version_of node.state ≡ owed frame) → ⊥
-reads_no_owing nodes key value frame reads all = by (get nodes key) refl where
-  by : (o : Option Node) → get nodes key ≡ o → ⊥
-  by None is = settled_owes value 0 (sym reads ∙ ap (λ o. (told_of o).1) is)
-  by (Some node) is = settled_owes value frame (sym reads ∙ ap (λ o. (told_of o).1) is ∙ all node is)
+    → version_at nodes key ≡ owed frame → ⊥
+reads_no_owing nodes key value frame reads owes = settled_owes value frame (sym reads ∙ owes)
 
 -- ---- a state and the value that it gets
 
@@ -69,12 +66,6 @@ module _ (entries : Entries) (start now : Slab Node) (made n : ℕ) (begun : IsS
 
   pub read_at_start : (value : Value) → version_at now has.present ≡ settled value → version_at start has.present ≡ settled value
   read_at_start value reads = began_with.1 ∙ sym (begun.stay has.present began_with.0 present_use began_with.1) ∙ reads
-
-  -- what is read of the place's node
-  pub read_of : (version : Version) → ((node : Node) → get now has.present ≡ Some node → version_of node.state ≡ version) → version_at now has.present ≡ version
-  read_of version all =
-      let found = used now (λ k. uses k entries + 0) has.present begun.whole.counted (let some = present_use in omega (arith, some)) in
-      ap (λ o. (told_of o).1) found.is ∙ all found.node found.is
 
 -- a step that settles nothing
 pub owes_the_same : (entries : Entries) (nodes : Slab Node) → OwesNoMore entries nodes nodes

@@ -1,5 +1,5 @@
 -- An object is written.
-use Rattle.std.proofs.Common.{◌≡◌, ℕ, ◌<◌, None, Some, sym, ap, ◌∙◌, subst, arith}
+use Rattle.std.proofs.Common.{◌≡◌, ◌≢◌, ℕ, ◌+◌, ◌<◌, Option, None, Some, IsSome, sym, ap, ◌∙◌, subst, arith}
 use Rattle.std.specs.BTreeMap.{is_at}
 use Rattle.std.specs.Map.{set_value, keys_of}
 use Rattle.std.specs.List.Sorted.{IsStrictlySortedBy}
@@ -9,12 +9,13 @@ use Rattle.swan_model.specs.Versions.{settled, owed, place_cmp, with_present, af
 use Rattle.object_versions.specs.declared.node.Node.{Node}
 use Rattle.object_versions.specs.declared.node.State.TheVariants.{Settled}
 use Rattle.object_versions.specs.declared.place.Place.{Place}
-use Rattle.object_versions.specs.Store.{Entries, place_at, told_at, placed_of, versions_of, one, uses, released}
-use Rattle.object_versions.specs.Whole.{IsWhole}
-use Rattle.object_versions.proofs.Counts.{one_self, one_other, told_here}
+use Rattle.object_versions.specs.Store.{Entries, place_at, told_at, given_of, KeepsOwed, placed_of, versions_of, one, uses, uses_in, released}
+use Rattle.object_versions.specs.Whole.{IsWhole, HasOwn}
+use Rattle.object_versions.proofs.Lookups.{at_set}
+use Rattle.object_versions.proofs.Counts.{one_self, one_other, told_here, used, HasNode, uses_at, present_used}
 use Rattle.object_versions.proofs.Steps.{set_in}
 use Rattle.object_versions.proofs.References.{made_whole, made_told, released_whole, released_same}
-use Rattle.object_versions.proofs.Seeing.{seen_present, seen_some, versions_same}
+use Rattle.object_versions.proofs.Seeing.{placed_same, same_there, seen_present, seen_some, versions_same}
 
 module _ (entries later : Entries) (old middle new : Slab Node) (made f p key : ℕ) (was : Place) (value : Value) (whole : IsWhole entries old made (λ _. 0))
     (stands : place_at entries f p ≡ Some was) (vacant : get old key ≡ None)
@@ -72,3 +73,40 @@ module _ (entries later : Entries) (old middle new : Slab Node) (made f p key : 
       ∙ versions_same middle new after made (λ k h. released_same after middle new made (λ k. one k was.present) (λ _. 0) was.present with_set some_held release
       (let self = one_self was.present in omega (arith, self)) (λ k apart. sym (one_other k was.present apart)) k (omega arith))
       ∙ seen_after
+
+  -- and it is a version of the frame's own
+
+  some_use : 0 < uses was.present entries
+  some_use = let most = uses_at entries was.present f p was stands in let here = present_used was in omega arith
+
+  found : HasNode old was.present
+  found = used old (λ k. uses k entries + 0) was.present whole.counted (let some = some_use in omega (arith, some))
+
+  none_some : (n : Node) → None ≡ Some n → ⊥
+  none_some n e = cc
+
+  another : key ≢ was.present
+  another e = none_some found.node (sym vacant ∙ ap (get old) e ∙ found.is)
+
+  released_there : Updates middle new was.present (released found.node)
+  released_there = release found.node (change.others was.present (λ e. another (sym e)) ∙ found.is)
+
+  stands_after : place_at after f p ≡ Some (record was { present = key })
+  stands_after = at_set entries (f, p) was (record was { present = key }) stands
+
+  same_given : given_of new was.given ≡ given_of old was.given
+  same_given =
+      let changed : Place = record was { present = key } in
+      ap (λ o. o.given) (placed_same middle new changed (λ k h.
+      let most = uses_at after k f p changed stands_after in
+      released_same after middle new made (λ k. one k was.present) (λ _. 0) was.present with_set some_held release
+      (let self = one_self was.present in omega (arith, self)) (λ k apart. sym (one_other k was.present apart)) k (omega (arith, most, h))))
+      ∙ ap (λ o. o.given) (same_there entries old middle told_old f p was stands)
+
+  pub written_own : KeepsOwed old was.given → HasOwn later new f p
+  written_own keeps = record {
+    has = record was { present = key };
+    stands = ap (λ es. place_at es f p) set ∙ stands_after;
+    alone = ap uses_in (released_there.others key another ∙ change.changed);
+    given = λ some. let P : Option ℕ → Type 0 = λ o. IsSome o in subst P (sym same_given) (keeps some);
+  }

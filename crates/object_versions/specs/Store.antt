@@ -1,6 +1,6 @@
 -- How versions are kept: in a slab, each under a key, with the object that it is a version of and how often places
 -- refer to it. A place refers to the version that its frame was given, to the present one, and to the one that it owes.
-use Rattle.std.specs.Prelude.{ℕ, ◌+◌, ◌-◌, ◌==◌, nat_lt, Option, Some, None, List, map, sum_by, if◌then◌else◌}
+use Rattle.std.specs.Prelude.{ℕ, ◌+◌, ◌-◌, ◌==◌, nat_lt, Option, Some, None, IsSome, List, map, sum_by, if◌then◌else◌}
 use Rattle.std.specs.BTreeMap.{is_at}
 use Rattle.std.specs.Map.{lookup, values_of}
 use Rattle.slab.specs.Slab.{Slab, get}
@@ -43,6 +43,10 @@ object_at nodes key = (told_at nodes key).0
 abbrev pub given_of : Slab Node → Option ℕ → Option ℕ
 given_of nodes None = None
 given_of nodes (Some key) = owing (version_at nodes key)
+
+-- of what was given only what a frame still owes is kept
+abbrev pub KeepsOwed : Slab Node → Option ℕ → Type 0
+KeepsOwed nodes given = IsSome given → IsSome (given_of nodes given)
 
 abbrev pub placed_of : Slab Node → Place → Placed
 placed_of nodes place = record {

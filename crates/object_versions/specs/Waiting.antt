@@ -1,6 +1,6 @@
 -- Which versions a frame waits for.
-use Rattle.std.specs.Prelude.{◌≡◌, ℕ, Some, IsSome}
-use Rattle.slab.specs.Slab.{Slab, get}
+use Rattle.std.specs.Prelude.{◌≡◌, ℕ, Some}
+use Rattle.slab.specs.Slab.{Slab}
 use Rattle.swan_model.specs.Versions.{owed}
 use Rattle.object_versions.specs.declared.node.Node.{Node}
 use Rattle.object_versions.specs.declared.place.Place.{Place}
@@ -13,7 +13,3 @@ pub record AwaitsAt (entries : Entries) (nodes : Slab Node) (frame place owing :
   pub stands : place_at entries frame place ≡ Some has
   pub given : has.given ≡ Some key
   pub owes : version_at nodes key ≡ owed owing
-
--- each version that was given is there
-pub record AreThere (entries : Entries) (nodes : Slab Node) : Type 0 where
-  pub there : (frame place key : ℕ) (has : Place) → place_at entries frame place ≡ Some has → has.given ≡ Some key → IsSome (get nodes key)

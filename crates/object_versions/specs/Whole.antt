@@ -9,7 +9,7 @@ use Rattle.swan_model.specs.Rights.{allows}
 use Rattle.swan_model.specs.Versions.{owed, place_cmp}
 use Rattle.object_versions.specs.declared.node.Node.{Node}
 use Rattle.object_versions.specs.declared.place.Place.{Place}
-use Rattle.object_versions.specs.Store.{Entries, place_at, version_at, object_at, uses, uses_in}
+use Rattle.object_versions.specs.Store.{Entries, place_at, version_at, object_at, KeepsOwed, uses, uses_in}
 
 -- Each version counts exactly those who refer to it, and is there only while someone does.
 pub record IsCounted (nodes : Slab Node) (count : ℕ → ℕ) : Type 0 where
@@ -48,6 +48,13 @@ pub record IsWhole (entries : Entries) (nodes : Slab Node) (made : ℕ) (held : 
   -- an object that stands at two places of a frame may only be read there
   pub alone : (frame place other : ℕ) (a b : Place) → place_at entries frame place ≡ Some a → place_at entries frame other ≡ Some b
       → place ≢ other → a.object ≡ b.object → (a.mode ≡ In) × (b.mode ≡ In)
+
+-- At this place a frame has a version that nobody else has, and of what it was given it keeps only what is still owed.
+pub record HasOwn (entries : Entries) (nodes : Slab Node) (frame place : ℕ) : Type 0 where
+  pub has : Place
+  pub stands : place_at entries frame place ≡ Some has
+  pub alone : uses_in (get nodes has.present) ≡ 1
+  pub given : KeepsOwed nodes has.given
 
 -- a frame that has the object already may get it once more only to read, and only where it reads it there too
 pub record MayGive (entries : Entries) (child object : ℕ) (mode : Mode) : Type 0 where

@@ -3,7 +3,7 @@ ghost use Rattle.std.specs.Prelude.{◌≡◌, ◌≢◌, ℕ, true, false, Some
 ghost use Rattle.swan_model.specs.Rights.{allows, is_queue_mode};
 ghost use Rattle.swan_model.specs.declared.rights.Mode.TheVariants.{In, Out, InOut};
 ghost use Rattle.swan_model.specs.Versions.{after_access};
-ghost use Rattle.object_versions.specs.Store.{place_at, versions_of};
+ghost use Rattle.object_versions.specs.Store.{place_at, KeepsOwed, versions_of};
 ghost use Rattle.object_versions.specs.Whole.{IsWhole, MayGive};
 ghost use Rattle.object_versions.specs.declared.place.Place.{Place as Kept};
 
@@ -34,6 +34,8 @@ pub fn give_to_read(
     ensures whole { OnOk result ((made : ℕ) → IsWhole places.old.entries nodes.old made (λ _. 0) → IsWhole places.new.entries nodes.new made (λ _. 0)) }
     ensures given { OnOk result ((made : ℕ) → IsWhole places.old.entries nodes.old made (λ _. 0)
         → versions_of places.new.entries nodes.new made ≡ after_access (versions_of places.old.entries nodes.old made) parent parent_place child child_place In) }
+    ensures keeps { OnOk result ((has : Kept) → place_at places.new.entries parent parent_place ≡ Some has → has.given ≡ object.now.given) }
+    ensures shares { OnOk result ((has : Kept) → place_at places.new.entries child child_place ≡ Some has → has.present ≡ object.now.present) }
 {
     let shared = object.present;
     share(nodes, shared, 2)?;
@@ -69,6 +71,7 @@ pub fn give_to_write(
     ensures whole { OnOk result ((made : ℕ) → IsWhole places.old.entries nodes.old made (λ _. 0) → IsWhole places.new.entries nodes.new made (λ _. 0)) }
     ensures given { OnOk result ((made : ℕ) → IsWhole places.old.entries nodes.old made (λ _. 0)
         → versions_of places.new.entries nodes.new made ≡ after_access (versions_of places.old.entries nodes.old made) parent parent_place child child_place Out) }
+    ensures keeps { OnOk result ((has : Kept) → place_at places.new.entries parent parent_place ≡ Some has → has.given ≡ object.now.given) }
 {
     let zero = Value::zero(alloc, object.kind)?;
     let owed = make(nodes, object.object, State::Owed(child), 2)?;
@@ -106,6 +109,8 @@ pub fn give_to_change(
     ensures whole { OnOk result ((made : ℕ) → IsWhole places.old.entries nodes.old made (λ _. 0) → IsWhole places.new.entries nodes.new made (λ _. 0)) }
     ensures given { OnOk result ((made : ℕ) → IsWhole places.old.entries nodes.old made (λ _. 0)
         → versions_of places.new.entries nodes.new made ≡ after_access (versions_of places.old.entries nodes.old made) parent parent_place child child_place InOut) }
+    ensures keeps { OnOk result ((has : Kept) → place_at places.new.entries parent parent_place ≡ Some has → has.given ≡ object.now.given) }
+    ensures shares { OnOk result ((has : Kept) → place_at places.new.entries child child_place ≡ Some has → has.present ≡ object.now.present) }
 {
     share(nodes, object.present, 2)?;
     let next = make(nodes, object.object, State::Owed(child), 2)?;
@@ -142,6 +147,10 @@ pub fn give(
     ensures whole { OnOk result ((made : ℕ) → IsWhole places.old.entries nodes.old made (λ _. 0) → IsWhole places.new.entries nodes.new made (λ _. 0)) }
     ensures given { OnOk result ((made : ℕ) → IsWhole places.old.entries nodes.old made (λ _. 0)
         → versions_of places.new.entries nodes.new made ≡ after_access (versions_of places.old.entries nodes.old made) parent parent_place child child_place mode) }
+    ensures given_up { OnOk result ((made : ℕ) → IsWhole places.old.entries nodes.old made (λ _. 0)
+        → (has : Kept) → place_at places.new.entries parent parent_place ≡ Some has → KeepsOwed nodes.new has.given) }
+    ensures shares { OnOk result (allows mode In ≡ true → (object has : Kept) → place_at places.old.entries parent parent_place ≡ Some object
+        → place_at places.new.entries child child_place ≡ Some has → has.present ≡ object.present) }
 {
     let Some(&found) = places.get(&(parent, parent_place)) else {
         unreachable!()

@@ -1,8 +1,8 @@
 // Versions by key, and how often places refer to each.
-ghost use Rattle.std.specs.Prelude.{◌≡◌, ◌+◌, true, IfOk, IfErr, OnOk, Some, None};
+ghost use Rattle.std.specs.Prelude.{◌≡◌, ◌↔◌, ◌+◌, IsTrue, IfOk, IfErr, OnOk, Some, None};
 ghost use Rattle.slab.specs.Slab.{get, Updates};
 ghost use Rattle.swan_model.specs.Versions.{settled, owed};
-ghost use Rattle.object_versions.specs.Store.{version_of, released, state_settled};
+ghost use Rattle.object_versions.specs.Store.{version_at, uses_in, released, state_settled};
 ghost use Rattle.object_versions.specs.declared.node.Node.{Node as Kept};
 ghost use Rattle.object_versions.specs.declared.node.State.TheVariants.{Settled};
 
@@ -69,9 +69,9 @@ pub fn settle(nodes: &mut Slab<Node>, key: usize, value: Value)
     }
 }
 
-/// Whether one place alone refers to a version. `O(1)`; it takes no memory.
+/// Whether there is a version to which places refer just once. `O(1)`; it takes no memory.
 pub fn is_alone(nodes: &Slab<Node>, key: usize) -> bool
-    ensures { result ≡ true → (node : Kept) → get nodes.now key ≡ Some node → node.uses ≡ 1 }
+    ensures { IsTrue result ↔ (uses_in (get nodes.now key) ≡ 1) }
 {
     match nodes.get(key) {
         Some(node) => node.uses == 1,
@@ -92,8 +92,8 @@ pub fn overwrite(nodes: &mut Slab<Node>, key: usize, value: Value)
 /// The value of a version, and else the frame that owes it, or 0 where there is no version. `O(1)`; it takes
 /// no memory.
 pub fn value_at(nodes: &Slab<Node>, key: usize) -> Result<&Value, u64>
-    ensures ok { IfOk result (λ value. (node : Kept) → get nodes.now key ≡ Some node → version_of node.state ≡ settled value.now) }
-    ensures err { IfErr result (λ owing. (node : Kept) → get nodes.now key ≡ Some node → version_of node.state ≡ owed owing) }
+    ensures ok { IfOk result (λ value. version_at nodes.now key ≡ settled value.now) }
+    ensures err { IfErr result (λ owing. version_at nodes.now key ≡ owed owing) }
 {
     match nodes.get(key) {
         Some(

@@ -1,8 +1,8 @@
 // Objects that are made, written and read.
-ghost use Rattle.std.specs.Prelude.{◌≡◌, ◌≢◌, ℕ, ◌+◌, Some, None, OnOk};
+ghost use Rattle.std.specs.Prelude.{◌≡◌, ◌≢◌, ℕ, ◌+◌, Some, None, Ok, OnOk};
 ghost use Rattle.swan_model.specs.Versions.{after_create, after_write};
-ghost use Rattle.object_versions.specs.Store.{place_at, versions_of};
-ghost use Rattle.object_versions.specs.Whole.{IsWhole};
+ghost use Rattle.object_versions.specs.Store.{place_at, given_of, KeepsOwed, versions_of};
+ghost use Rattle.object_versions.specs.Whole.{IsWhole, HasOwn};
 ghost use Rattle.object_versions.specs.declared.place.Place.{Place as Kept};
 
 use crate::nodes::{is_alone, make, overwrite, release, value_at};
@@ -56,6 +56,8 @@ pub fn release_given(
     ensures whole { (made : ℕ) → IsWhole places.old.entries nodes.old made (λ _. 0) → IsWhole places.new.entries nodes.new made (λ _. 0) }
     ensures seen { (made : ℕ) → IsWhole places.old.entries nodes.old made (λ _. 0)
         → versions_of places.new.entries nodes.new made ≡ versions_of places.old.entries nodes.old made }
+    ensures given_up { given_of nodes.old object.given ≡ None → result.given ≡ None }
+    ensures kept { KeepsOwed nodes.old object.given → (result ≡ object) × (places.new.entries ≡ places.old.entries) × (nodes.new ≡ nodes.old) }
 {
     let Some(given) = object.given else {
         return object;
@@ -73,7 +75,8 @@ pub fn release_given(
 }
 
 /// Gives a frame a version with this value at a place: its own gets the value where nobody else has that.
-/// `O(log n)`, amortised where it is a new one.
+/// After that the frame has one of its own, and a further write makes none and takes no memory. `O(log n)`,
+/// amortised where it is a new one.
 pub fn write(
     places: &mut BTreeMap<(u64, u32), Place>,
     nodes: &mut Slab<Node>,
@@ -86,6 +89,8 @@ pub fn write(
     ensures whole { OnOk result ((made : ℕ) → IsWhole places.old.entries nodes.old made (λ _. 0) → IsWhole places.new.entries nodes.new made (λ _. 0)) }
     ensures written { OnOk result ((made : ℕ) → IsWhole places.old.entries nodes.old made (λ _. 0)
         → versions_of places.new.entries nodes.new made ≡ after_write (versions_of places.old.entries nodes.old made) frame place value) }
+    ensures own { OnOk result ((made : ℕ) → IsWhole places.old.entries nodes.old made (λ _. 0) → HasOwn places.new.entries nodes.new frame place) }
+    ensures in_place { HasOwn places.old.entries nodes.old frame place → (result ≡ Ok tt) × (places.new.entries ≡ places.old.entries) }
 {
     let own = release_given(places, nodes, frame, place, object);
     if is_alone(nodes, own.present) {

@@ -1,7 +1,7 @@
 // Which version a frame waits for.
 ghost use Rattle.std.specs.Prelude.{◌≡◌, ℕ, ◌≤◌, Some, IfSome, IfNone};
 ghost use Rattle.object_versions.specs.Store.{Entries, place_at, version_at};
-ghost use Rattle.object_versions.specs.Waiting.{AreThere, AwaitsAt};
+ghost use Rattle.object_versions.specs.Waiting.{AwaitsAt};
 
 use crate::nodes::value_at;
 use crate::places::{first_place, place_after};
@@ -25,7 +25,6 @@ fn owing_at(
     frame: u64,
     place: u32,
 ) -> Option<u64>
-    requires { AreThere places.now.entries nodes.now }
     ensures owes { IfSome result (λ owing. AwaitsAt places.now.entries nodes.now frame place owing) }
     ensures none { IfNone result ((owing : ℕ) → ¬ AwaitsAt places.now.entries nodes.now frame place owing) }
 {
@@ -48,7 +47,6 @@ pub fn first_awaited(
     nodes: &Slab<Node>,
     frame: u64,
 ) -> Option<Awaited>
-    requires { AreThere places.now.entries nodes.now }
     ensures owes { IfSome result (λ awaited. AwaitsAt places.now.entries nodes.now frame awaited.place awaited.owing) }
     ensures first { IfSome result (λ awaited. (other n : ℕ) → AwaitsAt places.now.entries nodes.now frame other n → awaited.place ≤ other) }
     ensures none { IfNone result ((place owing : ℕ) → ¬ AwaitsAt places.now.entries nodes.now frame place owing) }

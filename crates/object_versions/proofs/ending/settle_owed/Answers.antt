@@ -1,6 +1,6 @@
 use Rattle.std.proofs.Common.{ap, sym, ◌∙◌}
 use Rattle.swan_model.specs.Versions.{settled}
-use Rattle.object_versions.proofs.Settling.{settling_next, owes_no_more, is_paid, reads_no_owing, read_of}
+use Rattle.object_versions.proofs.Settling.{settling_next, owes_no_more, is_paid, reads_no_owing}
 use Rattle.object_versions.proofs.ending.settle_owed.Goals as goal
 
 pub unreachable-requires : goal.unreachable-requires
@@ -10,19 +10,19 @@ pub returns-clause-settling : goal.returns-clause-settling
 returns-clause-settling c = λ entries start made frame at begun stands.
     let place = c.args.place.now in
     settling_next entries start c.args.nodes.now c.settle.new.nodes made frame at place c.in-Some.owed c.in_ok-value-in-Ok.value begun stands c.in-Some.is
-    (read_of entries start c.args.nodes.now made frame begun at place stands (settled c.in-Ok.value.now) c.in-Ok.ensures.ok ∙ ap settled (sym c.in_ok-value-in-Ok.ensures))
+    (c.in-Ok.ensures.ok ∙ ap settled (sym c.in_ok-value-in-Ok.ensures))
     c.settle.ensures
 
 pub returns-clause-no_more : goal.returns-clause-no_more
 returns-clause-no_more c = λ entries start made frame at begun stands.
     let place = c.args.place.now in
     owes_no_more entries start c.args.nodes.now c.settle.new.nodes made frame at place c.in-Some.owed c.in_ok-value-in-Ok.value begun stands c.in-Some.is
-    (read_of entries start c.args.nodes.now made frame begun at place stands (settled c.in-Ok.value.now) c.in-Ok.ensures.ok ∙ ap settled (sym c.in_ok-value-in-Ok.ensures))
+    (c.in-Ok.ensures.ok ∙ ap settled (sym c.in_ok-value-in-Ok.ensures))
     c.settle.ensures
 
 pub returns-clause-paid : goal.returns-clause-paid
 returns-clause-paid c = λ entries start made frame at begun stands.
     let place = c.args.place.now in
     is_paid entries start c.args.nodes.now c.settle.new.nodes made frame at place c.in-Some.owed c.in_ok-value-in-Ok.value begun stands c.in-Some.is
-    (read_of entries start c.args.nodes.now made frame begun at place stands (settled c.in-Ok.value.now) c.in-Ok.ensures.ok ∙ ap settled (sym c.in_ok-value-in-Ok.ensures))
+    (c.in-Ok.ensures.ok ∙ ap settled (sym c.in_ok-value-in-Ok.ensures))
     c.settle.ensures

@@ -1,6 +1,7 @@
 use Rattle.std.proofs.Common.{sym}
 use Rattle.swan_model.specs.declared.rights.Mode.TheVariants.{In, Out, InOut}
-use Rattle.object_versions.proofs.Forgotten.{then_whole, then_given}
+use Rattle.object_versions.proofs.Forgotten.{left_owed, then_whole, then_given}
+use Rattle.object_versions.proofs.GivingUp.{then_given_up}
 use Rattle.object_versions.proofs.giving.give.Goals as goal
 
 pub returns-in-In-clause-whole : goal.returns-in-In-clause-whole
@@ -38,3 +39,24 @@ returns-in-InOut-clause-given c =
     let own = c.release_given-object in
     then_given c.give_to_change.result c.args.places.now.entries own.new.places.entries c.give_to_change.new.places.entries c.args.nodes.now own.new.nodes c.give_to_change.new.nodes
     c.args.parent c.args.parent_place c.args.child c.args.child_place InOut c.args.mode (sym c.in-InOut.is) own.ensures.whole own.ensures.seen c.give_to_change.ensures.given
+
+pub returns-in-In-clause-given_up : goal.returns-in-In-clause-given_up
+returns-in-In-clause-given_up c =
+    let own = c.release_given-object in
+    then_given_up c.give_to_read.result c.args.places.now.entries own.new.places.entries c.give_to_read.new.places.entries c.args.nodes.now own.new.nodes c.give_to_read.new.nodes
+    c.args.parent c.args.parent_place c.args.child c.args.child_place In own.result c.requires.differ own.ensures.whole own.ensures.stands
+    (left_owed _ c.args.nodes.now own.new.nodes c.in-Some.field-0.now own.result own.ensures.given_up own.ensures.kept) c.give_to_read.ensures.given c.give_to_read.ensures.keeps
+
+pub returns-in-Out-clause-given_up : goal.returns-in-Out-clause-given_up
+returns-in-Out-clause-given_up c =
+    let own = c.release_given-object in
+    then_given_up c.give_to_write.result c.args.places.now.entries own.new.places.entries c.give_to_write.new.places.entries c.args.nodes.now own.new.nodes c.give_to_write.new.nodes
+    c.args.parent c.args.parent_place c.args.child c.args.child_place Out own.result c.requires.differ own.ensures.whole own.ensures.stands
+    (left_owed _ c.args.nodes.now own.new.nodes c.in-Some.field-0.now own.result own.ensures.given_up own.ensures.kept) c.give_to_write.ensures.given c.give_to_write.ensures.keeps
+
+pub returns-in-InOut-clause-given_up : goal.returns-in-InOut-clause-given_up
+returns-in-InOut-clause-given_up c =
+    let own = c.release_given-object in
+    then_given_up c.give_to_change.result c.args.places.now.entries own.new.places.entries c.give_to_change.new.places.entries c.args.nodes.now own.new.nodes c.give_to_change.new.nodes
+    c.args.parent c.args.parent_place c.args.child c.args.child_place InOut own.result c.requires.differ own.ensures.whole own.ensures.stands
+    (left_owed _ c.args.nodes.now own.new.nodes c.in-Some.field-0.now own.result own.ensures.given_up own.ensures.kept) c.give_to_change.ensures.given c.give_to_change.ensures.keeps

@@ -1,5 +1,6 @@
 use Rattle.object_versions.proofs.GivingOut.{out_whole, out_seen}
 use Rattle.object_versions.proofs.Given.{still_stands}
+use Rattle.object_versions.proofs.GivingUp.{set_keeps}
 use Rattle.object_versions.proofs.giving.give_to_write.Goals as goal
 
 pub returns-clause-whole : goal.returns-clause-whole
@@ -23,3 +24,10 @@ returns-clause-given c = λ made whole.
     (c.set_present.ensures.set c.args.object.now (still_stands c.args.places.now.entries c.put.new.places.entries c.args.parent c.args.parent_place c.args.child c.args.child_place
     c.args.object.now _ c.requires.stands c.requires.free c.in_ok-put.ensures.put))
     c.set_present.ensures.sorted c.release.ensures
+
+pub returns-clause-keeps : goal.returns-clause-keeps
+returns-clause-keeps c =
+    set_keeps c.args.places.now.entries c.put.new.places.entries c.args.parent c.args.parent_place c.args.child c.args.child_place c.args.object.now _
+    c.requires.stands c.requires.free c.in_ok-put.ensures.put c.set_present.new.places.entries c.in_ok-owed.owed
+    (c.set_present.ensures.set c.args.object.now (still_stands c.args.places.now.entries c.put.new.places.entries c.args.parent c.args.parent_place c.args.child c.args.child_place
+    c.args.object.now _ c.requires.stands c.requires.free c.in_ok-put.ensures.put))

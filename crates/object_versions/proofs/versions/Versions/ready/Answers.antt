@@ -2,11 +2,8 @@ use Rattle.std.proofs.Common.{◌≡◌, ℕ, true, Some, sym, subst}
 use Rattle.swan_model.specs.declared.rights.Mode.TheVariants.{In, Out}
 use Rattle.swan_model.specs.Rights.{allows}
 use Rattle.swan_model.specs.Versions.{VersionState, Placed, placed_at, Awaits}
-use Rattle.object_versions.proofs.Awaited.{are_there, awaits_kept, awaits_read, given_owes}
+use Rattle.object_versions.proofs.Awaited.{awaits_kept, awaits_read, given_owes}
 use Rattle.object_versions.proofs.versions.Versions.ready.Goals as goal
-
-pub first_awaited-requires : goal.first_awaited-requires
-first_awaited-requires c = are_there c.self.inside.places.entries c.self.inside.nodes c.self.inside.made c.self.invariant
 
 pub returns-in-Some-clause-err : goal.returns-in-Some-clause-err
 returns-in-Some-clause-err c =

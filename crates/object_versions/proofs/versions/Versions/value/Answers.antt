@@ -12,17 +12,17 @@ unreachable-requires c =
     absent c.self.inside.places.entries c.self.inside.nodes c.self.inside.made c.args.frame c.args.place c.requires.placed.0 (sym c.in-None.ensures.value) (subst P (sym c.self.view_is) c.requires.placed.1)
 
 pub returns-clause-ok : goal.returns-clause-ok
-returns-clause-ok c = map_ok c.value_at.result _ _ (λ value all object seen.
+returns-clause-ok c = map_ok c.value_at.result _ _ (λ value reads object seen.
     let P : VersionState → Type 0 = λ state. placed_at state c.args.frame c.args.place ≡ Some object in
-    present_by c.self.inside.places.entries c.self.inside.nodes c.self.inside.made c.args.frame c.args.place c.in-Some.object.now (settled value.now) c.self.invariant
-    (sym c.in-Some.ensures.value) all object (subst P (sym c.self.view_is) seen))
+    present_by c.self.inside.places.entries c.self.inside.nodes c.self.inside.made c.args.frame c.args.place c.in-Some.object.now (settled value.now)
+    (sym c.in-Some.ensures.value) reads object (subst P (sym c.self.view_is) seen))
     c.value_at.ensures.ok
 
 pub returns-clause-err : goal.returns-clause-err
-returns-clause-err c = map_err c.value_at.result _ _ (λ owing all object seen.
+returns-clause-err c = map_err c.value_at.result _ _ (λ owing reads object seen.
     let P : VersionState → Type 0 = λ state. placed_at state c.args.frame c.args.place ≡ Some object in
-    present_by c.self.inside.places.entries c.self.inside.nodes c.self.inside.made c.args.frame c.args.place c.in-Some.object.now (owed owing) c.self.invariant
-    (sym c.in-Some.ensures.value) all object (subst P (sym c.self.view_is) seen))
+    present_by c.self.inside.places.entries c.self.inside.nodes c.self.inside.made c.args.frame c.args.place c.in-Some.object.now (owed owing)
+    (sym c.in-Some.ensures.value) reads object (subst P (sym c.self.view_is) seen))
     c.value_at.ensures.err
 
 pub returns-clause-owes : goal.returns-clause-owes
