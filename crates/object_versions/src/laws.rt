@@ -9,7 +9,7 @@ ghost use Rattle.swan_model.specs.Granted.{is_spawn};
 ghost use Rattle.swan_model.specs.Lawful.{IsLawful};
 ghost use Rattle.swan_model.specs.Readings.{gone_on, next_deed, spawned};
 ghost use Rattle.swan_model.specs.SerialTime.{Progress, Reading, frame_of};
-ghost use Rattle.swan_model.specs.Versions.{Awaits, IsSettled, Placed, VersionState, placed_at};
+ghost use Rattle.swan_model.specs.Versions.{owed, Awaits, IsSettled, Placed, VersionState, placed_at};
 ghost use Rattle.swan_model.specs.VersionsFollow.{Access, Follows, IsGiving, IsNewFrame, IsNextSpawn, is_object_deed, is_object_give};
 
 /// The law that all entries but those that make or write an object, or give one to a child, are done without
@@ -43,12 +43,22 @@ pub fn giving_begins()
 
 /// The law that a frame may end once its children have ended: where it waits for no version that it was given
 /// to read, and no child of it has a place any more, each version that it has has its value. Each frame that
-/// has a place is to be in the reading, which is so but while a child is given its objects.
+/// owes a version which this frame has is to be in the reading. For any frame but the giver this leaves out a
+/// child that is being given its objects, since that owes versions to nobody else.
 pub fn ended_children_leave_all_settled()
-    ensures { (s : Script) (r : Reading) (state : VersionState) (n : ℕ) (frame : Progress) → Follows s r state → frame_of r n ≡ Some frame
+    ensures ends { (s : Script) (r : Reading) (state : VersionState) (n : ℕ) (frame : Progress) → Follows s r state → frame_of r n ≡ Some frame
         → ((place owing : ℕ) → ¬ Awaits state n place owing)
         → ((number index : ℕ) (child : Progress) → frame_of r number ≡ Some child → child.path ≡ frame.path ++ index ∷ []
         → (place : ℕ) → placed_at state number place ≡ None)
-        → ((number place : ℕ) (has : Placed) → placed_at state number place ≡ Some has → (owner : Progress) × (frame_of r number ≡ Some owner))
+        → ((place owing : ℕ) (object : Placed) → placed_at state n place ≡ Some object → object.present ≡ owed owing
+        → (owner : Progress) × (frame_of r owing ≡ Some owner))
+        → IsSettled state n }
+    ensures meanwhile { (s : Script) (r : Reading) (state : VersionState) (n : ℕ) (frame giver : Progress) (child : ℕ) (made left : List Access)
+        → IsGiving s r state giver child made left → n ≢ giver.number → frame_of r n ≡ Some frame
+        → ((place owing : ℕ) → ¬ Awaits state n place owing)
+        → ((number index : ℕ) (below : Progress) → frame_of r number ≡ Some below → below.path ≡ frame.path ++ index ∷ []
+        → (place : ℕ) → placed_at state number place ≡ None)
+        → ((place owing : ℕ) (object : Placed) → owing ≢ child → placed_at state n place ≡ Some object → object.present ≡ owed owing
+        → (owner : Progress) × (frame_of r owing ≡ Some owner))
         → IsSettled state n }
 {}
