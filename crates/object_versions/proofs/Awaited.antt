@@ -1,10 +1,8 @@
 -- Which versions a frame waits for.
-use Rattle.std.proofs.Common.{◌≡◌, ℕ, ◌<◌, ◌≤◌, Option, None, Some, IsSome, Result, Ok, Err, IfOk, IfErr, true, refl, sym, ap, ◌∙◌, subst, arith, ⊎_elim}
-use Rattle.std.proofs.lemmas.Bool.{cases_eq}
+use Rattle.std.proofs.Common.{◌≡◌, ℕ, ◌<◌, Option, None, Some, IsSome, Result, Ok, Err, IfOk, IfErr, true, refl, sym, ap, ◌∙◌, subst, arith}
 use Rattle.slab.specs.Slab.{Slab}
 use Rattle.swan_model.specs.declared.rights.Mode.{Mode}
 use Rattle.swan_model.specs.declared.rights.Mode.TheVariants.{In, Out}
-use Rattle.swan_model.specs.declared.value.Value.{Value}
 use Rattle.swan_model.specs.Rights.{allows}
 use Rattle.swan_model.specs.Versions.{Version, settled, owed, owing as owing_of, Placed, Awaits, placed_at, Holds, MayGet}
 use Rattle.object_versions.specs.declared.node.Node.{Node}
@@ -15,9 +13,6 @@ use Rattle.object_versions.specs.Waiting.{AwaitsAt}
 use Rattle.object_versions.proofs.Counts.{uses_at, present_used, given_used}
 use Rattle.object_versions.proofs.Seeing.{seen_some, kept_of}
 
-pub settled_owes : (value : Value) (frame : ℕ) → settled value ≡ owed frame → ⊥
-settled_owes value frame e = cc
-
 some_is : {A : Type 0} (a b : A) → Some a ≡ Some b → a ≡ b
 some_is a b e = cc
 
@@ -25,46 +20,6 @@ pub is_some : {A : Type 0} (o : Option A) (x : A) → o ≡ Some x → IsSome o
 is_some {A} o x e = let P : Option A → Type 0 = λ y. IsSome y in subst P (sym e) refl
 
 -- ---- at one place
-
-module _ (entries : Entries) (nodes : Slab Node) (frame place : ℕ) (has : Place) (key : ℕ)
-    (stands : place_at entries frame place ≡ Some has) (given : has.given ≡ Some key) where
-  pub awaits_here : (owing : ℕ) → version_at nodes key ≡ owed owing → AwaitsAt entries nodes frame place owing
-  awaits_here owing owes = record {
-    has = has;
-    key = key;
-    stands = stands;
-    given = given;
-    owes = owes;
-  }
-
-  pub awaits_none : (value : Value) → version_at nodes key ≡ settled value → (owing : ℕ) → AwaitsAt entries nodes frame place owing → ⊥
-  awaits_none value reads owing waits =
-      let this : waits.has ≡ has = some_is waits.has has (sym waits.stands ∙ stands) in
-      let same : waits.key ≡ key = some_is waits.key key (sym waits.given ∙ ap (λ o. o.given) this ∙ given) in
-      settled_owes value owing (sym reads ∙ ap (version_at nodes) (sym same) ∙ waits.owes)
-
--- ---- from place to place
-
-module _ (entries : Entries) (nodes : Slab Node) (frame at : ℕ) (from : (other n : ℕ) → AwaitsAt entries nodes frame other n → at ≤ other)
-    (none : (owing : ℕ) → AwaitsAt entries nodes frame at owing → ⊥) where
-  past : (other n : ℕ) → AwaitsAt entries nodes frame other n → at < other
-  past other n waits =
-      let least = from other n waits in
-      ⊎_elim
-      (λ e. let P : ℕ → Type 0 = λ p. AwaitsAt entries nodes frame p n in absurd (none n (subst P e waits)))
-      (λ apart. omega arith)
-      (cases_eq other at)
-
-  pub next_from : (next : ℕ) → ((other : ℕ) → IsSome (place_at entries frame other) → at < other → next ≤ other) → (other n : ℕ) → AwaitsAt entries nodes frame other n → next ≤ other
-  next_from next least other n waits = least other (is_some (place_at entries frame other) waits.has waits.stands) (past other n waits)
-
-  pub none_left : ((other : ℕ) → IsSome (place_at entries frame other) → other ≤ at) → (other n : ℕ) → AwaitsAt entries nodes frame other n → ⊥
-  none_left most other n waits =
-      let after = past other n waits in
-      let upto = most other (is_some (place_at entries frame other) waits.has waits.stands) in
-      omega arith
-
--- ---- as contracts see it
 
 owed_by : (version : Version) (frame : ℕ) → owing_of version ≡ Some frame → version ≡ owed frame
 owed_by (settled value) frame e = absurd (cc)
@@ -75,6 +30,22 @@ given_key : (entries : Entries) (nodes : Slab Node) (frame place owing : ℕ) (h
 given_key entries nodes frame place owing has None given stands owes = absurd (cc)
 given_key entries nodes frame place owing has (Some key) given stands owes =
     record { has = has; key = key; stands = stands; given = given; owes = owed_by (version_at nodes key) owing owes }
+
+-- nobody owes what a place was given
+abbrev pub NoneOwes : Slab Node → Place → Type 0
+NoneOwes nodes has = given_of nodes has.given ≡ None
+
+none_some : (owing : ℕ) → None ≡ Some owing → ⊥
+none_some owing e = cc
+
+pub awaits_here : (entries : Entries) (nodes : Slab Node) (frame place owing : ℕ) (has : Place) → place_at entries frame place ≡ Some has
+    → given_of nodes has.given ≡ Some owing → AwaitsAt entries nodes frame place owing
+awaits_here entries nodes frame place owing has stands owes = given_key entries nodes frame place owing has has.given refl stands owes
+
+pub awaits_none : (entries : Entries) (nodes : Slab Node) (frame place owing : ℕ) (waits : AwaitsAt entries nodes frame place owing) → NoneOwes nodes waits.has → ⊥
+awaits_none entries nodes frame place owing waits none = none_some owing (sym none ∙ ap (given_of nodes) waits.given ∙ ap owing_of waits.owes)
+
+-- ---- as contracts see it
 
 pub awaits_kept : (entries : Entries) (nodes : Slab Node) (made frame place owing : ℕ) → Awaits (versions_of entries nodes made) frame place owing → AwaitsAt entries nodes frame place owing
 awaits_kept entries nodes made frame place owing waits =

@@ -1,4 +1,5 @@
 pub mod Order
+pub mod Walk
 pub mod Listing
 pub mod Settling
 pub mod Paying

@@ -1,5 +1,5 @@
 -- A version that a frame owes gets the frame's value.
-use Rattle.std.proofs.Common.{◌≡◌, ℕ, ◌+◌, ◌<◌, true, cond, ◌==◌, None, Some, refl, sym, ap, ◌∙◌, subst, arith, ⊎_elim}
+use Rattle.std.proofs.Common.{◌≡◌, ℕ, ◌+◌, ◌<◌, true, cond, ◌==◌, Some, refl, sym, ap, ◌∙◌, subst, arith, ⊎_elim}
 use Rattle.std.proofs.lemmas.Bool.{cases_eq}
 use Rattle.std.specs.Option.{unwrap_or}
 use Rattle.slab.specs.Slab.{Slab, get, Updates}
@@ -15,9 +15,6 @@ use Rattle.object_versions.specs.Ending.{IsSettling, OwesNoMore, IsPaid}
 use Rattle.object_versions.proofs.Counts.{counted_after, told_here, told_elsewhere, HasNode, used, uses_at, present_used, owes_used}
 use Rattle.object_versions.proofs.Seeing.{seen_some}
 use Rattle.object_versions.proofs.Listing.{left_of, equal_to}
-
-settled_same : (a b : Value) → settled a ≡ settled b → a ≡ b
-settled_same a b e = cc
 
 settled_owes : (value : Value) (frame : ℕ) → settled value ≡ owed frame → ⊥
 settled_owes value frame e = cc
@@ -61,20 +58,8 @@ module _ (entries : Entries) (start now : Slab Node) (made n : ℕ) (begun : IsS
   pub reads_value : (value : Value) × (version_at now has.present ≡ settled value)
   reads_value = (began_with.0, begun.stay has.present began_with.0 present_use began_with.1)
 
-  pub reads_settled : (m : ℕ) → version_at now has.present ≡ owed m → ⊥
-  reads_settled m e = settled_owes began_with.0 m (sym (begun.stay has.present began_with.0 present_use began_with.1) ∙ e)
-
   pub read_at_start : (value : Value) → version_at now has.present ≡ settled value → version_at start has.present ≡ settled value
   read_at_start value reads = began_with.1 ∙ sym (begun.stay has.present began_with.0 present_use began_with.1) ∙ reads
-
--- a step that settles nothing
-pub owes_the_same : (entries : Entries) (nodes : Slab Node) → OwesNoMore entries nodes nodes
-owes_the_same entries nodes = record { before = λ k m h e. e }
-
-pub pays_nothing : (nodes : Slab Node) (has : Place) → has.owes ≡ None → IsPaid nodes has
-pays_nothing nodes has none = record { settled = λ k m is e. absurd (none_some k (sym none ∙ is)) } where
-  none_some : (k : ℕ) → None ≡ Some k → ⊥
-  none_some k e = cc
 
 module _ (entries : Entries) (start now next : Slab Node) (made n q : ℕ) (has : Place) (key : ℕ) (value : Value) (begun : IsSettling entries start now made n)
     (stands : place_at entries n q ≡ Some has) (owes : has.owes ≡ Some key) (reads : version_at now has.present ≡ settled value)

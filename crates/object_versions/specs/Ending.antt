@@ -1,5 +1,5 @@
 -- How versions are settled and forgotten where a frame ends.
-use Rattle.std.specs.Prelude.{◌≡◌, ℕ, ◌<◌, ◌+◌, ◌==◌, Bool, not, Some, IsSome, filter}
+use Rattle.std.specs.Prelude.{◌≡◌, ℕ, ◌<◌, ◌+◌, ◌==◌, Bool, not, Some, filter}
 use Rattle.slab.specs.Slab.{Slab}
 use Rattle.swan_model.specs.declared.value.Value.{Value}
 use Rattle.swan_model.specs.Versions.{settled, owed, settle, IsSettled}
@@ -26,12 +26,6 @@ pub record OwesNoMore (entries : Entries) (old new : Slab Node) : Type 0 where
 -- the version that is owed for a place has its value
 pub record IsPaid (nodes : Slab Node) (place : Place) : Type 0 where
   pub settled : (key frame : ℕ) → place.owes ≡ Some key → version_at nodes key ≡ owed frame → ⊥
-
--- the versions of a frame's places below this one have their values, and the frame has an object at this one
-pub record IsUnderWay (entries : Entries) (start now : Slab Node) (frame at : ℕ) : Type 0 where
-  pub stands : IsSome (place_at entries frame at)
-  pub settling : (made : ℕ) → IsSettling entries start start made frame → IsSettling entries start now made frame
-  pub paid : (made place : ℕ) (has : Place) → IsSettling entries start start made frame → place_at entries frame place ≡ Some has → place < at → IsPaid now has
 
 -- each version that a frame owes has its value
 pub record IsAllPaid (entries : Entries) (nodes : Slab Node) (frame : ℕ) : Type 0 where

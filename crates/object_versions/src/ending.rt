@@ -9,7 +9,7 @@ ghost use Rattle.object_versions.specs.Whole.{IsWhole};
 ghost use Rattle.object_versions.specs.Ending.{IsSettling, OwesNoMore, IsPaid, IsAllPaid, IsReleased, IsForgetting};
 
 use crate::nodes::{release, settle, value_at};
-use crate::places::{first_place, place_after, take_out};
+use crate::places::{first_place, take_out};
 use crate::{Node, Place};
 use slab::Slab;
 use std::collections::BTreeMap;
@@ -36,7 +36,8 @@ fn settle_owed(nodes: &mut Slab<Node>, place: &Place) -> Result<(), NoMemory>
     Ok(())
 }
 
-/// Settles each version that a frame owes. `O(k log n)` for k objects of the frame.
+/// Settles each version that a frame owes: one walk over the frame's places, `O(k + log n)` for k objects of
+/// the frame and n places of all frames.
 pub fn settle_all(
     places: &BTreeMap<(u64, u32), Place>,
     nodes: &mut Slab<Node>,
@@ -46,19 +47,13 @@ pub fn settle_all(
     ensures settling { (made : ℕ) → IsSettling places.now.entries nodes.old nodes.old made frame → IsSettling places.now.entries nodes.old nodes.new made frame }
     ensures paid { OnOk result ((made : ℕ) → IsSettling places.now.entries nodes.old nodes.old made frame → IsAllPaid places.now.entries nodes.new frame) }
 {
-    let Some(mut at) = first_place(places, frame) else {
-        return Ok(());
-    };
-    loop {
-        let Some(place) = places.get(&(frame, at)) else {
-            unreachable!()
-        };
-        settle_owed(nodes, place)?;
-        match place_after(places, frame, at) {
-            Some(next) => at = next,
-            None => return Ok(()),
+    for (&(owner, _), place) in places.range((frame, 0)..) {
+        if owner != frame {
+            return Ok(());
         }
+        settle_owed(nodes, place)?;
     }
+    Ok(())
 }
 
 /// Counts one less who refers to a version, where there is one. `O(1)`; it takes no memory.

@@ -9,7 +9,6 @@ ghost use Rattle.object_versions.specs.declared.place.Place.{Place as Kept};
 
 use crate::Place;
 use std::collections::BTreeMap;
-use std::ops::Bound;
 use swan_model::NoMemory;
 
 /// The first place at which a frame has an object. `O(log n)`; it takes no memory.
@@ -20,20 +19,6 @@ pub fn first_place(places: &BTreeMap<(u64, u32), Place>, frame: u64) -> Option<u
 {
     match places.range((frame, 0)..).next() {
         Some((&(owner, place), _)) if owner == frame => Some(place),
-        _ => None,
-    }
-}
-
-/// The first place after this one at which a frame has an object. `O(log n)`; it takes no memory.
-pub fn place_after(places: &BTreeMap<(u64, u32), Place>, frame: u64, place: u32) -> Option<u32>
-    ensures stands { IfSome result (λ next. IsSome (place_at places.now.entries frame next)) }
-    ensures after { IfSome result (λ next. place < next) }
-    ensures least { IfSome result (λ next. (other : ℕ) → IsSome (place_at places.now.entries frame other) → place < other → next ≤ other) }
-    ensures none { IfNone result ((other : ℕ) → IsSome (place_at places.now.entries frame other) → other ≤ place) }
-{
-    let later = (Bound::Excluded((frame, place)), Bound::Unbounded);
-    match places.range(later).next() {
-        Some((&(owner, next), _)) if owner == frame => Some(next),
         _ => None,
     }
 }

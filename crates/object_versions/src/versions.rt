@@ -157,8 +157,8 @@ impl Versions {
     }
 
     /// Whether each version that the frame was given to read has its value: Ok exactly where none is owed any
-    /// more, and else Err with the frame that owes the one of the lowest place. `O(k log n)` for k objects of
-    /// the frame; it takes no memory.
+    /// more, and else Err with the frame that owes the one of the lowest place. `O(k + log n)` for k objects
+    /// of the frame and n places of all frames; it takes no memory.
     pub fn ready(&self, frame: u64) -> Result<(), u64>
         ensures ok { OnOk result ((place owing : ℕ) → ¬ Awaits self.now frame place owing) }
         ensures err { IfErr result (λ owing. (place : ℕ) × (awaits : Awaits self.now frame place owing)
@@ -227,7 +227,8 @@ impl Versions {
 
     /// Ends a frame: each version that it owes gets the frame's value, for all who have that version, and
     /// what the frame has is forgotten. What frame 0 has stays. Err is want of memory for a copy of a value.
-    /// `O(k log n)` for k objects of the frame, however many have its versions.
+    /// For k objects of the frame and n places of all frames settling is `O(k + log n)`, however many have
+    /// the frame's versions, and forgetting is k removals of `O(log n)` each.
     pub fn finish(&mut self, frame: u64) -> Result<(), NoMemory>
         requires settled { IsSettled self.old frame }
         ensures ok { OnOk result (self.new ≡ after_finish self.old frame) }

@@ -1,36 +1,57 @@
-use Rattle.std.proofs.Common.{sym}
+use Rattle.std.proofs.Common.{sym, subst, ◌∙◌}
+use Rattle.object_versions.specs.Store.{Entries}
 use Rattle.object_versions.proofs.Settling.{reads_value}
-use Rattle.object_versions.proofs.Paying.{next_under_way, all_paid}
+use Rattle.object_versions.proofs.Paying.{IsPaidThen, next_under_way, all_paid, all_paid_at_end}
+use Rattle.object_versions.proofs.Walk.{IsWalk, begins, stands}
 use Rattle.object_versions.proofs.ending.settle_all.Goals as goal
+
+pub loop-owner-init : goal.loop-owner-init
+loop-owner-init c =
+    let entries = c.args.places.now.entries in
+    let start = c.args.nodes.now in
+    let Done = IsPaidThen entries start start c.args.frame in
+    let P : Entries → Type 0 = λ left. IsWalk entries left c.args.frame Done in (
+      tt,
+      tt,
+      record {
+        settling = λ made begun. begun;
+        walk = subst P (sym (c.into_iter-owner-iterator.ensures.into_iter_gives ∙ c.range-owner-items.ensures.between tt))
+            (begins entries c.args.frame Done c.range-owner-items.ensures.ordered);
+      },
+    )
+
+pub returns-then-owner-frame-clause-paid : goal.returns-then-owner-frame-clause-paid
+returns-then-owner-frame-clause-paid c =
+    let under = rw c.in-Some.ensures.steps at c.loop-owner.invariant.2 in
+    all_paid _ _ _ _ c.args.nodes.now _ _ under c.if-owner-frame.true
 
 pub settle_owed-requires : goal.settle_owed-requires
 settle_owed-requires c =
-    let entries = c.args.places.now.entries in
-    let start = c.args.nodes.now in
+    let under = rw c.in-Some.ensures.steps at c.loop-owner.invariant.2 in
     let made = c.requires.began.0 in
-    let settling = c.loop-place.invariant.settling made c.requires.began.1 in
-    record { reads = reads_value entries start c.loop-place.nodes made c.args.frame settling c.loop-place.at c.in-Some-get.place.now (sym c.in-Some-get.ensures.value) }
+    record { reads = reads_value _ _ _ made c.args.frame (under.settling made c.requires.began.1) _ _ (stands _ _ _ _ _ under.walk c.if-owner-frame.false) }
 
-pub loop-place-preserved : goal.loop-place-preserved
-loop-place-preserved c =
+pub returns-in_err-settle_owed-clause-settling : goal.returns-in_err-settle_owed-clause-settling
+returns-in_err-settle_owed-clause-settling c = λ made begun.
+    let under = rw c.in-Some.ensures.steps at c.loop-owner.invariant.2 in
+    let here = stands _ _ _ _ _ under.walk c.if-owner-frame.false in
+    c.in_err-settle_owed.ensures.settling c.args.places.now.entries c.args.nodes.now made c.args.frame _ (under.settling made begun) here
+
+pub loop-owner-preserved : goal.loop-owner-preserved
+loop-owner-preserved c =
     let entries = c.args.places.now.entries in
     let start = c.args.nodes.now in
-    let at = c.loop-place.at in
-    let stands = sym c.in-Some-get.ensures.value in
-    next_under_way entries start c.loop-place.nodes c.settle_owed.new.nodes c.args.frame at c.in-Some-get.place.now c.loop-place.invariant stands
-    (λ made begun. c.in_ok-settle_owed.ensures.settling entries start made c.args.frame at begun stands)
-    (λ made begun. c.in_ok-settle_owed.ensures.no_more entries start made c.args.frame at begun stands)
-    (λ made begun. c.in_ok-settle_owed.ensures.paid entries start made c.args.frame at begun stands)
-    c.in-Some-place_after.next c.in-Some-place_after.ensures.stands c.in-Some-place_after.ensures.least
+    let under = rw c.in-Some.ensures.steps at c.loop-owner.invariant.2 in
+    let here = stands _ _ _ _ _ under.walk c.if-owner-frame.false in (
+      tt,
+      tt,
+      next_under_way _ _ _ _ c.settle_owed.new.nodes _ _ under
+          (λ made begun. c.in_ok-settle_owed.ensures.settling entries start made c.args.frame _ begun here)
+          (λ made begun. c.in_ok-settle_owed.ensures.no_more entries start made c.args.frame _ begun here)
+          (λ made begun. c.in_ok-settle_owed.ensures.paid entries start made c.args.frame _ begun here),
+    )
 
-pub returns-in-None-clause-paid : goal.returns-in-None-clause-paid
-returns-in-None-clause-paid c =
-    let entries = c.args.places.now.entries in
-    let start = c.args.nodes.now in
-    let at = c.loop-place.at in
-    let stands = sym c.in-Some-get.ensures.value in
-    all_paid entries start c.loop-place.nodes c.settle_owed.new.nodes c.args.frame at c.in-Some-get.place.now c.loop-place.invariant stands
-    (λ made begun. c.in_ok-settle_owed.ensures.settling entries start made c.args.frame at begun stands)
-    (λ made begun. c.in_ok-settle_owed.ensures.no_more entries start made c.args.frame at begun stands)
-    (λ made begun. c.in_ok-settle_owed.ensures.paid entries start made c.args.frame at begun stands)
-    c.in-None.ensures.none
+pub returns-clause-paid : goal.returns-clause-paid
+returns-clause-paid c =
+    let under = rw c.in-None.ensures.steps.0 at c.loop-owner.invariant.2 in
+    all_paid_at_end _ _ _ _ under

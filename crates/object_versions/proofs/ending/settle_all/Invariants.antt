@@ -1,9 +1,8 @@
-use Rattle.std.proofs.Common.{◌-◌, ◌^◌}
-use Rattle.object_versions.specs.Ending.{IsUnderWay}
+use Rattle.object_versions.proofs.Paying.{IsUnderWay}
 use Rattle.object_versions.proofs.ending.settle_all.Given as goal
 
-abbrev pub invariant-loop-place : goal.invariant-loop-place
-invariant-loop-place l = IsUnderWay l.places.entries l.fn.nodes l.nodes l.frame l.at
-
-abbrev pub decreases-loop-place : goal.decreases-loop-place
-decreases-loop-place l = 2 ^ 32 - l.at
+abbrev pub invariant-loop-owner : goal.invariant-loop-owner
+invariant-loop-owner l =
+    (goal.iterator-loop-owner).can_next l.owner-iterator ×
+    (goal.iterator-loop-owner).is_finite l.owner-iterator ×
+    IsUnderWay l.places.entries l.owner-iterator l.fn.nodes l.nodes l.frame
