@@ -5,186 +5,143 @@ ghost use Rattle.swan_model.specs.declared.rights.Mode.TheVariants.{In, Out, InO
 ghost use Rattle.swan_model.specs.Versions.{after_access};
 ghost use Rattle.object_versions.specs.Store.{place_at, KeepsOwed, versions_of};
 ghost use Rattle.object_versions.specs.Whole.{IsWhole, MayGive};
-ghost use Rattle.object_versions.specs.declared.place.Place.{Place as Kept};
+ghost use Rattle.object_versions.specs.declared.place.Place.{Place as Held};
 
 use crate::nodes::{make, release, share};
-use crate::objects::release_given;
 use crate::places::{put, set_present};
-use crate::{Node, Place, State};
-use slab::Slab;
-use std::alloc::Global;
-use std::collections::BTreeMap;
+use crate::store::Store;
+use crate::{Place, State};
 use swan_model::{Mode, NoMemory, Value};
 
-/// Gives a child a parent's object to read: its version is the parent's. `O(log n)`.
-pub fn give_to_read(
-    places: &mut BTreeMap<(u64, u32), Place>,
-    nodes: &mut Slab<Node>,
-    object: &Place,
-    parent: u64,
-    parent_place: u32,
-    child: u64,
-    child_place: u32,
-) -> Result<(), NoMemory>
-    requires differ { parent ≢ child }
-    requires stands { place_at places.old.entries parent parent_place ≡ Some object.now }
-    requires may { allows object.now.mode In ≡ true }
-    requires free { place_at places.old.entries child child_place ≡ None }
-    requires alone { MayGive places.old.entries child object.now.object In }
-    ensures whole { OnOk result ((made : ℕ) → IsWhole places.old.entries nodes.old made (λ _. 0) → IsWhole places.new.entries nodes.new made (λ _. 0)) }
-    ensures given { OnOk result ((made : ℕ) → IsWhole places.old.entries nodes.old made (λ _. 0)
-        → versions_of places.new.entries nodes.new made ≡ after_access (versions_of places.old.entries nodes.old made) parent parent_place child child_place In) }
-    ensures keeps { OnOk result ((has : Kept) → place_at places.new.entries parent parent_place ≡ Some has → has.given ≡ object.now.given) }
-    ensures shares { OnOk result ((has : Kept) → place_at places.new.entries child child_place ≡ Some has → has.present ≡ object.now.present) }
-{
-    let shared = object.present;
-    share(nodes, shared, 2)?;
-    let read = Place {
-        object: object.object,
-        kind: object.kind,
-        mode: Mode::In,
-        given: Some(shared),
-        present: shared,
-        owes: None,
-    };
-    put(places, child, child_place, read)?;
-    Ok(())
+/// Where an object is given from, and where to.
+#[derive(Clone, Copy)]
+pub struct Gift {
+    /// The frame that gives.
+    pub parent: u64,
+    /// The place at which that has the object.
+    pub parent_place: u32,
+    /// The frame to which it is given.
+    pub child: u64,
+    /// The place at which that gets it.
+    pub child_place: u32,
 }
 
-/// Gives a child a parent's object to write: its version has the zero of the object's kind, and the
-/// parent has one that the child owes. `O(log n)`, amortised.
-pub fn give_to_write(
-    alloc: Global,
-    places: &mut BTreeMap<(u64, u32), Place>,
-    nodes: &mut Slab<Node>,
-    object: &Place,
-    parent: u64,
-    parent_place: u32,
-    child: u64,
-    child_place: u32,
-) -> Result<(), NoMemory>
-    requires differ { parent ≢ child }
-    requires stands { place_at places.old.entries parent parent_place ≡ Some object.now }
-    requires may { allows object.now.mode Out ≡ true }
-    requires free { place_at places.old.entries child child_place ≡ None }
-    requires alone { MayGive places.old.entries child object.now.object Out }
-    ensures whole { OnOk result ((made : ℕ) → IsWhole places.old.entries nodes.old made (λ _. 0) → IsWhole places.new.entries nodes.new made (λ _. 0)) }
-    ensures given { OnOk result ((made : ℕ) → IsWhole places.old.entries nodes.old made (λ _. 0)
-        → versions_of places.new.entries nodes.new made ≡ after_access (versions_of places.old.entries nodes.old made) parent parent_place child child_place Out) }
-    ensures keeps { OnOk result ((has : Kept) → place_at places.new.entries parent parent_place ≡ Some has → has.given ≡ object.now.given) }
-{
-    let zero = Value::zero(alloc, object.kind)?;
-    let owed = make(nodes, object.object, State::Owed(child), 2)?;
-    let own = make(nodes, object.object, State::Settled(zero), 1)?;
-    let written = Place {
-        object: object.object,
-        kind: object.kind,
-        mode: Mode::Out,
-        given: None,
-        present: own,
-        owes: Some(owed),
-    };
-    put(places, child, child_place, written)?;
-    set_present(places, parent, parent_place, owed);
-    release(nodes, object.present);
-    Ok(())
-}
+impl Store {
+    /// Gives a child the object at a parent's place, by a mode of objects. `O(log n)`, amortised.
+    pub fn give(&mut self, gift: Gift, mode: Mode) -> Result<(), NoMemory>
+        requires differ { gift.parent ≢ gift.child }
+        requires stands { (object : Held) × (place_at self.old.places.entries gift.parent gift.parent_place ≡ Some object)
+            × (allows object.mode mode ≡ true) × MayGive self.old.places.entries gift.child object.object mode }
+        requires of_objects { is_queue_mode mode ≡ false }
+        requires free { place_at self.old.places.entries gift.child gift.child_place ≡ None }
+        ensures whole { OnOk result ((made : ℕ) → IsWhole self.old.places.entries self.old.nodes made (λ _. 0) → IsWhole self.new.places.entries self.new.nodes made (λ _. 0)) }
+        ensures given { OnOk result ((made : ℕ) → IsWhole self.old.places.entries self.old.nodes made (λ _. 0)
+            → versions_of self.new.places.entries self.new.nodes made
+            ≡ after_access (versions_of self.old.places.entries self.old.nodes made) gift.parent gift.parent_place gift.child gift.child_place mode) }
+        ensures given_up { OnOk result ((made : ℕ) → IsWhole self.old.places.entries self.old.nodes made (λ _. 0)
+            → (has : Held) → place_at self.new.places.entries gift.parent gift.parent_place ≡ Some has → KeepsOwed self.new.nodes has.given) }
+        ensures shares { OnOk result (allows mode In ≡ true → (object has : Held) → place_at self.old.places.entries gift.parent gift.parent_place ≡ Some object
+            → place_at self.new.places.entries gift.child gift.child_place ≡ Some has → has.present ≡ object.present) }
+    {
+        let Some(&found) = self.places.get(&(gift.parent, gift.parent_place)) else {
+            unreachable!()
+        };
+        let object = self.release_given(gift.parent, gift.parent_place, found);
+        match mode {
+            Mode::In => self.give_to_read(&object, gift),
+            Mode::Out => self.give_to_write(&object, gift),
+            Mode::InOut => self.give_to_change(&object, gift),
+            _ => unreachable!(),
+        }
+    }
 
-/// Gives a child a parent's object to read and write: its version is the parent's, and the parent has one
-/// that the child owes. `O(log n)`, amortised.
-pub fn give_to_change(
-    places: &mut BTreeMap<(u64, u32), Place>,
-    nodes: &mut Slab<Node>,
-    object: &Place,
-    parent: u64,
-    parent_place: u32,
-    child: u64,
-    child_place: u32,
-) -> Result<(), NoMemory>
-    requires differ { parent ≢ child }
-    requires stands { place_at places.old.entries parent parent_place ≡ Some object.now }
-    requires may { allows object.now.mode InOut ≡ true }
-    requires free { place_at places.old.entries child child_place ≡ None }
-    requires alone { MayGive places.old.entries child object.now.object InOut }
-    ensures whole { OnOk result ((made : ℕ) → IsWhole places.old.entries nodes.old made (λ _. 0) → IsWhole places.new.entries nodes.new made (λ _. 0)) }
-    ensures given { OnOk result ((made : ℕ) → IsWhole places.old.entries nodes.old made (λ _. 0)
-        → versions_of places.new.entries nodes.new made ≡ after_access (versions_of places.old.entries nodes.old made) parent parent_place child child_place InOut) }
-    ensures keeps { OnOk result ((has : Kept) → place_at places.new.entries parent parent_place ≡ Some has → has.given ≡ object.now.given) }
-    ensures shares { OnOk result ((has : Kept) → place_at places.new.entries child child_place ≡ Some has → has.present ≡ object.now.present) }
-{
-    share(nodes, object.present, 2)?;
-    let next = make(nodes, object.object, State::Owed(child), 2)?;
-    let changed = Place {
-        object: object.object,
-        kind: object.kind,
-        mode: Mode::InOut,
-        given: Some(object.present),
-        present: object.present,
-        owes: Some(next),
-    };
-    put(places, child, child_place, changed)?;
-    set_present(places, parent, parent_place, next);
-    release(nodes, object.present);
-    Ok(())
-}
+    /// Gives a child a parent's object to read: its version is the parent's. `O(log n)`.
+    fn give_to_read(&mut self, object: &Place, gift: Gift) -> Result<(), NoMemory>
+        requires differ { gift.parent ≢ gift.child }
+        requires stands { place_at self.old.places.entries gift.parent gift.parent_place ≡ Some object.now }
+        requires may { allows object.now.mode In ≡ true }
+        requires free { place_at self.old.places.entries gift.child gift.child_place ≡ None }
+        requires alone { MayGive self.old.places.entries gift.child object.now.object In }
+        ensures whole { OnOk result ((made : ℕ) → IsWhole self.old.places.entries self.old.nodes made (λ _. 0) → IsWhole self.new.places.entries self.new.nodes made (λ _. 0)) }
+        ensures given { OnOk result ((made : ℕ) → IsWhole self.old.places.entries self.old.nodes made (λ _. 0)
+            → versions_of self.new.places.entries self.new.nodes made
+            ≡ after_access (versions_of self.old.places.entries self.old.nodes made) gift.parent gift.parent_place gift.child gift.child_place In) }
+        ensures keeps { OnOk result ((has : Held) → place_at self.new.places.entries gift.parent gift.parent_place ≡ Some has → has.given ≡ object.now.given) }
+        ensures shares { OnOk result ((has : Held) → place_at self.new.places.entries gift.child gift.child_place ≡ Some has → has.present ≡ object.now.present) }
+    {
+        let shared = object.present;
+        share(&mut self.nodes, shared, 2)?;
+        let read = Place {
+            object: object.object,
+            kind: object.kind,
+            mode: Mode::In,
+            given: Some(shared),
+            present: shared,
+            owes: None,
+        };
+        put(&mut self.places, gift.child, gift.child_place, read)?;
+        Ok(())
+    }
 
-/// Gives a child the object at a parent's place, by a mode of objects. `O(log n)`, amortised.
-pub fn give(
-    alloc: Global,
-    places: &mut BTreeMap<(u64, u32), Place>,
-    nodes: &mut Slab<Node>,
-    parent: u64,
-    parent_place: u32,
-    child: u64,
-    child_place: u32,
-    mode: Mode,
-) -> Result<(), NoMemory>
-    requires differ { parent ≢ child }
-    requires stands { (object : Kept) × (place_at places.old.entries parent parent_place ≡ Some object)
-        × (allows object.mode mode ≡ true) × MayGive places.old.entries child object.object mode }
-    requires of_objects { is_queue_mode mode ≡ false }
-    requires free { place_at places.old.entries child child_place ≡ None }
-    ensures whole { OnOk result ((made : ℕ) → IsWhole places.old.entries nodes.old made (λ _. 0) → IsWhole places.new.entries nodes.new made (λ _. 0)) }
-    ensures given { OnOk result ((made : ℕ) → IsWhole places.old.entries nodes.old made (λ _. 0)
-        → versions_of places.new.entries nodes.new made ≡ after_access (versions_of places.old.entries nodes.old made) parent parent_place child child_place mode) }
-    ensures given_up { OnOk result ((made : ℕ) → IsWhole places.old.entries nodes.old made (λ _. 0)
-        → (has : Kept) → place_at places.new.entries parent parent_place ≡ Some has → KeepsOwed nodes.new has.given) }
-    ensures shares { OnOk result (allows mode In ≡ true → (object has : Kept) → place_at places.old.entries parent parent_place ≡ Some object
-        → place_at places.new.entries child child_place ≡ Some has → has.present ≡ object.present) }
-{
-    let Some(&found) = places.get(&(parent, parent_place)) else {
-        unreachable!()
-    };
-    let object = release_given(places, nodes, parent, parent_place, found);
-    match mode {
-        Mode::In => give_to_read(
-            places,
-            nodes,
-            &object,
-            parent,
-            parent_place,
-            child,
-            child_place,
-        ),
-        Mode::Out => give_to_write(
-            alloc,
-            places,
-            nodes,
-            &object,
-            parent,
-            parent_place,
-            child,
-            child_place,
-        ),
-        Mode::InOut => give_to_change(
-            places,
-            nodes,
-            &object,
-            parent,
-            parent_place,
-            child,
-            child_place,
-        ),
-        _ => unreachable!(),
+    /// Gives a child a parent's object to write: its version has the zero of the object's kind, and the
+    /// parent has one that the child owes. `O(log n)`, amortised.
+    fn give_to_write(&mut self, object: &Place, gift: Gift) -> Result<(), NoMemory>
+        requires differ { gift.parent ≢ gift.child }
+        requires stands { place_at self.old.places.entries gift.parent gift.parent_place ≡ Some object.now }
+        requires may { allows object.now.mode Out ≡ true }
+        requires free { place_at self.old.places.entries gift.child gift.child_place ≡ None }
+        requires alone { MayGive self.old.places.entries gift.child object.now.object Out }
+        ensures whole { OnOk result ((made : ℕ) → IsWhole self.old.places.entries self.old.nodes made (λ _. 0) → IsWhole self.new.places.entries self.new.nodes made (λ _. 0)) }
+        ensures given { OnOk result ((made : ℕ) → IsWhole self.old.places.entries self.old.nodes made (λ _. 0)
+            → versions_of self.new.places.entries self.new.nodes made
+            ≡ after_access (versions_of self.old.places.entries self.old.nodes made) gift.parent gift.parent_place gift.child gift.child_place Out) }
+        ensures keeps { OnOk result ((has : Held) → place_at self.new.places.entries gift.parent gift.parent_place ≡ Some has → has.given ≡ object.now.given) }
+    {
+        let zero = Value::zero(self.alloc, object.kind)?;
+        let owed = make(&mut self.nodes, object.object, State::Owed(gift.child), 2)?;
+        let own = make(&mut self.nodes, object.object, State::Settled(zero), 1)?;
+        let written = Place {
+            object: object.object,
+            kind: object.kind,
+            mode: Mode::Out,
+            given: None,
+            present: own,
+            owes: Some(owed),
+        };
+        put(&mut self.places, gift.child, gift.child_place, written)?;
+        set_present(&mut self.places, gift.parent, gift.parent_place, owed);
+        release(&mut self.nodes, object.present);
+        Ok(())
+    }
+
+    /// Gives a child a parent's object to read and write: its version is the parent's, and the parent has one
+    /// that the child owes. `O(log n)`, amortised.
+    fn give_to_change(&mut self, object: &Place, gift: Gift) -> Result<(), NoMemory>
+        requires differ { gift.parent ≢ gift.child }
+        requires stands { place_at self.old.places.entries gift.parent gift.parent_place ≡ Some object.now }
+        requires may { allows object.now.mode InOut ≡ true }
+        requires free { place_at self.old.places.entries gift.child gift.child_place ≡ None }
+        requires alone { MayGive self.old.places.entries gift.child object.now.object InOut }
+        ensures whole { OnOk result ((made : ℕ) → IsWhole self.old.places.entries self.old.nodes made (λ _. 0) → IsWhole self.new.places.entries self.new.nodes made (λ _. 0)) }
+        ensures given { OnOk result ((made : ℕ) → IsWhole self.old.places.entries self.old.nodes made (λ _. 0)
+            → versions_of self.new.places.entries self.new.nodes made
+            ≡ after_access (versions_of self.old.places.entries self.old.nodes made) gift.parent gift.parent_place gift.child gift.child_place InOut) }
+        ensures keeps { OnOk result ((has : Held) → place_at self.new.places.entries gift.parent gift.parent_place ≡ Some has → has.given ≡ object.now.given) }
+        ensures shares { OnOk result ((has : Held) → place_at self.new.places.entries gift.child gift.child_place ≡ Some has → has.present ≡ object.now.present) }
+    {
+        share(&mut self.nodes, object.present, 2)?;
+        let next = make(&mut self.nodes, object.object, State::Owed(gift.child), 2)?;
+        let changed = Place {
+            object: object.object,
+            kind: object.kind,
+            mode: Mode::InOut,
+            given: Some(object.present),
+            present: object.present,
+            owes: Some(next),
+        };
+        put(&mut self.places, gift.child, gift.child_place, changed)?;
+        set_present(&mut self.places, gift.parent, gift.parent_place, next);
+        release(&mut self.nodes, object.present);
+        Ok(())
     }
 }

@@ -30,9 +30,9 @@ mod giving;
 mod laws;
 mod node;
 mod nodes;
-mod objects;
 mod place;
 mod places;
+mod store;
 #[cfg(test)]
 mod tests;
 mod versions;

@@ -1,9 +1,9 @@
 // Versions by key, and how often places refer to each.
-ghost use Rattle.std.specs.Prelude.{◌≡◌, ◌↔◌, ◌+◌, IsTrue, IfOk, IfErr, OnOk, Some, None};
+ghost use Rattle.std.specs.Prelude.{◌≡◌, ◌↔◌, ◌+◌, IsTrue, IfOk, IfErr, IsSome, OnOk, Some, None};
 ghost use Rattle.slab.specs.Slab.{get, Updates};
 ghost use Rattle.swan_model.specs.Versions.{settled, owed};
 ghost use Rattle.object_versions.specs.Store.{version_at, uses_in, released, state_settled};
-ghost use Rattle.object_versions.specs.declared.node.Node.{Node as Kept};
+ghost use Rattle.object_versions.specs.declared.node.Node.{Node as Version};
 ghost use Rattle.object_versions.specs.declared.node.State.TheVariants.{Settled};
 
 use crate::{Node, State};
@@ -28,7 +28,7 @@ pub fn make(nodes: &mut Slab<Node>, object: u64, state: State, uses: u64) -> Res
 
 /// Counts so many more who refer to a version. Err also where the count would pass 64 bits. `O(1)`.
 pub fn share(nodes: &mut Slab<Node>, key: usize, more: u64) -> Result<(), NoMemory>
-    ensures { OnOk result ((node : Kept) → get nodes.old key ≡ Some node → Updates nodes.old nodes.new key (Some (record node { uses = node.uses + more }))) }
+    ensures { OnOk result ((node : Version) → get nodes.old key ≡ Some node → Updates nodes.old nodes.new key (Some (record node { uses = node.uses + more }))) }
 {
     let Some(node) = nodes.get_mut(key) else {
         return Ok(());
@@ -45,7 +45,7 @@ pub fn share(nodes: &mut Slab<Node>, key: usize, more: u64) -> Result<(), NoMemo
 /// Counts one less who refers to a version, and gives it up where nobody does any more. `O(1)`; it takes no
 /// memory.
 pub fn release(nodes: &mut Slab<Node>, key: usize)
-    ensures { (node : Kept) → get nodes.old key ≡ Some node → Updates nodes.old nodes.new key (released node) }
+    ensures { (node : Version) → get nodes.old key ≡ Some node → Updates nodes.old nodes.new key (released node) }
 {
     let Some(node) = nodes.get_mut(key) else {
         return;
@@ -59,7 +59,7 @@ pub fn release(nodes: &mut Slab<Node>, key: usize)
 
 /// Gives a version its value where a frame owes it. `O(1)`; it takes no memory.
 pub fn settle(nodes: &mut Slab<Node>, key: usize, value: Value)
-    ensures { (node : Kept) → get nodes.old key ≡ Some node → Updates nodes.old nodes.new key (Some (record node { state = state_settled node.state value })) }
+    ensures { (node : Version) → get nodes.old key ≡ Some node → Updates nodes.old nodes.new key (Some (record node { state = state_settled node.state value })) }
 {
     let Some(node) = nodes.get_mut(key) else {
         return;
@@ -81,10 +81,11 @@ pub fn is_alone(nodes: &Slab<Node>, key: usize) -> bool
 
 /// Gives a version this value, whatever it is. `O(1)`; it takes no memory.
 pub fn overwrite(nodes: &mut Slab<Node>, key: usize, value: Value)
-    ensures { (node : Kept) → get nodes.old key ≡ Some node → Updates nodes.old nodes.new key (Some (record node { state = Settled value })) }
+    requires { IsSome (get nodes.old key) }
+    ensures { (node : Version) → get nodes.old key ≡ Some node → Updates nodes.old nodes.new key (Some (record node { state = Settled value })) }
 {
     let Some(node) = nodes.get_mut(key) else {
-        return;
+        unreachable!()
     };
     node.state = State::Settled(value);
 }

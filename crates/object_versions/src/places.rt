@@ -5,7 +5,7 @@ ghost use Rattle.std.specs.Map.{keys_of, set_value, remove_entry};
 ghost use Rattle.std.specs.List.Sorted.{IsStrictlySortedBy};
 ghost use Rattle.swan_model.specs.Versions.{place_cmp};
 ghost use Rattle.object_versions.specs.Store.{place_at};
-ghost use Rattle.object_versions.specs.declared.place.Place.{Place as Kept};
+ghost use Rattle.object_versions.specs.declared.place.Place.{Place as Held};
 
 use crate::Place;
 use std::collections::BTreeMap;
@@ -39,7 +39,7 @@ pub fn put(
 
 /// Gives a frame another version at a place. `O(log n)`; it takes no memory.
 pub fn set_present(places: &mut BTreeMap<(u64, u32), Place>, frame: u64, place: u32, present: usize)
-    ensures set { (object : Kept) → place_at places.old.entries frame place ≡ Some object
+    ensures set { (object : Held) → place_at places.old.entries frame place ≡ Some object
         → places.new.entries ≡ set_value (is_at (place_cmp (frame, place))) places.old.entries (record object { present = present }) }
     ensures sorted { IsStrictlySortedBy place_cmp (keys_of places.new.entries) }
 {
@@ -50,7 +50,7 @@ pub fn set_present(places: &mut BTreeMap<(u64, u32), Place>, frame: u64, place: 
 
 /// Forgets which version a frame was given at a place. `O(log n)`; it takes no memory.
 pub fn forget_given(places: &mut BTreeMap<(u64, u32), Place>, frame: u64, place: u32)
-    ensures set { (object : Kept) → place_at places.old.entries frame place ≡ Some object
+    ensures set { (object : Held) → place_at places.old.entries frame place ≡ Some object
         → places.new.entries ≡ set_value (is_at (place_cmp (frame, place))) places.old.entries (record object { given = None }) }
     ensures sorted { IsStrictlySortedBy place_cmp (keys_of places.new.entries) }
 {

@@ -1,5 +1,5 @@
 // Renamed objects.
-ghost use Rattle.std.specs.Prelude.{◌≡◌, ◌≢◌, ℕ, ◌≤◌, false, true, Some, None, List, [], ◌∷◌, ◌++◌, length, slice_get, IfOk, IfErr, OnOk};
+ghost use Rattle.std.specs.Prelude.{◌≡◌, ◌≢◌, ℕ, ◌≤◌, false, true, Some, None, List, [], ◌∷◌, ◌++◌, ◌⊎◌, length, slice_get, IfOk, IfErr, OnOk};
 ghost use Rattle.swan_model.specs.declared.origin.Origin.{Origin};
 ghost use Rattle.swan_model.specs.declared.origin.Origin.TheVariants.{Root, Step};
 ghost use Rattle.swan_model.specs.declared.script.Deed.TheVariants as deed;
@@ -13,24 +13,18 @@ ghost use Rattle.swan_model.specs.Rights.{allows, is_queue_mode};
 ghost use Rattle.swan_model.specs.Versions.{Placed, VersionState, new_versions, placed_at, settled, owed, after_create, after_access, after_write, after_finish, Holds, MayGet, IsSettled, Awaits};
 
 use crate::ending::{forget_all, settle_all};
-use crate::giving::give;
+use crate::giving::Gift;
 use crate::nodes::value_at;
-use crate::objects::{create, write};
+use crate::store::Store;
 use crate::waiting::first_awaited;
-use crate::{Node, Place};
-use slab::Slab;
 use std::alloc::Global;
-use std::collections::BTreeMap;
 use std::marker::Model;
 use swan_model::{Mode, NoMemory, Value};
 
 /// The renamed objects of a run.
 #[derive(Drop)]
 pub struct Versions {
-    alloc: Global,
-    // What each frame has at its places, by frame and place.
-    places: BTreeMap<(u64, u32), Place>,
-    nodes: Slab<Node>,
+    store: Store,
     // How many objects were made. Contracts number objects by it; no answer rests on it.
     made: u64,
 }
@@ -43,9 +37,9 @@ impl Model for Versions {
     ghost use Rattle.object_versions.specs.Store.{versions_of};
     ghost use Rattle.object_versions.specs.Whole.{IsWhole};
 
-    ghost view = { λ kept. versions_of kept.places.entries kept.nodes kept.made };
+    ghost view = { λ kept. versions_of kept.store.places.entries kept.store.nodes kept.made };
 
-    ghost invariant = { λ kept. IsWhole kept.places.entries kept.nodes kept.made (λ _. 0) };
+    ghost invariant = { λ kept. IsWhole kept.store.places.entries kept.store.nodes kept.made (λ _. 0) };
 }
 
 impl Versions {
@@ -55,15 +49,14 @@ impl Versions {
         ensures follows { (s : Script) (queues : List Origin) → IsLawful s → Follows s (at_start queues []) result }
     {
         Versions {
-            alloc,
-            places: BTreeMap::new(alloc),
-            nodes: Slab::new(alloc),
+            store: Store::new(alloc),
             made: 0,
         }
     }
 
     /// Makes an object: the frame then has a version with its first value at the place, and may read and
-    /// write it. Err is want of memory. `O(log n)` for n places of all frames, amortised.
+    /// write it. Err is want of memory, and also where the count of objects that were made would pass 64 bits.
+    /// `O(log n)` for n places of all frames, amortised.
     pub fn create(&mut self, frame: u64, place: u32, first: Value) -> Result<(), NoMemory>
         requires free { placed_at self.old frame place ≡ None }
         ensures ok { OnOk result (self.new ≡ after_create self.old frame place first) }
@@ -81,21 +74,13 @@ impl Versions {
         let Some(made) = self.made.checked_add(1) else {
             return Err(NoMemory);
         };
-        match create(
-            &mut self.places,
-            &mut self.nodes,
-            self.made,
-            frame,
-            place,
-            first,
-        ) {
+        match self.store.create(self.made, frame, place, first) {
             Ok(()) => {
                 self.made = made;
                 Ok(())
             }
             Err(NoMemory) => {
-                self.places.clear();
-                self.nodes.clear();
+                self.store.clear();
                 Err(NoMemory)
             }
         }
@@ -104,7 +89,8 @@ impl Versions {
     /// Gives a child the object at a parent's place, by this mode. To read it the child has the parent's
     /// version. To write it the child has one of its own, with the zero of the object's kind, and the parent
     /// has one that the child owes. To read and write it the child has what was the parent's version, and the
-    /// parent has one that the child owes. Err is want of memory. `O(log n)`, amortised.
+    /// parent has one that the child owes. Err is want of memory, and also where the count of who refers to a
+    /// version would pass 64 bits. `O(log n)`, amortised.
     pub fn access(
         &mut self,
         parent: u64,
@@ -119,38 +105,39 @@ impl Versions {
         requires free { placed_at self.old child child_place ≡ None }
         requires alone { (object : Placed) → placed_at self.old parent parent_place ≡ Some object → MayGet self.old child object.object mode }
         ensures ok { OnOk result (self.new ≡ after_access self.old parent parent_place child child_place mode) }
-        ensures others { OnOk result ((frame place : ℕ) → frame ≢ parent → frame ≢ child → placed_at self.new frame place ≡ placed_at self.old frame place) }
-        ensures giving { OnOk result ((s : Script) (r : Reading) (giver : Progress) (made left : List Access) → IsLawful s
+        ensures others { OnOk result ((frame place : ℕ) → frame ≢ parent → ((frame ≢ child) ⊎ (place ≢ child_place))
+            → placed_at self.new frame place ≡ placed_at self.old frame place) }
+        ensures giving { let access : Access = record { place = parent_place; child_place = child_place; mode = mode } in
+            OnOk result ((s : Script) (r : Reading) (giver : Progress) (made left : List Access) → IsLawful s
             → frame_of r parent ≡ Some giver
-            → IsGiving s r self.old giver child made ((record { place = parent_place; child_place = child_place; mode = mode }) ∷ left)
-            → IsGiving s r self.new giver child (made ++ (record { place = parent_place; child_place = child_place; mode = mode }) ∷ []) left) }
-        ensures last { OnOk result ((s : Script) (r : Reading) (giver : Progress) (made : List Access) → IsLawful s
+            → IsGiving s r self.old giver child made (access ∷ left)
+            → IsGiving s r self.new giver child (made ++ access ∷ []) left) }
+        ensures last { let access : Access = record { place = parent_place; child_place = child_place; mode = mode } in
+            OnOk result ((s : Script) (r : Reading) (giver : Progress) (made : List Access) → IsLawful s
             → frame_of r parent ≡ Some giver
-            → IsGiving s r self.old giver child made ((record { place = parent_place; child_place = child_place; mode = mode }) ∷ [])
+            → IsGiving s r self.old giver child made (access ∷ [])
             → Follows s (spawned s r giver child) self.new) }
-        ensures beside { OnOk result ((s : Script) (r : Reading) (own giver : Progress) (other : ℕ) (done rest made left : List Access) → IsLawful s
-            → frame_of r parent ≡ Some own → IsGiving s r self.old own child done ((record { place = parent_place; child_place = child_place; mode = mode }) ∷ rest)
+        ensures beside { let access : Access = record { place = parent_place; child_place = child_place; mode = mode } in
+            OnOk result ((s : Script) (r : Reading) (own giver : Progress) (other : ℕ) (done rest made left : List Access) → IsLawful s
+            → frame_of r parent ≡ Some own → IsGiving s r self.old own child done (access ∷ rest)
             → frame_of r giver.number ≡ Some giver → parent ≢ giver.number → child ≢ other → IsGiving s r self.old giver other made left
             → IsGiving s r self.new giver other made left) }
-        ensures last_beside { OnOk result ((s : Script) (r : Reading) (own giver : Progress) (other : ℕ) (done made left : List Access) → IsLawful s
-            → frame_of r parent ≡ Some own → IsGiving s r self.old own child done ((record { place = parent_place; child_place = child_place; mode = mode }) ∷ [])
+        ensures last_beside { let access : Access = record { place = parent_place; child_place = child_place; mode = mode } in
+            OnOk result ((s : Script) (r : Reading) (own giver : Progress) (other : ℕ) (done made left : List Access) → IsLawful s
+            → frame_of r parent ≡ Some own → IsGiving s r self.old own child done (access ∷ [])
             → frame_of r giver.number ≡ Some giver → parent ≢ giver.number → child ≢ other → IsGiving s r self.old giver other made left
             → IsGiving s (spawned s r own child) self.new giver other made left) }
     {
-        match give(
-            self.alloc,
-            &mut self.places,
-            &mut self.nodes,
+        let gift = Gift {
             parent,
             parent_place,
             child,
             child_place,
-            mode,
-        ) {
+        };
+        match self.store.give(gift, mode) {
             Ok(()) => Ok(()),
             Err(NoMemory) => {
-                self.places.clear();
-                self.nodes.clear();
+                self.store.clear();
                 Err(NoMemory)
             }
         }
@@ -166,7 +153,7 @@ impl Versions {
         ensures owes { IfErr result (λ owing. (place : ℕ) (awaits : Awaits self.now frame place owing)
             → (other : ℕ) × (has : Placed) × (placed_at self.now owing other ≡ Some has) × (has.object ≡ awaits.object.object) × (allows has.mode Out ≡ true)) }
     {
-        match first_awaited(&self.places, &self.nodes, frame) {
+        match first_awaited(&self.store.places, &self.store.nodes, frame) {
             Some(awaited) => Err(awaited.owing),
             None => Ok(()),
         }
@@ -183,8 +170,8 @@ impl Versions {
         ensures owes { IfErr result (λ owing. (object : Placed) → placed_at self.now frame place ≡ Some object
             → (other : ℕ) × (has : Placed) × (placed_at self.now owing other ≡ Some has) × (has.object ≡ object.object) × (allows has.mode Out ≡ true)) }
     {
-        match self.places.get(&(frame, place)) {
-            Some(object) => value_at(&self.nodes, object.present),
+        match self.store.places.get(&(frame, place)) {
+            Some(object) => value_at(&self.store.nodes, object.present),
             None => unreachable!(),
         }
     }
@@ -205,30 +192,24 @@ impl Versions {
             → slice_get r.objects object.object ≡ Some origin → next_deed s writer ≡ Some (deed.Write origin value)
             → IsGiving s (gone_on r frame) self.new giver child made left) }
     {
-        let Some(&object) = self.places.get(&(frame, place)) else {
+        let Some(&object) = self.store.places.get(&(frame, place)) else {
             unreachable!()
         };
-        match write(
-            &mut self.places,
-            &mut self.nodes,
-            frame,
-            place,
-            object,
-            value,
-        ) {
+        match self.store.write(frame, place, object, value) {
             Ok(()) => Ok(()),
             Err(NoMemory) => {
-                self.places.clear();
-                self.nodes.clear();
+                self.store.clear();
                 Err(NoMemory)
             }
         }
     }
 
     /// Ends a frame: each version that it owes gets the frame's value, for all who have that version, and
-    /// what the frame has is forgotten. What frame 0 has stays. Err is want of memory for a copy of a value.
-    /// For k objects of the frame and n places of all frames settling is `O(k + log n)`, however many have
-    /// the frame's versions, and forgetting is k removals of `O(log n)` each.
+    /// what the frame has is forgotten. What frame 0 has stays. It may be called where `ready` answers Ok and the
+    /// frame's children have ended, for then each version of the frame has its value: the law
+    /// `ended_children_leave_all_settled`. Err is want of memory for a copy of a value. For k objects of the frame and
+    /// n places of all frames settling is `O(k + log n)`, no matter how many others have the frame's versions, and
+    /// forgetting is k removals of `O(log n)` each.
     pub fn finish(&mut self, frame: u64) -> Result<(), NoMemory>
         requires settled { IsSettled self.old frame }
         ensures ok { OnOk result (self.new ≡ after_finish self.old frame) }
@@ -238,10 +219,10 @@ impl Versions {
             → frame ≢ giver.number → frame ≢ child → IsGiving s r self.old giver child made left
             → frame_of r frame ≡ Some ended → ended.done ≡ length (times s ended.path) → IsGiving s r self.new giver child made left) }
     {
-        match settle_all(&self.places, &mut self.nodes, frame) {
+        match settle_all(&self.store.places, &mut self.store.nodes, frame) {
             Ok(()) => {
                 if frame != 0 {
-                    forget_all(&mut self.places, &mut self.nodes, frame);
+                    forget_all(&mut self.store.places, &mut self.store.nodes, frame);
                 }
                 Ok(())
             }
@@ -252,6 +233,6 @@ impl Versions {
     /// How many versions are kept.
     #[cfg(test)]
     pub fn version_count(&self) -> usize {
-        self.nodes.len()
+        self.store.nodes.len()
     }
 }

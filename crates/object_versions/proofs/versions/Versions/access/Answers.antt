@@ -11,16 +11,19 @@ pub give-requires-clause-stands : goal.give-requires-clause-stands
 give-requires-clause-stands c =
     let P : VersionState → Type 0 = λ state. Holds state c.args.parent c.args.parent_place c.args.mode in
     let Q : VersionState → Type 0 = λ state. (object : Placed) → placed_at state c.args.parent c.args.parent_place ≡ Some object → MayGet state c.args.child object.object c.args.mode in
-    may_give c.self.inside.places.entries c.self.inside.nodes c.self.inside.made c.args.parent c.args.parent_place c.args.child c.args.mode
+    may_give c.self.inside.store.places.entries c.self.inside.store.nodes c.self.inside.made c.args.parent c.args.parent_place c.args.child c.args.mode
     (subst P (sym c.self.view_is) c.requires.held) (subst Q (sym c.self.view_is) c.requires.alone)
 
 pub give-requires-clause-free : goal.give-requires-clause-free
 give-requires-clause-free c =
     let P : VersionState → Type 0 = λ state. placed_at state c.args.child c.args.child_place ≡ None in
-    free_of c.self.inside.places.entries c.self.inside.nodes c.self.inside.made c.args.child c.args.child_place (subst P (sym c.self.view_is) c.requires.free)
+    free_of c.self.inside.store.places.entries c.self.inside.store.nodes c.self.inside.made c.args.child c.args.child_place (subst P (sym c.self.view_is) c.requires.free)
 
 pub invariant_of-self : goal.invariant_of-self
 invariant_of-self c = c.in-Ok.ensures.whole c.self.inside.made c.self.invariant
+
+pub invariant_of-self-in-Err : goal.invariant_of-self-in-Err
+invariant_of-self-in-Err c = c.clear.ensures.whole c.self.inside.made
 
 pub returns-in-Ok-clause-others : goal.returns-in-Ok-clause-others
 returns-in-Ok-clause-others c = λ frame place from to.

@@ -8,7 +8,10 @@ use Rattle.object_versions.proofs.versions.Versions.create.Goals as goal
 pub create-requires-clause-free : goal.create-requires-clause-free
 create-requires-clause-free c =
     let P : VersionState → Type 0 = λ state. placed_at state c.args.frame c.args.place ≡ None in
-    free_of c.self.inside.places.entries c.self.inside.nodes c.self.inside.made c.args.frame c.args.place (subst P (sym c.self.view_is) c.requires.free)
+    free_of c.self.inside.store.places.entries c.self.inside.store.nodes c.self.inside.made c.args.frame c.args.place (subst P (sym c.self.view_is) c.requires.free)
+
+pub invariant_of-self-in-Err : goal.invariant_of-self-in-Err
+invariant_of-self-in-Err c = c.clear.ensures.whole c.self.inside.made
 
 pub returns-in-Ok-clause-root : goal.returns-in-Ok-clause-root
 returns-in-Ok-clause-root c = create_root c.args.self.now _ c.args.frame c.args.place c.args.first c.requires.free (search rules)

@@ -7,8 +7,8 @@ use Rattle.object_versions.proofs.versions.Versions.ready.Goals as goal
 
 pub returns-in-Some-clause-err : goal.returns-in-Some-clause-err
 returns-in-Some-clause-err c =
-    let entries = c.self.inside.places.entries in
-    let nodes = c.self.inside.nodes in
+    let entries = c.self.inside.store.places.entries in
+    let nodes = c.self.inside.store.nodes in
     let made = c.self.inside.made in
     let found = c.in-Some.awaited in
     let P : VersionState → Type 0 = λ state. (waits : Awaits state c.args.frame found.place found.owing) × (allows waits.object.mode In ≡ true) in
@@ -25,11 +25,11 @@ pub returns-in-None-clause-ok : goal.returns-in-None-clause-ok
 returns-in-None-clause-ok c = λ place owing waits.
     let P : VersionState → Type 0 = λ state. Awaits state c.args.frame place owing in
     c.in-None.ensures.none place owing
-    (awaits_kept c.self.inside.places.entries c.self.inside.nodes c.self.inside.made c.args.frame place owing (subst P (sym c.self.view_is) waits))
+    (awaits_kept c.self.inside.store.places.entries c.self.inside.store.nodes c.self.inside.made c.args.frame place owing (subst P (sym c.self.view_is) waits))
 
 pub returns-in-Some-clause-owes : goal.returns-in-Some-clause-owes
 returns-in-Some-clause-owes c =
     let owing = c.in-Some.awaited.owing in
     let P : VersionState → Type 0 = λ state. (place : ℕ) (awaits : Awaits state c.args.frame place owing)
     → (other : ℕ) × (has : Placed) × (placed_at state owing other ≡ Some has) × (has.object ≡ awaits.object.object) × (allows has.mode Out ≡ true) in
-    subst P c.self.view_is (λ place awaits. given_owes c.self.inside.places.entries c.self.inside.nodes c.self.inside.made c.self.invariant c.args.frame place owing awaits)
+    subst P c.self.view_is (λ place awaits. given_owes c.self.inside.store.places.entries c.self.inside.store.nodes c.self.inside.made c.self.invariant c.args.frame place owing awaits)

@@ -9,19 +9,19 @@ use Rattle.object_versions.proofs.versions.Versions.value.Goals as goal
 pub unreachable-requires : goal.unreachable-requires
 unreachable-requires c =
     let P : VersionState → Type 0 = λ state. placed_at state c.args.frame c.args.place ≡ Some c.requires.placed.0 in
-    absent c.self.inside.places.entries c.self.inside.nodes c.self.inside.made c.args.frame c.args.place c.requires.placed.0 (sym c.in-None.ensures.value) (subst P (sym c.self.view_is) c.requires.placed.1)
+    absent c.self.inside.store.places.entries c.self.inside.store.nodes c.self.inside.made c.args.frame c.args.place c.requires.placed.0 (sym c.in-None.ensures.value) (subst P (sym c.self.view_is) c.requires.placed.1)
 
 pub returns-clause-ok : goal.returns-clause-ok
 returns-clause-ok c = map_ok c.value_at.result _ _ (λ value reads object seen.
     let P : VersionState → Type 0 = λ state. placed_at state c.args.frame c.args.place ≡ Some object in
-    present_by c.self.inside.places.entries c.self.inside.nodes c.self.inside.made c.args.frame c.args.place c.in-Some.object.now (settled value.now)
+    present_by c.self.inside.store.places.entries c.self.inside.store.nodes c.self.inside.made c.args.frame c.args.place c.in-Some.object.now (settled value.now)
     (sym c.in-Some.ensures.value) reads object (subst P (sym c.self.view_is) seen))
     c.value_at.ensures.ok
 
 pub returns-clause-err : goal.returns-clause-err
 returns-clause-err c = map_err c.value_at.result _ _ (λ owing reads object seen.
     let P : VersionState → Type 0 = λ state. placed_at state c.args.frame c.args.place ≡ Some object in
-    present_by c.self.inside.places.entries c.self.inside.nodes c.self.inside.made c.args.frame c.args.place c.in-Some.object.now (owed owing)
+    present_by c.self.inside.store.places.entries c.self.inside.store.nodes c.self.inside.made c.args.frame c.args.place c.in-Some.object.now (owed owing)
     (sym c.in-Some.ensures.value) reads object (subst P (sym c.self.view_is) seen))
     c.value_at.ensures.err
 
@@ -30,7 +30,7 @@ returns-clause-owes c = map_err c.value_at.result _ _ (λ owing all object seen.
     let P : VersionState → Type 0 = λ state. placed_at state c.args.frame c.args.place ≡ Some object → (other : ℕ) × (has : Placed) × (placed_at state owing other ≡ Some has)
     × (has.object ≡ object.object) × (allows has.mode Out ≡ true) in
     subst P c.self.view_is
-    (λ stands. present_owes c.self.inside.places.entries c.self.inside.nodes c.self.inside.made c.self.invariant c.args.frame c.args.place owing object stands (all object seen)) seen)
+    (λ stands. present_owes c.self.inside.store.places.entries c.self.inside.store.nodes c.self.inside.made c.self.invariant c.args.frame c.args.place owing object stands (all object seen)) seen)
     (returns-clause-err c)
 
 pub returns-clause-follows : goal.returns-clause-follows

@@ -3,28 +3,28 @@ use Rattle.object_versions.specs.declared.place.Place.{Place}
 use Rattle.object_versions.specs.Store.{Entries, place_at}
 use Rattle.object_versions.proofs.Lookups.{at_set, still_set}
 use Rattle.object_versions.proofs.Forgotten.{forgotten_whole, forgotten_seen}
-use Rattle.object_versions.proofs.objects.release_given.Goals as goal
+use Rattle.object_versions.proofs.store.Store.release_given.Goals as goal
 
 pub returns-clause-stands : goal.returns-clause-stands
 returns-clause-stands c =
     let less : Place = record c.args.object { given = None } in
     ap (λ (es : Entries). place_at es c.args.frame c.args.place) (c.forget_given.ensures.set c.args.object c.requires)
-    ∙ at_set c.args.places.now.entries (c.args.frame, c.args.place) c.args.object less c.requires
+    ∙ at_set c.args.self.now.places.entries (c.args.frame, c.args.place) c.args.object less c.requires
 
 pub returns-clause-others : goal.returns-clause-others
 returns-clause-others c = λ other at apart.
     let less : Place = record c.args.object { given = None } in
     ap (λ (es : Entries). place_at es other at) (c.forget_given.ensures.set c.args.object c.requires)
-    ∙ still_set c.args.places.now.entries (c.args.frame, c.args.place) c.args.object less (other, at) c.requires (λ e. apart (ap (λ (n : ℕ × ℕ). n.0) e))
+    ∙ still_set c.args.self.now.places.entries (c.args.frame, c.args.place) c.args.object less (other, at) c.requires (λ e. apart (ap (λ (n : ℕ × ℕ). n.0) e))
 
 pub returns-clause-whole : goal.returns-clause-whole
 returns-clause-whole c = λ made whole.
-    forgotten_whole c.args.places.now.entries c.forget_given.new.places.entries c.args.nodes.now c.release.new.nodes made c.args.frame c.args.place
+    forgotten_whole c.args.self.now.places.entries c.forget_given.new.places.entries c.args.self.now.nodes c.release.new.nodes made c.args.frame c.args.place
     c.in-Some.given c.args.object c.in-Ok.field-0.now whole c.requires c.in-Some.is c.in-Ok.ensures.ok
     (c.forget_given.ensures.set c.args.object c.requires) c.forget_given.ensures.sorted c.release.ensures
 
 pub returns-clause-seen : goal.returns-clause-seen
 returns-clause-seen c = λ made whole.
-    forgotten_seen c.args.places.now.entries c.forget_given.new.places.entries c.args.nodes.now c.release.new.nodes made c.args.frame c.args.place
+    forgotten_seen c.args.self.now.places.entries c.forget_given.new.places.entries c.args.self.now.nodes c.release.new.nodes made c.args.frame c.args.place
     c.in-Some.given c.args.object c.in-Ok.field-0.now whole c.requires c.in-Some.is c.in-Ok.ensures.ok
     (c.forget_given.ensures.set c.args.object c.requires) c.forget_given.ensures.sorted c.release.ensures
