@@ -3,7 +3,7 @@ use Rattle.std.proofs.Common.{◌≡◌, ℕ, Bool, true, false, cond, Some, Non
 use Rattle.swan_model.specs.declared.rights.Mode.TheVariants.{In, Out}
 use Rattle.swan_model.specs.declared.value.Value.{Value}
 use Rattle.swan_model.specs.declared.value.Value.TheVariants.{Int}
-use Rattle.swan_model.specs.Versions.{settled, Placed, VersionState, placed_at, IsSettled, new_versions, after_create, after_access, after_write, written_at}
+use Rattle.swan_model.specs.Versions.{settled, Placed, VersionState, placed_at, IsSettled, new_versions, after_create, after_access, after_write, after_finish, written_at}
 use Rattle.object_versions.proofs.Lookups.{at_set}
 
 -- a frame has the object at a place
@@ -83,3 +83,21 @@ read_written = after_write read_third 2 0 (Int (pos 9))
 
 pub read_settled : IsSettled read_written 2
 read_settled = record { values = λ place object stands. (Int (pos 9), sym (ap (λ o. o.present) (only _ _ object stands))) }
+
+abbrev pub read_second_ended : VersionState
+read_second_ended = after_finish read_written 2
+
+pub first_settled : IsSettled read_second_ended 1
+first_settled = record { values = λ place object stands. (Int (pos 4), sym (ap (λ o. o.present) (only _ _ object stands))) }
+
+abbrev pub read_first_ended : VersionState
+read_first_ended = after_finish read_second_ended 1
+
+pub third_settled : IsSettled read_first_ended 3
+third_settled = record { values = λ place object stands. (Int (pos 9), sym (ap (λ o. o.present) (only _ _ object stands))) }
+
+abbrev pub read_third_ended : VersionState
+read_third_ended = after_finish read_first_ended 3
+
+pub root_settled : IsSettled read_third_ended 0
+root_settled = record { values = λ place object stands. (Int (pos 9), sym (ap (λ o. o.present) (only _ _ object stands))) }

@@ -76,6 +76,10 @@ fn a_writer_waits_for_no_reader(rt: HostRuntime) -> Result<(), Fail> {
     assert_eq!(rt; number(versions.value(3, 0)), Ok(9));
     assert_eq!(rt; number(versions.value(0, 0)), Ok(9));
     assert_eq!(rt; number(versions.value(1, 0)), Ok(4));
+    versions.finish(1)?;
+    versions.finish(3)?;
+    versions.finish(0)?;
+    assert_eq!(rt; number(versions.value(0, 0)), Ok(9));
     Ok(())
 }
 
@@ -111,10 +115,16 @@ fn writes_keep_no_versions_that_nobody_has(rt: HostRuntime) -> Result<(), Fail> 
     Ok(())
 }
 
-/// What takes a value that may be sent to another thread and let go.
+/// Lets go what may be sent to another thread.
 fn let_go<T: Send + Drop>(_value: T) {}
 
 #[test]
-fn versions_may_be_sent_and_let_go(rt: HostRuntime) {
-    let_go(Versions::new(rt.alloc()));
+fn a_chain_that_waits_is_let_go(rt: HostRuntime) -> Result<(), Fail> {
+    let mut versions = Versions::new(rt.alloc());
+    versions.create(0, 0, Value::Int(0))?;
+    for child in 1..1001 {
+        versions.access(0, 0, child, 0, Mode::InOut)?;
+    }
+    let_go(versions);
+    Ok(())
 }
