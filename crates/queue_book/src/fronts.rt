@@ -7,8 +7,8 @@ ghost use Rattle.queue_book.specs.Live.{is_pusher};
 
 use crate::chains::{Chains, Front};
 use crate::live_frames::LiveFrames;
+use crate::store::Store;
 use crate::{Tested, WaitFor};
-use pop_order::PopTurns;
 
 /// Whom a walk along the chunks of a queue meets at one of them.
 #[derive(Clone, Copy)]
@@ -21,31 +21,29 @@ pub enum Met {
     Nobody,
 }
 
-/// What stands at the front of a queue for a frame that pops it. `O(log n)` for n frames, amortised, where an item is
-/// there, or the first owner may push; so it is where there is a script. Else also a look-up for each owner that
-/// only pops, up to the frame's own chunk. It takes no memory.
-pub fn front(
-    turns: &PopTurns,
-    frames: &LiveFrames,
-    chains: &mut Chains,
-    frame: u64,
-    queue: u32,
-) -> Tested
-    requires known { queue < length chains.old.heads.items }
-    ensures same { length chains.new.heads.items ≡ length chains.old.heads.items }
-    ensures turn { IsTurnTold turns.now frame queue result }
-    ensures told { (at : ℕ → ℕ → Option ℕ) (lines : ℕ → Chunks) → AreChained at chains.old.heads.items chains.old.nodes lines
-        → IsFrontTold frames.now at chains.new.heads.items chains.new.nodes lines frame queue result }
-{
-    if let Some(child) = turns.popping_child(frame, queue) {
-        return Tested::NotYet(WaitFor::PopTurn(child));
-    }
-    if let Front::Item = chains.trim(queue) {
-        return Tested::Holds;
-    }
-    match first_pusher(frames, chains, frame, queue) {
-        Some(owner) => Tested::NotYet(WaitFor::Pusher(owner)),
-        None => Tested::Empty,
+impl Store {
+    /// What stands at the front of a queue for a frame that pops it. `O(log n)` amortised where an item is there, or
+    /// the first owner may push; so it is where there is a script. Else also a look-up for each owner that only
+    /// pops, up to the frame's own chunk. It takes no memory.
+    pub fn front(&mut self, frame: u64, queue: u32) -> Tested
+        requires known { queue < length self.old.chains.heads.items }
+        ensures frames { self.new.frames ≡ self.old.frames }
+        ensures turns { self.new.turns ≡ self.old.turns }
+        ensures same { length self.new.chains.heads.items ≡ length self.old.chains.heads.items }
+        ensures turn { IsTurnTold self.old.turns frame queue result }
+        ensures told { (at : ℕ → ℕ → Option ℕ) (lines : ℕ → Chunks) → AreChained at self.old.chains.heads.items self.old.chains.nodes lines
+            → IsFrontTold self.old.frames at self.new.chains.heads.items self.new.chains.nodes lines frame queue result }
+    {
+        if let Some(child) = self.turns.popping_child(frame, queue) {
+            return Tested::NotYet(WaitFor::PopTurn(child));
+        }
+        if let Front::Item = self.chains.trim(queue) {
+            return Tested::Holds;
+        }
+        match first_pusher(&self.frames, &self.chains, frame, queue) {
+            Some(owner) => Tested::NotYet(WaitFor::Pusher(owner)),
+            None => Tested::Empty,
+        }
     }
 }
 
@@ -92,11 +90,8 @@ fn meet(frames: &LiveFrames, owner: Option<u64>, frame: u64, queue: u32) -> Met
 fn may_push(frames: &LiveFrames, number: u64, queue: u32) -> bool
     ensures { result ≡ is_pusher frames.now number queue }
 {
-    match frames.get(number) {
-        Some(kept) => match kept.place(queue) {
-            Some(place) => place.pushes,
-            None => false,
-        },
+    match frames.place(number, queue) {
+        Some(place) => place.pushes,
         None => false,
     }
 }

@@ -16,9 +16,9 @@ ghost use Rattle.swan_model.specs.Told.{count, deed_at, taken};
 ghost use Rattle.queue_book.specs.Reads.{OnRead, OnTwoRead};
 
 /// The law that hyperqueues, which count the deeds of queues alone, say of the queues what each full reading says
-/// that fits. By a frame's point as many items left a queue, and as many were pushed, as by the frame's point among queues;
-/// frames stand in the same order, which is the serial order of their tasks; the same deeds of queues are done; and the
-/// next item of a queue is ripe for a frame in both or in neither.
+/// that fits. By a frame's point as many items left a queue, and as many were pushed, as by the frame's point among
+/// queues; frames stand in the same order, which is the serial order of their tasks; the same deeds of queues are
+/// done; and the next item of a queue is ripe for a frame in both or in neither.
 pub fn points_of_queues_agree()
     ensures taken { (s : Script) (state : QueueState) (r : Reading) → OnRead s state r (λ frame a.
         (queue : Origin) → taken_at s frame queue ≡ taken s queue (point s a)) }
@@ -37,9 +37,10 @@ pub fn points_of_queues_agree()
 {}
 
 /// The law that calls lead from hyperqueues that follow a script to such that follow it. New ones follow each
-/// script. Root queues are made first, with the script's lists. After that a frame makes a queue, spawns a child, or pushes, pops
-/// and tests, where that is its next deed of queues in the script; or it does several pushes and pops by the ends that were lent
-/// to it. A frame that has no active child may finish, and then its task counts as done.
+/// script. Root queues are made first, with the script's lists. After that a frame makes a queue, spawns a child,
+/// or pushes, pops and tests, where that is its next deed of queues in the script; or it does several pushes and
+/// pops by the ends that were lent to it. A frame that has no active child may finish, and then its task counts as
+/// done.
 pub fn calls_follow()
     ensures start { (s : Script) → IsLawful s → QueuesFollow s new_state }
     ensures create_root { (s : Script) (state : QueueState) (first : List Value) → IsLawful s → QueuesFollow s state

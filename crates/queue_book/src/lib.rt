@@ -25,6 +25,7 @@
 mod answers;
 mod book;
 mod chains;
+mod ending;
 mod ends;
 mod frame;
 mod fronts;
@@ -35,7 +36,9 @@ mod no_ends;
 mod node;
 mod queues;
 mod readings;
+mod spawns;
 mod stated;
+mod store;
 
 pub use answers::{Popped, Tested, WaitFor};
 pub use book::BookQueues;

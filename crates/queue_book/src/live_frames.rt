@@ -2,7 +2,7 @@
 ghost use Rattle.std.specs.Prelude.{◌≡◌, ◌≢◌, ℕ, ◌+◌, ◌<◌, Some, None, [], OnOk, IfSome, false};
 ghost use Rattle.std.specs.Option.{option_copied, option_map};
 ghost use Rattle.queue_book.specs.Asks.{DEEDS_MOST};
-ghost use Rattle.queue_book.specs.Live.{kept_of, with_place, IsOne};
+ghost use Rattle.queue_book.specs.Live.{is_lent_with, kept_of, place_at, with_place, IsOne};
 ghost use Rattle.queue_book.specs.Kept.{Kept};
 
 use crate::{Frame, Place};
@@ -39,6 +39,36 @@ impl LiveFrames {
             self.root.as_ref()
         } else {
             self.others.get(&number)
+        }
+    }
+
+    /// Where a frame's own chunk of a queue stands. `O(log n)`.
+    pub fn place(&self, number: u64, queue: u32) -> Option<Place>
+        ensures { result ≡ place_at self.now number queue }
+    {
+        match self.get(number) {
+            Some(frame) => frame.place(queue),
+            None => None,
+        }
+    }
+
+    /// How many queue deeds an active frame has done. `O(log n)`.
+    pub fn deeds(&self, number: u64) -> u64
+        ensures { (kept : Kept) → kept_of self.now number ≡ Some kept → result ≡ kept.deeds }
+    {
+        match self.get(number) {
+            Some(frame) => frame.deeds,
+            None => 0,
+        }
+    }
+
+    /// Whether the ends of a frame were lent when it had done so many queue deeds. `O(log n)`.
+    pub fn is_lent(&self, number: u64, deeds: u64) -> bool
+        ensures { result ≡ is_lent_with (kept_of self.now number) deeds }
+    {
+        match self.get(number) {
+            Some(frame) => frame.is_lent && frame.deeds == deeds,
+            None => false,
         }
     }
 

@@ -18,10 +18,10 @@ use swan_model::{NoMemory, Value, Values};
 /// The hyperqueues of one run, as its frames use them: a frame is one task of the run. Frame 0, the root,
 /// is live at the start, and a frame is active from its spawn to its finish.
 ///
-/// A value has a name, which means a script or nothing. Where there is a script, each deed of queues has to be
-/// the frame's next one in it, in whatever order the frames act, and the answers are those of the serial order. They are
-/// said for every script that is lawful, as that of each plan is. Contracts see a value as its state: the frames, and how many
-/// deeds of queues each has done.
+/// A value has a name, which means a script or nothing. Where there is a script, each deed of queues has to be the
+/// frame's next one in it, in whatever order the frames act, and the answers are those of the serial order. They
+/// are said for every script that is lawful, as that of each plan is. Contracts see a value as its state: the
+/// frames, and how many deeds of queues each has done.
 ///
 /// After want of memory a value may only be let go.
 pub trait Queues: Send + Drop {

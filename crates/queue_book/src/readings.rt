@@ -13,13 +13,14 @@ ghost use Rattle.swan_model.specs.Readings.{at_start, gone_on, spawned, with_que
 ghost use Rattle.swan_model.specs.SerialTime.{Progress, Reading, frame_of, is_queue_deed, point};
 ghost use Rattle.queue_book.specs.Reads.{DiffersIdly, HasMore, IsAtLast, OnEntry, gone_on_by};
 
-/// The law that a reading which fits hyperqueues goes on with them. The reading of a run before its first step fits new
-/// ones. A root queue is one queue more. After a deed of queues the reading fits in which the frame has done that entry; a queue
-/// that the entry made has its time as origin, and a child is a new frame with nothing done. An entry that is no deed of queues
-/// is done in the reading without a call, and the origins of objects may be any: so a reading fits too that differs only in what
-/// queues aren't told of. A frame's last entry counts with its finish: it is no deed of queues, or it is the pop of an empty
-/// queue, which the hyperqueues have counted before. Ends that come back bring all entries by then, of which as many are deeds
-/// of queues as were done by them; one entry is left then.
+/// The law that a reading which fits hyperqueues goes on with them. The reading of a run before its first step fits
+/// new ones. A root queue is one queue more. After a deed of queues the reading fits in which the frame has done
+/// that entry; a queue that the entry made has its time as origin, and a child is a new frame with nothing done. An
+/// entry that is no deed of queues is done in the reading without a call, and the origins of objects may be any: so
+/// a reading fits too that differs only in what queues aren't told of. A frame's last entry counts with its finish:
+/// it is no deed of queues, or it is the pop of an empty queue, which the hyperqueues have counted before. Ends
+/// that come back bring all entries by then, of which as many are deeds of queues as were done by them; one entry
+/// is left then.
 pub fn readings_go_on()
     ensures start { (s : Script) (objects : List Origin) → IsLawful s → Fits s new_state (at_start [] objects) }
     ensures create_root { (s : Script) (state : QueueState) (r : Reading) → IsLawful s → QueuesFollow s state → Fits s state r
@@ -56,9 +57,10 @@ pub fn readings_go_on()
         → Fits s (after_take_rest state queue) r }
 {}
 
-/// The law that what comes next for a frame in a reading that fits is what comes next for it among queues. Where its next
-/// entry is a deed of queues, that is its next one. Where its next entry is its last and no deed of queues, none is left, and
-/// where its last entry is one, none is left after it: so the frame may finish then. A frame with an entry left is active.
+/// The law that what comes next for a frame in a reading that fits is what comes next for it among queues. Where
+/// its next entry is a deed of queues, that is its next one. Where its next entry is its last and no deed of
+/// queues, none is left, and where its last entry is one, none is left after it: so the frame may finish then. A
+/// frame with an entry left is active.
 pub fn next_deeds_agree()
     ensures next { (s : Script) (state : QueueState) (r : Reading) → OnEntry s state r (λ number progress does.
         (frame : ActiveFrame) → active state number ≡ Some frame → is_queue_deed does ≡ true

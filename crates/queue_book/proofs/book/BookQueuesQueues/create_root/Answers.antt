@@ -14,10 +14,10 @@ make-requires c =
     let is = c.self.invariant in
     let name = c.self.inside.name in
     let state = c.self.inside.state.means in
-    let frames = c.self.inside.frames in
-    let heads = c.self.inside.chains.heads.items in
-    let nodes = c.self.inside.chains.nodes in
-    let turns = c.self.inside.turns in
+    let frames = c.self.inside.store.frames in
+    let heads = c.self.inside.store.chains.heads.items in
+    let nodes = c.self.inside.store.chains.nodes in
+    let turns = c.self.inside.store.turns in
     let P : Named → Type 0 = λ v. HasRoom v.state in
     let room : HasRoom state = subst P (sym c.self.view_is) c.requires.room in
     let Q : ℕ → Type 0 = λ k. k < QUEUES_MOST in
@@ -28,25 +28,25 @@ invariant_of-self c =
     let is = c.self.invariant in
     let name = c.self.inside.name in
     let state = c.self.inside.state.means in
-    let frames = c.self.inside.frames in
-    let heads = c.self.inside.chains.heads.items in
-    let nodes = c.self.inside.chains.nodes in
-    let turns = c.self.inside.turns in
+    let frames = c.self.inside.store.frames in
+    let heads = c.self.inside.store.chains.heads.items in
+    let nodes = c.self.inside.store.chains.nodes in
+    let turns = c.self.inside.store.turns in
     let P : Named → Type 0 = λ v. IsUntouched v.state in
     let untouched : IsUntouched state = subst P (sym c.self.view_is) c.requires.untouched in
     let Q : Named → Type 0 = λ v. (s : Script) → v.name ≡ Some s → slice_get s.queues (length v.state.makers) ≡ Some c.args.first in
     let next : (s : Script) → name ≡ Some s → slice_get s.queues (length state.makers) ≡ Some c.args.first = subst Q (sym c.self.view_is) c.requires.next in
-    let R : QueueState → Type 0 = λ st. IsBook name st c.make.new.frames c.make.new.chains.heads.items c.make.new.chains.nodes turns in
-    subst R (sym c.after.ensures) (book_create_root name state frames heads nodes turns is untouched c.args.first next c.in-Ok.queue c.in-Ok.ensures.number
-    c.make.new.frames c.make.new.chains.heads.items c.make.new.chains.nodes c.in-Ok.ensures.made c.in-Ok.ensures.more)
+    let R : QueueState → Type 0 = λ st. IsBook name st c.make.new.self.frames c.make.new.self.chains.heads.items c.make.new.self.chains.nodes turns in
+    rw c.make.ensures.turns (subst R (sym c.after.ensures) (book_create_root name state frames heads nodes turns is untouched c.args.first next c.in-Ok.queue c.in-Ok.ensures.number
+    c.make.new.self.frames c.make.new.self.chains.heads.items c.make.new.self.chains.nodes c.in-Ok.ensures.made c.in-Ok.ensures.more))
 
 pub returns-in-Ok-clause-number : goal.returns-in-Ok-clause-number
 returns-in-Ok-clause-number c =
     let is = c.self.invariant in
     let name = c.self.inside.name in
     let state = c.self.inside.state.means in
-    let frames = c.self.inside.frames in
-    let heads = c.self.inside.chains.heads.items in
-    let nodes = c.self.inside.chains.nodes in
-    let turns = c.self.inside.turns in
+    let frames = c.self.inside.store.frames in
+    let heads = c.self.inside.store.chains.heads.items in
+    let nodes = c.self.inside.store.chains.nodes in
+    let turns = c.self.inside.store.turns in
     c.in-Ok.ensures.number ∙ is.count ∙ ap (λ (v : Named). length v.state.makers) c.self.view_is

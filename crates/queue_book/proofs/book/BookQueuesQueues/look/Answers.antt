@@ -13,10 +13,10 @@ front-requires c =
     let is = c.self.invariant in
     let name = c.self.inside.name in
     let state = c.self.inside.state.means in
-    let frames = c.self.inside.frames in
-    let heads = c.self.inside.chains.heads.items in
-    let nodes = c.self.inside.chains.nodes in
-    let turns = c.self.inside.turns in
+    let frames = c.self.inside.store.frames in
+    let heads = c.self.inside.store.chains.heads.items in
+    let nodes = c.self.inside.store.chains.nodes in
+    let turns = c.self.inside.store.turns in
     let n = c.args.frame in
     let q = c.args.queue in
     let May : Named → Type 0 = λ v. MayLook v.state n q in
@@ -31,10 +31,10 @@ invariant_of-self c =
     let is = c.self.invariant in
     let name = c.self.inside.name in
     let state = c.self.inside.state.means in
-    let frames = c.self.inside.frames in
-    let heads = c.self.inside.chains.heads.items in
-    let nodes = c.self.inside.chains.nodes in
-    let turns = c.self.inside.turns in
+    let frames = c.self.inside.store.frames in
+    let heads = c.self.inside.store.chains.heads.items in
+    let nodes = c.self.inside.store.chains.nodes in
+    let turns = c.self.inside.store.turns in
     let n = c.args.frame in
     let q = c.args.queue in
     let May : Named → Type 0 = λ v. MayLook v.state n q in
@@ -42,19 +42,19 @@ invariant_of-self c =
     let look = may in
     let Turn : Named → Type 0 = λ v. OnTurn v.name v.state n in
     let turn : OnTurn name state n = subst Turn (sym c.self.view_is) c.requires.turn in
-    let heads_now = c.front.new.chains.heads.items in
-    let nodes_now = c.front.new.chains.nodes in
-    book_looked name state frames heads nodes turns is n q look heads_now nodes_now c.front.ensures.same c.front.result (c.front.ensures.told (key_at frames) is.lines is.chained)
+    let heads_now = c.front.new.self.chains.heads.items in
+    let nodes_now = c.front.new.self.chains.nodes in
+    rw (c.front.ensures.frames, c.front.ensures.turns) (book_looked name state frames heads nodes turns is n q look heads_now nodes_now c.front.ensures.same c.front.result (c.front.ensures.told (key_at frames) is.lines is.chained))
 
 pub returns-clause-answer : goal.returns-clause-answer
 returns-clause-answer c =
     let is = c.self.invariant in
     let name = c.self.inside.name in
     let state = c.self.inside.state.means in
-    let frames = c.self.inside.frames in
-    let heads = c.self.inside.chains.heads.items in
-    let nodes = c.self.inside.chains.nodes in
-    let turns = c.self.inside.turns in
+    let frames = c.self.inside.store.frames in
+    let heads = c.self.inside.store.chains.heads.items in
+    let nodes = c.self.inside.store.chains.nodes in
+    let turns = c.self.inside.store.turns in
     let n = c.args.frame in
     let q = c.args.queue in
     let May : Named → Type 0 = λ v. MayLook v.state n q in
@@ -62,8 +62,8 @@ returns-clause-answer c =
     let look = may in
     let Turn : Named → Type 0 = λ v. OnTurn v.name v.state n in
     let turn : OnTurn name state n = subst Turn (sym c.self.view_is) c.requires.turn in
-    let heads_now = c.front.new.chains.heads.items in
-    let nodes_now = c.front.new.chains.nodes in
+    let heads_now = c.front.new.self.chains.heads.items in
+    let nodes_now = c.front.new.self.chains.nodes in
     let P : Named → Type 0 = λ v. (f : ActiveFrame) → active v.state n ≡ Some f → IsTested v.name v.state f q c.front.result in
     subst P c.self.view_is (looked_all name state frames heads nodes turns is n q look heads_now nodes_now c.front.ensures.same turn c.front.result c.front.ensures.turn
     (c.front.ensures.told (key_at frames) is.lines is.chained))

@@ -18,16 +18,16 @@ returns-in_default-clause-ok c =
     let is = c.self.invariant in
     let name = c.self.inside.name in
     let state = c.self.inside.state.means in
-    let frames = c.self.inside.frames in
-    let heads = c.self.inside.chains.heads.items in
-    let nodes = c.self.inside.chains.nodes in
-    let turns = c.self.inside.turns in
+    let frames = c.self.inside.store.frames in
+    let heads = c.self.inside.store.chains.heads.items in
+    let nodes = c.self.inside.store.chains.nodes in
+    let turns = c.self.inside.store.turns in
     let n = c.args.frame in
     let q = c.args.queue in
     let May : Named → Type 0 = λ v. MayUse v.state n q Push in
     let may : MayUse state n q Push = subst May (sym c.self.view_is) c.requires.may in
     let found = has_key state frames is.live n q may.act.frame may.act.may.live (has_held may.act.frame q Push may.held) in
-    let never : None ≡ Some found.3 = sym c.in_default.is ∙ c.place_of.ensures ∙ place_of_key frames n q found.0 found.3 found.1 found.4 in
+    let never : None ≡ Some found.3 = sym c.in_default.is ∙ c.place.ensures ∙ place_of_key frames n q found.0 found.3 found.1 found.4 in
     absurd (cc)
 
 pub invariant_of-self : goal.invariant_of-self
@@ -35,10 +35,10 @@ invariant_of-self c =
     let is = c.self.invariant in
     let name = c.self.inside.name in
     let state = c.self.inside.state.means in
-    let frames = c.self.inside.frames in
-    let heads = c.self.inside.chains.heads.items in
-    let nodes = c.self.inside.chains.nodes in
-    let turns = c.self.inside.turns in
+    let frames = c.self.inside.store.frames in
+    let heads = c.self.inside.store.chains.heads.items in
+    let nodes = c.self.inside.store.chains.nodes in
+    let turns = c.self.inside.store.turns in
     let n = c.args.frame in
     let q = c.args.queue in
     let May : Named → Type 0 = λ v. MayUse v.state n q Push in

@@ -19,10 +19,10 @@ front-requires c =
     let is = c.self.invariant in
     let name = c.self.inside.name in
     let state = c.self.inside.state.means in
-    let frames = c.self.inside.frames in
-    let heads = c.self.inside.chains.heads.items in
-    let nodes = c.self.inside.chains.nodes in
-    let turns = c.self.inside.turns in
+    let frames = c.self.inside.store.frames in
+    let heads = c.self.inside.store.chains.heads.items in
+    let nodes = c.self.inside.store.chains.nodes in
+    let turns = c.self.inside.store.turns in
     let n = c.args.frame in
     let q = c.args.queue in
     let May : Named → Type 0 = λ v. MayUse v.state n q Pop in
@@ -37,10 +37,10 @@ invariant_of-self c =
     let is = c.self.invariant in
     let name = c.self.inside.name in
     let state = c.self.inside.state.means in
-    let frames = c.self.inside.frames in
-    let heads = c.self.inside.chains.heads.items in
-    let nodes = c.self.inside.chains.nodes in
-    let turns = c.self.inside.turns in
+    let frames = c.self.inside.store.frames in
+    let heads = c.self.inside.store.chains.heads.items in
+    let nodes = c.self.inside.store.chains.nodes in
+    let turns = c.self.inside.store.turns in
     let n = c.args.frame in
     let q = c.args.queue in
     let May : Named → Type 0 = λ v. MayUse v.state n q Pop in
@@ -48,19 +48,19 @@ invariant_of-self c =
     let look = look_of state n q may in
     let Turn : Named → Type 0 = λ v. OnTurn v.name v.state n in
     let turn : OnTurn name state n = subst Turn (sym c.self.view_is) c.requires.turn in
-    let heads_now = c.front.new.chains.heads.items in
-    let nodes_now = c.front.new.chains.nodes in
-    book_looked name state frames heads nodes turns is n q look heads_now nodes_now c.in-NotYet.ensures.same (tested.NotYet c.in-NotYet.wait) (c.in-NotYet.ensures.told (key_at frames) is.lines is.chained)
+    let heads_now = c.front.new.self.chains.heads.items in
+    let nodes_now = c.front.new.self.chains.nodes in
+    rw (c.front.ensures.frames, c.front.ensures.turns) (book_looked name state frames heads nodes turns is n q look heads_now nodes_now c.in-NotYet.ensures.same (tested.NotYet c.in-NotYet.wait) (c.in-NotYet.ensures.told (key_at frames) is.lines is.chained))
 
 pub invariant_of-self-in-Empty : goal.invariant_of-self-in-Empty
 invariant_of-self-in-Empty c =
     let is = c.self.invariant in
     let name = c.self.inside.name in
     let state = c.self.inside.state.means in
-    let frames = c.self.inside.frames in
-    let heads = c.self.inside.chains.heads.items in
-    let nodes = c.self.inside.chains.nodes in
-    let turns = c.self.inside.turns in
+    let frames = c.self.inside.store.frames in
+    let heads = c.self.inside.store.chains.heads.items in
+    let nodes = c.self.inside.store.chains.nodes in
+    let turns = c.self.inside.store.turns in
     let n = c.args.frame in
     let q = c.args.queue in
     let May : Named → Type 0 = λ v. MayUse v.state n q Pop in
@@ -68,23 +68,23 @@ invariant_of-self-in-Empty c =
     let look = look_of state n q may in
     let Turn : Named → Type 0 = λ v. OnTurn v.name v.state n in
     let turn : OnTurn name state n = subst Turn (sym c.self.view_is) c.requires.turn in
-    let heads_now = c.front.new.chains.heads.items in
-    let nodes_now = c.front.new.chains.nodes in
+    let heads_now = c.front.new.self.chains.heads.items in
+    let nodes_now = c.front.new.self.chains.nodes in
     let Next : Named → Type 0 = λ v. OnNext v.name v.state n (λ s f. IsNextAbout deed.Test s v.state f q) in
     let next : OnNext name state n (λ s f. IsNextAbout deed.Test s state f q) = subst Next (sym c.self.view_is) c.requires.next in
     let P : QueueState → Type 0 = λ st. IsBook name st c.count_deed.new.self heads_now nodes_now turns in
-    subst P (sym c.after.ensures) (book_test name state frames heads nodes turns is n q may heads_now nodes_now c.in-Empty.ensures.same c.count_deed.new.self c.count_deed.ensures turn next
-    (c.in-Empty.ensures.told (key_at frames) is.lines is.chained).0)
+    rw c.front.ensures.turns (subst P (sym c.after.ensures) (book_test name state frames heads nodes turns is n q may heads_now nodes_now c.in-Empty.ensures.same c.count_deed.new.self (rw c.front.ensures.frames at c.count_deed.ensures) turn next
+    (c.in-Empty.ensures.told (key_at frames) is.lines is.chained).0))
 
 pub invariant_of-self-in-Holds : goal.invariant_of-self-in-Holds
 invariant_of-self-in-Holds c =
     let is = c.self.invariant in
     let name = c.self.inside.name in
     let state = c.self.inside.state.means in
-    let frames = c.self.inside.frames in
-    let heads = c.self.inside.chains.heads.items in
-    let nodes = c.self.inside.chains.nodes in
-    let turns = c.self.inside.turns in
+    let frames = c.self.inside.store.frames in
+    let heads = c.self.inside.store.chains.heads.items in
+    let nodes = c.self.inside.store.chains.nodes in
+    let turns = c.self.inside.store.turns in
     let n = c.args.frame in
     let q = c.args.queue in
     let May : Named → Type 0 = λ v. MayUse v.state n q Pop in
@@ -92,23 +92,23 @@ invariant_of-self-in-Holds c =
     let look = look_of state n q may in
     let Turn : Named → Type 0 = λ v. OnTurn v.name v.state n in
     let turn : OnTurn name state n = subst Turn (sym c.self.view_is) c.requires.turn in
-    let heads_now = c.front.new.chains.heads.items in
-    let nodes_now = c.front.new.chains.nodes in
+    let heads_now = c.front.new.self.chains.heads.items in
+    let nodes_now = c.front.new.self.chains.nodes in
     let Next : Named → Type 0 = λ v. OnNext v.name v.state n (λ s f. IsNextAbout deed.Test s v.state f q) in
     let next : OnNext name state n (λ s f. IsNextAbout deed.Test s state f q) = subst Next (sym c.self.view_is) c.requires.next in
     let P : QueueState → Type 0 = λ st. IsBook name st c.count_deed-in-Holds.new.self heads_now nodes_now turns in
-    subst P (sym c.after-in-Holds.ensures) (book_test name state frames heads nodes turns is n q may heads_now nodes_now c.in-Holds.ensures.same c.count_deed-in-Holds.new.self c.count_deed-in-Holds.ensures turn next
-    (c.in-Holds.ensures.told (key_at frames) is.lines is.chained).0)
+    rw c.front.ensures.turns (subst P (sym c.after-in-Holds.ensures) (book_test name state frames heads nodes turns is n q may heads_now nodes_now c.in-Holds.ensures.same c.count_deed-in-Holds.new.self (rw c.front.ensures.frames at c.count_deed-in-Holds.ensures) turn next
+    (c.in-Holds.ensures.told (key_at frames) is.lines is.chained).0))
 
 pub returns-in-NotYet-clause-answer : goal.returns-in-NotYet-clause-answer
 returns-in-NotYet-clause-answer c =
     let is = c.self.invariant in
     let name = c.self.inside.name in
     let state = c.self.inside.state.means in
-    let frames = c.self.inside.frames in
-    let heads = c.self.inside.chains.heads.items in
-    let nodes = c.self.inside.chains.nodes in
-    let turns = c.self.inside.turns in
+    let frames = c.self.inside.store.frames in
+    let heads = c.self.inside.store.chains.heads.items in
+    let nodes = c.self.inside.store.chains.nodes in
+    let turns = c.self.inside.store.turns in
     let n = c.args.frame in
     let q = c.args.queue in
     let May : Named → Type 0 = λ v. MayUse v.state n q Pop in
@@ -116,8 +116,8 @@ returns-in-NotYet-clause-answer c =
     let look = look_of state n q may in
     let Turn : Named → Type 0 = λ v. OnTurn v.name v.state n in
     let turn : OnTurn name state n = subst Turn (sym c.self.view_is) c.requires.turn in
-    let heads_now = c.front.new.chains.heads.items in
-    let nodes_now = c.front.new.chains.nodes in
+    let heads_now = c.front.new.self.chains.heads.items in
+    let nodes_now = c.front.new.self.chains.nodes in
     let P : Named → Type 0 = λ v. (f : ActiveFrame) → active v.state n ≡ Some f → IsTested v.name v.state f q (tested.NotYet c.in-NotYet.wait) in
     subst P c.self.view_is (looked_all name state frames heads nodes turns is n q look heads_now nodes_now c.in-NotYet.ensures.same turn (tested.NotYet c.in-NotYet.wait) c.in-NotYet.ensures.turn
     (c.in-NotYet.ensures.told (key_at frames) is.lines is.chained))
@@ -127,10 +127,10 @@ returns-in-Empty-clause-answer c =
     let is = c.self.invariant in
     let name = c.self.inside.name in
     let state = c.self.inside.state.means in
-    let frames = c.self.inside.frames in
-    let heads = c.self.inside.chains.heads.items in
-    let nodes = c.self.inside.chains.nodes in
-    let turns = c.self.inside.turns in
+    let frames = c.self.inside.store.frames in
+    let heads = c.self.inside.store.chains.heads.items in
+    let nodes = c.self.inside.store.chains.nodes in
+    let turns = c.self.inside.store.turns in
     let n = c.args.frame in
     let q = c.args.queue in
     let May : Named → Type 0 = λ v. MayUse v.state n q Pop in
@@ -138,8 +138,8 @@ returns-in-Empty-clause-answer c =
     let look = look_of state n q may in
     let Turn : Named → Type 0 = λ v. OnTurn v.name v.state n in
     let turn : OnTurn name state n = subst Turn (sym c.self.view_is) c.requires.turn in
-    let heads_now = c.front.new.chains.heads.items in
-    let nodes_now = c.front.new.chains.nodes in
+    let heads_now = c.front.new.self.chains.heads.items in
+    let nodes_now = c.front.new.self.chains.nodes in
     let P : Named → Type 0 = λ v. (f : ActiveFrame) → active v.state n ≡ Some f → IsTested v.name v.state f q tested.Empty in
     subst P c.self.view_is (looked_all name state frames heads nodes turns is n q look heads_now nodes_now c.in-Empty.ensures.same turn tested.Empty c.in-Empty.ensures.turn
     (c.in-Empty.ensures.told (key_at frames) is.lines is.chained))
@@ -149,10 +149,10 @@ returns-in-Holds-clause-answer c =
     let is = c.self.invariant in
     let name = c.self.inside.name in
     let state = c.self.inside.state.means in
-    let frames = c.self.inside.frames in
-    let heads = c.self.inside.chains.heads.items in
-    let nodes = c.self.inside.chains.nodes in
-    let turns = c.self.inside.turns in
+    let frames = c.self.inside.store.frames in
+    let heads = c.self.inside.store.chains.heads.items in
+    let nodes = c.self.inside.store.chains.nodes in
+    let turns = c.self.inside.store.turns in
     let n = c.args.frame in
     let q = c.args.queue in
     let May : Named → Type 0 = λ v. MayUse v.state n q Pop in
@@ -160,8 +160,8 @@ returns-in-Holds-clause-answer c =
     let look = look_of state n q may in
     let Turn : Named → Type 0 = λ v. OnTurn v.name v.state n in
     let turn : OnTurn name state n = subst Turn (sym c.self.view_is) c.requires.turn in
-    let heads_now = c.front.new.chains.heads.items in
-    let nodes_now = c.front.new.chains.nodes in
+    let heads_now = c.front.new.self.chains.heads.items in
+    let nodes_now = c.front.new.self.chains.nodes in
     let P : Named → Type 0 = λ v. (f : ActiveFrame) → active v.state n ≡ Some f → IsTested v.name v.state f q tested.Holds in
     subst P c.self.view_is (looked_all name state frames heads nodes turns is n q look heads_now nodes_now c.in-Holds.ensures.same turn tested.Holds c.in-Holds.ensures.turn
     (c.in-Holds.ensures.told (key_at frames) is.lines is.chained))

@@ -2,7 +2,7 @@ use Rattle.std.proofs.Common.{◌≡◌, ◌≢◌, true, false, ◌&&◌, not, 
 use Rattle.queue_book.specs.Book.{closed}
 use Rattle.queue_book.specs.Chains.{in_line, put_at}
 use Rattle.queue_book.proofs.ChainEnds.{chained_closed, chained_over, none_but_own, not_so, still_so}
-use Rattle.queue_book.proofs.book.end_one.Goals as goal
+use Rattle.queue_book.proofs.ending.end_chunk.Goals as goal
 
 pub returns-then-not-place-clause-ended : goal.returns-then-not-place-clause-ended
 returns-then-not-place-clause-ended c at lines is key alone =

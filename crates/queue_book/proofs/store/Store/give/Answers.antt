@@ -3,16 +3,23 @@ use Rattle.std.specs.BTreeMap.{insert_entry}
 use Rattle.std.specs.Ordering.{nat_cmp}
 use Rattle.queue_book.specs.Book.{handed_on}
 use Rattle.queue_book.specs.Chains.{AreChained, in_line, put_at}
-use Rattle.queue_book.proofs.book.give.Goals as goal
+use Rattle.queue_book.specs.Handed.{IsHandedIn}
+use Rattle.swan_model.specs.declared.rights.Mode.TheVariants.{Push}
+use Rattle.swan_model.specs.QueueState.{QueueRight}
+use Rattle.swan_model.specs.Rights.{allows}
+use Rattle.queue_book.proofs.store.Store.give.Goals as goal
 
 pub returns-clause-given : goal.returns-clause-given
 returns-clause-given c =
-    let q = c.args.queue in
+    let q = c.one.inside.queue in
     let parent = c.args.parent in
     let child = c.args.child in
+    let Handed : QueueRight → Type 0 = λ one.
+    IsHandedIn c.args.self.now.frames c.put.new.self parent child one.queue (allows one.mode Push) c.args.places.now.entries c.insert.new.self.entries c.args.self.now.chains.heads.items
+    c.args.self.now.chains.nodes c.hand_on.new.self.nodes in
     let Given : Bool → Type 0 = λ b.
     c.insert.new.self.entries ≡ insert_entry nat_cmp c.args.places.now.entries q (record { key = c.in-Some.place.key; is_maker = false; pushes = b }) in
-    record {
+    subst Handed c.one.view_is (record {
       new = c.in_ok-new.new;
       place = c.in-Some.place;
       was = sym c.in-Some.ensures;
@@ -22,4 +29,4 @@ returns-clause-given c =
           let P : List (Option ℕ) → Type 0 = λ hs.
           AreChained (put_at parent q (Some c.in_ok-new.new) (put_at child q (Some c.in-Some.place.key) at)) hs c.hand_on.new.self.nodes (in_line q (handed_on parent child) lines) in
           subst P c.hand_on.ensures.heads (c.in_ok-new.ensures.handed at lines q is mine free);
-    }
+    })

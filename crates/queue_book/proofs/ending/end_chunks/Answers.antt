@@ -4,7 +4,7 @@ use Rattle.queue_book.specs.Ended.{left_lines, placed_at}
 use Rattle.queue_book.specs.Kept.{place_in}
 use Rattle.queue_book.proofs.ChainEnds.{alone_still, chained_all, chained_one_more, own_key}
 use Rattle.queue_book.proofs.Lookups.{untied}
-use Rattle.queue_book.proofs.book.end.Goals as goal
+use Rattle.queue_book.proofs.ending.end_chunks.Goals as goal
 
 pub loop-queue-preserved : goal.loop-queue-preserved
 loop-queue-preserved c =
@@ -22,14 +22,14 @@ loop-queue-preserved c =
       | inr same ↦ sym same ∙ here
     ] in
     record {
-      same = c.end_one.ensures.same ∙ c.loop-queue.invariant.same;
+      same = c.end_chunk.ensures.same ∙ c.loop-queue.invariant.same;
       left = λ q. elim (cases_eq q queue) [
         | inl at ↦ inl (ap (λ k. place_in after k) at ∙ gone)
         | inr ne ↦ elim (c.loop-queue.invariant.left q) [ inl none ↦ inl (others q ne ∙ none) | inr same ↦ inr (others q ne ∙ same) ]
       ];
       kept = λ at lines is alone.
-          chained_one_more number queue place all places after at lines here first gone others c.end_one.new.chains.heads.items c.end_one.new.chains.nodes
-          (c.end_one.ensures.ended (placed_at number places at) (left_lines number places all lines) (c.loop-queue.invariant.kept at lines is alone)
+          chained_one_more number queue place all places after at lines here first gone others c.end_chunk.new.chains.heads.items c.end_chunk.new.chains.nodes
+          (c.end_chunk.ensures.ended (placed_at number places at) (left_lines number places all lines) (c.loop-queue.invariant.kept at lines is alone)
           (own_key number queue place all places after at lines here first gone others)
           (alone_still number queue place all places after at lines here first gone others alone));
     }

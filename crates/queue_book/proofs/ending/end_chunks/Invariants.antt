@@ -4,7 +4,7 @@ use Rattle.queue_book.specs.Book.{Chunks}
 use Rattle.queue_book.specs.Chains.{AreChained}
 use Rattle.queue_book.specs.Ended.{left_lines, placed_at, IsAlone}
 use Rattle.queue_book.specs.Kept.{place_in}
-use Rattle.queue_book.proofs.book.end.Given as goal
+use Rattle.queue_book.proofs.ending.end_chunks.Given as goal
 
 abbrev pub invariant-loop-queue : goal.invariant-loop-queue
 invariant-loop-queue l = record {

@@ -1,0 +1,121 @@
+use Rattle.std.proofs.Common.{◌≡◌, ◌≢◌, ℕ, ◌+◌, ◌<◌, false, Option, Some, List, [], ◌∷◌, ◌++◌, take, length, refl, sym, ap, subst, ◌∙◌, arith}
+use Rattle.std.proofs.lemmas.List.{take_more, take_all}
+use Rattle.std.proofs.lemmas.Option.{slice_get-get_or}
+use Rattle.std.specs.Prelude.{slice_get}
+use Rattle.swan_model.specs.declared.rights.Mode.TheVariants.{Push}
+use Rattle.swan_model.specs.QueueState.{QueueRight}
+use Rattle.swan_model.specs.Rights.{allows}
+use Rattle.queue_book.specs.Handed.{AreGiven, IsHandedIn}
+use Rattle.queue_book.specs.Kept.{Kept, Places}
+use Rattle.queue_book.specs.Live.{IsOne}
+use Rattle.queue_book.proofs.GivingSteps.{given_more, given_none, has_now, may_get_now, newest_now, queue_mode_at}
+use Rattle.queue_book.proofs.store.Store.spawn.Goals as goal
+
+pub loop-one-init : goal.loop-one-init
+loop-one-init c =
+    let fresh : record { deeds = c.frame.inside.deeds; is_lent = c.frame.inside.is_lent; places = c.frame.inside.places.entries } ≡ record { deeds = 0; is_lent = false; places = [] } = c.frame.view_is ∙ c.new-frame.ensures in
+    let Given : Places → Type 0 = λ ps. AreGiven c.args.self.now.frames c.args.self.now.frames c.args.parent c.args.child [] ps c.args.self.now.chains.heads.items c.args.self.now.chains.nodes c.args.self.now.chains.nodes
+    c.args.self.now.turns c.args.self.now.turns in
+    record {
+      deeds = ap (λ (k : Kept). k.deeds) fresh;
+      lent = ap (λ (k : Kept). k.is_lent) fresh;
+      heads = refl;
+      given = subst Given (sym (ap (λ (k : Kept). k.places) fresh))
+          (given_none c.args.self.now.frames c.args.parent c.args.child c.args.gives.now c.args.self.now.chains.heads.items c.args.self.now.chains.nodes c.args.self.now.turns c.requires.may);
+    }
+
+pub give-requires-clause-has : goal.give-requires-clause-has
+give-requires-clause-has c =
+    let all = c.args.gives.now in
+    let i = c.loop-one.one-index in
+    let give : QueueRight = c.one-item.result in
+    let within : i < length all = omega arith in
+    let at : slice_get all i ≡ Some give = slice_get-get_or all i give within ∙ ap Some (sym c.one-item.is) in
+    has_now c.args.self.now.frames c.loop-one.self.frames c.args.parent c.args.child all i give c.loop-one.frame-inside.places.entries c.args.self.now.chains.heads.items c.args.self.now.chains.nodes
+    c.loop-one.self.chains.nodes c.args.self.now.turns c.loop-one.self.turns c.requires.may at c.loop-one.invariant.given
+
+pub give-requires-clause-newest : goal.give-requires-clause-newest
+give-requires-clause-newest c =
+    let all = c.args.gives.now in
+    let i = c.loop-one.one-index in
+    let give : QueueRight = c.one-item.result in
+    let within : i < length all = omega arith in
+    let at : slice_get all i ≡ Some give = slice_get-get_or all i give within ∙ ap Some (sym c.one-item.is) in
+    newest_now c.args.self.now.frames c.loop-one.self.frames c.args.parent c.args.child all i give c.loop-one.frame-inside.places.entries c.args.self.now.chains.heads.items c.args.self.now.chains.nodes
+    c.loop-one.self.chains.nodes c.args.self.now.turns c.loop-one.self.turns c.requires.may at c.loop-one.invariant.given
+
+pub give-requires-clause-fits : goal.give-requires-clause-fits
+give-requires-clause-fits c =
+    let all = c.args.gives.now in
+    let i = c.loop-one.one-index in
+    let give : QueueRight = c.one-item.result in
+    let within : i < length all = omega arith in
+    let at : slice_get all i ≡ Some give = slice_get-get_or all i give within ∙ ap Some (sym c.one-item.is) in
+    may_get_now c.args.self.now.frames c.loop-one.self.frames c.args.parent c.args.child all i give c.loop-one.frame-inside.places.entries c.args.self.now.chains.heads.items c.args.self.now.chains.nodes
+    c.loop-one.self.chains.nodes c.args.self.now.turns c.loop-one.self.turns c.requires.may at c.loop-one.invariant.given
+
+pub give-requires-clause-of_queues : goal.give-requires-clause-of_queues
+give-requires-clause-of_queues c =
+    let all = c.args.gives.now in
+    let i = c.loop-one.one-index in
+    let give : QueueRight = c.one-item.result in
+    let within : i < length all = omega arith in
+    let at : slice_get all i ≡ Some give = slice_get-get_or all i give within ∙ ap Some (sym c.one-item.is) in
+    queue_mode_at c.requires.may.frame all c.requires.may.lawful i give at
+
+pub loop-one-preserved : goal.loop-one-preserved
+loop-one-preserved c =
+    let all = c.args.gives.now in
+    let i = c.loop-one.one-index in
+    let give : QueueRight = c.one-item.result in
+    let within : i < length all = omega arith in
+    let at : slice_get all i ≡ Some give = slice_get-get_or all i give within ∙ ap Some (sym c.one-item.is) in
+    let more : take (i + 1) all ≡ take i all ++ give ∷ [] = take_more all i give within ∙ ap (λ h. take i all ++ h ∷ []) (sym c.one-item.is) in
+    let heads_now = c.loop-one.invariant.heads in
+    let Handed : List (Option ℕ) → Type 0 = λ hs. IsHandedIn c.loop-one.self.frames c.give.new.self.frames c.args.parent c.args.child give.queue (allows give.mode Push) c.loop-one.frame-inside.places.entries
+    c.give.new.places.entries hs c.loop-one.self.chains.nodes c.give.new.self.chains.nodes in
+    let handed = subst Handed heads_now c.in_ok-give.ensures.given in
+    let Given : List QueueRight → Type 0 = λ gs. AreGiven c.args.self.now.frames c.give.new.self.frames c.args.parent c.args.child gs c.give.new.places.entries c.args.self.now.chains.heads.items
+    c.args.self.now.chains.nodes c.give.new.self.chains.nodes c.args.self.now.turns c.give.new.self.turns in
+    record {
+      deeds = c.loop-one.invariant.deeds;
+      lent = c.loop-one.invariant.lent;
+      heads = c.in_ok-give.ensures.heads ∙ heads_now;
+      given = subst Given (sym more) (given_more c.args.self.now.frames c.loop-one.self.frames c.args.parent c.args.child all i give c.loop-one.frame-inside.places.entries c.args.self.now.chains.heads.items c.args.self.now.chains.nodes
+          c.loop-one.self.chains.nodes c.args.self.now.turns c.loop-one.self.turns c.requires.may at c.loop-one.invariant.given
+          c.give.new.self.frames c.give.new.places.entries c.give.new.self.chains.nodes c.give.new.self.turns handed c.in_ok-give.ensures.turns);
+    }
+
+pub count_deed-requires : goal.count_deed-requires
+count_deed-requires c =
+    let may = c.requires.may in
+    let was = c.loop-one.invariant.given.moved may.kept may.live in
+    record {
+      room = λ kept at.
+          let two : c.args.parent ≢ c.args.child = λ same. let less = may.rising in omega arith in
+          let both : Some was.0 ≡ Some kept = sym was.1 ∙ sym (c.in_ok-add.ensures.others c.args.parent two) ∙ at in
+          let same : was.0 ≡ kept = cc in
+          let deeds : kept.deeds ≡ may.kept.deeds = ap (λ (k : Kept). k.deeds) (sym same) ∙ was.2.deeds in
+          let room = may.room in
+          omega (arith, room, deeds);
+    }
+
+pub returns-clause-spawned : goal.returns-clause-spawned
+returns-clause-spawned c =
+    let all = c.args.gives.now in
+    let places = c.loop-one.frame-inside.places.entries in
+    let whole : take c.loop-one.one-index all ≡ all = take_all c.loop-one.one-index all (omega arith) in
+    let Given : List QueueRight → Type 0 = λ gs. AreGiven c.args.self.now.frames c.loop-one.self.frames c.args.parent c.args.child gs places c.args.self.now.chains.heads.items
+    c.args.self.now.chains.nodes c.loop-one.self.chains.nodes c.args.self.now.turns c.loop-one.self.turns in
+    let One : Kept → Type 0 = λ k. IsOne c.loop-one.self.frames c.add.new.self c.args.child (Some k) in
+    let kept : record { deeds = c.loop-one.frame-inside.deeds; is_lent = c.loop-one.frame-inside.is_lent; places = places } ≡ record { deeds = 0; is_lent = false; places = places } =
+    ap (λ d. record { deeds = d; is_lent = c.loop-one.frame-inside.is_lent; places = places }) c.loop-one.invariant.deeds
+    ∙ ap (λ b. record { deeds = 0; is_lent = b; places = places }) c.loop-one.invariant.lent in
+    record {
+      middle = c.loop-one.self.frames;
+      places = places;
+      given = subst Given whole c.loop-one.invariant.given;
+      added = c.add.new.self;
+      child_now = subst One kept c.in_ok-add.ensures;
+      parent_now = c.count_deed.ensures;
+    }

@@ -1,0 +1,75 @@
+// Spawns, with the queues that a child is given.
+ghost use Rattle.std.specs.Prelude.{◌≡◌, ◌<◌, Some, OnOk, IsTrue};
+ghost use Rattle.swan_model.specs.declared.rights.Mode.TheVariants.{Push};
+ghost use Rattle.swan_model.specs.Rights.{allows, is_queue_mode};
+ghost use Rattle.pop_order.specs.Frames.{enlisted, AreUpTo, MayGet};
+ghost use Rattle.queue_book.specs.Handed.{holding_of, IsHandedIn};
+ghost use Rattle.queue_book.specs.Live.{place_at};
+ghost use Rattle.queue_book.specs.Spawned.{MayHandOn, IsSpawnedIn};
+ghost use Rattle.queue_book.specs.declared.frame.Place.{Place as Held};
+
+use crate::store::Store;
+use crate::{Frame, Place, QueueGive};
+use std::collections::BTreeMap;
+use swan_model::{Mode, NoMemory};
+
+impl Store {
+    /// Makes a child, which is given queues. `O(log n)`, and as much amortised for each give. Err is want of memory.
+    pub fn spawn(&mut self, parent: u64, child: u64, gives: &[QueueGive]) -> Result<(), NoMemory>
+        requires may { MayHandOn self.old.frames self.old.turns parent child gives.now }
+        ensures heads { OnOk result (self.new.chains.heads.items ≡ self.old.chains.heads.items) }
+        ensures spawned { OnOk result (IsSpawnedIn self.old.frames self.new.frames parent child gives.now self.old.chains.heads.items self.old.chains.nodes self.new.chains.nodes self.old.turns self.new.turns) }
+    {
+        let mut frame = Frame::new(self.alloc);
+        for one in gives {
+            self.give(parent, child, *one, &mut frame.places)?;
+        }
+        self.frames.add(child, frame)?;
+        self.frames.count_deed(parent);
+        Ok(())
+    }
+
+    /// Gives a child one more queue of its parent's. `O(log n)` amortised. Err is want of memory.
+    fn give(
+        &mut self,
+        parent: u64,
+        child: u64,
+        one: QueueGive,
+        places: &mut BTreeMap<u32, Place>,
+    ) -> Result<(), NoMemory>
+        requires has { (place : Held) × (place_at self.old.frames parent one.queue ≡ Some place) }
+        requires rising { parent < child }
+        requires newest { AreUpTo self.old.turns child }
+        requires fits { MayGet self.old.turns parent child one.queue }
+        requires of_queues { IsTrue (is_queue_mode one.mode) }
+        ensures heads { OnOk result (self.new.chains.heads.items ≡ self.old.chains.heads.items) }
+        ensures given { OnOk result (IsHandedIn self.old.frames self.new.frames parent child one.queue (allows one.mode Push) places.old.entries places.new.entries self.old.chains.heads.items self.old.chains.nodes self.new.chains.nodes) }
+        ensures turns { OnOk result (self.new.turns ≡ enlisted self.old.turns parent child (holding_of one)) }
+    {
+        let Some(place) = self.frames.place(parent, one.queue) else {
+            return Ok(());
+        };
+        let new = self.chains.hand_on(self.alloc, place.key, parent, child)?;
+        let given = Place {
+            key: place.key,
+            is_maker: false,
+            pushes: can_push(one.mode),
+        };
+        places.insert(one.queue, given)?;
+        let kept = Place {
+            key: new,
+            is_maker: place.is_maker,
+            pushes: place.pushes,
+        };
+        self.frames.put(parent, one.queue, kept)?;
+        self.turns.enlist(parent, child, one.queue, one.mode)?;
+        Ok(())
+    }
+}
+
+/// Whether a mode allows to push. `O(1)`.
+fn can_push(mode: Mode) -> bool
+    ensures { result ≡ allows mode Push }
+{
+    matches!(mode, Mode::Push | Mode::PushPop)
+}
