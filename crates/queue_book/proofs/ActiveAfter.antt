@@ -6,7 +6,7 @@ use Rattle.std.specs.Option.{option_map}
 use Rattle.swan_model.specs.QueueState.{ActiveFrame, QueueRight, QueueState, active, after_finish, after_spawn, changed, changing, child_of, with_deed}
 use Rattle.queue_book.proofs.Elements.{find_map}
 use Rattle.queue_book.proofs.FramesChanged.{find_last, find_others}
-use Rattle.queue_book.proofs.SerialPoints.{active_number}
+use Rattle.queue_book.proofs.Frames.{active_number}
 
 -- a change that leaves the numbers of frames
 abbrev pub KeepsNumber : (ActiveFrame → ActiveFrame) → Type 0

@@ -1,5 +1,5 @@
 -- What holds of hyperqueues in plain form after a push, a pop and a test.
-use Rattle.std.proofs.Common.{◌≡◌, ℕ, ◌+◌, ◌<◌, Bool, true, false, Option, Some, None, List, [], length, refl, sym, ap, subst, ◌∙◌, arith}
+use Rattle.std.proofs.Common.{◌≡◌, ℕ, ◌+◌, Bool, true, false, Option, Some, None, List, [], length, refl, sym, ap, subst, ◌∙◌}
 use Rattle.std.specs.Option.{option_map}
 use Rattle.std.specs.Prelude.{slice_get, if◌then◌else◌}
 use Rattle.slab.specs.Slab.{Slab}
@@ -9,8 +9,8 @@ use Rattle.swan_model.specs.declared.script.Deed.TheVariants as deed
 use Rattle.swan_model.specs.declared.script.Script.{Script}
 use Rattle.swan_model.specs.declared.value.Value.{Value}
 use Rattle.swan_model.specs.QueueFollows.{origin_in, IsNextAbout}
-use Rattle.swan_model.specs.QueueState.{ActiveFrame, Lent, Maker, QueueState, active, after_deed, with_deed}
-use Rattle.queue_book.specs.Asks.{DEEDS_MOST, MayDo, MayUse, OnNext}
+use Rattle.swan_model.specs.QueueState.{Lent, Maker, QueueState, after_deed, with_deed}
+use Rattle.queue_book.specs.Asks.{MayDo, MayUse, OnNext}
 use Rattle.queue_book.specs.Book.{Chunks, trimmed, with_item, without_first}
 use Rattle.queue_book.specs.Chains.{Link, AreChained, in_line}
 use Rattle.queue_book.specs.Fronts.{IsFrontTold, IsTurnTold}
@@ -23,8 +23,8 @@ use Rattle.queue_book.proofs.ActiveAfter.{others_changed, own_changed}
 use Rattle.queue_book.proofs.ChainChanges.{chained_same}
 use Rattle.queue_book.proofs.Above.{maker_of}
 use Rattle.queue_book.proofs.BookFronts.{alone_by, found_item, look_of, looked, trim}
-use Rattle.queue_book.proofs.Frames.{has_held, same_frame}
-use Rattle.queue_book.proofs.LiveKept.{keys_same, kept_live, live_kept, live_one}
+use Rattle.queue_book.proofs.Frames.{has_held}
+use Rattle.queue_book.proofs.LiveKept.{keys_same, kept_live, live_one}
 use Rattle.queue_book.proofs.PlainDeeds.{deed_alike, plain_empty, plain_pop, plain_push, plain_test}
 use Rattle.queue_book.proofs.PlainSaid.{OnTurn, origin_of}
 use Rattle.queue_book.proofs.TurnsKept.{turns_alike}
@@ -48,14 +48,6 @@ lent_none kept e = ap (λ b. if b then Some (record { deeds = kept.deeds; ends =
 
 module _ (name : Option Script) (state : QueueState) (frames : LiveFrames) (heads : List (Option ℕ)) (nodes : Slab Link) (turns : Frames) (is : IsBook name state frames heads nodes turns)
     (n : ℕ) (act : MayDo state n) where
-  pub deed_room : (kept : Kept) → kept_of frames n ≡ Some kept → kept.deeds < DEEDS_MOST
-  deed_room kept at =
-      let live = live_kept state frames is.live n kept at in
-      let same : live.0 ≡ act.frame = same_frame (active state n) live.0 act.frame live.1 act.may.live in
-      let room = act.room in
-      let deeds : kept.deeds ≡ act.frame.deeds = live.2.deeds ∙ ap (λ (f : ActiveFrame). f.deeds) same in
-      omega (arith, room, deeds)
-
   pub book_deed : (after_frames : LiveFrames) → IsOne frames after_frames n (option_map (λ (kept : Kept). record kept { deeds = kept.deeds + 1 }) (kept_of frames n))
       → (after_heads : List (Option ℕ)) (after_nodes : Slab Link) (lines : ℕ → Chunks) → length after_heads ≡ length heads → IsPlain name (after_deed state n) lines
       → AreChained (key_at frames) after_heads after_nodes lines → IsBook name (after_deed state n) after_frames after_heads after_nodes turns

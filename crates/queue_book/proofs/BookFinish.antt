@@ -1,5 +1,5 @@
 -- What holds of hyperqueues in plain form once a frame has finished.
-use Rattle.std.proofs.Common.{◌≡◌, ◌≢◌, ℕ, ◌+◌, ◌<◌, Bool, true, false, ◌&&◌, not, ◌==◌, Option, Some, None, List, [], ◌∷◌, length, refl, sym, ap, subst, ◌∙◌, inl, inr, arith, length-append}
+use Rattle.std.proofs.Common.{◌≡◌, ◌≢◌, ℕ, ◌+◌, Bool, true, false, ◌&&◌, not, ◌==◌, Option, Some, None, List, [], ◌∷◌, length, refl, sym, ap, subst, ◌∙◌, inl, inr, arith, length-append}
 use Rattle.std.proofs.lemmas.Bool.{cases_eq, false≢true}
 use Rattle.std.specs.Option.{option_map}
 use Rattle.std.specs.Prelude.{slice_get, is_some, if◌then◌else◌}
@@ -131,11 +131,6 @@ module _ (name : Option Script) (state : QueueState) (frames : LiveFrames) (head
       let same : was.0 ≡ kept = cc in
       let P : Kept → Type 0 = λ k. IsFrame state k may.frame in
       subst P same was.2
-
-  pub place_known : (q : ℕ) (place : Place) → place_in kept.places q ≡ Some place → q < length heads
-  place_known q place found =
-      let less = (is.plain.tree.held n q may.frame may.may.live (place_has state kept may.frame q place kept_frame found)).0 in
-      omega (arith, is.count, less)
 
   keys_own : (m q : ℕ) → placed_at n kept.places (key_at frames) m q ≡ key_at frames m q
   keys_own m q = by (m == n) refl where

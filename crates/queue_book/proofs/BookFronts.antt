@@ -69,10 +69,6 @@ bare_first chunks some (inl is) = (is.0, open_first chunks is.0 is.1)
 bare_first [] some (inr is) = absurd (some refl)
 bare_first (chunk ∷ chunks) some (inr is) = absurd is
 
-pub over_none : (chunks : Chunks) → IsFront chunks front.Over → chunks ≡ []
-over_none [] is = refl
-over_none (chunk ∷ chunks) is = absurd is
-
 -- who uses a queue may look at it
 abbrev pub look_of : (state : QueueState) (n q : ℕ) → MayUse state n q Pop → MayLook state n q
 look_of state n q may = record { frame = may.act.frame; may = may.act.may; held = may.held }

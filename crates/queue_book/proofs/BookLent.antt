@@ -3,15 +3,15 @@ use Rattle.std.proofs.Common.{◌≡◌, ℕ, Bool, true, false, ◌==◌, Optio
 use Rattle.std.specs.Option.{option_map}
 use Rattle.std.specs.Prelude.{if◌then◌else◌}
 use Rattle.slab.specs.Slab.{Slab}
-use Rattle.pop_order.proofs.Flags.{and_both, and_parts, eq_of, eq_same}
+use Rattle.pop_order.proofs.Flags.{and_parts, eq_of}
 use Rattle.pop_order.specs.Frames.{Frames}
 use Rattle.swan_model.specs.declared.script.Script.{Script}
-use Rattle.swan_model.specs.QueueState.{ActiveFrame, Lent, QueueState, active, after_back, after_lend}
+use Rattle.swan_model.specs.QueueState.{ActiveFrame, QueueState, active, after_back, after_lend}
 use Rattle.queue_book.specs.Asks.{IsRecorded}
 use Rattle.queue_book.specs.Calls.{with_active}
 use Rattle.queue_book.specs.Chains.{Link}
 use Rattle.queue_book.specs.Kept.{Kept}
-use Rattle.queue_book.specs.Live.{is_lent_with, kept_of, key_at, lent_of, AreLive, IsFrame, IsOne}
+use Rattle.queue_book.specs.Live.{is_lent_with, kept_of, key_at, AreLive, IsFrame, IsOne}
 use Rattle.queue_book.specs.NoEnds.{ends_of}
 use Rattle.queue_book.specs.Whole.{IsBook}
 use Rattle.queue_book.specs.declared.live_frames.LiveFrames.{LiveFrames}
@@ -110,26 +110,3 @@ recorded state frames live n deeds path lent =
       },
       sym frame.2.deeds ∙ kept.3,
     )
-
-pub record_is : (state : QueueState) (frames : LiveFrames) → AreLive state frames → (n number deeds : ℕ) (path : List ℕ) → IsRecorded state n (ends_of number deeds path)
-    → (number ≡ n) × (is_lent_with (kept_of frames n) deeds ≡ true)
-record_is state frames live n number deeds path is =
-    let kept = kept_live state frames live n is.frame is.live in
-    let lent : lent_of kept.0 ≡ Some is.lent = sym kept.2.lent ∙ is.has in
-    let both = by_lent kept.0.is_lent refl lent in (
-      is.own,
-      ap (λ o. is_lent_with o deeds) kept.1 ∙ and_both kept.0.is_lent (kept.0.deeds == deeds) both.0
-          (ap (λ k. k == deeds) (both.1 ∙ sym is.deeds) ∙ eq_same deeds),
-    ) where
-      by_lent : (b : Bool) → (kept_live state frames live n is.frame is.live).0.is_lent ≡ b → lent_of (kept_live state frames live n is.frame is.live).0 ≡ Some is.lent
-          → ((kept_live state frames live n is.frame is.live).0.is_lent ≡ true) × ((kept_live state frames live n is.frame is.live).0.deeds ≡ is.lent.deeds)
-      by_lent true e same =
-          let kept = (kept_live state frames live n is.frame is.live).0 in
-          let both : Some (record { deeds = kept.deeds; ends = [] }) ≡ Some is.lent =
-          sym (ap (λ b. if b then Some (record { deeds = kept.deeds; ends = [] }) else None) e) ∙ same in
-          let one : record { deeds = kept.deeds; ends = [] } ≡ is.lent = cc in
-          (e, ap (λ (l : Lent). l.deeds) one)
-      by_lent false e same =
-          let kept = (kept_live state frames live n is.frame is.live).0 in
-          let never : None ≡ Some is.lent = sym (ap (λ b. if b then Some (record { deeds = kept.deeds; ends = [] }) else None) e) ∙ same in
-          absurd (cc)

@@ -58,9 +58,6 @@ put_back number queue key at n q k e ne = by_number (n == number) refl e where
 
 module _ (at : ℕ → ℕ → Option ℕ) (heads : List (Option ℕ)) (nodes : Slab Link) (lines : ℕ → Chunks) (is : AreChained at heads nodes lines)
     (number queue key : ℕ) (mine : at number queue ≡ Some key) where
-  own_link : Link
-  own_link = (is.owned number queue key mine).0
-
   sole_own : (j : ℕ) (other : Link) → get nodes j ≡ Some other → other.queue ≡ queue → other.owner ≡ Some number → j ≡ key
   sole_own j other stands of owner =
       let P : ℕ → Type 0 = λ q. at number q ≡ Some j in

@@ -106,12 +106,3 @@ pub chained_all : (number : ℕ) (all : Places) (at : ℕ → ℕ → Option ℕ
 chained_all number all at lines places heads nodes none is =
     let P : Places → Type 0 = λ ps. AreChained (placed_at number ps at) heads nodes (left_lines number ps all lines) in
     subst P none is
-
--- with all left none has ended
-pub chained_none : (number : ℕ) (all : Places) (at : ℕ → ℕ → Option ℕ) (lines : ℕ → Chunks) (heads : List (Option ℕ)) (nodes : Slab Link)
-    → AreChained (placed_at number all at) heads nodes lines → AreChained (placed_at number all at) heads nodes (left_lines number all all lines)
-chained_none number all at lines heads nodes is =
-    chained_same (placed_at number all at) (placed_at number all at) heads nodes lines (left_lines number all all lines) (λ n q. refl) (λ q. by (place_in all q) (lines q)) is where
-      by : (o : Option Place) (chunks : Chunks) → left_line number o o chunks ≡ chunks
-      by None chunks = refl
-      by (Some place) chunks = refl

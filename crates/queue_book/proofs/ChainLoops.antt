@@ -1,12 +1,10 @@
 -- What holds while chunks are dropped from the front of a queue.
-use Rattle.std.proofs.Common.{◌≡◌, ◌≢◌, ℕ, Bool, true, false, ◌==◌, Option, List, [], ◌∷◌, ◌++◌, drop, refl, sym, ap, subst, ◌∙◌, append_assoc, append-nil, rules}
+use Rattle.std.proofs.Common.{◌≡◌, ◌≢◌, ℕ, Bool, true, false, ◌==◌, Option, List, ◌∷◌, ◌++◌, drop, refl, sym, ap, subst, ◌∙◌, append_assoc, rules}
 use Rattle.std.proofs.lemmas.Bool.{false≢true}
 use Rattle.std.specs.Prelude.{if◌then◌else◌}
 use Rattle.pop_order.proofs.Flags.{eq_of, eq_same}
 use Rattle.queue_book.specs.Book.{is_spent}
-use Rattle.queue_book.specs.Chains.{chunk_of, in_line, IsFront}
-use Rattle.queue_book.specs.declared.chains.Front.{Front}
-use Rattle.queue_book.proofs.ChainChanges.{chained_same}
+use Rattle.queue_book.specs.Chains.{chunk_of, in_line}
 use Rattle.slab.specs.Slab.{Slab}
 use Rattle.swan_model.specs.declared.value.Value.{Value}
 use Rattle.queue_book.specs.Book.{Chunk, Chunks, trimmed, items_of}
@@ -77,19 +75,3 @@ module _ (at : ℕ → ℕ → Option ℕ) (lines : ℕ → Chunks) (queue : ℕ
 module _ (at : ℕ → ℕ → Option ℕ) (lines : ℕ → Chunks) (queue : ℕ) (heads : List (Option ℕ)) (nodes : Slab Link) where
   abbrev pub left_none : AreChained at heads nodes lines → AreLeft at lines queue heads nodes
   left_none is = record { now = lines; kept = is; others = λ q other. refl }
-
-  pub trimmed_all : (was : AreTrimmed at lines queue heads nodes) (answer : Front) → trimmed (was.left.now queue) ≡ was.left.now queue → IsFront (was.left.now queue) answer
-      → AreChained at heads nodes (in_line queue trimmed lines) × IsFront (trimmed (lines queue)) answer
-  trimmed_all was answer all front =
-      let same : was.left.now queue ≡ trimmed (lines queue) = sym all ∙ was.same in
-      let P : Chunks → Type 0 = λ cs. IsFront cs answer in (
-        chained_same at at heads nodes was.left.now (in_line queue trimmed lines) (λ n q. refl) (line_is queue trimmed lines was.left.now same was.left.others) was.left.kept,
-        subst P same front,
-      )
-
-  pub moved_all : (items : List Value) (was : AreMoved at lines queue heads nodes items) → was.left.now queue ≡ []
-      → (items ≡ items_of (lines queue)) × AreChained at heads nodes (in_line queue (λ chunks. []) lines)
-  moved_all items was none = (
-    sym (append-nil items) ∙ ap (λ (cs : Chunks). items ++ items_of cs) (sym none) ∙ was.moved,
-    chained_same at at heads nodes was.left.now (in_line queue (λ chunks. []) lines) (λ n q. refl) (line_is queue (λ chunks. []) lines was.left.now none was.left.others) was.left.kept,
-  )

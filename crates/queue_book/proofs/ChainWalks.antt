@@ -86,10 +86,3 @@ module _ (frames : LiveFrames) (nodes : Slab Link) (frame queue : ℕ) where
       few = let few = is.few in let many : length is.rest ≡ length (chunk_of link ∷ first.rest) = ap length first.are in omega (arith, few, many);
       same = is.same ∙ ap (first_open frames frame queue) first.are ∙ meets (first_open frames frame queue first.rest);
     }
-
-  -- as many turns as there are nodes are enough
-  pub walk_over : (turns : ℕ) (line : Chunks) (next : Option ℕ) → slab_len nodes ≤ turns → IsWalked frames nodes frame queue turns line next → first_open frames frame queue line ≡ None
-  walk_over turns line next all is = is.same ∙ ap (first_open frames frame queue) (none is.rest (let few = is.few in omega (arith, few, all))) where
-    none : (chunks : Chunks) → length chunks ≤ 0 → chunks ≡ []
-    none [] less = refl
-    none (chunk ∷ chunks) less = absurd (omega (arith, less))

@@ -12,7 +12,7 @@ use Rattle.swan_model.specs.PathOrder.{is_under}
 use Rattle.swan_model.specs.QueueFollows.{IsChildOf, IsMade, IsTask, QueuesFollow, is_done_among, is_reached, queue_origin, queue_point, queue_time}
 use Rattle.swan_model.specs.QueueState.{ActiveFrame, Maker, planned, made_by, QueueState, active, changed}
 use Rattle.queue_book.proofs.Elements.{all_each, all_from, find_map, mapped_is, some_same}
-use Rattle.queue_book.proofs.SerialPoints.{active_number}
+use Rattle.queue_book.proofs.Frames.{active_number}
 
 -- a change of a frame that leaves which task it is, and takes back no child
 pub record IsChange (change : ActiveFrame → ActiveFrame) : Type 0 where

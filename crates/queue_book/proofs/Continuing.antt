@@ -14,7 +14,8 @@ use Rattle.queue_book.specs.Reads.{more_by}
 use Rattle.queue_book.proofs.Advancing.{fits_same}
 use Rattle.queue_book.proofs.Elements.{find_map, mapped_is, some_same}
 use Rattle.queue_book.proofs.Refitting.{GoesTo, refits}
-use Rattle.queue_book.proofs.SerialPoints.{active_number, frame_number}
+use Rattle.queue_book.proofs.Frames.{active_number}
+use Rattle.queue_book.proofs.SerialPoints.{frame_number}
 
 -- ---- the frames of a state in which one has changed
 

@@ -1,26 +1,19 @@
 -- The active frame of a number, and what its rights let it do.
-use Rattle.std.proofs.Common.{◌≡◌, ◌⊎◌, inl, inr, ℕ, Bool, true, false, cond, nat_eq, Option, Some, List, [], ◌∷◌, refl, sym, ap, ◌∙◌}
+use Rattle.std.proofs.Common.{◌≡◌, ◌⊎◌, inl, inr, ℕ, Bool, true, nat_eq, Option, Some, List, [], ◌∷◌, refl, sym, ◌∙◌}
 use Rattle.std.proofs.lemmas.Bool.{and_from, and_parts, eqb-true, false≢true, or_cases, or_left, or_right}
 use Rattle.std.proofs.lemmas.Option.{same_Some}
 use Rattle.std.specs.List.{list_any}
-use Rattle.std.specs.Prelude.{◌&&◌, ◌==◌, find}
+use Rattle.std.specs.Prelude.{◌&&◌, ◌==◌}
 use Rattle.swan_model.specs.declared.rights.Mode.{Mode}
 use Rattle.swan_model.specs.declared.rights.Mode.TheVariants.{In, Out, InOut, Push, Pop, PushPop}
 use Rattle.swan_model.specs.QueueState.{ActiveFrame, QueueRight, QueueState, active, holds_queue}
 use Rattle.swan_model.specs.Rights.{allows, is_queue_mode}
 use Rattle.queue_book.specs.Tree.{has_queue}
-
-pub found_number : (frames : List ActiveFrame) (number : ℕ) (frame : ActiveFrame) → find (λ f. f.number == number) frames ≡ Some frame → frame.number ≡ number
-found_number [] number frame found = absurd (cc)
-found_number (f ∷ fs) number frame found = by (nat_eq f.number number) refl found (found_number fs number frame) where
-  by : (b : Bool) → nat_eq f.number number ≡ b → cond b (Some f) (find (λ g. g.number == number) fs) ≡ Some frame
-      → (find (λ g. g.number == number) fs ≡ Some frame → frame.number ≡ number) → frame.number ≡ number
-  by true is here rest = ap (λ (g : ActiveFrame). g.number) (sym (same_Some f frame here)) ∙ eqb-true f.number number is
-  by false is there rest = rest there
+use Rattle.queue_book.proofs.Elements.{found_is}
 
 -- the active frame of a number has that number
 pub active_number : (state : QueueState) (number : ℕ) (frame : ActiveFrame) → active state number ≡ Some frame → frame.number ≡ number
-active_number state number frame live = found_number state.frames number frame live
+active_number state number frame live = eqb-true frame.number number (found_is (λ (f : ActiveFrame). nat_eq f.number number) state.frames frame live).passes
 
 pub same_frame : (found : Option ActiveFrame) (a b : ActiveFrame) → found ≡ Some a → found ≡ Some b → a ≡ b
 same_frame found a b one other = same_Some a b (sym one ∙ other)

@@ -40,9 +40,6 @@ module _ (s : Script) (state : QueueState) (follows : QueuesFollow s state) (chi
   abbrev grown : QueueState
   grown = record state { frames = state.frames ++ child ∷ []; latest = latest }
 
-  same_number : ℕ → ActiveFrame → Bool
-  same_number n f = nat_eq f.number n
-
   still_active : (n : ℕ) (x : ActiveFrame) → active state n ≡ Some x → active grown n ≡ Some x
   still_active n x live =
       find-append (λ (f : ActiveFrame). nat_eq f.number n) state.frames (child ∷ [])

@@ -1,8 +1,7 @@
 -- Who may use what a task made: the task and those below it.
-use Rattle.std.proofs.Common.{◌≡◌, inl, inr, ℕ, zero, suc, ◌+◌, ◌<◌, ◌≤◌, true, false, List, [], ◌∷◌, ◌++◌, length, Some, refl, sym, ap, subst, ◌∙◌, append_assoc, append-nil, arith}
+use Rattle.std.proofs.Common.{◌≡◌, inl, inr, ℕ, zero, suc, ◌+◌, ◌<◌, ◌≤◌, true, List, [], ◌∷◌, ◌++◌, length, Some, refl, sym, ap, subst, ◌∙◌, append_assoc, append-nil, arith}
 use Rattle.std.proofs.lemmas.Bool.{and_from, cases_eq, cases_lt, or_left, or_right, ltb-true}
 use Rattle.std.specs.Prelude.{◌&&◌, slice_get}
-use Rattle.swan_model.specs.declared.origin.Origin.{Origin}
 use Rattle.swan_model.specs.declared.origin.Origin.TheVariants.{Root, Step}
 use Rattle.swan_model.specs.declared.rights.Mode.{Mode}
 use Rattle.swan_model.specs.declared.rights.Mode.TheVariants.{In, Out, InOut, Push, Pop, PushPop}
@@ -60,11 +59,6 @@ all_allowed PushPop is = refl
 all_allowed In is = absurd (cc)
 all_allowed Out is = absurd (cc)
 all_allowed InOut is = absurd (cc)
-
--- who holds both rights on what an origin made may use it by each mode of queues
-pub both_rights : (mode : Mode) (origin : Origin) → is_queue_mode mode ≡ true → may_use ((record { origin = origin; mode = PushPop }) ∷ []) mode origin ≡ true
-both_rights mode origin is =
-    or_left (allows PushPop mode && is_same origin origin) false (and_from (allows PushPop mode) (is_same origin origin) (all_allowed mode is) (is_same-self origin))
 
 roots_may : (from many index : ℕ) (mode : Mode) → is_queue_mode mode ≡ true → from ≤ index → index < from + many → may_use (roots_from PushPop from many) mode (Root index) ≡ true
 roots_may from zero index mode is after within = absurd (omega arith)

@@ -69,7 +69,6 @@ pub mod OpenOwners
 pub mod BookFronts
 pub mod BookDeeds
 pub mod BookLent
-pub mod PathsApart
 pub mod Refitting
 pub mod Advancing
 pub mod Continuing

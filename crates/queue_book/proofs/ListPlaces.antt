@@ -1,15 +1,6 @@
 -- What stands at an index of a list that has become longer, or in which one element was replaced.
-use Rattle.std.proofs.Common.{◌≡◌, ℕ, zero, suc, ◌<◌, List, [], ◌∷◌, ◌++◌, ◌⊎◌, inl, inr, length, Some, refl, ap, arith}
+use Rattle.std.proofs.Common.{◌≡◌, ℕ, zero, suc, List, [], ◌∷◌, ◌++◌, ◌⊎◌, inl, inr, length, Some, refl, ap, arith}
 use Rattle.std.specs.Prelude.{slice_get, slice_set}
-
-pub get-append-before : {X : Type 0} (xs ys : List X) (n : ℕ) → n < length xs → slice_get (xs ++ ys) n ≡ slice_get xs n
-get-append-before [] ys n within = absurd (omega arith)
-get-append-before (x ∷ xs) ys zero within = refl
-get-append-before (x ∷ xs) ys (suc n) within = get-append-before xs ys n (omega arith)
-
-pub get-append-at : {X : Type 0} (xs : List X) (x : X) → slice_get (xs ++ x ∷ []) (length xs) ≡ Some x
-get-append-at [] x = refl
-get-append-at (y ∷ xs) x = get-append-at xs x
 
 -- what stands in a list with one element more stood there, or is that element at the end
 pub get-push : {X : Type 0} (xs : List X) (x : X) (i : ℕ) (z : X) → slice_get (xs ++ x ∷ []) i ≡ Some z → (slice_get xs i ≡ Some z) ⊎ ((i ≡ length xs) × (z ≡ x))

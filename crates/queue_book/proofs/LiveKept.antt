@@ -78,9 +78,6 @@ has_key state frames live n queue frame e has =
     let place = has_place state one.0 frame queue one.2 has in
     (one.0, one.1, one.2, place.0, place.1)
 
-pub key_is : (frames : LiveFrames) (n queue : ℕ) (one : Kept) (place : Place) → kept_of frames n ≡ Some one → place_in one.places queue ≡ Some place → key_at frames n queue ≡ Some place.key
-key_is frames n queue one place is at = ap (λ o. key_in o queue) is ∙ ap (option_map (λ (p : Place). p.key)) at
-
 -- a place tells the key
 pub key_of : (frames : LiveFrames) (n queue : ℕ) (place : Place) → place_at frames n queue ≡ Some place → key_at frames n queue ≡ Some place.key
 key_of frames n queue place e = by (kept_of frames n) e where

@@ -28,7 +28,7 @@ use Rattle.queue_book.proofs.MatchParts.{NonePops}
 use Rattle.queue_book.proofs.MatchPop.{matches_popped}
 use Rattle.queue_book.proofs.MatchPush.{matches_pushed}
 use Rattle.queue_book.proofs.MatchSame.{CountsSame, PopsSame, counts_itself, matches_same, pops_itself, tell_equal}
-use Rattle.queue_book.proofs.SerialPoints.{active_number}
+use Rattle.queue_book.proofs.Frames.{active_number}
 use Rattle.queue_book.proofs.TreeTurns.{earlier_owner_is_no_popper}
 pub use Rattle.queue_book.proofs.MatchDeed.{matches_unowned}
 pub use Rattle.queue_book.proofs.MatchFront.{holds_now, is_empty, matches_trimmed, not_ripe}

@@ -18,7 +18,7 @@ use Rattle.queue_book.specs.Tells.{FindsItem, FindsNone}
 use Rattle.queue_book.proofs.Elements.{filtered_each, found_is}
 use Rattle.queue_book.proofs.MatchParts.{NonePops, OwnsAt, ends_before, items_from, left_is, owner_at, owns_at, taken_from, upto_is}
 use Rattle.queue_book.proofs.Segments.{segment_empty, segment_first}
-use Rattle.queue_book.proofs.SerialPoints.{active_number}
+use Rattle.queue_book.proofs.Frames.{active_number}
 
 spent_parts : (chunk : Chunk) → is_spent chunk ≡ true → (chunk.owner ≡ None) × (chunk.items ≡ [])
 spent_parts chunk is = by chunk.owner chunk.items is where

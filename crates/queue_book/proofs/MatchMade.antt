@@ -24,7 +24,7 @@ use Rattle.queue_book.proofs.Between.{Comes, is_queue_deed_of, point_left, to_qu
 use Rattle.queue_book.proofs.Making.{holds_made}
 use Rattle.queue_book.proofs.QueuePoints.{IsSame, moved_counts, next_is, still_same}
 use Rattle.queue_book.proofs.Segments.{segment, segment_front, segment_none, take_none}
-use Rattle.queue_book.proofs.SerialPoints.{active_number}
+use Rattle.queue_book.proofs.Frames.{active_number}
 
 module _ (s : Script) (state : QueueState) (number : ℕ) (queue : Origin) (n : ℕ) (frame : ActiveFrame) (first : List Value) (live : active state n ≡ Some frame) where
   -- the only chunk of a queue, of its maker, from which nothing was popped yet

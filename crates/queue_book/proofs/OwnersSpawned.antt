@@ -9,7 +9,7 @@ use Rattle.queue_book.specs.Book.{Chunks, handed_on, HasOwners}
 use Rattle.queue_book.specs.Tree.{IsTree, has_queue}
 use Rattle.queue_book.proofs.TreeCalls.{child_newest, one_more, parent_changed, tree_between, with_one_more}
 use Rattle.queue_book.proofs.ChunkOwners.{handed_child, handed_still, handed_was, IsFirstOf}
-use Rattle.queue_book.proofs.Frames.{active_number, same_frame}
+use Rattle.queue_book.proofs.Frames.{same_frame}
 use Rattle.queue_book.proofs.Gives.{gives_had}
 use Rattle.queue_book.proofs.QueueHolders.{added_new, added_still, added_was, before_child, changed_still, changed_was}
 use Rattle.queue_book.proofs.Owners.{has_owners, IsHolder, ordered_owners, ordered_same, owner_at, owns_one}
@@ -24,9 +24,6 @@ module _ (state : QueueState) (p child : ℕ) (gives : List QueueRight) (q : ℕ
 
   abbrev new : ActiveFrame
   new = child_of parent child gives
-
-  named : parent.number ≡ p
-  named = active_number state p parent may.act.may.live
 
   -- who has the queue had it, or is the child
   spawned_was : (number : ℕ) (path : List ℕ) → IsHolder after q number path

@@ -27,7 +27,7 @@ use Rattle.queue_book.proofs.Fitting.{fits_comes}
 use Rattle.queue_book.proofs.Moving.{making_parts}
 use Rattle.queue_book.proofs.QueuePoints.{next_is}
 use Rattle.queue_book.proofs.Rereading.{fit_of, goes_step, live_left, more_queue, spawn_does}
-use Rattle.queue_book.proofs.SerialPoints.{active_number}
+use Rattle.queue_book.proofs.Frames.{active_number}
 
 -- the time of a frame's next queue deed, where that is its next entry
 pub deed_time : (s : Script) (frame : ActiveFrame) (p : Progress) → FitsFrame s frame p → is_queue_deed (deed_at s (point s p)) ≡ true → queue_time s frame.path frame.deeds ≡ point s p

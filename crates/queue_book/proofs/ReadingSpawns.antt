@@ -32,7 +32,8 @@ use Rattle.queue_book.proofs.Lineage.{spawns_by}
 use Rattle.queue_book.proofs.Places.{take-none}
 use Rattle.queue_book.proofs.Refitting.{GoesTo, past_done, refits}
 use Rattle.queue_book.proofs.Rereading.{fit_of, live_left}
-use Rattle.queue_book.proofs.SerialPoints.{active_number, frame_in, frame_number}
+use Rattle.queue_book.proofs.Frames.{active_number}
+use Rattle.queue_book.proofs.SerialPoints.{frame_in, frame_number}
 
 -- ---- one element more, by its number
 

@@ -26,7 +26,8 @@ use Rattle.queue_book.proofs.Elements.{answers_same, filtered_each, filtered_fro
 use Rattle.queue_book.proofs.Fitting.{same_side}
 use Rattle.queue_book.proofs.Kept.{still_grants, use_kept}
 use Rattle.queue_book.proofs.QueuePoints.{still_same}
-use Rattle.queue_book.proofs.SerialPoints.{IsRead, active_number, frame_number, is_read}
+use Rattle.queue_book.proofs.Frames.{active_number}
+use Rattle.queue_book.proofs.SerialPoints.{IsRead, frame_number, is_read}
 
 -- the push of an item is a queue deed
 push_is : (queue : Origin) (d : Deed) → is_push_to queue d ≡ true → is_queue_deed d ≡ true

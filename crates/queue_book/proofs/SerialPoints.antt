@@ -18,9 +18,6 @@ use Rattle.queue_book.proofs.Fitting.{fits_still}
 
 -- ---- frames by their numbers
 
-pub active_number : (state : QueueState) (number : ℕ) (frame : ActiveFrame) → active state number ≡ Some frame → frame.number ≡ number
-active_number state number frame is = eqb-true frame.number number (found_is (λ (f : ActiveFrame). nat_eq f.number number) state.frames frame is).passes
-
 pub frame_number : (r : Reading) (number : ℕ) (progress : Progress) → frame_of r number ≡ Some progress → progress.number ≡ number
 frame_number r number progress is = eqb-true progress.number number (found_is (λ (p : Progress). nat_eq p.number number) r.frames progress is).passes
 

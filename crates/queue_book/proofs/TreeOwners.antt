@@ -17,13 +17,6 @@ use Rattle.queue_book.proofs.Owners.{has_owners, IsHolder, ordered_owners, order
 use Rattle.queue_book.proofs.OwnersSpawned.{spawn_given, spawn_kept}
 use Rattle.queue_book.proofs.TreeChanged.{IsChanged, still}
 
--- nobody owns two chunks of a queue
-pub owns_once : (state : QueueState) (q : ℕ) (chunks : Chunks) (index later number : ℕ) → HasOwners state q chunks → IsOwner state chunks index number
-    → IsOwner state chunks later number → index ≡ later
-owns_once state q chunks index later number owners one two =
-    owns_one (IsHolder state q) (owner_at chunks) (ordered_owners state q chunks owners) index later number
-    (owns_at state chunks index number one) (owns_at state chunks later number two)
-
 -- ---- the same chunks
 
 -- the same holders, and chunks with the same owners
@@ -181,12 +174,6 @@ pub none_has : (state : QueueState) (n q : ℕ) (maker : Maker) → IsTree state
     → (number : ℕ) (frame : ActiveFrame) → active (after_finish state n) number ≡ Some frame → has_queue frame q ≡ true → ⊥
 none_has state n q maker tree may at own number frame live has =
     none_after_maker state n q may.frame maker tree may.may.live may.alone at own number frame.path (record { frame = frame; live = live; has = has; is = refl })
-
-pub owners_over : (state : QueueState) (n q : ℕ) (maker : Maker) (chunks : Chunks) → IsTree state → (may : MayJoin state n) → slice_get state.makers q ≡ Some maker
-    → may.frame.path ≡ maker_path maker → HasOwners (after_finish state n) q chunks → (index number : ℕ) → ¬ IsOwner (after_finish state n) chunks index number
-owners_over state n q maker chunks tree may at own owners index number is =
-    let owner = owners.owners index number is in
-    none_has state n q maker tree may at own number owner.0 owner.1 owner.2
 
 -- So it is where all chunks are given up.
 pub owners_none : (state : QueueState) (n q : ℕ) (maker : Maker) → IsTree state → (may : MayJoin state n) → slice_get state.makers q ≡ Some maker → may.frame.path ≡ maker_path maker

@@ -1,14 +1,13 @@
 -- Where a frame has its turn to pop a queue, no earlier frame pops it: those that have the queue push to it. And, whatever
--- its turn, the owners that may push before its own chunk are its earlier pushers.
+-- its turn, the first owner before its own chunk that may push is its first earlier pusher.
 use Rattle.std.proofs.Common.{◌≡◌, ◌⊎◌, inl, inr, ℕ, ◌<◌, ◌≤◌, true, false, Some, List, [], ◌∷◌, ◌++◌, sym, ap, subst, ◌∙◌, append_assoc, arith}
 use Rattle.std.proofs.lemmas.Bool.{cases_lt, cases_order, false_from_ne_true, false≢true}
 use Rattle.std.proofs.lemmas.Option.{same_Some}
 use Rattle.std.specs.Prelude.{slice_get}
 use Rattle.swan_model.specs.declared.rights.Mode.TheVariants.{Push, Pop}
 use Rattle.swan_model.specs.PathOrder.{comes_before}
-use Rattle.swan_model.specs.QueueState.{ActiveFrame, Maker, QueueState, active, HasTurn, holds_queue, IsEarlierPusher, IsOlderPopper, IsPoppingChild, MayAct}
+use Rattle.swan_model.specs.QueueState.{ActiveFrame, Maker, QueueState, active, HasTurn, holds_queue, IsOlderPopper, IsPoppingChild, MayAct}
 use Rattle.swan_model.proofs.PathOrder.{how_before, IsAside, IsBelow}
-use Rattle.queue_book.proofs.PathsApart.{not_both_before}
 use Rattle.swan_model.proofs.Paths.{not_below-itself}
 use Rattle.queue_book.specs.Book.{Chunk, Chunks, HasOwners, IsOwner}
 use Rattle.queue_book.specs.Tells.{IsFirstPusher}
@@ -183,21 +182,3 @@ module _ (state : QueueState) (queue : ℕ) (chunks : Chunks) (owners : HasOwner
             ]
           ];
     }
-
-    -- Where none of them may push, the frame has no earlier pusher.
-    pub no_earlier_pusher : NonePushes state queue chunks i → (number : ℕ) → ¬ IsEarlierPusher state f queue number
-    no_earlier_pusher none number a =
-        let place = owns_from i number a.other none a.live a.pushes in
-        elim (cases_order i place.0) [
-          | inl same ↦
-              let P : ℕ → Type 0 = λ k. IsOwner state chunks k number in
-              let one = one_owner state chunks i number n (subst P (sym same) place.1) own in
-              let Q : ℕ → Type 0 = λ k. active state k ≡ Some a.other in
-              let frame = same_frame (active state n) a.other f (subst Q one a.live) live in
-              let R : ActiveFrame → Type 0 = λ h. comes_before h.path f.path ≡ true in
-              not_both_before f.path f.path (subst R frame a.earlier) (subst R frame a.earlier)
-          | inr differ ↦ elim differ [
-            | inl later ↦ not_both_before f.path a.other.path (owners.order i place.0 n number f a.other later own place.1 live a.live) a.earlier
-            | inr early ↦ let from = place.2 in absurd (omega arith)
-          ]
-        ]

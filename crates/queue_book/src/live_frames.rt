@@ -32,7 +32,7 @@ impl LiveFrames {
     }
 
     /// The active frame of a number. `O(log n)`.
-    pub fn get(&self, number: u64) -> Option<&Frame>
+    fn get(&self, number: u64) -> Option<&Frame>
         ensures { option_copied result ≡ kept_of self.now number }
     {
         if number == 0 {

@@ -2,7 +2,8 @@ use Rattle.std.proofs.Common.{sym, ◌∙◌}
 use Rattle.queue_book.proofs.Done.{done_same}
 use Rattle.queue_book.proofs.QueuePoints.{still_same}
 use Rattle.queue_book.proofs.Ripening.{ripe_same}
-use Rattle.queue_book.proofs.SerialPoints.{active_number, earlier_same, is_read, serial_same}
+use Rattle.queue_book.proofs.Frames.{active_number}
+use Rattle.queue_book.proofs.SerialPoints.{earlier_same, is_read, serial_same}
 use Rattle.swan_model.specs.QueueFollows.{queue_point}
 use Rattle.swan_model.specs.SerialTime.{point}
 use Rattle.queue_book.proofs.laws.points_of_queues_agree.Goals as goal
