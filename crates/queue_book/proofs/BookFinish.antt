@@ -16,7 +16,7 @@ use Rattle.queue_book.specs.Book.{Chunks, closed}
 use Rattle.queue_book.specs.Chains.{Link, AreChained}
 use Rattle.queue_book.specs.Ended.{ended_line, ended_lines, placed_at, IsAlone}
 use Rattle.queue_book.specs.Kept.{Kept, place_in}
-use Rattle.queue_book.specs.Live.{kept_of, key_at, key_in, IsFrame, IsOne}
+use Rattle.queue_book.specs.Live.{kept_of, key_at, key_in, IsFrame, IsOnlyChange}
 use Rattle.queue_book.specs.Tree.{IsTree, has_queue, maker_path}
 use Rattle.queue_book.specs.Whole.{IsBook, IsInUse, IsLine, IsPlain}
 use Rattle.queue_book.specs.declared.frame.Place.{Place}
@@ -148,7 +148,7 @@ module _ (name : Option Script) (state : QueueState) (frames : LiveFrames) (head
   pub chained_before : AreChained (placed_at n kept.places (key_at frames)) heads nodes is.lines
   chained_before = chained_same (key_at frames) (placed_at n kept.places (key_at frames)) heads nodes is.lines is.lines keys_own (λ q. refl) is.chained
 
-  pub book_finish : OnNext name state n (λ s f. next_queue_deed s f.path f.deeds ≡ None) → (after_frames : LiveFrames) → IsOne frames after_frames n None
+  pub book_finish : OnNext name state n (λ s f. next_queue_deed s f.path f.deeds ≡ None) → (after_frames : LiveFrames) → IsOnlyChange frames after_frames n None
       → (after_heads : List (Option ℕ)) (after_nodes : Slab Link) → length after_heads ≡ length heads
       → AreChained (placed_at n [] (key_at frames)) after_heads after_nodes (ended_lines n kept.places is.lines)
       → IsBook name (after_finish state n) after_frames after_heads after_nodes (without turns n)

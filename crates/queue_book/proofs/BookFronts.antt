@@ -12,7 +12,7 @@ use Rattle.swan_model.specs.Lawful.{IsLawful}
 use Rattle.swan_model.specs.QueueFollows.{next_item, origin_in, is_ripe_among}
 use Rattle.swan_model.specs.QueueState.{ActiveFrame, Maker, QueueState, active, holds_queue, HasTurn, IsPoppingChild}
 use Rattle.swan_model.specs.Readings.{end_time}
-use Rattle.queue_book.specs.Asks.{is_emptied, MayLook, MayUse}
+use Rattle.queue_book.specs.Asks.{is_emptied, MayLook, MayUse, IsOnTurn}
 use Rattle.queue_book.specs.Book.{Chunk, Chunks, HasOwners, IsOwner, Matches, trimmed}
 use Rattle.queue_book.specs.Chains.{Link, AreChained, in_line, IsFront}
 use Rattle.queue_book.specs.Fronts.{IsBare, IsFrontTold, IsTurnTold, first_open}
@@ -32,7 +32,7 @@ use Rattle.queue_book.proofs.Frames.{active_number, has_held, same_frame}
 use Rattle.queue_book.proofs.OpenOwners.{open_first_owner, open_found, open_own_chunk, owner_has, pushes_kept}
 use Rattle.queue_book.proofs.Match.{holds_now, is_empty, none_pops, not_ripe}
 use Rattle.queue_book.proofs.PlainDeeds.{plain_trim}
-use Rattle.queue_book.proofs.PlainSaid.{OnTurn, on_queue, turn_on}
+use Rattle.queue_book.proofs.PlainSaid.{on_queue, turn_on}
 use Rattle.queue_book.proofs.TreeTurns.{earlier_owner_pushes, first_owner_is_first, one_owner}
 use Rattle.queue_book.proofs.TurnsKept.{pops_active, pops_turn}
 
@@ -76,7 +76,7 @@ look_of state n q may = record { frame = may.act.frame; may = may.act.may; held 
 -- ---- what a frame finds that pops the queue
 
 module _ (name : Option Script) (state : QueueState) (frames : LiveFrames) (live : AreLive state frames) (lines : ℕ → Chunks) (is : IsPlain name state lines)
-    (n q : ℕ) (may : MayLook state n q) (turn : OnTurn name state n) where
+    (n q : ℕ) (may : MayLook state n q) (turn : IsOnTurn name state n) where
   pub has : has_queue may.frame q ≡ true
   has = has_held may.frame q Pop may.held
 
@@ -234,7 +234,7 @@ module _ (name : Option Script) (state : QueueState) (frames : LiveFrames) (head
     book_looked (tested.NotYet (Child m)) told = absurd told
     book_looked (tested.NotYet (Version m)) told = absurd told
 
-    module _ (turn : OnTurn name state n) where
+    module _ (turn : IsOnTurn name state n) where
       now_none : (chunks : Chunks) → chunks ≡ trimmed (is.lines q) → IsBare (trimmed (is.lines q)) → IsBare chunks
       now_none chunks are bare = let P : Chunks → Type 0 = λ cs. IsBare cs in subst P (sym are) bare
 
@@ -286,7 +286,7 @@ module _ (name : Option Script) (state : QueueState) (frames : LiveFrames) (head
     pub found_item : IsFrontTold frames (key_at frames) after_heads after_nodes is.lines n q tested.Holds → IsItemFirst (in_line q trimmed is.lines q)
     found_item told = let P : Chunks → Type 0 = λ chunks. IsItemFirst chunks in subst P (sym line) (item_first (trimmed (is.lines q)) told.1)
 
-    pub popped_all : OnTurn name state n → IsTurnTold turns n q tested.Holds → (told : IsFrontTold frames (key_at frames) after_heads after_nodes is.lines n q tested.Holds) (value : Value)
+    pub popped_all : IsOnTurn name state n → IsTurnTold turns n q tested.Holds → (told : IsFrontTold frames (key_at frames) after_heads after_nodes is.lines n q tested.Holds) (value : Value)
         → value ≡ (found_item told).value → (f : ActiveFrame) → active state n ≡ Some f → IsPopped name state f q (popped.Item value)
     popped_all turn turned told value value_is f live =
         let same_one : may.frame ≡ f = same_frame (active state n) may.frame f may.may.live live in

@@ -1,17 +1,18 @@
 -- What holds of hyperqueues in plain form after ends were lent, and after they came back.
-use Rattle.std.proofs.Common.{◌≡◌, ℕ, Bool, true, false, ◌==◌, Option, Some, None, List, [], refl, sym, ap, subst, ◌∙◌}
+use Rattle.std.proofs.Common.{◌≡◌, ℕ, Bool, true, false, ◌==◌, Option, Some, None, List, [], refl, sym, ap, subst, ◌∙◌, arith}
 use Rattle.std.specs.Option.{option_map}
 use Rattle.std.specs.Prelude.{if◌then◌else◌}
 use Rattle.slab.specs.Slab.{Slab}
 use Rattle.pop_order.proofs.Flags.{and_parts, eq_of}
 use Rattle.pop_order.specs.Frames.{Frames}
 use Rattle.swan_model.specs.declared.script.Script.{Script}
+use Rattle.swan_model.specs.QueueFollows.{AreByEnds}
 use Rattle.swan_model.specs.QueueState.{ActiveFrame, QueueState, active, after_back, after_lend}
 use Rattle.queue_book.specs.Asks.{IsRecorded}
 use Rattle.queue_book.specs.Calls.{with_active}
 use Rattle.queue_book.specs.Chains.{Link}
 use Rattle.queue_book.specs.Kept.{Kept}
-use Rattle.queue_book.specs.Live.{is_lent_with, kept_of, key_at, AreLive, IsFrame, IsOne}
+use Rattle.queue_book.specs.Live.{is_lent_with, kept_of, key_at, AreLive, IsFrame, IsOnlyChange}
 use Rattle.queue_book.specs.NoEnds.{ends_of}
 use Rattle.queue_book.specs.Whole.{IsBook}
 use Rattle.queue_book.specs.declared.live_frames.LiveFrames.{LiveFrames}
@@ -31,16 +32,16 @@ called state n f change live = ap (with_active change state) live
 
 module _ (name : Option Script) (state : QueueState) (frames : LiveFrames) (heads : List (Option ℕ)) (nodes : Slab Link) (turns : Frames) (is : IsBook name state frames heads nodes turns)
     (n : ℕ) (frame : ActiveFrame) (live : active state n ≡ Some frame) where
-  pub book_lend : (after_frames : LiveFrames) → IsOne frames after_frames n (option_map (λ (kept : Kept). record kept { is_lent = true }) (kept_of frames n))
+  pub book_lend : (after_frames : LiveFrames) → IsOnlyChange frames after_frames n (option_map (λ (kept : Kept). record kept { is_lent = true }) (kept_of frames n))
       → IsBook name (after_lend state frame []) after_frames heads nodes turns
   book_lend after_frames one =
       let number = active_number state n frame live in
       let change : ActiveFrame → ActiveFrame = λ f. record f { lent = Some (record { deeds = frame.deeds; ends = [] }) } in
       let was = kept_live state frames is.live n frame live in
       let kept = was.0 in
-      let P : Option Kept → Type 0 = λ o. IsOne frames after_frames n o in
-      let lent_one : IsOne frames after_frames n (Some (with_lent true kept)) = subst P (ap (option_map (with_lent true)) was.1) one in
-      let Q : ℕ → Type 0 = λ k. IsOne frames after_frames k (Some (with_lent true kept)) in
+      let P : Option Kept → Type 0 = λ o. IsOnlyChange frames after_frames n o in
+      let lent_one : IsOnlyChange frames after_frames n (Some (with_lent true kept)) = subst P (ap (option_map (with_lent true)) was.1) one in
+      let Q : ℕ → Type 0 = λ k. IsOnlyChange frames after_frames k (Some (with_lent true kept)) in
       let own : active state frame.number ≡ Some frame = ap (active state) number ∙ live in
       let now : IsFrame (after_lend state frame []) (with_lent true kept) (change frame) = record {
         deeds = was.2.deeds;
@@ -61,14 +62,14 @@ module _ (name : Option Script) (state : QueueState) (frames : LiveFrames) (head
         turned = turns_alike state (after_lend state frame []) turns (lend_alike name state is.lines is.plain n frame live []) refl is.turned;
       }
 
-  pub book_back : (after_frames : LiveFrames) → IsOne frames after_frames n (option_map (λ (kept : Kept). record kept { is_lent = false }) (kept_of frames n))
+  pub book_back : (after_frames : LiveFrames) → IsOnlyChange frames after_frames n (option_map (λ (kept : Kept). record kept { is_lent = false }) (kept_of frames n))
       → IsBook name (after_back state n frame.deeds) after_frames heads nodes turns
   book_back after_frames one =
       let change : ActiveFrame → ActiveFrame = λ f. record f { deeds = frame.deeds; lent = None } in
       let was = kept_live state frames is.live n frame live in
       let kept = was.0 in
-      let P : Option Kept → Type 0 = λ o. IsOne frames after_frames n o in
-      let back_one : IsOne frames after_frames n (Some (with_lent false kept)) = subst P (ap (option_map (with_lent false)) was.1) one in
+      let P : Option Kept → Type 0 = λ o. IsOnlyChange frames after_frames n o in
+      let back_one : IsOnlyChange frames after_frames n (Some (with_lent false kept)) = subst P (ap (option_map (with_lent false)) was.1) one in
       let now : IsFrame (after_back state n frame.deeds) (with_lent false kept) (change frame) = record {
         deeds = was.2.deeds;
         lent = refl;
@@ -87,6 +88,16 @@ module _ (name : Option Script) (state : QueueState) (frames : LiveFrames) (head
             (keys_same frames after_frames n kept (with_lent false kept) was.1 back_one refl) (λ q. refl) is.chained;
         turned = turns_alike state (after_back state n frame.deeds) turns (back_alike name state is.lines is.plain n frame live frame.deeds) refl is.turned;
       }
+
+-- a number has one active frame
+pub only_active : (state : QueueState) (n : ℕ) (a b : ActiveFrame) → active state n ≡ Some a → active state n ≡ Some b → a ≡ b
+only_active state n a b one two =
+    let both : Some a ≡ Some b = sym one ∙ two in
+    cc
+
+-- no deed was done by ends
+pub by_none : (s : Script) (path : List ℕ) (from to : ℕ) → from ≡ to → AreByEnds s path from to
+by_none s path from to same = record { order = omega (arith, same); each = λ k above below. absurd (omega (arith, same)) }
 
 -- ---- whether ends are those that were recorded
 

@@ -12,11 +12,11 @@ use Rattle.swan_model.specs.declared.script.Script.{Script}
 use Rattle.swan_model.specs.declared.value.Value.{Value}
 use Rattle.swan_model.specs.QueueFollows.{next_queue_deed}
 use Rattle.swan_model.specs.QueueState.{ActiveFrame, Maker, planned, made_by, QueueState, active, after_create, after_create_root, holds_queue, with_deed, with_made, IsUntouched}
-use Rattle.queue_book.specs.Asks.{DEEDS_MOST, MayDo, OnNext}
+use Rattle.queue_book.specs.Asks.{DEEDS_MOST, MayDo, IsOnTurn, OnNext}
 use Rattle.queue_book.specs.Book.{own}
 use Rattle.queue_book.specs.Chains.{Link, AreChained, in_line, put_at}
 use Rattle.queue_book.specs.Kept.{Kept, place_in}
-use Rattle.queue_book.specs.Live.{kept_of, key_at, lent_of, with_place, IsFrame, IsOne}
+use Rattle.queue_book.specs.Live.{kept_of, key_at, lent_of, with_place, IsFrame, IsOnlyChange}
 use Rattle.queue_book.specs.Made.{IsMadeIn}
 use Rattle.queue_book.specs.Tree.{has_queue, maker_path}
 use Rattle.queue_book.specs.Turned.{AreTurns}
@@ -33,7 +33,6 @@ use Rattle.queue_book.proofs.LiveKept.{kept_live, key_none, keys_same, live_one,
 use Rattle.queue_book.proofs.LivePut.{keys_put, place_elsewhere, place_here, places_made}
 use Rattle.queue_book.proofs.Making.{holds_before, holds_cases}
 use Rattle.queue_book.proofs.OpenOwners.{pushes_made}
-use Rattle.queue_book.proofs.PlainSaid.{OnTurn}
 use Rattle.queue_book.proofs.PlainMade.{plain_create, plain_create_root}
 
 pub one_place : (o : Option Place) (a b : Place) → o ≡ Some a → o ≡ Some b → a ≡ b
@@ -98,7 +97,7 @@ module _ (name : Option Script) (state after : QueueState) (frames : LiveFrames)
   }
 
   module _ (after_frames : LiveFrames) (key : ℕ) (kept now_kept : Kept) (was : kept_of frames n ≡ Some kept) (agrees : IsFrame state kept frame)
-      (one : IsOne frames after_frames n (Some now_kept)) (deeds : now_kept.deeds ≡ later.deeds) (lent : later.lent ≡ lent_of now_kept)
+      (one : IsOnlyChange frames after_frames n (Some now_kept)) (deeds : now_kept.deeds ≡ later.deeds) (lent : later.lent ≡ lent_of now_kept)
       (places : now_kept.places ≡ (with_place (length state.makers) (record { key = key; is_maker = true; pushes = true }) kept).places) where
     abbrev place_now : Place
     place_now = record { key = key; is_maker = true; pushes = true }
@@ -162,7 +161,7 @@ module _ (name : Option Script) (state after : QueueState) (frames : LiveFrames)
     }
 
 -- one change after another
-pub one_then : (a b c : LiveFrames) (n : ℕ) (kept : Kept) (change : Kept → Kept) → IsOne a b n (Some kept) → IsOne b c n (option_map change (kept_of b n)) → IsOne a c n (Some (change kept))
+pub one_then : (a b c : LiveFrames) (n : ℕ) (kept : Kept) (change : Kept → Kept) → IsOnlyChange a b n (Some kept) → IsOnlyChange b c n (option_map change (kept_of b n)) → IsOnlyChange a c n (Some (change kept))
 one_then a b c n kept change first second = record {
   changed = second.changed ∙ ap (option_map change) first.changed;
   others = λ m other. second.others m other ∙ first.others m other;
@@ -184,9 +183,9 @@ module _ (name : Option Script) (state : QueueState) (frames : LiveFrames) (head
       let was = kept_live state frames is.live 0 root untouched.live in
       let kept = was.0 in
       let place : Place = record { key = made.key; is_maker = true; pushes = true } in
-      let P : Option Kept → Type 0 = λ o. IsOne frames after_frames 0 o in
-      let Q : ℕ → Type 0 = λ k. IsOne frames after_frames 0 (Some (with_place k place kept)) in
-      let one : IsOne frames after_frames 0 (Some (with_place i place kept)) = subst Q at (subst P (ap (option_map (with_place q place)) was.1) made.place) in
+      let P : Option Kept → Type 0 = λ o. IsOnlyChange frames after_frames 0 o in
+      let Q : ℕ → Type 0 = λ k. IsOnlyChange frames after_frames 0 (Some (with_place k place kept)) in
+      let one : IsOnlyChange frames after_frames 0 (Some (with_place i place kept)) = subst Q at (subst P (ap (option_map (with_place q place)) was.1) made.place) in
       let R : ℕ → Type 0 = λ k. AreChained (put_at 0 k (Some made.key) (key_at frames)) after_heads after_nodes (in_line k (λ old. own 0 first ∷ []) is.lines) in
       let path = (is.plain.tree.root root untouched.live).0 in
       book_made name state (after_create_root state) frames heads nodes turns is 0 root (with_made i root) (planned i) untouched.live
@@ -198,9 +197,9 @@ module _ (name : Option Script) (state : QueueState) (frames : LiveFrames) (head
 
   module _ (n : ℕ) (act : MayDo state n) (q : ℕ) (new : q ≡ length heads) (mid_frames : LiveFrames) (after_heads : List (Option ℕ)) (after_nodes : Slab Link)
       (made : IsMadeIn frames mid_frames n q [] heads nodes after_heads after_nodes) where
-    mid_one : (kept : Kept) → kept_of frames n ≡ Some kept → IsOne frames mid_frames n (Some (with_place q (record { key = made.key; is_maker = true; pushes = true }) kept))
+    mid_one : (kept : Kept) → kept_of frames n ≡ Some kept → IsOnlyChange frames mid_frames n (Some (with_place q (record { key = made.key; is_maker = true; pushes = true }) kept))
     mid_one kept was =
-        let P : Option Kept → Type 0 = λ o. IsOne frames mid_frames n o in
+        let P : Option Kept → Type 0 = λ o. IsOnlyChange frames mid_frames n o in
         subst P (ap (option_map (with_place q (record { key = made.key; is_maker = true; pushes = true }))) was) made.place
 
     pub create_room : (kept : Kept) → kept_of mid_frames n ≡ Some kept → kept.deeds < DEEDS_MOST
@@ -212,8 +211,8 @@ module _ (name : Option Script) (state : QueueState) (frames : LiveFrames) (head
         let room = act.room in
         omega (arith, room, deeds)
 
-    pub book_create : OnNext name state n (λ s f. next_queue_deed s f.path f.deeds ≡ Some deed.MakeQueue) → OnTurn name state n → length after_heads ≡ length heads + 1
-        → (after_frames : LiveFrames) → IsOne mid_frames after_frames n (option_map (λ (kept : Kept). record kept { deeds = kept.deeds + 1 }) (kept_of mid_frames n))
+    pub book_create : OnNext name state n (λ s f. next_queue_deed s f.path f.deeds ≡ Some deed.MakeQueue) → IsOnTurn name state n → length after_heads ≡ length heads + 1
+        → (after_frames : LiveFrames) → IsOnlyChange mid_frames after_frames n (option_map (λ (kept : Kept). record kept { deeds = kept.deeds + 1 }) (kept_of mid_frames n))
         → IsBook name (after_create state act.frame) after_frames after_heads after_nodes turns
     book_create next turn more after_frames counted_one =
         let frame = act.frame in
@@ -226,10 +225,10 @@ module _ (name : Option Script) (state : QueueState) (frames : LiveFrames) (head
         let kept = was.0 in
         let place : Place = record { key = made.key; is_maker = true; pushes = true } in
         let free = not_lent kept frame.lent was.2.lent act.may.back in
-        let S : ℕ → Type 0 = λ k. IsOne frames mid_frames n (Some (with_place k place kept)) in
-        let mid : IsOne frames mid_frames n (Some (with_place i place kept)) = subst S at (mid_one kept was.1) in
+        let S : ℕ → Type 0 = λ k. IsOnlyChange frames mid_frames n (Some (with_place k place kept)) in
+        let mid : IsOnlyChange frames mid_frames n (Some (with_place i place kept)) = subst S at (mid_one kept was.1) in
         let now_kept : Kept = counted (with_place i place kept) in
-        let one : IsOne frames after_frames n (Some now_kept) = one_then frames mid_frames after_frames n (with_place i place kept) counted mid counted_one in
+        let one : IsOnlyChange frames after_frames n (Some now_kept) = one_then frames mid_frames after_frames n (with_place i place kept) counted mid counted_one in
         let R : ℕ → Type 0 = λ k. AreChained (put_at n k (Some made.key) (key_at frames)) after_heads after_nodes (in_line k (λ old. own n [] ∷ []) is.lines) in
         let P : ℕ → Type 0 = λ k. AreOthers state (after_create state frame) k in
         book_made name state (after_create state frame) frames heads nodes turns is n frame (change frame) (made_by frame.path frame.deeds) act.may.live

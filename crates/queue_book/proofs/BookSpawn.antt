@@ -11,7 +11,7 @@ use Rattle.swan_model.specs.declared.script.Script.{Script}
 use Rattle.swan_model.specs.QueueFollows.{IsNextSpawn}
 use Rattle.swan_model.specs.QueueState.{ActiveFrame, Maker, QueueRight, QueueState, active, after_spawn, child_of, holds_queue, with_deed}
 use Rattle.swan_model.specs.Rights.{allows}
-use Rattle.queue_book.specs.Asks.{MaySpawn, OnNext}
+use Rattle.queue_book.specs.Asks.{MaySpawn, IsOnTurn, OnNext}
 use Rattle.queue_book.specs.Chains.{Link, AreChained}
 use Rattle.queue_book.specs.Ended.{placed_at}
 use Rattle.queue_book.specs.Handed.{handed_lines, holding_of, turn_of, IsMoved}
@@ -31,7 +31,6 @@ use Rattle.queue_book.proofs.Frames.{active_number, same_frame}
 use Rattle.queue_book.proofs.Gives.{gives_had}
 use Rattle.queue_book.proofs.LiveKept.{agrees_on, kept_live, key_none}
 use Rattle.queue_book.proofs.Match.{not_active}
-use Rattle.queue_book.proofs.PlainSaid.{OnTurn}
 use Rattle.queue_book.proofs.PlainSpawned.{plain_spawn}
 
 -- what the turn of a child says of what it was given
@@ -264,7 +263,7 @@ module _ (name : Option Script) (state : QueueState) (frames : LiveFrames) (head
             let turn = is.turned.all m above q mode one (sym (other_live m other apart) ∙ live) of held foreign in
             (turn.0, done.given.other_turns m apart ∙ turn.1, turn.2, turn.3)
 
-    pub book_spawn : OnNext name state p (λ s g. IsNextSpawn s state g gives) → OnTurn name state p
+    pub book_spawn : OnNext name state p (λ s g. IsNextSpawn s state g gives) → IsOnTurn name state p
         → IsBook name (after_spawn state may.act.frame child gives) after_frames heads then_nodes then_turns
     book_spawn next turn = record {
       lines = handed_lines p child gives is.lines;

@@ -7,7 +7,7 @@ use Rattle.slab.specs.Slab.{Slab}
 use Rattle.pop_order.proofs.Flags.{eq_same}
 use Rattle.queue_book.specs.Book.{Chunks, closed}
 use Rattle.queue_book.specs.Chains.{Link, AreChained, in_line, put_at}
-use Rattle.queue_book.specs.Ended.{ended_line, ended_lines, left_line, left_lines, placed_at, IsAlone}
+use Rattle.queue_book.specs.Ended.{ended_line, ended_lines, placed_at, IsAlone}
 use Rattle.queue_book.specs.Kept.{Places, place_in}
 use Rattle.queue_book.specs.declared.frame.Place.{Place}
 use Rattle.queue_book.proofs.ChainChanges.{chained_same, put_other, put_same}
@@ -55,6 +55,16 @@ none_but_own number queue at none other = elim (cases_eq other number) [
 ]
 
 -- ---- place by place
+
+-- the chunks of a queue where these places are left of a frame that ends: those of the other places have ended
+abbrev pub left_line : ℕ → Option Place → Option Place → Chunks → Chunks
+left_line number left all chunks = by left where
+  by : Option Place → Chunks
+  by None = ended_line number all chunks
+  by (Some place) = chunks
+
+abbrev pub left_lines : ℕ → (left all : Places) → (ℕ → Chunks) → ℕ → Chunks
+left_lines number left all lines queue = left_line number (place_in left queue) (place_in all queue) (lines queue)
 
 pub own_placed : (number : ℕ) (places : Places) (at : ℕ → ℕ → Option ℕ) (q : ℕ) → placed_at number places at number q ≡ option_map (λ (place : Place). place.key) (place_in places q)
 own_placed number places at q = ap (λ b. if b then option_map (λ (place : Place). place.key) (place_in places q) else at number q) (eq_same number)

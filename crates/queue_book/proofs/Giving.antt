@@ -15,7 +15,7 @@ use Rattle.queue_book.specs.Chains.{Link, AreChained, in_line, put_at}
 use Rattle.queue_book.specs.Ended.{placed_at}
 use Rattle.queue_book.specs.Handed.{gives_push, handed_lines, is_given, AreGiven, IsHandedIn, IsMoved}
 use Rattle.queue_book.specs.Kept.{Kept, Places, place_in}
-use Rattle.queue_book.specs.Live.{kept_of, key_at, key_in, place_of, with_place, IsOne}
+use Rattle.queue_book.specs.Live.{kept_of, key_at, key_in, place_of, with_place, IsOnlyChange}
 use Rattle.queue_book.specs.declared.frame.Place.{Place}
 use Rattle.queue_book.specs.declared.live_frames.LiveFrames.{LiveFrames}
 use Rattle.queue_book.proofs.ChainChanges.{chained_same, put_other, put_same}
@@ -142,8 +142,8 @@ module _ (before now after : LiveFrames) (parent child : ℕ) (gives : List Queu
     parent_step k =
         let was = is.moved kept at_first in
         let place : Place = record { key = handed.new; is_maker = handed.place.is_maker; pushes = handed.place.pushes } in
-        let P : Option Kept → Type 0 = λ o. IsOne now after parent o in
-        let one : IsOne now after parent (Some (with_place give.queue place was.0)) = subst P (ap (option_map (with_place give.queue place)) was.1) handed.parent_now in
+        let P : Option Kept → Type 0 = λ o. IsOnlyChange now after parent o in
+        let one : IsOnlyChange now after parent (Some (with_place give.queue place was.0)) = subst P (ap (option_map (with_place give.queue place)) was.1) handed.parent_now in
         keys_put now after parent give.queue place was.0 was.1 one parent k ∙ (elim (cases_eq k give.queue) [
           | inl here ↦
               ap (λ j. put_at parent give.queue (Some handed.new) (key_at now) parent j) here ∙ put_same parent give.queue (Some handed.new) (key_at now)

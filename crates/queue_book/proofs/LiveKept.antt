@@ -8,7 +8,7 @@ use Rattle.queue_book.specs.Tree.{IsTree, has_queue}
 use Rattle.queue_book.specs.declared.frame.Place.{Place}
 use Rattle.queue_book.specs.declared.live_frames.LiveFrames.{LiveFrames}
 use Rattle.queue_book.specs.Kept.{Kept, place_in}
-use Rattle.queue_book.specs.Live.{kept_of, key_in, key_at, place_at, place_of, Agrees, AreLive, IsFrame, IsOne}
+use Rattle.queue_book.specs.Live.{kept_of, key_in, key_at, place_at, place_of, Agrees, AreLive, IsFrame, IsOnlyChange}
 use Rattle.queue_book.proofs.ActiveAfter.{AreOthers}
 
 -- the makers of older queues are the same
@@ -110,14 +110,14 @@ agrees_on state after None (Some frame) same known is = absurd is
 agrees_on state after (Some one) None same known is = absurd is
 
 module _ (state after : QueueState) (tree : IsTree state) (frames then_frames : LiveFrames) (live : AreLive state frames) (n : ℕ) (others : AreOthers state after n) (same : SameMakers state after) where
-  pub live_other : (kept : Option Kept) → IsOne frames then_frames n kept → (m : ℕ) → m ≢ n → Agrees after (kept_of then_frames m) (active after m)
+  pub live_other : (kept : Option Kept) → IsOnlyChange frames then_frames n kept → (m : ℕ) → m ≢ n → Agrees after (kept_of then_frames m) (active after m)
   live_other kept one m other =
       let P : Option Kept → Type 0 = λ o. Agrees after o (active after m) in
       let Q : Option ActiveFrame → Type 0 = λ o. Agrees after (kept_of frames m) o in
       subst P (sym (one.others m other)) (subst Q (sym (others m other)) (agrees_on state after (kept_of frames m) (active state m) same
       (λ frame is queue has. (tree.held m queue frame is has).0) (live m)))
 
-  pub live_one : (kept : Kept) (frame : ActiveFrame) → IsOne frames then_frames n (Some kept) → active after n ≡ Some frame → IsFrame after kept frame → AreLive after then_frames
+  pub live_one : (kept : Kept) (frame : ActiveFrame) → IsOnlyChange frames then_frames n (Some kept) → active after n ≡ Some frame → IsFrame after kept frame → AreLive after then_frames
   live_one kept frame one now is m = elim (cases_eq m n) [
     | inl here ↦
         let P : ℕ → Type 0 = λ k. Agrees after (kept_of then_frames k) (active after k) in
@@ -127,7 +127,7 @@ module _ (state after : QueueState) (tree : IsTree state) (frames then_frames : 
     | inr other ↦ live_other (Some kept) one m other
   ]
 
-  pub live_gone : IsOne frames then_frames n None → active after n ≡ None → AreLive after then_frames
+  pub live_gone : IsOnlyChange frames then_frames n None → active after n ≡ None → AreLive after then_frames
   live_gone one gone m = elim (cases_eq m n) [
     | inl here ↦
         let P : ℕ → Type 0 = λ k. Agrees after (kept_of then_frames k) (active after k) in
@@ -158,7 +158,7 @@ live_new frames root others m = elim (cases_eq m 0) [
 ]
 
 -- the places of a frame stay, and so do all keys
-pub keys_same : (frames then_frames : LiveFrames) (n : ℕ) (was now : Kept) → kept_of frames n ≡ Some was → IsOne frames then_frames n (Some now) → now.places ≡ was.places
+pub keys_same : (frames then_frames : LiveFrames) (n : ℕ) (was now : Kept) → kept_of frames n ≡ Some was → IsOnlyChange frames then_frames n (Some now) → now.places ≡ was.places
     → (m queue : ℕ) → key_at then_frames m queue ≡ key_at frames m queue
 keys_same frames then_frames n was now is one places m queue = elim (cases_eq m n) [
   | inl here ↦

@@ -8,7 +8,7 @@ use Rattle.pop_order.proofs.Flags.{eq_same, or_left, or_right}
 use Rattle.swan_model.specs.QueueState.{ActiveFrame, QueueRight, with_made}
 use Rattle.queue_book.specs.Chains.{put_at}
 use Rattle.queue_book.specs.Kept.{Kept, place_in}
-use Rattle.queue_book.specs.Live.{kept_of, key_at, key_in, with_place, IsOne}
+use Rattle.queue_book.specs.Live.{kept_of, key_at, key_in, with_place, IsOnlyChange}
 use Rattle.queue_book.specs.Tree.{has_queue}
 use Rattle.queue_book.specs.declared.frame.Place.{Place}
 use Rattle.queue_book.specs.declared.live_frames.LiveFrames.{LiveFrames}
@@ -22,7 +22,7 @@ pub place_elsewhere : (kept : Kept) (queue : ℕ) (place : Place) (q : ℕ) → 
 place_elsewhere kept queue place q other = by_inserted kept.places queue place q other
 
 -- the keys after that
-pub keys_put : (frames after : LiveFrames) (n queue : ℕ) (place : Place) (kept : Kept) → kept_of frames n ≡ Some kept → IsOne frames after n (Some (with_place queue place kept))
+pub keys_put : (frames after : LiveFrames) (n queue : ℕ) (place : Place) (kept : Kept) → kept_of frames n ≡ Some kept → IsOnlyChange frames after n (Some (with_place queue place kept))
     → (m q : ℕ) → key_at after m q ≡ put_at n queue (Some place.key) (key_at frames) m q
 keys_put frames after n queue place kept was one m q = by (cases_eq m n) (cases_eq q queue) where
   own : (p : ℕ) → key_at after n p ≡ option_map (λ (pl : Place). pl.key) (place_in (with_place queue place kept).places p)

@@ -14,7 +14,7 @@ use Rattle.swan_model.specs.QueueFollows.{next_queue_deed, origin_in, IsNextAbou
 use Rattle.swan_model.specs.QueueState.{Maker, QueueState, after_deed, holds_queue, with_deed, HasTurn, IsPoppingChild}
 use Rattle.swan_model.specs.Readings.{end_time}
 use Rattle.swan_model.specs.Told.{is_same}
-use Rattle.queue_book.specs.Asks.{MayDo, OnNext}
+use Rattle.queue_book.specs.Asks.{MayDo, IsOnTurn, OnNext}
 use Rattle.queue_book.specs.Book.{Chunk, Chunks, HasOwners, IsOwner, Matches, trimmed, with_item, without_first}
 use Rattle.queue_book.specs.Chains.{in_line}
 use Rattle.queue_book.specs.Tells.{FindsNone}
@@ -27,7 +27,7 @@ use Rattle.queue_book.proofs.Frames.{has_held}
 use Rattle.queue_book.proofs.MatchDeed.{LeavesQueue}
 use Rattle.queue_book.proofs.MatchParts.{NonePops}
 use Rattle.queue_book.proofs.Moving.{is_making}
-use Rattle.queue_book.proofs.PlainSaid.{OnTurn, in_each, on_next, origin_of, turn_on}
+use Rattle.queue_book.proofs.PlainSaid.{in_each, on_next, origin_of, turn_on}
 use Rattle.queue_book.proofs.TreeActed.{acted_deed}
 use Rattle.queue_book.proofs.TreeKept.{tree_deed}
 use Rattle.queue_book.proofs.TreeOwners.{owners_kept_deed, owners_push, owners_trimmed, owners_without_first}
@@ -36,7 +36,7 @@ module _ (name : Option Script) (state : QueueState) (lines : ℕ → Chunks) (i
   pub deed_alike : AreAlike state (after_deed state n)
   deed_alike = alike_changing state n act.frame with_deed (λ f. refl) act.may.live (record { parent = refl; path = refl; rights = refl })
 
-module _ (name : Option Script) (state : QueueState) (lines : ℕ → Chunks) (is : IsPlain name state lines) (n : ℕ) (act : MayDo state n) (turn : OnTurn name state n) where
+module _ (name : Option Script) (state : QueueState) (lines : ℕ → Chunks) (is : IsPlain name state lines) (n : ℕ) (act : MayDo state n) (turn : IsOnTurn name state n) where
   had_turn : (s : Script) → name ≡ Some s → HasTurn state act.frame
   had_turn s named = turn_on name state n s act.frame turn named act.may.live
 

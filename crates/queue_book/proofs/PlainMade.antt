@@ -10,7 +10,7 @@ use Rattle.swan_model.specs.Lawful.{IsLawful}
 use Rattle.swan_model.specs.QueueFollows.{QueuesFollow, next_queue_deed, origin_in}
 use Rattle.swan_model.specs.QueueState.{ActiveFrame, Maker, planned, made_by, QueueState, active, after_create, after_create_root, with_deed, with_made, IsUntouched}
 use Rattle.swan_model.specs.Readings.{end_time}
-use Rattle.queue_book.specs.Asks.{is_emptied, MayDo, OnNext}
+use Rattle.queue_book.specs.Asks.{is_emptied, MayDo, IsOnTurn, OnNext}
 use Rattle.queue_book.specs.Book.{Chunks, own, HasOwners, Matches}
 use Rattle.queue_book.specs.Chains.{in_line}
 use Rattle.queue_book.specs.Tree.{HaveActed, IsTree, has_queue, maker_path}
@@ -21,7 +21,7 @@ use Rattle.queue_book.proofs.Frames.{active_number, same_frame}
 use Rattle.queue_book.proofs.ListPlaces.{get-push}
 use Rattle.queue_book.proofs.LivePut.{has_not_made}
 use Rattle.queue_book.proofs.Match.{matches_create, matches_create_other, matches_root, matches_root_other}
-use Rattle.queue_book.proofs.PlainSaid.{OnTurn, in_each, on_next, turn_on}
+use Rattle.queue_book.proofs.PlainSaid.{in_each, on_next, turn_on}
 use Rattle.queue_book.proofs.TreeActed.{acted_create, acted_root}
 use Rattle.queue_book.proofs.TreeKept.{tree_create, tree_root}
 use Rattle.queue_book.proofs.TreeOwners.{owners_create, owners_kept_create, owners_kept_root, owners_root}
@@ -93,7 +93,7 @@ module _ (name : Option Script) (state after : QueueState) (lines : ℕ → Chun
   }
 
 module _ (name : Option Script) (state : QueueState) (lines : ℕ → Chunks) (is : IsPlain name state lines) where
-  pub plain_create : (n : ℕ) (act : MayDo state n) → OnNext name state n (λ s f. next_queue_deed s f.path f.deeds ≡ Some deed.MakeQueue) → OnTurn name state n
+  pub plain_create : (n : ℕ) (act : MayDo state n) → OnNext name state n (λ s f. next_queue_deed s f.path f.deeds ≡ Some deed.MakeQueue) → IsOnTurn name state n
       → IsPlain name (after_create state act.frame) (in_line (length state.makers) (λ old. own n [] ∷ []) lines)
   plain_create n act next turn =
       let frame = act.frame in

@@ -9,7 +9,7 @@ use Rattle.swan_model.specs.declared.script.Script.{Script}
 use Rattle.swan_model.specs.Lawful.{IsLawful}
 use Rattle.swan_model.specs.QueueFollows.{origin_in, queue_origin}
 use Rattle.swan_model.specs.QueueState.{ActiveFrame, Maker, QueueState, active, HasTurn}
-use Rattle.queue_book.specs.Asks.{OnNext}
+use Rattle.queue_book.specs.Asks.{IsOnTurn, OnNext}
 use Rattle.queue_book.specs.Book.{Chunks}
 use Rattle.queue_book.specs.Chains.{in_line}
 use Rattle.queue_book.specs.Tells.{OnQueue}
@@ -20,10 +20,7 @@ pub on_next : (name : Option Script) (state : QueueState) (n : ℕ) (Says : Scri
 on_next name state n Says s frame on named live = on s named frame live
 
 -- where there is a script, the frame has its turn
-abbrev pub OnTurn : Option Script → QueueState → ℕ → Type 0
-OnTurn name state n = OnNext name state n (λ s f. HasTurn state f)
-
-pub turn_on : (name : Option Script) (state : QueueState) (n : ℕ) (s : Script) (frame : ActiveFrame) → OnTurn name state n → name ≡ Some s → active state n ≡ Some frame → HasTurn state frame
+pub turn_on : (name : Option Script) (state : QueueState) (n : ℕ) (s : Script) (frame : ActiveFrame) → IsOnTurn name state n → name ≡ Some s → active state n ≡ Some frame → HasTurn state frame
 turn_on name state n s frame turn = on_next name state n (λ r f. HasTurn state f) s frame turn
 
 -- the queue of a maker

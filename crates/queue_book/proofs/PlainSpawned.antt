@@ -5,21 +5,21 @@ use Rattle.swan_model.specs.declared.script.Script.{Script}
 use Rattle.swan_model.specs.QueueFollows.{origin_in, IsNextSpawn}
 use Rattle.swan_model.specs.QueueState.{Maker, QueueRight, QueueState, active, after_spawn}
 use Rattle.swan_model.specs.Readings.{end_time}
-use Rattle.queue_book.specs.Asks.{MaySpawn, OnNext}
+use Rattle.queue_book.specs.Asks.{MaySpawn, IsOnTurn, OnNext}
 use Rattle.queue_book.specs.Book.{Chunks, handed_on}
 use Rattle.queue_book.specs.Handed.{handed_lines, is_given}
 use Rattle.queue_book.specs.Tree.{maker_path}
 use Rattle.queue_book.specs.Whole.{IsInUse, IsLine, IsPlain}
 use Rattle.queue_book.proofs.Gives.{gives_had}
 use Rattle.queue_book.proofs.Match.{matches_spawn, matches_spawn_other, not_active}
-use Rattle.queue_book.proofs.PlainSaid.{OnTurn, on_next, origin_of, turn_on}
+use Rattle.queue_book.proofs.PlainSaid.{on_next, origin_of, turn_on}
 use Rattle.queue_book.proofs.Spawning.{spawned_follows}
 use Rattle.queue_book.proofs.TreeActed.{acted_spawn}
 use Rattle.queue_book.proofs.TreeKept.{tree_spawn}
 use Rattle.queue_book.proofs.TreeOwners.{owners_kept_spawn, owners_spawn}
 
 module _ (name : Option Script) (state : QueueState) (lines : ℕ → Chunks) (is : IsPlain name state lines) (p child : ℕ) (gives : List QueueRight) (may : MaySpawn state p child gives)
-    (next : OnNext name state p (λ s f. IsNextSpawn s state f gives)) (turn : OnTurn name state p)
+    (next : OnNext name state p (λ s f. IsNextSpawn s state f gives)) (turn : IsOnTurn name state p)
     (in_use_before : (q : ℕ) (maker : Maker) → IsInUse (after_spawn state may.act.frame child gives) q maker → IsInUse state q maker) where
   free : active state child ≡ None
   free = not_active state is.tree child may.newest

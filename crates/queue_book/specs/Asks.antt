@@ -7,7 +7,7 @@ use Rattle.std.specs.List.{list_any}
 use Rattle.std.specs.Option.{ForSome}
 use Rattle.swan_model.specs.declared.rights.Mode.{Mode}
 use Rattle.swan_model.specs.declared.script.Script.{Script}
-use Rattle.swan_model.specs.QueueState.{ActiveFrame, LentEnd, Lent, QueueRight, QueueState, active, holds_queue, IsActiveChild, IsOfRoot, MayAct, MayGive}
+use Rattle.swan_model.specs.QueueState.{ActiveFrame, LentEnd, Lent, QueueRight, QueueState, active, holds_queue, HasTurn, IsActiveChild, IsOfRoot, MayAct, MayGive}
 
 -- how many deeds of queues a frame may do, how many queues may be made, and how many children a frame may spawn
 abbrev pub DEEDS_MOST : ℕ
@@ -67,6 +67,10 @@ is_emptied state queue = list_any (λ other. other == queue) state.emptied
 -- what the run's script says of an active frame's next queue deed
 abbrev pub OnNext : Option Script → QueueState → ℕ → (Script → ActiveFrame → Type 0) → Type 0
 OnNext name state number Says = ForSome name (λ s. ForSome (active state number) (Says s))
+
+-- where the run has a script, no older sibling is active that pops what the frame pops
+abbrev pub IsOnTurn : Option Script → QueueState → ℕ → Type 0
+IsOnTurn name state number = OnNext name state number (λ s f. HasTurn state f)
 
 -- ---- ends that are lent
 

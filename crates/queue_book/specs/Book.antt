@@ -22,7 +22,7 @@ pub record Chunk : Type 0 where
 abbrev pub Chunks : Type 0
 Chunks = List Chunk
 
--- the chunk of a frame that has none behind it yet
+-- a chunk that this frame pushes to
 abbrev pub own : ℕ → List Value → Chunk
 own frame items = record { owner = Some frame; items = items }
 

@@ -17,16 +17,6 @@ ended_lines number places lines queue = ended_line number (place_in places queue
 abbrev pub placed_at : ℕ → Places → (ℕ → ℕ → Option ℕ) → ℕ → ℕ → Option ℕ
 placed_at number places at other queue = if other == number then option_map (λ (place : Place). place.key) (place_in places queue) else at other queue
 
--- which places are left of a frame that ends
-abbrev pub left_line : ℕ → Option Place → Option Place → Chunks → Chunks
-left_line number left all chunks = by left where
-  by : Option Place → Chunks
-  by None = ended_line number all chunks
-  by (Some place) = chunks
-
-abbrev pub left_lines : ℕ → (left all : Places) → (ℕ → Chunks) → ℕ → Chunks
-left_lines number left all lines queue = left_line number (place_in left queue) (place_in all queue) (lines queue)
-
 -- Where a frame that isn't the root made a queue, no other frame has a chunk of it.
 abbrev pub IsAlone : ℕ → Places → (ℕ → ℕ → Option ℕ) → Type 0
 IsAlone number places at = (queue : ℕ) (place : Place) → place_in places queue ≡ Some place → place.is_maker ≡ true → number ≢ 0

@@ -1,5 +1,5 @@
 -- What lent ends push and pop.
-use Rattle.std.specs.Prelude.{◌≡◌, ℕ, true, false, Option, Some, None, slice_get, Bool}
+use Rattle.std.specs.Prelude.{◌≡◌, ℕ, ◌<◌, true, false, Option, Some, None, slice_get, Bool}
 use Rattle.swan_model.specs.declared.origin.Origin.{Origin}
 use Rattle.swan_model.specs.declared.script.Deed.{Deed}
 use Rattle.swan_model.specs.declared.script.Deed.TheVariants as deed
@@ -7,7 +7,7 @@ use Rattle.swan_model.specs.declared.script.Script.{Script}
 use Rattle.swan_model.specs.declared.value.Value.{Value}
 use Rattle.swan_model.specs.QueueFollows.{next_queue_deed, queue_time, origin_in}
 use Rattle.swan_model.specs.QueueState.{LentEnd, SegmentTag, first_of, pushed_by}
-use Rattle.swan_model.specs.Told.{pushes, taken}
+use Rattle.swan_model.specs.Told.{count, pushes, taken}
 use Rattle.queue_book.specs.Asks.{LentEnds, is_end}
 
 -- the queue to which a deed pushes
@@ -38,8 +38,9 @@ abbrev pub IsNextPop : Script → LentEnds → ℕ → Type 0
 IsNextPop s ends queue =
     (origin : Origin) → HasEnd s ends queue false origin → next_queue_deed s ends.path ends.deeds ≡ Some (deed.Pop origin)
 
--- the item that the script has for that pop
+-- the item that the script has for that pop: the first one that is left, and it is pushed by then in serial order
 abbrev pub IsItemNext : Script → LentEnds → Value → Type 0
 IsItemNext s ends value =
+    let t = queue_time s ends.path ends.deeds in
     (origin : Origin) → next_queue_deed s ends.path ends.deeds ≡ Some (deed.Pop origin)
-    → slice_get (pushes s origin) (taken s origin (queue_time s ends.path ends.deeds)) ≡ Some value
+    → (slice_get (pushes s origin) (taken s origin t) ≡ Some value) × (taken s origin t < count s origin t)

@@ -14,7 +14,7 @@ use Rattle.queue_book.specs.Book.{Chunks, handed_on}
 use Rattle.queue_book.specs.Chains.{Link, AreChained, in_line, put_at}
 use Rattle.queue_book.specs.Ended.{placed_at}
 use Rattle.queue_book.specs.Kept.{Kept, Places, place_in}
-use Rattle.queue_book.specs.Live.{kept_of, key_at, place_at, with_place, IsOne}
+use Rattle.queue_book.specs.Live.{kept_of, key_at, place_at, with_place, IsOnlyChange}
 use Rattle.queue_book.specs.Turned.{AreApart}
 use Rattle.queue_book.specs.declared.frame.Place.{Place}
 use Rattle.queue_book.specs.declared.live_frames.LiveFrames.{LiveFrames}
@@ -24,7 +24,7 @@ pub record IsHandedIn (before after : LiveFrames) (parent child queue : ℕ) (pu
   pub new : ℕ
   pub place : Place
   pub was : place_at before parent queue ≡ Some place
-  pub parent_now : IsOne before after parent (option_map (with_place queue (record { key = new; is_maker = place.is_maker; pushes = place.pushes })) (kept_of before parent))
+  pub parent_now : IsOnlyChange before after parent (option_map (with_place queue (record { key = new; is_maker = place.is_maker; pushes = place.pushes })) (kept_of before parent))
   pub child_now : then_places ≡ insert_entry nat_cmp places queue (record { key = place.key; is_maker = false; pushes = pushes })
   pub chained : (at : ℕ → ℕ → Option ℕ) (lines : ℕ → Chunks) → AreChained at heads nodes lines → at parent queue ≡ Some place.key → at child queue ≡ None
       → AreChained (put_at parent queue (Some new) (put_at child queue (Some place.key) at)) heads then_nodes (in_line queue (handed_on parent child) lines)

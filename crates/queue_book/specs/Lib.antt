@@ -1,20 +1,20 @@
--- What the contracts of this crate cite.
-pub mod Tree
-pub mod Book
+-- What the contracts of this crate cite: those of its public calls and types first, and then those of its private ones.
 pub mod Asks
 pub mod Ends
 pub mod Tells
-pub mod Named
-pub mod Calls
+pub mod Reads
+pub mod NoEnds
+pub mod BookView
+pub mod Whole
+pub mod Tree
+pub mod Book
 pub mod Chains
 pub mod Kept
 pub mod Live
 pub mod Turned
-pub mod Whole
+pub mod Calls
 pub mod Fronts
 pub mod Made
 pub mod Ended
 pub mod Handed
 pub mod Spawned
-pub mod NoEnds
-pub mod Reads

@@ -36,7 +36,7 @@ abbrev pub is_pusher : LiveFrames → (number queue : ℕ) → Bool
 is_pusher frames number queue = option_map_or (λ (place : Place). place.pushes) (place_at frames number queue) false
 
 -- one frame was changed, and no other
-pub record IsOne (before after : LiveFrames) (number : ℕ) (then_kept : Option Kept) : Type 0 where
+pub record IsOnlyChange (before after : LiveFrames) (number : ℕ) (then_kept : Option Kept) : Type 0 where
   pub changed : kept_of after number ≡ then_kept
   pub others : (other : ℕ) → other ≢ number → kept_of after other ≡ kept_of before other
 

@@ -8,7 +8,7 @@ use Rattle.queue_book.specs.Asks.{DEEDS_MOST}
 use Rattle.queue_book.specs.Chains.{Link}
 use Rattle.queue_book.specs.Handed.{is_given, AreGiven}
 use Rattle.queue_book.specs.Kept.{Kept, Places, place_in}
-use Rattle.queue_book.specs.Live.{kept_of, IsOne}
+use Rattle.queue_book.specs.Live.{kept_of, IsOnlyChange}
 use Rattle.queue_book.specs.Turned.{AreApart}
 use Rattle.queue_book.specs.declared.live_frames.LiveFrames.{LiveFrames}
 
@@ -32,5 +32,5 @@ pub record IsSpawnedIn (before after : LiveFrames) (parent child : ℕ) (gives :
   pub places : Places
   pub given : AreGiven before middle parent child gives places heads nodes then_nodes turns then_turns
   pub added : LiveFrames
-  pub child_now : IsOne middle added child (Some (record { deeds = 0; is_lent = false; places = places }))
-  pub parent_now : IsOne added after parent (option_map (λ (kept : Kept). record kept { deeds = kept.deeds + 1 }) (kept_of added parent))
+  pub child_now : IsOnlyChange middle added child (Some (record { deeds = 0; is_lent = false; places = places }))
+  pub parent_now : IsOnlyChange added after parent (option_map (λ (kept : Kept). record kept { deeds = kept.deeds + 1 }) (kept_of added parent))

@@ -22,10 +22,10 @@ pub struct BookQueues {
 }
 
 impl Model for BookQueues {
-    ghost use Rattle.queue_book.specs.Named.{Named};
+    ghost use Rattle.queue_book.specs.BookView.{BookView};
     ghost use Rattle.queue_book.specs.Whole.{IsBook};
 
-    ghost Value = { Named };
+    ghost Value = { BookView };
 
     ghost view = { λ queues. record { name = queues.name; state = queues.state.means } };
 
@@ -157,9 +157,8 @@ impl Queues for BookQueues {
         }
     }
 
-    /// Takes the first item of the first chunk that isn't spent. `O(log n)` amortised where an item is there or the
-    /// first owner may push, as wherever there is a script; else also a look-up for each owner that only pops, up
-    /// to the frame's own chunk.
+    /// Takes the first item of the first chunk that isn't spent. `O(log n)` amortised. With the free name also a
+    /// look-up for each owner that only pops, up to the frame's own chunk.
     fn pop(&mut self, frame: u64, queue: u32) -> Popped {
         match self.store.front(frame, queue) {
             Tested::NotYet(wait) => Popped::NotYet(wait),

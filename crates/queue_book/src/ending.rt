@@ -5,7 +5,7 @@ ghost use Rattle.queue_book.specs.Book.{Chunks};
 ghost use Rattle.queue_book.specs.Chains.{in_line, put_at, AreChained};
 ghost use Rattle.queue_book.specs.Ended.{ended_line, ended_lines, placed_at, IsAlone};
 ghost use Rattle.queue_book.specs.Kept.{Kept, place_in};
-ghost use Rattle.queue_book.specs.Live.{kept_of, IsOne};
+ghost use Rattle.queue_book.specs.Live.{kept_of, IsOnlyChange};
 ghost use Rattle.queue_book.specs.declared.frame.Place.{Place as Held};
 
 use crate::Place;
@@ -20,7 +20,7 @@ impl Store {
     pub fn end(&mut self, number: u64)
         requires known { (kept : Kept) (queue : ℕ) (place : Held) → kept_of self.old.frames number ≡ Some kept → place_in kept.places queue ≡ Some place → queue < length self.old.chains.heads.items }
         requires childless { HasNoChild self.old.turns number }
-        ensures gone { IsOne self.old.frames self.new.frames number None }
+        ensures gone { IsOnlyChange self.old.frames self.new.frames number None }
         ensures same { length self.new.chains.heads.items ≡ length self.old.chains.heads.items }
         ensures ended { (kept : Kept) (at : ℕ → ℕ → Option ℕ) (lines : ℕ → Chunks) → kept_of self.old.frames number ≡ Some kept
             → AreChained (placed_at number kept.places at) self.old.chains.heads.items self.old.chains.nodes lines → IsAlone number kept.places at

@@ -27,7 +27,8 @@ pub trait LocalEnds: Send + Drop {
     ghost was_empty: { Self → Self → ℕ → Type 0 };
 
     /// Pushes to a queue, where there is an end for that. Err hands the value back and does nothing: it
-    /// comes only where no producer of that queue is there, or that one refused it.
+    /// comes only where no producer of that queue is there, or its ring was full at a step of this call, or
+    /// it has pushed as many as can be counted.
     fn push(&mut self, queue: u32, value: Value) -> Result<(), Value>
         requires room { (ends self.old).deeds < DEEDS_MOST }
         requires next { ForSome (name self.old) (λ s. IsNextPush s (ends self.old) queue value) }

@@ -22,9 +22,8 @@ pub enum Met {
 }
 
 impl Store {
-    /// What stands at the front of a queue for a frame that pops it. `O(log n)` amortised where an item is there, or
-    /// the first owner may push; so it is where there is a script. Else also a look-up for each owner that only
-    /// pops, up to the frame's own chunk. It takes no memory.
+    /// What stands at the front of a queue for a frame that pops it. `O(log n)` amortised. With the free name also a
+    /// look-up for each owner that only pops, up to the frame's own chunk. It takes no memory.
     pub fn front(&mut self, frame: u64, queue: u32) -> Tested
         requires known { queue < length self.old.chains.heads.items }
         ensures frames { self.new.frames ≡ self.old.frames }

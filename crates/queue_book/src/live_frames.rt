@@ -2,7 +2,7 @@
 ghost use Rattle.std.specs.Prelude.{◌≡◌, ◌≢◌, ℕ, ◌+◌, ◌<◌, Some, None, [], OnOk, IfSome, false};
 ghost use Rattle.std.specs.Option.{option_copied, option_map};
 ghost use Rattle.queue_book.specs.Asks.{DEEDS_MOST};
-ghost use Rattle.queue_book.specs.Live.{is_lent_with, kept_of, place_at, with_place, IsOne};
+ghost use Rattle.queue_book.specs.Live.{is_lent_with, kept_of, place_at, with_place, IsOnlyChange};
 ghost use Rattle.queue_book.specs.Kept.{Kept};
 
 use crate::{Frame, Place};
@@ -75,7 +75,7 @@ impl LiveFrames {
     /// Counts one more queue deed of a frame. `O(log n)`.
     pub fn count_deed(&mut self, number: u64)
         requires room { (kept : Kept) → kept_of self.old number ≡ Some kept → kept.deeds < DEEDS_MOST }
-        ensures { IsOne self.old self.new number (option_map (λ (kept : Kept). record kept { deeds = kept.deeds + 1 }) (kept_of self.old number)) }
+        ensures { IsOnlyChange self.old self.new number (option_map (λ (kept : Kept). record kept { deeds = kept.deeds + 1 }) (kept_of self.old number)) }
     {
         if number == 0 {
             if let Some(frame) = &mut self.root {
@@ -88,7 +88,7 @@ impl LiveFrames {
 
     /// Notes whether the ends of a frame are lent. `O(log n)`.
     pub fn set_lent(&mut self, number: u64, is_lent: bool)
-        ensures { IsOne self.old self.new number (option_map (λ (kept : Kept). record kept { is_lent = is_lent }) (kept_of self.old number)) }
+        ensures { IsOnlyChange self.old self.new number (option_map (λ (kept : Kept). record kept { is_lent = is_lent }) (kept_of self.old number)) }
     {
         if number == 0 {
             if let Some(frame) = &mut self.root {
@@ -101,7 +101,7 @@ impl LiveFrames {
 
     /// Notes where a frame's own chunk of a queue stands. `O(log n)`. Err is want of memory.
     pub fn put(&mut self, number: u64, queue: u32, place: Place) -> Result<(), NoMemory>
-        ensures { OnOk result (IsOne self.old self.new number (option_map (with_place queue place) (kept_of self.old number))) }
+        ensures { OnOk result (IsOnlyChange self.old self.new number (option_map (with_place queue place) (kept_of self.old number))) }
     {
         if number == 0 {
             if let Some(frame) = &mut self.root {
@@ -118,7 +118,7 @@ impl LiveFrames {
     /// Adds a frame. `O(log n)`. Err is want of memory.
     pub fn add(&mut self, number: u64, frame: Frame) -> Result<(), NoMemory>
         requires other { number ≢ 0 }
-        ensures { OnOk result (IsOne self.old self.new number (Some frame)) }
+        ensures { OnOk result (IsOnlyChange self.old self.new number (Some frame)) }
     {
         self.others.insert(number, frame)?;
         Ok(())
@@ -127,7 +127,7 @@ impl LiveFrames {
     /// Takes a frame out. `O(log n)`; it takes no memory.
     pub fn remove(&mut self, number: u64) -> Option<Frame>
         ensures frame { result ≡ kept_of self.old number }
-        ensures gone { IsOne self.old self.new number None }
+        ensures gone { IsOnlyChange self.old self.new number None }
     {
         if number == 0 {
             self.root.take()

@@ -6,9 +6,9 @@ ghost use Rattle.swan_model.specs.declared.rights.Mode.TheVariants.{Push, Pop};
 ghost use Rattle.swan_model.specs.declared.script.Deed.TheVariants as deed;
 ghost use Rattle.swan_model.specs.declared.script.Script.{Script};
 ghost use Rattle.swan_model.specs.Lawful.{IsLawful};
-ghost use Rattle.swan_model.specs.QueueFollows.{next_queue_deed, origin_in, IsNextAbout, IsNextSpawn};
-ghost use Rattle.swan_model.specs.QueueState.{active, after_back, after_create, after_create_root, after_deed, after_finish, after_lend, after_spawn, after_take_rest, ActiveFrame, HasTurn, IsUntouched, Lent, LentEnd, MayAct, QueueState};
-ghost use Rattle.queue_book.specs.Asks.{DEEDS_MOST, HasRoom, IsLeft, is_emptied, IsRecorded, LentEnds, MayDo, MayJoin, MayLook, MaySpawn, MayUse, OnNext};
+ghost use Rattle.swan_model.specs.QueueFollows.{next_queue_deed, origin_in, AreByEnds, IsNextAbout, IsNextSpawn};
+ghost use Rattle.swan_model.specs.QueueState.{active, after_back, after_create, after_create_root, after_deed, after_finish, after_lend, after_spawn, after_take_rest, ActiveFrame, IsUntouched, Lent, LentEnd, MayAct, QueueState};
+ghost use Rattle.queue_book.specs.Asks.{DEEDS_MOST, HasRoom, IsLeft, is_emptied, IsOnTurn, IsRecorded, LentEnds, MayDo, MayJoin, MayLook, MaySpawn, MayUse, OnNext};
 ghost use Rattle.queue_book.specs.Ends.{segment_queue};
 ghost use Rattle.queue_book.specs.Tells.{OnQueue, IsPopped, after_pop, IsTested, after_test, rest_of};
 
@@ -51,7 +51,7 @@ pub trait Queues: Send + Drop {
     /// Makes an empty queue. The answer is the number of queues made before. Err is want of memory.
     fn create(&mut self, frame: u64) -> Result<u32, NoMemory>
         requires may { MayDo (state self.old) frame }
-        requires turn { OnNext (name self.old) (state self.old) frame (λ s f. HasTurn (state self.old) f) }
+        requires turn { IsOnTurn (name self.old) (state self.old) frame }
         requires room { HasRoom (state self.old) }
         requires next { OnNext (name self.old) (state self.old) frame (λ s f. next_queue_deed s f.path f.deeds ≡ Some deed.MakeQueue) }
         ensures number { IfOk result (λ queue. queue ≡ length (state self.old).makers) }
@@ -62,7 +62,7 @@ pub trait Queues: Send + Drop {
     /// where the child gets no queue. Err is want of memory.
     fn spawn(&mut self, parent: u64, child: u64, gives: &[QueueGive]) -> Result<(), NoMemory>
         requires may { MaySpawn (state self.old) parent child gives.now }
-        requires turn { OnNext (name self.old) (state self.old) parent (λ s f. HasTurn (state self.old) f) }
+        requires turn { IsOnTurn (name self.old) (state self.old) parent }
         requires next { OnNext (name self.old) (state self.old) parent (λ s f. IsNextSpawn s (state self.old) f gives.now) }
         ensures ok { OnOk result ((f : ActiveFrame) → active (state self.old) parent ≡ Some f → state self.new ≡ after_spawn (state self.old) f child gives.now) }
         ensures same { (name self.new ≡ name self.old) × (run self.new ≡ run self.old) };
@@ -71,21 +71,23 @@ pub trait Queues: Send + Drop {
     fn lend(&mut self, frame: u64) -> Self::Ends
         requires may { (f : ActiveFrame) × (active (state self.old) frame ≡ Some f) × (f.lent ≡ None) }
         ensures lent { (f : ActiveFrame) → active (state self.old) frame ≡ Some f
-            → (state self.new ≡ after_lend (state self.old) f (Self.Ends.ends result).list)
-            × (Self.Ends.ends result ≡ record { frame = frame; path = f.path; before = f.deeds; deeds = f.deeds; list = (Self.Ends.ends result).list }) }
+            → Self.Ends.ends result ≡ record { frame = frame; path = f.path; before = f.deeds; deeds = f.deeds; list = (Self.Ends.ends result).list } }
+        ensures after { (f : ActiveFrame) → active (state self.old) frame ≡ Some f → state self.new ≡ after_lend (state self.old) f (Self.Ends.ends result).list }
         ensures segments { (i : ℕ) (end : LentEnd) → slice_get (Self.Ends.ends result).list i ≡ Some end
             → OnQueue (name self.old) (state self.old) end.queue (λ s origin. segment_queue s end.tag ≡ Some origin) }
         ensures own { (Self.Ends.name result ≡ name self.old) × (Self.Ends.run result ≡ run self.old) }
         ensures same { (name self.new ≡ name self.old) × (run self.new ≡ run self.old) };
 
-    /// Takes a frame's ends back; the deeds that the frame did by them count as done then. Err gives them back and
-    /// changes nothing: it comes exactly where they aren't those that were recorded as last lent to this frame. It
-    /// takes no memory.
+    /// Takes a frame's ends back. The deeds that the frame did by them count as done then: where there is a script,
+    /// they are the frame's next ones there, and all of them are pushes and pops. Err gives the ends back and changes
+    /// nothing: it comes exactly where they aren't those that were recorded as last lent to this frame. It takes no
+    /// memory.
     fn back(&mut self, frame: u64, ends: Self::Ends) -> Result<(), Self::Ends>
         requires own { (Self.Ends.name ends ≡ name self.old) × (Self.Ends.run ends ≡ run self.old) }
         requires path { OnNext (name self.old) (state self.old) frame (λ s f. (Self.Ends.ends ends).path ≡ f.path) }
-        ensures ok { OnOk result (IsRecorded (state self.old) frame (Self.Ends.ends ends)
-            × (state self.new ≡ after_back (state self.old) frame (Self.Ends.ends ends).deeds)) }
+        ensures recorded { OnOk result (IsRecorded (state self.old) frame (Self.Ends.ends ends)) }
+        ensures by_ends { OnOk result (OnNext (name self.old) (state self.old) frame (λ s f. IsLawful s → AreByEnds s f.path f.deeds (Self.Ends.ends ends).deeds)) }
+        ensures ok { OnOk result (state self.new ≡ after_back (state self.old) frame (Self.Ends.ends ends).deeds) }
         ensures err { OnErr result ((¬ IsRecorded (state self.old) frame (Self.Ends.ends ends)) × (state self.new ≡ state self.old)) }
         ensures handed_back { IfErr result (λ other. other ≡ ends) }
         ensures same { (name self.new ≡ name self.old) × (run self.new ≡ run self.old) };
@@ -93,7 +95,7 @@ pub trait Queues: Send + Drop {
     /// Pushes a value to a queue. Err is want of memory.
     fn push(&mut self, frame: u64, queue: u32, value: Value) -> Result<(), NoMemory>
         requires may { MayUse (state self.old) frame queue Push }
-        requires turn { OnNext (name self.old) (state self.old) frame (λ s f. HasTurn (state self.old) f) }
+        requires turn { IsOnTurn (name self.old) (state self.old) frame }
         requires next { OnNext (name self.old) (state self.old) frame (λ s f. IsNextAbout (λ origin. deed.Push origin value) s (state self.old) f queue) }
         ensures ok { OnOk result (state self.new ≡ after_deed (state self.old) frame) }
         ensures same { (name self.new ≡ name self.old) × (run self.new ≡ run self.old) };
@@ -102,7 +104,7 @@ pub trait Queues: Send + Drop {
     /// left at this step; or what to wait for. It takes no memory.
     fn pop(&mut self, frame: u64, queue: u32) -> Popped
         requires may { MayUse (state self.old) frame queue Pop }
-        requires turn { OnNext (name self.old) (state self.old) frame (λ s f. HasTurn (state self.old) f) }
+        requires turn { IsOnTurn (name self.old) (state self.old) frame }
         requires next { OnNext (name self.old) (state self.old) frame (λ s f. IsNextAbout deed.Pop s (state self.old) f queue) }
         ensures answer { (f : ActiveFrame) → active (state self.old) frame ≡ Some f → IsPopped (name self.old) (state self.old) f queue result }
         ensures after { state self.new ≡ after_pop (state self.old) frame result }
@@ -111,7 +113,7 @@ pub trait Queues: Send + Drop {
     /// Whether a queue has an item at this step in serial order; nothing is taken. It takes no memory.
     fn test(&mut self, frame: u64, queue: u32) -> Tested
         requires may { MayUse (state self.old) frame queue Pop }
-        requires turn { OnNext (name self.old) (state self.old) frame (λ s f. HasTurn (state self.old) f) }
+        requires turn { IsOnTurn (name self.old) (state self.old) frame }
         requires next { OnNext (name self.old) (state self.old) frame (λ s f. IsNextAbout deed.Test s (state self.old) f queue) }
         ensures answer { (f : ActiveFrame) → active (state self.old) frame ≡ Some f → IsTested (name self.old) (state self.old) f queue result }
         ensures after { state self.new ≡ after_test (state self.old) frame result }
@@ -120,23 +122,23 @@ pub trait Queues: Send + Drop {
     /// As `test`, for a frame whose next step is a pop of the queue. It isn't a deed. It takes no memory.
     fn look(&mut self, frame: u64, queue: u32) -> Tested
         requires may { MayLook (state self.old) frame queue }
-        requires turn { OnNext (name self.old) (state self.old) frame (λ s f. HasTurn (state self.old) f) }
+        requires turn { IsOnTurn (name self.old) (state self.old) frame }
         requires next { OnNext (name self.old) (state self.old) frame (λ s f. IsNextAbout deed.Pop s (state self.old) f queue) }
         ensures answer { (f : ActiveFrame) → active (state self.old) frame ≡ Some f → IsTested (name self.old) (state self.old) f queue result }
         ensures after { state self.new ≡ state self.old }
         ensures same { (name self.new ≡ name self.old) × (run self.new ≡ run self.old) };
 
-    /// The frame's children have all finished. It takes no memory.
+    /// Tells that all children of the frame have finished; nothing changes. It takes no memory.
     fn sync(&mut self, frame: u64)
         requires may { MayJoin (state self.old) frame }
-        requires turn { OnNext (name self.old) (state self.old) frame (λ s f. HasTurn (state self.old) f) }
+        requires turn { IsOnTurn (name self.old) (state self.old) frame }
         ensures after { state self.new ≡ state self.old }
         ensures same { (name self.new ≡ name self.old) × (run self.new ≡ run self.old) };
 
     /// The frame ends. Queues that it made are given up, but those of frame 0 stay. It takes no memory.
     fn finish(&mut self, frame: u64)
         requires may { MayJoin (state self.old) frame }
-        requires turn { OnNext (name self.old) (state self.old) frame (λ s f. HasTurn (state self.old) f) }
+        requires turn { IsOnTurn (name self.old) (state self.old) frame }
         requires over { OnNext (name self.old) (state self.old) frame (λ s f. next_queue_deed s f.path f.deeds ≡ None) }
         ensures after { state self.new ≡ after_finish (state self.old) frame }
         ensures same { (name self.new ≡ name self.old) × (run self.new ≡ run self.old) };

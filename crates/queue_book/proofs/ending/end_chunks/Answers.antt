@@ -1,8 +1,8 @@
 use Rattle.std.proofs.Common.{◌≡◌, ◌≢◌, ℕ, ◌<◌, None, Some, List, [], ◌∷◌, length, refl, sym, ap, ◌∙◌, inl, inr, arith}
 use Rattle.std.proofs.lemmas.Bool.{cases_eq, false≢true}
-use Rattle.queue_book.specs.Ended.{left_lines, placed_at}
+use Rattle.queue_book.specs.Ended.{placed_at}
 use Rattle.queue_book.specs.Kept.{place_in}
-use Rattle.queue_book.proofs.ChainEnds.{alone_still, chained_all, chained_one_more, own_key}
+use Rattle.queue_book.proofs.ChainEnds.{alone_still, chained_all, chained_one_more, left_lines, own_key}
 use Rattle.queue_book.proofs.Lookups.{untied}
 use Rattle.queue_book.proofs.ending.end_chunks.Goals as goal
 

@@ -2,8 +2,9 @@ use Rattle.std.proofs.Common.{◌≡◌, ℕ, Option, None, length, ◌⊎◌}
 use Rattle.std.specs.BTreeMap.{btree_map_len}
 use Rattle.queue_book.specs.Book.{Chunks}
 use Rattle.queue_book.specs.Chains.{AreChained}
-use Rattle.queue_book.specs.Ended.{left_lines, placed_at, IsAlone}
+use Rattle.queue_book.specs.Ended.{placed_at, IsAlone}
 use Rattle.queue_book.specs.Kept.{place_in}
+use Rattle.queue_book.proofs.ChainEnds.{left_lines}
 use Rattle.queue_book.proofs.ending.end_chunks.Given as goal
 
 abbrev pub invariant-loop-queue : goal.invariant-loop-queue

@@ -1,8 +1,8 @@
 use Rattle.std.proofs.Common.{◌≡◌, ℕ, ◌<◌, Some, List, [], length, sym, ap, subst, ◌∙◌}
 use Rattle.swan_model.specs.declared.script.Deed.TheVariants as deed
 use Rattle.swan_model.specs.QueueState.{QueueState}
-use Rattle.queue_book.specs.Asks.{OnNext}
-use Rattle.queue_book.specs.Named.{Named}
+use Rattle.queue_book.specs.Asks.{IsOnTurn, OnNext}
+use Rattle.queue_book.specs.BookView.{BookView}
 use Rattle.queue_book.specs.Whole.{IsBook}
 use Rattle.queue_book.proofs.BookLent.{called}
 use Rattle.swan_model.specs.QueueFollows.{next_queue_deed}
@@ -11,7 +11,6 @@ use Rattle.queue_book.specs.Asks.{MayDo, HasRoom, QUEUES_MOST}
 use Rattle.queue_book.proofs.BookMade.{book_create, create_room}
 use Rattle.swan_model.specs.declared.value.Value.{Value}
 use Rattle.queue_book.specs.Made.{IsMadeIn}
-use Rattle.queue_book.proofs.PlainSaid.{OnTurn}
 use Rattle.queue_book.proofs.book.BookQueuesQueues.create.Goals as goal
 
 pub make-requires : goal.make-requires
@@ -23,7 +22,7 @@ make-requires c =
     let heads = c.self.inside.store.chains.heads.items in
     let nodes = c.self.inside.store.chains.nodes in
     let turns = c.self.inside.store.turns in
-    let P : Named → Type 0 = λ v. HasRoom v.state in
+    let P : BookView → Type 0 = λ v. HasRoom v.state in
     let room : HasRoom state = subst P (sym c.self.view_is) c.requires.room in
     let Q : ℕ → Type 0 = λ k. k < QUEUES_MOST in
     record { room = subst Q (sym is.count) room }
@@ -38,7 +37,7 @@ count_deed-requires c =
     let nodes = c.self.inside.store.chains.nodes in
     let turns = c.self.inside.store.turns in
     let n = c.args.frame in
-    let P : Named → Type 0 = λ v. MayDo v.state n in
+    let P : BookView → Type 0 = λ v. MayDo v.state n in
     let act : MayDo state n = subst P (sym c.self.view_is) c.requires.may in
     let M : List Value → Type 0 = λ items. IsMadeIn frames c.make.new.self.frames n c.in-Ok.queue items heads nodes c.make.new.self.chains.heads.items c.make.new.self.chains.nodes in
     let made : IsMadeIn frames c.make.new.self.frames n c.in-Ok.queue [] heads nodes c.make.new.self.chains.heads.items c.make.new.self.chains.nodes =
@@ -55,15 +54,15 @@ invariant_of-self c =
     let nodes = c.self.inside.store.chains.nodes in
     let turns = c.self.inside.store.turns in
     let n = c.args.frame in
-    let P : Named → Type 0 = λ v. MayDo v.state n in
+    let P : BookView → Type 0 = λ v. MayDo v.state n in
     let act : MayDo state n = subst P (sym c.self.view_is) c.requires.may in
     let M : List Value → Type 0 = λ items. IsMadeIn frames c.make.new.self.frames n c.in-Ok.queue items heads nodes c.make.new.self.chains.heads.items c.make.new.self.chains.nodes in
     let made : IsMadeIn frames c.make.new.self.frames n c.in-Ok.queue [] heads nodes c.make.new.self.chains.heads.items c.make.new.self.chains.nodes =
     subst M c.new-none.ensures c.in-Ok.ensures.made in
-    let Next : Named → Type 0 = λ v. OnNext v.name v.state n (λ s f. next_queue_deed s f.path f.deeds ≡ Some deed.MakeQueue) in
+    let Next : BookView → Type 0 = λ v. OnNext v.name v.state n (λ s f. next_queue_deed s f.path f.deeds ≡ Some deed.MakeQueue) in
     let next : OnNext name state n (λ s f. next_queue_deed s f.path f.deeds ≡ Some deed.MakeQueue) = subst Next (sym c.self.view_is) c.requires.next in
-    let Turn : Named → Type 0 = λ v. OnTurn v.name v.state n in
-    let turn : OnTurn name state n = subst Turn (sym c.self.view_is) c.requires.turn in
+    let Turn : BookView → Type 0 = λ v. IsOnTurn v.name v.state n in
+    let turn : IsOnTurn name state n = subst Turn (sym c.self.view_is) c.requires.turn in
     let R : QueueState → Type 0 = λ st. IsBook name st c.count_deed.new.self c.make.new.self.chains.heads.items c.make.new.self.chains.nodes turns in
     rw c.make.ensures.turns (subst R (sym (c.after.ensures ∙ called state n act.frame (after_create state) act.may.live))
     (book_create name state frames heads nodes turns is n act c.in-Ok.queue c.in-Ok.ensures.number c.make.new.self.frames c.make.new.self.chains.heads.items c.make.new.self.chains.nodes made
@@ -78,4 +77,4 @@ returns-in-Ok-clause-number c =
     let heads = c.self.inside.store.chains.heads.items in
     let nodes = c.self.inside.store.chains.nodes in
     let turns = c.self.inside.store.turns in
-    c.in-Ok.ensures.number ∙ is.count ∙ ap (λ (v : Named). length v.state.makers) c.self.view_is
+    c.in-Ok.ensures.number ∙ is.count ∙ ap (λ (v : BookView). length v.state.makers) c.self.view_is

@@ -1,7 +1,7 @@
 use Rattle.std.proofs.Common.{◌≡◌, ℕ, ◌<◌, Some, length, sym, ap, subst, ◌∙◌}
 use Rattle.std.specs.Prelude.{slice_get}
 use Rattle.swan_model.specs.QueueState.{QueueState}
-use Rattle.queue_book.specs.Named.{Named}
+use Rattle.queue_book.specs.BookView.{BookView}
 use Rattle.queue_book.specs.Whole.{IsBook}
 use Rattle.swan_model.specs.QueueState.{IsUntouched}
 use Rattle.queue_book.specs.Asks.{HasRoom, QUEUES_MOST}
@@ -18,7 +18,7 @@ make-requires c =
     let heads = c.self.inside.store.chains.heads.items in
     let nodes = c.self.inside.store.chains.nodes in
     let turns = c.self.inside.store.turns in
-    let P : Named → Type 0 = λ v. HasRoom v.state in
+    let P : BookView → Type 0 = λ v. HasRoom v.state in
     let room : HasRoom state = subst P (sym c.self.view_is) c.requires.room in
     let Q : ℕ → Type 0 = λ k. k < QUEUES_MOST in
     record { room = subst Q (sym is.count) room }
@@ -32,9 +32,9 @@ invariant_of-self c =
     let heads = c.self.inside.store.chains.heads.items in
     let nodes = c.self.inside.store.chains.nodes in
     let turns = c.self.inside.store.turns in
-    let P : Named → Type 0 = λ v. IsUntouched v.state in
+    let P : BookView → Type 0 = λ v. IsUntouched v.state in
     let untouched : IsUntouched state = subst P (sym c.self.view_is) c.requires.untouched in
-    let Q : Named → Type 0 = λ v. (s : Script) → v.name ≡ Some s → slice_get s.queues (length v.state.makers) ≡ Some c.args.first in
+    let Q : BookView → Type 0 = λ v. (s : Script) → v.name ≡ Some s → slice_get s.queues (length v.state.makers) ≡ Some c.args.first in
     let next : (s : Script) → name ≡ Some s → slice_get s.queues (length state.makers) ≡ Some c.args.first = subst Q (sym c.self.view_is) c.requires.next in
     let R : QueueState → Type 0 = λ st. IsBook name st c.make.new.self.frames c.make.new.self.chains.heads.items c.make.new.self.chains.nodes turns in
     rw c.make.ensures.turns (subst R (sym c.after.ensures) (book_create_root name state frames heads nodes turns is untouched c.args.first next c.in-Ok.queue c.in-Ok.ensures.number
@@ -49,4 +49,4 @@ returns-in-Ok-clause-number c =
     let heads = c.self.inside.store.chains.heads.items in
     let nodes = c.self.inside.store.chains.nodes in
     let turns = c.self.inside.store.turns in
-    c.in-Ok.ensures.number ∙ is.count ∙ ap (λ (v : Named). length v.state.makers) c.self.view_is
+    c.in-Ok.ensures.number ∙ is.count ∙ ap (λ (v : BookView). length v.state.makers) c.self.view_is

@@ -2,7 +2,7 @@ use Rattle.std.proofs.Common.{◌≡◌, Some, None, sym, subst}
 use Rattle.swan_model.specs.QueueState.{QueueState}
 use Rattle.queue_book.specs.Asks.{OnNext}
 use Rattle.queue_book.specs.Live.{key_at}
-use Rattle.queue_book.specs.Named.{Named}
+use Rattle.queue_book.specs.BookView.{BookView}
 use Rattle.queue_book.specs.Whole.{IsBook}
 use Rattle.queue_book.specs.Live.{kept_of}
 use Rattle.swan_model.specs.QueueFollows.{next_queue_deed}
@@ -25,7 +25,7 @@ end-requires-clause-childless c =
     let nodes = c.self.inside.store.chains.nodes in
     let turns = c.self.inside.store.turns in
     let n = c.args.frame in
-    let May : Named → Type 0 = λ v. MayJoin v.state n in
+    let May : BookView → Type 0 = λ v. MayJoin v.state n in
     let may : MayJoin state n = subst May (sym c.self.view_is) c.requires.may in
     turns_childless state turns n is.turned may.alone
 
@@ -39,12 +39,12 @@ invariant_of-self c =
     let nodes = c.self.inside.store.chains.nodes in
     let turns = c.self.inside.store.turns in
     let n = c.args.frame in
-    let May : Named → Type 0 = λ v. MayJoin v.state n in
+    let May : BookView → Type 0 = λ v. MayJoin v.state n in
     let may : MayJoin state n = subst May (sym c.self.view_is) c.requires.may in
     let was = kept_live state frames is.live n may.frame may.may.live in
     let kept : Kept = was.0 in
     let at : kept_of frames n ≡ Some kept = was.1 in
-    let Over : Named → Type 0 = λ v. OnNext v.name v.state n (λ s f. next_queue_deed s f.path f.deeds ≡ None) in
+    let Over : BookView → Type 0 = λ v. OnNext v.name v.state n (λ s f. next_queue_deed s f.path f.deeds ≡ None) in
     let over : OnNext name state n (λ s f. next_queue_deed s f.path f.deeds ≡ None) = subst Over (sym c.self.view_is) c.requires.over in
     let heads_now = c.end.new.self.chains.heads.items in
     let nodes_now = c.end.new.self.chains.nodes in

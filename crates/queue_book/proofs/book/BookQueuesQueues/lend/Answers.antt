@@ -1,6 +1,6 @@
 use Rattle.std.proofs.Common.{◌≡◌, Some, [], sym, ap, subst, ◌∙◌}
 use Rattle.swan_model.specs.QueueState.{QueueState, active}
-use Rattle.queue_book.specs.Named.{Named}
+use Rattle.queue_book.specs.BookView.{BookView}
 use Rattle.queue_book.specs.Whole.{IsBook}
 use Rattle.queue_book.proofs.BookLent.{book_lend, called}
 use Rattle.swan_model.specs.QueueState.{after_lend}
@@ -17,6 +17,6 @@ invariant_of-self c =
     let turns = c.self.inside.store.turns in
     let n = c.args.frame in
     let f = c.requires.may in
-    let live : active state n ≡ Some f.0 = ap (λ (v : Named). active v.state n) c.self.view_is ∙ f.1 in
+    let live : active state n ≡ Some f.0 = ap (λ (v : BookView). active v.state n) c.self.view_is ∙ f.1 in
     let P : QueueState → Type 0 = λ st. IsBook name st c.set_lent.new.self heads nodes turns in
     subst P (sym (c.after.ensures ∙ called state n f.0 (λ g. after_lend state g []) live)) (book_lend name state frames heads nodes turns is n f.0 live c.set_lent.new.self c.set_lent.ensures)

@@ -1,11 +1,10 @@
 use Rattle.std.proofs.Common.{◌≡◌, Some, sym, subst}
 use Rattle.swan_model.specs.QueueState.{ActiveFrame, active}
-use Rattle.queue_book.specs.Asks.{MayLook}
+use Rattle.queue_book.specs.Asks.{MayLook, IsOnTurn}
 use Rattle.queue_book.specs.Live.{key_at}
-use Rattle.queue_book.specs.Named.{Named}
+use Rattle.queue_book.specs.BookView.{BookView}
 use Rattle.queue_book.specs.Tells.{IsTested}
 use Rattle.queue_book.proofs.BookFronts.{book_looked, known, looked_all}
-use Rattle.queue_book.proofs.PlainSaid.{OnTurn}
 use Rattle.queue_book.proofs.book.BookQueuesQueues.look.Goals as goal
 
 pub front-requires : goal.front-requires
@@ -19,11 +18,11 @@ front-requires c =
     let turns = c.self.inside.store.turns in
     let n = c.args.frame in
     let q = c.args.queue in
-    let May : Named → Type 0 = λ v. MayLook v.state n q in
+    let May : BookView → Type 0 = λ v. MayLook v.state n q in
     let may : MayLook state n q = subst May (sym c.self.view_is) c.requires.may in
     let look = may in
-    let Turn : Named → Type 0 = λ v. OnTurn v.name v.state n in
-    let turn : OnTurn name state n = subst Turn (sym c.self.view_is) c.requires.turn in
+    let Turn : BookView → Type 0 = λ v. IsOnTurn v.name v.state n in
+    let turn : IsOnTurn name state n = subst Turn (sym c.self.view_is) c.requires.turn in
     record { known = known name state frames heads nodes turns is n q look }
 
 pub invariant_of-self : goal.invariant_of-self
@@ -37,11 +36,11 @@ invariant_of-self c =
     let turns = c.self.inside.store.turns in
     let n = c.args.frame in
     let q = c.args.queue in
-    let May : Named → Type 0 = λ v. MayLook v.state n q in
+    let May : BookView → Type 0 = λ v. MayLook v.state n q in
     let may : MayLook state n q = subst May (sym c.self.view_is) c.requires.may in
     let look = may in
-    let Turn : Named → Type 0 = λ v. OnTurn v.name v.state n in
-    let turn : OnTurn name state n = subst Turn (sym c.self.view_is) c.requires.turn in
+    let Turn : BookView → Type 0 = λ v. IsOnTurn v.name v.state n in
+    let turn : IsOnTurn name state n = subst Turn (sym c.self.view_is) c.requires.turn in
     let heads_now = c.front.new.self.chains.heads.items in
     let nodes_now = c.front.new.self.chains.nodes in
     rw (c.front.ensures.frames, c.front.ensures.turns) (book_looked name state frames heads nodes turns is n q look heads_now nodes_now c.front.ensures.same c.front.result (c.front.ensures.told (key_at frames) is.lines is.chained))
@@ -57,13 +56,13 @@ returns-clause-answer c =
     let turns = c.self.inside.store.turns in
     let n = c.args.frame in
     let q = c.args.queue in
-    let May : Named → Type 0 = λ v. MayLook v.state n q in
+    let May : BookView → Type 0 = λ v. MayLook v.state n q in
     let may : MayLook state n q = subst May (sym c.self.view_is) c.requires.may in
     let look = may in
-    let Turn : Named → Type 0 = λ v. OnTurn v.name v.state n in
-    let turn : OnTurn name state n = subst Turn (sym c.self.view_is) c.requires.turn in
+    let Turn : BookView → Type 0 = λ v. IsOnTurn v.name v.state n in
+    let turn : IsOnTurn name state n = subst Turn (sym c.self.view_is) c.requires.turn in
     let heads_now = c.front.new.self.chains.heads.items in
     let nodes_now = c.front.new.self.chains.nodes in
-    let P : Named → Type 0 = λ v. (f : ActiveFrame) → active v.state n ≡ Some f → IsTested v.name v.state f q c.front.result in
+    let P : BookView → Type 0 = λ v. (f : ActiveFrame) → active v.state n ≡ Some f → IsTested v.name v.state f q c.front.result in
     subst P c.self.view_is (looked_all name state frames heads nodes turns is n q look heads_now nodes_now c.front.ensures.same turn c.front.result c.front.ensures.turn
     (c.front.ensures.told (key_at frames) is.lines is.chained))

@@ -3,18 +3,17 @@ use Rattle.swan_model.specs.declared.rights.Mode.TheVariants.{Pop}
 use Rattle.swan_model.specs.declared.script.Deed.TheVariants as deed
 use Rattle.swan_model.specs.QueueFollows.{IsNextAbout}
 use Rattle.swan_model.specs.QueueState.{ActiveFrame, QueueState, active}
-use Rattle.queue_book.specs.Asks.{MayUse, OnNext}
+use Rattle.queue_book.specs.Asks.{MayUse, IsOnTurn, OnNext}
 use Rattle.queue_book.specs.Book.{trimmed}
 use Rattle.queue_book.specs.Chains.{first_item, in_line}
 use Rattle.queue_book.specs.Live.{key_at}
-use Rattle.queue_book.specs.Named.{Named}
+use Rattle.queue_book.specs.BookView.{BookView}
 use Rattle.queue_book.specs.Tells.{IsPopped}
 use Rattle.queue_book.specs.Whole.{IsBook}
 use Rattle.queue_book.specs.declared.answers.Popped.TheVariants as popped
 use Rattle.queue_book.specs.declared.answers.Tested.TheVariants as tested
 use Rattle.queue_book.proofs.BookDeeds.{book_empty, book_pop}
 use Rattle.queue_book.proofs.BookFronts.{book_looked, found_item, known, look_of, looked_all, popped_all}
-use Rattle.queue_book.proofs.PlainSaid.{OnTurn}
 use Rattle.queue_book.proofs.book.BookQueuesQueues.pop.Goals as goal
 
 pub front-requires : goal.front-requires
@@ -28,11 +27,11 @@ front-requires c =
     let turns = c.self.inside.store.turns in
     let n = c.args.frame in
     let q = c.args.queue in
-    let May : Named → Type 0 = λ v. MayUse v.state n q Pop in
+    let May : BookView → Type 0 = λ v. MayUse v.state n q Pop in
     let may : MayUse state n q Pop = subst May (sym c.self.view_is) c.requires.may in
     let look = look_of state n q may in
-    let Turn : Named → Type 0 = λ v. OnTurn v.name v.state n in
-    let turn : OnTurn name state n = subst Turn (sym c.self.view_is) c.requires.turn in
+    let Turn : BookView → Type 0 = λ v. IsOnTurn v.name v.state n in
+    let turn : IsOnTurn name state n = subst Turn (sym c.self.view_is) c.requires.turn in
     record { known = known name state frames heads nodes turns is n q look }
 
 pub invariant_of-self : goal.invariant_of-self
@@ -46,11 +45,11 @@ invariant_of-self c =
     let turns = c.self.inside.store.turns in
     let n = c.args.frame in
     let q = c.args.queue in
-    let May : Named → Type 0 = λ v. MayUse v.state n q Pop in
+    let May : BookView → Type 0 = λ v. MayUse v.state n q Pop in
     let may : MayUse state n q Pop = subst May (sym c.self.view_is) c.requires.may in
     let look = look_of state n q may in
-    let Turn : Named → Type 0 = λ v. OnTurn v.name v.state n in
-    let turn : OnTurn name state n = subst Turn (sym c.self.view_is) c.requires.turn in
+    let Turn : BookView → Type 0 = λ v. IsOnTurn v.name v.state n in
+    let turn : IsOnTurn name state n = subst Turn (sym c.self.view_is) c.requires.turn in
     let heads_now = c.front.new.self.chains.heads.items in
     let nodes_now = c.front.new.self.chains.nodes in
     rw (c.front.ensures.frames, c.front.ensures.turns) (book_looked name state frames heads nodes turns is n q look heads_now nodes_now c.front.ensures.same (tested.NotYet c.in-NotYet.wait) (c.in-NotYet.ensures.told (key_at frames) is.lines is.chained))
@@ -66,14 +65,14 @@ invariant_of-self-in-Empty c =
     let turns = c.self.inside.store.turns in
     let n = c.args.frame in
     let q = c.args.queue in
-    let May : Named → Type 0 = λ v. MayUse v.state n q Pop in
+    let May : BookView → Type 0 = λ v. MayUse v.state n q Pop in
     let may : MayUse state n q Pop = subst May (sym c.self.view_is) c.requires.may in
     let look = look_of state n q may in
-    let Turn : Named → Type 0 = λ v. OnTurn v.name v.state n in
-    let turn : OnTurn name state n = subst Turn (sym c.self.view_is) c.requires.turn in
+    let Turn : BookView → Type 0 = λ v. IsOnTurn v.name v.state n in
+    let turn : IsOnTurn name state n = subst Turn (sym c.self.view_is) c.requires.turn in
     let heads_now = c.front.new.self.chains.heads.items in
     let nodes_now = c.front.new.self.chains.nodes in
-    let Next : Named → Type 0 = λ v. OnNext v.name v.state n (λ s f. IsNextAbout deed.Pop s v.state f q) in
+    let Next : BookView → Type 0 = λ v. OnNext v.name v.state n (λ s f. IsNextAbout deed.Pop s v.state f q) in
     let next : OnNext name state n (λ s f. IsNextAbout deed.Pop s state f q) = subst Next (sym c.self.view_is) c.requires.next in
     let P : QueueState → Type 0 = λ st. IsBook name st c.count_deed.new.self heads_now nodes_now turns in
     rw c.front.ensures.turns (subst P (sym c.after.ensures) (book_empty name state frames heads nodes turns is n q may heads_now nodes_now c.front.ensures.same c.count_deed.new.self (rw c.front.ensures.frames at c.count_deed.ensures) turn next
@@ -90,11 +89,11 @@ take_first-requires c =
     let turns = c.self.inside.store.turns in
     let n = c.args.frame in
     let q = c.args.queue in
-    let May : Named → Type 0 = λ v. MayUse v.state n q Pop in
+    let May : BookView → Type 0 = λ v. MayUse v.state n q Pop in
     let may : MayUse state n q Pop = subst May (sym c.self.view_is) c.requires.may in
     let look = look_of state n q may in
-    let Turn : Named → Type 0 = λ v. OnTurn v.name v.state n in
-    let turn : OnTurn name state n = subst Turn (sym c.self.view_is) c.requires.turn in
+    let Turn : BookView → Type 0 = λ v. IsOnTurn v.name v.state n in
+    let turn : IsOnTurn name state n = subst Turn (sym c.self.view_is) c.requires.turn in
     let P : ℕ → Type 0 = λ k. q < k in
     record { known = subst P (sym c.front.ensures.same) (known name state frames heads nodes turns is n q look) }
 
@@ -109,14 +108,14 @@ invariant_of-self-in-Some c =
     let turns = c.self.inside.store.turns in
     let n = c.args.frame in
     let q = c.args.queue in
-    let May : Named → Type 0 = λ v. MayUse v.state n q Pop in
+    let May : BookView → Type 0 = λ v. MayUse v.state n q Pop in
     let may : MayUse state n q Pop = subst May (sym c.self.view_is) c.requires.may in
     let look = look_of state n q may in
-    let Turn : Named → Type 0 = λ v. OnTurn v.name v.state n in
-    let turn : OnTurn name state n = subst Turn (sym c.self.view_is) c.requires.turn in
+    let Turn : BookView → Type 0 = λ v. IsOnTurn v.name v.state n in
+    let turn : IsOnTurn name state n = subst Turn (sym c.self.view_is) c.requires.turn in
     let heads_now = c.front.new.self.chains.heads.items in
     let nodes_now = c.front.new.self.chains.nodes in
-    let Next : Named → Type 0 = λ v. OnNext v.name v.state n (λ s f. IsNextAbout deed.Pop s v.state f q) in
+    let Next : BookView → Type 0 = λ v. OnNext v.name v.state n (λ s f. IsNextAbout deed.Pop s v.state f q) in
     let next : OnNext name state n (λ s f. IsNextAbout deed.Pop s state f q) = subst Next (sym c.self.view_is) c.requires.next in
     let told = (c.in-Holds.ensures.told (key_at frames) is.lines is.chained) in
     let P : QueueState → Type 0 = λ st. IsBook name st c.count_deed-in-Some.new.self c.take_first.new.self.heads.items c.take_first.new.self.nodes turns in
@@ -135,14 +134,14 @@ returns-in-NotYet-clause-answer c =
     let turns = c.self.inside.store.turns in
     let n = c.args.frame in
     let q = c.args.queue in
-    let May : Named → Type 0 = λ v. MayUse v.state n q Pop in
+    let May : BookView → Type 0 = λ v. MayUse v.state n q Pop in
     let may : MayUse state n q Pop = subst May (sym c.self.view_is) c.requires.may in
     let look = look_of state n q may in
-    let Turn : Named → Type 0 = λ v. OnTurn v.name v.state n in
-    let turn : OnTurn name state n = subst Turn (sym c.self.view_is) c.requires.turn in
+    let Turn : BookView → Type 0 = λ v. IsOnTurn v.name v.state n in
+    let turn : IsOnTurn name state n = subst Turn (sym c.self.view_is) c.requires.turn in
     let heads_now = c.front.new.self.chains.heads.items in
     let nodes_now = c.front.new.self.chains.nodes in
-    let P : Named → Type 0 = λ v. (f : ActiveFrame) → active v.state n ≡ Some f → IsPopped v.name v.state f q (popped.NotYet c.in-NotYet.wait) in
+    let P : BookView → Type 0 = λ v. (f : ActiveFrame) → active v.state n ≡ Some f → IsPopped v.name v.state f q (popped.NotYet c.in-NotYet.wait) in
     subst P c.self.view_is (looked_all name state frames heads nodes turns is n q look heads_now nodes_now c.front.ensures.same turn (tested.NotYet c.in-NotYet.wait) c.in-NotYet.ensures.turn
     (c.in-NotYet.ensures.told (key_at frames) is.lines is.chained))
 
@@ -157,14 +156,14 @@ returns-in-Empty-clause-answer c =
     let turns = c.self.inside.store.turns in
     let n = c.args.frame in
     let q = c.args.queue in
-    let May : Named → Type 0 = λ v. MayUse v.state n q Pop in
+    let May : BookView → Type 0 = λ v. MayUse v.state n q Pop in
     let may : MayUse state n q Pop = subst May (sym c.self.view_is) c.requires.may in
     let look = look_of state n q may in
-    let Turn : Named → Type 0 = λ v. OnTurn v.name v.state n in
-    let turn : OnTurn name state n = subst Turn (sym c.self.view_is) c.requires.turn in
+    let Turn : BookView → Type 0 = λ v. IsOnTurn v.name v.state n in
+    let turn : IsOnTurn name state n = subst Turn (sym c.self.view_is) c.requires.turn in
     let heads_now = c.front.new.self.chains.heads.items in
     let nodes_now = c.front.new.self.chains.nodes in
-    let P : Named → Type 0 = λ v. (f : ActiveFrame) → active v.state n ≡ Some f → IsPopped v.name v.state f q popped.Empty in
+    let P : BookView → Type 0 = λ v. (f : ActiveFrame) → active v.state n ≡ Some f → IsPopped v.name v.state f q popped.Empty in
     subst P c.self.view_is (looked_all name state frames heads nodes turns is n q look heads_now nodes_now c.front.ensures.same turn tested.Empty c.in-Empty.ensures.turn
     (c.in-Empty.ensures.told (key_at frames) is.lines is.chained))
 
@@ -179,11 +178,11 @@ returns-in-Some-clause-answer c =
     let turns = c.self.inside.store.turns in
     let n = c.args.frame in
     let q = c.args.queue in
-    let May : Named → Type 0 = λ v. MayUse v.state n q Pop in
+    let May : BookView → Type 0 = λ v. MayUse v.state n q Pop in
     let may : MayUse state n q Pop = subst May (sym c.self.view_is) c.requires.may in
     let look = look_of state n q may in
-    let Turn : Named → Type 0 = λ v. OnTurn v.name v.state n in
-    let turn : OnTurn name state n = subst Turn (sym c.self.view_is) c.requires.turn in
+    let Turn : BookView → Type 0 = λ v. IsOnTurn v.name v.state n in
+    let turn : IsOnTurn name state n = subst Turn (sym c.self.view_is) c.requires.turn in
     let heads_now = c.front.new.self.chains.heads.items in
     let nodes_now = c.front.new.self.chains.nodes in
     let told = (c.in-Holds.ensures.told (key_at frames) is.lines is.chained) in
@@ -191,7 +190,7 @@ returns-in-Some-clause-answer c =
     let item : first_item (in_line q trimmed is.lines q) ≡ Some first.value = ap first_item first.are ∙ first.item in
     let both : Some c.in-Some.item ≡ Some first.value = c.in-Some.ensures.item (key_at frames) (in_line q trimmed is.lines) told.0 ∙ item in
     let same : c.in-Some.item ≡ first.value = cc in
-    let P : Named → Type 0 = λ v. (f : ActiveFrame) → active v.state n ≡ Some f → IsPopped v.name v.state f q (popped.Item c.in-Some.item) in
+    let P : BookView → Type 0 = λ v. (f : ActiveFrame) → active v.state n ≡ Some f → IsPopped v.name v.state f q (popped.Item c.in-Some.item) in
     subst P c.self.view_is (popped_all name state frames heads nodes turns is n q look heads_now nodes_now c.front.ensures.same turn c.in-Holds.ensures.turn told c.in-Some.item same)
 
 pub returns-in-None-clause-answer : goal.returns-in-None-clause-answer
@@ -205,11 +204,11 @@ returns-in-None-clause-answer c =
     let turns = c.self.inside.store.turns in
     let n = c.args.frame in
     let q = c.args.queue in
-    let May : Named → Type 0 = λ v. MayUse v.state n q Pop in
+    let May : BookView → Type 0 = λ v. MayUse v.state n q Pop in
     let may : MayUse state n q Pop = subst May (sym c.self.view_is) c.requires.may in
     let look = look_of state n q may in
-    let Turn : Named → Type 0 = λ v. OnTurn v.name v.state n in
-    let turn : OnTurn name state n = subst Turn (sym c.self.view_is) c.requires.turn in
+    let Turn : BookView → Type 0 = λ v. IsOnTurn v.name v.state n in
+    let turn : IsOnTurn name state n = subst Turn (sym c.self.view_is) c.requires.turn in
     let heads_now = c.front.new.self.chains.heads.items in
     let nodes_now = c.front.new.self.chains.nodes in
     let told = (c.in-Holds.ensures.told (key_at frames) is.lines is.chained) in
@@ -229,11 +228,11 @@ returns-in-None-clause-after c =
     let turns = c.self.inside.store.turns in
     let n = c.args.frame in
     let q = c.args.queue in
-    let May : Named → Type 0 = λ v. MayUse v.state n q Pop in
+    let May : BookView → Type 0 = λ v. MayUse v.state n q Pop in
     let may : MayUse state n q Pop = subst May (sym c.self.view_is) c.requires.may in
     let look = look_of state n q may in
-    let Turn : Named → Type 0 = λ v. OnTurn v.name v.state n in
-    let turn : OnTurn name state n = subst Turn (sym c.self.view_is) c.requires.turn in
+    let Turn : BookView → Type 0 = λ v. IsOnTurn v.name v.state n in
+    let turn : IsOnTurn name state n = subst Turn (sym c.self.view_is) c.requires.turn in
     let heads_now = c.front.new.self.chains.heads.items in
     let nodes_now = c.front.new.self.chains.nodes in
     let told = (c.in-Holds.ensures.told (key_at frames) is.lines is.chained) in

@@ -3,14 +3,13 @@ use Rattle.swan_model.specs.declared.rights.Mode.TheVariants.{Push}
 use Rattle.swan_model.specs.declared.script.Deed.TheVariants as deed
 use Rattle.swan_model.specs.QueueFollows.{IsNextAbout}
 use Rattle.swan_model.specs.QueueState.{QueueState}
-use Rattle.queue_book.specs.Asks.{MayUse, OnNext}
+use Rattle.queue_book.specs.Asks.{MayUse, IsOnTurn, OnNext}
 use Rattle.queue_book.specs.Live.{key_at}
-use Rattle.queue_book.specs.Named.{Named}
+use Rattle.queue_book.specs.BookView.{BookView}
 use Rattle.queue_book.specs.Whole.{IsBook}
 use Rattle.queue_book.proofs.BookDeeds.{book_push}
 use Rattle.queue_book.proofs.LiveKept.{has_key, key_of, place_of_key}
 use Rattle.queue_book.proofs.Frames.{has_held}
-use Rattle.queue_book.proofs.PlainSaid.{OnTurn}
 use Rattle.queue_book.proofs.book.BookQueuesQueues.push.Goals as goal
 
 pub returns-in_default-clause-ok : goal.returns-in_default-clause-ok
@@ -24,7 +23,7 @@ returns-in_default-clause-ok c =
     let turns = c.self.inside.store.turns in
     let n = c.args.frame in
     let q = c.args.queue in
-    let May : Named → Type 0 = λ v. MayUse v.state n q Push in
+    let May : BookView → Type 0 = λ v. MayUse v.state n q Push in
     let may : MayUse state n q Push = subst May (sym c.self.view_is) c.requires.may in
     let found = has_key state frames is.live n q may.act.frame may.act.may.live (has_held may.act.frame q Push may.held) in
     let never : None ≡ Some found.3 = sym c.in_default.is ∙ c.place.ensures ∙ place_of_key frames n q found.0 found.3 found.1 found.4 in
@@ -41,15 +40,15 @@ invariant_of-self c =
     let turns = c.self.inside.store.turns in
     let n = c.args.frame in
     let q = c.args.queue in
-    let May : Named → Type 0 = λ v. MayUse v.state n q Push in
+    let May : BookView → Type 0 = λ v. MayUse v.state n q Push in
     let may : MayUse state n q Push = subst May (sym c.self.view_is) c.requires.may in
     let place = c.in-Some.place in
     let value = c.args.value in
     let key : key_at frames n q ≡ Some place.key = key_of frames n q place (sym c.in-Some.ensures) in
-    let Next : Named → Type 0 = λ v. OnNext v.name v.state n (λ s f. IsNextAbout (λ origin. deed.Push origin value) s v.state f q) in
+    let Next : BookView → Type 0 = λ v. OnNext v.name v.state n (λ s f. IsNextAbout (λ origin. deed.Push origin value) s v.state f q) in
     let next : OnNext name state n (λ s f. IsNextAbout (λ origin. deed.Push origin value) s state f q) = subst Next (sym c.self.view_is) c.requires.next in
-    let Turn : Named → Type 0 = λ v. OnTurn v.name v.state n in
-    let turn : OnTurn name state n = subst Turn (sym c.self.view_is) c.requires.turn in
+    let Turn : BookView → Type 0 = λ v. IsOnTurn v.name v.state n in
+    let turn : IsOnTurn name state n = subst Turn (sym c.self.view_is) c.requires.turn in
     let P : QueueState → Type 0 = λ st. IsBook name st c.count_deed.new.self c.push.new.self.heads.items c.push.new.self.nodes turns in
     subst P (sym c.after.ensures) (book_push name state frames heads nodes turns is n q may value next turn c.push.new.self.heads.items c.push.new.self.nodes c.push.ensures.heads
     (c.in-Ok.ensures.pushed (key_at frames) is.lines n q is.chained key) c.count_deed.new.self c.count_deed.ensures)

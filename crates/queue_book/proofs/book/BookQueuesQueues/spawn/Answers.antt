@@ -1,12 +1,11 @@
 use Rattle.std.proofs.Common.{ℕ, Option, List, sym, subst, ◌∙◌}
 use Rattle.swan_model.specs.QueueFollows.{IsNextSpawn}
 use Rattle.swan_model.specs.QueueState.{QueueState, after_spawn}
-use Rattle.queue_book.specs.Asks.{MaySpawn, OnNext}
-use Rattle.queue_book.specs.Named.{Named}
+use Rattle.queue_book.specs.Asks.{MaySpawn, IsOnTurn, OnNext}
+use Rattle.queue_book.specs.BookView.{BookView}
 use Rattle.queue_book.specs.Whole.{IsBook}
 use Rattle.queue_book.proofs.BookLent.{called}
 use Rattle.queue_book.proofs.BookSpawn.{book_spawn, spawn_may}
-use Rattle.queue_book.proofs.PlainSaid.{OnTurn}
 use Rattle.queue_book.proofs.book.BookQueuesQueues.spawn.Goals as goal
 
 pub spawn-requires : goal.spawn-requires
@@ -21,7 +20,7 @@ spawn-requires c =
     let p = c.args.parent in
     let child = c.args.child in
     let gives = c.args.gives.now in
-    let May : Named → Type 0 = λ v. MaySpawn v.state p child gives in
+    let May : BookView → Type 0 = λ v. MaySpawn v.state p child gives in
     let may : MaySpawn state p child gives = subst May (sym c.self.view_is) c.requires.may in
     record { may = spawn_may name state frames heads nodes turns is p child gives may }
 
@@ -37,12 +36,12 @@ invariant_of-self c =
     let p = c.args.parent in
     let child = c.args.child in
     let gives = c.args.gives.now in
-    let May : Named → Type 0 = λ v. MaySpawn v.state p child gives in
+    let May : BookView → Type 0 = λ v. MaySpawn v.state p child gives in
     let may : MaySpawn state p child gives = subst May (sym c.self.view_is) c.requires.may in
-    let Next : Named → Type 0 = λ v. OnNext v.name v.state p (λ s f. IsNextSpawn s v.state f gives) in
+    let Next : BookView → Type 0 = λ v. OnNext v.name v.state p (λ s f. IsNextSpawn s v.state f gives) in
     let next : OnNext name state p (λ s f. IsNextSpawn s state f gives) = subst Next (sym c.self.view_is) c.requires.next in
-    let Turn : Named → Type 0 = λ v. OnTurn v.name v.state p in
-    let turn : OnTurn name state p = subst Turn (sym c.self.view_is) c.requires.turn in
+    let Turn : BookView → Type 0 = λ v. IsOnTurn v.name v.state p in
+    let turn : IsOnTurn name state p = subst Turn (sym c.self.view_is) c.requires.turn in
     let nodes_now = c.spawn.new.self.chains.nodes in
     let book = book_spawn name state frames heads nodes turns is p child gives may c.spawn.new.self.frames nodes_now c.spawn.new.self.turns c.in-Ok.ensures.spawned next turn in
     let Heads : List (Option ℕ) → Type 0 = λ hs. IsBook name (after_spawn state may.act.frame child gives) c.spawn.new.self.frames hs nodes_now c.spawn.new.self.turns in

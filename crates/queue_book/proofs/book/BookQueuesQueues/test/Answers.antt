@@ -3,15 +3,14 @@ use Rattle.swan_model.specs.declared.rights.Mode.TheVariants.{Pop}
 use Rattle.swan_model.specs.declared.script.Deed.TheVariants as deed
 use Rattle.swan_model.specs.QueueFollows.{IsNextAbout}
 use Rattle.swan_model.specs.QueueState.{ActiveFrame, QueueState, active}
-use Rattle.queue_book.specs.Asks.{MayUse, OnNext}
+use Rattle.queue_book.specs.Asks.{MayUse, IsOnTurn, OnNext}
 use Rattle.queue_book.specs.Live.{key_at}
-use Rattle.queue_book.specs.Named.{Named}
+use Rattle.queue_book.specs.BookView.{BookView}
 use Rattle.queue_book.specs.Tells.{IsTested}
 use Rattle.queue_book.specs.Whole.{IsBook}
 use Rattle.queue_book.specs.declared.answers.Tested.TheVariants as tested
 use Rattle.queue_book.proofs.BookDeeds.{book_test}
 use Rattle.queue_book.proofs.BookFronts.{book_looked, known, look_of, looked_all}
-use Rattle.queue_book.proofs.PlainSaid.{OnTurn}
 use Rattle.queue_book.proofs.book.BookQueuesQueues.test.Goals as goal
 
 pub front-requires : goal.front-requires
@@ -25,11 +24,11 @@ front-requires c =
     let turns = c.self.inside.store.turns in
     let n = c.args.frame in
     let q = c.args.queue in
-    let May : Named → Type 0 = λ v. MayUse v.state n q Pop in
+    let May : BookView → Type 0 = λ v. MayUse v.state n q Pop in
     let may : MayUse state n q Pop = subst May (sym c.self.view_is) c.requires.may in
     let look = look_of state n q may in
-    let Turn : Named → Type 0 = λ v. OnTurn v.name v.state n in
-    let turn : OnTurn name state n = subst Turn (sym c.self.view_is) c.requires.turn in
+    let Turn : BookView → Type 0 = λ v. IsOnTurn v.name v.state n in
+    let turn : IsOnTurn name state n = subst Turn (sym c.self.view_is) c.requires.turn in
     record { known = known name state frames heads nodes turns is n q look }
 
 pub invariant_of-self : goal.invariant_of-self
@@ -43,11 +42,11 @@ invariant_of-self c =
     let turns = c.self.inside.store.turns in
     let n = c.args.frame in
     let q = c.args.queue in
-    let May : Named → Type 0 = λ v. MayUse v.state n q Pop in
+    let May : BookView → Type 0 = λ v. MayUse v.state n q Pop in
     let may : MayUse state n q Pop = subst May (sym c.self.view_is) c.requires.may in
     let look = look_of state n q may in
-    let Turn : Named → Type 0 = λ v. OnTurn v.name v.state n in
-    let turn : OnTurn name state n = subst Turn (sym c.self.view_is) c.requires.turn in
+    let Turn : BookView → Type 0 = λ v. IsOnTurn v.name v.state n in
+    let turn : IsOnTurn name state n = subst Turn (sym c.self.view_is) c.requires.turn in
     let heads_now = c.front.new.self.chains.heads.items in
     let nodes_now = c.front.new.self.chains.nodes in
     rw (c.front.ensures.frames, c.front.ensures.turns) (book_looked name state frames heads nodes turns is n q look heads_now nodes_now c.in-NotYet.ensures.same (tested.NotYet c.in-NotYet.wait) (c.in-NotYet.ensures.told (key_at frames) is.lines is.chained))
@@ -63,14 +62,14 @@ invariant_of-self-in-Empty c =
     let turns = c.self.inside.store.turns in
     let n = c.args.frame in
     let q = c.args.queue in
-    let May : Named → Type 0 = λ v. MayUse v.state n q Pop in
+    let May : BookView → Type 0 = λ v. MayUse v.state n q Pop in
     let may : MayUse state n q Pop = subst May (sym c.self.view_is) c.requires.may in
     let look = look_of state n q may in
-    let Turn : Named → Type 0 = λ v. OnTurn v.name v.state n in
-    let turn : OnTurn name state n = subst Turn (sym c.self.view_is) c.requires.turn in
+    let Turn : BookView → Type 0 = λ v. IsOnTurn v.name v.state n in
+    let turn : IsOnTurn name state n = subst Turn (sym c.self.view_is) c.requires.turn in
     let heads_now = c.front.new.self.chains.heads.items in
     let nodes_now = c.front.new.self.chains.nodes in
-    let Next : Named → Type 0 = λ v. OnNext v.name v.state n (λ s f. IsNextAbout deed.Test s v.state f q) in
+    let Next : BookView → Type 0 = λ v. OnNext v.name v.state n (λ s f. IsNextAbout deed.Test s v.state f q) in
     let next : OnNext name state n (λ s f. IsNextAbout deed.Test s state f q) = subst Next (sym c.self.view_is) c.requires.next in
     let P : QueueState → Type 0 = λ st. IsBook name st c.count_deed.new.self heads_now nodes_now turns in
     rw c.front.ensures.turns (subst P (sym c.after.ensures) (book_test name state frames heads nodes turns is n q may heads_now nodes_now c.in-Empty.ensures.same c.count_deed.new.self (rw c.front.ensures.frames at c.count_deed.ensures) turn next
@@ -87,14 +86,14 @@ invariant_of-self-in-Holds c =
     let turns = c.self.inside.store.turns in
     let n = c.args.frame in
     let q = c.args.queue in
-    let May : Named → Type 0 = λ v. MayUse v.state n q Pop in
+    let May : BookView → Type 0 = λ v. MayUse v.state n q Pop in
     let may : MayUse state n q Pop = subst May (sym c.self.view_is) c.requires.may in
     let look = look_of state n q may in
-    let Turn : Named → Type 0 = λ v. OnTurn v.name v.state n in
-    let turn : OnTurn name state n = subst Turn (sym c.self.view_is) c.requires.turn in
+    let Turn : BookView → Type 0 = λ v. IsOnTurn v.name v.state n in
+    let turn : IsOnTurn name state n = subst Turn (sym c.self.view_is) c.requires.turn in
     let heads_now = c.front.new.self.chains.heads.items in
     let nodes_now = c.front.new.self.chains.nodes in
-    let Next : Named → Type 0 = λ v. OnNext v.name v.state n (λ s f. IsNextAbout deed.Test s v.state f q) in
+    let Next : BookView → Type 0 = λ v. OnNext v.name v.state n (λ s f. IsNextAbout deed.Test s v.state f q) in
     let next : OnNext name state n (λ s f. IsNextAbout deed.Test s state f q) = subst Next (sym c.self.view_is) c.requires.next in
     let P : QueueState → Type 0 = λ st. IsBook name st c.count_deed-in-Holds.new.self heads_now nodes_now turns in
     rw c.front.ensures.turns (subst P (sym c.after-in-Holds.ensures) (book_test name state frames heads nodes turns is n q may heads_now nodes_now c.in-Holds.ensures.same c.count_deed-in-Holds.new.self (rw c.front.ensures.frames at c.count_deed-in-Holds.ensures) turn next
@@ -111,14 +110,14 @@ returns-in-NotYet-clause-answer c =
     let turns = c.self.inside.store.turns in
     let n = c.args.frame in
     let q = c.args.queue in
-    let May : Named → Type 0 = λ v. MayUse v.state n q Pop in
+    let May : BookView → Type 0 = λ v. MayUse v.state n q Pop in
     let may : MayUse state n q Pop = subst May (sym c.self.view_is) c.requires.may in
     let look = look_of state n q may in
-    let Turn : Named → Type 0 = λ v. OnTurn v.name v.state n in
-    let turn : OnTurn name state n = subst Turn (sym c.self.view_is) c.requires.turn in
+    let Turn : BookView → Type 0 = λ v. IsOnTurn v.name v.state n in
+    let turn : IsOnTurn name state n = subst Turn (sym c.self.view_is) c.requires.turn in
     let heads_now = c.front.new.self.chains.heads.items in
     let nodes_now = c.front.new.self.chains.nodes in
-    let P : Named → Type 0 = λ v. (f : ActiveFrame) → active v.state n ≡ Some f → IsTested v.name v.state f q (tested.NotYet c.in-NotYet.wait) in
+    let P : BookView → Type 0 = λ v. (f : ActiveFrame) → active v.state n ≡ Some f → IsTested v.name v.state f q (tested.NotYet c.in-NotYet.wait) in
     subst P c.self.view_is (looked_all name state frames heads nodes turns is n q look heads_now nodes_now c.in-NotYet.ensures.same turn (tested.NotYet c.in-NotYet.wait) c.in-NotYet.ensures.turn
     (c.in-NotYet.ensures.told (key_at frames) is.lines is.chained))
 
@@ -133,14 +132,14 @@ returns-in-Empty-clause-answer c =
     let turns = c.self.inside.store.turns in
     let n = c.args.frame in
     let q = c.args.queue in
-    let May : Named → Type 0 = λ v. MayUse v.state n q Pop in
+    let May : BookView → Type 0 = λ v. MayUse v.state n q Pop in
     let may : MayUse state n q Pop = subst May (sym c.self.view_is) c.requires.may in
     let look = look_of state n q may in
-    let Turn : Named → Type 0 = λ v. OnTurn v.name v.state n in
-    let turn : OnTurn name state n = subst Turn (sym c.self.view_is) c.requires.turn in
+    let Turn : BookView → Type 0 = λ v. IsOnTurn v.name v.state n in
+    let turn : IsOnTurn name state n = subst Turn (sym c.self.view_is) c.requires.turn in
     let heads_now = c.front.new.self.chains.heads.items in
     let nodes_now = c.front.new.self.chains.nodes in
-    let P : Named → Type 0 = λ v. (f : ActiveFrame) → active v.state n ≡ Some f → IsTested v.name v.state f q tested.Empty in
+    let P : BookView → Type 0 = λ v. (f : ActiveFrame) → active v.state n ≡ Some f → IsTested v.name v.state f q tested.Empty in
     subst P c.self.view_is (looked_all name state frames heads nodes turns is n q look heads_now nodes_now c.in-Empty.ensures.same turn tested.Empty c.in-Empty.ensures.turn
     (c.in-Empty.ensures.told (key_at frames) is.lines is.chained))
 
@@ -155,13 +154,13 @@ returns-in-Holds-clause-answer c =
     let turns = c.self.inside.store.turns in
     let n = c.args.frame in
     let q = c.args.queue in
-    let May : Named → Type 0 = λ v. MayUse v.state n q Pop in
+    let May : BookView → Type 0 = λ v. MayUse v.state n q Pop in
     let may : MayUse state n q Pop = subst May (sym c.self.view_is) c.requires.may in
     let look = look_of state n q may in
-    let Turn : Named → Type 0 = λ v. OnTurn v.name v.state n in
-    let turn : OnTurn name state n = subst Turn (sym c.self.view_is) c.requires.turn in
+    let Turn : BookView → Type 0 = λ v. IsOnTurn v.name v.state n in
+    let turn : IsOnTurn name state n = subst Turn (sym c.self.view_is) c.requires.turn in
     let heads_now = c.front.new.self.chains.heads.items in
     let nodes_now = c.front.new.self.chains.nodes in
-    let P : Named → Type 0 = λ v. (f : ActiveFrame) → active v.state n ≡ Some f → IsTested v.name v.state f q tested.Holds in
+    let P : BookView → Type 0 = λ v. (f : ActiveFrame) → active v.state n ≡ Some f → IsTested v.name v.state f q tested.Holds in
     subst P c.self.view_is (looked_all name state frames heads nodes turns is n q look heads_now nodes_now c.in-Holds.ensures.same turn tested.Holds c.in-Holds.ensures.turn
     (c.in-Holds.ensures.told (key_at frames) is.lines is.chained))

@@ -4,6 +4,6 @@ use Rattle.swan_model.specs.declared.script.Script.{Script}
 use Rattle.swan_model.specs.QueueState.{QueueState}
 
 -- the script of the run's name, and the state
-pub record Named : Type 0 where
+pub record BookView : Type 0 where
   pub name : Option Script
   pub state : QueueState
