@@ -92,12 +92,18 @@ impl Node {
         Ok(())
     }
 
-    /// Takes the first item, where there is one. It takes no memory. `O(1)`.
+    /// Takes the first item, where there is one. It gives memory back once less than a quarter of the chunk's room
+    /// is used, and takes none. `O(1)` amortised.
     pub fn pop(&mut self) -> Option<Value>
         ensures item { result ≡ slice_get self.old.items 0 }
         ensures rest { self.new ≡ record self.old { items = drop 1 self.old.items } }
     {
-        self.items.pop_front()
+        let first = self.items.pop_front();
+        let room = self.items.capacity();
+        if self.items.len() < room / 4 {
+            self.items.shrink_to(room / 2);
+        }
+        first
     }
 
     /// Moves all items to the end of a list. `O(n)` for n items. Err is want of memory.
