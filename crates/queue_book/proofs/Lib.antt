@@ -93,3 +93,5 @@ pub mod GivingTurns
 pub mod TurnsEnlisted
 pub mod GivingSteps
 pub mod BookSpawn
+pub mod Allowing
+pub mod Pushing

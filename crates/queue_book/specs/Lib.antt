@@ -18,3 +18,4 @@ pub mod Made
 pub mod Ended
 pub mod Handed
 pub mod Spawned
+pub mod Allowed

@@ -39,6 +39,8 @@ mod readings;
 mod spawns;
 mod stated;
 mod store;
+#[cfg(test)]
+mod tests;
 
 pub use answers::{Popped, Tested, WaitFor};
 pub use book::BookQueues;
