@@ -215,7 +215,7 @@ impl Chains {
             → AreChained at self.new.heads.items self.new.nodes (in_line queue (λ chunks. []) lines)) }
     {
         let mut items = Values::new(alloc);
-        while let Some(mut node) = self.drop_first(queue) {
+        while let Some(node) = self.drop_first(queue) {
             node.move_to(&mut items)?;
         }
         Ok(items)

@@ -106,12 +106,17 @@ impl Node {
         first
     }
 
-    /// Moves all items to the end of a list. `O(n)` for n items. Err is want of memory.
-    pub fn move_to(&mut self, items: &mut Values) -> Result<(), NoMemory>
-        ensures moved { OnOk result (items.new ≡ items.old ++ self.old.items) }
-        ensures next { self.new.next ≡ self.old.next }
+    /// Moves the chunk's items to the end of a list. `O(n)` for n items. Err is want of memory.
+    pub fn move_to(self, items: &mut Values) -> Result<(), NoMemory>
+        ensures { OnOk result (items.new ≡ items.old ++ self.items) }
     {
-        while let Some(item) = self.items.pop_front() {
+        let Node {
+            queue: _,
+            owner: _,
+            items: mut own,
+            next: _,
+        } = self;
+        while let Some(item) = own.pop_front() {
             match items.push(item) {
                 Ok(()) => {}
                 Err(_item) => return Err(NoMemory),

@@ -20,6 +20,6 @@ loop-node-preserved c = record {
       let was = c.loop-node.invariant.kept at lines is none in
       let now = was.left.now in
       moved_drop at lines c.args.queue c.loop-node.self.heads.items c.drop_first.new.self.heads.items c.loop-node.self.nodes c.drop_first.new.self.nodes
-      c.loop-node.items c.move_to.new.items was c.in-Some.node (c.in-Some.ensures.first at now was.left.kept) c.in_ok-move_to.ensures.moved
+      c.loop-node.items c.move_to.new.items was c.in-Some.node (c.in-Some.ensures.first at now was.left.kept) c.in_ok-move_to.ensures
       (c.in-Some.ensures.dropped at now was.left.kept (c.in-Some.ensures.unowned at now was.left.kept none));
 }
