@@ -11,8 +11,7 @@ use Rattle.swan_model.specs.declared.rights.Mode.TheVariants.{InOut}
 use Rattle.swan_model.specs.declared.value.Kind.TheVariants as kind
 use Rattle.swan_model.specs.declared.value.Value.{Value}
 use Rattle.swan_model.specs.declared.value.Value.TheVariants.{Int}
-use Rattle.swan_model.specs.Rights.{allows}
-use Rattle.swan_model.specs.Versions.{settled, owed, owing, Placed, VersionState, place_cmp, placed_at, with_present, with_placed, after_access, given_from, after_write, written_at, after_finish, settle_placed, stays, Holds, MayGet, IsSettled}
+use Rattle.swan_model.specs.Versions.{settled, owed, owing, Placed, VersionState, place_cmp, placed_at, with_present, with_placed, after_access, given_from, after_write, written_at, after_finish, settle_placed, stays, MayGet, IsSettled}
 use Rattle.object_versions.specs.Ending.{is_other}
 use Rattle.object_versions.proofs.Lookups.{equal_at, IsHere, IsThere, after_insert, after_set, at_inserted, at_set, still_inserted, still_set}
 use Rattle.object_versions.proofs.Finishing.{others_stay}
@@ -39,9 +38,6 @@ place_apart frame other apart e = apart (ap (λ (n : ℕ × ℕ). n.0) e)
 -- ---- a child more
 
 module _ (state : VersionState) (child : ℕ) (some : 0 < child) (chain : IsChain state 1 child) where
-  pub may_hold : Holds state 0 0 InOut
-  may_hold = record { object = chain.root; stands = chain.stands; may = ap (λ m. allows m InOut) chain.changes }
-
   pub is_free : placed_at state child 0 ≡ None
   is_free = by (placed_at state child 0) refl where
     by : (o : Option Placed) → placed_at state child 0 ≡ o → placed_at state child 0 ≡ None

@@ -15,14 +15,14 @@
 //! Promised, and proved of each call: what it answers and what it leaves, exactly; and that a frame that is
 //! waited for has the object itself and may write it. And whatever the lawful script and the reading that the
 //! calls follow, what a frame reads is the value that the object has at the frame's point. The laws say which
-//! entries need no call, and when a frame may end. After want of memory nothing is said of the objects.
+//! entries need no call, how the giving of a child's objects begins, and when a frame may end. After want of memory nothing is said of the objects.
 //!
 //! Inside, a version is a node of a slab, with the number of places that refer to it. A place refers to the
 //! version that was given, to the present one and to the one that the frame owes. So all who have a version
 //! see its value at once when it is settled, which costs the same however many they are. A node is given up
 //! when no place refers to it. A frame may write as often as it likes: its own version is overwritten where
-//! nobody else has it, and what it was given is given up once that has its value. So a place keeps three
-//! versions at most.
+//! nobody else has it, and what it was given is given up with its next write or gift, once that has its value. So
+//! a place keeps three versions at most.
 #![tactic(auto)]
 
 mod ending;

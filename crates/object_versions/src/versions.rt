@@ -22,10 +22,13 @@ use std::marker::Model;
 use swan_model::{Mode, NoMemory, Value};
 
 /// The renamed objects of a run.
+///
+/// In costs, n counts the places of all frames.
 #[derive(Drop)]
 pub struct Versions {
     store: Store,
-    // How many objects were made. Contracts number objects by it; no answer rests on it.
+    // How many objects were made. Contracts number objects by it; no answer but want of memory
+    // rests on it.
     made: u64,
 }
 
@@ -56,7 +59,7 @@ impl Versions {
 
     /// Makes an object: the frame then has a version with its first value at the place, and may read and
     /// write it. Err is want of memory, and also where the count of objects that were made would pass 64 bits.
-    /// `O(log n)` for n places of all frames, amortised.
+    /// `O(log n)`, amortised.
     pub fn create(&mut self, frame: u64, place: u32, first: Value) -> Result<(), NoMemory>
         requires free { placed_at self.old frame place ≡ None }
         ensures ok { OnOk result (self.new ≡ after_create self.old frame place first) }
@@ -207,8 +210,8 @@ impl Versions {
     /// Ends a frame: each version that it owes gets the frame's value, for all who have that version, and
     /// what the frame has is forgotten. What frame 0 has stays. It may be called where `ready` answers Ok and the
     /// frame's children have ended, for then each version of the frame has its value: the law
-    /// `ended_children_leave_all_settled`. Err is want of memory for a copy of a value. For k objects of the frame and
-    /// n places of all frames settling is `O(k + log n)`, no matter how many others have the frame's versions, and
+    /// `ended_children_leave_all_settled`. Err is want of memory for a copy of a value. For k objects of the frame
+    /// settling is `O(k + log n)`, no matter how many others have the frame's versions, and
     /// forgetting is k removals of `O(log n)` each.
     pub fn finish(&mut self, frame: u64) -> Result<(), NoMemory>
         requires settled { IsSettled self.old frame }

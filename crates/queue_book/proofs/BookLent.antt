@@ -89,12 +89,6 @@ module _ (name : Option Script) (state : QueueState) (frames : LiveFrames) (head
         turned = turns_alike state (after_back state n frame.deeds) turns (back_alike name state is.lines is.plain n frame live frame.deeds) refl is.turned;
       }
 
--- a number has one active frame
-pub only_active : (state : QueueState) (n : ℕ) (a b : ActiveFrame) → active state n ≡ Some a → active state n ≡ Some b → a ≡ b
-only_active state n a b one two =
-    let both : Some a ≡ Some b = sym one ∙ two in
-    cc
-
 -- no deed was done by ends
 pub by_none : (s : Script) (path : List ℕ) (from to : ℕ) → from ≡ to → AreByEnds s path from to
 by_none s path from to same = record { order = omega (arith, same); each = λ k above below. absurd (omega (arith, same)) }

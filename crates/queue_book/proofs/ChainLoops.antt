@@ -1,29 +1,30 @@
 -- What holds while chunks are dropped from the front of a queue.
-use Rattle.std.proofs.Common.{◌≡◌, ◌≢◌, ℕ, Bool, true, false, ◌==◌, Option, List, ◌∷◌, ◌++◌, drop, refl, sym, ap, subst, ◌∙◌, append_assoc, rules}
+use Rattle.std.proofs.Common.{◌≡◌, ◌≢◌, ℕ, Bool, true, false, ◌==◌, Option, ◌+◌, List, ◌∷◌, ◌++◌, drop, length, refl, sym, ap, subst, ◌∙◌, append_assoc, rules, arith}
 use Rattle.std.proofs.lemmas.Bool.{false≢true}
 use Rattle.std.specs.Prelude.{if◌then◌else◌}
 use Rattle.pop_order.proofs.Flags.{eq_of, eq_same}
 use Rattle.queue_book.specs.Book.{is_spent}
 use Rattle.queue_book.specs.Chains.{chunk_of, in_line}
-use Rattle.slab.specs.Slab.{Slab}
+use Rattle.slab.specs.Slab.{Slab, slab_len}
 use Rattle.swan_model.specs.declared.value.Value.{Value}
 use Rattle.queue_book.specs.Book.{Chunk, Chunks, trimmed, items_of}
 use Rattle.queue_book.specs.Chains.{Link, AreChained}
 
--- some chunks of a queue are gone, and all other queues are as they were
-pub record AreLeft (at : ℕ → ℕ → Option ℕ) (lines : ℕ → Chunks) (queue : ℕ) (heads : List (Option ℕ)) (nodes : Slab Link) : Type 0 where
+-- some chunks of a queue are gone, with their nodes, and all other queues are as they were
+pub record AreLeft (at : ℕ → ℕ → Option ℕ) (lines : ℕ → Chunks) (queue : ℕ) (start : Slab Link) (heads : List (Option ℕ)) (nodes : Slab Link) : Type 0 where
   pub now : ℕ → Chunks
   pub kept : AreChained at heads nodes now
   pub others : (q : ℕ) → q ≢ queue → now q ≡ lines q
+  pub counts : slab_len nodes + length (lines queue) ≡ slab_len start + length (now queue)
 
 -- spent chunks at the front are gone
-pub record AreTrimmed (at : ℕ → ℕ → Option ℕ) (lines : ℕ → Chunks) (queue : ℕ) (heads : List (Option ℕ)) (nodes : Slab Link) : Type 0 where
-  pub left : AreLeft at lines queue heads nodes
+pub record AreTrimmed (at : ℕ → ℕ → Option ℕ) (lines : ℕ → Chunks) (queue : ℕ) (start : Slab Link) (heads : List (Option ℕ)) (nodes : Slab Link) : Type 0 where
+  pub left : AreLeft at lines queue start heads nodes
   pub same : trimmed (left.now queue) ≡ trimmed (lines queue)
 
 -- the items of those that are gone were moved
-pub record AreMoved (at : ℕ → ℕ → Option ℕ) (lines : ℕ → Chunks) (queue : ℕ) (heads : List (Option ℕ)) (nodes : Slab Link) (items : List Value) : Type 0 where
-  pub left : AreLeft at lines queue heads nodes
+pub record AreMoved (at : ℕ → ℕ → Option ℕ) (lines : ℕ → Chunks) (queue : ℕ) (start : Slab Link) (heads : List (Option ℕ)) (nodes : Slab Link) (items : List Value) : Type 0 where
+  pub left : AreLeft at lines queue start heads nodes
   pub moved : items ++ items_of (left.now queue) ≡ items_of (lines queue)
 
 pub line_same : (queue : ℕ) (change : Chunks → Chunks) (lines : ℕ → Chunks) → in_line queue change lines queue ≡ change (lines queue)
@@ -42,29 +43,42 @@ line_is queue change lines now same others q = at_line (q == queue) refl where
   at_line true e = let here : q ≡ queue = eq_of q queue e in ap (λ n. change (lines n)) here ∙ sym same ∙ ap now (sym here)
   at_line false e = sym (others q (λ here. let P : ℕ → Type 0 = λ n. (n == queue) ≡ false in false≢true (sym (subst P here e) ∙ eq_same queue)))
 
-module _ (at : ℕ → ℕ → Option ℕ) (lines : ℕ → Chunks) (queue : ℕ) (heads after : List (Option ℕ)) (nodes then_nodes : Slab Link) where
+module _ (at : ℕ → ℕ → Option ℕ) (lines : ℕ → Chunks) (queue : ℕ) (start : Slab Link) (heads after : List (Option ℕ)) (nodes then_nodes : Slab Link)
+    (fewer : slab_len then_nodes + 1 ≡ slab_len nodes) where
+  pub counts_drop : (left : AreLeft at lines queue start heads nodes) (chunk : Chunk) (rest : Chunks) → left.now queue ≡ chunk ∷ rest
+      → slab_len then_nodes + length (lines queue) ≡ slab_len start + length (in_line queue (λ chunks. drop 1 chunks) left.now queue)
+  counts_drop left chunk rest are =
+      let one : length (chunk ∷ rest) ≡ length rest + 1 = grind (arith) in
+      let was : length (left.now queue) ≡ length rest + 1 = ap (λ (cs : Chunks). length cs) are ∙ one in
+      let is : length (in_line queue (λ chunks. drop 1 chunks) left.now queue) ≡ length rest =
+      ap (λ (cs : Chunks). length cs) (line_same queue (λ chunks. drop 1 chunks) left.now ∙ ap (λ (cs : Chunks). drop 1 cs) are) in
+      let before = left.counts in
+      omega arith
+
   -- one more is gone
-  abbrev pub left_drop : (left : AreLeft at lines queue heads nodes) → AreChained at after then_nodes (in_line queue (λ chunks. drop 1 chunks) left.now) → AreLeft at lines queue after then_nodes
-  left_drop left kept = record {
+  abbrev pub left_drop : (left : AreLeft at lines queue start heads nodes) (chunk : Chunk) (rest : Chunks) → left.now queue ≡ chunk ∷ rest
+      → AreChained at after then_nodes (in_line queue (λ chunks. drop 1 chunks) left.now) → AreLeft at lines queue start after then_nodes
+  left_drop left chunk rest are kept = record {
     now = in_line queue (λ chunks. drop 1 chunks) left.now;
     kept = kept;
     others = λ q other. line_other queue (λ chunks. drop 1 chunks) left.now q other ∙ left.others q other;
+    counts = counts_drop left chunk rest are;
   }
 
-  pub trimmed_drop : (was : AreTrimmed at lines queue heads nodes) (chunk : Chunk) (rest : Chunks) → was.left.now queue ≡ chunk ∷ rest → is_spent chunk ≡ true
-      → AreChained at after then_nodes (in_line queue (λ chunks. drop 1 chunks) was.left.now) → AreTrimmed at lines queue after then_nodes
+  pub trimmed_drop : (was : AreTrimmed at lines queue start heads nodes) (chunk : Chunk) (rest : Chunks) → was.left.now queue ≡ chunk ∷ rest → is_spent chunk ≡ true
+      → AreChained at after then_nodes (in_line queue (λ chunks. drop 1 chunks) was.left.now) → AreTrimmed at lines queue start after then_nodes
   trimmed_drop was chunk rest are spent kept = record {
-    left = left_drop was.left kept;
+    left = left_drop was.left chunk rest are kept;
     same =
         ap trimmed (line_same queue (λ chunks. drop 1 chunks) was.left.now ∙ ap (λ (cs : Chunks). drop 1 cs) are)
         ∙ sym (ap (λ b. if b then trimmed rest else chunk ∷ rest) spent) ∙ sym (ap trimmed are) ∙ was.same;
   }
 
-  pub moved_drop : (items moved : List Value) (was : AreMoved at lines queue heads nodes items) (link : Link) → was.left.now queue ≡ chunk_of link ∷ drop 1 (was.left.now queue)
+  pub moved_drop : (items moved : List Value) (was : AreMoved at lines queue start heads nodes items) (link : Link) → was.left.now queue ≡ chunk_of link ∷ drop 1 (was.left.now queue)
       → moved ≡ items ++ link.items
-      → AreChained at after then_nodes (in_line queue (λ chunks. drop 1 chunks) was.left.now) → AreMoved at lines queue after then_nodes moved
+      → AreChained at after then_nodes (in_line queue (λ chunks. drop 1 chunks) was.left.now) → AreMoved at lines queue start after then_nodes moved
   moved_drop items moved was link are is_moved kept = record {
-    left = left_drop was.left kept;
+    left = left_drop was.left (chunk_of link) (drop 1 (was.left.now queue)) are kept;
     moved =
         ap (λ (cs : Chunks). moved ++ items_of cs) (line_same queue (λ chunks. drop 1 chunks) was.left.now)
         ∙ ap (λ (vs : List Value). vs ++ items_of (drop 1 (was.left.now queue))) is_moved
@@ -73,5 +87,5 @@ module _ (at : ℕ → ℕ → Option ℕ) (lines : ℕ → Chunks) (queue : ℕ
   }
 
 module _ (at : ℕ → ℕ → Option ℕ) (lines : ℕ → Chunks) (queue : ℕ) (heads : List (Option ℕ)) (nodes : Slab Link) where
-  abbrev pub left_none : AreChained at heads nodes lines → AreLeft at lines queue heads nodes
-  left_none is = record { now = lines; kept = is; others = λ q other. refl }
+  abbrev pub left_none : AreChained at heads nodes lines → AreLeft at lines queue nodes heads nodes
+  left_none is = record { now = lines; kept = is; others = λ q other. refl; counts = refl }

@@ -1,4 +1,4 @@
--- Whether a state allows a call, as a test that computes. Tests on states that are known use it.
+-- Whether a state allows a call, as a condition that computes. The tests of this crate use it.
 use Rattle.std.specs.Prelude.{ℕ, Bool, true, false, ◌&&◌, ◌==◌, not, ltb, Option, Some, None, List, [], ◌∷◌, length, is_none, slice_get}
 use Rattle.std.specs.List.{list_any}
 use Rattle.swan_model.specs.declared.path.TheConstants.{PATH_MOST}
@@ -7,7 +7,7 @@ use Rattle.swan_model.specs.QueueState.{ActiveFrame, Maker, planned, made_by, Qu
 use Rattle.swan_model.specs.Rights.{is_queue_mode}
 use Rattle.queue_book.specs.Asks.{CHILDREN_MOST, DEEDS_MOST, QUEUES_MOST}
 
--- an active frame with its ends back, of which a test holds
+-- an active frame with its ends back, of which a condition holds
 abbrev pub acts : Option ActiveFrame → (ActiveFrame → Bool) → Bool
 acts None test = false
 acts (Some frame) test = is_none frame.lent && test frame

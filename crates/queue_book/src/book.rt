@@ -1,5 +1,5 @@
 // The hyperqueues of a run, each as its chunks in order.
-ghost use Rattle.std.specs.Prelude.{◌≡◌, ◌≢◌, ℕ, ◌+◌, ◌≤◌, true, false, [], Option, Some, None, IfOk, IfErr, OnOk, OnErr, length};
+ghost use Rattle.std.specs.Prelude.{◌≡◌, true, false, Some, None};
 ghost use Rattle.swan_model.specs.QueueState.{new_state};
 ghost use Rattle.queue_book.specs.Calls.{after_call};
 
@@ -157,8 +157,9 @@ impl Queues for BookQueues {
         }
     }
 
-    /// Takes the first item of the first chunk that isn't spent. `O(log n)` amortised. With the free name also a
-    /// look-up for each owner that only pops, up to the frame's own chunk.
+    /// Takes the first item of the first chunk that isn't spent. `O(log n)` amortised. With the free name also a walk
+    /// over the chunks before the frame's own, with a look-up for each that is owned, up to the first frame that may
+    /// push.
     fn pop(&mut self, frame: u64, queue: u32) -> Popped {
         match self.store.front(frame, queue) {
             Tested::NotYet(wait) => Popped::NotYet(wait),

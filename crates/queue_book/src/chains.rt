@@ -1,5 +1,5 @@
 // The chunks of all queues.
-ghost use Rattle.std.specs.Prelude.{◌≡◌, ◌≢◌, ℕ, ◌+◌, ◌<◌, ◌++◌, Option, Some, None, [], ◌∷◌, drop, length, IfOk, IfSome, IfNone, OnOk, IsTrue, true, slice_get};
+ghost use Rattle.std.specs.Prelude.{◌≡◌, ◌≢◌, ℕ, ◌+◌, ◌<◌, Option, Some, None, [], ◌∷◌, drop, length, IfOk, IfSome, IfNone, OnOk, true};
 ghost use Rattle.slab.specs.Slab.{slab_len};
 ghost use Rattle.queue_book.specs.Book.{Chunk, Chunks, own, is_spent, with_item, handed_on, closed, trimmed, without_first, items_of};
 ghost use Rattle.queue_book.specs.Chains.{AreChained, chunk_of, first_item, in_line, put_at, IsFront};
@@ -145,6 +145,7 @@ impl Chains {
             → ((number : ℕ) → at number queue ≡ None) → node.owner ≡ None) }
         ensures none { IfNone result ((at : ℕ → ℕ → Option ℕ) (lines : ℕ → Chunks) → AreChained at self.old.heads.items self.old.nodes lines
             → (lines queue ≡ []) × AreChained at self.new.heads.items self.new.nodes lines) }
+        ensures no_fewer { IfNone result (self.new.nodes ≡ self.old.nodes) }
     {
         let Some(key) = self.heads[queue as usize] else {
             return None;
@@ -163,6 +164,8 @@ impl Chains {
         ensures same { length self.new.heads.items ≡ length self.old.heads.items }
         ensures trimmed { (at : ℕ → ℕ → Option ℕ) (lines : ℕ → Chunks) → AreChained at self.old.heads.items self.old.nodes lines
             → AreChained at self.new.heads.items self.new.nodes (in_line queue trimmed lines) × IsFront (trimmed (lines queue)) result }
+        ensures fewer { (at : ℕ → ℕ → Option ℕ) (lines : ℕ → Chunks) → AreChained at self.old.heads.items self.old.nodes lines
+            → slab_len self.new.nodes + length (lines queue) ≡ slab_len self.old.nodes + length (trimmed (lines queue)) }
     {
         loop {
             if let Some(front) = self.front(queue) {
@@ -174,7 +177,7 @@ impl Chains {
         }
     }
 
-    /// Takes the first item of the first chunk of a queue. `O(1)`; it takes no memory.
+    /// Takes the first item of the first chunk of a queue. `O(1)` amortised; it needs no memory.
     pub fn take_first(&mut self, queue: u32) -> Option<Value>
         requires known { queue < length self.old.heads.items }
         ensures same { length self.new.heads.items ≡ length self.old.heads.items }
@@ -199,12 +202,14 @@ impl Chains {
         ensures given_up { (at : ℕ → ℕ → Option ℕ) (lines : ℕ → Chunks) → AreChained at self.old.heads.items self.old.nodes lines
             → ((number : ℕ) → at number queue ≡ None)
             → AreChained at self.new.heads.items self.new.nodes (in_line queue (λ chunks. []) lines) }
+        ensures fewer { (at : ℕ → ℕ → Option ℕ) (lines : ℕ → Chunks) → AreChained at self.old.heads.items self.old.nodes lines
+            → ((number : ℕ) → at number queue ≡ None) → slab_len self.new.nodes + length (lines queue) ≡ slab_len self.old.nodes }
     {
         while let Some(_node) = self.drop_first(queue) {}
     }
 
-    /// Takes all items of a queue, and gives up its chunks, of which none is owned. `O(n)` for n items. Err is want of
-    /// memory.
+    /// Takes all items of a queue, and gives up its chunks, of which none is owned. `O(n)` for n items and chunks. Err
+    /// is want of memory.
     pub fn take_all(&mut self, alloc: Global, queue: u32) -> Result<Values, NoMemory>
         requires known { queue < length self.old.heads.items }
         ensures same { OnOk result (length self.new.heads.items ≡ length self.old.heads.items) }
@@ -213,6 +218,8 @@ impl Chains {
         ensures taken { OnOk result ((at : ℕ → ℕ → Option ℕ) (lines : ℕ → Chunks) → AreChained at self.old.heads.items self.old.nodes lines
             → ((number : ℕ) → at number queue ≡ None)
             → AreChained at self.new.heads.items self.new.nodes (in_line queue (λ chunks. []) lines)) }
+        ensures fewer { OnOk result ((at : ℕ → ℕ → Option ℕ) (lines : ℕ → Chunks) → AreChained at self.old.heads.items self.old.nodes lines
+            → ((number : ℕ) → at number queue ≡ None) → slab_len self.new.nodes + length (lines queue) ≡ slab_len self.old.nodes) }
     {
         let mut items = Values::new(alloc);
         while let Some(node) = self.drop_first(queue) {
@@ -221,7 +228,7 @@ impl Chains {
         Ok(items)
     }
 
-    /// Gives up all queues.
+    /// Gives up all queues. `O(1)` for each chunk and item; it takes no memory.
     pub fn clear(&mut self)
         ensures none { length self.new.heads.items ≡ 0 }
         ensures kept { (lines : ℕ → Chunks) → AreChained (λ n q. None) self.new.heads.items self.new.nodes lines }

@@ -1,5 +1,5 @@
 // The ends of queues that a running frame has with it.
-ghost use Rattle.std.specs.Prelude.{◌≡◌, ℕ, ◌+◌, ◌<◌, true, false, Option, Some, IfErr, IfSome, IfNone, OnOk, OnErr, OnSome, ◌⊎◌};
+ghost use Rattle.std.specs.Prelude.{◌≡◌, ℕ, ◌+◌, ◌<◌, true, false, Option, IfErr, IfSome, IfNone, OnOk, OnErr, OnSome, ◌⊎◌};
 ghost use Rattle.std.specs.Option.{ForSome};
 ghost use Rattle.swan_model.specs.declared.script.Script.{Script};
 ghost use Rattle.swan_model.specs.Lawful.{IsLawful};

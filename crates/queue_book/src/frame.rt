@@ -1,5 +1,5 @@
 // What is kept of an active frame.
-ghost use Rattle.std.specs.Prelude.{◌≡◌, ℕ, ◌+◌, ◌<◌, ◌^◌, Some, None, [], OnOk, true, false};
+ghost use Rattle.std.specs.Prelude.{◌≡◌, ◌<◌, [], OnOk, false};
 ghost use Rattle.queue_book.specs.Kept.{place_in};
 ghost use Rattle.queue_book.specs.Live.{with_place};
 

@@ -23,7 +23,8 @@ pub enum Met {
 
 impl Store {
     /// What stands at the front of a queue for a frame that pops it. `O(log n)` amortised. With the free name also a
-    /// look-up for each owner that only pops, up to the frame's own chunk. It takes no memory.
+    /// walk over the chunks before the frame's own, with a look-up for each that is owned, up to the first frame that
+    /// may push. It takes no memory.
     pub fn front(&mut self, frame: u64, queue: u32) -> Tested
         requires known { queue < length self.old.chains.heads.items }
         ensures frames { self.new.frames ≡ self.old.frames }
@@ -46,7 +47,8 @@ impl Store {
     }
 }
 
-/// The first owner of a chunk before the frame's own one that may push to the queue. A look-up for each owner up to it.
+/// The first owner of a chunk before the frame's own one that may push to the queue. A step for each chunk up to it,
+/// and a look-up for each that is owned.
 fn first_pusher(frames: &LiveFrames, chains: &Chains, frame: u64, queue: u32) -> Option<u64>
     requires known { queue < length chains.now.heads.items }
     ensures { (at : ℕ → ℕ → Option ℕ) (lines : ℕ → Chunks) → AreChained at chains.now.heads.items chains.now.nodes lines

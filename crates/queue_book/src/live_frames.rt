@@ -1,5 +1,5 @@
 // The active frames by number.
-ghost use Rattle.std.specs.Prelude.{◌≡◌, ◌≢◌, ℕ, ◌+◌, ◌<◌, Some, None, [], OnOk, IfSome, false};
+ghost use Rattle.std.specs.Prelude.{◌≡◌, ◌≢◌, ℕ, ◌+◌, ◌<◌, Some, None, [], OnOk, false};
 ghost use Rattle.std.specs.Option.{option_copied, option_map};
 ghost use Rattle.queue_book.specs.Asks.{DEEDS_MOST};
 ghost use Rattle.queue_book.specs.Live.{is_lent_with, kept_of, place_at, with_place, IsOnlyChange};
@@ -136,7 +136,7 @@ impl LiveFrames {
         }
     }
 
-    /// Takes all frames out.
+    /// Takes all frames out. `O(1)` for each frame and queue; it takes no memory.
     pub fn clear(&mut self)
         ensures { (number : ℕ) → kept_of self.new number ≡ None }
     {

@@ -1,5 +1,5 @@
 // A chunk of a queue, in a chain.
-ghost use Rattle.std.specs.Prelude.{◌≡◌, ℕ, Some, None, List, [], ◌∷◌, ◌++◌, length, drop, slice_get, OnOk, IsTrue, ◌↔◌};
+ghost use Rattle.std.specs.Prelude.{◌≡◌, Some, None, [], ◌∷◌, ◌++◌, drop, slice_get, OnOk, IsTrue, ◌↔◌};
 
 use std::alloc::Global;
 use std::collections::VecDeque;
@@ -92,8 +92,8 @@ impl Node {
         Ok(())
     }
 
-    /// Takes the first item, where there is one. It gives memory back once less than a quarter of the chunk's room
-    /// is used, and takes none. `O(1)` amortised.
+    /// Takes the first item, where there is one. Once less than a quarter of the chunk's room is used, it
+    /// gives half of that back, where a smaller block can be had. It needs no memory. `O(1)` amortised.
     pub fn pop(&mut self) -> Option<Value>
         ensures item { result ≡ slice_get self.old.items 0 }
         ensures rest { self.new ≡ record self.old { items = drop 1 self.old.items } }

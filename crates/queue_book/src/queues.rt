@@ -1,14 +1,14 @@
 // The hyperqueues of a run.
-ghost use Rattle.std.specs.Prelude.{◌≡◌, ◌≢◌, ℕ, ◌+◌, ◌≤◌, true, false, [], List, Option, Some, None, IfOk, IfErr, OnOk, OnErr, length, map, slice_get};
+ghost use Rattle.std.specs.Prelude.{◌≡◌, ℕ, ◌+◌, ◌≤◌, true, false, [], Option, Some, None, IfOk, IfErr, OnOk, OnErr, length, slice_get};
 ghost use Rattle.std.specs.Option.{ForSome};
 ghost use Rattle.swan_model.specs.declared.plan.TheConstants.{FIRST_ITEMS_MOST};
 ghost use Rattle.swan_model.specs.declared.rights.Mode.TheVariants.{Push, Pop};
 ghost use Rattle.swan_model.specs.declared.script.Deed.TheVariants as deed;
 ghost use Rattle.swan_model.specs.declared.script.Script.{Script};
 ghost use Rattle.swan_model.specs.Lawful.{IsLawful};
-ghost use Rattle.swan_model.specs.QueueFollows.{next_queue_deed, origin_in, AreByEnds, IsNextAbout, IsNextSpawn};
-ghost use Rattle.swan_model.specs.QueueState.{active, after_back, after_create, after_create_root, after_deed, after_finish, after_lend, after_spawn, after_take_rest, ActiveFrame, IsUntouched, Lent, LentEnd, MayAct, QueueState};
-ghost use Rattle.queue_book.specs.Asks.{DEEDS_MOST, HasRoom, IsLeft, is_emptied, IsOnTurn, IsRecorded, LentEnds, MayDo, MayJoin, MayLook, MaySpawn, MayUse, OnNext};
+ghost use Rattle.swan_model.specs.QueueFollows.{next_queue_deed, AreByEnds, IsNextAbout, IsNextSpawn};
+ghost use Rattle.swan_model.specs.QueueState.{active, after_back, after_create, after_create_root, after_deed, after_finish, after_lend, after_spawn, after_take_rest, ActiveFrame, IsUntouched, LentEnd, QueueState};
+ghost use Rattle.queue_book.specs.Asks.{HasRoom, IsLeft, is_emptied, IsOnTurn, IsRecorded, MayDo, MayJoin, MayLook, MaySpawn, MayUse, OnNext};
 ghost use Rattle.queue_book.specs.Ends.{segment_queue};
 ghost use Rattle.queue_book.specs.Tells.{OnQueue, IsPopped, after_pop, IsTested, after_test, rest_of};
 

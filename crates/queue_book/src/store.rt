@@ -1,5 +1,5 @@
 // What hyperqueues are kept in.
-ghost use Rattle.std.specs.Prelude.{◌≡◌, ℕ, ◌+◌, ◌<◌, Option, length, IfOk, OnOk};
+ghost use Rattle.std.specs.Prelude.{◌≡◌, ◌+◌, ◌<◌, Option, length, IfOk, OnOk};
 ghost use Rattle.swan_model.specs.declared.script.Script.{Script};
 ghost use Rattle.swan_model.specs.QueueState.{new_state};
 ghost use Rattle.queue_book.specs.Asks.{QUEUES_MOST};

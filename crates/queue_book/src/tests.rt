@@ -1,4 +1,4 @@
-// Calls on queues of a run with the free name, with the answers worked out by hand. Each helper below makes one call, and
+// Calls on queues of a run with the free name, with the answers worked out by hand. Each helper makes its call, and
 // fails where the answer is another one; so the state after it is known.
 ghost use Rattle.std.specs.Prelude.{◌≡◌, true, [], ◌∷◌, None, IfOk, OnOk};
 ghost use Rattle.swan_model.specs.declared.rights.Mode.TheVariants.{Push, Pop};
@@ -173,7 +173,7 @@ fn accepts(queues: &mut BookQueues, frame: u64, ends: NoEnds) -> Result<(), Fail
     }
 }
 
-/// Ends a frame.
+/// Syncs and ends a frame.
 #[tactic(auto, using(crate::proofs::Allowing::joined_by_test))]
 fn finish(queues: &mut BookQueues, frame: u64)
     requires free { queues.old.name ≡ None }
@@ -232,7 +232,7 @@ fn two_pushers_in_serial_order(rt: HostRuntime) -> Result<(), Fail> {
 }
 
 #[test]
-fn a_root_queue_and_its_pusher(rt: HostRuntime) -> Result<(), Fail> {
+fn first_items_are_popped_while_a_pusher_is_active(rt: HostRuntime) -> Result<(), Fail> {
     let mut queues = free(rt.alloc());
     create_root(&mut queues, rt.alloc(), 1)?;
     spawn(&mut queues, 0, 1, 0, Mode::Push)?;
@@ -243,7 +243,7 @@ fn a_root_queue_and_its_pusher(rt: HostRuntime) -> Result<(), Fail> {
 }
 
 #[test]
-fn three_levels(rt: HostRuntime) -> Result<(), Fail> {
+fn items_of_a_grandchild_come_between_those_of_its_parent(rt: HostRuntime) -> Result<(), Fail> {
     let mut queues = free(rt.alloc());
     create(&mut queues, 0, 0)?;
     push(&mut queues, 0, 0, 1)?;
@@ -286,7 +286,7 @@ fn a_pusher_between_two_poppers(rt: HostRuntime) -> Result<(), Fail> {
 }
 
 #[test]
-fn a_child_makes_a_queue(rt: HostRuntime) -> Result<(), Fail> {
+fn a_queue_of_a_child_ends_with_it_and_its_number_stays_taken(rt: HostRuntime) -> Result<(), Fail> {
     let mut queues = free(rt.alloc());
     create(&mut queues, 0, 0)?;
     spawn(&mut queues, 0, 1, 0, Mode::Push)?;
@@ -305,7 +305,7 @@ fn a_child_makes_a_queue(rt: HostRuntime) -> Result<(), Fail> {
 }
 
 #[test]
-fn items_of_a_sibling_with_an_idle_child(rt: HostRuntime) -> Result<(), Fail> {
+fn a_child_that_pushes_nothing_hides_no_items(rt: HostRuntime) -> Result<(), Fail> {
     let mut queues = free(rt.alloc());
     create(&mut queues, 0, 0)?;
     spawn(&mut queues, 0, 1, 0, Mode::Push)?;

@@ -1,10 +1,11 @@
 use Rattle.std.proofs.Common.{◌≡◌, ℕ, true, sym, ap, subst, ◌∙◌}
 use Rattle.swan_model.specs.Lawful.{IsLawful}
 use Rattle.swan_model.specs.QueueFollows.{AreByEnds}
-use Rattle.swan_model.specs.QueueState.{ActiveFrame, QueueState, after_back}
+use Rattle.swan_model.specs.QueueState.{ActiveFrame, QueueState, active, after_back}
 use Rattle.queue_book.specs.BookView.{BookView}
 use Rattle.queue_book.specs.Whole.{IsBook}
-use Rattle.queue_book.proofs.BookLent.{book_back, by_none, called, only_active, recorded}
+use Rattle.queue_book.proofs.BookLent.{book_back, by_none, called, recorded}
+use Rattle.queue_book.proofs.Frames.{same_frame}
 use Rattle.queue_book.specs.Asks.{IsRecorded, OnNext}
 use Rattle.queue_book.specs.NoEnds.{ends_of}
 use Rattle.queue_book.specs.Live.{is_lent_with, kept_of}
@@ -54,7 +55,7 @@ returns-clause-by_ends c =
     let lent : is_lent_with (kept_of frames n) d ≡ true = ap (is_lent_with (kept_of frames n)) (sym c.deeds.ensures) ∙ sym c.is_lent.ensures ∙ c.if-not-is_lent.false in
     let told = recorded state frames is.live n d path lent in
     let P : BookView → Type 0 = λ v. OnNext v.name v.state n (λ s f. IsLawful s → AreByEnds s f.path f.deeds d) in
-    subst P c.self.view_is (λ s named f live lawful. by_none s f.path f.deeds d (ap (λ (g : ActiveFrame). g.deeds) (only_active state n f told.0.frame live told.0.live) ∙ told.1))
+    subst P c.self.view_is (λ s named f live lawful. by_none s f.path f.deeds d (ap (λ (g : ActiveFrame). g.deeds) (same_frame (active state n) f told.0.frame live told.0.live) ∙ told.1))
 
 pub returns-clause-ok : goal.returns-clause-ok
 returns-clause-ok c =

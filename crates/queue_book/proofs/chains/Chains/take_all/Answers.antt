@@ -19,7 +19,7 @@ loop-node-preserved c = record {
   kept = λ at lines is none.
       let was = c.loop-node.invariant.kept at lines is none in
       let now = was.left.now in
-      moved_drop at lines c.args.queue c.loop-node.self.heads.items c.drop_first.new.self.heads.items c.loop-node.self.nodes c.drop_first.new.self.nodes
+      moved_drop at lines c.args.queue c.args.self.now.nodes c.loop-node.self.heads.items c.drop_first.new.self.heads.items c.loop-node.self.nodes c.drop_first.new.self.nodes c.in-Some.ensures.fewer
       c.loop-node.items c.move_to.new.items was c.in-Some.node (c.in-Some.ensures.first at now was.left.kept) c.in_ok-move_to.ensures
       (c.in-Some.ensures.dropped at now was.left.kept (c.in-Some.ensures.unowned at now was.left.kept none));
 }

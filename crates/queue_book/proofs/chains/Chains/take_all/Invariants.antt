@@ -9,7 +9,7 @@ abbrev pub invariant-loop-node : goal.invariant-loop-node
 invariant-loop-node l = record {
   same : length l.self.heads.items ≡ length l.initial.self.heads.items;
   kept : (at : ℕ → ℕ → Option ℕ) (lines : ℕ → Chunks) → AreChained at l.initial.self.heads.items l.initial.self.nodes lines
-      → ((number : ℕ) → at number l.queue ≡ None) → AreMoved at lines l.queue l.self.heads.items l.self.nodes l.items;
+      → ((number : ℕ) → at number l.queue ≡ None) → AreMoved at lines l.queue l.initial.self.nodes l.self.heads.items l.self.nodes l.items;
 }
 
 abbrev pub decreases-loop-node : goal.decreases-loop-node

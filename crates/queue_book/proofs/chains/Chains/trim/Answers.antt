@@ -22,6 +22,6 @@ loop-front-preserved c = record {
       let first = c.in-Some-drop_first.ensures.first at now was.left.kept in
       let are : chunk_of node ∷ drop 1 (now c.args.queue) ≡ spent.0 ∷ spent.1 = sym first ∙ spent.2 in
       let chunk_is : chunk_of node ≡ spent.0 = cc in
-      trimmed_drop at lines c.args.queue c.loop-front.self.heads.items c.drop_first.new.self.heads.items c.loop-front.self.nodes c.drop_first.new.self.nodes
+      trimmed_drop at lines c.args.queue c.args.self.now.nodes c.loop-front.self.heads.items c.drop_first.new.self.heads.items c.loop-front.self.nodes c.drop_first.new.self.nodes c.in-Some-drop_first.ensures.fewer
       was spent.0 spent.1 spent.2 spent.3 (c.in-Some-drop_first.ensures.dropped at now was.left.kept (ap (λ (ch : Chunk). ch.owner) chunk_is ∙ spent_closed spent.0 spent.3));
 }

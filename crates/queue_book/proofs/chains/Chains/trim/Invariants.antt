@@ -9,7 +9,7 @@ abbrev pub invariant-loop-front : goal.invariant-loop-front
 invariant-loop-front l = record {
   same : length l.self.heads.items ≡ length l.initial.self.heads.items;
   kept : (at : ℕ → ℕ → Option ℕ) (lines : ℕ → Chunks) → AreChained at l.initial.self.heads.items l.initial.self.nodes lines
-      → AreTrimmed at lines l.queue l.self.heads.items l.self.nodes;
+      → AreTrimmed at lines l.queue l.initial.self.nodes l.self.heads.items l.self.nodes;
 }
 
 abbrev pub decreases-loop-front : goal.decreases-loop-front
