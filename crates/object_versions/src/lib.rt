@@ -15,7 +15,8 @@
 //! Promised, and proved of each call: what it answers and what it leaves, exactly; and that a frame that is
 //! waited for has the object itself and may write it. And whatever the lawful script and the reading that the
 //! calls follow, what a frame reads is the value that the object has at the frame's point. The laws say which
-//! entries need no call, how the giving of a child's objects begins, and when a frame may end. After want of memory nothing is said of the objects.
+//! entries need no call, how the giving of a child's objects begins, and when a frame may end. After want of
+//! memory nothing is said of the objects.
 //!
 //! Inside, a version is a node of a slab, with the number of places that refer to it. A place refers to the
 //! version that was given, to the present one and to the one that the frame owes. So all who have a version

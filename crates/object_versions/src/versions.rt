@@ -148,7 +148,7 @@ impl Versions {
 
     /// Whether each version that the frame was given to read has its value: Ok exactly where none is owed any
     /// more, and else Err with the frame that owes the one of the lowest place. `O(k + log n)` for k objects
-    /// of the frame and n places of all frames; it takes no memory.
+    /// of the frame; it takes no memory.
     pub fn ready(&self, frame: u64) -> Result<(), u64>
         ensures ok { OnOk result ((place owing : ℕ) → ¬ Awaits self.now frame place owing) }
         ensures err { IfErr result (λ owing. (place : ℕ) × (awaits : Awaits self.now frame place owing)
@@ -211,8 +211,8 @@ impl Versions {
     /// what the frame has is forgotten. What frame 0 has stays. It may be called where `ready` answers Ok and the
     /// frame's children have ended, for then each version of the frame has its value: the law
     /// `ended_children_leave_all_settled`. Err is want of memory for a copy of a value. For k objects of the frame
-    /// settling is `O(k + log n)`, no matter how many others have the frame's versions, and
-    /// forgetting is k removals of `O(log n)` each.
+    /// settling is `O(k + log n)`, no matter how many others have the frame's versions, and forgetting is k
+    /// removals of `O(log n)` each.
     pub fn finish(&mut self, frame: u64) -> Result<(), NoMemory>
         requires settled { IsSettled self.old frame }
         ensures ok { OnOk result (self.new ≡ after_finish self.old frame) }
