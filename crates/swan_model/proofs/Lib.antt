@@ -14,3 +14,4 @@ pub mod ScriptSteps
 pub mod TaskEntries
 pub mod Times
 pub mod Uses
+pub mod Working

@@ -8,6 +8,7 @@ pub mod Roots
 pub mod SerialState
 pub mod SerialStep
 pub mod Elision
+pub mod Work
 pub mod Texts
 pub mod Lines
 pub mod Script

@@ -1,7 +1,9 @@
 // Bodies: what tasks do, step by step.
-ghost use Rattle.std.specs.Prelude.{◌≡◌, ℕ, IfOk};
+ghost use Rattle.std.specs.Prelude.{◌≡◌, ℕ, suc, ◌<◌, ◌≤◌, min, IfOk, IfSome, IfNone};
+ghost use Rattle.swan_model.specs.Work.{ask_after, AreWork, local_after};
 ghost use Rattle.swan_model.specs.declared.body.Answer.{Answer};
 ghost use Rattle.swan_model.specs.declared.body.Ask.{Ask};
+ghost use Rattle.swan_model.specs.declared.body.Ask.TheVariants as ask;
 
 use crate::{Gives, NoMemory, Trouble, Value};
 use std::alloc::Global;
@@ -62,6 +64,26 @@ pub enum Answer {
     Place(u32),
 }
 
+/// A step that asked for something other than work.
+#[derive(Drop)]
+pub struct Stop<L> {
+    /// What it asks for.
+    pub ask: Ask<L>,
+    /// Where it stands in the program.
+    pub place: u64,
+}
+
+/// What steps of work in a row leave.
+#[derive(Drop)]
+pub struct Worked<L> {
+    /// The local after the last step.
+    pub local: L,
+    /// How many steps were work.
+    pub works: u64,
+    /// The step after them, where one was taken that asked for something other than work.
+    pub stop: Option<Stop<L>>,
+}
+
 /// The program of all tasks of a run. A task's own state is its local.
 pub trait Body: Drop + Send + Sync {
     /// What one task keeps between its steps.
@@ -83,6 +105,57 @@ pub trait Body: Drop + Send + Sync {
         fuel: u64,
     ) -> Result<(Self::Local, Ask<Self::Local>), NoMemory>
         ensures { IfOk result (λ r. (r.0, r.1) ≡ next self.now local answer fuel) };
+
+    /// Takes steps of a task in a row, as long as each asks for work and the budget and the fuel last. The
+    /// first one is told this answer. Where a step asks for something else, its unit of fuel is taken too,
+    /// that step isn't counted among those of work, and its ask has had no effect. Once as many steps of work
+    /// as the budget are taken, no further step is asked; with fuel 0 none is.
+    ///
+    /// A body may have a loop of its own, which is owed the same clauses. This one takes a step by `advance`
+    /// for each step.
+    fn work(
+        &self,
+        alloc: Global,
+        local: Self::Local,
+        answer: Answer,
+        fuel: u64,
+        budget: u64,
+    ) -> Result<Worked<Self::Local>, NoMemory>
+        requires { 0 < budget }
+        ensures works { IfOk result (λ w. AreWork (next self.now) local answer fuel w.works) }
+        ensures all { IfOk result (λ w. IfNone w.stop (w.works ≡ min budget fuel)) }
+        ensures last { IfOk result (λ w. IfNone w.stop (w.local ≡ local_after (next self.now) local answer fuel w.works)) }
+        ensures stopped { IfOk result (λ w. IfSome w.stop (λ stop. w.works < min budget fuel)) }
+        ensures moved { IfOk result (λ w. IfSome w.stop (λ stop. w.local ≡ local_after (next self.now) local answer fuel (suc w.works))) }
+        ensures ask { IfOk result (λ w. IfSome w.stop (λ stop. stop.ask ≡ ask_after (next self.now) local answer fuel w.works)) }
+        ensures other { IfOk result (λ w. IfSome w.stop (λ stop. stop.ask ≡ ask.Work → ⊥)) }
+        ensures place { IfOk result (λ w. IfSome w.stop (λ stop. stop.place ≡ place_of self.now (local_after (next self.now) local answer fuel w.works))) }
+    {
+        let mut local = local;
+        let mut told = answer;
+        let most = budget.min(fuel);
+        for works in 0..most {
+            let place = self.place(&local);
+            let (moved, ask) = self.advance(alloc, local, told, fuel - works - 1)?;
+            local = moved;
+            told = Answer::Nothing;
+            match ask {
+                Ask::Work => {}
+                ask => {
+                    return Ok(Worked {
+                        local,
+                        works,
+                        stop: Some(Stop { ask, place }),
+                    });
+                }
+            }
+        }
+        Ok(Worked {
+            local,
+            works: most,
+            stop: None,
+        })
+    }
 
     /// Where in the program the step that comes next stands. It takes no memory.
     fn place(&self, local: &Self::Local) -> u64

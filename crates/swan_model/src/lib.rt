@@ -32,7 +32,7 @@ mod tests;
 mod text;
 mod value;
 
-pub use body::{Answer, Ask, Body, Child};
+pub use body::{Answer, Ask, Body, Child, Stop, Worked};
 pub use fault::{Fault, FaultKind, Faults, Trouble};
 pub use lines::{LINES_MOST, LinesAnswer, lines_of};
 pub use listed::Listed;
