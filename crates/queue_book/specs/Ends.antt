@@ -1,24 +1,15 @@
 -- What lent ends push and pop.
-use Rattle.std.specs.Prelude.{◌≡◌, ℕ, ◌<◌, true, false, Option, Some, None, slice_get, Bool}
+use Rattle.std.specs.Prelude.{◌≡◌, ℕ, ◌<◌, true, false, Some, slice_get, Bool}
 use Rattle.swan_model.specs.declared.origin.Origin.{Origin}
 use Rattle.swan_model.specs.declared.script.Deed.{Deed}
 use Rattle.swan_model.specs.declared.script.Deed.TheVariants as deed
 use Rattle.swan_model.specs.declared.script.Script.{Script}
 use Rattle.swan_model.specs.declared.value.Value.{Value}
-use Rattle.swan_model.specs.QueueFollows.{next_queue_deed, queue_time, origin_in}
-use Rattle.swan_model.specs.QueueState.{LentEnd, SegmentTag, first_of, pushed_by}
+use Rattle.swan_model.specs.QueueFollows.{next_queue_deed, queue_time}
+use Rattle.swan_model.specs.QueueState.{LentEnd}
+use Rattle.swan_model.specs.Segments.{segment_queue}
 use Rattle.swan_model.specs.Told.{count, pushes, taken}
 use Rattle.queue_book.specs.Asks.{LentEnds, is_end}
-
--- the queue to which a deed pushes
-abbrev pub pushed_to : Option Deed → Option Origin
-pushed_to (Some (deed.Push queue value)) = Some queue
-pushed_to _ = None
-
--- the queue of a segment
-abbrev pub segment_queue : Script → SegmentTag → Option Origin
-segment_queue s (first_of maker) = Some (origin_in s maker)
-segment_queue s (pushed_by path deeds) = pushed_to (next_queue_deed s path deeds)
 
 -- the ends have this one, to push to a queue or to pop from it
 pub record HasEnd (s : Script) (ends : LentEnds) (queue : ℕ) (is_producer : Bool) (origin : Origin) : Type 0 where

@@ -8,8 +8,8 @@ ghost use Rattle.swan_model.specs.declared.script.Script.{Script};
 ghost use Rattle.swan_model.specs.Lawful.{IsLawful};
 ghost use Rattle.swan_model.specs.QueueFollows.{next_queue_deed, AreByEnds, IsNextAbout, IsNextSpawn};
 ghost use Rattle.swan_model.specs.QueueState.{active, after_back, after_create, after_create_root, after_deed, after_finish, after_lend, after_spawn, after_take_rest, ActiveFrame, IsUntouched, LentEnd, QueueState};
+ghost use Rattle.swan_model.specs.Segments.{segment_queue};
 ghost use Rattle.queue_book.specs.Asks.{HasRoom, IsLeft, is_emptied, IsOnTurn, IsRecorded, MayDo, MayJoin, MayLook, MaySpawn, MayUse, OnNext};
-ghost use Rattle.queue_book.specs.Ends.{segment_queue};
 ghost use Rattle.queue_book.specs.Tells.{OnQueue, IsPopped, after_pop, IsTested, after_test, rest_of};
 
 use crate::{LocalEnds, Popped, QueueGive, Tested};

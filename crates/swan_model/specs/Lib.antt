@@ -1,7 +1,7 @@
 -- The book of the project: what a plan is, what its serial elision leaves and prints; from `Script` on, what `when`
--- means in a run out of order; and from `Readings` on, what renamed objects and hyperqueues keep of such a run, and
--- what it is that they follow a script. It is meant to be read in this order, from top to bottom, without any code
--- beside it.
+-- means in a run out of order; and from `Readings` on, what renamed objects and hyperqueues keep of such a run,
+-- what it is that they follow a script, and what a segment of a hyperqueue owes. It is meant to be read in this order,
+-- from top to bottom, without any code beside it.
 pub mod Values
 pub mod Rights
 pub mod Roots
@@ -24,3 +24,4 @@ pub mod VersionsFollow
 pub mod PathOrder
 pub mod QueueState
 pub mod QueueFollows
+pub mod Segments

@@ -5,7 +5,7 @@
 //! and in `specs/` the definitions that a reader must believe: values and plans, rights, the serial
 //! state, the serial step, the elision, and the texts that are printed of its outcome; and then, for
 //! runs out of order, scripts, what they tell, serial time, readings and ripe items, and what renamed objects
-//! and hyperqueues keep of such a run. They are meant to be read in that order, without any code beside them. `RunName` is a name that means a script.
+//! and hyperqueues keep of such a run, and what a segment of a hyperqueue owes. They are meant to be read in that order, without any code beside them. `RunName` is a name that means a script.
 //!
 //! The crate runs nothing. Each of its calls is proved to answer exactly what its clauses say; the
 //! one answer that is free everywhere is want of memory.
