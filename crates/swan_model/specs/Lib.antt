@@ -1,16 +1,19 @@
--- The book of the project: what a plan is, what its serial elision leaves and prints; from `Script` on, what `when`
--- means in a run out of order; and from `Readings` on, what renamed objects and hyperqueues keep of such a run,
--- what it is that they follow a script, and what a segment of a hyperqueue owes. It is meant to be read in this order,
--- from top to bottom, without any code beside it.
+-- The book of the project. It is meant to be read from top to bottom, without any code beside it, and has two shelves.
+--
+-- The first shelf is what the headline speaks of: what a plan is, what its serial elision leaves, and what is printed of that.
+-- Who wants to know what is promised of the bytes that come out reads these eight files and no more.
 pub mod Values
 pub mod Rights
 pub mod Roots
 pub mod SerialState
 pub mod SerialStep
 pub mod Elision
-pub mod Work
 pub mod Texts
 pub mod Lines
+-- What many steps of a task's own work in a row are, for the call of a body that takes them.
+pub mod Work
+-- The second shelf is for runs out of order. First what `when` means there: what a script is and tells, and where in serial
+-- order the tasks of such a run stand.
 pub mod Script
 pub mod Told
 pub mod SerialTime
@@ -18,6 +21,8 @@ pub mod Granted
 pub mod Nested
 pub mod Ripe
 pub mod Lawful
+-- Then what renamed objects and hyperqueues keep of such a run, what it is that they follow a script, and what a segment of a
+-- hyperqueue owes.
 pub mod Readings
 pub mod Versions
 pub mod VersionsFollow

@@ -2,10 +2,12 @@
 //!
 //! A program is a tree of tasks over objects and hyperqueues. Its meaning is its serial elision, in
 //! which each spawn is an ordinary call. This crate has the types that every other crate speaks of,
-//! and in `specs/` the definitions that a reader must believe: values and plans, rights, the serial
-//! state, the serial step, the elision, and the texts that are printed of its outcome; and then, for
-//! runs out of order, scripts, what they tell, serial time, readings and ripe items, and what renamed objects
-//! and hyperqueues keep of such a run, and what a segment of a hyperqueue owes. They are meant to be read in that order, without any code beside them. `RunName` is a name that means a script.
+//! and in `specs/` the definitions that a reader must believe, on two shelves. The first has what the
+//! headline speaks of: values and plans, rights, the serial state, the serial step, the elision, and the
+//! texts that are printed of its outcome. The second is for runs out of order: scripts, what they tell,
+//! serial time, readings and ripe items, and what renamed objects and hyperqueues keep of such a run.
+//! They are meant to be read in the order of `specs/Lib.antt`, without any code beside them. `RunName`
+//! is a name that means a script.
 //!
 //! The crate runs nothing. Each of its calls is proved to answer exactly what its clauses say; the
 //! one answer that is free everywhere is want of memory.
