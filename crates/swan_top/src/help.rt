@@ -11,9 +11,9 @@ elision of the job writes, in which each spawn is an ordinary call.
   swan check JOB
       reads and checks a job, and writes its text in the one canonical form
   swan elide FUEL JOB INPUT*
-      runs the job's serial elision, with FUEL steps at most
+      runs the job's serial elision, with FUEL units of fuel
   swan run WORKERS FUEL JOB INPUT*
-      runs the job with WORKERS workers, which is 1 in this version
+      runs the job with WORKERS workers, which is 1 in this version, and FUEL units of fuel
   swan --help
       writes this text
   swan --version
@@ -28,5 +28,5 @@ command, 3 where the job is refused, 4 where a file can't be read or is too long
 can't be written, 6 where memory runs out, 7 where the inputs are refused.
 
 For example: swan run 1 100 examples/hello.swan
-The language of jobs is explained in docs/LANGUAGE.md.
+The language of jobs is explained in docs/LANGUAGE.md, and docs/swan.1 is the manual page.
 ";
