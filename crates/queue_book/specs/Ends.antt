@@ -9,14 +9,14 @@ use Rattle.swan_model.specs.QueueFollows.{next_queue_deed, queue_time}
 use Rattle.swan_model.specs.QueueState.{LentEnd}
 use Rattle.swan_model.specs.Segments.{segment_queue}
 use Rattle.swan_model.specs.Told.{count, pushes, taken}
-use Rattle.queue_book.specs.Asks.{LentEnds, is_end}
+use Rattle.queue_book.specs.Asks.{LentEnds, is_end_of}
 
 -- the ends have this one, to push to a queue or to pop from it
 pub record HasEnd (s : Script) (ends : LentEnds) (queue : ℕ) (is_producer : Bool) (origin : Origin) : Type 0 where
   pub index : ℕ
   pub end : LentEnd
   pub stands : slice_get ends.list index ≡ Some end
-  pub is : is_end queue is_producer end ≡ true
+  pub is : is_end_of queue is_producer end ≡ true
   pub of : segment_queue s end.tag ≡ Some origin
 
 -- a push by such an end is the frame's next queue deed
