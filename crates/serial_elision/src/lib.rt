@@ -57,7 +57,6 @@ mod store;
 #[cfg(test)]
 mod tests;
 mod text;
-mod work;
 
 use activation::Activation;
 use cell::Cell;

@@ -1,6 +1,6 @@
 // The serial state, and the serial step.
 ghost use Rattle.std.specs.Prelude.{◌≡◌, ℕ, suc, ◌+◌, ◌^◌, ◌<◌, ◌++◌, ◌∷◌, [], IfOk, OnOk, IsTrue, ◌↔◌};
-ghost use Rattle.swan_model.specs.SerialStep.{effect};
+ghost use Rattle.swan_model.specs.SerialStep.{after, effect, faults};
 ghost use Rattle.swan_model.specs.declared.plan.TheConstants.{FUEL_MOST};
 ghost use Rattle.serial_elision.specs.Bounds.{HasPaid};
 ghost use Rattle.serial_elision.specs.Effects.{IsEffect, settled};
@@ -10,7 +10,9 @@ use crate::spawn::spawn;
 use crate::{Activation, Effect, Stack, Store};
 use std::alloc::Global;
 use std::marker::Model;
-use swan_model::{Answer, Ask, Body, Fault, FaultKind, Faults, NoMemory, Path};
+use swan_model::{
+    Answer, Ask, Body, FUEL_MOST, Fault, FaultKind, Faults, NoMemory, Path, Worked,
+};
 
 /// The serial state. Contracts see it as the state of the definitions.
 #[derive(Drop)]
@@ -108,6 +110,34 @@ impl<L: Drop> State<L> {
         }
     }
 
+    /// Ends a task that was taken off the stack by a fault, in one step. `O(1)` amortised.
+    fn fail(&mut self, path: Path, place: u64, kind: FaultKind) -> Result<(), NoMemory>
+        requires { self.old.steps + 1 < 2 ^ 64 }
+        ensures { OnOk result (self.new ≡ after self.old self.old.stack path place (faults kind)) }
+    {
+        self.steps += 1;
+        self.book(path, place, kind)
+    }
+
+    /// Gives an ask its effect, and ends its step. Its activation was taken off the stack, and has paid for
+    /// the step.
+    #[inline(never)]
+    fn finish(
+        &mut self,
+        alloc: Global,
+        mut top: Activation<L>,
+        place: u64,
+        ask: Ask<L>,
+    ) -> Result<(), NoMemory>
+        requires paid { HasPaid top }
+        requires steps { self.old.steps + 1 < 2 ^ 64 }
+        ensures { OnOk result (self.new ≡ after self.old self.old.stack top.path place
+            (effect self.old.steps self.old.store top ask)) }
+    {
+        let effect = self.perform(alloc, &mut top, ask)?;
+        self.settle(top, place, effect)
+    }
+
     /// Whether no activation is left. `O(1)`.
     pub fn is_over(&self) -> bool
         ensures { IsTrue result ↔ (self.now.stack ≡ []) }
@@ -125,15 +155,29 @@ impl<L: Drop> State<L> {
         let Some(top) = self.stack.pop() else {
             return Ok(());
         };
-        if top.fuel == 0 {
-            let place = body.place(&top.local);
-            return self.settle(top, place, Effect::Faulted(FaultKind::Fuel));
-        }
-        let worked = top.work(alloc, body)?;
-        self.steps += worked.works;
-        let place = worked.place;
-        let mut top = worked.top;
-        let effect = self.perform(alloc, &mut top, worked.ask)?;
-        self.settle(top, place, effect)
+        let Activation {
+            path,
+            local,
+            answer,
+            fuel,
+            holdings,
+            children,
+        } = top;
+        let row = body.work(alloc, local, answer, fuel, FUEL_MOST)?;
+        let Worked { local, works, stop } = row;
+        self.steps += works;
+        let Some(stop) = stop else {
+            let place = body.place(&local);
+            return self.fail(path, place, FaultKind::Fuel);
+        };
+        let top = Activation {
+            path,
+            local,
+            answer: Answer::Nothing,
+            fuel: fuel - works - 1,
+            holdings,
+            children,
+        };
+        self.finish(alloc, top, stop.place, stop.ask)
     }
 }
