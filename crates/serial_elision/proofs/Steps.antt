@@ -69,11 +69,6 @@ module _ {B L : Type 0} (G : Ghosts B L) where
   abbrev pub stepped : B → Activation L → L × Ask L
   stepped body top = G.next body top.local top.answer (top.fuel - 1)
 
-  -- where no activation is left there is no step
-  pub step-over : (body : B) (s : State L) (stack : List (Activation L)) → s.stack ≡ [] → stack ≡ s.stack → record s { stack = stack } ≡ step G body s
-  step-over body s stack over same =
-      ap {B = State L} (λ rest. record s { stack = rest }) same ∙ ap (step_on G body s) (sym over)
-
   -- where there is fuel, the effect is that of the ask, whatever the activation was told before
   pub effect-paid : (body : B) (n : ℕ) (store : Store) (top paid : Activation L) (asked : Ask L) → (top.fuel ≡ 0 → ⊥) → paid ≡ told (moved top (stepped body top).0) answer.Nothing → asked ≡ (stepped body top).1 → effect n store paid asked ≡ effect_of G body n store top
   effect-paid body n store top paid asked fuel moved_is asked_is =

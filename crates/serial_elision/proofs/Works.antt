@@ -1,14 +1,16 @@
 -- Steps of work in a row: the state goes on with the task that worked, and nothing else of it changes.
-use Rattle.std.proofs.Common.{◌≡◌, ℕ, zero, suc, ◌+◌, ◌-◌, ◌<◌, ◌≤◌, List, ◌∷◌, true, nat_eq, cond, rules, tests, sym, ap, subst, ◌∙◌, refl, arith, Option, Some, None}
+use Rattle.std.proofs.Common.{◌≡◌, ℕ, zero, suc, ◌+◌, ◌-◌, ◌<◌, ◌≤◌, List, ◌∷◌, true, nat_eq, cond, rules, tests, sym, ap, subst, ◌∙◌, refl, arith, add-suc, add-zero, Option, Some, None}
 use Rattle.std.specs.Prelude.{IfSome, IfNone, min}
+use Rattle.swan_model.specs.declared.body.Answer.{Answer}
 use Rattle.swan_model.specs.declared.body.Answer.TheVariants as answer
 use Rattle.swan_model.specs.declared.body.Ask.{Ask}
 use Rattle.swan_model.specs.declared.body.Ask.TheVariants as ask
 use Rattle.swan_model.specs.declared.body.Body.{Ghosts}
 use Rattle.swan_model.specs.declared.body.Stop.{Stop}
 use Rattle.swan_model.specs.declared.body.Worked.{Worked}
+use Rattle.swan_model.specs.declared.fault.FaultKind.{FaultKind}
 use Rattle.swan_model.specs.declared.fault.FaultKind.TheVariants as kind
-use Rattle.swan_model.specs.SerialState.{Activation, State}
+use Rattle.swan_model.specs.SerialState.{Activation, State, Store}
 use Rattle.swan_model.specs.SerialStep.{Effect, goes_on, spawns, ends, faults, after, effect, effect_of, moved, step, step_on, told}
 use Rattle.swan_model.specs.Work.{ask_after, AreWork, local_after, told_after}
 use Rattle.serial_elision.specs.Working.{after_steps}
@@ -111,3 +113,58 @@ module _ {B L : Type 0} (G : Ghosts B L) where
       let all : w.works ≡ min budget a.fuel = none-has (w.works ≡ min budget a.fuel) w.stop is row.all in
       let last : w.local ≡ local_after (G.next body) a.local a.answer a.fuel w.works = none-has (w.local ≡ local_after (G.next body) a.local a.answer a.fuel w.works) w.stop is row.last in
       dry-step body s a below w.works place stack (omega arith) row.works (place_is ∙ ap (G.place_of body) last)
+
+  -- n steps, and then k more
+  after_steps-more : (body : B) (s : State L) (n k : ℕ) → after_steps G body (after_steps G body s n) k ≡ after_steps G body s (n + k)
+  after_steps-more body s n zero = ap (after_steps G body s) (sym (add-zero n))
+  after_steps-more body s n (suc k) =
+      ap (step G body) (after_steps-more body s n k) ∙ ap (after_steps G body s) (sym (add-suc n k))
+
+  -- A turn so far: this is the state with its activation, which has so much fuel left after so many rows.
+  pub record HasTurned (body : B) (s now : State L) (rows left fuel : ℕ) : Type 0 where
+    pub steps : ℕ
+    pub is_now : now ≡ after_steps G body s steps
+    pub bound : rows + left ≤ fuel
+    pub count : now.steps + left ≤ s.steps + fuel
+
+  -- a state that some steps have led to, one at least
+  abbrev pub IsLater : B → State L → State L → Type 0
+  IsLater body s new = (n : ℕ) × (new ≡ after_steps G body s (suc n))
+
+  later : (body : B) (s now new : State L) (n k : ℕ) → now ≡ after_steps G body s n → new ≡ after_steps G body now (suc k) → IsLater body s new
+  later body s now new n k is_now is =
+      (n + k, is ∙ ap (λ t. after_steps G body t (suc k)) is_now ∙ ap (step G body) (after_steps-more body s n k))
+
+  -- an ask that the store has answered: the turn goes on
+  pub told-row : (body : B) (s now : State L) (a : Activation L) (below : List (Activation L)) (budget rows fuel : ℕ) (w : Worked L) (stop : Stop L) (said : Answer) (store : Store) → HasTurned body s now rows a.fuel fuel → now.stack ≡ a ∷ below → HasRow body a budget w → w.stop ≡ Some stop → effect (now.steps + w.works) now.store (record a { local = w.local; answer = answer.Nothing; fuel = a.fuel - w.works - 1 }) stop.ask ≡ goes_on (record a { local = w.local; answer = said; fuel = a.fuel - w.works - 1 }) store → HasTurned body s (record { steps = now.steps + w.works + 1; stack = (record a { local = w.local; answer = said; fuel = a.fuel - w.works - 1 }) ∷ below; store = store; faults = now.faults }) (rows + 1) (a.fuel - w.works - 1) fuel
+  told-row body s now a below budget rows fuel w stop said store so stack row stopped is =
+      let less : w.works < min budget a.fuel = some-has (λ (stop : Stop L). w.works < min budget a.fuel) w.stop stop stopped row.stopped in
+      let more = later body s now _ so.steps w.works so.is_now (ap (after (on now w.works below) below a.path stop.place) (sym is) ∙ asked-row body now a below budget w stop stack row stopped) in
+      record {
+        steps = suc more.0;
+        is_now = more.1;
+        bound = omega (arith, so.bound);
+        count = omega (arith, so.count);
+      }
+
+  -- an ask by which the task ends with a fault
+  pub fault-row : (body : B) (s now : State L) (a : Activation L) (below : List (Activation L)) (budget rows fuel : ℕ) (w : Worked L) (stop : Stop L) (kind : FaultKind) (store : Store) → HasTurned body s now rows a.fuel fuel → now.stack ≡ a ∷ below → HasRow body a budget w → w.stop ≡ Some stop → effect (now.steps + w.works) now.store (record a { local = w.local; answer = answer.Nothing; fuel = a.fuel - w.works - 1 }) stop.ask ≡ faults kind → store ≡ now.store → IsLater body s (after (record now { steps = now.steps + w.works; stack = below; store = store }) below a.path stop.place (faults kind))
+  fault-row body s now a below budget rows fuel w stop kind store so stack row stopped is same =
+      later body s now _ so.steps w.works so.is_now (ap (λ o. after (record now { steps = now.steps + w.works; stack = below; store = o }) below a.path stop.place (faults kind)) same ∙ ap (after (on now w.works below) below a.path stop.place) (sym is) ∙ asked-row body now a below budget w stop stack row stopped)
+
+  -- an ask about the task itself
+  pub own-row : (body : B) (s now : State L) (a : Activation L) (below : List (Activation L)) (budget rows fuel : ℕ) (w : Worked L) (stop : Stop L) (asks : Ask L) (store : Store) → HasTurned body s now rows a.fuel fuel → now.stack ≡ a ∷ below → HasRow body a budget w → w.stop ≡ Some stop → stop.ask ≡ asks → store ≡ now.store → IsLater body s (after (record now { steps = now.steps + w.works; stack = below; store = store }) below a.path stop.place (effect (now.steps + w.works) store (record a { local = w.local; answer = answer.Nothing; fuel = a.fuel - w.works - 1 }) asks))
+  own-row body s now a below budget rows fuel w stop asks store so stack row stopped is same =
+      let paid : Activation L = record a { local = w.local; answer = answer.Nothing; fuel = a.fuel - w.works - 1 } in
+      later body s now _ so.steps w.works so.is_now (ap (λ o. after (record now { steps = now.steps + w.works; stack = below; store = o }) below a.path stop.place (effect (now.steps + w.works) o paid asks)) same ∙ ap (λ asks. after (on now w.works below) below a.path stop.place (effect (now.steps + w.works) now.store paid asks)) (sym is) ∙ asked-row body now a below budget w stop stack row stopped)
+
+  -- no fuel is left after a row
+  pub dry-end : (body : B) (s now : State L) (a : Activation L) (below : List (Activation L)) (budget rows fuel : ℕ) (w : Worked L) (place : ℕ) → HasTurned body s now rows a.fuel fuel → now.stack ≡ a ∷ below → HasRow body a budget w → w.stop ≡ None → a.fuel ≤ budget → place ≡ G.place_of body w.local → IsLater body s (after (on now w.works below) below a.path place (faults kind.Fuel))
+  dry-end body s now a below budget rows fuel w place so stack row stopped most place_is =
+      later body s now _ so.steps w.works so.is_now (dry-row body now a below budget w place stack row stopped most place_is)
+
+  -- and none is left after the last
+  pub last-end : (body : B) (s now : State L) (a : Activation L) (below : List (Activation L)) (rows fuel place : ℕ) → HasTurned body s now rows a.fuel fuel → now.stack ≡ a ∷ below → a.fuel ≡ 0 → place ≡ G.place_of body a.local → IsLater body s (after (record now { stack = below }) below a.path place (faults kind.Fuel))
+  last-end body s now a below rows fuel place so stack dry place_is =
+      let zero_more : now.steps ≡ now.steps + 0 = omega arith in
+      later body s now _ so.steps 0 so.is_now (ap (λ k. after (record now { steps = k; stack = below }) below a.path place (faults kind.Fuel)) zero_more ∙ dry-step body now a below 0 place stack (sym dry) tt place_is)
