@@ -1,0 +1,106 @@
+// A body for tests: its tasks go through one list of asks.
+ghost use Rattle.std.specs.Prelude.{◌≡◌, ℕ, ◌+◌, IfOk, pos, if◌then◌else◌, slice_get};
+ghost use Rattle.std.specs.Option.{option_map_or};
+ghost use Rattle.swan_model.specs.declared.body.Answer.TheVariants.{Start, Nothing, Item, Flag, Place};
+ghost use Rattle.swan_model.specs.declared.body.Ask.TheVariants.{Push, Finish};
+ghost use Rattle.swan_model.specs.declared.value.Value.TheVariants.{Int};
+
+use std::alloc::Global;
+use swan_model::{Answer, Ask, Body, Child, Give, Gives, NoMemory, Value};
+
+/// Each task begins at an index of the list and takes the asks from there on, one a step; past the
+/// end it finishes. A push pushes what the step is told, and its own value only where the step is
+/// told nothing. The place of a step is its index.
+#[derive(Drop)]
+pub struct AskList {
+    /// The asks.
+    pub asks: Vec<Ask<usize>>,
+}
+
+impl Body for AskList {
+    type Local = usize;
+
+    ghost next = { λ body at answer fuel.
+        option_map_or
+        (λ asked. (
+          at + 1,
+          elim asked [
+            | Push place value ↦ Push place (elim answer [ Item item ↦ item | Flag flag ↦ Int (pos (if flag then 1 else 0)) | Place made ↦ Int (pos made) | _ ↦ value ])
+            | other ↦ other
+          ],
+        ))
+        (slice_get body.asks.items at)
+        (at, Finish) };
+
+    ghost place_of = { λ body at. at };
+
+    fn advance(
+        &self,
+        alloc: Global,
+        local: usize,
+        answer: Answer,
+        _fuel: u64,
+    ) -> Result<(usize, Ask<usize>), NoMemory> {
+        let Some(ask) = self.asks.get(local) else {
+            return Ok((local, Ask::Finish));
+        };
+        match ask {
+            Ask::Push(place, value) => Ok((local + 1, Ask::Push(*place, told(answer, value)?))),
+            ask => Ok((local + 1, copied(alloc, ask)?)),
+        }
+    }
+
+    fn place(&self, local: &usize) -> u64 {
+        *local as u64
+    }
+}
+
+/// What the step is told, as a value.
+fn told(answer: Answer, otherwise: &Value) -> Result<Value, NoMemory>
+    ensures { IfOk result (λ value. value ≡ elim answer [ Item item ↦ item | Flag flag ↦ Int (pos (if flag then 1 else 0)) | Place made ↦ Int (pos made) | _ ↦ otherwise.now ]) }
+{
+    match answer {
+        Answer::Item(item) => Ok(item),
+        Answer::Flag(flag) => Ok(Value::Int(i64::from(flag))),
+        Answer::Place(place) => Ok(Value::Int(i64::from(place))),
+        Answer::Start | Answer::Nothing => otherwise.copy(),
+    }
+}
+
+/// The same ask once more.
+fn copied(alloc: Global, ask: &Ask<usize>) -> Result<Ask<usize>, NoMemory>
+    ensures { IfOk result (λ again. again ≡ ask.now) }
+{
+    match ask {
+        Ask::Work => Ok(Ask::Work),
+        Ask::Read(place) => Ok(Ask::Read(*place)),
+        Ask::Write(place, value) => Ok(Ask::Write(*place, value.copy()?)),
+        Ask::Push(place, value) => Ok(Ask::Push(*place, value.copy()?)),
+        Ask::Pop(place) => Ok(Ask::Pop(*place)),
+        Ask::Empty(place) => Ok(Ask::Empty(*place)),
+        Ask::NewQueue => Ok(Ask::NewQueue),
+        Ask::NewObject(value) => Ok(Ask::NewObject(value.copy()?)),
+        Ask::Spawn(child) => Ok(Ask::Spawn(Child {
+            local: child.local,
+            gives: copied_gives(alloc, &child.gives)?,
+            fuel: child.fuel,
+        })),
+        Ask::Sync => Ok(Ask::Sync),
+        Ask::Finish => Ok(Ask::Finish),
+        Ask::Fail(trouble) => Ok(Ask::Fail(*trouble)),
+    }
+}
+
+/// The same gives once more.
+fn copied_gives(alloc: Global, gives: &Gives) -> Result<Gives, NoMemory>
+    ensures { IfOk result (λ again. again ≡ gives.now) }
+{
+    let _most = gives.len();
+    let mut again = Gives::new(alloc);
+    for give in gives.as_slice() {
+        if again.push(*give).is_err() {
+            return Err(NoMemory);
+        }
+    }
+    Ok(again)
+}
