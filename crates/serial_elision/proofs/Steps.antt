@@ -49,7 +49,7 @@ effect-told n store a x ask.Finish = refl
 effect-told n store a x (ask.Fail trouble) = refl
 
 -- the state once the effect of the top activation's ask has come to it
-settled-after : {L : Type 0} (s : State L) (a : Activation L) (below : List (Activation L)) (place : ℕ) (store : Store) (done : code.Effect L) (said : serial.Effect L) → IsEffect done a s.store store said → settled done a place (record s { stack = below; store = store }) ≡ after s below a.path place said
+pub settled-after : {L : Type 0} (s : State L) (a : Activation L) (below : List (Activation L)) (place : ℕ) (store : Store) (done : code.Effect L) (said : serial.Effect L) → IsEffect done a s.store store said → settled done a place (record s { stack = below; store = store }) ≡ after s below a.path place said
 settled-after s a below place store (Answered answer) said is = ap (after s below a.path place) (sym is)
 settled-after s a below place store (Spawned child) said is = ap (after s below a.path place) (sym is)
 settled-after s a below place store Ended said is =
@@ -58,7 +58,7 @@ settled-after s a below place store (Faulted kind) said is =
     ap (λ o. settled (Faulted kind) a place (record s { stack = below; store = o })) is.1
     ∙ ap (after s below a.path place) (sym is.0)
 
-with_rest : {L : Type 0} (s new : State L) (below : List (Activation L)) → new.steps ≡ s.steps → new.stack ≡ below → new.faults ≡ s.faults → new ≡ record s { stack = below; store = new.store }
+pub with_rest : {L : Type 0} (s new : State L) (below : List (Activation L)) → new.steps ≡ s.steps → new.stack ≡ below → new.faults ≡ s.faults → new ≡ record s { stack = below; store = new.store }
 with_rest {L = L} s new below steps stack faults =
     ap {B = State L} (λ n. record new { steps = n }) steps
     ∙ ap {B = State L} (λ b. record new { steps = s.steps; stack = b }) stack
@@ -68,11 +68,6 @@ module _ {B L : Type 0} (G : Ghosts B L) where
   -- the body's step of an activation
   abbrev pub stepped : B → Activation L → L × Ask L
   stepped body top = G.next body top.local top.answer (top.fuel - 1)
-
-  -- where no activation is left there is no step
-  pub step-over : (body : B) (s : State L) (stack : List (Activation L)) → s.stack ≡ [] → stack ≡ s.stack → record s { stack = stack } ≡ step G body s
-  step-over body s stack over same =
-      ap {B = State L} (λ rest. record s { stack = rest }) same ∙ ap (step_on G body s) (sym over)
 
   -- where there is fuel, the effect is that of the ask, whatever the activation was told before
   pub effect-paid : (body : B) (n : ℕ) (store : Store) (top paid : Activation L) (asked : Ask L) → (top.fuel ≡ 0 → ⊥) → paid ≡ told (moved top (stepped body top).0) answer.Nothing → asked ≡ (stepped body top).1 → effect n store paid asked ≡ effect_of G body n store top

@@ -1,5 +1,7 @@
 -- What the code says that an ask did, and what the definitions say.
 use Rattle.std.specs.Prelude.{◌≡◌, ℕ, ◌+◌, ◌∷◌, ◌++◌, [], Bool, true, false}
+use Rattle.swan_model.specs.declared.body.Ask.{Ask}
+use Rattle.swan_model.specs.declared.body.Ask.TheVariants as ask
 use Rattle.swan_model.specs.declared.fault.FaultKind.TheVariants.{PopEmpty}
 use Rattle.swan_model.specs.declared.script.Deed.{Deed}
 use Rattle.swan_model.specs.declared.script.Deed.TheVariants as deed
@@ -8,6 +10,10 @@ use Rattle.swan_model.specs.SerialStep.{told}
 use Rattle.swan_model.specs.SerialStep as serial
 use Rattle.serial_elision.specs.declared.effect.Effect.{Effect}
 use Rattle.serial_elision.specs.declared.effect.Effect.TheVariants.{Answered, Spawned, Ended, Faulted}
+use Rattle.serial_elision.specs.declared.reply.OwnAsk.{OwnAsk}
+use Rattle.serial_elision.specs.declared.reply.OwnAsk.TheVariants as own
+use Rattle.serial_elision.specs.declared.reply.Reply.{Reply}
+use Rattle.serial_elision.specs.declared.reply.Reply.TheVariants as reply
 
 -- The activation and the store that the code leaves are those of the effect; an activation that ends
 -- leaves the store as it was.
@@ -16,6 +22,21 @@ IsEffect (Answered answer) a before after effect = effect ≡ serial.goes_on (to
 IsEffect (Spawned child) a before after effect = effect ≡ serial.spawns a child after
 IsEffect Ended a before after effect = (effect ≡ serial.ends) × (after ≡ before)
 IsEffect (Faulted kind) a before after effect = (effect ≡ serial.faults kind) × (after ≡ before)
+
+-- an ask about the task itself, among all asks
+abbrev pub as_ask : {L : Type 0} → OwnAsk L → Ask L
+as_ask own.NewQueue = ask.NewQueue
+as_ask (own.NewObject value) = ask.NewObject value
+as_ask (own.Spawn child) = ask.Spawn child
+as_ask own.Finish = ask.Finish
+as_ask (own.Fail trouble) = ask.Fail trouble
+
+-- What the store says to an ask: that it has the effect, or that the ask is about the task itself and has had
+-- none yet.
+abbrev pub IsReply : {L : Type 0} → Reply L → Activation L → Store → Store → Ask L → serial.Effect L → Type 0
+IsReply (reply.Told answer) a before after asks effect = effect ≡ serial.goes_on (told a answer) after
+IsReply (reply.Fault kind) a before after asks effect = (effect ≡ serial.faults kind) × (after ≡ before)
+IsReply (reply.Own task) a before after asks effect = (asks ≡ as_ask task) × (after ≡ before)
 
 -- The state once an effect has come to the activation that was taken off its stack.
 abbrev pub settled : {L : Type 0} → Effect L → Activation L → ℕ → State L → State L

@@ -1,4 +1,5 @@
 pub mod Bounds
 pub mod Effects
 pub mod Laws
+pub mod Places
 pub mod Working

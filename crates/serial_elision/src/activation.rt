@@ -4,6 +4,7 @@ ghost use Rattle.swan_model.specs.SerialStep.{moved, told, number_at};
 ghost use Rattle.swan_model.specs.declared.body.Answer.TheVariants as answer;
 
 use crate::Holding;
+use crate::holding::number_at;
 use std::alloc::Global;
 use std::marker::Model;
 use swan_model::{Answer, Ask, Body, Mode, NoMemory, Path};
@@ -52,12 +53,7 @@ impl<L> Activation<L> {
     pub fn number_at(&self, place: u32, mode: Mode) -> Option<usize>
         ensures { result ≡ number_at self.now.holdings place mode }
     {
-        let holding = self.holdings.get(place as usize)?;
-        if holding.mode.allows(mode) {
-            Some(holding.number)
-        } else {
-            None
-        }
+        number_at(self.holdings.as_slice(), place, mode)
     }
 
     /// Adds a place, and answers which it is. `O(1)` amortised.

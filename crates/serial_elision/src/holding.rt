@@ -1,4 +1,7 @@
 // What an activation holds at one of its places.
+ghost use Rattle.std.specs.Prelude.{◌≡◌};
+ghost use Rattle.swan_model.specs.SerialStep.{number_at};
+
 use std::marker::Model;
 use swan_model::Mode;
 
@@ -20,4 +23,18 @@ impl Model for Holding {
     ghost view = { λ holding. record { mode = holding.mode; number = holding.number } };
 
     ghost inverse = { λ held. record { mode = held.mode; number = held.number } };
+}
+
+/// The number of the object or queue at a place of one who holds this, and None exactly where it may not be
+/// used so. `O(1)`.
+#[inline(always)]
+pub fn number_at(holdings: &[Holding], place: u32, mode: Mode) -> Option<usize>
+    ensures { result ≡ number_at holdings.now place mode }
+{
+    let holding = holdings.get(place as usize)?;
+    if holding.mode.allows(mode) {
+        Some(holding.number)
+    } else {
+        None
+    }
 }

@@ -26,15 +26,15 @@
 //!
 //! Not promised: that memory is found, and how long a body takes for a step.
 //!
-//! Inside, `State` is the serial state. Its `turn` takes the steps of the top task that are work alone, and
-//! then one more. Its parts are seen by contracts as the parts of the state of the definitions. `Store` has the objects and the
-//! queues, with a method for each ask about them; `spawn` has the one ask that makes a task.
+//! Inside, `State` is the serial state, and its parts are seen by contracts as the parts of the state of the
+//! definitions. Its `turn` takes the top task off the stack and takes steps of it up to one by which it spawns,
+//! ends, or makes a queue or an object. Steps of work are taken in a row by the body's own call, and `Store` answers
+//! the asks about queues and objects at places (`Store::answer`); `spawn` has the one ask that makes a task.
 #![tactic(auto)]
 
 mod activation;
 mod alias;
-#[cfg(test)]
-mod ask_list;
+mod answer;
 mod cell;
 mod deeds;
 mod effect;
@@ -45,19 +45,15 @@ mod output;
 mod printed;
 mod queue;
 mod recorded;
+mod reply;
 mod report;
 mod roots;
 mod script_laws;
-#[cfg(test)]
-mod script_tests;
 mod spawn;
 mod stack;
 mod state;
 mod store;
-#[cfg(test)]
-mod tests;
 mod text;
-mod work;
 
 use activation::Activation;
 use cell::Cell;
@@ -68,6 +64,7 @@ pub use laws::{a_fault_ends_its_task, faults_are_in_order, one_step_more, rights
 pub use printed::{Printed, print};
 use queue::Queue;
 pub use recorded::script_of;
+use reply::{OwnAsk, Reply};
 pub use script_laws::{
     a_ripe_item_stays, a_script_tells_queues_and_objects, a_spawn_names_each_give,
     deeds_are_within_rights, each_step_has_its_entry, each_task_ends_once,
@@ -77,4 +74,3 @@ pub use script_laws::{
 use stack::Stack;
 use state::State;
 use store::Store;
-pub use swan_model::{Names, QueueName, QueueNames, Shown};

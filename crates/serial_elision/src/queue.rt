@@ -5,6 +5,9 @@ use std::collections::VecDeque;
 use std::marker::Model;
 use swan_model::{Origin, Value};
 
+/// Room for so many items isn't given back.
+const SHRUNK_LEAST: usize = 32;
+
 /// A queue. Contracts see it as the queue of the serial state.
 #[derive(Drop)]
 pub struct Queue {
@@ -24,7 +27,8 @@ impl Model for Queue {
 
 impl Queue {
     /// Takes the first item off, and None exactly where there is none. It gives memory back once less
-    /// than a quarter of the queue's room is used. `O(1)` amortised.
+    /// than a quarter of the queue's room is used, where that is room for more than 32 items. `O(1)`
+    /// amortised.
     pub fn pop(&mut self) -> Option<Value>
         ensures first { MatchOption result (self.old.items ≡ [])
             (λ item. self.old.items ≡ item ∷ self.new.items) }
@@ -33,7 +37,7 @@ impl Queue {
     {
         let first = self.items.pop_front();
         let room = self.items.capacity();
-        if self.items.len() < room / 4 {
+        if room > SHRUNK_LEAST && self.items.len() < room / 4 {
             self.items.shrink_to(room / 2);
         }
         first

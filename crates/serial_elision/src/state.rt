@@ -1,16 +1,16 @@
 // The serial state, and the serial step.
 ghost use Rattle.std.specs.Prelude.{◌≡◌, ℕ, suc, ◌+◌, ◌^◌, ◌<◌, ◌++◌, ◌∷◌, [], IfOk, OnOk, IsTrue, ◌↔◌};
-ghost use Rattle.swan_model.specs.SerialStep.{effect};
+ghost use Rattle.swan_model.specs.SerialStep.{after, effect, faults};
 ghost use Rattle.swan_model.specs.declared.plan.TheConstants.{FUEL_MOST};
 ghost use Rattle.serial_elision.specs.Bounds.{HasPaid};
-ghost use Rattle.serial_elision.specs.Effects.{IsEffect, settled};
+ghost use Rattle.serial_elision.specs.Effects.{as_ask, IsEffect, settled};
 ghost use Rattle.serial_elision.specs.Working.{after_steps};
 
 use crate::spawn::spawn;
-use crate::{Activation, Effect, Stack, Store};
+use crate::{Activation, Effect, OwnAsk, Reply, Stack, Store};
 use std::alloc::Global;
 use std::marker::Model;
-use swan_model::{Answer, Ask, Body, Fault, FaultKind, Faults, NoMemory, Path};
+use swan_model::{Answer, Ask, Body, FUEL_MOST, Fault, FaultKind, Faults, NoMemory, Path, Worked};
 
 /// The serial state. Contracts see it as the state of the definitions.
 #[derive(Drop)]
@@ -55,18 +55,35 @@ impl<L: Drop> State<L> {
         ensures stack { self.new.stack ≡ self.old.stack }
         ensures faults { self.new.faults ≡ self.old.faults }
     {
+        match self.store.answer(top.holdings.as_slice(), ask)? {
+            Reply::Told(answer) => Ok(Effect::Answered(answer)),
+            Reply::Fault(kind) => Ok(Effect::Faulted(kind)),
+            Reply::Own(ask) => self.perform_own(alloc, top, ask),
+        }
+    }
+
+    /// Gives an ask about the task itself its effect. Its activation has paid for the step.
+    fn perform_own(
+        &mut self,
+        alloc: Global,
+        top: &mut Activation<L>,
+        ask: OwnAsk<L>,
+    ) -> Result<Effect<L>, NoMemory>
+        requires { HasPaid top.old }
+        ensures effect { IfOk result (λ e.
+            IsEffect e top.new self.old.store self.new.store
+            (effect self.old.steps self.old.store top.old (as_ask ask))) }
+        ensures path { top.new.path ≡ top.old.path }
+        ensures steps { self.new.steps ≡ self.old.steps }
+        ensures stack { self.new.stack ≡ self.old.stack }
+        ensures faults { self.new.faults ≡ self.old.faults }
+    {
         match ask {
-            Ask::Work | Ask::Sync => Ok(Effect::Answered(Answer::Nothing)),
-            Ask::Read(place) => self.store.read(top, place),
-            Ask::Write(place, value) => Ok(self.store.write(top, place, value)),
-            Ask::Push(place, value) => self.store.push(top, place, value),
-            Ask::Pop(place) => Ok(self.store.pop(top, place)),
-            Ask::Empty(place) => Ok(self.store.test(top, place)),
-            Ask::NewQueue => self.store.make_queue(alloc, self.steps, top),
-            Ask::NewObject(value) => self.store.make_object(self.steps, top, value),
-            Ask::Spawn(child) => spawn(alloc, &mut self.store, top, child),
-            Ask::Finish => Ok(Effect::Ended),
-            Ask::Fail(trouble) => Ok(Effect::Faulted(FaultKind::Trouble(trouble))),
+            OwnAsk::NewQueue => self.store.make_queue(alloc, self.steps, top),
+            OwnAsk::NewObject(value) => self.store.make_object(self.steps, top, value),
+            OwnAsk::Spawn(child) => spawn(alloc, &mut self.store, top, child),
+            OwnAsk::Finish => Ok(Effect::Ended),
+            OwnAsk::Fail(trouble) => Ok(Effect::Faulted(FaultKind::Trouble(trouble))),
         }
     }
 
@@ -108,6 +125,34 @@ impl<L: Drop> State<L> {
         }
     }
 
+    /// Ends a task that was taken off the stack by a fault, in one step. `O(1)` amortised.
+    fn fail(&mut self, path: Path, place: u64, kind: FaultKind) -> Result<(), NoMemory>
+        requires { self.old.steps + 1 < 2 ^ 64 }
+        ensures { OnOk result (self.new ≡ after self.old self.old.stack path place (faults kind)) }
+    {
+        self.steps += 1;
+        self.book(path, place, kind)
+    }
+
+    /// Gives an ask about the task itself its effect, and ends its step. Its activation was taken off the
+    /// stack, and has paid for the step.
+    #[inline(never)]
+    fn finish(
+        &mut self,
+        alloc: Global,
+        mut top: Activation<L>,
+        place: u64,
+        ask: OwnAsk<L>,
+    ) -> Result<(), NoMemory>
+        requires paid { HasPaid top }
+        requires steps { self.old.steps + 1 < 2 ^ 64 }
+        ensures { OnOk result (self.new ≡ after self.old self.old.stack top.path place
+            (effect self.old.steps self.old.store top (as_ask ask))) }
+    {
+        let effect = self.perform_own(alloc, &mut top, ask)?;
+        self.settle(top, place, effect)
+    }
+
     /// Whether no activation is left. `O(1)`.
     pub fn is_over(&self) -> bool
         ensures { IsTrue result ↔ (self.now.stack ≡ []) }
@@ -115,9 +160,10 @@ impl<L: Drop> State<L> {
         self.stack.is_empty()
     }
 
-    /// Takes serial steps: those of the top activation that are work alone, and then one more; where no
-    /// activation is left there is none. The cost of a spawn of `g` gives from a path of `d` parts is
-    /// `O(g log g + d)`, and each other step is `O(1)` amortised beside its body's.
+    /// Takes serial steps of the top activation, up to one by which it spawns, ends, or makes a queue or an
+    /// object; where no activation is left there is none. For the steps between, nothing of the stack is
+    /// touched. The cost of a spawn of `g` gives from a path of `d` parts is `O(g log g + d)`, and each other
+    /// step is `O(1)` amortised beside its body's.
     pub fn turn<B: Body<Local = L>>(&mut self, alloc: Global, body: &B) -> Result<(), NoMemory>
         requires { self.old.steps + FUEL_MOST + 1 < 2 ^ 64 }
         ensures { OnOk result ((n : ℕ) × (self.new ≡ after_steps B.Body body.now self.old (suc n))) }
@@ -125,15 +171,47 @@ impl<L: Drop> State<L> {
         let Some(top) = self.stack.pop() else {
             return Ok(());
         };
-        if top.fuel == 0 {
-            let place = body.place(&top.local);
-            return self.settle(top, place, Effect::Faulted(FaultKind::Fuel));
+        let Activation {
+            path,
+            mut local,
+            mut answer,
+            fuel,
+            holdings,
+            children,
+        } = top;
+        let mut left = fuel;
+        for _row in 0..fuel {
+            let row = body.work(alloc, local, answer, left, FUEL_MOST)?;
+            let Worked {
+                local: moved,
+                works,
+                stop,
+            } = row;
+            local = moved;
+            self.steps += works;
+            let Some(stop) = stop else {
+                let place = body.place(&local);
+                return self.fail(path, place, FaultKind::Fuel);
+            };
+            left = left - works - 1;
+            match self.store.answer(holdings.as_slice(), stop.ask)? {
+                Reply::Told(told) => answer = told,
+                Reply::Fault(kind) => return self.fail(path, stop.place, kind),
+                Reply::Own(ask) => {
+                    let top = Activation {
+                        path,
+                        local,
+                        answer: Answer::Nothing,
+                        fuel: left,
+                        holdings,
+                        children,
+                    };
+                    return self.finish(alloc, top, stop.place, ask);
+                }
+            }
+            self.steps += 1;
         }
-        let worked = top.work(alloc, body)?;
-        self.steps += worked.works;
-        let place = worked.place;
-        let mut top = worked.top;
-        let effect = self.perform(alloc, &mut top, worked.ask)?;
-        self.settle(top, place, effect)
+        let place = body.place(&local);
+        self.fail(path, place, FaultKind::Fuel)
     }
 }

@@ -1,11 +1,15 @@
-// The objects and the queues of an elision together, and the asks about them.
-ghost use Rattle.std.specs.Prelude.{◌≡◌, ℕ, IfOk, OnOk, slice_get};
+// The objects and the queues of an elision together, and what is asked of them.
+ghost use Rattle.std.specs.Option.{option_map};
+ghost use Rattle.std.specs.Prelude.{◌≡◌, IfOk, OnOk, is_some, slice_get};
 ghost use Rattle.swan_model.specs.Script.{origin_of, origin_at};
-ghost use Rattle.swan_model.specs.SerialStep.{effect, zeroed, zeroed_by, zero_cell};
+ghost use Rattle.swan_model.specs.SerialStep.{effect, is_nothing_left, zeroed, zeroed_by, zero_cell};
 ghost use Rattle.swan_model.specs.declared.body.Ask.TheVariants as ask;
+ghost use Rattle.swan_model.specs.declared.rights.Mode.TheVariants.{In, Out, Push, Pop};
 ghost use Rattle.serial_elision.specs.Bounds.{HasPaid};
 ghost use Rattle.serial_elision.specs.Effects.{IsEffect};
+ghost use Rattle.serial_elision.specs.Places.{after_pop, cell_at, popped_item, pushed, queue_at, written};
 
+use crate::holding::number_at;
 use crate::{Activation, Cell, Effect, Holding, Queue};
 use std::alloc::Global;
 use std::collections::VecDeque;
@@ -30,89 +34,87 @@ impl Model for Store {
     ghost view = { λ store. record { cells = store.cells.items; queues = store.queues.items } };
 }
 
-// Each ask has the effect that the definitions give it, and most have it at a step of any number n.
 impl Store {
-    /// Reads the object at a place of the holder. `O(1)`; a record shares its bytes.
-    pub fn read<L>(&self, holder: &Activation<L>, place: u32) -> Result<Effect<L>, NoMemory>
-        ensures { (n : ℕ) → IfOk result (λ e.
-            IsEffect e holder.now self.now self.now (effect n self.now holder.now (ask.Read place))) }
+    /// The value of the object at a place, and None exactly where one who holds this may not read it. `O(1)`;
+    /// a record shares its bytes.
+    #[inline(always)]
+    pub fn read(&self, holdings: &[Holding], place: u32) -> Result<Option<Value>, NoMemory>
+        ensures { IfOk result (λ value.
+            value ≡ option_map (λ at. at.1.value) (cell_at self.now holdings.now place In)) }
     {
-        let Some(number) = holder.number_at(place, Mode::In) else {
-            return Ok(Effect::Faulted(FaultKind::Privilege));
+        let Some(number) = number_at(holdings, place, Mode::In) else {
+            return Ok(None);
         };
         let Some(cell) = self.cells.get(number) else {
-            return Ok(Effect::Faulted(FaultKind::Privilege));
+            return Ok(None);
         };
-        Ok(Effect::Answered(Answer::Item(cell.value.copy()?)))
+        Ok(Some(cell.value.copy()?))
     }
 
-    /// Writes the object at a place of the holder. `O(1)`.
-    pub fn write<L>(&mut self, holder: &Activation<L>, place: u32, value: Value) -> Effect<L>
-        ensures { (n : ℕ) →
-            IsEffect result holder.now self.old self.new
-            (effect n self.old holder.now (ask.Write place value)) }
+    /// Writes the object at a place, and answers false exactly where one who holds this may not. `O(1)`.
+    #[inline(always)]
+    pub fn write(&mut self, holdings: &[Holding], place: u32, value: Value) -> bool
+        ensures usable { result ≡ is_some (cell_at self.old holdings.now place Out) }
+        ensures store { self.new ≡ written self.old value (cell_at self.old holdings.now place Out) }
     {
-        let Some(number) = holder.number_at(place, Mode::Out) else {
-            return Effect::Faulted(FaultKind::Privilege);
+        let Some(number) = number_at(holdings, place, Mode::Out) else {
+            return false;
         };
         let Some(cell) = self.cells.get_mut(number) else {
-            return Effect::Faulted(FaultKind::Privilege);
+            return false;
         };
         cell.value = value;
-        Effect::Answered(Answer::Nothing)
+        true
     }
 
-    /// Pushes to the queue at a place of the holder. `O(1)` amortised.
-    pub fn push<L>(
-        &mut self,
-        holder: &Activation<L>,
-        place: u32,
-        value: Value,
-    ) -> Result<Effect<L>, NoMemory>
-        ensures { (n : ℕ) → IfOk result (λ e.
-            IsEffect e holder.now self.old self.new
-            (effect n self.old holder.now (ask.Push place value))) }
+    /// Pushes to the queue at a place, and answers false exactly where one who holds this may not. `O(1)`
+    /// amortised.
+    #[inline(always)]
+    pub fn push(&mut self, holdings: &[Holding], place: u32, value: Value) -> Result<bool, NoMemory>
+        ensures usable { IfOk result (λ usable.
+            usable ≡ is_some (queue_at self.old holdings.now place Push)) }
+        ensures store { OnOk result
+            (self.new ≡ pushed self.old value (queue_at self.old holdings.now place Push)) }
     {
-        let Some(number) = holder.number_at(place, Mode::Push) else {
-            return Ok(Effect::Faulted(FaultKind::Privilege));
+        let Some(number) = number_at(holdings, place, Mode::Push) else {
+            return Ok(false);
         };
         let Some(queue) = self.queues.get_mut(number) else {
-            return Ok(Effect::Faulted(FaultKind::Privilege));
+            return Ok(false);
         };
         queue.items.push_back(value)?;
-        Ok(Effect::Answered(Answer::Nothing))
+        Ok(true)
     }
 
-    /// Pops from the queue at a place of the holder. `O(1)` amortised.
-    pub fn pop<L>(&mut self, holder: &Activation<L>, place: u32) -> Effect<L>
-        ensures { (n : ℕ) →
-            IsEffect result holder.now self.old self.new (effect n self.old holder.now (ask.Pop place)) }
+    /// Takes the first item of the queue at a place, or answers by which fault the pop of one who holds this
+    /// ends. `O(1)` amortised.
+    #[inline(always)]
+    pub fn pop(&mut self, holdings: &[Holding], place: u32) -> Result<Value, FaultKind>
+        ensures item { result ≡ popped_item (queue_at self.old holdings.now place Pop) }
+        ensures store { self.new ≡ after_pop self.old (queue_at self.old holdings.now place Pop) }
     {
-        let Some(number) = holder.number_at(place, Mode::Pop) else {
-            return Effect::Faulted(FaultKind::Privilege);
+        let Some(number) = number_at(holdings, place, Mode::Pop) else {
+            return Err(FaultKind::Privilege);
         };
         let Some(queue) = self.queues.get_mut(number) else {
-            return Effect::Faulted(FaultKind::Privilege);
+            return Err(FaultKind::Privilege);
         };
         let Some(item) = queue.pop() else {
-            return Effect::Faulted(FaultKind::PopEmpty);
+            return Err(FaultKind::PopEmpty);
         };
-        Effect::Answered(Answer::Item(item))
+        Ok(item)
     }
 
-    /// Tests whether the queue at a place of the holder is empty. `O(1)`.
-    pub fn test<L>(&self, holder: &Activation<L>, place: u32) -> Effect<L>
-        ensures { (n : ℕ) →
-            IsEffect result holder.now self.now self.now
-            (effect n self.now holder.now (ask.Empty place)) }
+    /// Whether the queue at a place is empty, and None exactly where one who holds this may not pop it.
+    /// `O(1)`.
+    #[inline(always)]
+    pub fn test(&self, holdings: &[Holding], place: u32) -> Option<bool>
+        ensures { result ≡ option_map (λ at. is_nothing_left at.1.items)
+            (queue_at self.now holdings.now place Pop) }
     {
-        let Some(number) = holder.number_at(place, Mode::Pop) else {
-            return Effect::Faulted(FaultKind::Privilege);
-        };
-        let Some(queue) = self.queues.get(number) else {
-            return Effect::Faulted(FaultKind::Privilege);
-        };
-        Effect::Answered(Answer::Flag(queue.items.is_empty()))
+        let number = number_at(holdings, place, Mode::Pop)?;
+        let queue = self.queues.get(number)?;
+        Some(queue.items.is_empty())
     }
 
     /// Makes a queue at the step of this number, and a place of the holder for it. `O(1)` amortised.

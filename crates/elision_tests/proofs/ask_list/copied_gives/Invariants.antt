@@ -1,5 +1,5 @@
 use Rattle.std.proofs.Common.{◌≡◌, take}
-use Rattle.serial_elision.proofs.ask_list.copied_gives.Given as goal
+use Rattle.elision_tests.proofs.ask_list.copied_gives.Given as goal
 
 abbrev pub invariant-loop-give : goal.invariant-loop-give
 invariant-loop-give l = l.again ≡ take l.give-index l.give-items

@@ -1,0 +1,18 @@
+//! Tests of the serial elision: lists of asks, and what their elisions leave.
+//!
+//! A row is a list of asks in words, the fuel, and what is left: the two texts, or the deeds of the script. What is
+//! left was worked out by hand from what each ask is to do. All rows go through one function, so a row costs nothing
+//! to prove.
+#![tactic(auto)]
+
+mod ask_list;
+#[cfg(test)]
+mod rows;
+#[cfg(test)]
+mod scripts;
+#[cfg(test)]
+mod tests;
+#[cfg(test)]
+mod words;
+
+pub use ask_list::AskList;

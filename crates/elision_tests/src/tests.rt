@@ -1,0 +1,180 @@
+// What elisions leave, worked out by hand from what each ask is to do.
+use crate::rows::{leaves, plan_of};
+use serial_elision::elide;
+use std::alloc::Global;
+use std::process::Abort;
+use std::test::Fail;
+use std::thread::{Threads, join};
+use swan_model::{Body, NoMemory, Outcome, Plan, RunName};
+
+/// Tries rows of asks in words and of the fuel, with the end of the report; they leave no output.
+fn run(rt: &impl Abort, alloc: Global, rows: &[(&str, u64, &str)]) -> Result<(), Fail> {
+    for (words, fuel, report) in rows {
+        assert!(rt; leaves(alloc, words, *fuel, b"", report)?, "{words}");
+    }
+    Ok(())
+}
+
+#[test]
+fn each_ask_is_answered(rt: HostRuntime) -> Result<(), Fail> {
+    let words = "pop:0 push:1:0 empty:0 push:1:0 read:2 push:1:0 queue push:1:0 object:5 push:1:0 \
+        read:3 push:1:0 write:2:-3 work sync push:1:99 finish";
+    let out = b"10\n0\n7\n4\n5\n\xab\x0c\n99\n";
+    let report = "object count int -3\nobject name bytes ab0c\nleft jobs 1\nfaults 0\n";
+    assert!(rt; leaves(rt.alloc(), words, 100, out.as_slice(), report)?);
+    Ok(())
+}
+
+#[test]
+fn each_fault_ends_its_task(rt: HostRuntime) -> Result<(), Fail> {
+    run(
+        &rt,
+        rt.alloc(),
+        &[
+            ("work work", 1, "faults 1\nfault / 1 Fuel\n"),
+            ("pop:0 pop:0 pop:0", 9, "faults 1\nfault / 2 PopEmpty\n"),
+            ("push:0:1 work", 9, "faults 1\nfault / 0 Privilege\n"),
+            ("work read:9", 9, "faults 1\nfault / 1 Privilege\n"),
+            ("fail:-5", 9, "faults 1\nfault / 0 User -5\n"),
+        ],
+    )
+}
+
+#[test]
+fn a_spawn_has_its_first_fault(rt: HostRuntime) -> Result<(), Fail> {
+    run(
+        &rt,
+        rt.alloc(),
+        &[
+            (
+                "spawn:1:10:1.pop,1.pop finish",
+                10,
+                "faults 1\nfault / 0 Privilege\n",
+            ),
+            (
+                "spawn:1:10:1.push,1.push finish",
+                10,
+                "faults 1\nfault / 0 Alias\n",
+            ),
+            (
+                "spawn:1:9:2.in,2.out finish",
+                10,
+                "faults 1\nfault / 0 Alias\n",
+            ),
+            ("spawn:1:10:1.push finish", 10, "faults 1\nfault / 0 Fuel\n"),
+            ("spawn:1:8:2.in,2.in finish", 10, "faults 0\n"),
+            (
+                "spawn:1:8:2.in,2.in,2.in,2.in,2.in,2.in,2.in,2.in,2.in,2.in,2.in,2.out finish",
+                10,
+                "faults 1\nfault / 0 Alias\n",
+            ),
+            (
+                "spawn:1:8:2.in,2.in,2.in,2.in,2.in,2.in,2.in,2.in,2.in,2.in,2.in,2.in finish",
+                10,
+                "faults 0\n",
+            ),
+        ],
+    )
+}
+
+#[test]
+fn faults_come_in_serial_order(rt: HostRuntime) -> Result<(), Fail> {
+    run(
+        &rt,
+        rt.alloc(),
+        &[(
+            "spawn:3:50: spawn:5:5: fail:1 spawn:6:5: fail:2 overflow divide",
+            100,
+            "faults 4\nfault /0/0 6 DivideByZero\nfault /0 4 User 2\nfault /1 5 Overflow\nfault / 2 User 1\n",
+        )],
+    )
+}
+
+#[test]
+fn a_child_holds_what_it_was_given(rt: HostRuntime) -> Result<(), Fail> {
+    run(
+        &rt,
+        rt.alloc(),
+        &[(
+            "spawn:2:5:3.out,2.out,0.pop finish pop:2 write:1:8 read:1",
+            100,
+            "object count int 8\nobject name bytes \nleft jobs 1\nfaults 1\nfault /0 4 Privilege\n",
+        )],
+    )
+}
+
+#[test]
+fn fuel_moves_to_the_child(rt: HostRuntime) -> Result<(), Fail> {
+    run(
+        &rt,
+        rt.alloc(),
+        &[
+            (
+                "spawn:6:5: work work work work work",
+                10,
+                "faults 1\nfault / 5 Fuel\n",
+            ),
+            (
+                "spawn:2:1: finish work work",
+                10,
+                "faults 1\nfault /0 3 Fuel\n",
+            ),
+        ],
+    )
+}
+
+/// Fuel that ends inside a run of steps of work, or between asks, is a fault at the step that has none.
+#[test]
+fn fuel_ends_at_each_step(rt: HostRuntime) -> Result<(), Fail> {
+    for fuel in 0..7 {
+        let report = format!(in rt.alloc(); "faults 1\nfault / {fuel} Fuel\n")?;
+        let words = "work work empty:0 read:2 work write:2:1 work";
+        assert!(rt; leaves(rt.alloc(), words, fuel, b"", report.as_str())?);
+    }
+    Ok(())
+}
+
+#[test]
+fn no_path_has_more_than_64_parts(rt: HostRuntime) -> Result<(), Fail> {
+    let alloc = rt.alloc();
+    let mut words = String::new(alloc);
+    let mut faults = format!(in alloc; "faults 1\nfault ")?;
+    for depth in 0..64_u64 {
+        let next = 2 * (depth + 1);
+        let fuel = 900 - 10 * depth;
+        words.push_str(format!(in alloc; "spawn:{next}:{fuel}: finish ")?.as_str())?;
+        faults.push_str("/0")?;
+    }
+    words.push_str("spawn:0:1000:")?;
+    faults.push_str(" 128 Depth\n")?;
+    assert!(rt; leaves(alloc, words.as_str(), 1_000, b"", faults.as_str())?);
+    Ok(())
+}
+
+/// Elides on another thread.
+fn elide_there<R: Threads + Sync, B: Body>(
+    rt: &R,
+    alloc: Global,
+    plan: Plan<B>,
+) -> Result<Outcome, NoMemory> {
+    let (outcome, ()) = join(rt, move || elide(alloc, plan), || ());
+    outcome
+}
+
+/// Copies a name on another thread.
+fn again_there<R: Threads + Sync>(rt: &R, name: RunName) -> RunName {
+    let (again, ()) = join(rt, move || name.again(), || ());
+    again
+}
+
+#[test]
+fn names_cross_threads(rt: HostRuntime) {
+    drop(again_there(&rt, RunName::free()));
+}
+
+#[test]
+fn plans_and_outcomes_cross_threads(rt: HostRuntime) -> Result<(), Fail> {
+    let outcome = elide_there(&rt, rt.alloc(), plan_of(rt.alloc(), "", 1)?)?;
+    assert_eq!(rt; outcome.objects.len(), 2);
+    Ok(())
+}
