@@ -113,7 +113,7 @@ module _ {S N : Type 0} (name : S → N) (done : S → Bool) (n : N) (seats : �
       (f.0, (λ h. let g = f.1 h in (g.0, g.1, more g.2, λ e. g.3 (back u j ne at h e))), λ s. stays (f.2 s))
 
   takes_free : (id : ℕ) (v : View N) (c : List (ℕ × Option S)) (sign : ℕ) (home : Maybe (Option S)) (vs : List (View N)) → 0 < v.parts → G 0 sign home vs → get_elem? vs id ≡ some v
-      → (w : View N) × (a : Act (Option S)) × Valid (home ∷ []) c a × Rule record { words = lock_words 1 sign; homes = homes_after (home ∷ []) c a; views = set vs id w } × took name done (step 1 0 0 1 none) (v, c) 0 (w, carried_after c a)
+      → (w : View N) × (a : Act (Option S)) × Valid (home ∷ []) c a × Rule record { words = lock_words 1 sign; homes = homes_after (home ∷ []) c a; views = set vs id w } × took name done (step 1 8 0 1 none) (v, c) 0 (w, carried_after c a)
   takes_free id v c sign home vs part g at = let free = g.free refl in let x : S = free.0 in let mine = g.each id v at in
       let w : View N = record v { holding = true; owes_done = done x; holds = v.holds + 1 } in (
         w,
@@ -139,7 +139,7 @@ module _ {S N : Type 0} (name : S → N) (done : S → Bool) (n : N) (seats : �
       )
 
   loses : (id : ℕ) (v : View N) (c : List (ℕ × Option S)) (word sign : ℕ) (home : Maybe (Option S)) (vs : List (View N)) → word ≢ 0 → v.holding ≡ false → G word sign home vs → get_elem? vs id ≡ some v
-      → (w : View N) × (a : Act (Option S)) × Valid (home ∷ []) c a × Rule record { words = lock_words word sign; homes = homes_after (home ∷ []) c a; views = set vs id w } × took name done (step 1 0 0 1 none) (v, c) word (w, carried_after c a)
+      → (w : View N) × (a : Act (Option S)) × Valid (home ∷ []) c a × Rule record { words = lock_words word sign; homes = homes_after (home ∷ []) c a; views = set vs id w } × took name done (step 1 8 0 1 none) (v, c) word (w, carried_after c a)
   loses id v c word sign home vs busy idle g at = let mine = g.each id v at in let w : View N = record v { lost = v.lost + 1 } in (
     w,
     keeps,
@@ -162,18 +162,18 @@ module _ {S N : Type 0} (name : S → N) (done : S → Bool) (n : N) (seats : �
     ((λ z. absurd (busy z)), λ _. refl),
   )
 
-  pub takes_word : (slots id : ℕ) (v : View N) (c : List (ℕ × Option S)) → v.holding ≡ false → 0 < v.parts → Allows Rule slots id (v, c) 0 (λ k. either (eqb k 0) 1 k) (took name done (step slots 0 0 1 none) (v, c))
-  takes_word slots id v c idle part = allows slots id (v, c) 0 _ (took name done (step slots 0 0 1 none) (v, c)) (λ word sign home vs g at.
-      exchanged word 0 1 (λ x. (w : View N) × (a : Act (Option S)) × Valid (home ∷ []) c a × Rule record { words = lock_words x sign; homes = homes_after (home ∷ []) c a; views = set vs id w } × took name done (step slots 0 0 1 none) (v, c) word (w, carried_after c a))
-      (λ z. subst (λ (q : ℕ). (w : View N) × (a : Act (Option S)) × Valid (home ∷ []) c a × Rule record { words = lock_words 1 sign; homes = homes_after (home ∷ []) c a; views = set vs id w } × took name done (step slots 0 0 1 none) (v, c) q (w, carried_after c a)) (sym z)
+  pub takes_word : (slots id : ℕ) (v : View N) (c : List (ℕ × Option S)) → v.holding ≡ false → 0 < v.parts → Allows Rule slots id (v, c) 8 (λ k. either (eqb k 0) 1 k) (took name done (step slots 8 0 1 none) (v, c))
+  takes_word slots id v c idle part = allows slots id (v, c) 8 _ (took name done (step slots 8 0 1 none) (v, c)) (λ word sign home vs g at.
+      exchanged word 0 1 (λ x. (w : View N) × (a : Act (Option S)) × Valid (home ∷ []) c a × Rule record { words = lock_words x sign; homes = homes_after (home ∷ []) c a; views = set vs id w } × took name done (step slots 8 0 1 none) (v, c) word (w, carried_after c a))
+      (λ z. subst (λ (q : ℕ). (w : View N) × (a : Act (Option S)) × Valid (home ∷ []) c a × Rule record { words = lock_words 1 sign; homes = homes_after (home ∷ []) c a; views = set vs id w } × took name done (step slots 8 0 1 none) (v, c) q (w, carried_after c a)) (sym z)
       (takes_free id v c sign home vs part (subst (λ (q : ℕ). G q sign home vs) z g) at))
       (λ busy. loses id v c word sign home vs busy idle g at))
 
   -- the seat with every part finds the state in its slot
-  pub closes : (slots id : ℕ) (v : View N) (c : List (ℕ × Option S)) → v.holding ≡ false → 0 < v.parts → v.parts ≡ seats → Allows Rule slots id (v, c) 0 (λ k. either (eqb k 0) 1 k) (closed name done (step slots 0 0 1 none) (v, c))
-  closes slots id v c idle part every = allows slots id (v, c) 0 _ (closed name done (step slots 0 0 1 none) (v, c)) (λ word sign home vs g at.
-      exchanged word 0 1 (λ x. (w : View N) × (a : Act (Option S)) × Valid (home ∷ []) c a × Rule record { words = lock_words x sign; homes = homes_after (home ∷ []) c a; views = set vs id w } × closed name done (step slots 0 0 1 none) (v, c) word (w, carried_after c a))
-      (λ z. subst (λ (q : ℕ). (w : View N) × (a : Act (Option S)) × Valid (home ∷ []) c a × Rule record { words = lock_words 1 sign; homes = homes_after (home ∷ []) c a; views = set vs id w } × closed name done (step slots 0 0 1 none) (v, c) q (w, carried_after c a)) (sym z)
+  pub closes : (slots id : ℕ) (v : View N) (c : List (ℕ × Option S)) → v.holding ≡ false → 0 < v.parts → v.parts ≡ seats → Allows Rule slots id (v, c) 8 (λ k. either (eqb k 0) 1 k) (closed name done (step slots 8 0 1 none) (v, c))
+  closes slots id v c idle part every = allows slots id (v, c) 8 _ (closed name done (step slots 8 0 1 none) (v, c)) (λ word sign home vs g at.
+      exchanged word 0 1 (λ x. (w : View N) × (a : Act (Option S)) × Valid (home ∷ []) c a × Rule record { words = lock_words x sign; homes = homes_after (home ∷ []) c a; views = set vs id w } × closed name done (step slots 8 0 1 none) (v, c) word (w, carried_after c a))
+      (λ z. subst (λ (q : ℕ). (w : View N) × (a : Act (Option S)) × Valid (home ∷ []) c a × Rule record { words = lock_words 1 sign; homes = homes_after (home ∷ []) c a; views = set vs id w } × closed name done (step slots 8 0 1 none) (v, c) q (w, carried_after c a)) (sym z)
       (let t = takes_free id v c sign home vs part (subst (λ (q : ℕ). G q sign home vs) z g) at in (t.0, t.1, t.2, t.3, (refl, t.4))))
       (λ busy. let h = g.taken busy in let theirs = (g.each g.holder h.0 h.1).1 h.2 in let s = g.sum in
       absurd (dite (ℕ_discrete id g.holder)
@@ -185,8 +185,8 @@ module _ {S N : Type 0} (name : S → N) (done : S → Bool) (n : N) (seats : �
   name_of d None = d
 
   pub gives_back : (slots id : ℕ) (v : View N) (x : S) (c : List (ℕ × Option S)) → v.holding ≡ true → v.name ≡ Some (name x) → (v.owes_done ≡ true → done x ≡ true)
-      → Allows Rule slots id (v, (0, Some x) ∷ c) 0 (λ _. 0) (λ _. gave (step slots 0 0 0 none) (v, (0, Some x) ∷ c) 0)
-  gives_back slots id v x c holds named owes = allows slots id (v, (0, Some x) ∷ c) 0 _ (λ _. gave (step slots 0 0 0 none) (v, (0, Some x) ∷ c) 0) (λ word sign home vs g at. let mine = g.each id v at in let h = mine.1 holds in
+      → Allows Rule slots id (v, (0, Some x) ∷ c) 8 (λ _. 0) (λ _. gave (step slots 8 0 0 none) (v, (0, Some x) ∷ c) 0)
+  gives_back slots id v x c holds named owes = allows slots id (v, (0, Some x) ∷ c) 8 _ (λ _. gave (step slots 8 0 0 none) (v, (0, Some x) ∷ c) 0) (λ word sign home vs g at. let mine = g.each id v at in let h = mine.1 holds in
       let w : View N = record v { holding = false; owes_done = false } in (
         w,
         gives,
@@ -211,8 +211,8 @@ module _ {S N : Type 0} (name : S → N) (done : S → Bool) (n : N) (seats : �
       ))
 
   pub gives_from : (slots id : ℕ) (me : Me (Option S) (View N)) (v : View N) (x : S) (c : List (ℕ × Option S)) → me ≡ (v, (0, Some x) ∷ c) → v.holding ≡ true → v.name ≡ Some n → name x ≡ n → (v.owes_done ≡ true → done x ≡ true)
-      → Allows Rule slots id me 0 (λ _. 0) (λ _. gave (step slots 0 0 0 none) me 0)
-  gives_from slots id me v x c is holds named same owes = subst (λ (m : Me (Option S) (View N)). Allows Rule slots id m 0 (λ _. 0) (λ _. gave (step slots 0 0 0 none) m 0)) (sym is)
+      → Allows Rule slots id me 8 (λ _. 0) (λ _. gave (step slots 8 0 0 none) me 0)
+  gives_from slots id me v x c is holds named same owes = subst (λ (m : Me (Option S) (View N)). Allows Rule slots id m 8 (λ _. 0) (λ _. gave (step slots 8 0 0 none) m 0)) (sym is)
       (gives_back slots id v x c holds (named ∙ ap Some (sym same)) owes)
 
   -- a step on the sign alone, after which it is sign'
@@ -245,9 +245,9 @@ module _ {S N : Type 0} (name : S → N) (done : S → Bool) (n : N) (seats : �
       signs id word sign sign' v w home vs g at small stays back parts named same owes
       (λ h. ⊎_elim (λ before. stays ((g.each id v at).2 before)) (done_is sign') (or_true v.saw_done (is_done (sign_of sign')) (sym saw ∙ h)))
 
-  pub finishes : (slots id : ℕ) (v : View N) (c : List (ℕ × Option S)) → v.holding ≡ true → Allows Rule slots id (v, c) 8 (λ k. either (eqb k 0) 1 k) (finished (step slots 8 0 1 none) (v, c))
-  finishes slots id v c holds = allows slots id (v, c) 8 _ (finished (step slots 8 0 1 none) (v, c)) (λ word sign home vs g at.
-      exchanged sign 0 1 (λ x. (w : View N) × (a : Act (Option S)) × Valid (home ∷ []) c a × Rule record { words = lock_words word x; homes = homes_after (home ∷ []) c a; views = set vs id w } × finished (step slots 8 0 1 none) (v, c) sign (w, carried_after c a))
+  pub finishes : (slots id : ℕ) (v : View N) (c : List (ℕ × Option S)) → v.holding ≡ true → Allows Rule slots id (v, c) 16 (λ k. either (eqb k 0) 1 k) (finished (step slots 16 0 1 none) (v, c))
+  finishes slots id v c holds = allows slots id (v, c) 16 _ (finished (step slots 16 0 1 none) (v, c)) (λ word sign home vs g at.
+      exchanged sign 0 1 (λ x. (w : View N) × (a : Act (Option S)) × Valid (home ∷ []) c a × Rule record { words = lock_words word x; homes = homes_after (home ∷ []) c a; views = set vs id w } × finished (step slots 16 0 1 none) (v, c) sign (w, carried_after c a))
       (λ z. let w : View N = record (learnt v Done) { owes_done = true } in
       (w, keeps, tt, meets id word sign 1 v w home vs g at (omega arith) (λ _. refl) (λ _. inr holds) refl refl refl (λ _ _. refl) refl, ((λ _. refl), λ l. absurd (omega arith))))
       (λ nz. dite (ℕ_discrete sign 1)
@@ -256,14 +256,14 @@ module _ {S N : Type 0} (name : S → N) (done : S → Bool) (n : N) (seats : �
       (λ other. let w : View N = record (learnt v Stopped) { owes_done = true } in let m = g.small in let two : sign ≡ 2 = omega arith in
       (w, keeps, tt, meets id word sign sign v w home vs g at m (λ e. e) inl refl refl refl (λ _ _. refl) (ap (λ k. v.saw_done || is_done (sign_of k)) (sym two)), ((λ l. absurd (omega arith)), λ _. refl)))))
 
-  pub stops : (slots id : ℕ) (v : View N) (c : List (ℕ × Option S)) → Allows Rule slots id (v, c) 8 (λ k. either (eqb k 0) 2 k) (stopped (step slots 8 0 2 none) (v, c))
-  stops slots id v c = allows slots id (v, c) 8 _ (stopped (step slots 8 0 2 none) (v, c)) (λ word sign home vs g at. let mine = g.each id v at in let w : View N = record (learnt v (stopped_from sign)) { stops = v.stops + 1 } in
-      exchanged sign 0 2 (λ x. (w : View N) × (a : Act (Option S)) × Valid (home ∷ []) c a × Rule record { words = lock_words word x; homes = homes_after (home ∷ []) c a; views = set vs id w } × stopped (step slots 8 0 2 none) (v, c) sign (w, carried_after c a))
+  pub stops : (slots id : ℕ) (v : View N) (c : List (ℕ × Option S)) → Allows Rule slots id (v, c) 16 (λ k. either (eqb k 0) 2 k) (stopped (step slots 16 0 2 none) (v, c))
+  stops slots id v c = allows slots id (v, c) 16 _ (stopped (step slots 16 0 2 none) (v, c)) (λ word sign home vs g at. let mine = g.each id v at in let w : View N = record (learnt v (stopped_from sign)) { stops = v.stops + 1 } in
+      exchanged sign 0 2 (λ x. (w : View N) × (a : Act (Option S)) × Valid (home ∷ []) c a × Rule record { words = lock_words word x; homes = homes_after (home ∷ []) c a; views = set vs id w } × stopped (step slots 16 0 2 none) (v, c) sign (w, carried_after c a))
       (λ z. (w, keeps, tt, meets id word sign 2 v w home vs g at (omega arith) (λ e. absurd (omega arith)) (λ e. absurd (omega arith)) refl refl refl (λ _ e. absurd (omega arith)) (ap (λ k. v.saw_done || is_done (stopped_from k)) z), refl))
       (λ nz. (w, keeps, tt, meets id word sign sign v w home vs g at g.small (λ e. e) inl refl refl refl (λ h. (mine.1 h).3) (ap (λ k. v.saw_done || is_done k) (stopped_as sign nz)), refl)))
 
-  pub looks : (slots id : ℕ) (v : View N) (c : List (ℕ × Option S)) → Allows Rule slots id (v, c) 8 (λ k. k) (looked (step slots 8 0 0 none) (v, c))
-  looks slots id v c = allows slots id (v, c) 8 _ (looked (step slots 8 0 0 none) (v, c)) (λ word sign home vs g at. let mine = g.each id v at in let w : View N = learnt v (sign_of sign) in
+  pub looks : (slots id : ℕ) (v : View N) (c : List (ℕ × Option S)) → Allows Rule slots id (v, c) 16 (λ k. k) (looked (step slots 16 0 0 none) (v, c))
+  looks slots id v c = allows slots id (v, c) 16 _ (looked (step slots 16 0 0 none) (v, c)) (λ word sign home vs g at. let mine = g.each id v at in let w : View N = learnt v (sign_of sign) in
       (w, keeps, tt, meets id word sign sign v w home vs g at g.small (λ e. e) inl refl refl refl (λ h. (mine.1 h).3) refl, (g.small, refl)))
 
   pub splits : (id : ℕ) (v : View N) → v.holding ≡ false → 0 < v.parts → Splits Rule id v (rest_of v) (one_of v)

@@ -1,6 +1,6 @@
 -- What holds of a lock between any two steps, and what each step tells the seat that takes it.
--- The first word is 0 where the state is in its slot, and else a seat holds it. The last word is the sign: 0 is Runs, 1
--- Done and 2 Stopped. The words between them are 0 for good, and keep the two a cache line apart.
+-- One word is 0 where the state is in its slot, and else a seat holds it. Another is the sign: 0 is Runs, 1 Done and 2
+-- Stopped. The words beside them are 0 for good, and keep the two a cache line apart, and from what lies around the table.
 use Rattle.std.specs.Prelude.{◌≡◌, ◌≢◌, ℕ, zero, suc, ◌+◌, ◌-◌, ◌<◌, ◌≤◌, Bool, true, false, ◌||◌, List, [], ◌∷◌, Option, Some, None}
 use mathlib.Core.Option.{Option as Maybe, none, some}
 use lib.ListN.{get_elem?}
@@ -11,7 +11,8 @@ use Rattle.named_lock.specs.declared.sign.Sign.TheVariants.{Runs, Done, Stopped}
 use Rattle.named_lock.specs.Seats.{learnt, is_done}
 
 abbrev pub lock_words : (word sign : ℕ) → List ℕ
-lock_words word sign = word ∷ 0 ∷ 0 ∷ 0 ∷ 0 ∷ 0 ∷ 0 ∷ 0 ∷ sign ∷ []
+lock_words word sign =
+    0 ∷ 0 ∷ 0 ∷ 0 ∷ 0 ∷ 0 ∷ 0 ∷ 0 ∷ word ∷ 0 ∷ 0 ∷ 0 ∷ 0 ∷ 0 ∷ 0 ∷ 0 ∷ sign ∷ 0 ∷ 0 ∷ 0 ∷ 0 ∷ 0 ∷ 0 ∷ 0 ∷ []
 
 -- the sign that a word is
 abbrev pub sign_of : ℕ → Sign

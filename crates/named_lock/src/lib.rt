@@ -14,9 +14,10 @@
 //!   and `stop` to Stopped where it runs. So a worker learns by one load that nothing is left to be done.
 //! - `close` takes all seats, and gives the state back.
 //!
-//! Promised, and proved of each value that is `Named`: what `try_take` and `close` give has the lock's name; at most one
-//! seat holds the state at a time; a state that was done stays done; and after `is_done` has answered true, each
-//! state that this seat takes, and the one that `close` gives, is done.
+//! Promised, and proved of each value that is `Named`: what `try_take` and `close` give has the lock's name; a state that was
+//! done stays done; and after `is_done` has answered true, each state that this seat takes, and the one that `close` gives, is
+//! done. That at most one seat holds the state at a time is the rule that each step keeps (`Fits` in `specs/Rule`), and there
+//! is one state, which moves.
 //!
 //! Not promised: that a seat which tries again and again ever finds the state free.
 #![tactic(auto)]
@@ -34,6 +35,7 @@ mod tests;
 
 pub use held::Held;
 pub use lock::NamedLock;
+pub use name_of::NameOf;
 pub use named::Named;
 pub use seat::LockSeat;
 pub use sign::Sign;

@@ -11,15 +11,16 @@ use std::alloc::Global;
 use std::snapshot::Snapshot;
 use swan_model::NoMemory;
 
-/// The word that is taken, and its values.
-const LOCK: usize = 0;
+/// The word that is taken, and its values. Seven words or more beside each of the two that are used keep them a cache line apart,
+/// and from what lies around the table.
+const LOCK: usize = 8;
 
 const FREE: u64 = 0;
 
 const TAKEN: u64 = 1;
 
-/// The word of the sign, a cache line away from the other one, and its values.
-const SIGN: usize = 8;
+/// The word of the sign, and its values.
+const SIGN: usize = 16;
 
 const RUNS: u64 = 0;
 
@@ -31,7 +32,8 @@ const STOPPED: u64 = 2;
 #[derive(Drop)]
 pub struct NamedLock<S: Named> {
     table: Table<Option<S>, View<S::Name>, Opening<S>, LockRule, Global>,
-    ghost shape: { (table.shared.table_id.words ≡ 9) × (table.shared.table_id.slots ≡ 1) },
+    ghost some_seat: { 0 < table.shared.key.seats },
+    ghost shape: { (table.shared.table_id.words ≡ 24) × (table.shared.table_id.slots ≡ 1) },
 }
 
 impl<S: Named> NamedLock<S> {
@@ -39,7 +41,7 @@ impl<S: Named> NamedLock<S> {
     ghost use Rattle.named_lock.specs.Seats.{learnt, lock_id, lock_name, lock_seats, knows, any_saw_done, Sits, IsSeatOf, IsNewSeatOf, IsSameSeat, IsHeldBy};
 
     /// A lock with that many seats, of which there is at least one. The state's name is the lock's for good, and the sign
-    /// is Runs. It allocates four times, whatever the number of seats. `O(seats)`.
+    /// is Runs. It allocates four times, whatever the number of seats, and keeps three of the blocks. `O(seats)`.
     pub fn open(
         alloc: Global,
         state: S,
@@ -62,6 +64,7 @@ impl<S: Named> NamedLock<S> {
         state: S,
         seats: u32,
     ) -> Result<(NamedLock<S>, Seat<Option<S>, View<S::Name>>), NoMemory>
+        requires { 0 < seats }
         ensures lock { IfOk result (λ r. (lock_seats r.0 ≡ seats) × (lock_name r.0 ≡ S.name state)) }
         ensures seat { IfOk result (λ r. (r.1.table_id ≡ lock_id r.0) × (r.1.me ≡ (seated seats (lock_name r.0), []))) }
     {
@@ -71,8 +74,7 @@ impl<S: Named> NamedLock<S> {
         };
         let mut slots = Vec::with_capacity(alloc, 1)?;
         slots.push_reserved(Some(state));
-        let words = [FREE, 0, 0, 0, 0, 0, 0, 0, RUNS];
-        let Ok((table, first)) = Table::new(alloc, &words, slots, &opening) else {
+        let Ok((table, first)) = Table::new(alloc, &[0; 24], slots, &opening) else {
             return Err(NoMemory);
         };
         Ok((NamedLock { table }, first))
@@ -100,7 +102,7 @@ impl<S: Named> NamedLock<S> {
 
     /// Takes the state, for a seat of this lock that doesn't hold it. None comes exactly where this call's one
     /// compare_exchange found it taken, which the seat counts. The state has the name of the lock, and is done where the seat
-    /// has seen the sign Done. It takes no memory. `O(1)`.
+    /// has seen the sign Done. It takes no memory. `O(1)`, and a move of the state.
     pub fn try_take(&self, seat: &mut LockSeat<S>) -> Option<Held<S>>
         requires { IsSeatOf self.now false seat.old }
         ensures same { IsSameSeat seat.old seat.new }
@@ -123,7 +125,7 @@ impl<S: Named> NamedLock<S> {
     }
 
     /// Gives the state back, by the seat that took it. It has the name of the lock, and is done where it was done
-    /// when it was taken or when `finish` was called on it. It takes no memory. `O(1)`, one store.
+    /// when it was taken or when `finish` was called on it. It takes no memory. `O(1)`: one store, and a move of the state.
     pub fn give(&self, seat: &mut LockSeat<S>, held: Held<S>)
         requires seat { IsSeatOf self.now true seat.old × IsHeldBy seat.old held }
         requires name { S.name held.state ≡ lock_name self.now }
@@ -196,7 +198,7 @@ impl<S: Named> NamedLock<S> {
     /// Gives the state out for good, for all seats of the lock, none of which holds it. It is done where one of them has
     /// seen the sign Done. The lock stays taken, so it may stay in an `Arc`. It takes no memory. `O(seats)`.
     pub fn close(&self, mut seats: Vec<LockSeat<S>>) -> S
-        requires all { (vec_len seats ≡ lock_seats self.now) × (0 < vec_len seats) }
+        requires all { vec_len seats ≡ lock_seats self.now }
         requires free { All (IsSeatOf self.now false) seats.items }
         ensures name { S.name result ≡ lock_name self.now }
         ensures done { any_saw_done seats.items ≡ true → S.done result ≡ true }
@@ -223,7 +225,7 @@ impl<S: Named> NamedLock<S> {
 
     /// Takes the state by the seat that stands for all.
     fn take_last(&self, mut last: Seat<Option<S>, View<S::Name>>) -> S
-        requires { Sits (lock_id self.now) (lock_name self.now) (lock_seats self.now) false last × (0 < lock_seats self.now) }
+        requires { Sits (lock_id self.now) (lock_name self.now) (lock_seats self.now) false last }
         ensures name { S.name result ≡ lock_name self.now }
         ensures done { last.me.0.saw_done ≡ true → S.done result ≡ true }
     {

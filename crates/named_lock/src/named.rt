@@ -1,8 +1,10 @@
 // Values with a name.
 ghost use Rattle.std.specs.Prelude.{Bool};
 
+use std::marker::Send;
+
 /// A value that means a name, and that is done or not. It has no calls: what it means is there for contracts.
-pub trait Named: Drop {
+pub trait Named: Drop + Send {
     /// What names are.
     type Name;
 
