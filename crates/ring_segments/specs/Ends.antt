@@ -1,0 +1,99 @@
+-- The ends of a segment, links and notes, as contracts see them.
+use Rattle.std.specs.Prelude.{◌≡◌, ℕ, ◌+◌, ◌-◌, ◌^◌, ◌≤◌, ◌⊎◌, Option, Some, None, max}
+use Rattle.std.specs.Option.{ForSome}
+use Rattle.atomic_table.specs.Seated.{TableId}
+use Rattle.ring_segments.specs.Tags.{SegmentId}
+
+-- what the first tells, or else the second
+abbrev pub first_told : Option ℕ → Option ℕ → Option ℕ
+first_told (Some n) other = Some n
+first_told None other = other
+
+-- what a segment shows at each of its ends
+pub record Shown : Type 0 where
+  pub id : SegmentId
+  -- the caller's own number for it
+  pub key : ℕ
+  -- what no other segment has
+  pub table : TableId
+
+pub record ProducerState : Type 0 where
+  pub of : Shown
+  -- how many items it has pushed
+  pub pushed : ℕ
+  -- how often it has looked how much was popped, and how often the ring was full then
+  pub looks : ℕ
+  pub fulls : ℕ
+
+pub record ConsumerState : Type 0 where
+  pub of : Shown
+  -- how many items it has popped
+  pub popped : ℕ
+  -- so many, at least, it knows to have been pushed
+  pub known : ℕ
+  -- how many are ever pushed, where it has learnt that
+  pub all : Option ℕ
+  -- how often it has looked how much was pushed, and how often the ring was empty then
+  pub looks : ℕ
+  pub empties : ℕ
+
+pub record LinkState : Type 0 where
+  pub of : Shown
+  -- how many items its spent producer has pushed
+  pub pushed : ℕ
+  -- the consumer of the next segment
+  pub next : ConsumerState
+
+pub record NoteState : Type 0 where
+  pub table : TableId
+  -- how many items its producer had pushed
+  pub keeps : ℕ
+  -- how many it ever pushes, where the note came from a link, so that no push follows
+  pub all : Option ℕ
+
+abbrev pub new_producer : Shown → ProducerState
+new_producer of = record { of = of; pushed = 0; looks = 0; fulls = 0 }
+
+abbrev pub new_consumer : Shown → ConsumerState
+new_consumer of = record { of = of; popped = 0; known = 0; all = None; looks = 0; empties = 0 }
+
+-- a push after which there is one item more
+abbrev pub after_push : ProducerState → ProducerState
+after_push old = record old { pushed = old.pushed + 1; looks = old.looks + 1 }
+
+-- A push was refused: it looked once, and the ring was full then; or its count has no next number.
+abbrev pub WasRefused : ProducerState → ProducerState → Type 0
+WasRefused old new =
+    (new ≡ record old { looks = old.looks + 1; fulls = old.fulls + 1 }) ⊎ ((old.pushed ≡ 2 ^ 64 - 1) × (new ≡ old))
+
+-- a look that found so many items pushed
+abbrev pub after_look : ConsumerState → (pushed : ℕ) → ConsumerState
+after_look old pushed = record old { known = pushed; looks = old.looks + 1 }
+
+-- A look found the ring empty, so nothing is known to be pushed that isn't popped.
+pub record WasEmpty (old new : ConsumerState) : Type 0 where
+  pub state : new ≡ record (after_look old old.popped) { empties = old.empties + 1 }
+  pub known : old.known ≤ old.popped
+
+-- after a pop that gave an item
+abbrev pub after_pop : ConsumerState → (pushed : ℕ) → ConsumerState
+after_pop old pushed = record (after_look old pushed) { popped = old.popped + 1 }
+
+-- the note that a producer, and that a spent producer, gives
+abbrev pub note_of : Shown → ℕ → NoteState
+note_of of pushed = record { table = of.table; keeps = pushed; all = None }
+
+abbrev pub last_note_of : Shown → ℕ → NoteState
+last_note_of of pushed = record { table = of.table; keeps = pushed; all = Some pushed }
+
+-- what is known after a note
+abbrev pub after_learn : ConsumerState → NoteState → ConsumerState
+after_learn old note =
+    record old { known = max old.known note.keeps; all = first_told note.all old.all; looks = old.looks + 1 }
+
+-- no more was popped than is ever pushed, where that is known
+abbrev pub IsWithin : ConsumerState → Type 0
+IsWithin c = ForSome c.all (λ n. c.popped ≤ n)
+
+abbrev pub link_of : ProducerState → ConsumerState → LinkState
+link_of producer next = record { of = producer.of; pushed = producer.pushed; next = next }

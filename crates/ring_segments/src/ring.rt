@@ -1,0 +1,59 @@
+// What both ends of a segment share.
+ghost use Rattle.std.specs.Prelude.{◌≡◌, ◌≤◌, IfOk};
+ghost use Rattle.std.specs.Option.{ForSome};
+ghost use Rattle.swan_model.specs.Segments.{IsSegmentOf};
+ghost use Rattle.ring_segments.specs.Ends.{new_consumer, new_producer};
+ghost use Rattle.ring_segments.specs.Tags.{tag_of};
+
+use crate::{About, Consumer, Ends, Entry, Producer, RingRule, Seen, Tag};
+use atomic_table::{Seat, Table};
+use std::alloc::Global;
+use std::sync::Arc;
+use swan_model::{NoMemory, RunName};
+
+/// The word that counts what was popped.
+pub(crate) const HEAD: usize = 0;
+
+/// The word that counts what was pushed. It stands a cache line behind the other.
+pub(crate) const TAIL: usize = 8;
+
+pub(crate) type RingTable = Table<Option<Entry>, Seen, About, RingRule, Global>;
+
+pub(crate) type Place = Seat<Option<Entry>, Seen>;
+
+/// What both ends of a segment share.
+#[derive(Drop)]
+pub(crate) struct Ring {
+    pub(crate) table: RingTable,
+    pub(crate) about: About,
+}
+
+/// A new segment of that many places: the end that pushes to it and the end that pops from it.
+///
+/// The name is that of its run, the tag says what made it, and the key is the caller's own number for it, which all its
+/// ends show. Where the name has a script, the segment owes a list by it.
+pub fn segment(
+    alloc: Global,
+    name: RunName,
+    tag: Tag,
+    key: u64,
+    size: u32,
+) -> Result<(Producer, Consumer), NoMemory>
+    requires size { (1 ≤ size) × (size ≤ 16777216) }
+    requires tag { ForSome name (λ s. IsSegmentOf s (tag_of tag)) }
+    ensures producer { IfOk result (λ ends. ends.0 ≡ new_producer ends.0.of) }
+    ensures consumer { IfOk result (λ ends. ends.1 ≡ new_consumer ends.0.of) }
+    ensures shown { IfOk result (λ ends. (ends.0.of.id ≡ record { name = name; tag = tag_of tag }) × (ends.0.of.key ≡ key)) }
+{
+    let about = About {
+        name,
+        tag,
+        key,
+        size: size as u64,
+    };
+    let (table, mut first) = Table::vacant(alloc, &[0; 9], size as usize, &about)?;
+    let second = table.shared.split_seat::<Ends>(&mut first);
+    let ring = Arc::new(alloc, Ring { table, about })?;
+    let other = Arc::try_clone(&ring)?;
+    Ok((Producer::new(ring, first), Consumer::new(other, second)))
+}

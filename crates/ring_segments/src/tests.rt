@@ -1,0 +1,4 @@
+// Segments with the free name, in one thread and in two.
+mod calls;
+mod helpers;
+mod threads;
