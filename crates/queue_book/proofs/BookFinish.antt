@@ -12,14 +12,14 @@ use Rattle.swan_model.specs.QueueState.{ActiveFrame, Maker, planned, made_by, Qu
 use Rattle.swan_model.specs.Readings.{end_time}
 use Rattle.swan_model.proofs.Lists.{some_within}
 use Rattle.queue_book.specs.Asks.{MayJoin, OnNext}
-use Rattle.queue_book.specs.Book.{Chunks, closed}
+use Rattle.queue_book.specs.Book.{Chunks, after_close}
 use Rattle.queue_book.specs.Chains.{Link, AreChained}
-use Rattle.queue_book.specs.Ended.{ended_line, ended_lines, placed_at, IsAlone}
-use Rattle.queue_book.specs.Kept.{Kept, place_in}
+use Rattle.queue_book.specs.Ended.{line_after_end, lines_after_end, own_keys, IsAlone}
+use Rattle.queue_book.specs.KeptFrames.{KeptFrame, own_chunk_in}
 use Rattle.queue_book.specs.Live.{kept_of, key_at, key_in, IsFrame, IsOnlyChange}
 use Rattle.queue_book.specs.Tree.{IsTree, has_queue, maker_path}
 use Rattle.queue_book.specs.Whole.{IsBook, IsInUse, IsLine, IsPlain}
-use Rattle.queue_book.specs.declared.frame.Place.{Place}
+use Rattle.queue_book.specs.declared.live_frame.OwnChunk.{OwnChunk}
 use Rattle.queue_book.specs.declared.live_frames.LiveFrames.{LiveFrames}
 use Rattle.queue_book.proofs.ActiveAfter.{others_finished}
 use Rattle.queue_book.proofs.ChainChanges.{chained_same}
@@ -61,7 +61,7 @@ below_root state tree n frame live other none =
     omega arith
 
 module _ (name : Option Script) (state : QueueState) (lines : ℕ → Chunks) (is : IsPlain name state lines) (n : ℕ) (may : MayJoin state n)
-    (over : OnNext name state n (λ s f. next_queue_deed s f.path f.deeds ≡ None)) (kept : Kept) (agrees : IsFrame state kept may.frame) where
+    (over : OnNext name state n (λ s f. next_queue_deed s f.path f.deeds ≡ None)) (kept : KeptFrame) (agrees : IsFrame state kept may.frame) where
   module _ (q : ℕ) (maker : Maker) (made : slice_get state.makers q ≡ Some maker) where
     line_gone : has_queue may.frame q ≡ false → IsLine name (after_finish state n) q maker (lines q)
     line_gone lacks =
@@ -77,7 +77,7 @@ module _ (name : Option Script) (state : QueueState) (lines : ℕ → Chunks) (i
           emptied = line.emptied;
         }
 
-    line_closed : IsLine name (after_finish state n) q maker (closed n (lines q))
+    line_closed : IsLine name (after_finish state n) q maker (after_close n (lines q))
     line_closed =
         let line = is.queues q maker made in
         record {
@@ -87,7 +87,7 @@ module _ (name : Option Script) (state : QueueState) (lines : ℕ → Chunks) (i
               n may.frame may.may.live line.owners
               (on_next name state n (λ t f. next_queue_deed t f.path f.deeds ≡ None) s may.frame over named may.may.live)
               ((is.follows s named lawful).tasks n may.frame may.may.live).some;
-          emptied = λ taken. ap (closed n) (line.emptied taken);
+          emptied = λ taken. ap (after_close n) (line.emptied taken);
         }
 
     line_over : n ≢ 0 → may.frame.path ≡ maker_path maker → IsLine name (after_finish state n) q maker []
@@ -100,20 +100,20 @@ module _ (name : Option Script) (state : QueueState) (lines : ℕ → Chunks) (i
       emptied = λ taken. refl;
     }
 
-    line_ended : IsLine name (after_finish state n) q maker (ended_line n (place_in kept.places q) (lines q))
-    line_ended = by (place_in kept.places q) refl where
-      given_up : (place : Place) → place_in kept.places q ≡ Some place → (b : Bool) → (place.is_maker && not (n == 0)) ≡ b
-          → IsLine name (after_finish state n) q maker (if b then [] else closed n (lines q))
+    line_ended : IsLine name (after_finish state n) q maker (line_after_end n (own_chunk_in kept.places q) (lines q))
+    line_ended = by (own_chunk_in kept.places q) refl where
+      given_up : (place : OwnChunk) → own_chunk_in kept.places q ≡ Some place → (b : Bool) → (place.is_maker && not (n == 0)) ≡ b
+          → IsLine name (after_finish state n) q maker (if b then [] else after_close n (lines q))
       given_up place at true yes_over =
           let parts = and_parts place.is_maker (not (n == 0)) yes_over in
           line_over (λ root. not_true (n == 0) parts.1 (ap (λ k. k == 0) root ∙ eq_same 0)) (agrees.made q place maker at made parts.0)
       given_up place at false stays = line_closed
 
-      by : (o : Option Place) → place_in kept.places q ≡ o → IsLine name (after_finish state n) q maker (ended_line n o (lines q))
+      by : (o : Option OwnChunk) → own_chunk_in kept.places q ≡ o → IsLine name (after_finish state n) q maker (line_after_end n o (lines q))
       by None at = line_gone (sym (agrees.places q) ∙ ap is_some at)
       by (Some place) at = given_up place at (place.is_maker && not (n == 0)) refl
 
-  pub plain_finish : IsPlain name (after_finish state n) (ended_lines n kept.places lines)
+  pub plain_finish : IsPlain name (after_finish state n) (lines_after_end n kept.places lines)
   plain_finish = record {
     tree = tree_finish state n is.tree may;
     follows = λ s named lawful. finished_follows s state (is.follows s named lawful) n may.alone;
@@ -123,18 +123,18 @@ module _ (name : Option Script) (state : QueueState) (lines : ℕ → Chunks) (i
   }
 
 module _ (name : Option Script) (state : QueueState) (frames : LiveFrames) (heads : List (Option ℕ)) (nodes : Slab Link) (turns : Frames) (is : IsBook name state frames heads nodes turns)
-    (n : ℕ) (may : MayJoin state n) (kept : Kept) (at : kept_of frames n ≡ Some kept) where
+    (n : ℕ) (may : MayJoin state n) (kept : KeptFrame) (at : kept_of frames n ≡ Some kept) where
   pub kept_frame : IsFrame state kept may.frame
   kept_frame =
       let was = kept_live state frames is.live n may.frame may.may.live in
       let both : Some was.0 ≡ Some kept = sym was.1 ∙ at in
       let same : was.0 ≡ kept = cc in
-      let P : Kept → Type 0 = λ k. IsFrame state k may.frame in
+      let P : KeptFrame → Type 0 = λ k. IsFrame state k may.frame in
       subst P same was.2
 
-  keys_own : (m q : ℕ) → placed_at n kept.places (key_at frames) m q ≡ key_at frames m q
+  keys_own : (m q : ℕ) → own_keys n kept.places (key_at frames) m q ≡ key_at frames m q
   keys_own m q = by (m == n) refl where
-    by : (b : Bool) → (m == n) ≡ b → (if b then option_map (λ (place : Place). place.key) (place_in kept.places q) else key_at frames m q) ≡ key_at frames m q
+    by : (b : Bool) → (m == n) ≡ b → (if b then option_map (λ (place : OwnChunk). place.key) (own_chunk_in kept.places q) else key_at frames m q) ≡ key_at frames m q
     by true e = sym (ap (λ k. key_at frames k q) (eq_of m n e) ∙ ap (λ o. key_in o q) at)
     by false e = refl
 
@@ -145,23 +145,23 @@ module _ (name : Option Script) (state : QueueState) (frames : LiveFrames) (head
       key_none state frames is.live other q (λ frame live has.
       none_has state n q maker.0 is.plain.tree may maker.1 (kept_frame.made q place maker.0 found maker.1 made) other frame (others_finished state n other apart ∙ live) has)
 
-  pub chained_before : AreChained (placed_at n kept.places (key_at frames)) heads nodes is.lines
-  chained_before = chained_same (key_at frames) (placed_at n kept.places (key_at frames)) heads nodes is.lines is.lines keys_own (λ q. refl) is.chained
+  pub chained_before : AreChained (own_keys n kept.places (key_at frames)) heads nodes is.lines
+  chained_before = chained_same (key_at frames) (own_keys n kept.places (key_at frames)) heads nodes is.lines is.lines keys_own (λ q. refl) is.chained
 
   pub book_finish : OnNext name state n (λ s f. next_queue_deed s f.path f.deeds ≡ None) → (after_frames : LiveFrames) → IsOnlyChange frames after_frames n None
       → (after_heads : List (Option ℕ)) (after_nodes : Slab Link) → length after_heads ≡ length heads
-      → AreChained (placed_at n [] (key_at frames)) after_heads after_nodes (ended_lines n kept.places is.lines)
+      → AreChained (own_keys n [] (key_at frames)) after_heads after_nodes (lines_after_end n kept.places is.lines)
       → IsBook name (after_finish state n) after_frames after_heads after_nodes (without turns n)
   book_finish over after_frames one after_heads after_nodes same chained = record {
-    lines = ended_lines n kept.places is.lines;
+    lines = lines_after_end n kept.places is.lines;
     plain = plain_finish name state is.lines is.plain n may over kept kept_frame;
     live = live_gone state (after_finish state n) is.plain.tree frames after_frames is.live n (others_finished state n) (λ q maker less made. made) one (gone_now state n);
     count = same ∙ is.count;
-    chained = chained_same (placed_at n [] (key_at frames)) (key_at after_frames) after_heads after_nodes (ended_lines n kept.places is.lines) (ended_lines n kept.places is.lines)
+    chained = chained_same (own_keys n [] (key_at frames)) (key_at after_frames) after_heads after_nodes (lines_after_end n kept.places is.lines) (lines_after_end n kept.places is.lines)
         keys_after (λ q. refl) chained;
     turned = turns_gone state (after_finish state n) turns n (others_finished state n) (gone_now state n) refl is.turned;
   } where
-    keys_after : (m q : ℕ) → key_at after_frames m q ≡ placed_at n [] (key_at frames) m q
+    keys_after : (m q : ℕ) → key_at after_frames m q ≡ own_keys n [] (key_at frames) m q
     keys_after m q = by (m == n) refl where
       by : (b : Bool) → (m == n) ≡ b → key_at after_frames m q ≡ (if b then None else key_at frames m q)
       by true e = ap (λ k. key_at after_frames k q) (eq_of m n e) ∙ ap (λ o. key_in o q) one.changed

@@ -13,7 +13,7 @@ use Rattle.swan_model.specs.QueueFollows.{next_item, origin_in, is_ripe_among}
 use Rattle.swan_model.specs.QueueState.{ActiveFrame, Maker, QueueState, active, holds_queue, HasTurn, IsPoppingChild}
 use Rattle.swan_model.specs.Readings.{end_time}
 use Rattle.queue_book.specs.Asks.{is_emptied, MayLook, MayUse, IsOnTurn}
-use Rattle.queue_book.specs.Book.{Chunk, Chunks, HasOwners, IsOwner, Matches, trimmed}
+use Rattle.queue_book.specs.Book.{Chunk, Chunks, HasOwners, IsOwner, Matches, without_spent}
 use Rattle.queue_book.specs.Chains.{Link, AreChained, in_line, IsFront}
 use Rattle.queue_book.specs.Fronts.{IsBare, IsFrontTold, IsTurnTold, first_open}
 use Rattle.queue_book.specs.Live.{AreLive, is_pusher, key_at}
@@ -209,11 +209,11 @@ module _ (name : Option Script) (state : QueueState) (frames : LiveFrames) (head
   pub known : q < length heads
   known = let less = (is.plain.tree.held n q may.frame may.may.live (has_held may.frame q Pop may.held)).0 in omega (arith, is.count, less)
 
-  pub trim : IsPlain name state (in_line q trimmed is.lines)
+  pub trim : IsPlain name state (in_line q without_spent is.lines)
   trim = plain_trim name state is.lines q is.plain
 
-  pub line : in_line q trimmed is.lines q ≡ trimmed (is.lines q)
-  line = line_same q trimmed is.lines
+  pub line : in_line q without_spent is.lines q ≡ without_spent (is.lines q)
+  line = line_same q without_spent is.lines
 
   has_it : has_queue may.frame q ≡ true
   has_it = has_held may.frame q Pop may.held
@@ -223,8 +223,8 @@ module _ (name : Option Script) (state : QueueState) (frames : LiveFrames) (head
 
   -- the value after the look
   module _ (after_heads : List (Option ℕ)) (after_nodes : Slab Link) (same : length after_heads ≡ length heads) where
-    pub book_trimmed : AreChained (key_at frames) after_heads after_nodes (in_line q trimmed is.lines) → IsBook name state frames after_heads after_nodes turns
-    book_trimmed chained = record { lines = in_line q trimmed is.lines; plain = trim; live = is.live; count = same ∙ is.count; chained = chained; turned = is.turned }
+    pub book_trimmed : AreChained (key_at frames) after_heads after_nodes (in_line q without_spent is.lines) → IsBook name state frames after_heads after_nodes turns
+    book_trimmed chained = record { lines = in_line q without_spent is.lines; plain = trim; live = is.live; count = same ∙ is.count; chained = chained; turned = is.turned }
 
     pub book_looked : (answer : Tested) → IsFrontTold frames (key_at frames) after_heads after_nodes is.lines n q answer → IsBook name state frames after_heads after_nodes turns
     book_looked (tested.NotYet (PopTurn m)) told = record { lines = is.lines; plain = is.plain; live = is.live; count = same ∙ is.count; chained = told; turned = is.turned }
@@ -235,7 +235,7 @@ module _ (name : Option Script) (state : QueueState) (frames : LiveFrames) (head
     book_looked (tested.NotYet (Version m)) told = absurd told
 
     module _ (turn : IsOnTurn name state n) where
-      now_none : (chunks : Chunks) → chunks ≡ trimmed (is.lines q) → IsBare (trimmed (is.lines q)) → IsBare chunks
+      now_none : (chunks : Chunks) → chunks ≡ without_spent (is.lines q) → IsBare (without_spent (is.lines q)) → IsBare chunks
       now_none chunks are bare = let P : Chunks → Type 0 = λ cs. IsBare cs in subst P (sym are) bare
 
       -- the answer
@@ -250,28 +250,28 @@ module _ (name : Option Script) (state : QueueState) (frames : LiveFrames) (head
       looked (tested.NotYet (Pusher m)) turned told =
           let number : may.frame.number ≡ n = active_number state n may.frame may.may.live in
           let alone = alone_by turned in
-          let lines = in_line q trimmed is.lines in
-          let met : first_open frames n q (in_line q trimmed is.lines q) ≡ Some m = ap (first_open frames n q) line ∙ told.2 in
-          let maker = made name state frames is.live (in_line q trimmed is.lines) trim n q may turn in
+          let lines = in_line q without_spent is.lines in
+          let met : first_open frames n q (in_line q without_spent is.lines q) ≡ Some m = ap (first_open frames n q) line ∙ told.2 in
+          let maker = made name state frames is.live (in_line q without_spent is.lines) trim n q may turn in
           let Q : ℕ → Type 0 = λ k. (other : ℕ) → ¬ IsPoppingChild state k q other in (
             subst Q (sym number) alone,
-            first_pusher name state frames is.live (in_line q trimmed is.lines) trim n q may turn m met,
+            first_pusher name state frames is.live (in_line q without_spent is.lines) trim n q may turn m met,
             on_queue name state q maker.0 (λ s origin. is_ripe_among s state may.frame q origin ≡ false) maker.1
-                (λ s named lawful. not_ripe_yet name state frames is.live (in_line q trimmed is.lines) trim n q may turn alone (now_none _ line told.1) s named lawful m met),
+                (λ s named lawful. not_ripe_yet name state frames is.live (in_line q without_spent is.lines) trim n q may turn alone (now_none _ line told.1) s named lawful m met),
           )
       looked tested.Holds turned told =
           let alone = alone_by turned in
           let P : Chunks → Type 0 = λ chunks. IsItemFirst chunks in
-          let first : IsItemFirst (in_line q trimmed is.lines q) = subst P (sym line) (item_first (trimmed (is.lines q)) told.1) in
-          let maker = made name state frames is.live (in_line q trimmed is.lines) trim n q may turn in
+          let first : IsItemFirst (in_line q without_spent is.lines q) = subst P (sym line) (item_first (without_spent (is.lines q)) told.1) in
+          let maker = made name state frames is.live (in_line q without_spent is.lines) trim n q may turn in
           on_queue name state q maker.0 (FindsItem may.frame) maker.1
-          (λ s named lawful. (finds_item name state frames is.live (in_line q trimmed is.lines) trim n q may turn alone first s named lawful).1)
+          (λ s named lawful. (finds_item name state frames is.live (in_line q without_spent is.lines) trim n q may turn alone first s named lawful).1)
       looked tested.Empty turned told =
           let alone = alone_by turned in
-          let met : first_open frames n q (in_line q trimmed is.lines q) ≡ None = ap (first_open frames n q) line ∙ told.2 in
-          let maker = made name state frames is.live (in_line q trimmed is.lines) trim n q may turn in
+          let met : first_open frames n q (in_line q without_spent is.lines q) ≡ None = ap (first_open frames n q) line ∙ told.2 in
+          let maker = made name state frames is.live (in_line q without_spent is.lines) trim n q may turn in
           on_queue name state q maker.0 (FindsNone may.frame) maker.1
-          (λ s named lawful. finds_none name state frames is.live (in_line q trimmed is.lines) trim n q may turn alone (now_none _ line told.1) s named lawful met)
+          (λ s named lawful. finds_none name state frames is.live (in_line q without_spent is.lines) trim n q may turn alone (now_none _ line told.1) s named lawful met)
       looked (tested.NotYet (Child m)) turned told = absurd told
       looked (tested.NotYet (Version m)) turned told = absurd told
 
@@ -283,16 +283,16 @@ module _ (name : Option Script) (state : QueueState) (frames : LiveFrames) (head
           subst P same_one (looked answer turned told)
 
     -- what a pop finds
-    pub found_item : IsFrontTold frames (key_at frames) after_heads after_nodes is.lines n q tested.Holds → IsItemFirst (in_line q trimmed is.lines q)
-    found_item told = let P : Chunks → Type 0 = λ chunks. IsItemFirst chunks in subst P (sym line) (item_first (trimmed (is.lines q)) told.1)
+    pub found_item : IsFrontTold frames (key_at frames) after_heads after_nodes is.lines n q tested.Holds → IsItemFirst (in_line q without_spent is.lines q)
+    found_item told = let P : Chunks → Type 0 = λ chunks. IsItemFirst chunks in subst P (sym line) (item_first (without_spent (is.lines q)) told.1)
 
     pub popped_all : IsOnTurn name state n → IsTurnTold turns n q tested.Holds → (told : IsFrontTold frames (key_at frames) after_heads after_nodes is.lines n q tested.Holds) (value : Value)
         → value ≡ (found_item told).value → (f : ActiveFrame) → active state n ≡ Some f → IsPopped name state f q (popped.Item value)
     popped_all turn turned told value value_is f live =
         let same_one : may.frame ≡ f = same_frame (active state n) may.frame f may.may.live live in
-        let maker = made name state frames is.live (in_line q trimmed is.lines) trim n q may turn in
+        let maker = made name state frames is.live (in_line q without_spent is.lines) trim n q may turn in
         let P : ActiveFrame → Type 0 = λ g. IsPopped name state g q (popped.Item value) in
         let Q : Value → Type 0 = λ v. IsPopped name state may.frame q (popped.Item v) in
         subst P same_one (subst Q (sym value_is)
         (on_queue name state q maker.0 (λ s origin. (next_item s may.frame origin ≡ Some (found_item told).value) × FindsItem may.frame s origin) maker.1
-        (λ s named lawful. finds_item name state frames is.live (in_line q trimmed is.lines) trim n q may turn (alone_by turned) (found_item told) s named lawful)))
+        (λ s named lawful. finds_item name state frames is.live (in_line q without_spent is.lines) trim n q may turn (alone_by turned) (found_item told) s named lawful)))

@@ -11,9 +11,9 @@ use Rattle.swan_model.specs.QueueState.{ActiveFrame, QueueState, active, after_b
 use Rattle.queue_book.specs.Asks.{IsRecorded}
 use Rattle.queue_book.specs.Calls.{with_active}
 use Rattle.queue_book.specs.Chains.{Link}
-use Rattle.queue_book.specs.Kept.{Kept}
+use Rattle.queue_book.specs.KeptFrames.{KeptFrame}
 use Rattle.queue_book.specs.Live.{is_lent_with, kept_of, key_at, AreLive, IsFrame, IsOnlyChange}
-use Rattle.queue_book.specs.NoEnds.{ends_of}
+use Rattle.queue_book.specs.NoEnds.{no_ends}
 use Rattle.queue_book.specs.Whole.{IsBook}
 use Rattle.queue_book.specs.declared.live_frames.LiveFrames.{LiveFrames}
 use Rattle.queue_book.proofs.ActiveAfter.{others_changed, own_changed}
@@ -23,7 +23,7 @@ use Rattle.queue_book.proofs.LiveKept.{kept_live, keys_same, live_kept, live_one
 use Rattle.queue_book.proofs.PlainLent.{back_alike, lend_alike, plain_back, plain_lend}
 use Rattle.queue_book.proofs.TurnsKept.{turns_alike}
 
-abbrev pub with_lent : Bool → Kept → Kept
+abbrev pub with_lent : Bool → KeptFrame → KeptFrame
 with_lent lent kept = record kept { is_lent = lent }
 
 -- what a call makes of an active frame
@@ -32,14 +32,14 @@ called state n f change live = ap (with_active change state) live
 
 module _ (name : Option Script) (state : QueueState) (frames : LiveFrames) (heads : List (Option ℕ)) (nodes : Slab Link) (turns : Frames) (is : IsBook name state frames heads nodes turns)
     (n : ℕ) (frame : ActiveFrame) (live : active state n ≡ Some frame) where
-  pub book_lend : (after_frames : LiveFrames) → IsOnlyChange frames after_frames n (option_map (λ (kept : Kept). record kept { is_lent = true }) (kept_of frames n))
+  pub book_lend : (after_frames : LiveFrames) → IsOnlyChange frames after_frames n (option_map (λ (kept : KeptFrame). record kept { is_lent = true }) (kept_of frames n))
       → IsBook name (after_lend state frame []) after_frames heads nodes turns
   book_lend after_frames one =
       let number = active_number state n frame live in
       let change : ActiveFrame → ActiveFrame = λ f. record f { lent = Some (record { deeds = frame.deeds; ends = [] }) } in
       let was = kept_live state frames is.live n frame live in
       let kept = was.0 in
-      let P : Option Kept → Type 0 = λ o. IsOnlyChange frames after_frames n o in
+      let P : Option KeptFrame → Type 0 = λ o. IsOnlyChange frames after_frames n o in
       let lent_one : IsOnlyChange frames after_frames n (Some (with_lent true kept)) = subst P (ap (option_map (with_lent true)) was.1) one in
       let Q : ℕ → Type 0 = λ k. IsOnlyChange frames after_frames k (Some (with_lent true kept)) in
       let own : active state frame.number ≡ Some frame = ap (active state) number ∙ live in
@@ -62,13 +62,13 @@ module _ (name : Option Script) (state : QueueState) (frames : LiveFrames) (head
         turned = turns_alike state (after_lend state frame []) turns (lend_alike name state is.lines is.plain n frame live []) refl is.turned;
       }
 
-  pub book_back : (after_frames : LiveFrames) → IsOnlyChange frames after_frames n (option_map (λ (kept : Kept). record kept { is_lent = false }) (kept_of frames n))
+  pub book_back : (after_frames : LiveFrames) → IsOnlyChange frames after_frames n (option_map (λ (kept : KeptFrame). record kept { is_lent = false }) (kept_of frames n))
       → IsBook name (after_back state n frame.deeds) after_frames heads nodes turns
   book_back after_frames one =
       let change : ActiveFrame → ActiveFrame = λ f. record f { deeds = frame.deeds; lent = None } in
       let was = kept_live state frames is.live n frame live in
       let kept = was.0 in
-      let P : Option Kept → Type 0 = λ o. IsOnlyChange frames after_frames n o in
+      let P : Option KeptFrame → Type 0 = λ o. IsOnlyChange frames after_frames n o in
       let back_one : IsOnlyChange frames after_frames n (Some (with_lent false kept)) = subst P (ap (option_map (with_lent false)) was.1) one in
       let now : IsFrame (after_back state n frame.deeds) (with_lent false kept) (change frame) = record {
         deeds = was.2.deeds;
@@ -95,12 +95,12 @@ by_none s path from to same = record { order = omega (arith, same); each = λ k 
 
 -- ---- whether ends are those that were recorded
 
-lent_with : (kept : Option Kept) (deeds : ℕ) → is_lent_with kept deeds ≡ true → (one : Kept) × (kept ≡ Some one) × (one.is_lent ≡ true) × (one.deeds ≡ deeds)
+lent_with : (kept : Option KeptFrame) (deeds : ℕ) → is_lent_with kept deeds ≡ true → (one : KeptFrame) × (kept ≡ Some one) × (one.is_lent ≡ true) × (one.deeds ≡ deeds)
 lent_with None deeds none = let never : false ≡ true = none in absurd (cc)
 lent_with (Some one) deeds both = let parts = and_parts one.is_lent (one.deeds == deeds) both in (one, refl, parts.0, eq_of one.deeds deeds parts.1)
 
 pub recorded : (state : QueueState) (frames : LiveFrames) → AreLive state frames → (n deeds : ℕ) (path : List ℕ) → is_lent_with (kept_of frames n) deeds ≡ true
-    → (is : IsRecorded state n (ends_of n deeds path)) × (is.frame.deeds ≡ deeds)
+    → (is : IsRecorded state n (no_ends n deeds path)) × (is.frame.deeds ≡ deeds)
 recorded state frames live n deeds path lent =
     let kept = lent_with (kept_of frames n) deeds lent in
     let frame = live_kept state frames live n kept.0 kept.1 in (

@@ -15,13 +15,13 @@ use Rattle.swan_model.specs.QueueState.{ActiveFrame, Maker, planned, made_by, Qu
 use Rattle.queue_book.specs.Asks.{DEEDS_MOST, MayDo, IsOnTurn, OnNext}
 use Rattle.queue_book.specs.Book.{own}
 use Rattle.queue_book.specs.Chains.{Link, AreChained, in_line, put_at}
-use Rattle.queue_book.specs.Kept.{Kept, place_in}
-use Rattle.queue_book.specs.Live.{kept_of, key_at, lent_of, with_place, IsFrame, IsOnlyChange}
+use Rattle.queue_book.specs.KeptFrames.{KeptFrame, own_chunk_in}
+use Rattle.queue_book.specs.Live.{kept_of, key_at, lent_of, with_own_chunk, IsFrame, IsOnlyChange}
 use Rattle.queue_book.specs.Made.{IsMadeIn}
 use Rattle.queue_book.specs.Tree.{has_queue, maker_path}
 use Rattle.queue_book.specs.Turned.{AreTurns}
 use Rattle.queue_book.specs.Whole.{IsBook, IsPlain}
-use Rattle.queue_book.specs.declared.frame.Place.{Place}
+use Rattle.queue_book.specs.declared.live_frame.OwnChunk.{OwnChunk}
 use Rattle.queue_book.specs.declared.live_frames.LiveFrames.{LiveFrames}
 use Rattle.queue_book.proofs.ActiveAfter.{AreOthers, others_changed, own_changed}
 use Rattle.queue_book.proofs.BookDeeds.{counted, lent_none, not_lent}
@@ -35,7 +35,7 @@ use Rattle.queue_book.proofs.Making.{holds_before, holds_cases}
 use Rattle.queue_book.proofs.OpenOwners.{pushes_made}
 use Rattle.queue_book.proofs.PlainMade.{plain_create, plain_create_root}
 
-pub one_place : (o : Option Place) (a b : Place) → o ≡ Some a → o ≡ Some b → a ≡ b
+pub one_place : (o : Option OwnChunk) (a b : OwnChunk) → o ≡ Some a → o ≡ Some b → a ≡ b
 one_place o a b one two = let both : Some a ≡ Some b = sym one ∙ two in cc
 
 module _ (name : Option Script) (state after : QueueState) (frames : LiveFrames) (heads : List (Option ℕ)) (nodes : Slab Link) (turns : Frames) (is : IsBook name state frames heads nodes turns)
@@ -96,14 +96,14 @@ module _ (name : Option Script) (state after : QueueState) (frames : LiveFrames)
         ];
   }
 
-  module _ (after_frames : LiveFrames) (key : ℕ) (kept now_kept : Kept) (was : kept_of frames n ≡ Some kept) (agrees : IsFrame state kept frame)
+  module _ (after_frames : LiveFrames) (key : ℕ) (kept now_kept : KeptFrame) (was : kept_of frames n ≡ Some kept) (agrees : IsFrame state kept frame)
       (one : IsOnlyChange frames after_frames n (Some now_kept)) (deeds : now_kept.deeds ≡ later.deeds) (lent : later.lent ≡ lent_of now_kept)
-      (places : now_kept.places ≡ (with_place (length state.makers) (record { key = key; is_maker = true; pushes = true }) kept).places) where
-    abbrev place_now : Place
+      (places : now_kept.places ≡ (with_own_chunk (length state.makers) (record { key = key; is_maker = true; pushes = true }) kept).places) where
+    abbrev place_now : OwnChunk
     place_now = record { key = key; is_maker = true; pushes = true }
 
-    at_place : (q : ℕ) → place_in now_kept.places q ≡ place_in (with_place (length state.makers) (record { key = key; is_maker = true; pushes = true }) kept).places q
-    at_place q = ap (λ ps. place_in ps q) places
+    at_place : (q : ℕ) → own_chunk_in now_kept.places q ≡ own_chunk_in (with_own_chunk (length state.makers) (record { key = key; is_maker = true; pushes = true }) kept).places q
+    at_place q = ap (λ ps. own_chunk_in ps q) places
 
     is_frame : IsFrame after now_kept later
     is_frame = record {
@@ -120,10 +120,10 @@ module _ (name : Option Script) (state after : QueueState) (frames : LiveFrames)
       ];
       given = λ q pl m at made not_maker. elim (cases_eq q (length state.makers)) [
         | inl here ↦
-            let its : place_in now_kept.places q ≡ Some (record { key = key; is_maker = true; pushes = true }) =
-            ap (λ k. place_in now_kept.places k) here ∙ at_place (length state.makers) ∙ place_here kept (length state.makers) (record { key = key; is_maker = true; pushes = true }) in
-            let same : pl ≡ record { key = key; is_maker = true; pushes = true } = one_place (place_in now_kept.places q) pl (record { key = key; is_maker = true; pushes = true }) at its in
-            let never : true ≡ false = ap (λ (p : Place). p.is_maker) (sym same) ∙ not_maker in
+            let its : own_chunk_in now_kept.places q ≡ Some (record { key = key; is_maker = true; pushes = true }) =
+            ap (λ k. own_chunk_in now_kept.places k) here ∙ at_place (length state.makers) ∙ place_here kept (length state.makers) (record { key = key; is_maker = true; pushes = true }) in
+            let same : pl ≡ record { key = key; is_maker = true; pushes = true } = one_place (own_chunk_in now_kept.places q) pl (record { key = key; is_maker = true; pushes = true }) at its in
+            let never : true ≡ false = ap (λ (p : OwnChunk). p.is_maker) (sym same) ∙ not_maker in
             absurd (cc)
         | inr other ↦
             let old = sym (place_elsewhere kept (length state.makers) (record { key = key; is_maker = true; pushes = true }) q other) ∙ sym (at_place q) ∙ at in
@@ -132,10 +132,10 @@ module _ (name : Option Script) (state after : QueueState) (frames : LiveFrames)
       ];
       pushers = λ q pl at. elim (cases_eq q (length state.makers)) [
         | inl here ↦
-            let its : place_in now_kept.places q ≡ Some place_now =
-            ap (λ k. place_in now_kept.places k) here ∙ at_place (length state.makers) ∙ place_here kept (length state.makers) place_now in
-            let same : pl ≡ place_now = one_place (place_in now_kept.places q) pl place_now at its in
-            ap (λ (p : Place). p.pushes) same ∙ sym (later_holds q Push ∙ ap (λ k. holds_queue (with_made (length state.makers) frame) k Push) here ∙ pushes_made frame (length state.makers))
+            let its : own_chunk_in now_kept.places q ≡ Some place_now =
+            ap (λ k. own_chunk_in now_kept.places k) here ∙ at_place (length state.makers) ∙ place_here kept (length state.makers) place_now in
+            let same : pl ≡ place_now = one_place (own_chunk_in now_kept.places q) pl place_now at its in
+            ap (λ (p : OwnChunk). p.pushes) same ∙ sym (later_holds q Push ∙ ap (λ k. holds_queue (with_made (length state.makers) frame) k Push) here ∙ pushes_made frame (length state.makers))
         | inr other ↦
             let old = sym (place_elsewhere kept (length state.makers) place_now q other) ∙ sym (at_place q) ∙ at in
             let less = (is.plain.tree.held n q frame live (place_has state kept frame q pl agrees old)).0 in
@@ -161,7 +161,7 @@ module _ (name : Option Script) (state after : QueueState) (frames : LiveFrames)
     }
 
 -- one change after another
-pub one_then : (a b c : LiveFrames) (n : ℕ) (kept : Kept) (change : Kept → Kept) → IsOnlyChange a b n (Some kept) → IsOnlyChange b c n (option_map change (kept_of b n)) → IsOnlyChange a c n (Some (change kept))
+pub one_then : (a b c : LiveFrames) (n : ℕ) (kept : KeptFrame) (change : KeptFrame → KeptFrame) → IsOnlyChange a b n (Some kept) → IsOnlyChange b c n (option_map change (kept_of b n)) → IsOnlyChange a c n (Some (change kept))
 one_then a b c n kept change first second = record {
   changed = second.changed ∙ ap (option_map change) first.changed;
   others = λ m other. second.others m other ∙ first.others m other;
@@ -182,37 +182,37 @@ module _ (name : Option Script) (state : QueueState) (frames : LiveFrames) (head
       let at : q ≡ i = new ∙ is.count in
       let was = kept_live state frames is.live 0 root untouched.live in
       let kept = was.0 in
-      let place : Place = record { key = made.key; is_maker = true; pushes = true } in
-      let P : Option Kept → Type 0 = λ o. IsOnlyChange frames after_frames 0 o in
-      let Q : ℕ → Type 0 = λ k. IsOnlyChange frames after_frames 0 (Some (with_place k place kept)) in
-      let one : IsOnlyChange frames after_frames 0 (Some (with_place i place kept)) = subst Q at (subst P (ap (option_map (with_place q place)) was.1) made.place) in
+      let place : OwnChunk = record { key = made.key; is_maker = true; pushes = true } in
+      let P : Option KeptFrame → Type 0 = λ o. IsOnlyChange frames after_frames 0 o in
+      let Q : ℕ → Type 0 = λ k. IsOnlyChange frames after_frames 0 (Some (with_own_chunk k place kept)) in
+      let one : IsOnlyChange frames after_frames 0 (Some (with_own_chunk i place kept)) = subst Q at (subst P (ap (option_map (with_own_chunk q place)) was.1) made.place) in
       let R : ℕ → Type 0 = λ k. AreChained (put_at 0 k (Some made.key) (key_at frames)) after_heads after_nodes (in_line k (λ old. own 0 first ∷ []) is.lines) in
       let path = (is.plain.tree.root root untouched.live).0 in
       book_made name state (after_create_root state) frames heads nodes turns is 0 root (with_made i root) (planned i) untouched.live
       (own_changed state 0 (with_made i) (λ f. refl) root untouched.live) (others_changed state 0 (with_made i) (λ f. refl)) refl refl refl refl path
-      after_frames made.key kept (with_place i place kept) was.1 was.2 one was.2.deeds was.2.lent refl
+      after_frames made.key kept (with_own_chunk i place kept) was.1 was.2 one was.2.deeds was.2.lent refl
       first after_heads after_nodes more (plain_create_root name state is.lines is.plain untouched first next)
       (keys_put frames after_frames 0 i place kept was.1 one)
       (subst R at (made.chained is.lines is.chained (unplaced 0 q new)))
 
   module _ (n : ℕ) (act : MayDo state n) (q : ℕ) (new : q ≡ length heads) (mid_frames : LiveFrames) (after_heads : List (Option ℕ)) (after_nodes : Slab Link)
       (made : IsMadeIn frames mid_frames n q [] heads nodes after_heads after_nodes) where
-    mid_one : (kept : Kept) → kept_of frames n ≡ Some kept → IsOnlyChange frames mid_frames n (Some (with_place q (record { key = made.key; is_maker = true; pushes = true }) kept))
+    mid_one : (kept : KeptFrame) → kept_of frames n ≡ Some kept → IsOnlyChange frames mid_frames n (Some (with_own_chunk q (record { key = made.key; is_maker = true; pushes = true }) kept))
     mid_one kept was =
-        let P : Option Kept → Type 0 = λ o. IsOnlyChange frames mid_frames n o in
-        subst P (ap (option_map (with_place q (record { key = made.key; is_maker = true; pushes = true }))) was) made.place
+        let P : Option KeptFrame → Type 0 = λ o. IsOnlyChange frames mid_frames n o in
+        subst P (ap (option_map (with_own_chunk q (record { key = made.key; is_maker = true; pushes = true }))) was) made.place
 
-    pub create_room : (kept : Kept) → kept_of mid_frames n ≡ Some kept → kept.deeds < DEEDS_MOST
+    pub create_room : (kept : KeptFrame) → kept_of mid_frames n ≡ Some kept → kept.deeds < DEEDS_MOST
     create_room kept at =
         let was = kept_live state frames is.live n act.frame act.may.live in
-        let both : Some kept ≡ Some (with_place q (record { key = made.key; is_maker = true; pushes = true }) was.0) = sym at ∙ (mid_one was.0 was.1).changed in
-        let same : kept ≡ with_place q (record { key = made.key; is_maker = true; pushes = true }) was.0 = cc in
-        let deeds : kept.deeds ≡ act.frame.deeds = ap (λ (k : Kept). k.deeds) same ∙ was.2.deeds in
+        let both : Some kept ≡ Some (with_own_chunk q (record { key = made.key; is_maker = true; pushes = true }) was.0) = sym at ∙ (mid_one was.0 was.1).changed in
+        let same : kept ≡ with_own_chunk q (record { key = made.key; is_maker = true; pushes = true }) was.0 = cc in
+        let deeds : kept.deeds ≡ act.frame.deeds = ap (λ (k : KeptFrame). k.deeds) same ∙ was.2.deeds in
         let room = act.room in
         omega (arith, room, deeds)
 
     pub book_create : OnNext name state n (λ s f. next_queue_deed s f.path f.deeds ≡ Some deed.MakeQueue) → IsOnTurn name state n → length after_heads ≡ length heads + 1
-        → (after_frames : LiveFrames) → IsOnlyChange mid_frames after_frames n (option_map (λ (kept : Kept). record kept { deeds = kept.deeds + 1 }) (kept_of mid_frames n))
+        → (after_frames : LiveFrames) → IsOnlyChange mid_frames after_frames n (option_map (λ (kept : KeptFrame). record kept { deeds = kept.deeds + 1 }) (kept_of mid_frames n))
         → IsBook name (after_create state act.frame) after_frames after_heads after_nodes turns
     book_create next turn more after_frames counted_one =
         let frame = act.frame in
@@ -223,12 +223,12 @@ module _ (name : Option Script) (state : QueueState) (frames : LiveFrames) (head
         let own_live : active state frame.number ≡ Some frame = ap (active state) number ∙ act.may.live in
         let was = kept_live state frames is.live n frame act.may.live in
         let kept = was.0 in
-        let place : Place = record { key = made.key; is_maker = true; pushes = true } in
+        let place : OwnChunk = record { key = made.key; is_maker = true; pushes = true } in
         let free = not_lent kept frame.lent was.2.lent act.may.back in
-        let S : ℕ → Type 0 = λ k. IsOnlyChange frames mid_frames n (Some (with_place k place kept)) in
-        let mid : IsOnlyChange frames mid_frames n (Some (with_place i place kept)) = subst S at (mid_one kept was.1) in
-        let now_kept : Kept = counted (with_place i place kept) in
-        let one : IsOnlyChange frames after_frames n (Some now_kept) = one_then frames mid_frames after_frames n (with_place i place kept) counted mid counted_one in
+        let S : ℕ → Type 0 = λ k. IsOnlyChange frames mid_frames n (Some (with_own_chunk k place kept)) in
+        let mid : IsOnlyChange frames mid_frames n (Some (with_own_chunk i place kept)) = subst S at (mid_one kept was.1) in
+        let now_kept : KeptFrame = counted (with_own_chunk i place kept) in
+        let one : IsOnlyChange frames after_frames n (Some now_kept) = one_then frames mid_frames after_frames n (with_own_chunk i place kept) counted mid counted_one in
         let R : ℕ → Type 0 = λ k. AreChained (put_at n k (Some made.key) (key_at frames)) after_heads after_nodes (in_line k (λ old. own n [] ∷ []) is.lines) in
         let P : ℕ → Type 0 = λ k. AreOthers state (after_create state frame) k in
         book_made name state (after_create state frame) frames heads nodes turns is n frame (change frame) (made_by frame.path frame.deeds) act.may.live
@@ -236,6 +236,6 @@ module _ (name : Option Script) (state : QueueState) (frames : LiveFrames) (head
         (subst P number (others_changed state frame.number change (λ f. refl))) refl refl refl refl refl
         after_frames made.key kept now_kept was.1 was.2 one (ap (λ k. k + 1) was.2.deeds) (act.may.back ∙ sym (lent_none now_kept free)) refl
         [] after_heads after_nodes more (plain_create name state is.lines is.plain n act next turn)
-        (λ m p. keys_same mid_frames after_frames n (with_place i place kept) now_kept mid.changed (record { changed = one.changed; others = counted_one.others }) refl m p
+        (λ m p. keys_same mid_frames after_frames n (with_own_chunk i place kept) now_kept mid.changed (record { changed = one.changed; others = counted_one.others }) refl m p
         ∙ keys_put frames mid_frames n i place kept was.1 mid m p)
         (subst R at (made.chained is.lines is.chained (unplaced n q new)))

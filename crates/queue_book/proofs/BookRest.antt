@@ -12,8 +12,8 @@ use Rattle.swan_model.specs.declared.value.Value.{Value}
 use Rattle.swan_model.specs.QueueFollows.{origin_in}
 use Rattle.swan_model.specs.QueueState.{ActiveFrame, Maker, planned, made_by, QueueState, active, after_take_rest, IsOfRoot}
 use Rattle.swan_model.specs.Readings.{end_time}
-use Rattle.queue_book.specs.Asks.{is_emptied, IsLeft}
-use Rattle.queue_book.specs.Book.{HasOwners, Matches, items_of}
+use Rattle.queue_book.specs.Asks.{is_emptied, IsRestLeft}
+use Rattle.queue_book.specs.Book.{HasOwners, Matches, items_in}
 use Rattle.queue_book.specs.Chains.{Link, AreChained, in_line}
 use Rattle.queue_book.specs.Live.{key_at, kept_of, Agrees}
 use Rattle.queue_book.specs.Tells.{OnQueue, rest_of}
@@ -76,7 +76,7 @@ emptied_now : (state : QueueState) (queue : ℕ) → is_emptied (after_take_rest
 emptied_now state queue = list_any-append (λ k. k == queue) state.emptied (queue ∷ []) ∙ or_right _ _ (or_left _ false (eq_same queue))
 
 module _ (name : Option Script) (state : QueueState) (frames : LiveFrames) (heads : List (Option ℕ)) (nodes : Slab Link) (turns : Frames) (is : IsBook name state frames heads nodes turns)
-    (q : ℕ) (left : IsLeft state q) where
+    (q : ℕ) (left : IsRestLeft state q) where
   pub rest_known : q < length heads
   rest_known = let less = left.known in omega (arith, is.count, less)
 
@@ -89,7 +89,7 @@ module _ (name : Option Script) (state : QueueState) (frames : LiveFrames) (head
   is_root : IsOfRoot (Some maker.0)
   is_root = let P : Option Maker → Type 0 = λ o. IsOfRoot o in subst P maker.1 left.made
 
-  pub rest_is : is_emptied state q ≡ false → (items : List Value) → items ≡ items_of (is.lines q) → OnQueue name state q (λ s origin. items ≡ rest_of s origin)
+  pub rest_is : is_emptied state q ≡ false → (items : List Value) → items ≡ items_in (is.lines q) → OnQueue name state q (λ s origin. items ≡ rest_of s origin)
   rest_is full items are =
       on_queue name state q maker.0 (λ s origin. items ≡ rest_of s origin) maker.1 (λ s named lawful.
       let line = is.plain.queues q maker.0 maker.1 in

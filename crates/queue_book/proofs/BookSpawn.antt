@@ -13,9 +13,9 @@ use Rattle.swan_model.specs.QueueState.{ActiveFrame, Maker, QueueRight, QueueSta
 use Rattle.swan_model.specs.Rights.{allows}
 use Rattle.queue_book.specs.Asks.{MaySpawn, IsOnTurn, OnNext}
 use Rattle.queue_book.specs.Chains.{Link, AreChained}
-use Rattle.queue_book.specs.Ended.{placed_at}
-use Rattle.queue_book.specs.Handed.{handed_lines, holding_of, turn_of, IsMoved}
-use Rattle.queue_book.specs.Kept.{Kept}
+use Rattle.queue_book.specs.Ended.{own_keys}
+use Rattle.queue_book.specs.Handed.{lines_after_gives, holding_of, turn_of, IsMoved}
+use Rattle.queue_book.specs.KeptFrames.{KeptFrame}
 use Rattle.queue_book.specs.Live.{kept_of, key_at, key_in, Agrees, AreLive, IsFrame}
 use Rattle.queue_book.specs.Spawned.{IsSpawnedIn, MayHandOn}
 use Rattle.queue_book.specs.Tree.{has_queue, maker_path}
@@ -122,7 +122,7 @@ module _ (name : Option Script) (state : QueueState) (frames : LiveFrames) (head
 
   module _ (after_frames : LiveFrames) (then_nodes : Slab Link) (then_turns : Frames)
       (done : IsSpawnedIn frames after_frames p child gives heads nodes then_nodes turns then_turns) where
-    abbrev child_kept : Kept
+    abbrev child_kept : KeptFrame
     child_kept = record { deeds = 0; is_lent = false; places = done.places }
 
     -- ---- what is kept of the frames
@@ -130,7 +130,7 @@ module _ (name : Option Script) (state : QueueState) (frames : LiveFrames) (head
     kept_child : kept_of after_frames child ≡ Some child_kept
     kept_child = done.parent_now.others child other_child ∙ done.child_now.changed
 
-    kept_parent : (kept : Kept) → kept_of frames p ≡ Some kept → (one : Kept) × (kept_of done.middle p ≡ Some one) × (kept_of after_frames p ≡ Some (counted one)) × IsMoved kept one
+    kept_parent : (kept : KeptFrame) → kept_of frames p ≡ Some kept → (one : KeptFrame) × (kept_of done.middle p ≡ Some one) × (kept_of after_frames p ≡ Some (counted one)) × IsMoved kept one
     kept_parent kept at =
         let was = done.given.moved kept at in
         (was.0, was.1, done.parent_now.changed ∙ ap (option_map counted) (done.child_now.others p two ∙ was.1), was.2)
@@ -154,7 +154,7 @@ module _ (name : Option Script) (state : QueueState) (frames : LiveFrames) (head
       pushers = λ q place at. done.given.pushers q place at;
     }
 
-    parent_frame : (kept one : Kept) → IsFrame state kept may.act.frame → IsMoved kept one → IsFrame after (counted one) parent_now
+    parent_frame : (kept one : KeptFrame) → IsFrame state kept may.act.frame → IsMoved kept one → IsFrame after (counted one) parent_now
     parent_frame kept one was moved = record {
       deeds = ap (λ k. k + 1) (moved.deeds ∙ was.deeds);
       lent = may.act.may.back ∙ sym (lent_none (counted one) (moved.lent ∙ not_lent kept may.act.frame.lent was.lent may.act.may.back));
@@ -164,10 +164,10 @@ module _ (name : Option Script) (state : QueueState) (frames : LiveFrames) (head
       pushers = λ q place at. let old = moved.makers q place at in old.3 ∙ was.pushers q old.0 old.1;
     }
 
-    agrees_at : (kept : Option Kept) (found : Option ActiveFrame) (one : Kept) (frame : ActiveFrame) → kept ≡ Some one → found ≡ Some frame
+    agrees_at : (kept : Option KeptFrame) (found : Option ActiveFrame) (one : KeptFrame) (frame : ActiveFrame) → kept ≡ Some one → found ≡ Some frame
         → IsFrame after one frame → Agrees after kept found
     agrees_at kept found one frame a b now =
-        let Q : Option Kept → Type 0 = λ o. Agrees after o found in
+        let Q : Option KeptFrame → Type 0 = λ o. Agrees after o found in
         let R : Option ActiveFrame → Type 0 = λ o. Agrees after (Some one) o in
         subst Q (sym a) (subst R (sym b) now)
 
@@ -183,7 +183,7 @@ module _ (name : Option Script) (state : QueueState) (frames : LiveFrames) (head
           agrees_at (kept_of after_frames m) (active after m) (counted now.0) parent_now
           (ap (kept_of after_frames) is_parent ∙ now.2) (ap (active after) is_parent ∙ parent_live) (parent_frame was.0 now.0 was.2 now.3)
       by (inr apart) (inr other) =
-          let Q : Option Kept → Type 0 = λ o. Agrees after o (active after m) in
+          let Q : Option KeptFrame → Type 0 = λ o. Agrees after o (active after m) in
           let R : Option ActiveFrame → Type 0 = λ o. Agrees after (kept_of frames m) o in
           subst Q (sym (kept_other m other apart ∙ done.given.others m other)) (subst R (sym (other_live m other apart))
           (agrees_on state after (kept_of frames m) (active state m) (λ q maker less made. made)
@@ -191,12 +191,12 @@ module _ (name : Option Script) (state : QueueState) (frames : LiveFrames) (head
 
     -- ---- the chains
 
-    keys_now : (m q : ℕ) → key_at after_frames m q ≡ placed_at child done.places (key_at done.middle) m q
+    keys_now : (m q : ℕ) → key_at after_frames m q ≡ own_keys child done.places (key_at done.middle) m q
     keys_now m q = by (cases_eq m child) (cases_eq m p) where
-      by : (m ≡ child) ⊎ (m ≢ child) → (m ≡ p) ⊎ (m ≢ p) → key_at after_frames m q ≡ placed_at child done.places (key_at done.middle) m q
+      by : (m ≡ child) ⊎ (m ≢ child) → (m ≡ p) ⊎ (m ≢ p) → key_at after_frames m q ≡ own_keys child done.places (key_at done.middle) m q
       by (inl is_child) c =
           ap (λ k. key_at after_frames k q) is_child ∙ ap (λ o. key_in o q) kept_child ∙ sym (own_placed child done.places (key_at done.middle) q)
-          ∙ sym (ap (λ k. placed_at child done.places (key_at done.middle) k q) is_child)
+          ∙ sym (ap (λ k. own_keys child done.places (key_at done.middle) k q) is_child)
       by (inr apart) (inl is_parent) =
           let was = kept_live state frames is.live p may.act.frame may.act.may.live in
           let now = kept_parent was.0 was.1 in
@@ -204,9 +204,9 @@ module _ (name : Option Script) (state : QueueState) (frames : LiveFrames) (head
           ∙ sym (other_placed child done.places (key_at done.middle) m q apart)
       by (inr apart) (inr other) = ap (λ o. key_in o q) (kept_other m other apart) ∙ sym (other_placed child done.places (key_at done.middle) m q apart)
 
-    chained_now : AreChained (key_at after_frames) heads then_nodes (handed_lines p child gives is.lines)
+    chained_now : AreChained (key_at after_frames) heads then_nodes (lines_after_gives p child gives is.lines)
     chained_now =
-        chained_same (placed_at child done.places (key_at done.middle)) (key_at after_frames) heads then_nodes (handed_lines p child gives is.lines) (handed_lines p child gives is.lines)
+        chained_same (own_keys child done.places (key_at done.middle)) (key_at after_frames) heads then_nodes (lines_after_gives p child gives is.lines) (lines_after_gives p child gives is.lines)
         keys_now (λ q. refl) (done.given.chained is.lines is.chained (λ q. key_none state frames is.live child q (λ frame live has.
         let never : None ≡ Some frame = sym free ∙ live in absurd (cc))))
 
@@ -266,7 +266,7 @@ module _ (name : Option Script) (state : QueueState) (frames : LiveFrames) (head
     pub book_spawn : OnNext name state p (λ s g. IsNextSpawn s state g gives) → IsOnTurn name state p
         → IsBook name (after_spawn state may.act.frame child gives) after_frames heads then_nodes then_turns
     book_spawn next turn = record {
-      lines = handed_lines p child gives is.lines;
+      lines = lines_after_gives p child gives is.lines;
       plain = plain_spawn name state is.lines is.plain p child gives may next turn in_use_before;
       live = live_now;
       count = is.count;

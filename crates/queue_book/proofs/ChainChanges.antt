@@ -5,7 +5,7 @@ use Rattle.std.specs.Prelude.{if◌then◌else◌}
 use Rattle.slab.specs.Slab.{Slab, get, Updates}
 use Rattle.pop_order.proofs.Flags.{eq_of, eq_same}
 use Rattle.swan_model.specs.declared.value.Value.{Value}
-use Rattle.queue_book.specs.Book.{Chunk, Chunks, with_item, closed}
+use Rattle.queue_book.specs.Book.{Chunk, Chunks, with_item, after_close}
 use Rattle.queue_book.specs.Chains.{Link, chunk_of, IsChain, AreChained, in_line, put_at}
 use Rattle.queue_book.proofs.ChainKept.{IsChange, one_link, pushed_is, closed_is, line_changed}
 
@@ -110,7 +110,7 @@ module _ (at : ℕ → ℕ → Option ℕ) (heads : List (Option ℕ)) (nodes : 
       }
 
   pub chained_close : (after : Slab Link) (link : Link) → get nodes key ≡ Some link → Updates nodes after key (Some (record link { owner = None }))
-      → AreChained (put_at number queue None at) heads after (in_line queue (closed number) lines)
+      → AreChained (put_at number queue None at) heads after (in_line queue (after_close number) lines)
   chained_close after link stands updates =
       let new : Link = record link { owner = None } in
       let change : Chunk → Chunk = λ chunk. record chunk { owner = None } in

@@ -5,11 +5,11 @@ use Rattle.std.specs.Option.{option_map}
 use Rattle.std.specs.Prelude.{if◌then◌else◌}
 use Rattle.slab.specs.Slab.{Slab}
 use Rattle.pop_order.proofs.Flags.{eq_same}
-use Rattle.queue_book.specs.Book.{Chunks, closed}
+use Rattle.queue_book.specs.Book.{Chunks, after_close}
 use Rattle.queue_book.specs.Chains.{Link, AreChained, in_line, put_at}
-use Rattle.queue_book.specs.Ended.{ended_line, ended_lines, placed_at, IsAlone}
-use Rattle.queue_book.specs.Kept.{Places, place_in}
-use Rattle.queue_book.specs.declared.frame.Place.{Place}
+use Rattle.queue_book.specs.Ended.{line_after_end, lines_after_end, own_keys, IsAlone}
+use Rattle.queue_book.specs.KeptFrames.{OwnChunks, own_chunk_in}
+use Rattle.queue_book.specs.declared.live_frame.OwnChunk.{OwnChunk}
 use Rattle.queue_book.proofs.ChainChanges.{chained_same, put_other, put_same}
 use Rattle.queue_book.proofs.ChainLoops.{line_is, line_other, line_same}
 
@@ -21,32 +21,32 @@ pub still_so : (b : Bool) → not b ≡ false → b ≡ true
 still_so true e = refl
 still_so false e = sym e
 
-pub ended_stays : (number : ℕ) (place : Place) (chunks : Chunks) → (place.is_maker && not (number == 0)) ≡ false → ended_line number (Some place) chunks ≡ closed number chunks
-ended_stays number place chunks e = ap (λ b. if b then [] else closed number chunks) e
+pub ended_stays : (number : ℕ) (place : OwnChunk) (chunks : Chunks) → (place.is_maker && not (number == 0)) ≡ false → line_after_end number (Some place) chunks ≡ after_close number chunks
+ended_stays number place chunks e = ap (λ b. if b then [] else after_close number chunks) e
 
-pub ended_over : (number : ℕ) (place : Place) (chunks : Chunks) → place.is_maker ≡ true → number ≢ 0 → ended_line number (Some place) chunks ≡ []
+pub ended_over : (number : ℕ) (place : OwnChunk) (chunks : Chunks) → place.is_maker ≡ true → number ≢ 0 → line_after_end number (Some place) chunks ≡ []
 ended_over number place chunks made other =
     let test : (number == 0) ≡ false = search rules in
-    ap (λ b. if b then [] else closed number chunks) (ap (λ b. b && not (number == 0)) made ∙ ap (λ b. true && not b) test)
+    ap (λ b. if b then [] else after_close number chunks) (ap (λ b. b && not (number == 0)) made ∙ ap (λ b. true && not b) test)
 
 -- the chunk of a frame's own is closed, and that is all
-pub chained_closed : (at : ℕ → ℕ → Option ℕ) (heads : List (Option ℕ)) (nodes : Slab Link) (lines : ℕ → Chunks) (number queue : ℕ) (place : Place)
-    → (place.is_maker && not (number == 0)) ≡ false → AreChained at heads nodes (in_line queue (closed number) lines)
-    → AreChained at heads nodes (in_line queue (ended_line number (Some place)) lines)
+pub chained_closed : (at : ℕ → ℕ → Option ℕ) (heads : List (Option ℕ)) (nodes : Slab Link) (lines : ℕ → Chunks) (number queue : ℕ) (place : OwnChunk)
+    → (place.is_maker && not (number == 0)) ≡ false → AreChained at heads nodes (in_line queue (after_close number) lines)
+    → AreChained at heads nodes (in_line queue (line_after_end number (Some place)) lines)
 chained_closed at heads nodes lines number queue place stays is =
-    chained_same at at heads nodes (in_line queue (closed number) lines) (in_line queue (ended_line number (Some place)) lines) (λ n q. refl)
-    (line_is queue (ended_line number (Some place)) lines (in_line queue (closed number) lines)
-    (line_same queue (closed number) lines ∙ sym (ended_stays number place (lines queue) stays)) (λ q other. line_other queue (closed number) lines q other)) is
+    chained_same at at heads nodes (in_line queue (after_close number) lines) (in_line queue (line_after_end number (Some place)) lines) (λ n q. refl)
+    (line_is queue (line_after_end number (Some place)) lines (in_line queue (after_close number) lines)
+    (line_same queue (after_close number) lines ∙ sym (ended_stays number place (lines queue) stays)) (λ q other. line_other queue (after_close number) lines q other)) is
 
 -- all chunks of the queue are given up
-pub chained_over : (at : ℕ → ℕ → Option ℕ) (heads : List (Option ℕ)) (nodes : Slab Link) (lines : ℕ → Chunks) (number queue : ℕ) (place : Place)
-    → place.is_maker ≡ true → number ≢ 0 → AreChained at heads nodes (in_line queue (λ chunks. []) (in_line queue (closed number) lines))
-    → AreChained at heads nodes (in_line queue (ended_line number (Some place)) lines)
+pub chained_over : (at : ℕ → ℕ → Option ℕ) (heads : List (Option ℕ)) (nodes : Slab Link) (lines : ℕ → Chunks) (number queue : ℕ) (place : OwnChunk)
+    → place.is_maker ≡ true → number ≢ 0 → AreChained at heads nodes (in_line queue (λ chunks. []) (in_line queue (after_close number) lines))
+    → AreChained at heads nodes (in_line queue (line_after_end number (Some place)) lines)
 chained_over at heads nodes lines number queue place made other is =
-    chained_same at at heads nodes (in_line queue (λ chunks. []) (in_line queue (closed number) lines)) (in_line queue (ended_line number (Some place)) lines) (λ n q. refl)
-    (line_is queue (ended_line number (Some place)) lines (in_line queue (λ chunks. []) (in_line queue (closed number) lines))
-    (line_same queue (λ chunks. []) (in_line queue (closed number) lines) ∙ sym (ended_over number place (lines queue) made other))
-    (λ q apart. line_other queue (λ chunks. []) (in_line queue (closed number) lines) q apart ∙ line_other queue (closed number) lines q apart)) is
+    chained_same at at heads nodes (in_line queue (λ chunks. []) (in_line queue (after_close number) lines)) (in_line queue (line_after_end number (Some place)) lines) (λ n q. refl)
+    (line_is queue (line_after_end number (Some place)) lines (in_line queue (λ chunks. []) (in_line queue (after_close number) lines))
+    (line_same queue (λ chunks. []) (in_line queue (after_close number) lines) ∙ sym (ended_over number place (lines queue) made other))
+    (λ q apart. line_other queue (λ chunks. []) (in_line queue (after_close number) lines) q apart ∙ line_other queue (after_close number) lines q apart)) is
 
 pub none_but_own : (number queue : ℕ) (at : ℕ → ℕ → Option ℕ) → ((other : ℕ) → other ≢ number → at other queue ≡ None) → (other : ℕ) → put_at number queue None at other queue ≡ None
 none_but_own number queue at none other = elim (cases_eq other number) [
@@ -57,62 +57,62 @@ none_but_own number queue at none other = elim (cases_eq other number) [
 -- ---- place by place
 
 -- the chunks of a queue where these places are left of a frame that ends: those of the other places have ended
-abbrev pub left_line : ℕ → Option Place → Option Place → Chunks → Chunks
+abbrev pub left_line : ℕ → Option OwnChunk → Option OwnChunk → Chunks → Chunks
 left_line number left all chunks = by left where
-  by : Option Place → Chunks
-  by None = ended_line number all chunks
+  by : Option OwnChunk → Chunks
+  by None = line_after_end number all chunks
   by (Some place) = chunks
 
-abbrev pub left_lines : ℕ → (left all : Places) → (ℕ → Chunks) → ℕ → Chunks
-left_lines number left all lines queue = left_line number (place_in left queue) (place_in all queue) (lines queue)
+abbrev pub left_lines : ℕ → (left all : OwnChunks) → (ℕ → Chunks) → ℕ → Chunks
+left_lines number left all lines queue = left_line number (own_chunk_in left queue) (own_chunk_in all queue) (lines queue)
 
-pub own_placed : (number : ℕ) (places : Places) (at : ℕ → ℕ → Option ℕ) (q : ℕ) → placed_at number places at number q ≡ option_map (λ (place : Place). place.key) (place_in places q)
-own_placed number places at q = ap (λ b. if b then option_map (λ (place : Place). place.key) (place_in places q) else at number q) (eq_same number)
+pub own_placed : (number : ℕ) (places : OwnChunks) (at : ℕ → ℕ → Option ℕ) (q : ℕ) → own_keys number places at number q ≡ option_map (λ (place : OwnChunk). place.key) (own_chunk_in places q)
+own_placed number places at q = ap (λ b. if b then option_map (λ (place : OwnChunk). place.key) (own_chunk_in places q) else at number q) (eq_same number)
 
-pub other_placed : (number : ℕ) (places : Places) (at : ℕ → ℕ → Option ℕ) (other q : ℕ) → other ≢ number → placed_at number places at other q ≡ at other q
+pub other_placed : (number : ℕ) (places : OwnChunks) (at : ℕ → ℕ → Option ℕ) (other q : ℕ) → other ≢ number → own_keys number places at other q ≡ at other q
 other_placed number places at other q apart =
     let test : (other == number) ≡ false = search rules in
-    ap (λ b. if b then option_map (λ (place : Place). place.key) (place_in places q) else at other q) test
+    ap (λ b. if b then option_map (λ (place : OwnChunk). place.key) (own_chunk_in places q) else at other q) test
 
-module _ (number queue : ℕ) (place : Place) (all places after : Places) (at : ℕ → ℕ → Option ℕ) (lines : ℕ → Chunks)
-    (here : place_in places queue ≡ Some place) (first : place_in all queue ≡ Some place) (gone : place_in after queue ≡ None)
-    (others : (q : ℕ) → q ≢ queue → place_in after q ≡ place_in places q) where
-  pub own_key : placed_at number places at number queue ≡ Some place.key
-  own_key = own_placed number places at queue ∙ ap (option_map (λ (p : Place). p.key)) here
+module _ (number queue : ℕ) (place : OwnChunk) (all places after : OwnChunks) (at : ℕ → ℕ → Option ℕ) (lines : ℕ → Chunks)
+    (here : own_chunk_in places queue ≡ Some place) (first : own_chunk_in all queue ≡ Some place) (gone : own_chunk_in after queue ≡ None)
+    (others : (q : ℕ) → q ≢ queue → own_chunk_in after q ≡ own_chunk_in places q) where
+  pub own_key : own_keys number places at number queue ≡ Some place.key
+  own_key = own_placed number places at queue ∙ ap (option_map (λ (p : OwnChunk). p.key)) here
 
-  pub alone_still : IsAlone number all at → place.is_maker ≡ true → number ≢ 0 → (other : ℕ) → other ≢ number → placed_at number places at other queue ≡ None
+  pub alone_still : IsAlone number all at → place.is_maker ≡ true → number ≢ 0 → (other : ℕ) → other ≢ number → own_keys number places at other queue ≡ None
   alone_still alone made top other apart = other_placed number places at other queue apart ∙ alone queue place first made top other apart
 
-  keys : (m q : ℕ) → placed_at number after at m q ≡ put_at number queue None (placed_at number places at) m q
+  keys : (m q : ℕ) → own_keys number after at m q ≡ put_at number queue None (own_keys number places at) m q
   keys m q = by (cases_eq m number) (cases_eq q queue) where
-    by : (m ≡ number) ⊎ (m ≢ number) → (q ≡ queue) ⊎ (q ≢ queue) → placed_at number after at m q ≡ put_at number queue None (placed_at number places at) m q
+    by : (m ≡ number) ⊎ (m ≢ number) → (q ≡ queue) ⊎ (q ≢ queue) → own_keys number after at m q ≡ put_at number queue None (own_keys number places at) m q
     by (inl own) (inl same) =
-        ap (λ k. placed_at number after at k q) own ∙ ap (λ k. placed_at number after at number k) same ∙ own_placed number after at queue ∙ ap (option_map (λ (p : Place). p.key)) gone
-        ∙ sym (put_same number queue None (placed_at number places at)) ∙ sym (ap (λ k. put_at number queue None (placed_at number places at) k queue) own)
-        ∙ sym (ap (λ k. put_at number queue None (placed_at number places at) m k) same)
+        ap (λ k. own_keys number after at k q) own ∙ ap (λ k. own_keys number after at number k) same ∙ own_placed number after at queue ∙ ap (option_map (λ (p : OwnChunk). p.key)) gone
+        ∙ sym (put_same number queue None (own_keys number places at)) ∙ sym (ap (λ k. put_at number queue None (own_keys number places at) k queue) own)
+        ∙ sym (ap (λ k. put_at number queue None (own_keys number places at) m k) same)
     by (inl own) (inr apart) =
-        ap (λ k. placed_at number after at k q) own ∙ own_placed number after at q ∙ ap (option_map (λ (p : Place). p.key)) (others q apart)
-        ∙ sym (own_placed number places at q) ∙ sym (ap (λ k. placed_at number places at k q) own) ∙ sym (put_other number queue None (placed_at number places at) m q (λ e same. apart same))
+        ap (λ k. own_keys number after at k q) own ∙ own_placed number after at q ∙ ap (option_map (λ (p : OwnChunk). p.key)) (others q apart)
+        ∙ sym (own_placed number places at q) ∙ sym (ap (λ k. own_keys number places at k q) own) ∙ sym (put_other number queue None (own_keys number places at) m q (λ e same. apart same))
     by (inr other) c =
-        other_placed number after at m q other ∙ sym (other_placed number places at m q other) ∙ sym (put_other number queue None (placed_at number places at) m q (λ e same. other e))
+        other_placed number after at m q other ∙ sym (other_placed number places at m q other) ∙ sym (put_other number queue None (own_keys number places at) m q (λ e same. other e))
 
   -- what is left after one more
-  lines_now : (q : ℕ) → left_lines number after all lines q ≡ in_line queue (ended_line number (Some place)) (left_lines number places all lines) q
-  lines_now q = sym (line_is queue (ended_line number (Some place)) (left_lines number places all lines) (left_lines number after all lines)
-      (ap (λ o. left_line number o (place_in all queue) (lines queue)) gone ∙ ap (λ o. ended_line number o (lines queue)) first
-      ∙ sym (ap (λ o. ended_line number (Some place) (left_line number o (place_in all queue) (lines queue))) here))
-      (λ p apart. ap (λ o. left_line number o (place_in all p) (lines p)) (others p apart)) q)
+  lines_now : (q : ℕ) → left_lines number after all lines q ≡ in_line queue (line_after_end number (Some place)) (left_lines number places all lines) q
+  lines_now q = sym (line_is queue (line_after_end number (Some place)) (left_lines number places all lines) (left_lines number after all lines)
+      (ap (λ o. left_line number o (own_chunk_in all queue) (lines queue)) gone ∙ ap (λ o. line_after_end number o (lines queue)) first
+      ∙ sym (ap (λ o. line_after_end number (Some place) (left_line number o (own_chunk_in all queue) (lines queue))) here))
+      (λ p apart. ap (λ o. left_line number o (own_chunk_in all p) (lines p)) (others p apart)) q)
 
   pub chained_one_more : (heads : List (Option ℕ)) (nodes : Slab Link)
-      → AreChained (put_at number queue None (placed_at number places at)) heads nodes (in_line queue (ended_line number (Some place)) (left_lines number places all lines))
-      → AreChained (placed_at number after at) heads nodes (left_lines number after all lines)
+      → AreChained (put_at number queue None (own_keys number places at)) heads nodes (in_line queue (line_after_end number (Some place)) (left_lines number places all lines))
+      → AreChained (own_keys number after at) heads nodes (left_lines number after all lines)
   chained_one_more heads nodes is =
-      chained_same (put_at number queue None (placed_at number places at)) (placed_at number after at) heads nodes
-      (in_line queue (ended_line number (Some place)) (left_lines number places all lines)) (left_lines number after all lines) keys lines_now is
+      chained_same (put_at number queue None (own_keys number places at)) (own_keys number after at) heads nodes
+      (in_line queue (line_after_end number (Some place)) (left_lines number places all lines)) (left_lines number after all lines) keys lines_now is
 
 -- with no place left all have ended
-pub chained_all : (number : ℕ) (all : Places) (at : ℕ → ℕ → Option ℕ) (lines : ℕ → Chunks) (places : Places) (heads : List (Option ℕ)) (nodes : Slab Link) → places ≡ []
-    → AreChained (placed_at number places at) heads nodes (left_lines number places all lines) → AreChained (placed_at number [] at) heads nodes (ended_lines number all lines)
+pub chained_all : (number : ℕ) (all : OwnChunks) (at : ℕ → ℕ → Option ℕ) (lines : ℕ → Chunks) (places : OwnChunks) (heads : List (Option ℕ)) (nodes : Slab Link) → places ≡ []
+    → AreChained (own_keys number places at) heads nodes (left_lines number places all lines) → AreChained (own_keys number [] at) heads nodes (lines_after_end number all lines)
 chained_all number all at lines places heads nodes none is =
-    let P : Places → Type 0 = λ ps. AreChained (placed_at number ps at) heads nodes (left_lines number ps all lines) in
+    let P : OwnChunks → Type 0 = λ ps. AreChained (own_keys number ps at) heads nodes (left_lines number ps all lines) in
     subst P none is

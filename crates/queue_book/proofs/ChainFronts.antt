@@ -5,7 +5,7 @@ use Rattle.std.specs.Prelude.{slice_get, slice_set, if◌then◌else◌}
 use Rattle.slab.specs.Slab.{Slab, get, Updates}
 use Rattle.pop_order.proofs.Flags.{eq_same}
 use Rattle.swan_model.specs.declared.value.Value.{Value}
-use Rattle.queue_book.specs.Book.{Chunk, Chunks, is_spent, trimmed, without_first}
+use Rattle.queue_book.specs.Book.{Chunk, Chunks, is_spent, without_spent, without_first}
 use Rattle.queue_book.specs.Chains.{Link, chunk_of, is_among, IsChain, IsFront, AreChained, in_line}
 use Rattle.queue_book.specs.declared.chains.Front.TheVariants as front
 use Rattle.queue_book.proofs.ListPlaces.{get-set}
@@ -59,27 +59,27 @@ head_stands nodes queue key (k ∷ keys) (chunk ∷ chunks) is =
 -- ---- what stands at the front
 
 -- an item, an owner without items, or a spent chunk
-pub front_item : (link : Link) (rest : Chunks) → link.items ≢ [] → IsFront (chunk_of link ∷ rest) front.Item × (trimmed (chunk_of link ∷ rest) ≡ chunk_of link ∷ rest)
-front_item link rest some = (some, ap (λ b. if b then trimmed rest else chunk_of link ∷ rest) (not_spent link.owner link.items some)) where
+pub front_item : (link : Link) (rest : Chunks) → link.items ≢ [] → IsFront (chunk_of link ∷ rest) front.Item × (without_spent (chunk_of link ∷ rest) ≡ chunk_of link ∷ rest)
+front_item link rest some = (some, ap (λ b. if b then without_spent rest else chunk_of link ∷ rest) (not_spent link.owner link.items some)) where
   not_spent : (owner : Option ℕ) (items : List Value) → items ≢ [] → is_spent (record { owner = owner; items = items }) ≡ false
   not_spent owner [] none = absurd (none refl)
   not_spent None (item ∷ items) none = refl
   not_spent (Some n) (item ∷ items) none = refl
 
 pub front_open : (link : Link) (rest : Chunks) (owner : ℕ) → link.items ≡ [] → link.owner ≡ Some owner
-    → IsFront (chunk_of link ∷ rest) (front.Open owner) × (trimmed (chunk_of link ∷ rest) ≡ chunk_of link ∷ rest)
+    → IsFront (chunk_of link ∷ rest) (front.Open owner) × (without_spent (chunk_of link ∷ rest) ≡ chunk_of link ∷ rest)
 front_open link rest owner none owned =
     let P : Option ℕ → Type 0 = λ o. is_spent (record { owner = o; items = link.items }) ≡ false in
-    ((owned, none), ap (λ b. if b then trimmed rest else chunk_of link ∷ rest) (subst P (sym owned) (open_is owner link.items))) where
+    ((owned, none), ap (λ b. if b then without_spent rest else chunk_of link ∷ rest) (subst P (sym owned) (open_is owner link.items))) where
       open_is : (n : ℕ) (items : List Value) → is_spent (record { owner = Some n; items = items }) ≡ false
       open_is n [] = refl
       open_is n (item ∷ items) = refl
 
 pub front_spent : (link : Link) → link.items ≡ [] → link.owner ≡ None → is_spent (chunk_of link) ≡ true
-front_spent link none closed =
+front_spent link none unowned =
     let P : Option ℕ → Type 0 = λ o. is_spent (record { owner = o; items = link.items }) ≡ true in
     let Q : List Value → Type 0 = λ items. is_spent (record { owner = None; items = items }) ≡ true in
-    subst P (sym closed) (subst Q (sym none) refl)
+    subst P (sym unowned) (subst Q (sym none) refl)
 
 pub spent_closed : (chunk : Chunk) → is_spent chunk ≡ true → chunk.owner ≡ None
 spent_closed chunk spent = by_parts chunk.owner chunk.items spent where
@@ -118,7 +118,7 @@ module _ (at : ℕ → ℕ → Option ℕ) (heads : List (Option ℕ)) (nodes : 
 
     pub chained_drop_first : Updates nodes after key None → link.owner ≡ None
         → AreChained at (slice_set heads queue link.next) after (in_line queue (λ chunks. drop 1 chunks) lines)
-    chained_drop_first updates closed = record {
+    chained_drop_first updates unowned = record {
       chains = λ q head now_has.
           let P : Bool → Type 0 = λ b. (keys : List ℕ) × IsChain after q head keys (if b then drop 1 (lines q) else lines q) in
           elim (get-set heads queue (Some key) link.next q head has now_has) [
@@ -142,7 +142,7 @@ module _ (at : ℕ → ℕ → Option ℕ) (heads : List (Option ℕ)) (nodes : 
             old.0,
             updates.others k (λ here.
                 let same : old.0 ≡ link = one_link (get nodes key) old.0 link (ap (λ j. get nodes j) (sym here) ∙ old.1) stands in
-                let never : None ≡ Some n = sym closed ∙ ap (λ (m : Link). m.owner) (sym same) ∙ old.2 in
+                let never : None ≡ Some n = sym unowned ∙ ap (λ (m : Link). m.owner) (sym same) ∙ old.2 in
                 cc) ∙ old.1,
             old.2,
             old.3,

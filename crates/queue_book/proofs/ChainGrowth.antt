@@ -6,7 +6,7 @@ use Rattle.std.specs.Prelude.{if◌then◌else◌}
 use Rattle.slab.specs.Slab.{Slab, get, Updates}
 use Rattle.pop_order.proofs.Flags.{and_both, and_parts, eq_of, eq_same, or_cases, or_left, or_right}
 use Rattle.swan_model.specs.declared.value.Value.{Value}
-use Rattle.queue_book.specs.Book.{Chunk, Chunks, own, is_owned, handed_on}
+use Rattle.queue_book.specs.Book.{Chunk, Chunks, own, is_owned, after_hand_on}
 use Rattle.queue_book.specs.Chains.{Link, chunk_of, is_among, IsChain, AreChained, in_line, put_at}
 use Rattle.queue_book.proofs.ListPlaces.{get-push}
 use Rattle.queue_book.proofs.ChainKept.{one_link, chain_same, in_chain, owned_by, owned_so}
@@ -124,14 +124,14 @@ module _ (nodes after : Slab Link) (queue key new parent child : ℕ) (link : Li
   not_new j l stands e = not_both (get nodes new) l is.vacant (ap (λ n. get nodes n) (sym e) ∙ stands)
 
   pub chain_handed_on : (head : Option ℕ) (keys : List ℕ) (chunks : Chunks) → IsChain nodes queue head keys chunks
-      → HasHandedOn nodes after queue head keys new (handed_on parent child chunks)
+      → HasHandedOn nodes after queue head keys new (after_hand_on parent child chunks)
   chain_handed_on head [] [] e = record { keys = []; is = e; all = λ j among. inl among }
   chain_handed_on head (k ∷ keys) [] e = absurd e
   chain_handed_on head [] (chunk ∷ chunks) e = absurd e
   chain_handed_on head (k ∷ keys) (chunk ∷ chunks) (l, at, stands, l_mine, chunk_is, apart, rest) =
       at_first (is_owned parent chunk) refl (chain_handed_on l.next keys chunks rest) where
-        at_first : (b : Bool) → is_owned parent chunk ≡ b → HasHandedOn nodes after queue l.next keys new (handed_on parent child chunks)
-            → HasHandedOn nodes after queue head (k ∷ keys) new (cond b (own child chunk.items ∷ own parent [] ∷ chunks) (chunk ∷ handed_on parent child chunks))
+        at_first : (b : Bool) → is_owned parent chunk ≡ b → HasHandedOn nodes after queue l.next keys new (after_hand_on parent child chunks)
+            → HasHandedOn nodes after queue head (k ∷ keys) new (cond b (own child chunk.items ∷ own parent [] ∷ chunks) (chunk ∷ after_hand_on parent child chunks))
         at_first true owns later =
             let l_owner : l.owner ≡ Some parent = ap (λ (c : Chunk). c.owner) (sym chunk_is) ∙ owned_by parent chunk owns in
             let here : k ≡ key = sole k l stands l_mine l_owner in
@@ -225,15 +225,15 @@ module _ (at : ℕ → ℕ → Option ℕ) (heads : List (Option ℕ)) (nodes af
   at_others n q not_parent not_child =
       put_other parent queue (Some new) (put_at child queue (Some key) at) n q not_parent ∙ put_other child queue (Some key) at n q not_child
 
-  pub chained_hand_on : AreChained then_at heads after (in_line queue (handed_on parent child) lines)
+  pub chained_hand_on : AreChained then_at heads after (in_line queue (after_hand_on parent child) lines)
   chained_hand_on = record {
     chains = λ q head has.
         let one = is.chains q head has in
-        let P : Bool → Type 0 = λ b. (keys : List ℕ) × IsChain after q head keys (if b then handed_on parent child (lines q) else lines q) in
+        let P : Bool → Type 0 = λ b. (keys : List ℕ) × IsChain after q head keys (if b then after_hand_on parent child (lines q) else lines q) in
         elim (cases_eq q queue) [
           | inl same ↦
               let b_is : (q == queue) ≡ true = ap (λ n. n == queue) same ∙ eq_same queue in
-              let Q : ℕ → Type 0 = λ n. IsChain nodes n head one.0 (lines q) → (keys : List ℕ) × IsChain after n head keys (handed_on parent child (lines q)) in
+              let Q : ℕ → Type 0 = λ n. IsChain nodes n head one.0 (lines q) → (keys : List ℕ) × IsChain after n head keys (after_hand_on parent child (lines q)) in
               subst P (sym b_is) (subst Q (sym same) (λ chain.
               let done = chain_handed_on nodes after queue key new parent child link handed own_is.0 own_is.1 sole_parent head one.0 (lines q) chain in
               (done.keys, done.is)) one.1)

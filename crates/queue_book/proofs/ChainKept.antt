@@ -7,7 +7,7 @@ use Rattle.pop_order.proofs.Flags.{eq_of, eq_same, or_cases, or_left, or_right}
 use Rattle.std.specs.Prelude.{slice_get, if◌then◌else◌}
 use Rattle.slab.specs.Slab.{Slab, get, with_value, Updates}
 use Rattle.swan_model.specs.declared.value.Value.{Value}
-use Rattle.queue_book.specs.Book.{Chunk, Chunks, is_owned, with_item, closed}
+use Rattle.queue_book.specs.Book.{Chunk, Chunks, is_owned, with_item, after_close}
 use Rattle.queue_book.specs.Chains.{Link, chunk_of, is_among, IsChain, in_line}
 
 -- two nodes of one key are one
@@ -55,7 +55,7 @@ pushed_is number item [] = refl
 pushed_is number item (chunk ∷ chunks) =
     ap (λ rest. if is_owned number chunk then record chunk { items = chunk.items ++ item ∷ [] } ∷ chunks else chunk ∷ rest) (pushed_is number item chunks)
 
-pub closed_is : (number : ℕ) (chunks : Chunks) → at_owned number (λ chunk. record chunk { owner = None }) chunks ≡ closed number chunks
+pub closed_is : (number : ℕ) (chunks : Chunks) → at_owned number (λ chunk. record chunk { owner = None }) chunks ≡ after_close number chunks
 closed_is number [] = refl
 closed_is number (chunk ∷ chunks) =
     ap (λ rest. if is_owned number chunk then record chunk { owner = None } ∷ chunks else chunk ∷ rest) (closed_is number chunks)

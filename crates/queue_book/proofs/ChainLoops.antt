@@ -7,7 +7,7 @@ use Rattle.queue_book.specs.Book.{is_spent}
 use Rattle.queue_book.specs.Chains.{chunk_of, in_line}
 use Rattle.slab.specs.Slab.{Slab, slab_len}
 use Rattle.swan_model.specs.declared.value.Value.{Value}
-use Rattle.queue_book.specs.Book.{Chunk, Chunks, trimmed, items_of}
+use Rattle.queue_book.specs.Book.{Chunk, Chunks, without_spent, items_in}
 use Rattle.queue_book.specs.Chains.{Link, AreChained}
 
 -- some chunks of a queue are gone, with their nodes, and all other queues are as they were
@@ -20,12 +20,12 @@ pub record AreLeft (at : ℕ → ℕ → Option ℕ) (lines : ℕ → Chunks) (q
 -- spent chunks at the front are gone
 pub record AreTrimmed (at : ℕ → ℕ → Option ℕ) (lines : ℕ → Chunks) (queue : ℕ) (start : Slab Link) (heads : List (Option ℕ)) (nodes : Slab Link) : Type 0 where
   pub left : AreLeft at lines queue start heads nodes
-  pub same : trimmed (left.now queue) ≡ trimmed (lines queue)
+  pub same : without_spent (left.now queue) ≡ without_spent (lines queue)
 
 -- the items of those that are gone were moved
 pub record AreMoved (at : ℕ → ℕ → Option ℕ) (lines : ℕ → Chunks) (queue : ℕ) (start : Slab Link) (heads : List (Option ℕ)) (nodes : Slab Link) (items : List Value) : Type 0 where
   pub left : AreLeft at lines queue start heads nodes
-  pub moved : items ++ items_of (left.now queue) ≡ items_of (lines queue)
+  pub moved : items ++ items_in (left.now queue) ≡ items_in (lines queue)
 
 pub line_same : (queue : ℕ) (change : Chunks → Chunks) (lines : ℕ → Chunks) → in_line queue change lines queue ≡ change (lines queue)
 line_same queue change lines = ap (λ b. if b then change (lines queue) else lines queue) (eq_same queue)
@@ -70,8 +70,8 @@ module _ (at : ℕ → ℕ → Option ℕ) (lines : ℕ → Chunks) (queue : ℕ
   trimmed_drop was chunk rest are spent kept = record {
     left = left_drop was.left chunk rest are kept;
     same =
-        ap trimmed (line_same queue (λ chunks. drop 1 chunks) was.left.now ∙ ap (λ (cs : Chunks). drop 1 cs) are)
-        ∙ sym (ap (λ b. if b then trimmed rest else chunk ∷ rest) spent) ∙ sym (ap trimmed are) ∙ was.same;
+        ap without_spent (line_same queue (λ chunks. drop 1 chunks) was.left.now ∙ ap (λ (cs : Chunks). drop 1 cs) are)
+        ∙ sym (ap (λ b. if b then without_spent rest else chunk ∷ rest) spent) ∙ sym (ap without_spent are) ∙ was.same;
   }
 
   pub moved_drop : (items moved : List Value) (was : AreMoved at lines queue start heads nodes items) (link : Link) → was.left.now queue ≡ chunk_of link ∷ drop 1 (was.left.now queue)
@@ -80,10 +80,10 @@ module _ (at : ℕ → ℕ → Option ℕ) (lines : ℕ → Chunks) (queue : ℕ
   moved_drop items moved was link are is_moved kept = record {
     left = left_drop was.left (chunk_of link) (drop 1 (was.left.now queue)) are kept;
     moved =
-        ap (λ (cs : Chunks). moved ++ items_of cs) (line_same queue (λ chunks. drop 1 chunks) was.left.now)
-        ∙ ap (λ (vs : List Value). vs ++ items_of (drop 1 (was.left.now queue))) is_moved
-        ∙ append_assoc items link.items (items_of (drop 1 (was.left.now queue)))
-        ∙ ap (λ (cs : Chunks). items ++ items_of cs) (sym are) ∙ was.moved;
+        ap (λ (cs : Chunks). moved ++ items_in cs) (line_same queue (λ chunks. drop 1 chunks) was.left.now)
+        ∙ ap (λ (vs : List Value). vs ++ items_in (drop 1 (was.left.now queue))) is_moved
+        ∙ append_assoc items link.items (items_in (drop 1 (was.left.now queue)))
+        ∙ ap (λ (cs : Chunks). items ++ items_in cs) (sym are) ∙ was.moved;
   }
 
 module _ (at : ℕ → ℕ → Option ℕ) (lines : ℕ → Chunks) (queue : ℕ) (heads : List (Option ℕ)) (nodes : Slab Link) where

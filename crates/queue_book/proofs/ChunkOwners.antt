@@ -4,7 +4,7 @@ use Rattle.std.proofs.lemmas.Bool.{eqb-true, eq-eqb, false≢true}
 use Rattle.std.proofs.lemmas.Option.{same_Some}
 use Rattle.std.specs.Option.{option_map_or}
 use Rattle.swan_model.specs.declared.value.Value.{Value}
-use Rattle.queue_book.specs.Book.{Chunk, Chunks, closed, handed_on, is_owned, is_spent, own, trimmed, with_item, without_first}
+use Rattle.queue_book.specs.Book.{Chunk, Chunks, after_close, after_hand_on, is_owned, is_spent, own, without_spent, with_item, without_first}
 use Rattle.queue_book.proofs.Owners.{AreOrdered, ordered_rest, owner_at}
 
 pub owned_by : (number : ℕ) (owner : Option ℕ) → option_map_or (λ o. nat_eq o number) owner false ≡ true → owner ≡ Some number
@@ -42,32 +42,32 @@ spent_parts (Some number) items is = absurd (false≢true is)
 pub spent_unowned : (chunk : Chunk) → is_spent chunk ≡ true → chunk.owner ≡ None
 spent_unowned chunk is = spent_parts chunk.owner chunk.items is
 
-pub ordered_trimmed : (Holds : ℕ → List ℕ → Type 0) (chunks : Chunks) → AreOrdered Holds (owner_at chunks) → AreOrdered Holds (owner_at (trimmed chunks))
+pub ordered_trimmed : (Holds : ℕ → List ℕ → Type 0) (chunks : Chunks) → AreOrdered Holds (owner_at chunks) → AreOrdered Holds (owner_at (without_spent chunks))
 ordered_trimmed Holds [] ordered = ordered
 ordered_trimmed Holds (chunk ∷ chunks) ordered = by (is_spent chunk) refl (ordered_trimmed Holds chunks) where
-  by : (b : Bool) → is_spent chunk ≡ b → (AreOrdered Holds (owner_at chunks) → AreOrdered Holds (owner_at (trimmed chunks)))
-      → AreOrdered Holds (owner_at (cond b (trimmed chunks) (chunk ∷ chunks)))
+  by : (b : Bool) → is_spent chunk ≡ b → (AreOrdered Holds (owner_at chunks) → AreOrdered Holds (owner_at (without_spent chunks)))
+      → AreOrdered Holds (owner_at (cond b (without_spent chunks) (chunk ∷ chunks)))
   by true spent rest = rest (ordered_rest Holds (owner_at (chunk ∷ chunks)) ordered (spent_unowned chunk spent))
   by false kept rest = ordered
 
 -- ---- a chunk that is closed
 
-pub closed_was : (gone : ℕ) (chunks : Chunks) (index number : ℕ) → owner_at (closed gone chunks) index ≡ Some number → owner_at chunks index ≡ Some number
+pub closed_was : (gone : ℕ) (chunks : Chunks) (index number : ℕ) → owner_at (after_close gone chunks) index ≡ Some number → owner_at chunks index ≡ Some number
 closed_was gone [] index number is = is
 closed_was gone (chunk ∷ chunks) index number is = by (is_owned gone chunk) index is (λ later. closed_was gone chunks later number) where
-  by : (b : Bool) (place : ℕ) → owner_at (cond b (record chunk { owner = None } ∷ chunks) (chunk ∷ closed gone chunks)) place ≡ Some number
-      → ((later : ℕ) → owner_at (closed gone chunks) later ≡ Some number → owner_at chunks later ≡ Some number) → owner_at (chunk ∷ chunks) place ≡ Some number
+  by : (b : Bool) (place : ℕ) → owner_at (cond b (record chunk { owner = None } ∷ chunks) (chunk ∷ after_close gone chunks)) place ≡ Some number
+      → ((later : ℕ) → owner_at (after_close gone chunks) later ≡ Some number → owner_at chunks later ≡ Some number) → owner_at (chunk ∷ chunks) place ≡ Some number
   by true zero none rest = absurd (cc)
   by true (suc later) there rest = there
   by false zero here rest = here
   by false (suc later) there rest = rest later there
 
-pub closed_other : (gone : ℕ) (chunks : Chunks) (index number : ℕ) → (number ≡ gone → ⊥) → owner_at chunks index ≡ Some number → owner_at (closed gone chunks) index ≡ Some number
+pub closed_other : (gone : ℕ) (chunks : Chunks) (index number : ℕ) → (number ≡ gone → ⊥) → owner_at chunks index ≡ Some number → owner_at (after_close gone chunks) index ≡ Some number
 closed_other gone [] index number apart is = is
 closed_other gone (chunk ∷ chunks) index number apart is = by (is_owned gone chunk) refl index is (λ later. closed_other gone chunks later number apart) where
   by : (b : Bool) → is_owned gone chunk ≡ b → (place : ℕ) → owner_at (chunk ∷ chunks) place ≡ Some number
-      → ((later : ℕ) → owner_at chunks later ≡ Some number → owner_at (closed gone chunks) later ≡ Some number)
-      → owner_at (cond b (record chunk { owner = None } ∷ chunks) (chunk ∷ closed gone chunks)) place ≡ Some number
+      → ((later : ℕ) → owner_at chunks later ≡ Some number → owner_at (after_close gone chunks) later ≡ Some number)
+      → owner_at (cond b (record chunk { owner = None } ∷ chunks) (chunk ∷ after_close gone chunks)) place ≡ Some number
   by true owned zero here rest = absurd (apart (same_Some number gone (sym here ∙ owned_by gone chunk.owner owned)))
   by true owned (suc later) there rest = there
   by false other zero here rest = here
@@ -75,13 +75,13 @@ closed_other gone (chunk ∷ chunks) index number apart is = by (is_owned gone c
 
 -- who owned but one chunk owns none then
 pub closed_gone : (gone : ℕ) (chunks : Chunks) → ((i j : ℕ) → owner_at chunks i ≡ Some gone → owner_at chunks j ≡ Some gone → i ≡ j)
-    → (index : ℕ) → owner_at (closed gone chunks) index ≡ Some gone → ⊥
+    → (index : ℕ) → owner_at (after_close gone chunks) index ≡ Some gone → ⊥
 closed_gone gone [] once index is = absurd (cc)
 closed_gone gone (chunk ∷ chunks) once index is =
     by (is_owned gone chunk) refl index is (closed_gone gone chunks (λ i j first second. let e = once (suc i) (suc j) first second in omega arith))
   where
-    by : (b : Bool) → is_owned gone chunk ≡ b → (place : ℕ) → owner_at (cond b (record chunk { owner = None } ∷ chunks) (chunk ∷ closed gone chunks)) place ≡ Some gone
-        → ((later : ℕ) → owner_at (closed gone chunks) later ≡ Some gone → ⊥) → ⊥
+    by : (b : Bool) → is_owned gone chunk ≡ b → (place : ℕ) → owner_at (cond b (record chunk { owner = None } ∷ chunks) (chunk ∷ after_close gone chunks)) place ≡ Some gone
+        → ((later : ℕ) → owner_at (after_close gone chunks) later ≡ Some gone → ⊥) → ⊥
     by true owned zero none rest = absurd (cc)
     by true owned (suc later) there rest =
         let e = once 0 (suc later) (owned_by gone chunk.owner owned) there in
@@ -109,14 +109,14 @@ pub record IsFirstOf (at : ℕ → Option ℕ) (parent place : ℕ) : Type 0 whe
   pub first : (other : ℕ) → at other ≡ Some parent → place ≤ other
 
 pub handed_was : (parent child : ℕ) (chunks : Chunks) (place : ℕ) → IsFirstOf (owner_at chunks) parent place → (index number : ℕ)
-    → owner_at (handed_on parent child chunks) index ≡ Some number → WasHanded (owner_at chunks) place child index number
+    → owner_at (after_hand_on parent child chunks) index ≡ Some number → WasHanded (owner_at chunks) place child index number
 handed_was parent child [] place at index number is = absurd (cc)
 handed_was parent child (chunk ∷ chunks) place at index number is =
     by (is_owned parent chunk) refl place at index is (λ k first later. handed_was parent child chunks k first later number)
   where
     by : (b : Bool) → is_owned parent chunk ≡ b → (place : ℕ) → IsFirstOf (owner_at (chunk ∷ chunks)) parent place → (index : ℕ)
-        → owner_at (cond b (own child chunk.items ∷ own parent [] ∷ chunks) (chunk ∷ handed_on parent child chunks)) index ≡ Some number
-        → ((k : ℕ) → IsFirstOf (owner_at chunks) parent k → (later : ℕ) → owner_at (handed_on parent child chunks) later ≡ Some number
+        → owner_at (cond b (own child chunk.items ∷ own parent [] ∷ chunks) (chunk ∷ after_hand_on parent child chunks)) index ≡ Some number
+        → ((k : ℕ) → IsFirstOf (owner_at chunks) parent k → (later : ℕ) → owner_at (after_hand_on parent child chunks) later ≡ Some number
         → WasHanded (owner_at chunks) k child later number)
         → WasHanded (owner_at (chunk ∷ chunks)) place child index number
     by true owned zero at zero here rest = to_child refl (sym (same_Some child number here))
@@ -132,23 +132,23 @@ handed_was parent child (chunk ∷ chunks) place at index number is =
         (rest k (record { owns = at.owns; first = λ j own. let upto = at.first (suc j) own in omega arith }) later there)
 
 pub handed_child : (parent child : ℕ) (chunks : Chunks) (place : ℕ) → owner_at chunks place ≡ Some parent
-    → (index : ℕ) × (owner_at (handed_on parent child chunks) index ≡ Some child)
+    → (index : ℕ) × (owner_at (after_hand_on parent child chunks) index ≡ Some child)
 handed_child parent child [] place is = absurd (cc)
 handed_child parent child (chunk ∷ chunks) place is = by (is_owned parent chunk) refl place is (handed_child parent child chunks) where
   by : (b : Bool) → is_owned parent chunk ≡ b → (place : ℕ) → owner_at (chunk ∷ chunks) place ≡ Some parent
-      → ((later : ℕ) → owner_at chunks later ≡ Some parent → (index : ℕ) × (owner_at (handed_on parent child chunks) index ≡ Some child))
-      → (index : ℕ) × (owner_at (cond b (own child chunk.items ∷ own parent [] ∷ chunks) (chunk ∷ handed_on parent child chunks)) index ≡ Some child)
+      → ((later : ℕ) → owner_at chunks later ≡ Some parent → (index : ℕ) × (owner_at (after_hand_on parent child chunks) index ≡ Some child))
+      → (index : ℕ) × (owner_at (cond b (own child chunk.items ∷ own parent [] ∷ chunks) (chunk ∷ after_hand_on parent child chunks)) index ≡ Some child)
   by true owned k there rest = (0, refl)
   by false other zero here rest = absurd (owned_not parent chunk.owner other here)
   by false other (suc later) there rest = let at = rest later there in (suc at.0, at.1)
 
 pub handed_still : (parent child : ℕ) (chunks : Chunks) (place number : ℕ) → owner_at chunks place ≡ Some number
-    → (index : ℕ) × (owner_at (handed_on parent child chunks) index ≡ Some number)
+    → (index : ℕ) × (owner_at (after_hand_on parent child chunks) index ≡ Some number)
 handed_still parent child [] place number is = absurd (cc)
 handed_still parent child (chunk ∷ chunks) place number is = by (is_owned parent chunk) refl place is (λ later. handed_still parent child chunks later number) where
   by : (b : Bool) → is_owned parent chunk ≡ b → (place : ℕ) → owner_at (chunk ∷ chunks) place ≡ Some number
-      → ((later : ℕ) → owner_at chunks later ≡ Some number → (index : ℕ) × (owner_at (handed_on parent child chunks) index ≡ Some number))
-      → (index : ℕ) × (owner_at (cond b (own child chunk.items ∷ own parent [] ∷ chunks) (chunk ∷ handed_on parent child chunks)) index ≡ Some number)
+      → ((later : ℕ) → owner_at chunks later ≡ Some number → (index : ℕ) × (owner_at (after_hand_on parent child chunks) index ≡ Some number))
+      → (index : ℕ) × (owner_at (cond b (own child chunk.items ∷ own parent [] ∷ chunks) (chunk ∷ after_hand_on parent child chunks)) index ≡ Some number)
   by true owned zero here rest = (1, sym (owned_by parent chunk.owner owned) ∙ here)
   by true owned (suc later) there rest = (suc (suc later), there)
   by false other zero here rest = (0, here)

@@ -6,13 +6,13 @@ use Rattle.pop_order.proofs.Flags.{eq_same}
 use Rattle.swan_model.specs.declared.rights.Mode.TheVariants.{Push}
 use Rattle.swan_model.specs.QueueState.{QueueRight}
 use Rattle.swan_model.specs.Rights.{allows}
-use Rattle.queue_book.specs.Handed.{gives_push, is_given}
+use Rattle.queue_book.specs.Handed.{gives_push, gives_queue}
 
 -- nothing of what isn't given
-pub push_none : (gives : List QueueRight) (q : ℕ) → is_given gives q ≡ false → gives_push gives q ≡ false
+pub push_none : (gives : List QueueRight) (q : ℕ) → gives_queue gives q ≡ false → gives_push gives q ≡ false
 push_none [] q none = refl
 push_none (give ∷ gives) q none = by (give.queue == q) none (push_none gives q) where
-  by : (b : Bool) → (b || is_given gives q) ≡ false → (is_given gives q ≡ false → gives_push gives q ≡ false) → ((b && allows give.mode Push) || gives_push gives q) ≡ false
+  by : (b : Bool) → (b || gives_queue gives q) ≡ false → (gives_queue gives q ≡ false → gives_push gives q ≡ false) → ((b && allows give.mode Push) || gives_push gives q) ≡ false
   by true e rest = absurd (false≢true (sym e))
   by false e rest = rest e
 
@@ -20,7 +20,7 @@ or_none : (b : Bool) → (b || false) ≡ b
 or_none true = refl
 or_none false = refl
 
-pub push_now : (gives : List QueueRight) (give : QueueRight) → is_given gives give.queue ≡ false → gives_push (gives ++ give ∷ []) give.queue ≡ allows give.mode Push
+pub push_now : (gives : List QueueRight) (give : QueueRight) → gives_queue gives give.queue ≡ false → gives_push (gives ++ give ∷ []) give.queue ≡ allows give.mode Push
 push_now gives give fresh =
     list_any-append (λ (r : QueueRight). (r.queue == give.queue) && allows r.mode Push) gives (give ∷ [])
     ∙ ap (λ b. b || (((give.queue == give.queue) && allows give.mode Push) || false)) (push_none gives give.queue fresh)

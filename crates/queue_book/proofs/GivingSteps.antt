@@ -9,13 +9,13 @@ use Rattle.swan_model.specs.declared.rights.Mode.TheVariants.{Push}
 use Rattle.swan_model.specs.QueueState.{ActiveFrame, QueueRight, MayGive}
 use Rattle.swan_model.specs.Rights.{allows, is_queue_mode}
 use Rattle.queue_book.specs.Chains.{Link}
-use Rattle.queue_book.specs.Ended.{placed_at}
-use Rattle.queue_book.specs.Handed.{handed_lines, holding_of, is_given, AreGiven, IsHandedIn}
-use Rattle.queue_book.specs.Kept.{Places, place_in}
-use Rattle.queue_book.specs.Live.{key_at, place_at, place_of}
+use Rattle.queue_book.specs.Ended.{own_keys}
+use Rattle.queue_book.specs.Handed.{lines_after_gives, holding_of, gives_queue, AreGiven, IsHandedIn}
+use Rattle.queue_book.specs.KeptFrames.{OwnChunks, own_chunk_in}
+use Rattle.queue_book.specs.Live.{key_at, own_chunk_at, own_chunk_of}
 use Rattle.queue_book.specs.Spawned.{MayHandOn}
 use Rattle.queue_book.specs.Turned.{AreApart}
-use Rattle.queue_book.specs.declared.frame.Place.{Place}
+use Rattle.queue_book.specs.declared.live_frame.OwnChunk.{OwnChunk}
 use Rattle.queue_book.specs.declared.live_frames.LiveFrames.{LiveFrames}
 use Rattle.queue_book.proofs.ChainChanges.{chained_same}
 use Rattle.queue_book.proofs.ChainEnds.{other_placed, own_placed}
@@ -23,12 +23,12 @@ use Rattle.queue_book.proofs.Giving.{step_chained, step_fresh, step_given, step_
 use Rattle.queue_book.proofs.GivingTurns.{may_get_more, turn_now, turn_others}
 use Rattle.queue_book.proofs.TurnsEnlisted.{apart_enlisted, up_to}
 
-pub given_at : (gives : List QueueRight) (i : ℕ) (give : QueueRight) → slice_get gives i ≡ Some give → is_given gives give.queue ≡ true
+pub given_at : (gives : List QueueRight) (i : ℕ) (give : QueueRight) → slice_get gives i ≡ Some give → gives_queue gives give.queue ≡ true
 given_at [] i give at = let never : None ≡ Some give = at in absurd (cc)
 given_at (first ∷ gives) zero give at =
     let same : first ≡ give = cc in
-    or_left (first.queue == give.queue) (is_given gives give.queue) (ap (λ (g : QueueRight). g.queue == give.queue) same ∙ eq_same give.queue)
-given_at (first ∷ gives) (suc i) give at = or_right (first.queue == give.queue) (is_given gives give.queue) (given_at gives i give at)
+    or_left (first.queue == give.queue) (gives_queue gives give.queue) (ap (λ (g : QueueRight). g.queue == give.queue) same ∙ eq_same give.queue)
+given_at (first ∷ gives) (suc i) give at = or_right (first.queue == give.queue) (gives_queue gives give.queue) (given_at gives i give at)
 
 pub queue_mode_at : (frame : ActiveFrame) (gives : List QueueRight) → MayGive frame gives → (i : ℕ) (give : QueueRight) → slice_get gives i ≡ Some give → is_queue_mode give.mode ≡ true
 queue_mode_at frame [] may i give at = let never : None ≡ Some give = at in absurd (cc)
@@ -37,13 +37,13 @@ queue_mode_at frame (first ∷ gives) may (suc i) give at = queue_mode_at frame 
 
 -- no earlier give is of the same queue
 pub fresh_at : (frame : ActiveFrame) (gives : List QueueRight) → MayGive frame gives → (i : ℕ) (give : QueueRight) → slice_get gives i ≡ Some give
-    → is_given (take i gives) give.queue ≡ false
+    → gives_queue (take i gives) give.queue ≡ false
 fresh_at frame [] may i give at = let never : None ≡ Some give = at in absurd (cc)
 fresh_at frame (first ∷ gives) may zero give at = refl
 fresh_at frame (first ∷ gives) may (suc i) give at =
-    let ne : first.queue ≢ give.queue = λ same. false≢true (sym may.2 ∙ ap (λ q. is_given gives q) same ∙ given_at gives i give at) in
+    let ne : first.queue ≢ give.queue = λ same. false≢true (sym may.2 ∙ ap (λ q. gives_queue gives q) same ∙ given_at gives i give at) in
     let test : (first.queue == give.queue) ≡ false = search rules in
-    ap (λ b. b || is_given (take i gives) give.queue) test ∙ fresh_at frame gives may.3 i give at
+    ap (λ b. b || gives_queue (take i gives) give.queue) test ∙ fresh_at frame gives may.3 i give at
 
 no_turn : (turns : Frames) (child : ℕ) → ((number : ℕ) (turn : Frame) → frame_at turns number ≡ Some turn → number < child) → frame_at turns child ≡ None
 no_turn turns child newest = by (frame_at turns child) refl where
@@ -61,32 +61,32 @@ given_none before parent child all heads nodes turns may = record {
   fresh = λ q place at. let never : None ≡ Some place = at in absurd (cc);
   pushers = λ q place at. let never : None ≡ Some place = at in absurd (cc);
   chained = λ lines is free.
-      chained_same (key_at before) (placed_at child [] (key_at before)) heads nodes lines (handed_lines parent child [] lines) (keys free) (λ q. refl) is;
+      chained_same (key_at before) (own_keys child [] (key_at before)) heads nodes lines (lines_after_gives parent child [] lines) (keys free) (λ q. refl) is;
   turn = no_turn turns child may.newest;
   other_turns = λ other apart. refl;
   apart = λ apart. apart;
 } where
-  keys : ((q : ℕ) → key_at before child q ≡ None) → (m q : ℕ) → placed_at child [] (key_at before) m q ≡ key_at before m q
+  keys : ((q : ℕ) → key_at before child q ≡ None) → (m q : ℕ) → own_keys child [] (key_at before) m q ≡ key_at before m q
   keys free m q = elim (cases_eq m child) [
-    | inl same ↦ ap (λ k. placed_at child [] (key_at before) k q) same ∙ own_placed child [] (key_at before) q ∙ sym (free q) ∙ sym (ap (λ k. key_at before k q) same)
+    | inl same ↦ ap (λ k. own_keys child [] (key_at before) k q) same ∙ own_placed child [] (key_at before) q ∙ sym (free q) ∙ sym (ap (λ k. key_at before k q) same)
     | inr apart ↦ other_placed child [] (key_at before) m q apart
   ]
 
-module _ (before now : LiveFrames) (parent child : ℕ) (all : List QueueRight) (i : ℕ) (give : QueueRight) (places : Places) (heads : List (Option ℕ)) (nodes now_nodes : Slab Link)
+module _ (before now : LiveFrames) (parent child : ℕ) (all : List QueueRight) (i : ℕ) (give : QueueRight) (places : OwnChunks) (heads : List (Option ℕ)) (nodes now_nodes : Slab Link)
     (turns now_turns : Frames) (may : MayHandOn before turns parent child all) (at : slice_get all i ≡ Some give)
     (is : AreGiven before now parent child (take i all) places heads nodes now_nodes turns now_turns) where
-  fresh : is_given (take i all) give.queue ≡ false
+  fresh : gives_queue (take i all) give.queue ≡ false
   fresh = fresh_at may.frame all may.lawful i give at
 
   two : parent ≢ child
   two same = let less = may.rising in omega arith
 
-  pub has_now : (place : Place) × (place_at now parent give.queue ≡ Some place)
+  pub has_now : (place : OwnChunk) × (own_chunk_at now parent give.queue ≡ Some place)
   has_now =
       let was = is.moved may.kept may.live in
-      let some : is_some (place_in was.0.places give.queue) ≡ true = was.2.places give.queue ∙ may.has give.queue (given_at all i give at) in
-      found (place_in was.0.places give.queue) some (ap (λ o. place_of o give.queue) was.1) where
-        found : (o : Option Place) → is_some o ≡ true → place_at now parent give.queue ≡ o → (place : Place) × (place_at now parent give.queue ≡ Some place)
+      let some : is_some (own_chunk_in was.0.places give.queue) ≡ true = was.2.places give.queue ∙ may.has give.queue (given_at all i give at) in
+      found (own_chunk_in was.0.places give.queue) some (ap (λ o. own_chunk_of o give.queue) was.1) where
+        found : (o : Option OwnChunk) → is_some o ≡ true → own_chunk_at now parent give.queue ≡ o → (place : OwnChunk) × (own_chunk_at now parent give.queue ≡ Some place)
         found None none e = absurd (false≢true none)
         found (Some place) some e = (place, e)
 
@@ -100,7 +100,7 @@ module _ (before now : LiveFrames) (parent child : ℕ) (all : List QueueRight) 
   may_get_now = ap (λ o. may_get o parent give.queue) is.turn ∙ may_get_more parent (take i all) give.queue fresh
 
   -- one more
-  pub given_more : (after : LiveFrames) (then_places : Places) (then_nodes : Slab Link) (then_turns : Frames)
+  pub given_more : (after : LiveFrames) (then_places : OwnChunks) (then_nodes : Slab Link) (then_turns : Frames)
       → IsHandedIn now after parent child give.queue (allows give.mode Push) places then_places heads now_nodes then_nodes
       → then_turns ≡ enlisted now_turns parent child (holding_of give)
       → AreGiven before after parent child (take i all ++ give ∷ []) then_places heads nodes then_nodes turns then_turns

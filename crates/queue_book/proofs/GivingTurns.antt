@@ -6,7 +6,7 @@ use Rattle.pop_order.proofs.Flags.{and_both, eq_same}
 use Rattle.pop_order.proofs.Lookups.{at_inserted, at_set, by_inserted, by_set}
 use Rattle.pop_order.specs.Frames.{Frame, Frames, enlisted, enlisted_at, frame_at, may_get}
 use Rattle.swan_model.specs.QueueState.{QueueRight}
-use Rattle.queue_book.specs.Handed.{holding_of, is_given, turn_of}
+use Rattle.queue_book.specs.Handed.{holding_of, gives_queue, turn_of}
 
 -- what a child has after one more
 pub turn_now : (turns : Frames) (parent child : ℕ) (gives : List QueueRight) (give : QueueRight) → frame_at turns child ≡ turn_of parent gives
@@ -32,11 +32,11 @@ turn_others turns parent child (first ∷ gives) give is other apart =
     ∙ by_set turns child frame (record frame { holdings = frame.holdings ++ holding_of give ∷ [] }) other is apart
 
 -- it may get a queue that it doesn't have
-pub may_get_more : (parent : ℕ) (gives : List QueueRight) (queue : ℕ) → is_given gives queue ≡ false → may_get (turn_of parent gives) parent queue ≡ true
+pub may_get_more : (parent : ℕ) (gives : List QueueRight) (queue : ℕ) → gives_queue gives queue ≡ false → may_get (turn_of parent gives) parent queue ≡ true
 may_get_more parent [] queue fresh = refl
 may_get_more parent (first ∷ gives) queue fresh =
     and_both (parent == parent) (not false && not (list_any (λ h. h.number == queue) (map holding_of (first ∷ gives)))) (eq_same parent)
     (ap (λ b. not false && not b) (mapped (first ∷ gives) ∙ fresh)) where
-      mapped : (rights : List QueueRight) → list_any (λ h. h.number == queue) (map holding_of rights) ≡ is_given rights queue
+      mapped : (rights : List QueueRight) → list_any (λ h. h.number == queue) (map holding_of rights) ≡ gives_queue rights queue
       mapped [] = refl
       mapped (right ∷ rights) = ap (λ b. (right.queue == queue) || b) (mapped rights)

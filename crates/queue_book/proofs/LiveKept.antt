@@ -5,64 +5,64 @@ use Rattle.std.specs.Option.{option_map}
 use Rattle.std.specs.Prelude.{slice_get, is_some, if◌then◌else◌}
 use Rattle.swan_model.specs.QueueState.{ActiveFrame, Maker, QueueState, active, root_frame, new_state}
 use Rattle.queue_book.specs.Tree.{IsTree, has_queue}
-use Rattle.queue_book.specs.declared.frame.Place.{Place}
+use Rattle.queue_book.specs.declared.live_frame.OwnChunk.{OwnChunk}
 use Rattle.queue_book.specs.declared.live_frames.LiveFrames.{LiveFrames}
-use Rattle.queue_book.specs.Kept.{Kept, place_in}
-use Rattle.queue_book.specs.Live.{kept_of, key_in, key_at, place_at, place_of, Agrees, AreLive, IsFrame, IsOnlyChange}
+use Rattle.queue_book.specs.KeptFrames.{KeptFrame, own_chunk_in}
+use Rattle.queue_book.specs.Live.{kept_of, key_in, key_at, own_chunk_at, own_chunk_of, Agrees, AreLive, IsFrame, IsOnlyChange}
 use Rattle.queue_book.proofs.ActiveAfter.{AreOthers}
 
 -- the makers of older queues are the same
 abbrev pub SameMakers : QueueState → QueueState → Type 0
 SameMakers state after = (queue : ℕ) (maker : Maker) → queue < length state.makers → slice_get after.makers queue ≡ Some maker → slice_get state.makers queue ≡ Some maker
 
-pub kept_active : (state : QueueState) (kept : Option Kept) (found : Option ActiveFrame) (frame : ActiveFrame) → Agrees state kept found → found ≡ Some frame
-    → (one : Kept) × (kept ≡ Some one) × IsFrame state one frame
+pub kept_active : (state : QueueState) (kept : Option KeptFrame) (found : Option ActiveFrame) (frame : ActiveFrame) → Agrees state kept found → found ≡ Some frame
+    → (one : KeptFrame) × (kept ≡ Some one) × IsFrame state one frame
 kept_active state None None frame is e = let never : None ≡ Some frame = e in absurd (cc)
 kept_active state (Some one) (Some first) frame is e = let same : first ≡ frame = cc in let P : ActiveFrame → Type 0 = λ f. IsFrame state one f in (one, refl, subst P same is)
 kept_active state None (Some first) frame is e = absurd is
 kept_active state (Some one) None frame is e = absurd is
 
-pub active_kept : (state : QueueState) (kept : Option Kept) (found : Option ActiveFrame) (one : Kept) → Agrees state kept found → kept ≡ Some one
+pub active_kept : (state : QueueState) (kept : Option KeptFrame) (found : Option ActiveFrame) (one : KeptFrame) → Agrees state kept found → kept ≡ Some one
     → (frame : ActiveFrame) × (found ≡ Some frame) × IsFrame state one frame
 active_kept state None None one is e = let never : None ≡ Some one = e in absurd (cc)
-active_kept state (Some first) (Some frame) one is e = let same : first ≡ one = cc in let P : Kept → Type 0 = λ k. IsFrame state k frame in (frame, refl, subst P same is)
+active_kept state (Some first) (Some frame) one is e = let same : first ≡ one = cc in let P : KeptFrame → Type 0 = λ k. IsFrame state k frame in (frame, refl, subst P same is)
 active_kept state None (Some first) one is e = absurd is
 active_kept state (Some first) None one is e = absurd is
 
 -- the frame that is kept of a number, where it is active
 pub kept_live : (state : QueueState) (frames : LiveFrames) → AreLive state frames → (n : ℕ) (frame : ActiveFrame) → active state n ≡ Some frame
-    → (one : Kept) × (kept_of frames n ≡ Some one) × IsFrame state one frame
+    → (one : KeptFrame) × (kept_of frames n ≡ Some one) × IsFrame state one frame
 kept_live state frames live n frame e = kept_active state (kept_of frames n) (active state n) frame (live n) e
 
-pub live_kept : (state : QueueState) (frames : LiveFrames) → AreLive state frames → (n : ℕ) (one : Kept) → kept_of frames n ≡ Some one
+pub live_kept : (state : QueueState) (frames : LiveFrames) → AreLive state frames → (n : ℕ) (one : KeptFrame) → kept_of frames n ≡ Some one
     → (frame : ActiveFrame) × (active state n ≡ Some frame) × IsFrame state one frame
 live_kept state frames live n one e = active_kept state (kept_of frames n) (active state n) one (live n) e
 
 -- where a place is, the frame has the queue
-pub place_has : (state : QueueState) (one : Kept) (frame : ActiveFrame) (queue : ℕ) (place : Place) → IsFrame state one frame → place_in one.places queue ≡ Some place
+pub place_has : (state : QueueState) (one : KeptFrame) (frame : ActiveFrame) (queue : ℕ) (place : OwnChunk) → IsFrame state one frame → own_chunk_in one.places queue ≡ Some place
     → has_queue frame queue ≡ true
 place_has state one frame queue place is e = sym (is.places queue) ∙ ap is_some e
 
-pub has_place : (state : QueueState) (one : Kept) (frame : ActiveFrame) (queue : ℕ) → IsFrame state one frame → has_queue frame queue ≡ true
-    → (place : Place) × (place_in one.places queue ≡ Some place)
-has_place state one frame queue is has = found (place_in one.places queue) (is.places queue ∙ has) where
-  found : (o : Option Place) → is_some o ≡ true → (place : Place) × (o ≡ Some place)
+pub has_place : (state : QueueState) (one : KeptFrame) (frame : ActiveFrame) (queue : ℕ) → IsFrame state one frame → has_queue frame queue ≡ true
+    → (place : OwnChunk) × (own_chunk_in one.places queue ≡ Some place)
+has_place state one frame queue is has = found (own_chunk_in one.places queue) (is.places queue ∙ has) where
+  found : (o : Option OwnChunk) → is_some o ≡ true → (place : OwnChunk) × (o ≡ Some place)
   found None none = absurd (false≢true none)
   found (Some place) some = (place, refl)
 
 pub key_has : (state : QueueState) (frames : LiveFrames) → AreLive state frames → (n queue key : ℕ) → key_at frames n queue ≡ Some key
     → (frame : ActiveFrame) × (active state n ≡ Some frame) × (has_queue frame queue ≡ true)
 key_has state frames live n queue key e = by_kept (kept_of frames n) refl e where
-  by_place : (one : Kept) → kept_of frames n ≡ Some one → (o : Option Place) → place_in one.places queue ≡ o → option_map (λ (place : Place). place.key) o ≡ Some key
+  by_place : (one : KeptFrame) → kept_of frames n ≡ Some one → (o : Option OwnChunk) → own_chunk_in one.places queue ≡ o → option_map (λ (place : OwnChunk). place.key) o ≡ Some key
       → (frame : ActiveFrame) × (active state n ≡ Some frame) × (has_queue frame queue ≡ true)
   by_place one is None none h = let never : None ≡ Some key = h in absurd (cc)
   by_place one is (Some place) some h =
       let frame = live_kept state frames live n one is in
       (frame.0, frame.1, place_has state one frame.0 queue place frame.2 some)
 
-  by_kept : (o : Option Kept) → kept_of frames n ≡ o → key_in o queue ≡ Some key → (frame : ActiveFrame) × (active state n ≡ Some frame) × (has_queue frame queue ≡ true)
+  by_kept : (o : Option KeptFrame) → kept_of frames n ≡ o → key_in o queue ≡ Some key → (frame : ActiveFrame) × (active state n ≡ Some frame) × (has_queue frame queue ≡ true)
   by_kept None none h = let never : None ≡ Some key = h in absurd (cc)
-  by_kept (Some one) is h = by_place one is (place_in one.places queue) refl h
+  by_kept (Some one) is h = by_place one is (own_chunk_in one.places queue) refl h
 
 pub key_none : (state : QueueState) (frames : LiveFrames) → AreLive state frames → (n queue : ℕ)
     → ((frame : ActiveFrame) → active state n ≡ Some frame → has_queue frame queue ≡ true → ⊥) → key_at frames n queue ≡ None
@@ -72,25 +72,25 @@ key_none state frames live n queue none = by_key (key_at frames n queue) refl wh
   by_key (Some key) e = let has = key_has state frames live n queue key e in absurd (none has.0 has.1 has.2)
 
 pub has_key : (state : QueueState) (frames : LiveFrames) → AreLive state frames → (n queue : ℕ) (frame : ActiveFrame) → active state n ≡ Some frame → has_queue frame queue ≡ true
-    → (one : Kept) × (kept_of frames n ≡ Some one) × IsFrame state one frame × (place : Place) × (place_in one.places queue ≡ Some place)
+    → (one : KeptFrame) × (kept_of frames n ≡ Some one) × IsFrame state one frame × (place : OwnChunk) × (own_chunk_in one.places queue ≡ Some place)
 has_key state frames live n queue frame e has =
     let one = kept_live state frames live n frame e in
     let place = has_place state one.0 frame queue one.2 has in
     (one.0, one.1, one.2, place.0, place.1)
 
 -- a place tells the key
-pub key_of : (frames : LiveFrames) (n queue : ℕ) (place : Place) → place_at frames n queue ≡ Some place → key_at frames n queue ≡ Some place.key
+pub key_of : (frames : LiveFrames) (n queue : ℕ) (place : OwnChunk) → own_chunk_at frames n queue ≡ Some place → key_at frames n queue ≡ Some place.key
 key_of frames n queue place e = by (kept_of frames n) e where
-  by : (o : Option Kept) → place_of o queue ≡ Some place → key_in o queue ≡ Some place.key
+  by : (o : Option KeptFrame) → own_chunk_of o queue ≡ Some place → key_in o queue ≡ Some place.key
   by None h = let never : None ≡ Some place = h in absurd (cc)
-  by (Some one) h = ap (option_map (λ (p : Place). p.key)) h
+  by (Some one) h = ap (option_map (λ (p : OwnChunk). p.key)) h
 
-pub place_of_key : (frames : LiveFrames) (n queue : ℕ) (one : Kept) (place : Place) → kept_of frames n ≡ Some one → place_in one.places queue ≡ Some place → place_at frames n queue ≡ Some place
-place_of_key frames n queue one place is at = ap (λ o. place_of o queue) is ∙ at
+pub place_of_key : (frames : LiveFrames) (n queue : ℕ) (one : KeptFrame) (place : OwnChunk) → kept_of frames n ≡ Some one → own_chunk_in one.places queue ≡ Some place → own_chunk_at frames n queue ≡ Some place
+place_of_key frames n queue one place is at = ap (λ o. own_chunk_of o queue) is ∙ at
 
 -- ---- after a call
 
-pub frame_on : (state after : QueueState) (one : Kept) (frame : ActiveFrame) → SameMakers state after → ((queue : ℕ) → has_queue frame queue ≡ true → queue < length state.makers)
+pub frame_on : (state after : QueueState) (one : KeptFrame) (frame : ActiveFrame) → SameMakers state after → ((queue : ℕ) → has_queue frame queue ≡ true → queue < length state.makers)
     → IsFrame state one frame → IsFrame after one frame
 frame_on state after one frame same known is = record {
   deeds = is.deeds;
@@ -101,7 +101,7 @@ frame_on state after one frame same known is = record {
   pushers = is.pushers;
 }
 
-pub agrees_on : (state after : QueueState) (kept : Option Kept) (found : Option ActiveFrame) → SameMakers state after
+pub agrees_on : (state after : QueueState) (kept : Option KeptFrame) (found : Option ActiveFrame) → SameMakers state after
     → ((frame : ActiveFrame) → found ≡ Some frame → (queue : ℕ) → has_queue frame queue ≡ true → queue < length state.makers)
     → Agrees state kept found → Agrees after kept found
 agrees_on state after None None same known is = tt
@@ -110,18 +110,18 @@ agrees_on state after None (Some frame) same known is = absurd is
 agrees_on state after (Some one) None same known is = absurd is
 
 module _ (state after : QueueState) (tree : IsTree state) (frames then_frames : LiveFrames) (live : AreLive state frames) (n : ℕ) (others : AreOthers state after n) (same : SameMakers state after) where
-  pub live_other : (kept : Option Kept) → IsOnlyChange frames then_frames n kept → (m : ℕ) → m ≢ n → Agrees after (kept_of then_frames m) (active after m)
+  pub live_other : (kept : Option KeptFrame) → IsOnlyChange frames then_frames n kept → (m : ℕ) → m ≢ n → Agrees after (kept_of then_frames m) (active after m)
   live_other kept one m other =
-      let P : Option Kept → Type 0 = λ o. Agrees after o (active after m) in
+      let P : Option KeptFrame → Type 0 = λ o. Agrees after o (active after m) in
       let Q : Option ActiveFrame → Type 0 = λ o. Agrees after (kept_of frames m) o in
       subst P (sym (one.others m other)) (subst Q (sym (others m other)) (agrees_on state after (kept_of frames m) (active state m) same
       (λ frame is queue has. (tree.held m queue frame is has).0) (live m)))
 
-  pub live_one : (kept : Kept) (frame : ActiveFrame) → IsOnlyChange frames then_frames n (Some kept) → active after n ≡ Some frame → IsFrame after kept frame → AreLive after then_frames
+  pub live_one : (kept : KeptFrame) (frame : ActiveFrame) → IsOnlyChange frames then_frames n (Some kept) → active after n ≡ Some frame → IsFrame after kept frame → AreLive after then_frames
   live_one kept frame one now is m = elim (cases_eq m n) [
     | inl here ↦
         let P : ℕ → Type 0 = λ k. Agrees after (kept_of then_frames k) (active after k) in
-        let Q : Option Kept → Type 0 = λ o. Agrees after o (active after n) in
+        let Q : Option KeptFrame → Type 0 = λ o. Agrees after o (active after n) in
         let R : Option ActiveFrame → Type 0 = λ o. Agrees after (Some kept) o in
         subst P (sym here) (subst Q (sym one.changed) (subst R (sym now) is))
     | inr other ↦ live_other (Some kept) one m other
@@ -131,7 +131,7 @@ module _ (state after : QueueState) (tree : IsTree state) (frames then_frames : 
   live_gone one gone m = elim (cases_eq m n) [
     | inl here ↦
         let P : ℕ → Type 0 = λ k. Agrees after (kept_of then_frames k) (active after k) in
-        let Q : Option Kept → Type 0 = λ o. Agrees after o (active after n) in
+        let Q : Option KeptFrame → Type 0 = λ o. Agrees after o (active after n) in
         let R : Option ActiveFrame → Type 0 = λ o. Agrees after None o in
         subst P (sym here) (subst Q (sym one.changed) (subst R (sym gone) tt))
     | inr other ↦ live_other None one m other
@@ -141,7 +141,7 @@ pub live_new : (frames : LiveFrames) → kept_of frames 0 ≡ Some (record { dee
 live_new frames root others m = elim (cases_eq m 0) [
   | inl here ↦
       let P : ℕ → Type 0 = λ k. Agrees new_state (kept_of frames k) (active new_state k) in
-      let Q : Option Kept → Type 0 = λ o. Agrees new_state o (active new_state 0) in
+      let Q : Option KeptFrame → Type 0 = λ o. Agrees new_state o (active new_state 0) in
       subst P (sym here) (subst Q (sym root) (record {
         deeds = refl;
         lent = refl;
@@ -151,18 +151,18 @@ live_new frames root others m = elim (cases_eq m 0) [
         pushers = λ queue place at. let never : None ≡ Some place = at in absurd (cc);
       }))
   | inr other ↦
-      let P : Option Kept → Type 0 = λ o. Agrees new_state o (active new_state m) in
+      let P : Option KeptFrame → Type 0 = λ o. Agrees new_state o (active new_state m) in
       let b : (0 == m) ≡ false = let ne : 0 ≢ m = λ e. other (sym e) in search rules in
       let Q : Bool → Type 0 = λ c. Agrees new_state None (if c then Some root_frame else None) in
       subst P (sym (others m other)) (subst Q (sym b) tt)
 ]
 
 -- the places of a frame stay, and so do all keys
-pub keys_same : (frames then_frames : LiveFrames) (n : ℕ) (was now : Kept) → kept_of frames n ≡ Some was → IsOnlyChange frames then_frames n (Some now) → now.places ≡ was.places
+pub keys_same : (frames then_frames : LiveFrames) (n : ℕ) (was now : KeptFrame) → kept_of frames n ≡ Some was → IsOnlyChange frames then_frames n (Some now) → now.places ≡ was.places
     → (m queue : ℕ) → key_at then_frames m queue ≡ key_at frames m queue
 keys_same frames then_frames n was now is one places m queue = elim (cases_eq m n) [
   | inl here ↦
       ap (λ k. key_at then_frames k queue) here ∙ ap (λ o. key_in o queue) one.changed
-      ∙ ap (λ ps. option_map (λ (place : Place). place.key) (place_in ps queue)) places ∙ sym (ap (λ o. key_in o queue) is) ∙ ap (λ k. key_at frames k queue) (sym here)
+      ∙ ap (λ ps. option_map (λ (place : OwnChunk). place.key) (own_chunk_in ps queue)) places ∙ sym (ap (λ o. key_in o queue) is) ∙ ap (λ k. key_at frames k queue) (sym here)
   | inr other ↦ ap (λ o. key_in o queue) (one.others m other)
 ]

@@ -7,34 +7,34 @@ use Rattle.std.specs.Prelude.{is_some, ◌||◌}
 use Rattle.pop_order.proofs.Flags.{eq_same, or_left, or_right}
 use Rattle.swan_model.specs.QueueState.{ActiveFrame, QueueRight, with_made}
 use Rattle.queue_book.specs.Chains.{put_at}
-use Rattle.queue_book.specs.Kept.{Kept, place_in}
-use Rattle.queue_book.specs.Live.{kept_of, key_at, key_in, with_place, IsOnlyChange}
+use Rattle.queue_book.specs.KeptFrames.{KeptFrame, own_chunk_in}
+use Rattle.queue_book.specs.Live.{kept_of, key_at, key_in, with_own_chunk, IsOnlyChange}
 use Rattle.queue_book.specs.Tree.{has_queue}
-use Rattle.queue_book.specs.declared.frame.Place.{Place}
+use Rattle.queue_book.specs.declared.live_frame.OwnChunk.{OwnChunk}
 use Rattle.queue_book.specs.declared.live_frames.LiveFrames.{LiveFrames}
 use Rattle.queue_book.proofs.ChainChanges.{put_other, put_same}
 use Rattle.queue_book.proofs.Lookups.{at_inserted, by_inserted}
 
-pub place_here : (kept : Kept) (queue : ℕ) (place : Place) → place_in (with_place queue place kept).places queue ≡ Some place
+pub place_here : (kept : KeptFrame) (queue : ℕ) (place : OwnChunk) → own_chunk_in (with_own_chunk queue place kept).places queue ≡ Some place
 place_here kept queue place = at_inserted kept.places queue place
 
-pub place_elsewhere : (kept : Kept) (queue : ℕ) (place : Place) (q : ℕ) → q ≢ queue → place_in (with_place queue place kept).places q ≡ place_in kept.places q
+pub place_elsewhere : (kept : KeptFrame) (queue : ℕ) (place : OwnChunk) (q : ℕ) → q ≢ queue → own_chunk_in (with_own_chunk queue place kept).places q ≡ own_chunk_in kept.places q
 place_elsewhere kept queue place q other = by_inserted kept.places queue place q other
 
 -- the keys after that
-pub keys_put : (frames after : LiveFrames) (n queue : ℕ) (place : Place) (kept : Kept) → kept_of frames n ≡ Some kept → IsOnlyChange frames after n (Some (with_place queue place kept))
+pub keys_put : (frames after : LiveFrames) (n queue : ℕ) (place : OwnChunk) (kept : KeptFrame) → kept_of frames n ≡ Some kept → IsOnlyChange frames after n (Some (with_own_chunk queue place kept))
     → (m q : ℕ) → key_at after m q ≡ put_at n queue (Some place.key) (key_at frames) m q
 keys_put frames after n queue place kept was one m q = by (cases_eq m n) (cases_eq q queue) where
-  own : (p : ℕ) → key_at after n p ≡ option_map (λ (pl : Place). pl.key) (place_in (with_place queue place kept).places p)
+  own : (p : ℕ) → key_at after n p ≡ option_map (λ (pl : OwnChunk). pl.key) (own_chunk_in (with_own_chunk queue place kept).places p)
   own p = ap (λ o. key_in o p) one.changed
 
   by : (m ≡ n) ⊎ (m ≢ n) → (q ≡ queue) ⊎ (q ≢ queue) → key_at after m q ≡ put_at n queue (Some place.key) (key_at frames) m q
   by (inl same) (inl here) =
-      ap (λ k. key_at after k q) same ∙ own q ∙ ap (λ p. option_map (λ (pl : Place). pl.key) (place_in (with_place queue place kept).places p)) here
-      ∙ ap (option_map (λ (pl : Place). pl.key)) (place_here kept queue place) ∙ sym (put_same n queue (Some place.key) (key_at frames))
+      ap (λ k. key_at after k q) same ∙ own q ∙ ap (λ p. option_map (λ (pl : OwnChunk). pl.key) (own_chunk_in (with_own_chunk queue place kept).places p)) here
+      ∙ ap (option_map (λ (pl : OwnChunk). pl.key)) (place_here kept queue place) ∙ sym (put_same n queue (Some place.key) (key_at frames))
       ∙ sym (ap (λ k. put_at n queue (Some place.key) (key_at frames) k queue) same) ∙ sym (ap (λ p. put_at n queue (Some place.key) (key_at frames) m p) here)
   by (inl same) (inr other) =
-      ap (λ k. key_at after k q) same ∙ own q ∙ ap (option_map (λ (pl : Place). pl.key)) (place_elsewhere kept queue place q other)
+      ap (λ k. key_at after k q) same ∙ own q ∙ ap (option_map (λ (pl : OwnChunk). pl.key)) (place_elsewhere kept queue place q other)
       ∙ sym (ap (λ o. key_in o q) was) ∙ sym (ap (λ k. key_at frames k q) same) ∙ sym (put_other n queue (Some place.key) (key_at frames) m q (λ e here. other here))
   by (inr apart) c = ap (λ o. key_in o q) (one.others m apart) ∙ sym (put_other n queue (Some place.key) (key_at frames) m q (λ e here. apart e))
 
@@ -51,11 +51,11 @@ has_not_made frame queue q other =
       or_none true = refl
       or_none false = refl
 
-pub places_made : (kept : Kept) (frame : ActiveFrame) (queue : ℕ) (place : Place) → ((q : ℕ) → is_some (place_in kept.places q) ≡ has_queue frame q)
-    → (q : ℕ) → is_some (place_in (with_place queue place kept).places q) ≡ has_queue (with_made queue frame) q
+pub places_made : (kept : KeptFrame) (frame : ActiveFrame) (queue : ℕ) (place : OwnChunk) → ((q : ℕ) → is_some (own_chunk_in kept.places q) ≡ has_queue frame q)
+    → (q : ℕ) → is_some (own_chunk_in (with_own_chunk queue place kept).places q) ≡ has_queue (with_made queue frame) q
 places_made kept frame queue place same q = elim (cases_eq q queue) [
   | inl here ↦
-      ap (λ p. is_some (place_in (with_place queue place kept).places p)) here ∙ ap is_some (place_here kept queue place) ∙ sym (has_made frame queue)
+      ap (λ p. is_some (own_chunk_in (with_own_chunk queue place kept).places p)) here ∙ ap is_some (place_here kept queue place) ∙ sym (has_made frame queue)
       ∙ sym (ap (λ p. has_queue (with_made queue frame) p) here)
   | inr other ↦ ap is_some (place_elsewhere kept queue place q other) ∙ same q ∙ sym (has_not_made frame queue q other)
 ]

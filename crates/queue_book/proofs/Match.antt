@@ -16,7 +16,7 @@ use Rattle.swan_model.specs.Rights.{allows}
 use Rattle.swan_model.specs.SerialTime.{times}
 use Rattle.swan_model.specs.Told.{count, is_same, taken}
 use Rattle.swan_model.proofs.Origins.{is_same-equal}
-use Rattle.queue_book.specs.Book.{Chunk, Chunks, HasOwners, IsOwner, Matches, closed, with_item, without_first}
+use Rattle.queue_book.specs.Book.{Chunk, Chunks, HasOwners, IsOwner, Matches, after_close, with_item, without_first}
 use Rattle.queue_book.specs.Tells.{FindsNone}
 use Rattle.queue_book.specs.Tree.{HaveActed, IsTree}
 use Rattle.queue_book.proofs.ActiveAfter.{KeepsNumber, others_changed, others_finished, own_changed}
@@ -150,7 +150,7 @@ module _ (s : Script) (lawful : IsLawful s) (state : QueueState) (number : ℕ) 
           (owns_once state number chunks n owners) value next
 
       -- The end of a frame closes its chunk.
-      pub matches_finish : next_queue_deed s frame.path frame.deeds ≡ None → 0 < length (times s frame.path) → Matches s (after_finish state n) number queue end (closed n chunks)
+      pub matches_finish : next_queue_deed s frame.path frame.deeds ≡ None → 0 < length (times s frame.path) → Matches s (after_finish state n) number queue end (after_close n chunks)
       matches_finish over some =
           matches_closed s lawful state (after_finish state n) number queue end n chunks matches
           (other_owners state (after_finish state n) n chunks (others_finished state n))

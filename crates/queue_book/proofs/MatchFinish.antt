@@ -9,7 +9,7 @@ use Rattle.swan_model.specs.QueueState.{ActiveFrame, QueueState, active, holds_q
 use Rattle.swan_model.specs.Readings.{end_time}
 use Rattle.swan_model.specs.SerialTime.{times}
 use Rattle.swan_model.specs.Told.{taken}
-use Rattle.queue_book.specs.Book.{Chunk, Chunks, HasItems, HasTaken, Matches, closed, goes_on_at, goes_on_popping, owner_of, pops_at}
+use Rattle.queue_book.specs.Book.{Chunk, Chunks, HasItems, HasTaken, Matches, after_close, goes_on_at, goes_on_popping, owner_of, pops_at}
 use Rattle.queue_book.specs.Book.HasItems.{chunk as items_chunk}
 use Rattle.queue_book.specs.Book.HasTaken.{chunk as taken_chunk}
 use Rattle.queue_book.proofs.MatchOwners.{Alters, AreOtherOwners, IsOnce, items_altered, taken_altered}
@@ -19,12 +19,12 @@ use Rattle.queue_book.proofs.QueuePoints.{ended_counts}
 abbrev left_by : Chunk → Chunks → Chunks
 left_by first rest = record { owner = None; items = first.items } ∷ rest
 
-closes : (n : ℕ) → Alters n (closed n) left_by
+closes : (n : ℕ) → Alters n (after_close n) left_by
 closes n =
     record {
       none = refl;
-      mine = λ first rest mine. ap (λ b. cond b (left_by first rest) (first ∷ closed n rest)) mine;
-      other = λ first rest other. ap (λ b. cond b (left_by first rest) (first ∷ closed n rest)) other;
+      mine = λ first rest mine. ap (λ b. cond b (left_by first rest) (first ∷ after_close n rest)) mine;
+      other = λ first rest other. ap (λ b. cond b (left_by first rest) (first ∷ after_close n rest)) other;
     }
 
 module _ (s : Script) (lawful : IsLawful s) (state after : QueueState) (number : ℕ) (queue : Origin) (end n : ℕ) (chunks : Chunks) (matches : Matches s state number queue end chunks)
@@ -54,10 +54,10 @@ module _ (s : Script) (lawful : IsLawful s) (state after : QueueState) (number :
       by true mine = sym (ended_counts s lawful queue frame.path frame.deeds over some).takes ∙ sym (mine refl)
       by false mine = refl
 
-  pub matches_closed : Matches s after number queue end (closed n chunks)
+  pub matches_closed : Matches s after number queue end (after_close n chunks)
   matches_closed =
       record {
         left = matches.left;
-        items = items_altered s state after number queue end n (closed n) left_by (closes n) chunks matches.left matches.items others once items_closed;
-        taken = taken_altered s state after number queue end n (closed n) left_by (closes n) chunks matches.left matches.taken others once taken_closed;
+        items = items_altered s state after number queue end n (after_close n) left_by (closes n) chunks matches.left matches.items others once items_closed;
+        taken = taken_altered s state after number queue end n (after_close n) left_by (closes n) chunks matches.left matches.taken others once taken_closed;
       }

@@ -13,7 +13,7 @@ use Rattle.swan_model.specs.QueueState.{ActiveFrame, QueueState, active, holds_q
 use Rattle.swan_model.specs.Ripe.{push_time}
 use Rattle.swan_model.specs.Told.{first_items, pushes}
 use Rattle.swan_model.proofs.ScriptCounts.{push_before}
-use Rattle.queue_book.specs.Book.{Chunk, Chunks, HasItems, HasTaken, IsOwner, Matches, goes_on_at, goes_on_popping, is_spent, owner_of, trimmed}
+use Rattle.queue_book.specs.Book.{Chunk, Chunks, HasItems, HasTaken, IsOwner, Matches, goes_on_at, goes_on_popping, is_spent, owner_of, without_spent}
 use Rattle.queue_book.specs.Tells.{FindsItem, FindsNone}
 use Rattle.queue_book.proofs.Elements.{filtered_each, found_is}
 use Rattle.queue_book.proofs.MatchParts.{NonePops, OwnsAt, ends_before, items_from, left_is, owner_at, owns_at, taken_from, upto_is}
@@ -29,7 +29,7 @@ spent_parts chunk is = by chunk.owner chunk.items is where
   by (Some number) (item ∷ items) is = absurd (cc)
 
 module _ (s : Script) (state : QueueState) (number : ℕ) (queue : Origin) (end : ℕ) where
-  items_trimmed : (chunks : Chunks) (at : ℕ) → HasItems s state queue end chunks at → HasItems s state queue end (trimmed chunks) at
+  items_trimmed : (chunks : Chunks) (at : ℕ) → HasItems s state queue end chunks at → HasItems s state queue end (without_spent chunks) at
   items_trimmed [] at has = has
   items_trimmed (first ∷ chunks) at has = elim (cases_Bool (is_spent first)) [
     | inl spent ↦
@@ -39,15 +39,15 @@ module _ (s : Script) (state : QueueState) (number : ℕ) (queue : Origin) (end 
         let same : parts.upto ≡ at = segment_empty (pushes s queue) at parts.upto parts.order parts.within (sym both.1 ∙ parts.content) in
         let on : goes_on_at s queue (owner_of state first) parts.upto ≡ at = ap (λ o. goes_on_at s queue o parts.upto) none ∙ same in
         let rest = items_trimmed chunks (goes_on_at s queue (owner_of state first) parts.upto) parts.rest in
-        let here : HasItems s state queue end (trimmed chunks) at = subst (HasItems s state queue end (trimmed chunks)) on rest in
-        subst (λ b. HasItems s state queue end (cond b (trimmed chunks) (first ∷ chunks)) at) (sym spent) here
-    | inr stays ↦ subst (λ b. HasItems s state queue end (cond b (trimmed chunks) (first ∷ chunks)) at) (sym stays) has
+        let here : HasItems s state queue end (without_spent chunks) at = subst (HasItems s state queue end (without_spent chunks)) on rest in
+        subst (λ b. HasItems s state queue end (cond b (without_spent chunks) (first ∷ chunks)) at) (sym spent) here
+    | inr stays ↦ subst (λ b. HasItems s state queue end (cond b (without_spent chunks) (first ∷ chunks)) at) (sym stays) has
   ]
     where
       owned_by : first.owner ≡ None → owner_of state first ≡ None
       owned_by none = ap (λ o. owner_of state (record { owner = o; items = first.items })) none
 
-  taken_trimmed : (chunks : Chunks) (at : ℕ) → HasTaken s state number queue end chunks at → HasTaken s state number queue end (trimmed chunks) at
+  taken_trimmed : (chunks : Chunks) (at : ℕ) → HasTaken s state number queue end chunks at → HasTaken s state number queue end (without_spent chunks) at
   taken_trimmed [] at has = has
   taken_trimmed (first ∷ chunks) at has = elim (cases_Bool (is_spent first)) [
     | inl spent ↦
@@ -55,13 +55,13 @@ module _ (s : Script) (state : QueueState) (number : ℕ) (queue : Origin) (end 
         let parts = taken_from s state number queue end first chunks at has in
         let on : goes_on_popping s number queue (owner_of state first) at ≡ at = ap (λ o. goes_on_popping s number queue (owner_of state (record { owner = o; items = first.items })) at) both.0 in
         let rest = taken_trimmed chunks (goes_on_popping s number queue (owner_of state first) at) parts.rest in
-        let here : HasTaken s state number queue end (trimmed chunks) at = subst (HasTaken s state number queue end (trimmed chunks)) on rest in
-        subst (λ b. HasTaken s state number queue end (cond b (trimmed chunks) (first ∷ chunks)) at) (sym spent) here
-    | inr stays ↦ subst (λ b. HasTaken s state number queue end (cond b (trimmed chunks) (first ∷ chunks)) at) (sym stays) has
+        let here : HasTaken s state number queue end (without_spent chunks) at = subst (HasTaken s state number queue end (without_spent chunks)) on rest in
+        subst (λ b. HasTaken s state number queue end (cond b (without_spent chunks) (first ∷ chunks)) at) (sym spent) here
+    | inr stays ↦ subst (λ b. HasTaken s state number queue end (cond b (without_spent chunks) (first ∷ chunks)) at) (sym stays) has
   ]
 
   -- Without the spent chunks at the front the others match too.
-  pub matches_trimmed : (chunks : Chunks) → Matches s state number queue end chunks → Matches s state number queue end (trimmed chunks)
+  pub matches_trimmed : (chunks : Chunks) → Matches s state number queue end chunks → Matches s state number queue end (without_spent chunks)
   matches_trimmed chunks matches =
       record { left = matches.left; items = items_trimmed chunks matches.left matches.items; taken = taken_trimmed chunks matches.left matches.taken }
 

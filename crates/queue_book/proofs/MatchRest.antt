@@ -11,7 +11,7 @@ use Rattle.swan_model.specs.QueueState.{QueueState, active}
 use Rattle.swan_model.specs.Readings.{end_time}
 use Rattle.swan_model.specs.Told.{count, first_items, pushed, pushes, taken}
 use Rattle.swan_model.proofs.TaskEntries.{end_at}
-use Rattle.queue_book.specs.Book.{Chunk, Chunks, HasItems, HasTaken, IsOwner, Matches, goes_on_at, goes_on_popping, items_of, owner_of}
+use Rattle.queue_book.specs.Book.{Chunk, Chunks, HasItems, HasTaken, IsOwner, Matches, goes_on_at, goes_on_popping, items_in, owner_of}
 use Rattle.queue_book.specs.Book.HasItems.{over as items_over, chunk as items_chunk}
 use Rattle.queue_book.specs.Book.HasTaken.{over as taken_over, chunk as taken_chunk}
 use Rattle.queue_book.specs.Tells.{rest_of}
@@ -33,7 +33,7 @@ rest_left state first chunks left index number is = left (suc index) number (rec
 module _ (s : Script) (state : QueueState) (number : ℕ) (queue : Origin) (end : ℕ) where
   record IsAll (chunks : Chunks) (at : ℕ) : Type 0 where
     pub order : at ≤ count s queue end
-    pub content : items_of chunks ≡ segment at (count s queue end) (pushes s queue)
+    pub content : items_in chunks ≡ segment at (count s queue end) (pushes s queue)
 
   all_items : (chunks : Chunks) (at : ℕ) → HasItems s state queue end chunks at → AreLeft state chunks → IsAll chunks at
   all_items _ _ (items_over at is) left = record { order = omega (arith, is); content = sym (segment_none (pushes s queue) at (count s queue end) is) }
@@ -44,7 +44,7 @@ module _ (s : Script) (state : QueueState) (number : ℕ) (queue : Origin) (end 
       let after = further.order in
       record {
         order = omega (arith, order, on, after);
-        content = ap (λ items. items ++ items_of chunks) content
+        content = ap (λ items. items ++ items_in chunks) content
             ∙ ap (λ items. segment at upto (pushes s queue) ++ items) (further.content ∙ ap (λ k. segment k (count s queue end) (pushes s queue)) on)
             ∙ segment_joined (pushes s queue) at upto (count s queue end) order (omega (arith, on, after));
       }
@@ -73,7 +73,7 @@ count_all s queue =
 
 -- What is left of a queue that the root made is what its chunks have in the end.
 pub rest_told : (s : Script) → IsLawful s → (state : QueueState) (number : ℕ) (queue : Origin) (chunks : Chunks) → Matches s state number queue (end_time s []) chunks → AreLeft state chunks
-    → items_of chunks ≡ rest_of s queue
+    → items_in chunks ≡ rest_of s queue
 rest_told s lawful state number queue chunks matches left =
     let over = root_end s lawful in
     let all = all_items s state number queue (end_time s []) chunks matches.left matches.items left in

@@ -20,7 +20,7 @@ use Rattle.swan_model.specs.SerialTime.{point}
 use Rattle.swan_model.specs.Told.{count, is_pop_of, pushes, taken}
 use Rattle.swan_model.proofs.ScriptCounts.{count_kept, count_le, count_through, taken_kept, taken_through}
 use Rattle.swan_model.proofs.ScriptRights.{held_older, is_older}
-use Rattle.queue_book.specs.Book.{Chunk, Chunks, HasItems, HasOwners, HasTaken, Matches, ends_at, goes_on_at, goes_on_popping, handed_on, own, owner_of, pops_at}
+use Rattle.queue_book.specs.Book.{Chunk, Chunks, HasItems, HasOwners, HasTaken, Matches, ends_at, goes_on_at, goes_on_popping, after_hand_on, own, owner_of, pops_at}
 use Rattle.queue_book.specs.Book.HasItems.{chunk as items_chunk}
 use Rattle.queue_book.specs.Book.HasTaken.{chunk as taken_chunk}
 use Rattle.queue_book.specs.Tree.{IsTree, has_queue}
@@ -39,12 +39,12 @@ use Rattle.queue_book.proofs.Segments.{segment_none}
 abbrev handed : (parent child : ℕ) → Chunk → Chunks → Chunks
 handed parent child first rest = own child first.items ∷ own parent [] ∷ rest
 
-hands_on : (parent child : ℕ) → Alters parent (handed_on parent child) (handed parent child)
+hands_on : (parent child : ℕ) → Alters parent (after_hand_on parent child) (handed parent child)
 hands_on parent child =
     record {
       none = refl;
-      mine = λ first rest mine. ap (λ b. cond b (handed parent child first rest) (first ∷ handed_on parent child rest)) mine;
-      other = λ first rest other. ap (λ b. cond b (handed parent child first rest) (first ∷ handed_on parent child rest)) other;
+      mine = λ first rest mine. ap (λ b. cond b (handed parent child first rest) (first ∷ after_hand_on parent child rest)) mine;
+      other = λ first rest other. ap (λ b. cond b (handed parent child first rest) (first ∷ after_hand_on parent child rest)) other;
     }
 
 module _ (s : Script) (lawful : IsLawful s) (state : QueueState) (follows : QueuesFollow s state) (tree : IsTree state) (number : ℕ) (queue : Origin) (made : queue_origin s state number ≡ Some queue)
@@ -177,14 +177,14 @@ module _ (s : Script) (lawful : IsLawful s) (state : QueueState) (follows : Queu
           others_spawned state n c frame gives live new m (λ same. not (is ∙ ap Some same)) (λ same. let none : Some owner.0 ≡ None = sym owner.1 ∙ ap (active state) same ∙ new in absurd (cc))
 
     -- Where the child is given the queue, it takes over the parent's chunk.
-    pub matches_spawn : has_queue frame number ≡ true → Matches s (after_spawn state frame c gives) number queue end (handed_on n c chunks)
+    pub matches_spawn : has_queue frame number ≡ true → Matches s (after_spawn state frame c gives) number queue end (after_hand_on n c chunks)
     matches_spawn has =
         let after = after_spawn state frame c gives in
         let once = owns_once state number chunks n owners in
         record {
           left = matches.left;
-          items = items_altered s state after number queue end n (handed_on n c) (handed n c) (hands_on n c) chunks matches.left matches.items others once (items_handed has end);
-          taken = taken_altered s state after number queue end n (handed_on n c) (handed n c) (hands_on n c) chunks matches.left matches.taken others once (taken_handed has end);
+          items = items_altered s state after number queue end n (after_hand_on n c) (handed n c) (hands_on n c) chunks matches.left matches.items others once (items_handed has end);
+          taken = taken_altered s state after number queue end n (after_hand_on n c) (handed n c) (hands_on n c) chunks matches.left matches.taken others once (taken_handed has end);
         }
 
     -- Where it isn't given the queue, the chunks stay.

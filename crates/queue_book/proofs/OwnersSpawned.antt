@@ -5,7 +5,7 @@ use Rattle.swan_model.specs.PathOrder.{comes_before}
 use Rattle.swan_model.specs.QueueState.{ActiveFrame, QueueRight, QueueState, active, after_spawn, changed, child_of}
 use Rattle.swan_model.proofs.PathOrder.{before-below, before-parent}
 use Rattle.queue_book.specs.Asks.{MaySpawn}
-use Rattle.queue_book.specs.Book.{Chunks, handed_on, HasOwners}
+use Rattle.queue_book.specs.Book.{Chunks, after_hand_on, HasOwners}
 use Rattle.queue_book.specs.Tree.{IsTree, has_queue}
 use Rattle.queue_book.proofs.TreeCalls.{child_newest, one_more, parent_changed, tree_between, with_one_more}
 use Rattle.queue_book.proofs.ChunkOwners.{handed_child, handed_still, handed_was, IsFirstOf}
@@ -65,7 +65,7 @@ module _ (state : QueueState) (p child : ℕ) (gives : List QueueRight) (q : ℕ
         ∙ before_child state tree p child gives parent may.act.may may.newest may.lawful number old.frame old.live before;
   }
 
-  pub spawn_given : (chunks : Chunks) → has_queue new q ≡ true → HasOwners state q chunks → HasOwners after q (handed_on p child chunks)
+  pub spawn_given : (chunks : Chunks) → has_queue new q ≡ true → HasOwners state q chunks → HasOwners after q (after_hand_on p child chunks)
   spawn_given chunks has owners =
       let ordered = ordered_owners state q chunks owners in
       let born = child_born has in
@@ -74,8 +74,8 @@ module _ (state : QueueState) (p child : ℕ) (gives : List QueueRight) (q : ℕ
         owns = place.1;
         first = λ other there. let one = owns_one (IsHolder state q) (owner_at chunks) ordered place.0 other p place.1 there in omega arith;
       } in
-      has_owners after q (handed_on p child chunks)
-      (ordered_handed (IsHolder state q) (IsHolder after q) (owner_at chunks) (owner_at (handed_on p child chunks)) p child parent.path new.path place.0 ordered born place.1
+      has_owners after q (after_hand_on p child chunks)
+      (ordered_handed (IsHolder state q) (IsHolder after q) (owner_at chunks) (owner_at (after_hand_on p child chunks)) p child parent.path new.path place.0 ordered born place.1
       (handed_was p child chunks place.0 first) (handed_child p child chunks place.0 place.1) (handed_still p child chunks))
 
   pub spawn_kept : (chunks : Chunks) → has_queue new q ≡ false → HasOwners state q chunks → HasOwners after q chunks

@@ -15,7 +15,7 @@ use Rattle.swan_model.specs.QueueState.{Maker, QueueState, after_deed, holds_que
 use Rattle.swan_model.specs.Readings.{end_time}
 use Rattle.swan_model.specs.Told.{is_same}
 use Rattle.queue_book.specs.Asks.{MayDo, IsOnTurn, OnNext}
-use Rattle.queue_book.specs.Book.{Chunk, Chunks, HasOwners, IsOwner, Matches, trimmed, with_item, without_first}
+use Rattle.queue_book.specs.Book.{Chunk, Chunks, HasOwners, IsOwner, Matches, without_spent, with_item, without_first}
 use Rattle.queue_book.specs.Chains.{in_line}
 use Rattle.queue_book.specs.Tells.{FindsNone}
 use Rattle.queue_book.specs.Tree.{maker_path}
@@ -154,7 +154,7 @@ module _ (name : Option Script) (state : QueueState) (lines : ℕ → Chunks) (i
         (leaves_pop s act.frame (origin_in s other) (origin_in s maker) (differs s named lawful q other made_too apart))))
 
 -- chunks that nobody pushes to and that are empty may go
-pub plain_trim : (name : Option Script) (state : QueueState) (lines : ℕ → Chunks) (queue : ℕ) → IsPlain name state lines → IsPlain name state (in_line queue trimmed lines)
+pub plain_trim : (name : Option Script) (state : QueueState) (lines : ℕ → Chunks) (queue : ℕ) → IsPlain name state lines → IsPlain name state (in_line queue without_spent lines)
 plain_trim name state lines queue is = record {
   rests = is.rests;
   tree = is.tree;
@@ -162,11 +162,11 @@ plain_trim name state lines queue is = record {
   acted = is.acted;
   queues = λ q maker made.
       let line = is.queues q maker made in
-      in_each (λ k chunks. IsLine name state k maker chunks) queue trimmed lines q
+      in_each (λ k chunks. IsLine name state k maker chunks) queue without_spent lines q
       (λ here. record {
         owners = owners_trimmed state q (lines q) line.owners;
         matches = λ left in_use s named lawful. matches_trimmed s state q (origin_in s maker) (end_time s (maker_path maker)) (lines q) (line.matches left in_use s named lawful);
-        emptied = λ over. ap trimmed (line.emptied over);
+        emptied = λ over. ap without_spent (line.emptied over);
       })
       (λ apart. line);
 }

@@ -6,8 +6,8 @@ use Rattle.swan_model.specs.QueueFollows.{origin_in, IsNextSpawn}
 use Rattle.swan_model.specs.QueueState.{Maker, QueueRight, QueueState, active, after_spawn}
 use Rattle.swan_model.specs.Readings.{end_time}
 use Rattle.queue_book.specs.Asks.{MaySpawn, IsOnTurn, OnNext}
-use Rattle.queue_book.specs.Book.{Chunks, handed_on}
-use Rattle.queue_book.specs.Handed.{handed_lines, is_given}
+use Rattle.queue_book.specs.Book.{Chunks, after_hand_on}
+use Rattle.queue_book.specs.Handed.{lines_after_gives, gives_queue}
 use Rattle.queue_book.specs.Tree.{maker_path}
 use Rattle.queue_book.specs.Whole.{IsInUse, IsLine, IsPlain}
 use Rattle.queue_book.proofs.Gives.{gives_had}
@@ -27,8 +27,8 @@ module _ (name : Option Script) (state : QueueState) (lines : ℕ → Chunks) (i
   spawn_of : (s : Script) → name ≡ Some s → IsNextSpawn s state may.act.frame gives
   spawn_of s named = on_next name state p (λ t f. IsNextSpawn t state f gives) s may.act.frame next named may.act.may.live
 
-  line : (q : ℕ) (maker : Maker) → slice_get state.makers q ≡ Some maker → (b : Bool) → is_given gives q ≡ b
-      → IsLine name (after_spawn state may.act.frame child gives) q maker (if b then handed_on p child (lines q) else lines q)
+  line : (q : ℕ) (maker : Maker) → slice_get state.makers q ≡ Some maker → (b : Bool) → gives_queue gives q ≡ b
+      → IsLine name (after_spawn state may.act.frame child gives) q maker (if b then after_hand_on p child (lines q) else lines q)
   line q maker made true given =
       let was = is.queues q maker made in
       record {
@@ -37,7 +37,7 @@ module _ (name : Option Script) (state : QueueState) (lines : ℕ → Chunks) (i
             matches_spawn s lawful state (is.follows s named lawful) is.tree q (origin_in s maker) (origin_of s state q maker made) p child may.act.frame gives may.act.may.live free may.lawful
             (spawn_of s named) (end_time s (maker_path maker)) (lines q) (was.matches left (in_use_before q maker in_use) s named lawful) was.owners
             (gives_had may.act.frame gives may.lawful q given);
-        emptied = λ over. ap (handed_on p child) (was.emptied over);
+        emptied = λ over. ap (after_hand_on p child) (was.emptied over);
       }
   line q maker made false lacks =
       let was = is.queues q maker made in
@@ -49,11 +49,11 @@ module _ (name : Option Script) (state : QueueState) (lines : ℕ → Chunks) (i
         emptied = was.emptied;
       }
 
-  pub plain_spawn : IsPlain name (after_spawn state may.act.frame child gives) (handed_lines p child gives lines)
+  pub plain_spawn : IsPlain name (after_spawn state may.act.frame child gives) (lines_after_gives p child gives lines)
   plain_spawn = record {
     tree = tree_spawn state p child gives is.tree may;
     follows = λ s named lawful. spawned_follows s lawful state (is.follows s named lawful) p child may.act.frame gives may.act.may.live free (spawn_of s named);
     acted = λ s named. acted_spawn state p child gives is.tree may (is.acted s named) (turn_on name state p s may.act.frame turn named may.act.may.live);
-    queues = λ q maker made. line q maker made (is_given gives q) refl;
+    queues = λ q maker made. line q maker made (gives_queue gives q) refl;
     rests = is.rests;
   }

@@ -8,7 +8,7 @@ use Rattle.swan_model.specs.QueueState.{ActiveFrame, active, new_state, root_fra
 use Rattle.queue_book.specs.Book.{Chunks}
 use Rattle.queue_book.specs.Calls.{no_state}
 use Rattle.queue_book.specs.Chains.{Link, AreChained}
-use Rattle.queue_book.specs.Kept.{Kept}
+use Rattle.queue_book.specs.KeptFrames.{KeptFrame}
 use Rattle.queue_book.specs.Live.{kept_of, key_in, key_at, Agrees}
 use Rattle.queue_book.specs.Turned.{AreTurns}
 use Rattle.queue_book.specs.Whole.{IsBook}
@@ -48,7 +48,7 @@ pub book_none : (name : Option Script) (frames : LiveFrames) (heads : List (Opti
 book_none name frames heads nodes turns gone none chained no_turns = record {
   lines = λ queue. [];
   plain = plain_none name;
-  live = λ n. let P : Option Kept → Type 0 = λ o. Agrees no_state o None in subst P (sym (gone n)) tt;
+  live = λ n. let P : Option KeptFrame → Type 0 = λ o. Agrees no_state o None in subst P (sym (gone n)) tt;
   count = none;
   chained = chained_same (λ n q. None) (key_at frames) heads nodes (λ queue. []) (λ queue. []) (λ n q. ap (λ o. key_in o q) (gone n)) (λ queue. refl) (chained (λ queue. []));
   turned = let P : Frames → Type 0 = λ t. AreTurns no_state t in

@@ -7,7 +7,7 @@ use Rattle.std.specs.Prelude.{◌==◌, slice_get}
 use Rattle.swan_model.specs.declared.value.Value.{Value}
 use Rattle.swan_model.specs.QueueState.{ActiveFrame, LentEnd, Maker, QueueRight, QueueState, active, after_back, after_create, after_create_root, after_deed, after_finish, after_lend, after_spawn, after_take_rest, changed, IsUntouched, with_deed, with_made}
 use Rattle.queue_book.specs.Asks.{MayDo, MayJoin, MaySpawn}
-use Rattle.queue_book.specs.Book.{Chunks, closed, handed_on, HasOwners, IsOwner, own, trimmed, with_item, without_first}
+use Rattle.queue_book.specs.Book.{Chunks, after_close, after_hand_on, HasOwners, IsOwner, own, without_spent, with_item, without_first}
 use Rattle.queue_book.specs.Tree.{IsTree, has_queue, maker_path}
 use Rattle.queue_book.proofs.TreeCalls.{back_changed, back_now, create_changed, deed_changed, lend_changed, lent_now, maker_now, own_live, rest_changed, root_changed}
 use Rattle.queue_book.proofs.ChunkOwners.{closed_gone, closed_other, closed_was, ordered_trimmed, owner_with_item, owner_without_first}
@@ -77,9 +77,9 @@ pub owners_push : (state : QueueState) (n q : ℕ) (value : Value) (chunks : Chu
 owners_push state n q value chunks tree act owners =
     owners_deed state n q chunks (with_item n value chunks) tree act (owner_with_item n value chunks) owners
 
-pub owners_trimmed : (state : QueueState) (q : ℕ) (chunks : Chunks) → HasOwners state q chunks → HasOwners state q (trimmed chunks)
+pub owners_trimmed : (state : QueueState) (q : ℕ) (chunks : Chunks) → HasOwners state q chunks → HasOwners state q (without_spent chunks)
 owners_trimmed state q chunks owners =
-    has_owners state q (trimmed chunks) (ordered_trimmed (IsHolder state q) chunks (ordered_owners state q chunks owners))
+    has_owners state q (without_spent chunks) (ordered_trimmed (IsHolder state q) chunks (ordered_owners state q chunks owners))
 
 pub owners_without_first : (state : QueueState) (q : ℕ) (chunks : Chunks) → HasOwners state q chunks → HasOwners state q (without_first chunks)
 owners_without_first state q chunks owners =
@@ -135,7 +135,7 @@ owners_create state n first tree act =
 
 -- The queue is given: the child takes over its parent's chunk.
 pub owners_spawn : (state : QueueState) (p child : ℕ) (gives : List QueueRight) (q : ℕ) (chunks : Chunks) → IsTree state → (may : MaySpawn state p child gives)
-    → list_any (λ right. right.queue == q) gives ≡ true → HasOwners state q chunks → HasOwners (after_spawn state may.act.frame child gives) q (handed_on p child chunks)
+    → list_any (λ right. right.queue == q) gives ≡ true → HasOwners state q chunks → HasOwners (after_spawn state may.act.frame child gives) q (after_hand_on p child chunks)
 owners_spawn state p child gives q chunks tree may has owners = spawn_given state p child gives q tree may chunks has owners
 
 -- The queue isn't given.
@@ -145,11 +145,11 @@ owners_kept_spawn state p child gives q chunks tree may hasnt owners = spawn_kep
 
 -- ---- a frame finishes
 
-pub owners_finish : (state : QueueState) (n q : ℕ) (chunks : Chunks) → HasOwners state q chunks → HasOwners (after_finish state n) q (closed n chunks)
+pub owners_finish : (state : QueueState) (n q : ℕ) (chunks : Chunks) → HasOwners state q chunks → HasOwners (after_finish state n) q (after_close n chunks)
 owners_finish state n q chunks owners =
     let ordered = ordered_owners state q chunks owners in
-    has_owners (after_finish state n) q (closed n chunks)
-    (ordered_without (IsHolder state q) (owner_at chunks) ordered (IsHolder (after_finish state n) q) (owner_at (closed n chunks)) n
+    has_owners (after_finish state n) q (after_close n chunks)
+    (ordered_without (IsHolder state q) (owner_at chunks) ordered (IsHolder (after_finish state n) q) (owner_at (after_close n chunks)) n
     (gone_was state n q) (gone_still state n q)
     (λ index number is. (
       λ same. closed_gone n chunks (λ i j first second. owns_one (IsHolder state q) (owner_at chunks) ordered i j n first second) index (is ∙ ap Some same),

@@ -55,7 +55,7 @@ abbrev pub HasRoom : QueueState → Type 0
 HasRoom state = length state.makers < QUEUES_MOST
 
 -- the root made the queue and has finished
-pub record IsLeft (state : QueueState) (queue : ℕ) : Type 0 where
+pub record IsRestLeft (state : QueueState) (queue : ℕ) : Type 0 where
   pub known : queue < length state.makers
   pub made : IsOfRoot (slice_get state.makers queue)
   pub over : active state 0 ≡ None
@@ -63,6 +63,14 @@ pub record IsLeft (state : QueueState) (queue : ℕ) : Type 0 where
 -- whether the rest of a queue was taken already
 abbrev pub is_emptied : QueueState → ℕ → Bool
 is_emptied state queue = list_any (λ other. other == queue) state.emptied
+
+-- what holds of the active frame of a number
+abbrev pub OnActive : QueueState → ℕ → (ActiveFrame → Type 0) → Type 0
+OnActive state number Holds = (frame : ActiveFrame) → active state number ≡ Some frame → Holds frame
+
+-- two values belong to the same run, by the name and the run that each has
+abbrev pub IsSameRun : {Q : Type 0} → (Q → Option Script) → (Q → Option ℕ) → (before now : Q) → Type 0
+IsSameRun name run before now = (name now ≡ name before) × (run now ≡ run before)
 
 -- what the run's script says of an active frame's next queue deed
 abbrev pub OnNext : Option Script → QueueState → ℕ → (Script → ActiveFrame → Type 0) → Type 0
@@ -83,13 +91,13 @@ pub record LentEnds : Type 0 where
   pub deeds : ℕ
   pub list : List LentEnd
 
-abbrev pub is_end : (queue : ℕ) → (is_producer : Bool) → LentEnd → Bool
-is_end queue true end = if end.queue == queue then end.is_producer else false
-is_end queue false end = if end.queue == queue then not end.is_producer else false
+abbrev pub is_end_of : (queue : ℕ) → (is_producer : Bool) → LentEnd → Bool
+is_end_of queue true end = if end.queue == queue then end.is_producer else false
+is_end_of queue false end = if end.queue == queue then not end.is_producer else false
 
 -- whether there is an end to push to a queue, or else to pop from it
 abbrev pub has_end : LentEnds → (queue : ℕ) → (is_producer : Bool) → Bool
-has_end ends queue is_producer = list_any (is_end queue is_producer) ends.list
+has_end ends queue is_producer = list_any (is_end_of queue is_producer) ends.list
 
 abbrev pub with_deeds : LentEnds → ℕ → LentEnds
 with_deeds ends deeds = record ends { deeds = deeds }

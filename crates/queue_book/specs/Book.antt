@@ -30,11 +30,11 @@ abbrev pub is_owned : ℕ → Chunk → Bool
 is_owned frame chunk = option_map_or (λ owner. owner == frame) chunk.owner false
 
 -- A spawn: the child goes on in its parent's chunk, and the parent gets a new one behind it.
-abbrev pub handed_on : (parent child : ℕ) → Chunks → Chunks
-handed_on parent child [] = []
-handed_on parent child (chunk ∷ chunks) =
+abbrev pub after_hand_on : (parent child : ℕ) → Chunks → Chunks
+after_hand_on parent child [] = []
+after_hand_on parent child (chunk ∷ chunks) =
     if is_owned parent chunk then own child chunk.items ∷ own parent [] ∷ chunks
-    else chunk ∷ handed_on parent child chunks
+    else chunk ∷ after_hand_on parent child chunks
 
 -- a push by a frame, to its own chunk
 abbrev pub with_item : ℕ → Value → Chunks → Chunks
@@ -44,11 +44,11 @@ with_item frame item (chunk ∷ chunks) =
     else chunk ∷ with_item frame item chunks
 
 -- the end of a frame: nobody pushes to its chunk any more
-abbrev pub closed : ℕ → Chunks → Chunks
-closed frame [] = []
-closed frame (chunk ∷ chunks) =
+abbrev pub after_close : ℕ → Chunks → Chunks
+after_close frame [] = []
+after_close frame (chunk ∷ chunks) =
     if is_owned frame chunk then record chunk { owner = None } ∷ chunks
-    else chunk ∷ closed frame chunks
+    else chunk ∷ after_close frame chunks
 
 -- whether nobody pushes to a chunk any more, and it has no items
 abbrev pub is_spent : Chunk → Bool
@@ -58,9 +58,9 @@ is_spent chunk = spent chunk.owner chunk.items where
   spent owner items = false
 
 -- without the spent chunks at the front
-abbrev pub trimmed : Chunks → Chunks
-trimmed [] = []
-trimmed (chunk ∷ chunks) = if is_spent chunk then trimmed chunks else chunk ∷ chunks
+abbrev pub without_spent : Chunks → Chunks
+without_spent [] = []
+without_spent (chunk ∷ chunks) = if is_spent chunk then without_spent chunks else chunk ∷ chunks
 
 -- without the first item of the first chunk
 abbrev pub without_first : Chunks → Chunks
@@ -68,9 +68,9 @@ without_first [] = []
 without_first (chunk ∷ chunks) = record chunk { items = drop 1 chunk.items } ∷ chunks
 
 -- all items in order
-abbrev pub items_of : Chunks → List Value
-items_of [] = []
-items_of (chunk ∷ chunks) = chunk.items ++ items_of chunks
+abbrev pub items_in : Chunks → List Value
+items_in [] = []
+items_in (chunk ∷ chunks) = chunk.items ++ items_in chunks
 
 -- ---- whose chunks they are
 

@@ -23,8 +23,8 @@ after_call state (call.Back frame) = with_active (λ f. after_back state frame f
 after_call state (call.Finish frame) = after_finish state frame
 after_call state (call.TakeRest queue) = after_take_rest state queue
 
-abbrev pub spawned : QueueState → ℕ → ℕ → List QueueRight → QueueState
-spawned state parent child gives = with_active (λ f. after_spawn state f child gives) state (active state parent)
+abbrev pub after_spawn_by : QueueState → ℕ → ℕ → List QueueRight → QueueState
+after_spawn_by state parent child gives = with_active (λ f. after_spawn state f child gives) state (active state parent)
 
 -- the path of an active frame
 abbrev pub path_in : QueueState → ℕ → List ℕ

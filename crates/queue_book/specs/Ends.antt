@@ -8,7 +8,7 @@ use Rattle.swan_model.specs.declared.value.Value.{Value}
 use Rattle.swan_model.specs.QueueFollows.{next_queue_deed, queue_time, origin_in}
 use Rattle.swan_model.specs.QueueState.{LentEnd, SegmentTag, first_of, pushed_by}
 use Rattle.swan_model.specs.Told.{count, pushes, taken}
-use Rattle.queue_book.specs.Asks.{LentEnds, is_end}
+use Rattle.queue_book.specs.Asks.{LentEnds, is_end_of}
 
 -- the queue to which a deed pushes
 abbrev pub pushed_to : Option Deed → Option Origin
@@ -25,7 +25,7 @@ pub record HasEnd (s : Script) (ends : LentEnds) (queue : ℕ) (is_producer : Bo
   pub index : ℕ
   pub end : LentEnd
   pub stands : slice_get ends.list index ≡ Some end
-  pub is : is_end queue is_producer end ≡ true
+  pub is : is_end_of queue is_producer end ≡ true
   pub of : segment_queue s end.tag ≡ Some origin
 
 -- a push by such an end is the frame's next queue deed

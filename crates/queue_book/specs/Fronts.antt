@@ -3,7 +3,7 @@ use Rattle.std.specs.Prelude.{◌≡◌, ◌==◌, ℕ, ◌≤◌, Option, Some,
 use Rattle.slab.specs.Slab.{Slab}
 use Rattle.pop_order.specs.Frames.{Frames}
 use Rattle.pop_order.specs.Turns.{IsPoppingChild}
-use Rattle.queue_book.specs.Book.{Chunks, trimmed}
+use Rattle.queue_book.specs.Book.{Chunks, without_spent}
 use Rattle.queue_book.specs.Chains.{Link, AreChained, in_line, IsFront}
 use Rattle.queue_book.specs.declared.answers.Tested.{Tested}
 use Rattle.queue_book.specs.declared.answers.Tested.TheVariants as tested
@@ -48,10 +48,10 @@ IsBare chunks = ((owner : ℕ) × IsFront chunks (front.Open owner)) ⊎ IsFront
 abbrev pub IsFrontTold : LiveFrames → (ℕ → ℕ → Option ℕ) → List (Option ℕ) → Slab Link → (ℕ → Chunks) → (frame queue : ℕ) → Tested → Type 0
 IsFrontTold frames at heads nodes lines frame queue (tested.NotYet (PopTurn number)) = AreChained at heads nodes lines
 IsFrontTold frames at heads nodes lines frame queue (tested.NotYet (Pusher number)) =
-    AreChained at heads nodes (in_line queue trimmed lines) × IsBare (trimmed (lines queue)) × (first_open frames frame queue (trimmed (lines queue)) ≡ Some number)
+    AreChained at heads nodes (in_line queue without_spent lines) × IsBare (without_spent (lines queue)) × (first_open frames frame queue (without_spent (lines queue)) ≡ Some number)
 IsFrontTold frames at heads nodes lines frame queue tested.Holds =
-    AreChained at heads nodes (in_line queue trimmed lines) × IsFront (trimmed (lines queue)) front.Item
+    AreChained at heads nodes (in_line queue without_spent lines) × IsFront (without_spent (lines queue)) front.Item
 IsFrontTold frames at heads nodes lines frame queue tested.Empty =
-    AreChained at heads nodes (in_line queue trimmed lines) × IsBare (trimmed (lines queue)) × (first_open frames frame queue (trimmed (lines queue)) ≡ None)
+    AreChained at heads nodes (in_line queue without_spent lines) × IsBare (without_spent (lines queue)) × (first_open frames frame queue (without_spent (lines queue)) ≡ None)
 IsFrontTold frames at heads nodes lines frame queue (tested.NotYet (Child number)) = ⊥
 IsFrontTold frames at heads nodes lines frame queue (tested.NotYet (Version number)) = ⊥

@@ -10,37 +10,37 @@ use Rattle.swan_model.specs.declared.rights.Mode.TheVariants.{Push}
 use Rattle.swan_model.specs.QueueState.{QueueRight}
 use Rattle.swan_model.specs.Rights.{allows}
 use Rattle.swan_model.specs.SerialState.{Holding}
-use Rattle.queue_book.specs.Book.{Chunks, handed_on}
+use Rattle.queue_book.specs.Book.{Chunks, after_hand_on}
 use Rattle.queue_book.specs.Chains.{Link, AreChained, in_line, put_at}
-use Rattle.queue_book.specs.Ended.{placed_at}
-use Rattle.queue_book.specs.Kept.{Kept, Places, place_in}
-use Rattle.queue_book.specs.Live.{kept_of, key_at, place_at, with_place, IsOnlyChange}
+use Rattle.queue_book.specs.Ended.{own_keys}
+use Rattle.queue_book.specs.KeptFrames.{KeptFrame, OwnChunks, own_chunk_in}
+use Rattle.queue_book.specs.Live.{kept_of, key_at, own_chunk_at, with_own_chunk, IsOnlyChange}
 use Rattle.queue_book.specs.Turned.{AreApart}
-use Rattle.queue_book.specs.declared.frame.Place.{Place}
+use Rattle.queue_book.specs.declared.live_frame.OwnChunk.{OwnChunk}
 use Rattle.queue_book.specs.declared.live_frames.LiveFrames.{LiveFrames}
 
 -- The child has its parent's place, and the parent a new one.
-pub record IsHandedIn (before after : LiveFrames) (parent child queue : ℕ) (pushes : Bool) (places then_places : Places) (heads : List (Option ℕ)) (nodes then_nodes : Slab Link) : Type 0 where
+pub record IsHandedIn (before after : LiveFrames) (parent child queue : ℕ) (pushes : Bool) (places then_places : OwnChunks) (heads : List (Option ℕ)) (nodes then_nodes : Slab Link) : Type 0 where
   pub new : ℕ
-  pub place : Place
-  pub was : place_at before parent queue ≡ Some place
-  pub parent_now : IsOnlyChange before after parent (option_map (with_place queue (record { key = new; is_maker = place.is_maker; pushes = place.pushes })) (kept_of before parent))
+  pub place : OwnChunk
+  pub was : own_chunk_at before parent queue ≡ Some place
+  pub parent_now : IsOnlyChange before after parent (option_map (with_own_chunk queue (record { key = new; is_maker = place.is_maker; pushes = place.pushes })) (kept_of before parent))
   pub child_now : then_places ≡ insert_entry nat_cmp places queue (record { key = place.key; is_maker = false; pushes = pushes })
   pub chained : (at : ℕ → ℕ → Option ℕ) (lines : ℕ → Chunks) → AreChained at heads nodes lines → at parent queue ≡ Some place.key → at child queue ≡ None
-      → AreChained (put_at parent queue (Some new) (put_at child queue (Some place.key) at)) heads then_nodes (in_line queue (handed_on parent child) lines)
+      → AreChained (put_at parent queue (Some new) (put_at child queue (Some place.key) at)) heads then_nodes (in_line queue (after_hand_on parent child) lines)
 
 -- ---- queue by queue
 
-abbrev pub is_given : List QueueRight → ℕ → Bool
-is_given gives queue = list_any (λ right. right.queue == queue) gives
+abbrev pub gives_queue : List QueueRight → ℕ → Bool
+gives_queue gives queue = list_any (λ right. right.queue == queue) gives
 
 -- whether the child may push to a queue
 abbrev pub gives_push : List QueueRight → ℕ → Bool
 gives_push gives queue = list_any (λ right. (right.queue == queue) && allows right.mode Push) gives
 
 -- the chunks of the queues that were given
-abbrev pub handed_lines : (parent child : ℕ) → List QueueRight → (ℕ → Chunks) → ℕ → Chunks
-handed_lines parent child gives lines queue = if is_given gives queue then handed_on parent child (lines queue) else lines queue
+abbrev pub lines_after_gives : (parent child : ℕ) → List QueueRight → (ℕ → Chunks) → ℕ → Chunks
+lines_after_gives parent child gives lines queue = if gives_queue gives queue then after_hand_on parent child (lines queue) else lines queue
 
 -- the turn of a child that was given these
 abbrev pub holding_of : QueueRight → Holding
@@ -51,22 +51,22 @@ turn_of parent [] = None
 turn_of parent (give ∷ gives) = Some (record { parent = parent; holdings = map holding_of (give ∷ gives); lent = false })
 
 -- a frame that differs in the keys of its places alone
-pub record IsMoved (before now : Kept) : Type 0 where
+pub record IsMoved (before now : KeptFrame) : Type 0 where
   pub deeds : now.deeds ≡ before.deeds
   pub lent : now.is_lent ≡ before.is_lent
-  pub places : (queue : ℕ) → is_some (place_in now.places queue) ≡ is_some (place_in before.places queue)
-  pub makers : (queue : ℕ) (place : Place) → place_in now.places queue ≡ Some place → (old : Place) × (place_in before.places queue ≡ Some old) × (place.is_maker ≡ old.is_maker) × (place.pushes ≡ old.pushes)
+  pub places : (queue : ℕ) → is_some (own_chunk_in now.places queue) ≡ is_some (own_chunk_in before.places queue)
+  pub makers : (queue : ℕ) (place : OwnChunk) → own_chunk_in now.places queue ≡ Some place → (old : OwnChunk) × (own_chunk_in before.places queue ≡ Some old) × (place.is_maker ≡ old.is_maker) × (place.pushes ≡ old.pushes)
 
 -- What is kept while a child is given its queues, where it was given these by now.
-pub record AreGiven (before now : LiveFrames) (parent child : ℕ) (gives : List QueueRight) (places : Places) (heads : List (Option ℕ)) (nodes now_nodes : Slab Link)
+pub record AreGiven (before now : LiveFrames) (parent child : ℕ) (gives : List QueueRight) (places : OwnChunks) (heads : List (Option ℕ)) (nodes now_nodes : Slab Link)
     (turns now_turns : Frames) : Type 0 where
   pub others : (other : ℕ) → other ≢ parent → kept_of now other ≡ kept_of before other
-  pub moved : (kept : Kept) → kept_of before parent ≡ Some kept → (one : Kept) × (kept_of now parent ≡ Some one) × IsMoved kept one
-  pub given : (queue : ℕ) → is_some (place_in places queue) ≡ is_given gives queue
-  pub fresh : (queue : ℕ) (place : Place) → place_in places queue ≡ Some place → place.is_maker ≡ false
-  pub pushers : (queue : ℕ) (place : Place) → place_in places queue ≡ Some place → place.pushes ≡ gives_push gives queue
+  pub moved : (kept : KeptFrame) → kept_of before parent ≡ Some kept → (one : KeptFrame) × (kept_of now parent ≡ Some one) × IsMoved kept one
+  pub given : (queue : ℕ) → is_some (own_chunk_in places queue) ≡ gives_queue gives queue
+  pub fresh : (queue : ℕ) (place : OwnChunk) → own_chunk_in places queue ≡ Some place → place.is_maker ≡ false
+  pub pushers : (queue : ℕ) (place : OwnChunk) → own_chunk_in places queue ≡ Some place → place.pushes ≡ gives_push gives queue
   pub chained : (lines : ℕ → Chunks) → AreChained (key_at before) heads nodes lines → ((queue : ℕ) → key_at before child queue ≡ None)
-      → AreChained (placed_at child places (key_at now)) heads now_nodes (handed_lines parent child gives lines)
+      → AreChained (own_keys child places (key_at now)) heads now_nodes (lines_after_gives parent child gives lines)
   pub turn : frame_at now_turns child ≡ turn_of parent gives
   pub other_turns : (other : ℕ) → other ≢ child → frame_at now_turns other ≡ frame_at turns other
   pub apart : AreApart turns → AreApart now_turns

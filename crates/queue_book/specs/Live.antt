@@ -7,25 +7,25 @@ use Rattle.std.specs.Ordering.{nat_cmp}
 use Rattle.swan_model.specs.declared.rights.Mode.TheVariants.{Push}
 use Rattle.swan_model.specs.QueueState.{ActiveFrame, Lent, Maker, QueueState, active, holds_queue}
 use Rattle.queue_book.specs.Tree.{has_queue, maker_path}
-use Rattle.queue_book.specs.Kept.{Kept, place_in}
-use Rattle.queue_book.specs.declared.frame.Place.{Place}
+use Rattle.queue_book.specs.KeptFrames.{KeptFrame, own_chunk_in}
+use Rattle.queue_book.specs.declared.live_frame.OwnChunk.{OwnChunk}
 use Rattle.queue_book.specs.declared.live_frames.LiveFrames.{LiveFrames}
 
 -- the frame of a number
-abbrev pub kept_of : LiveFrames → ℕ → Option Kept
+abbrev pub kept_of : LiveFrames → ℕ → Option KeptFrame
 kept_of frames number = if number == 0 then frames.root else lookup (is_at (nat_cmp number)) frames.others.entries
 
-abbrev pub place_of : Option Kept → ℕ → Option Place
-place_of None queue = None
-place_of (Some kept) queue = place_in kept.places queue
+abbrev pub own_chunk_of : Option KeptFrame → ℕ → Option OwnChunk
+own_chunk_of None queue = None
+own_chunk_of (Some kept) queue = own_chunk_in kept.places queue
 
 -- where a frame's own chunk of a queue stands
-abbrev pub place_at : LiveFrames → ℕ → ℕ → Option Place
-place_at frames number queue = place_of (kept_of frames number) queue
+abbrev pub own_chunk_at : LiveFrames → ℕ → ℕ → Option OwnChunk
+own_chunk_at frames number queue = own_chunk_of (kept_of frames number) queue
 
-abbrev pub key_in : Option Kept → ℕ → Option ℕ
+abbrev pub key_in : Option KeptFrame → ℕ → Option ℕ
 key_in None queue = None
-key_in (Some kept) queue = option_map (λ (place : Place). place.key) (place_in kept.places queue)
+key_in (Some kept) queue = option_map (λ (place : OwnChunk). place.key) (own_chunk_in kept.places queue)
 
 -- the key of its node
 abbrev pub key_at : LiveFrames → ℕ → ℕ → Option ℕ
@@ -33,40 +33,40 @@ key_at frames number queue = key_in (kept_of frames number) queue
 
 -- whether a frame may push to a queue
 abbrev pub is_pusher : LiveFrames → (number queue : ℕ) → Bool
-is_pusher frames number queue = option_map_or (λ (place : Place). place.pushes) (place_at frames number queue) false
+is_pusher frames number queue = option_map_or (λ (place : OwnChunk). place.pushes) (own_chunk_at frames number queue) false
 
 -- one frame was changed, and no other
-pub record IsOnlyChange (before after : LiveFrames) (number : ℕ) (then_kept : Option Kept) : Type 0 where
+pub record IsOnlyChange (before after : LiveFrames) (number : ℕ) (then_kept : Option KeptFrame) : Type 0 where
   pub changed : kept_of after number ≡ then_kept
   pub others : (other : ℕ) → other ≢ number → kept_of after other ≡ kept_of before other
 
 -- a frame with one place more, or another place for a queue
-abbrev pub with_place : ℕ → Place → Kept → Kept
-with_place queue place kept = record kept { places = insert_entry nat_cmp kept.places queue place }
+abbrev pub with_own_chunk : ℕ → OwnChunk → KeptFrame → KeptFrame
+with_own_chunk queue place kept = record kept { places = insert_entry nat_cmp kept.places queue place }
 
 -- ---- what they say of the state
 
-abbrev pub lent_of : Kept → Option Lent
+abbrev pub lent_of : KeptFrame → Option Lent
 lent_of kept = if kept.is_lent then Some (record { deeds = kept.deeds; ends = [] }) else None
 
 -- whether a frame's ends were lent when it had done so many deeds
-abbrev pub is_lent_with : Option Kept → ℕ → Bool
+abbrev pub is_lent_with : Option KeptFrame → ℕ → Bool
 is_lent_with None deeds = false
 is_lent_with (Some kept) deeds = kept.is_lent && (kept.deeds == deeds)
 
 -- what is kept of an active frame: its deeds, whether its ends are lent, its queues, which of them it made, and to which of
 -- them it may push
-pub record IsFrame (state : QueueState) (kept : Kept) (frame : ActiveFrame) : Type 0 where
+pub record IsFrame (state : QueueState) (kept : KeptFrame) (frame : ActiveFrame) : Type 0 where
   pub deeds : kept.deeds ≡ frame.deeds
   pub lent : frame.lent ≡ lent_of kept
-  pub places : (queue : ℕ) → is_some (place_in kept.places queue) ≡ has_queue frame queue
-  pub made : (queue : ℕ) (place : Place) (maker : Maker) → place_in kept.places queue ≡ Some place → slice_get state.makers queue ≡ Some maker
+  pub places : (queue : ℕ) → is_some (own_chunk_in kept.places queue) ≡ has_queue frame queue
+  pub made : (queue : ℕ) (place : OwnChunk) (maker : Maker) → own_chunk_in kept.places queue ≡ Some place → slice_get state.makers queue ≡ Some maker
       → place.is_maker ≡ true → frame.path ≡ maker_path maker
-  pub given : (queue : ℕ) (place : Place) (maker : Maker) → place_in kept.places queue ≡ Some place → slice_get state.makers queue ≡ Some maker
+  pub given : (queue : ℕ) (place : OwnChunk) (maker : Maker) → own_chunk_in kept.places queue ≡ Some place → slice_get state.makers queue ≡ Some maker
       → place.is_maker ≡ false → frame.path ≢ maker_path maker
-  pub pushers : (queue : ℕ) (place : Place) → place_in kept.places queue ≡ Some place → place.pushes ≡ holds_queue frame queue Push
+  pub pushers : (queue : ℕ) (place : OwnChunk) → own_chunk_in kept.places queue ≡ Some place → place.pushes ≡ holds_queue frame queue Push
 
-abbrev pub Agrees : QueueState → Option Kept → Option ActiveFrame → Type 0
+abbrev pub Agrees : QueueState → Option KeptFrame → Option ActiveFrame → Type 0
 Agrees state None None = Unit {0}
 Agrees state (Some kept) (Some frame) = IsFrame state kept frame
 Agrees state None (Some frame) = ⊥

@@ -3,5 +3,5 @@ use Rattle.std.specs.Prelude.{ℕ, List, []}
 use Rattle.queue_book.specs.Asks.{LentEnds}
 
 -- the ends of a frame that has done so many queue deeds: there are none
-abbrev pub ends_of : (frame deeds : ℕ) → (path : List ℕ) → LentEnds
-ends_of frame deeds path = record { frame = frame; path = path; before = deeds; deeds = deeds; list = [] }
+abbrev pub no_ends : (frame deeds : ℕ) → (path : List ℕ) → LentEnds
+no_ends frame deeds path = record { frame = frame; path = path; before = deeds; deeds = deeds; list = [] }

@@ -6,8 +6,8 @@ use Rattle.pop_order.specs.Frames.{Frame, Frames, frame_at}
 use Rattle.swan_model.specs.QueueState.{ActiveFrame, QueueRight, MayGive}
 use Rattle.queue_book.specs.Asks.{DEEDS_MOST}
 use Rattle.queue_book.specs.Chains.{Link}
-use Rattle.queue_book.specs.Handed.{is_given, AreGiven}
-use Rattle.queue_book.specs.Kept.{Kept, Places, place_in}
+use Rattle.queue_book.specs.Handed.{gives_queue, AreGiven}
+use Rattle.queue_book.specs.KeptFrames.{KeptFrame, OwnChunks, own_chunk_in}
 use Rattle.queue_book.specs.Live.{kept_of, IsOnlyChange}
 use Rattle.queue_book.specs.Turned.{AreApart}
 use Rattle.queue_book.specs.declared.live_frames.LiveFrames.{LiveFrames}
@@ -15,10 +15,10 @@ use Rattle.queue_book.specs.declared.live_frames.LiveFrames.{LiveFrames}
 -- The parent is kept and has a place for each queue that it gives; each is given once, by a mode of queues; and the child is
 -- newer than all frames that have turns.
 pub record MayHandOn (frames : LiveFrames) (turns : Frames) (parent child : ℕ) (gives : List QueueRight) : Type 0 where
-  pub kept : Kept
+  pub kept : KeptFrame
   pub live : kept_of frames parent ≡ Some kept
   pub room : kept.deeds < DEEDS_MOST
-  pub has : (queue : ℕ) → is_given gives queue ≡ true → is_some (place_in kept.places queue) ≡ true
+  pub has : (queue : ℕ) → gives_queue gives queue ≡ true → is_some (own_chunk_in kept.places queue) ≡ true
   pub frame : ActiveFrame
   pub lawful : MayGive frame gives
   pub rising : parent < child
@@ -29,8 +29,8 @@ pub record MayHandOn (frames : LiveFrames) (turns : Frames) (parent child : ℕ)
 pub record IsSpawnedIn (before after : LiveFrames) (parent child : ℕ) (gives : List QueueRight) (heads : List (Option ℕ)) (nodes then_nodes : Slab Link)
     (turns then_turns : Frames) : Type 0 where
   pub middle : LiveFrames
-  pub places : Places
+  pub places : OwnChunks
   pub given : AreGiven before middle parent child gives places heads nodes then_nodes turns then_turns
   pub added : LiveFrames
   pub child_now : IsOnlyChange middle added child (Some (record { deeds = 0; is_lent = false; places = places }))
-  pub parent_now : IsOnlyChange added after parent (option_map (λ (kept : Kept). record kept { deeds = kept.deeds + 1 }) (kept_of added parent))
+  pub parent_now : IsOnlyChange added after parent (option_map (λ (kept : KeptFrame). record kept { deeds = kept.deeds + 1 }) (kept_of added parent))

@@ -142,7 +142,7 @@ impl Queues for BookQueues {
     /// Adds the value to the frame's own chunk. Look-ups, which are `O(log n)`, and `O(1)` amortised for the item.
     fn push(&mut self, frame: u64, queue: u32, value: Value) -> Result<(), NoMemory> {
         let Some(place) = self.store.frames.place(frame, queue) else {
-            return Ok(());
+            unreachable!()
         };
         match self.store.chains.push(place.key, value) {
             Ok(()) => {
@@ -174,7 +174,7 @@ impl Queues for BookQueues {
                     self.state = after(&self.state, Call::Deed(frame));
                     Popped::Item(item)
                 }
-                None => Popped::Empty,
+                None => unreachable!(),
             },
         }
     }

@@ -1,10 +1,10 @@
 // The chunks of all queues.
 ghost use Rattle.std.specs.Prelude.{◌≡◌, ◌≢◌, ℕ, ◌+◌, ◌<◌, Option, Some, None, [], ◌∷◌, drop, length, IfOk, IfSome, IfNone, OnOk, true};
-ghost use Rattle.slab.specs.Slab.{slab_len};
-ghost use Rattle.queue_book.specs.Book.{Chunk, Chunks, own, is_spent, with_item, handed_on, closed, trimmed, without_first, items_of};
+ghost use Rattle.slab.specs.Slab.{ContainsKey, slab_len};
+ghost use Rattle.queue_book.specs.Book.{Chunk, Chunks, own, is_spent, with_item, after_hand_on, after_close, without_spent, without_first, items_in};
 ghost use Rattle.queue_book.specs.Chains.{AreChained, chunk_of, first_item, in_line, put_at, IsFront};
 
-use crate::Node;
+use crate::ChunkNode;
 use slab::Slab;
 use std::alloc::Global;
 use swan_model::{NoMemory, Value, Values};
@@ -27,7 +27,7 @@ pub struct Chains {
     /// The first node of each queue, by the queue's number.
     pub heads: Vec<Option<usize>>,
     /// The nodes of all queues.
-    pub nodes: Slab<Node>,
+    pub nodes: Slab<ChunkNode>,
 }
 
 impl Chains {
@@ -50,20 +50,21 @@ impl Chains {
             → at owner queue ≡ None
             → AreChained (put_at owner queue (Some key) at) self.new.heads.items self.new.nodes (in_line queue (λ old. own owner items ∷ []) lines)) }
     {
-        let key = self.nodes.insert(Node::first(queue, owner, items))?;
+        let key = self.nodes.insert(ChunkNode::first(queue, owner, items))?;
         self.heads.push(Some(key))?;
         Ok(key)
     }
 
     /// Pushes an item to a chunk. `O(1)` amortised. Err is want of memory.
     pub fn push(&mut self, key: usize, value: Value) -> Result<(), NoMemory>
+        requires known { ContainsKey self.old.nodes key }
         ensures heads { self.new.heads.items ≡ self.old.heads.items }
         ensures pushed { OnOk result ((at : ℕ → ℕ → Option ℕ) (lines : ℕ → Chunks) (owner queue : ℕ) → AreChained at self.old.heads.items self.old.nodes lines
             → at owner queue ≡ Some key
             → AreChained at self.new.heads.items self.new.nodes (in_line queue (with_item owner value) lines)) }
     {
         let Some(node) = self.nodes.get_mut(key) else {
-            return Ok(());
+            unreachable!()
         };
         node.push(value)?;
         Ok(())
@@ -83,7 +84,7 @@ impl Chains {
         ensures handed { IfOk result (λ new. (at : ℕ → ℕ → Option ℕ) (lines : ℕ → Chunks) (queue : ℕ) → AreChained at self.old.heads.items self.old.nodes lines
             → at parent queue ≡ Some key → at child queue ≡ None
             → AreChained (put_at parent queue (Some new) (put_at child queue (Some key) at)) self.new.heads.items self.new.nodes
-            (in_line queue (handed_on parent child) lines)) }
+            (in_line queue (after_hand_on parent child) lines)) }
     {
         let behind = match self.nodes.get(key) {
             Some(node) => node.behind(alloc, parent),
@@ -101,7 +102,7 @@ impl Chains {
         ensures heads { self.new.heads.items ≡ self.old.heads.items }
         ensures closed { (at : ℕ → ℕ → Option ℕ) (lines : ℕ → Chunks) (owner queue : ℕ) → AreChained at self.old.heads.items self.old.nodes lines
             → at owner queue ≡ Some key
-            → AreChained (put_at owner queue None at) self.new.heads.items self.new.nodes (in_line queue (closed owner) lines) }
+            → AreChained (put_at owner queue None at) self.new.heads.items self.new.nodes (in_line queue (after_close owner) lines) }
     {
         if let Some(node) = self.nodes.get_mut(key) {
             node.close();
@@ -112,7 +113,7 @@ impl Chains {
     fn front(&self, queue: u32) -> Option<Front>
         requires known { queue < length self.now.heads.items }
         ensures stands { IfSome result (λ front. (at : ℕ → ℕ → Option ℕ) (lines : ℕ → Chunks) → AreChained at self.now.heads.items self.now.nodes lines
-            → IsFront (lines queue) front × (trimmed (lines queue) ≡ lines queue)) }
+            → IsFront (lines queue) front × (without_spent (lines queue) ≡ lines queue)) }
         ensures spent { IfNone result ((at : ℕ → ℕ → Option ℕ) (lines : ℕ → Chunks) → AreChained at self.now.heads.items self.now.nodes lines
             → (chunk : Chunk) × (rest : Chunks) × (lines queue ≡ chunk ∷ rest) × (is_spent chunk ≡ true)) }
     {
@@ -132,7 +133,7 @@ impl Chains {
     }
 
     /// Drops the first chunk of a queue, where there is one. `O(1)`; it takes no memory.
-    fn drop_first(&mut self, queue: u32) -> Option<Node>
+    fn drop_first(&mut self, queue: u32) -> Option<ChunkNode>
         requires known { queue < length self.old.heads.items }
         ensures same { length self.new.heads.items ≡ length self.old.heads.items }
         ensures fewer { IfSome result (λ node. slab_len self.new.nodes + 1 ≡ slab_len self.old.nodes) }
@@ -163,9 +164,9 @@ impl Chains {
         requires known { queue < length self.old.heads.items }
         ensures same { length self.new.heads.items ≡ length self.old.heads.items }
         ensures trimmed { (at : ℕ → ℕ → Option ℕ) (lines : ℕ → Chunks) → AreChained at self.old.heads.items self.old.nodes lines
-            → AreChained at self.new.heads.items self.new.nodes (in_line queue trimmed lines) × IsFront (trimmed (lines queue)) result }
+            → AreChained at self.new.heads.items self.new.nodes (in_line queue without_spent lines) × IsFront (without_spent (lines queue)) result }
         ensures fewer { (at : ℕ → ℕ → Option ℕ) (lines : ℕ → Chunks) → AreChained at self.old.heads.items self.old.nodes lines
-            → slab_len self.new.nodes + length (lines queue) ≡ slab_len self.old.nodes + length (trimmed (lines queue)) }
+            → slab_len self.new.nodes + length (lines queue) ≡ slab_len self.old.nodes + length (without_spent (lines queue)) }
     {
         loop {
             if let Some(front) = self.front(queue) {
@@ -214,7 +215,7 @@ impl Chains {
         requires known { queue < length self.old.heads.items }
         ensures same { OnOk result (length self.new.heads.items ≡ length self.old.heads.items) }
         ensures items { IfOk result (λ items. (at : ℕ → ℕ → Option ℕ) (lines : ℕ → Chunks) → AreChained at self.old.heads.items self.old.nodes lines
-            → ((number : ℕ) → at number queue ≡ None) → items ≡ items_of (lines queue)) }
+            → ((number : ℕ) → at number queue ≡ None) → items ≡ items_in (lines queue)) }
         ensures taken { OnOk result ((at : ℕ → ℕ → Option ℕ) (lines : ℕ → Chunks) → AreChained at self.old.heads.items self.old.nodes lines
             → ((number : ℕ) → at number queue ≡ None)
             → AreChained at self.new.heads.items self.new.nodes (in_line queue (λ chunks. []) lines)) }

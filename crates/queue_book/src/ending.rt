@@ -3,12 +3,12 @@ ghost use Rattle.std.specs.Prelude.{◌≡◌, ◌≢◌, ℕ, ◌<◌, true, []
 ghost use Rattle.pop_order.specs.Frames.{without, HasNoChild};
 ghost use Rattle.queue_book.specs.Book.{Chunks};
 ghost use Rattle.queue_book.specs.Chains.{in_line, put_at, AreChained};
-ghost use Rattle.queue_book.specs.Ended.{ended_line, ended_lines, placed_at, IsAlone};
-ghost use Rattle.queue_book.specs.Kept.{Kept, place_in};
+ghost use Rattle.queue_book.specs.Ended.{line_after_end, lines_after_end, own_keys, IsAlone};
+ghost use Rattle.queue_book.specs.KeptFrames.{KeptFrame, own_chunk_in};
 ghost use Rattle.queue_book.specs.Live.{kept_of, IsOnlyChange};
-ghost use Rattle.queue_book.specs.declared.frame.Place.{Place as Held};
+ghost use Rattle.queue_book.specs.declared.live_frame.OwnChunk.{OwnChunk as Held};
 
-use crate::Place;
+use crate::OwnChunk;
 use crate::chains::Chains;
 use crate::store::Store;
 use std::collections::BTreeMap;
@@ -18,14 +18,14 @@ impl Store {
     /// isn't the root, and its turn is over. `O(log n)`, and as much for each of its queues, and `O(1)` for each
     /// chunk and item that is given up. It takes no memory.
     pub fn end(&mut self, number: u64)
-        requires known { (kept : Kept) (queue : ℕ) (place : Held) → kept_of self.old.frames number ≡ Some kept → place_in kept.places queue ≡ Some place → queue < length self.old.chains.heads.items }
+        requires known { (kept : KeptFrame) (queue : ℕ) (place : Held) → kept_of self.old.frames number ≡ Some kept → own_chunk_in kept.places queue ≡ Some place → queue < length self.old.chains.heads.items }
         requires childless { HasNoChild self.old.turns number }
         ensures gone { IsOnlyChange self.old.frames self.new.frames number None }
         ensures same { length self.new.chains.heads.items ≡ length self.old.chains.heads.items }
-        ensures ended { (kept : Kept) (at : ℕ → ℕ → Option ℕ) (lines : ℕ → Chunks) → kept_of self.old.frames number ≡ Some kept
-            → AreChained (placed_at number kept.places at) self.old.chains.heads.items self.old.chains.nodes lines → IsAlone number kept.places at
-            → AreChained (placed_at number [] at) self.new.chains.heads.items self.new.chains.nodes (ended_lines number kept.places lines) }
-        ensures turns { (kept : Kept) → kept_of self.old.frames number ≡ Some kept → self.new.turns ≡ without self.old.turns number }
+        ensures ended { (kept : KeptFrame) (at : ℕ → ℕ → Option ℕ) (lines : ℕ → Chunks) → kept_of self.old.frames number ≡ Some kept
+            → AreChained (own_keys number kept.places at) self.old.chains.heads.items self.old.chains.nodes lines → IsAlone number kept.places at
+            → AreChained (own_keys number [] at) self.new.chains.heads.items self.new.chains.nodes (lines_after_end number kept.places lines) }
+        ensures turns { (kept : KeptFrame) → kept_of self.old.frames number ≡ Some kept → self.new.turns ≡ without self.old.turns number }
     {
         let Some(kept) = self.frames.remove(number) else {
             return;
@@ -37,12 +37,12 @@ impl Store {
 
 /// Closes the chunks of a frame that has ended, and gives up the queues that it made where it isn't the root.
 /// `O(log n)` for each of its queues, and `O(1)` for each chunk and item that is given up.
-fn end_chunks(chains: &mut Chains, number: u64, mut places: BTreeMap<u32, Place>)
-    requires known { (queue : ℕ) (place : Held) → place_in places.entries queue ≡ Some place → queue < length chains.old.heads.items }
+fn end_chunks(chains: &mut Chains, number: u64, mut places: BTreeMap<u32, OwnChunk>)
+    requires known { (queue : ℕ) (place : Held) → own_chunk_in places.entries queue ≡ Some place → queue < length chains.old.heads.items }
     ensures same { length chains.new.heads.items ≡ length chains.old.heads.items }
     ensures ended { (at : ℕ → ℕ → Option ℕ) (lines : ℕ → Chunks)
-        → AreChained (placed_at number places.entries at) chains.old.heads.items chains.old.nodes lines → IsAlone number places.entries at
-        → AreChained (placed_at number [] at) chains.new.heads.items chains.new.nodes (ended_lines number places.entries lines) }
+        → AreChained (own_keys number places.entries at) chains.old.heads.items chains.old.nodes lines → IsAlone number places.entries at
+        → AreChained (own_keys number [] at) chains.new.heads.items chains.new.nodes (lines_after_end number places.entries lines) }
 {
     while let Some((queue, place)) = places.pop_first() {
         end_chunk(chains, number, queue, place);
@@ -51,12 +51,12 @@ fn end_chunks(chains: &mut Chains, number: u64, mut places: BTreeMap<u32, Place>
 
 /// Closes one chunk of a frame that has ended, and gives up the queue where the frame made it and isn't the root.
 /// `O(1)`, and as much for each chunk and item that is given up.
-fn end_chunk(chains: &mut Chains, number: u64, queue: u32, place: Place)
+fn end_chunk(chains: &mut Chains, number: u64, queue: u32, place: OwnChunk)
     requires known { queue < length chains.old.heads.items }
     ensures same { length chains.new.heads.items ≡ length chains.old.heads.items }
     ensures ended { (at : ℕ → ℕ → Option ℕ) (lines : ℕ → Chunks) → AreChained at chains.old.heads.items chains.old.nodes lines → at number queue ≡ Some place.key
         → (place.is_maker ≡ true → number ≢ 0 → (other : ℕ) → other ≢ number → at other queue ≡ None)
-        → AreChained (put_at number queue None at) chains.new.heads.items chains.new.nodes (in_line queue (ended_line number (Some place)) lines) }
+        → AreChained (put_at number queue None at) chains.new.heads.items chains.new.nodes (in_line queue (line_after_end number (Some place)) lines) }
 {
     chains.close(place.key);
     if !place.is_maker {

@@ -3,7 +3,7 @@ ghost use Rattle.std.specs.Prelude.{◌≡◌, ℕ, ◌+◌, ◌<◌, true, fals
 ghost use Rattle.std.specs.Option.{ForSome};
 ghost use Rattle.swan_model.specs.declared.script.Script.{Script};
 ghost use Rattle.swan_model.specs.Lawful.{IsLawful};
-ghost use Rattle.queue_book.specs.Asks.{DEEDS_MOST, LentEnds, has_end, with_deeds};
+ghost use Rattle.queue_book.specs.Asks.{DEEDS_MOST, IsSameRun, LentEnds, has_end, with_deeds};
 ghost use Rattle.queue_book.specs.Ends.{IsNextPush, IsNextPop, IsItemNext};
 
 use swan_model::Value;
@@ -37,7 +37,7 @@ pub trait LocalEnds: Send + Drop {
         ensures err { OnErr result (ends self.new ≡ ends self.old) }
         ensures handed_back { IfErr result (λ back. back ≡ value) }
         ensures cause { OnErr result ((has_end (ends self.old) queue true ≡ false) ⊎ was_refused self.old self.new queue) }
-        ensures same { (name self.new ≡ name self.old) × (run self.new ≡ run self.old) };
+        ensures same { IsSameRun name run self.old self.new };
 
     /// Pops from a queue, where there is an end for that. None comes only where no consumer of that queue
     /// is there, or its ring was empty at a step of this call.
@@ -49,5 +49,5 @@ pub trait LocalEnds: Send + Drop {
         ensures some { OnSome result (ends self.new ≡ with_deeds (ends self.old) ((ends self.old).deeds + 1)) }
         ensures none { IfNone result (ends self.new ≡ ends self.old) }
         ensures cause { IfNone result ((has_end (ends self.old) queue false ≡ false) ⊎ was_empty self.old self.new queue) }
-        ensures same { (name self.new ≡ name self.old) × (run self.new ≡ run self.old) };
+        ensures same { IsSameRun name run self.old self.new };
 }

@@ -2,10 +2,10 @@
 ghost use Rattle.std.specs.Prelude.{◌≡◌, ◌≢◌, ℕ, ◌+◌, ◌<◌, Some, None, [], OnOk, false};
 ghost use Rattle.std.specs.Option.{option_copied, option_map};
 ghost use Rattle.queue_book.specs.Asks.{DEEDS_MOST};
-ghost use Rattle.queue_book.specs.Live.{is_lent_with, kept_of, place_at, with_place, IsOnlyChange};
-ghost use Rattle.queue_book.specs.Kept.{Kept};
+ghost use Rattle.queue_book.specs.Live.{is_lent_with, kept_of, own_chunk_at, with_own_chunk, IsOnlyChange};
+ghost use Rattle.queue_book.specs.KeptFrames.{KeptFrame};
 
-use crate::{Frame, Place};
+use crate::{LiveFrame, OwnChunk};
 use std::alloc::Global;
 use std::collections::BTreeMap;
 use swan_model::NoMemory;
@@ -14,9 +14,9 @@ use swan_model::NoMemory;
 #[derive(Drop)]
 pub struct LiveFrames {
     /// The root, where it is active.
-    pub root: Option<Frame>,
+    pub root: Option<LiveFrame>,
     /// The others.
-    pub others: BTreeMap<u64, Frame>,
+    pub others: BTreeMap<u64, LiveFrame>,
 }
 
 impl LiveFrames {
@@ -26,13 +26,13 @@ impl LiveFrames {
         ensures others { (number : ℕ) → number ≢ 0 → kept_of result number ≡ None }
     {
         LiveFrames {
-            root: Some(Frame::new(alloc)),
+            root: Some(LiveFrame::new(alloc)),
             others: BTreeMap::new(alloc),
         }
     }
 
     /// The active frame of a number. `O(log n)`.
-    fn get(&self, number: u64) -> Option<&Frame>
+    fn get(&self, number: u64) -> Option<&LiveFrame>
         ensures { option_copied result ≡ kept_of self.now number }
     {
         if number == 0 {
@@ -43,8 +43,8 @@ impl LiveFrames {
     }
 
     /// Where a frame's own chunk of a queue stands. `O(log n)`.
-    pub fn place(&self, number: u64, queue: u32) -> Option<Place>
-        ensures { result ≡ place_at self.now number queue }
+    pub fn place(&self, number: u64, queue: u32) -> Option<OwnChunk>
+        ensures { result ≡ own_chunk_at self.now number queue }
     {
         match self.get(number) {
             Some(frame) => frame.place(queue),
@@ -54,7 +54,7 @@ impl LiveFrames {
 
     /// How many queue deeds an active frame has done. `O(log n)`.
     pub fn deeds(&self, number: u64) -> u64
-        ensures { (kept : Kept) → kept_of self.now number ≡ Some kept → result ≡ kept.deeds }
+        ensures { (kept : KeptFrame) → kept_of self.now number ≡ Some kept → result ≡ kept.deeds }
     {
         match self.get(number) {
             Some(frame) => frame.deeds,
@@ -74,8 +74,8 @@ impl LiveFrames {
 
     /// Counts one more queue deed of a frame. `O(log n)`.
     pub fn count_deed(&mut self, number: u64)
-        requires room { (kept : Kept) → kept_of self.old number ≡ Some kept → kept.deeds < DEEDS_MOST }
-        ensures { IsOnlyChange self.old self.new number (option_map (λ (kept : Kept). record kept { deeds = kept.deeds + 1 }) (kept_of self.old number)) }
+        requires room { (kept : KeptFrame) → kept_of self.old number ≡ Some kept → kept.deeds < DEEDS_MOST }
+        ensures { IsOnlyChange self.old self.new number (option_map (λ (kept : KeptFrame). record kept { deeds = kept.deeds + 1 }) (kept_of self.old number)) }
     {
         if number == 0 {
             if let Some(frame) = &mut self.root {
@@ -88,7 +88,7 @@ impl LiveFrames {
 
     /// Notes whether the ends of a frame are lent. `O(log n)`.
     pub fn set_lent(&mut self, number: u64, is_lent: bool)
-        ensures { IsOnlyChange self.old self.new number (option_map (λ (kept : Kept). record kept { is_lent = is_lent }) (kept_of self.old number)) }
+        ensures { IsOnlyChange self.old self.new number (option_map (λ (kept : KeptFrame). record kept { is_lent = is_lent }) (kept_of self.old number)) }
     {
         if number == 0 {
             if let Some(frame) = &mut self.root {
@@ -100,8 +100,8 @@ impl LiveFrames {
     }
 
     /// Notes where a frame's own chunk of a queue stands. `O(log n)`. Err is want of memory.
-    pub fn put(&mut self, number: u64, queue: u32, place: Place) -> Result<(), NoMemory>
-        ensures { OnOk result (IsOnlyChange self.old self.new number (option_map (with_place queue place) (kept_of self.old number))) }
+    pub fn put(&mut self, number: u64, queue: u32, place: OwnChunk) -> Result<(), NoMemory>
+        ensures { OnOk result (IsOnlyChange self.old self.new number (option_map (with_own_chunk queue place) (kept_of self.old number))) }
     {
         if number == 0 {
             if let Some(frame) = &mut self.root {
@@ -116,7 +116,7 @@ impl LiveFrames {
     }
 
     /// Adds a frame. `O(log n)`. Err is want of memory.
-    pub fn add(&mut self, number: u64, frame: Frame) -> Result<(), NoMemory>
+    pub fn add(&mut self, number: u64, frame: LiveFrame) -> Result<(), NoMemory>
         requires other { number ≢ 0 }
         ensures { OnOk result (IsOnlyChange self.old self.new number (Some frame)) }
     {
@@ -125,7 +125,7 @@ impl LiveFrames {
     }
 
     /// Takes a frame out. `O(log n)`; it takes no memory.
-    pub fn remove(&mut self, number: u64) -> Option<Frame>
+    pub fn remove(&mut self, number: u64) -> Option<LiveFrame>
         ensures frame { result ≡ kept_of self.old number }
         ensures gone { IsOnlyChange self.old self.new number None }
     {

@@ -44,13 +44,13 @@ impl NoEnds {
 
 impl LocalEnds for NoEnds {
     ghost use Rattle.std.specs.Prelude.{None};
-    ghost use Rattle.queue_book.specs.NoEnds.{ends_of};
+    ghost use Rattle.queue_book.specs.NoEnds.{no_ends};
 
     ghost name = { λ ends. ends.name };
 
     ghost run = { λ ends. None };
 
-    ghost ends = { λ ends. ends_of ends.frame ends.deeds ends.path.means };
+    ghost ends = { λ ends. no_ends ends.frame ends.deeds ends.path.means };
 
     ghost was_refused = { λ old new queue. ⊥ };
 

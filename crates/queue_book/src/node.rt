@@ -8,14 +8,14 @@ use swan_model::{NoMemory, Value, Values};
 
 /// A chunk of a queue, and where the next one stands.
 #[derive(Drop)]
-pub struct Node {
+pub struct ChunkNode {
     queue: u32,
     owner: Option<u64>,
     items: VecDeque<Value>,
     next: Option<usize>,
 }
 
-impl Model for Node {
+impl Model for ChunkNode {
     ghost use Rattle.queue_book.specs.Chains.{Link};
 
     ghost Value = { Link };
@@ -23,12 +23,12 @@ impl Model for Node {
     ghost view = { λ node. record { queue = node.queue; owner = node.owner; items = node.items.items; next = node.next } };
 }
 
-impl Node {
+impl ChunkNode {
     /// The first chunk of a queue, without a copy of its items. It takes no memory. `O(1)`.
-    pub fn first(queue: u32, owner: u64, items: Values) -> Node
+    pub fn first(queue: u32, owner: u64, items: Values) -> ChunkNode
         ensures { result ≡ record { queue = queue; owner = Some owner; items = items; next = None } }
     {
-        Node {
+        ChunkNode {
             queue,
             owner: Some(owner),
             items: VecDeque::from_vec(items.into_vec()),
@@ -37,10 +37,10 @@ impl Node {
     }
 
     /// An empty chunk behind this one, which another frame owns. It takes no memory. `O(1)`.
-    pub fn behind(&self, alloc: Global, owner: u64) -> Node
+    pub fn behind(&self, alloc: Global, owner: u64) -> ChunkNode
         ensures { result ≡ record { queue = self.now.queue; owner = Some owner; items = []; next = self.now.next } }
     {
-        Node {
+        ChunkNode {
             queue: self.queue,
             owner: Some(owner),
             items: VecDeque::new(alloc),
@@ -110,7 +110,7 @@ impl Node {
     pub fn move_to(self, items: &mut Values) -> Result<(), NoMemory>
         ensures { OnOk result (items.new ≡ items.old ++ self.items) }
     {
-        let Node {
+        let ChunkNode {
             queue: _,
             owner: _,
             items: mut own,

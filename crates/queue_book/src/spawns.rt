@@ -4,12 +4,12 @@ ghost use Rattle.swan_model.specs.declared.rights.Mode.TheVariants.{Push};
 ghost use Rattle.swan_model.specs.Rights.{allows, is_queue_mode};
 ghost use Rattle.pop_order.specs.Frames.{enlisted, AreUpTo, MayGet};
 ghost use Rattle.queue_book.specs.Handed.{holding_of, IsHandedIn};
-ghost use Rattle.queue_book.specs.Live.{place_at};
+ghost use Rattle.queue_book.specs.Live.{own_chunk_at};
 ghost use Rattle.queue_book.specs.Spawned.{MayHandOn, IsSpawnedIn};
-ghost use Rattle.queue_book.specs.declared.frame.Place.{Place as Held};
+ghost use Rattle.queue_book.specs.declared.live_frame.OwnChunk.{OwnChunk as Held};
 
 use crate::store::Store;
-use crate::{Frame, Place, QueueGive};
+use crate::{LiveFrame, OwnChunk, QueueGive};
 use std::collections::BTreeMap;
 use swan_model::{Mode, NoMemory};
 
@@ -20,7 +20,7 @@ impl Store {
         ensures heads { OnOk result (self.new.chains.heads.items ≡ self.old.chains.heads.items) }
         ensures spawned { OnOk result (IsSpawnedIn self.old.frames self.new.frames parent child gives.now self.old.chains.heads.items self.old.chains.nodes self.new.chains.nodes self.old.turns self.new.turns) }
     {
-        let mut frame = Frame::new(self.alloc);
+        let mut frame = LiveFrame::new(self.alloc);
         for one in gives {
             self.give(parent, child, *one, &mut frame.places)?;
         }
@@ -35,9 +35,9 @@ impl Store {
         parent: u64,
         child: u64,
         one: QueueGive,
-        places: &mut BTreeMap<u32, Place>,
+        places: &mut BTreeMap<u32, OwnChunk>,
     ) -> Result<(), NoMemory>
-        requires has { (place : Held) × (place_at self.old.frames parent one.queue ≡ Some place) }
+        requires has { (place : Held) × (own_chunk_at self.old.frames parent one.queue ≡ Some place) }
         requires rising { parent < child }
         requires newest { AreUpTo self.old.turns child }
         requires fits { MayGet self.old.turns parent child one.queue }
@@ -47,16 +47,16 @@ impl Store {
         ensures turns { OnOk result (self.new.turns ≡ enlisted self.old.turns parent child (holding_of one)) }
     {
         let Some(place) = self.frames.place(parent, one.queue) else {
-            return Ok(());
+            unreachable!()
         };
         let new = self.chains.hand_on(self.alloc, place.key, parent, child)?;
-        let given = Place {
+        let given = OwnChunk {
             key: place.key,
             is_maker: false,
             pushes: can_push(one.mode),
         };
         places.insert(one.queue, given)?;
-        let kept = Place {
+        let kept = OwnChunk {
             key: new,
             is_maker: place.is_maker,
             pushes: place.pushes,

@@ -6,7 +6,7 @@ ghost use Rattle.queue_book.specs.Asks.{QUEUES_MOST};
 ghost use Rattle.queue_book.specs.Made.{IsMadeIn};
 ghost use Rattle.queue_book.specs.Whole.{IsBook};
 
-use crate::Place;
+use crate::OwnChunk;
 use crate::chains::Chains;
 use crate::live_frames::LiveFrames;
 use crate::stated::{Nothing, Stated};
@@ -64,7 +64,7 @@ impl Store {
     {
         let queue = self.chains.heads.len() as u32;
         let key = self.chains.make(queue, frame, first)?;
-        let place = Place {
+        let place = OwnChunk {
             key,
             is_maker: true,
             pushes: true,

@@ -1,5 +1,5 @@
 use Rattle.std.proofs.Common.{◌≡◌, ◌≢◌, true, false, ◌&&◌, not, ◌==◌, None, ap, ◌∙◌}
-use Rattle.queue_book.specs.Book.{closed}
+use Rattle.queue_book.specs.Book.{after_close}
 use Rattle.queue_book.specs.Chains.{in_line, put_at}
 use Rattle.queue_book.proofs.ChainEnds.{chained_closed, chained_over, none_but_own, not_so, still_so}
 use Rattle.queue_book.proofs.ending.end_chunk.Goals as goal
@@ -28,5 +28,5 @@ returns-clause-ended c at lines is key alone =
     let place = c.args.place in
     let other : number ≢ 0 = c.if-number-eq0.false in
     chained_over (put_at number queue None at) c.give_up.new.self.heads.items c.give_up.new.self.nodes lines number queue place (still_so place.is_maker c.if-not-place.false) other
-    (c.give_up.ensures.given_up (put_at number queue None at) (in_line queue (closed number) lines) (c.close.ensures.closed at lines number queue is key)
+    (c.give_up.ensures.given_up (put_at number queue None at) (in_line queue (after_close number) lines) (c.close.ensures.closed at lines number queue is key)
     (none_but_own number queue at (alone (still_so place.is_maker c.if-not-place.false) other)))

@@ -2,18 +2,18 @@ use Rattle.std.proofs.Common.{◌≡◌, ℕ, Option, None, length, ◌⊎◌}
 use Rattle.std.specs.BTreeMap.{btree_map_len}
 use Rattle.queue_book.specs.Book.{Chunks}
 use Rattle.queue_book.specs.Chains.{AreChained}
-use Rattle.queue_book.specs.Ended.{placed_at, IsAlone}
-use Rattle.queue_book.specs.Kept.{place_in}
+use Rattle.queue_book.specs.Ended.{own_keys, IsAlone}
+use Rattle.queue_book.specs.KeptFrames.{own_chunk_in}
 use Rattle.queue_book.proofs.ChainEnds.{left_lines}
 use Rattle.queue_book.proofs.ending.end_chunks.Given as goal
 
 abbrev pub invariant-loop-queue : goal.invariant-loop-queue
 invariant-loop-queue l = record {
   same : length l.chains.heads.items ≡ length l.initial.chains.heads.items;
-  left : (q : ℕ) → (place_in l.places.entries q ≡ None) ⊎ (place_in l.places.entries q ≡ place_in l.initial.places.entries q);
-  kept : (at : ℕ → ℕ → Option ℕ) (lines : ℕ → Chunks) → AreChained (placed_at l.number l.initial.places.entries at) l.initial.chains.heads.items l.initial.chains.nodes lines
+  left : (q : ℕ) → (own_chunk_in l.places.entries q ≡ None) ⊎ (own_chunk_in l.places.entries q ≡ own_chunk_in l.initial.places.entries q);
+  kept : (at : ℕ → ℕ → Option ℕ) (lines : ℕ → Chunks) → AreChained (own_keys l.number l.initial.places.entries at) l.initial.chains.heads.items l.initial.chains.nodes lines
       → IsAlone l.number l.initial.places.entries at
-      → AreChained (placed_at l.number l.places.entries at) l.chains.heads.items l.chains.nodes (left_lines l.number l.places.entries l.initial.places.entries lines);
+      → AreChained (own_keys l.number l.places.entries at) l.chains.heads.items l.chains.nodes (left_lines l.number l.places.entries l.initial.places.entries lines);
 }
 
 abbrev pub decreases-loop-queue : goal.decreases-loop-queue

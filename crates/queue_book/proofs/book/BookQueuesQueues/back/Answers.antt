@@ -7,7 +7,7 @@ use Rattle.queue_book.specs.Whole.{IsBook}
 use Rattle.queue_book.proofs.BookLent.{book_back, by_none, called, recorded}
 use Rattle.queue_book.proofs.Frames.{same_frame}
 use Rattle.queue_book.specs.Asks.{IsRecorded, OnNext}
-use Rattle.queue_book.specs.NoEnds.{ends_of}
+use Rattle.queue_book.specs.NoEnds.{no_ends}
 use Rattle.queue_book.specs.Live.{is_lent_with, kept_of}
 use Rattle.queue_book.proofs.book.BookQueuesQueues.back.Goals as goal
 
@@ -40,8 +40,8 @@ returns-clause-recorded c =
     let lent : is_lent_with (kept_of frames n) d ≡ true = ap (is_lent_with (kept_of frames n)) (sym c.deeds.ensures) ∙ sym c.is_lent.ensures ∙ c.if-not-is_lent.false in
     let told = recorded state frames is.live n d path lent in
     let own : c.args.ends.frame ≡ n = sym c.frame.ensures ∙ c.if-frame.false in
-    let P : BookView → Type 0 = λ v. IsRecorded v.state n (ends_of n d path) in
-    let Q : ℕ → Type 0 = λ k. IsRecorded c.args.self.now.state n (ends_of k d path) in
+    let P : BookView → Type 0 = λ v. IsRecorded v.state n (no_ends n d path) in
+    let Q : ℕ → Type 0 = λ k. IsRecorded c.args.self.now.state n (no_ends k d path) in
     subst Q (sym own) (subst P c.self.view_is told.0)
 
 pub returns-clause-by_ends : goal.returns-clause-by_ends

@@ -9,7 +9,7 @@ use Rattle.swan_model.specs.QueueFollows.{next_queue_deed}
 use Rattle.pop_order.specs.Frames.{Frames}
 use Rattle.swan_model.specs.QueueState.{after_finish}
 use Rattle.queue_book.specs.Asks.{MayJoin}
-use Rattle.queue_book.specs.Kept.{Kept}
+use Rattle.queue_book.specs.KeptFrames.{KeptFrame}
 use Rattle.queue_book.proofs.BookFinish.{alone_in, book_finish, chained_before}
 use Rattle.queue_book.proofs.LiveKept.{kept_live}
 use Rattle.queue_book.proofs.TurnsGone.{turns_childless}
@@ -42,7 +42,7 @@ invariant_of-self c =
     let May : BookView → Type 0 = λ v. MayJoin v.state n in
     let may : MayJoin state n = subst May (sym c.self.view_is) c.requires.may in
     let was = kept_live state frames is.live n may.frame may.may.live in
-    let kept : Kept = was.0 in
+    let kept : KeptFrame = was.0 in
     let at : kept_of frames n ≡ Some kept = was.1 in
     let Over : BookView → Type 0 = λ v. OnNext v.name v.state n (λ s f. next_queue_deed s f.path f.deeds ≡ None) in
     let over : OnNext name state n (λ s f. next_queue_deed s f.path f.deeds ≡ None) = subst Over (sym c.self.view_is) c.requires.over in

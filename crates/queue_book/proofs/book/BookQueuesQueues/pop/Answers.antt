@@ -4,7 +4,7 @@ use Rattle.swan_model.specs.declared.script.Deed.TheVariants as deed
 use Rattle.swan_model.specs.QueueFollows.{IsNextAbout}
 use Rattle.swan_model.specs.QueueState.{ActiveFrame, QueueState, active}
 use Rattle.queue_book.specs.Asks.{MayUse, IsOnTurn, OnNext}
-use Rattle.queue_book.specs.Book.{trimmed}
+use Rattle.queue_book.specs.Book.{without_spent}
 use Rattle.queue_book.specs.Chains.{first_item, in_line}
 use Rattle.queue_book.specs.Live.{key_at}
 use Rattle.queue_book.specs.BookView.{BookView}
@@ -121,7 +121,7 @@ invariant_of-self-in-Some c =
     let P : QueueState → Type 0 = λ st. IsBook name st c.count_deed-in-Some.new.self c.take_first.new.self.heads.items c.take_first.new.self.nodes turns in
     rw c.front.ensures.turns (subst P (sym c.after-in-Some.ensures) (book_pop name state frames heads nodes turns is n q may heads_now nodes_now c.front.ensures.same c.count_deed-in-Some.new.self (rw c.front.ensures.frames at c.count_deed-in-Some.ensures) turn next
     c.in-Holds.ensures.turn told c.take_first.new.self.heads.items c.take_first.new.self.nodes c.take_first.ensures.same
-    (c.take_first.ensures.taken (key_at frames) (in_line q trimmed is.lines) told.0)))
+    (c.take_first.ensures.taken (key_at frames) (in_line q without_spent is.lines) told.0)))
 
 pub returns-in-NotYet-clause-answer : goal.returns-in-NotYet-clause-answer
 returns-in-NotYet-clause-answer c =
@@ -187,14 +187,14 @@ returns-in-Some-clause-answer c =
     let nodes_now = c.front.new.self.chains.nodes in
     let told = (c.in-Holds.ensures.told (key_at frames) is.lines is.chained) in
     let first = found_item name state frames heads nodes turns is n q look heads_now nodes_now c.front.ensures.same told in
-    let item : first_item (in_line q trimmed is.lines q) ≡ Some first.value = ap first_item first.are ∙ first.item in
-    let both : Some c.in-Some.item ≡ Some first.value = c.in-Some.ensures.item (key_at frames) (in_line q trimmed is.lines) told.0 ∙ item in
+    let item : first_item (in_line q without_spent is.lines q) ≡ Some first.value = ap first_item first.are ∙ first.item in
+    let both : Some c.in-Some.item ≡ Some first.value = c.in-Some.ensures.item (key_at frames) (in_line q without_spent is.lines) told.0 ∙ item in
     let same : c.in-Some.item ≡ first.value = cc in
     let P : BookView → Type 0 = λ v. (f : ActiveFrame) → active v.state n ≡ Some f → IsPopped v.name v.state f q (popped.Item c.in-Some.item) in
     subst P c.self.view_is (popped_all name state frames heads nodes turns is n q look heads_now nodes_now c.front.ensures.same turn c.in-Holds.ensures.turn told c.in-Some.item same)
 
-pub returns-in-None-clause-answer : goal.returns-in-None-clause-answer
-returns-in-None-clause-answer c =
+pub unreachable-requires : goal.unreachable-requires
+unreachable-requires c =
     let is = c.self.invariant in
     let name = c.self.inside.name in
     let state = c.self.inside.state.means in
@@ -213,30 +213,6 @@ returns-in-None-clause-answer c =
     let nodes_now = c.front.new.self.chains.nodes in
     let told = (c.in-Holds.ensures.told (key_at frames) is.lines is.chained) in
     let first = found_item name state frames heads nodes turns is n q look heads_now nodes_now c.front.ensures.same told in
-    let item : first_item (in_line q trimmed is.lines q) ≡ Some first.value = ap first_item first.are ∙ first.item in
-    let never : None ≡ Some first.value = c.in-None.ensures.item (key_at frames) (in_line q trimmed is.lines) told.0 ∙ item in
-    absurd (cc)
-
-pub returns-in-None-clause-after : goal.returns-in-None-clause-after
-returns-in-None-clause-after c =
-    let is = c.self.invariant in
-    let name = c.self.inside.name in
-    let state = c.self.inside.state.means in
-    let frames = c.self.inside.store.frames in
-    let heads = c.self.inside.store.chains.heads.items in
-    let nodes = c.self.inside.store.chains.nodes in
-    let turns = c.self.inside.store.turns in
-    let n = c.args.frame in
-    let q = c.args.queue in
-    let May : BookView → Type 0 = λ v. MayUse v.state n q Pop in
-    let may : MayUse state n q Pop = subst May (sym c.self.view_is) c.requires.may in
-    let look = look_of state n q may in
-    let Turn : BookView → Type 0 = λ v. IsOnTurn v.name v.state n in
-    let turn : IsOnTurn name state n = subst Turn (sym c.self.view_is) c.requires.turn in
-    let heads_now = c.front.new.self.chains.heads.items in
-    let nodes_now = c.front.new.self.chains.nodes in
-    let told = (c.in-Holds.ensures.told (key_at frames) is.lines is.chained) in
-    let first = found_item name state frames heads nodes turns is n q look heads_now nodes_now c.front.ensures.same told in
-    let item : first_item (in_line q trimmed is.lines q) ≡ Some first.value = ap first_item first.are ∙ first.item in
-    let never : None ≡ Some first.value = c.in-None.ensures.item (key_at frames) (in_line q trimmed is.lines) told.0 ∙ item in
-    absurd (cc)
+    let item : first_item (in_line q without_spent is.lines q) ≡ Some first.value = ap first_item first.are ∙ first.item in
+    let never : None ≡ Some first.value = c.in-None.ensures.item (key_at frames) (in_line q without_spent is.lines) told.0 ∙ item in
+    cc

@@ -1,4 +1,5 @@
-use Rattle.std.proofs.Common.{◌≡◌, Some, None, sym, subst, ◌∙◌}
+use Rattle.std.proofs.Common.{◌≡◌, Some, None, refl, sym, subst, ◌∙◌}
+use Rattle.std.specs.Prelude.{IsSome}
 use Rattle.swan_model.specs.declared.rights.Mode.TheVariants.{Push}
 use Rattle.swan_model.specs.declared.script.Deed.TheVariants as deed
 use Rattle.swan_model.specs.QueueFollows.{IsNextAbout}
@@ -12,8 +13,8 @@ use Rattle.queue_book.proofs.LiveKept.{has_key, key_of, place_of_key}
 use Rattle.queue_book.proofs.Frames.{has_held}
 use Rattle.queue_book.proofs.book.BookQueuesQueues.push.Goals as goal
 
-pub returns-in_default-clause-ok : goal.returns-in_default-clause-ok
-returns-in_default-clause-ok c =
+pub unreachable-requires : goal.unreachable-requires
+unreachable-requires c =
     let is = c.self.invariant in
     let name = c.self.inside.name in
     let state = c.self.inside.state.means in
@@ -27,7 +28,15 @@ returns-in_default-clause-ok c =
     let may : MayUse state n q Push = subst May (sym c.self.view_is) c.requires.may in
     let found = has_key state frames is.live n q may.act.frame may.act.may.live (has_held may.act.frame q Push may.held) in
     let never : None ≡ Some found.3 = sym c.in_default.is ∙ c.place.ensures ∙ place_of_key frames n q found.0 found.3 found.1 found.4 in
-    absurd (cc)
+    cc
+
+pub push-requires : goal.push-requires
+push-requires c =
+    let is = c.self.invariant in
+    let place = c.in-Some.place in
+    let key : key_at c.self.inside.store.frames c.args.frame c.args.queue ≡ Some place.key = key_of c.self.inside.store.frames c.args.frame c.args.queue place (sym c.in-Some.ensures) in
+    let node = is.chained.owned c.args.frame c.args.queue place.key key in
+    record { known = subst IsSome (sym node.1) refl }
 
 pub invariant_of-self : goal.invariant_of-self
 invariant_of-self c =

@@ -3,7 +3,7 @@ use Rattle.swan_model.specs.QueueState.{QueueState}
 use Rattle.queue_book.specs.Live.{key_at}
 use Rattle.queue_book.specs.BookView.{BookView}
 use Rattle.queue_book.specs.Whole.{IsBook}
-use Rattle.queue_book.specs.Asks.{is_emptied, IsLeft}
+use Rattle.queue_book.specs.Asks.{is_emptied, IsRestLeft}
 use Rattle.queue_book.specs.Tells.{OnQueue, rest_of}
 use Rattle.queue_book.proofs.BookRest.{book_rest, rest_is, rest_known, rest_unowned}
 use Rattle.queue_book.proofs.book.BookQueuesQueues.take_rest.Goals as goal
@@ -18,8 +18,8 @@ take_all-requires c =
     let nodes = c.self.inside.store.chains.nodes in
     let turns = c.self.inside.store.turns in
     let q = c.args.queue in
-    let Left : BookView → Type 0 = λ v. IsLeft v.state q in
-    let left : IsLeft state q = subst Left (sym c.self.view_is) c.requires.left in
+    let Left : BookView → Type 0 = λ v. IsRestLeft v.state q in
+    let left : IsRestLeft state q = subst Left (sym c.self.view_is) c.requires.left in
     record { known = rest_known name state frames heads nodes turns is q left }
 
 pub invariant_of-self : goal.invariant_of-self
@@ -32,8 +32,8 @@ invariant_of-self c =
     let nodes = c.self.inside.store.chains.nodes in
     let turns = c.self.inside.store.turns in
     let q = c.args.queue in
-    let Left : BookView → Type 0 = λ v. IsLeft v.state q in
-    let left : IsLeft state q = subst Left (sym c.self.view_is) c.requires.left in
+    let Left : BookView → Type 0 = λ v. IsRestLeft v.state q in
+    let left : IsRestLeft state q = subst Left (sym c.self.view_is) c.requires.left in
     let P : QueueState → Type 0 = λ st. IsBook name st frames c.take_all.new.self.heads.items c.take_all.new.self.nodes turns in
     subst P (sym c.after.ensures) (book_rest name state frames heads nodes turns is q left c.take_all.new.self.heads.items c.take_all.new.self.nodes c.in-Ok.ensures.same
     (c.in-Ok.ensures.taken (key_at frames) is.lines is.chained (rest_unowned name state frames heads nodes turns is q left)))
@@ -48,8 +48,8 @@ returns-in-Ok-clause-first c =
     let nodes = c.self.inside.store.chains.nodes in
     let turns = c.self.inside.store.turns in
     let q = c.args.queue in
-    let Left : BookView → Type 0 = λ v. IsLeft v.state q in
-    let left : IsLeft state q = subst Left (sym c.self.view_is) c.requires.left in
+    let Left : BookView → Type 0 = λ v. IsRestLeft v.state q in
+    let left : IsRestLeft state q = subst Left (sym c.self.view_is) c.requires.left in
     let P : BookView → Type 0 = λ v. is_emptied v.state q ≡ false → OnQueue v.name v.state q (λ s origin. c.in-Ok.items ≡ rest_of s origin) in
     subst P c.self.view_is (λ full. rest_is name state frames heads nodes turns is q left full c.in-Ok.items
     (c.in-Ok.ensures.items (key_at frames) is.lines is.chained (rest_unowned name state frames heads nodes turns is q left)))

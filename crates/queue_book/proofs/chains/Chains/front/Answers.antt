@@ -2,7 +2,7 @@ use Rattle.std.proofs.Common.{◌≡◌, ◌≢◌, Some, None, [], refl, sym, a
 use Rattle.std.proofs.lemmas.Bool.{false≢true}
 use Rattle.std.proofs.lemmas.Option.{slice_get_read}
 use Rattle.std.specs.Prelude.{slice_get}
-use Rattle.queue_book.specs.Book.{Chunks, trimmed}
+use Rattle.queue_book.specs.Book.{Chunks, without_spent}
 use Rattle.queue_book.specs.Chains.{Link, chunk_of, IsFront}
 use Rattle.queue_book.specs.declared.chains.Front.TheVariants as front
 use Rattle.queue_book.proofs.ChainFronts.{empty_line, first_stands, first_chunk, front_item, front_open, front_spent}
@@ -13,7 +13,7 @@ returns-in_default-clause-stands c at lines is =
     let heads = c.args.self.now.heads.items in
     let has : slice_get heads c.args.queue ≡ Some c.index.result.now = slice_get_read heads _ c.args.queue c.index.result.now refl c.requires.known c.index.ensures in
     let empty = empty_line at heads c.args.self.now.nodes lines is c.args.queue (has ∙ ap Some c.in_default.is) in
-    let P : Chunks → Type 0 = λ chunks. IsFront chunks front.Over × (trimmed chunks ≡ chunks) in
+    let P : Chunks → Type 0 = λ chunks. IsFront chunks front.Over × (without_spent chunks ≡ chunks) in
     subst P (sym empty) (tt, refl)
 
 pub returns-in_default-get-clause-stands : goal.returns-in_default-get-clause-stands
@@ -30,7 +30,7 @@ returns-then-not-is_empty-clause-stands c at lines is =
     let link : Link = c.in-Some-get.node.now in
     let has : slice_get heads c.args.queue ≡ Some c.index.result.now = slice_get_read heads _ c.args.queue c.index.result.now refl c.requires.known c.index.ensures in
     let first = first_chunk at heads c.args.self.now.nodes lines is c.args.queue c.in-Some.key link (has ∙ ap Some c.in-Some.is) (sym c.in-Some-get.ensures) in
-    let P : Chunks → Type 0 = λ chunks. IsFront chunks front.Item × (trimmed chunks ≡ chunks) in
+    let P : Chunks → Type 0 = λ chunks. IsFront chunks front.Item × (without_spent chunks ≡ chunks) in
     let some : link.items ≢ [] = λ none. false≢true (sym c.if-not-is_empty.true ∙ c.is_empty.ensures.1 none) in
     subst P (sym first.are) (front_item link first.rest some)
 
@@ -40,7 +40,7 @@ returns-in-Some-owner-clause-stands c at lines is =
     let link : Link = c.in-Some-get.node.now in
     let has : slice_get heads c.args.queue ≡ Some c.index.result.now = slice_get_read heads _ c.args.queue c.index.result.now refl c.requires.known c.index.ensures in
     let first = first_chunk at heads c.args.self.now.nodes lines is c.args.queue c.in-Some.key link (has ∙ ap Some c.in-Some.is) (sym c.in-Some-get.ensures) in
-    let P : Chunks → Type 0 = λ chunks. IsFront chunks (front.Open c.in-Some-owner.owner) × (trimmed chunks ≡ chunks) in
+    let P : Chunks → Type 0 = λ chunks. IsFront chunks (front.Open c.in-Some-owner.owner) × (without_spent chunks ≡ chunks) in
     subst P (sym first.are) (front_open link first.rest c.in-Some-owner.owner (c.is_empty.ensures.0 c.if-not-is_empty.false) (sym c.in-Some-owner.ensures))
 
 pub returns-in-None-clause-spent : goal.returns-in-None-clause-spent

@@ -1,6 +1,6 @@
 use Rattle.std.proofs.Common.{◌++◌, List, refl, ap, ◌∙◌}
 use Rattle.swan_model.specs.declared.value.Value.{Value}
-use Rattle.queue_book.specs.Book.{items_of}
+use Rattle.queue_book.specs.Book.{items_in}
 use Rattle.queue_book.proofs.ChainLoops.{left_none, moved_drop}
 use Rattle.queue_book.proofs.chains.Chains.take_all.Goals as goal
 
@@ -9,7 +9,7 @@ loop-node-init c = record {
   same = refl;
   kept = λ at lines is none. record {
     left = left_none at lines c.args.queue c.args.self.now.heads.items c.args.self.now.nodes is;
-    moved = ap (λ (vs : List Value). vs ++ items_of (lines c.args.queue)) c.new-items.ensures;
+    moved = ap (λ (vs : List Value). vs ++ items_in (lines c.args.queue)) c.new-items.ensures;
   };
 }
 

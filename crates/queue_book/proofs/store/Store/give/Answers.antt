@@ -1,7 +1,7 @@
 use Rattle.std.proofs.Common.{◌≡◌, ℕ, Bool, false, Option, Some, List, sym, subst}
 use Rattle.std.specs.BTreeMap.{insert_entry}
 use Rattle.std.specs.Ordering.{nat_cmp}
-use Rattle.queue_book.specs.Book.{handed_on}
+use Rattle.queue_book.specs.Book.{after_hand_on}
 use Rattle.queue_book.specs.Chains.{AreChained, in_line, put_at}
 use Rattle.queue_book.specs.Handed.{IsHandedIn}
 use Rattle.swan_model.specs.declared.rights.Mode.TheVariants.{Push}
@@ -27,6 +27,6 @@ returns-clause-given c =
       child_now = subst Given c.can_push.ensures c.in_ok-insert.ensures.entries;
       chained = λ at lines is mine free.
           let P : List (Option ℕ) → Type 0 = λ hs.
-          AreChained (put_at parent q (Some c.in_ok-new.new) (put_at child q (Some c.in-Some.place.key) at)) hs c.hand_on.new.self.nodes (in_line q (handed_on parent child) lines) in
+          AreChained (put_at parent q (Some c.in_ok-new.new) (put_at child q (Some c.in-Some.place.key) at)) hs c.hand_on.new.self.nodes (in_line q (after_hand_on parent child) lines) in
           subst P c.hand_on.ensures.heads (c.in_ok-new.ensures.handed at lines q is mine free);
     })

@@ -6,7 +6,7 @@ use Rattle.swan_model.specs.declared.rights.Mode.TheVariants.{Push}
 use Rattle.swan_model.specs.QueueState.{QueueRight}
 use Rattle.swan_model.specs.Rights.{allows}
 use Rattle.queue_book.specs.Handed.{AreGiven, IsHandedIn}
-use Rattle.queue_book.specs.Kept.{Kept, Places}
+use Rattle.queue_book.specs.KeptFrames.{KeptFrame, OwnChunks}
 use Rattle.queue_book.specs.Live.{IsOnlyChange}
 use Rattle.queue_book.proofs.GivingSteps.{given_more, given_none, has_now, may_get_now, newest_now, queue_mode_at}
 use Rattle.queue_book.proofs.store.Store.spawn.Goals as goal
@@ -14,13 +14,13 @@ use Rattle.queue_book.proofs.store.Store.spawn.Goals as goal
 pub loop-one-init : goal.loop-one-init
 loop-one-init c =
     let fresh : record { deeds = c.frame.inside.deeds; is_lent = c.frame.inside.is_lent; places = c.frame.inside.places.entries } ≡ record { deeds = 0; is_lent = false; places = [] } = c.frame.view_is ∙ c.new-frame.ensures in
-    let Given : Places → Type 0 = λ ps. AreGiven c.args.self.now.frames c.args.self.now.frames c.args.parent c.args.child [] ps c.args.self.now.chains.heads.items c.args.self.now.chains.nodes c.args.self.now.chains.nodes
+    let Given : OwnChunks → Type 0 = λ ps. AreGiven c.args.self.now.frames c.args.self.now.frames c.args.parent c.args.child [] ps c.args.self.now.chains.heads.items c.args.self.now.chains.nodes c.args.self.now.chains.nodes
     c.args.self.now.turns c.args.self.now.turns in
     record {
-      deeds = ap (λ (k : Kept). k.deeds) fresh;
-      lent = ap (λ (k : Kept). k.is_lent) fresh;
+      deeds = ap (λ (k : KeptFrame). k.deeds) fresh;
+      lent = ap (λ (k : KeptFrame). k.is_lent) fresh;
       heads = refl;
-      given = subst Given (sym (ap (λ (k : Kept). k.places) fresh))
+      given = subst Given (sym (ap (λ (k : KeptFrame). k.places) fresh))
           (given_none c.args.self.now.frames c.args.parent c.args.child c.args.gives.now c.args.self.now.chains.heads.items c.args.self.now.chains.nodes c.args.self.now.turns c.requires.may);
     }
 
@@ -95,7 +95,7 @@ count_deed-requires c =
           let two : c.args.parent ≢ c.args.child = λ same. let less = may.rising in omega arith in
           let both : Some was.0 ≡ Some kept = sym was.1 ∙ sym (c.in_ok-add.ensures.others c.args.parent two) ∙ at in
           let same : was.0 ≡ kept = cc in
-          let deeds : kept.deeds ≡ may.kept.deeds = ap (λ (k : Kept). k.deeds) (sym same) ∙ was.2.deeds in
+          let deeds : kept.deeds ≡ may.kept.deeds = ap (λ (k : KeptFrame). k.deeds) (sym same) ∙ was.2.deeds in
           let room = may.room in
           omega (arith, room, deeds);
     }
@@ -107,7 +107,7 @@ returns-clause-spawned c =
     let whole : take c.loop-one.one-index all ≡ all = take_all c.loop-one.one-index all (omega arith) in
     let Given : List QueueRight → Type 0 = λ gs. AreGiven c.args.self.now.frames c.loop-one.self.frames c.args.parent c.args.child gs places c.args.self.now.chains.heads.items
     c.args.self.now.chains.nodes c.loop-one.self.chains.nodes c.args.self.now.turns c.loop-one.self.turns in
-    let One : Kept → Type 0 = λ k. IsOnlyChange c.loop-one.self.frames c.add.new.self c.args.child (Some k) in
+    let One : KeptFrame → Type 0 = λ k. IsOnlyChange c.loop-one.self.frames c.add.new.self c.args.child (Some k) in
     let kept : record { deeds = c.loop-one.frame-inside.deeds; is_lent = c.loop-one.frame-inside.is_lent; places = places } ≡ record { deeds = 0; is_lent = false; places = places } =
     ap (λ d. record { deeds = d; is_lent = c.loop-one.frame-inside.is_lent; places = places }) c.loop-one.invariant.deeds
     ∙ ap (λ b. record { deeds = 0; is_lent = b; places = places }) c.loop-one.invariant.lent in

@@ -1,7 +1,7 @@
 // What is kept of an active frame.
 ghost use Rattle.std.specs.Prelude.{◌≡◌, ◌<◌, [], OnOk, false};
-ghost use Rattle.queue_book.specs.Kept.{place_in};
-ghost use Rattle.queue_book.specs.Live.{with_place};
+ghost use Rattle.queue_book.specs.KeptFrames.{own_chunk_in};
+ghost use Rattle.queue_book.specs.Live.{with_own_chunk};
 
 use std::alloc::Global;
 use std::collections::BTreeMap;
@@ -10,7 +10,7 @@ use swan_model::NoMemory;
 
 /// Where a frame's own chunk of a queue stands.
 #[derive(Clone, Copy)]
-pub struct Place {
+pub struct OwnChunk {
     /// The key of its node.
     pub key: usize,
     /// Whether the frame made the queue.
@@ -21,29 +21,29 @@ pub struct Place {
 
 /// An active frame: how many queue deeds it has done, whether its ends are lent, and its queues.
 #[derive(Drop)]
-pub struct Frame {
+pub struct LiveFrame {
     /// How many queue deeds it has done.
     pub deeds: u64,
     /// Whether its ends are lent.
     pub is_lent: bool,
     /// Its own chunk of each queue that it has.
-    pub places: BTreeMap<u32, Place>,
+    pub places: BTreeMap<u32, OwnChunk>,
 }
 
-impl Model for Frame {
-    ghost use Rattle.queue_book.specs.Kept.{Kept};
+impl Model for LiveFrame {
+    ghost use Rattle.queue_book.specs.KeptFrames.{KeptFrame};
 
-    ghost Value = { Kept };
+    ghost Value = { KeptFrame };
 
     ghost view = { λ frame. record { deeds = frame.deeds; is_lent = frame.is_lent; places = frame.places.entries } };
 }
 
-impl Frame {
+impl LiveFrame {
     /// A frame that has done nothing and has no queue. It takes no memory. `O(1)`.
-    pub fn new(alloc: Global) -> Frame
+    pub fn new(alloc: Global) -> LiveFrame
         ensures { result ≡ record { deeds = 0; is_lent = false; places = [] } }
     {
-        Frame {
+        LiveFrame {
             deeds: 0,
             is_lent: false,
             places: BTreeMap::new(alloc),
@@ -51,25 +51,25 @@ impl Frame {
     }
 
     /// Notes where the frame's own chunk of a queue stands. `O(log n)`. Err is want of memory.
-    pub fn put(&mut self, queue: u32, place: Place) -> Result<(), NoMemory>
-        ensures { OnOk result (self.new ≡ with_place queue place self.old) }
+    pub fn put(&mut self, queue: u32, place: OwnChunk) -> Result<(), NoMemory>
+        ensures { OnOk result (self.new ≡ with_own_chunk queue place self.old) }
     {
         self.places.insert(queue, place)?;
         Ok(())
     }
 
     /// Where the frame's own chunk of a queue stands. `O(log n)`.
-    pub fn place(&self, queue: u32) -> Option<Place>
-        ensures { result ≡ place_in self.now.places queue }
+    pub fn place(&self, queue: u32) -> Option<OwnChunk>
+        ensures { result ≡ own_chunk_in self.now.places queue }
     {
         self.places.get(&queue).copied()
     }
 
     /// The places of the frame's own chunks. `O(1)`.
-    pub fn into_places(self) -> BTreeMap<u32, Place>
+    pub fn into_places(self) -> BTreeMap<u32, OwnChunk>
         ensures { result.entries ≡ self.places }
     {
-        let Frame {
+        let LiveFrame {
             deeds: _,
             is_lent: _,
             places,

@@ -1,5 +1,5 @@
 use Rattle.std.proofs.Common.{◌≡◌, ◌++◌, length}
-use Rattle.queue_book.proofs.node.Node.move_to.Given as goal
+use Rattle.queue_book.proofs.node.ChunkNode.move_to.Given as goal
 
 abbrev pub invariant-loop-item : goal.invariant-loop-item
 invariant-loop-item l = l.items ++ l.own.items ≡ l.initial.items ++ l.initial.own.items

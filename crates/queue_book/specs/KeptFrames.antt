@@ -3,19 +3,19 @@ use Rattle.std.specs.Prelude.{ℕ, Bool, Option, List}
 use Rattle.std.specs.Map.{lookup}
 use Rattle.std.specs.BTreeMap.{is_at}
 use Rattle.std.specs.Ordering.{nat_cmp}
-use Rattle.queue_book.specs.declared.frame.Place.{Place}
+use Rattle.queue_book.specs.declared.live_frame.OwnChunk.{OwnChunk}
 
 -- each queue that a frame has, with the place of its own chunk there
-abbrev pub Places : Type 0
-Places = List (ℕ × Place)
+abbrev pub OwnChunks : Type 0
+OwnChunks = List (ℕ × OwnChunk)
 
 -- the place of a queue
-abbrev pub place_in : Places → ℕ → Option Place
-place_in places queue = lookup (is_at (nat_cmp queue)) places
+abbrev pub own_chunk_in : OwnChunks → ℕ → Option OwnChunk
+own_chunk_in places queue = lookup (is_at (nat_cmp queue)) places
 
-pub record Kept : Type 0 where
+pub record KeptFrame : Type 0 where
   -- how many queue deeds it has done
   pub deeds : ℕ
   -- whether its ends are lent
   pub is_lent : Bool
-  pub places : Places
+  pub places : OwnChunks
