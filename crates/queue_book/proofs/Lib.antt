@@ -6,7 +6,6 @@ pub mod Segments
 pub mod ListPlaces
 pub mod Lookups
 pub mod Places
-
 -- the laws: queues that follow a script, and readings that fit
 pub mod Between
 pub mod QueuePoints
@@ -40,7 +39,6 @@ pub mod ReadingMakes
 pub mod ReadingSpawns
 pub mod NextDeeds
 pub mod ReadingsAgree
-
 -- what the frames of a state keep of each other
 pub mod Alike
 pub mod OneChanged
@@ -52,7 +50,6 @@ pub mod TreeCalls
 pub mod TreeKept
 pub mod TreeActed
 pub mod TreeTurns
-
 -- who owns the chunks of a queue
 pub mod Owners
 pub mod ChunkOwners
@@ -60,7 +57,6 @@ pub mod OwnersHanded
 pub mod QueueHolders
 pub mod OwnersSpawned
 pub mod TreeOwners
-
 -- the chunks of a queue match the script
 pub mod MatchSame
 pub mod MatchParts
@@ -74,7 +70,6 @@ pub mod MatchRest
 pub mod MatchMade
 pub mod MatchSpawn
 pub mod Match
-
 -- chunks in chains of nodes
 pub mod ChainKept
 pub mod ChainChanges
@@ -83,7 +78,6 @@ pub mod ChainFronts
 pub mod ChainLoops
 pub mod ChainWalks
 pub mod ChainEnds
-
 -- what is kept of the frames, and their turns
 pub mod LiveKept
 pub mod LivePut
@@ -91,7 +85,6 @@ pub mod OpenOwners
 pub mod TurnsKept
 pub mod TurnsGone
 pub mod TurnsEnlisted
-
 -- each call keeps the whole: first what doesn't depend on how it is kept (`Plain..`), then with frames, chains and turns (`Book..`)
 pub mod PlainSaid
 pub mod PlainDeeds

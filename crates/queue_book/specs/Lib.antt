@@ -4,12 +4,10 @@ pub mod Asks
 pub mod Ends
 pub mod Tells
 pub mod Reads
-
 -- What is said of the plain form: its ends, what contracts see of it, and what makes of a state what a call leaves.
 pub mod NoEnds
 pub mod BookView
 pub mod Calls
-
 -- How the plain form is kept, cited by private contracts alone: the chunks of a queue and whose they are, the frames, and
 -- the whole.
 pub mod Tree
@@ -19,7 +17,6 @@ pub mod KeptFrames
 pub mod Live
 pub mod Turned
 pub mod Whole
-
 -- What its private calls leave.
 pub mod Fronts
 pub mod Made

@@ -1,0 +1,146 @@
+-- Where these conditions hold, a state allows the call.
+use Rattle.std.proofs.Common.{◌≡◌, ℕ, Bool, true, false, ◌&&◌, ◌==◌, not, ltb, Option, Some, None, List, [], ◌∷◌, length, refl, sym, ap, ◌∙◌, arith, is_none, slice_get}
+use Rattle.std.specs.List.{list_any}
+use Rattle.std.proofs.lemmas.Bool.Decides.{nat_tests}
+use Rattle.std.proofs.lemmas.Bool.{and_parts, eqb-true, ltb-true, false≢true}
+use Rattle.swan_model.specs.declared.path.TheConstants.{PATH_MOST}
+use Rattle.swan_model.specs.declared.rights.Mode.{Mode}
+use Rattle.swan_model.specs.declared.rights.Mode.TheVariants.{Pop}
+use Rattle.swan_model.specs.QueueState.{ActiveFrame, IsActiveChild, IsOfRoot, IsUntouched, Maker, MayGive, planned, made_by, QueueRight, QueueState, active, holds_queue}
+use Rattle.swan_model.specs.Rights.{is_queue_mode}
+use Rattle.queue_book.specs.Asks.{CHILDREN_MOST, DEEDS_MOST, HasRoom, QUEUES_MOST, IsRestLeft, MayDo, MayJoin, MayLook, MaySpawn, MayUse}
+use Rattle.queue_book.proofs.Elements.{any_from, found_is}
+use Rattle.queue_tests.specs.Allowed.{acts, has_room, has_space, is_rest_left, is_of, is_of_root, is_untouched, may_give, may_join, may_make, may_spawn, may_use}
+
+record Acts (found : Option ActiveFrame) (test : ActiveFrame → Bool) : Type 0 where
+  frame : ActiveFrame
+  live : found ≡ Some frame
+  back : frame.lent ≡ None
+  holds : test frame ≡ true
+
+left_of : (a b : Bool) → (a && b) ≡ true → a ≡ true
+left_of a b e = (and_parts a b e).0
+
+right_of : (a b : Bool) → (a && b) ≡ true → b ≡ true
+right_of a b e = (and_parts a b e).1
+
+not_of : (a : Bool) → not a ≡ true → a ≡ false
+not_of true e = absurd (false≢true e)
+not_of false e = refl
+
+none_of : {A : Type 0} (a : Option A) → is_none a ≡ true → a ≡ None
+none_of None e = refl
+none_of (Some a) e = absurd (false≢true e)
+
+acting : (found : Option ActiveFrame) (test : ActiveFrame → Bool) → acts found test ≡ true → Acts found test
+acting None test e = absurd (false≢true e)
+acting (Some frame) test e = record {
+  frame = frame;
+  live = refl;
+  back = none_of frame.lent (left_of (is_none frame.lent) (test frame) e);
+  holds = right_of (is_none frame.lent) (test frame) e;
+}
+
+pub made_by_test : (state : QueueState) (number : ℕ) → may_make state number ≡ true → MayDo state number
+made_by_test state number e =
+    let is = acting (active state number) has_room e in
+    record { frame = is.frame; may = record { live = is.live; back = is.back }; room = ltb-true is.frame.deeds DEEDS_MOST is.holds }
+
+pub lent_by_test : (state : QueueState) (number : ℕ) → may_make state number ≡ true
+    → (frame : ActiveFrame) × (active state number ≡ Some frame) × (frame.lent ≡ None)
+lent_by_test state number e =
+    let is = acting (active state number) has_room e in
+    (is.frame, is.live, is.back)
+
+pub room_by_test : (state : QueueState) → has_space state ≡ true → HasRoom state
+room_by_test state e = ltb-true (length state.makers) QUEUES_MOST e
+
+pub used_by_test : (state : QueueState) (number queue : ℕ) (mode : Mode) → may_use state number queue mode ≡ true → MayUse state number queue mode
+used_by_test state number queue mode e =
+    let is = acting (active state number) (λ frame. has_room frame && holds_queue frame queue mode) e in
+    record {
+      act = record { frame = is.frame; may = record { live = is.live; back = is.back }; room = ltb-true is.frame.deeds DEEDS_MOST (left_of (has_room is.frame) (holds_queue is.frame queue mode) is.holds) };
+      held = right_of (has_room is.frame) (holds_queue is.frame queue mode) is.holds;
+    }
+
+pub looked_by_test : (state : QueueState) (number queue : ℕ) → may_use state number queue Pop ≡ true → MayLook state number queue
+looked_by_test state number queue e =
+    let is = used_by_test state number queue Pop e in
+    record { frame = is.act.frame; may = is.act.may; held = is.held }
+
+given_by_test : (frame : ActiveFrame) (gives : List QueueRight) → may_give frame gives ≡ true → MayGive frame gives
+given_by_test frame [] e = tt
+given_by_test frame (give ∷ gives) e =
+    let held = holds_queue frame give.queue give.mode in
+    let of_queues = is_queue_mode give.mode in
+    let again = list_any (λ (other : QueueRight). other.queue == give.queue) gives in
+    let more = right_of held (of_queues && (not again && may_give frame gives)) e in
+    let most = right_of of_queues (not again && may_give frame gives) more in (
+      left_of held (of_queues && (not again && may_give frame gives)) e,
+      left_of of_queues (not again && may_give frame gives) more,
+      not_of again (left_of (not again) (may_give frame gives) most),
+      given_by_test frame gives (right_of (not again) (may_give frame gives) most),
+    )
+
+pub spawned_by_test : (state : QueueState) (parent child : ℕ) (gives : List QueueRight) → may_spawn state parent child gives ≡ true → MaySpawn state parent child gives
+spawned_by_test state parent child gives e =
+    let is = acting (active state parent) (λ frame. has_room frame && (ltb state.latest child
+    && (may_give frame gives && (ltb (length frame.path) PATH_MOST && ltb frame.children CHILDREN_MOST)))) e in
+    let newest = ltb state.latest child in
+    let given = may_give is.frame gives in
+    let depth = ltb (length is.frame.path) PATH_MOST in
+    let few = ltb is.frame.children CHILDREN_MOST in
+    let more = right_of (has_room is.frame) (newest && (given && (depth && few))) is.holds in
+    let most = right_of newest (given && (depth && few)) more in
+    let last = right_of given (depth && few) most in
+    record {
+      act = record { frame = is.frame; may = record { live = is.live; back = is.back }; room = ltb-true is.frame.deeds DEEDS_MOST (left_of (has_room is.frame) (newest && (given && (depth && few))) is.holds) };
+      newest = ltb-true state.latest child (left_of newest (given && (depth && few)) more);
+      lawful = given_by_test is.frame gives (left_of given (depth && few) most);
+      depth = ltb-true (length is.frame.path) PATH_MOST (left_of depth few last);
+      few = ltb-true is.frame.children CHILDREN_MOST (right_of depth few last);
+    }
+
+child_stands : (state : QueueState) (number child : ℕ) → IsActiveChild state number child
+    → list_any (λ (other : ActiveFrame). is_of number other.parent) state.frames ≡ true
+child_stands state number child is =
+    let found = found_is (λ (f : ActiveFrame). f.number == child) state.frames is.frame is.live in
+    any_from (λ (other : ActiveFrame). is_of number other.parent) state.frames found.index is.frame found.stands
+    (ap (is_of number) is.of ∙ same number)
+  where
+    same : (n : ℕ) → (n == n) ≡ true
+    same n = grind (arith, nat_tests)
+
+pub joined_by_test : (state : QueueState) (number : ℕ) → may_join state number ≡ true → MayJoin state number
+joined_by_test state number e =
+    let some = list_any (λ (other : ActiveFrame). is_of number other.parent) state.frames in
+    let is = acting (active state number) (λ frame. not some) e in
+    record {
+      frame = is.frame;
+      may = record { live = is.live; back = is.back };
+      alone = λ child of. false≢true (sym (not_of some is.holds) ∙ child_stands state number child of);
+    }
+
+root_by_test : (maker : Option Maker) → is_of_root maker ≡ true → IsOfRoot maker
+root_by_test None e = absurd (false≢true e)
+root_by_test (Some (planned index)) e = tt
+root_by_test (Some (made_by [] deeds)) e = refl
+root_by_test (Some (made_by (step ∷ path) deeds)) e = absurd (false≢true e)
+
+pub left_by_test : (state : QueueState) (queue : ℕ) → is_rest_left state queue ≡ true → IsRestLeft state queue
+left_by_test state queue e =
+    let known = ltb queue (length state.makers) in
+    let of = is_of_root (slice_get state.makers queue) in
+    let over = is_none (active state 0) in
+    let more = right_of known (of && over) e in
+    record {
+      known = ltb-true queue (length state.makers) (left_of known (of && over) e);
+      made = root_by_test (slice_get state.makers queue) (left_of of over more);
+      over = none_of (active state 0) (right_of of over more);
+    }
+
+pub untouched_by_test : (state : QueueState) → is_untouched state ≡ true → IsUntouched state
+untouched_by_test state e =
+    let is = acting (active state 0) (λ root. (root.deeds == 0) && (root.children == 0)) e in
+    let both = and_parts (is.frame.deeds == 0) (is.frame.children == 0) is.holds in
+    record { root = is.frame; live = is.live; deeds = eqb-true is.frame.deeds 0 both.0; children = eqb-true is.frame.children 0 both.1; back = is.back }

@@ -1,0 +1,23 @@
+-- Which frames may lend their ends.
+use Rattle.std.proofs.Common.{◌≡◌, ◌≢◌, ℕ, true, Some, None, List, refl, sym, subst, ◌∙◌}
+use Rattle.swan_model.specs.QueueState.{ActiveFrame, LentEnd, QueueState, active, after_lend, new_state, root_frame}
+use Rattle.queue_book.proofs.ActiveAfter.{others_changed}
+use Rattle.queue_book.proofs.Frames.{active_number}
+use Rattle.queue_tests.specs.Allowed.{may_make}
+use Rattle.queue_tests.proofs.Allowing.{lent_by_test}
+
+-- a frame of this number is active and has its ends
+abbrev pub MayLend : QueueState → ℕ → Type 0
+MayLend state number = (frame : ActiveFrame) × (active state number ≡ Some frame) × (frame.lent ≡ None)
+
+pub root_lends : (state : QueueState) → state ≡ new_state → MayLend state 0
+root_lends state is = subst (λ s. MayLend s 0) (sym is) (root_frame, refl, refl)
+
+-- a frame may lend its ends beside another one whose ends are lent
+pub lent_beside : (state now : QueueState) (one two : ℕ) (frame : ActiveFrame) (ends : List LentEnd) → active state one ≡ Some frame → one ≢ two → may_make state two ≡ true
+    → now ≡ after_lend state frame ends → MayLend now two
+lent_beside state now one two frame ends live apart may is =
+    let found = lent_by_test state two may in
+    let lend : ActiveFrame → ActiveFrame = λ f. record f { lent = Some (record { deeds = frame.deeds; ends = ends }) } in
+    let same = others_changed state frame.number lend (λ f. refl) two (λ own. apart (sym (active_number state one frame live) ∙ sym own)) in
+    subst (λ s. MayLend s two) (sym is) (found.0, same ∙ found.1, found.2)

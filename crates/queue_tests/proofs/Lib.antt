@@ -1,0 +1,3 @@
+pub mod Allowing
+pub mod Lending
+pub mod Pushing

@@ -1,0 +1,187 @@
+// One helper for each call. Where the answer is the wanted one, the state after it is known.
+ghost use Rattle.std.specs.Prelude.{◌≡◌, true, [], ◌∷◌, None, OnOk};
+ghost use Rattle.swan_model.specs.declared.rights.Mode.TheVariants.{Push, Pop};
+ghost use Rattle.swan_model.specs.QueueState.{active, after_create, after_create_root, after_deed, after_finish, after_take_rest};
+ghost use Rattle.queue_book.specs.Calls.{after_spawn_by, with_active};
+ghost use Rattle.queue_book.specs.Tells.{after_test};
+ghost use Rattle.queue_tests.specs.Allowed.{has_space, is_rest_left, is_untouched, may_join, may_make, may_spawn, may_use};
+
+use crate::Wrong;
+use queue_book::{Popped, QueueGive, Queues, Tested, WaitFor};
+use std::alloc::Global;
+use swan_model::{Mode, Value, Values};
+
+/// Makes a root queue with one item, which has to get this number.
+#[tactic(auto, using(crate::proofs::Allowing::untouched_by_test, crate::proofs::Allowing::room_by_test))]
+pub fn create_root<Q: Queues>(
+    queues: &mut Q,
+    alloc: Global,
+    number: u32,
+    item: i64,
+) -> Result<(), Wrong>
+    requires free { Q.name queues.old ≡ None }
+    requires may { is_untouched (Q.state queues.old) ≡ true }
+    requires room { has_space (Q.state queues.old) ≡ true }
+    ensures free { Q.name queues.new ≡ None }
+    ensures after { OnOk result (Q.state queues.new ≡ after_create_root (Q.state queues.old)) }
+{
+    let mut first = Values::new(alloc);
+    if first.push(Value::Int(item)).is_err() {
+        return Err(Wrong::NoMemory);
+    }
+    if queues.create_root(first)? == number {
+        return Ok(());
+    }
+    Err(Wrong::Answer)
+}
+
+/// Makes a queue, which has to get this number.
+#[tactic(auto, using(crate::proofs::Allowing::made_by_test, crate::proofs::Allowing::room_by_test))]
+pub fn create<Q: Queues>(queues: &mut Q, frame: u64, number: u32) -> Result<(), Wrong>
+    requires free { Q.name queues.old ≡ None }
+    requires may { may_make (Q.state queues.old) frame ≡ true }
+    requires room { has_space (Q.state queues.old) ≡ true }
+    ensures free { Q.name queues.new ≡ None }
+    ensures after { OnOk result (Q.state queues.new ≡ with_active (after_create (Q.state queues.old)) (Q.state queues.old) (active (Q.state queues.old) frame)) }
+{
+    if queues.create(frame)? == number {
+        return Ok(());
+    }
+    Err(Wrong::Answer)
+}
+
+/// Makes a child that is given one queue.
+pub fn spawn<Q: Queues>(
+    queues: &mut Q,
+    parent: u64,
+    child: u64,
+    queue: u32,
+    mode: Mode,
+) -> Result<(), Wrong>
+    requires free { Q.name queues.old ≡ None }
+    requires may { may_spawn (Q.state queues.old) parent child ((record { queue = queue; mode = mode }) ∷ []) ≡ true }
+    ensures free { Q.name queues.new ≡ None }
+    ensures after { OnOk result (Q.state queues.new ≡ after_spawn_by (Q.state queues.old) parent child ((record { queue = queue; mode = mode }) ∷ [])) }
+{
+    queues.spawn(parent, child, &[QueueGive { queue, mode }])?;
+    Ok(())
+}
+
+/// Pushes a number.
+pub fn push<Q: Queues>(queues: &mut Q, frame: u64, queue: u32, item: i64) -> Result<(), Wrong>
+    requires free { Q.name queues.old ≡ None }
+    requires may { may_use (Q.state queues.old) frame queue Push ≡ true }
+    ensures free { Q.name queues.new ≡ None }
+    ensures after { OnOk result (Q.state queues.new ≡ after_deed (Q.state queues.old) frame) }
+{
+    queues.push(frame, queue, Value::Int(item))?;
+    Ok(())
+}
+
+/// Pops an item, which has to be this number.
+pub fn pop<Q: Queues>(queues: &mut Q, frame: u64, queue: u32, item: i64) -> Result<(), Wrong>
+    requires free { Q.name queues.old ≡ None }
+    requires may { may_use (Q.state queues.old) frame queue Pop ≡ true }
+    ensures free { Q.name queues.new ≡ None }
+    ensures after { OnOk result (Q.state queues.new ≡ after_deed (Q.state queues.old) frame) }
+{
+    match queues.pop(frame, queue) {
+        Popped::Item(Value::Int(number)) if number == item => Ok(()),
+        _ => Err(Wrong::Answer),
+    }
+}
+
+/// Pops, which has to find that none is left.
+pub fn pop_none<Q: Queues>(queues: &mut Q, frame: u64, queue: u32) -> Result<(), Wrong>
+    requires free { Q.name queues.old ≡ None }
+    requires may { may_use (Q.state queues.old) frame queue Pop ≡ true }
+    ensures free { Q.name queues.new ≡ None }
+    ensures after { OnOk result (Q.state queues.new ≡ after_deed (Q.state queues.old) frame) }
+{
+    match queues.pop(frame, queue) {
+        Popped::Empty => Ok(()),
+        _ => Err(Wrong::Answer),
+    }
+}
+
+/// Pops, which has to wait for this.
+pub fn pop_wait<Q: Queues>(
+    queues: &mut Q,
+    frame: u64,
+    queue: u32,
+    cause: WaitFor,
+) -> Result<(), Wrong>
+    requires free { Q.name queues.old ≡ None }
+    requires may { may_use (Q.state queues.old) frame queue Pop ≡ true }
+    ensures free { Q.name queues.new ≡ None }
+    ensures after { OnOk result (Q.state queues.new ≡ Q.state queues.old) }
+{
+    match queues.pop(frame, queue) {
+        Popped::NotYet(wait) if wait == cause => Ok(()),
+        _ => Err(Wrong::Answer),
+    }
+}
+
+/// Tests a queue, with this answer.
+pub fn test<Q: Queues>(queues: &mut Q, frame: u64, queue: u32, answer: Tested) -> Result<(), Wrong>
+    requires free { Q.name queues.old ≡ None }
+    requires may { may_use (Q.state queues.old) frame queue Pop ≡ true }
+    ensures free { Q.name queues.new ≡ None }
+    ensures after { OnOk result (Q.state queues.new ≡ after_test (Q.state queues.old) frame answer) }
+{
+    if queues.test(frame, queue) == answer {
+        return Ok(());
+    }
+    Err(Wrong::Answer)
+}
+
+/// Looks at a queue, with this answer.
+#[tactic(auto, using(crate::proofs::Allowing::looked_by_test))]
+pub fn look<Q: Queues>(queues: &mut Q, frame: u64, queue: u32, answer: Tested) -> Result<(), Wrong>
+    requires free { Q.name queues.old ≡ None }
+    requires may { may_use (Q.state queues.old) frame queue Pop ≡ true }
+    ensures free { Q.name queues.new ≡ None }
+    ensures after { OnOk result (Q.state queues.new ≡ Q.state queues.old) }
+{
+    if queues.look(frame, queue) == answer {
+        return Ok(());
+    }
+    Err(Wrong::Answer)
+}
+
+/// Syncs and ends a frame.
+#[tactic(auto, using(crate::proofs::Allowing::joined_by_test))]
+pub fn finish<Q: Queues>(queues: &mut Q, frame: u64)
+    requires free { Q.name queues.old ≡ None }
+    requires may { may_join (Q.state queues.old) frame ≡ true }
+    ensures free { Q.name queues.new ≡ None }
+    ensures after { Q.state queues.new ≡ after_finish (Q.state queues.old) frame }
+{
+    queues.sync(frame);
+    queues.finish(frame);
+}
+
+/// Whether a list is these numbers.
+fn are(list: &Values, items: &[i64]) -> bool {
+    for index in 0..items.len() {
+        match list.get(index) {
+            Some(Value::Int(number)) if *number == items[index] => {}
+            _ => return false,
+        }
+    }
+    list.len() == items.len()
+}
+
+/// Takes the rest of a queue, which has to be these numbers.
+#[tactic(auto, using(crate::proofs::Allowing::left_by_test))]
+pub fn take_rest<Q: Queues>(queues: &mut Q, queue: u32, items: &[i64]) -> Result<(), Wrong>
+    requires free { Q.name queues.old ≡ None }
+    requires may { is_rest_left (Q.state queues.old) queue ≡ true }
+    ensures free { Q.name queues.new ≡ None }
+    ensures after { OnOk result (Q.state queues.new ≡ after_take_rest (Q.state queues.old) queue) }
+{
+    if are(&queues.take_rest(queue)?, items) {
+        return Ok(());
+    }
+    Err(Wrong::Answer)
+}

@@ -1,0 +1,60 @@
+// Ends that are lent come back to their frame alone.
+ghost use Rattle.std.specs.Prelude.{◌≡◌, ◌≢◌, true, None, IfOk};
+ghost use Rattle.swan_model.specs.QueueState.{new_state};
+ghost use Rattle.queue_tests.specs.Allowed.{may_make};
+ghost use Rattle.queue_tests.specs.Steps.{after_steps, allows_steps};
+
+use crate::{Step, run};
+use queue_book::Queues;
+use std::alloc::Global;
+use std::test::Fail;
+
+/// Makes the calls of a table, and lends two frames their ends: each has to get its own back, and the other's not.
+#[tactic(auto, using(crate::proofs::Allowing::lent_by_test))]
+pub fn lend_two<Q: Queues>(
+    queues: &mut Q,
+    alloc: Global,
+    steps: &[Step],
+    one: u64,
+    two: u64,
+) -> Result<(), Fail>
+    requires free { Q.name queues.old ≡ None }
+    requires new { Q.state queues.old ≡ new_state }
+    requires may { allows_steps new_state steps.now ≡ true }
+    requires one { may_make (after_steps new_state steps.now) one ≡ true }
+    requires two { may_make (after_steps new_state steps.now) two ≡ true }
+    requires apart { one ≢ two }
+{
+    run(queues, alloc, steps)?;
+    let of_one = queues.lend(one);
+    let of_two = queues.lend(two);
+    let of_two = refuse(queues, one, of_two)?;
+    let of_one = refuse(queues, two, of_one)?;
+    accept(queues, one, of_one)?;
+    accept(queues, two, of_two)
+}
+
+/// Gives ends back for a frame, which have to be refused.
+fn refuse<Q: Queues>(queues: &mut Q, frame: u64, ends: Q::Ends) -> Result<Q::Ends, Fail>
+    requires free { Q.name queues.old ≡ None }
+    requires own { (Q.Ends.name ends ≡ Q.name queues.old) × (Q.Ends.run ends ≡ Q.run queues.old) }
+    ensures same { (Q.name queues.new ≡ Q.name queues.old) × (Q.run queues.new ≡ Q.run queues.old) }
+    ensures back { IfOk result (λ back. back ≡ ends) }
+{
+    match queues.back(frame, ends) {
+        Ok(()) => Err("another frame's ends were taken".into()),
+        Err(ends) => Ok(ends),
+    }
+}
+
+/// Gives a frame its own ends back.
+fn accept<Q: Queues>(queues: &mut Q, frame: u64, ends: Q::Ends) -> Result<(), Fail>
+    requires free { Q.name queues.old ≡ None }
+    requires own { (Q.Ends.name ends ≡ Q.name queues.old) × (Q.Ends.run ends ≡ Q.run queues.old) }
+    ensures same { (Q.name queues.new ≡ Q.name queues.old) × (Q.run queues.new ≡ Q.run queues.old) }
+{
+    match queues.back(frame, ends) {
+        Ok(()) => Ok(()),
+        Err(_ends) => Err("the frame's own ends were refused".into()),
+    }
+}

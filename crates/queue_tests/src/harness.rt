@@ -1,0 +1,51 @@
+// Tables are run.
+ghost use Rattle.std.specs.Prelude.{◌≡◌, true, None, OnOk};
+ghost use Rattle.swan_model.specs.QueueState.{new_state};
+ghost use Rattle.queue_tests.specs.Steps.{after_step, after_steps, allows_step, allows_steps};
+
+use crate::{Step, Wrong, WrongStep, calls};
+use queue_book::Queues;
+use std::alloc::Global;
+
+/// Makes one call, which has to give its answer.
+fn make<Q: Queues>(queues: &mut Q, alloc: Global, step: Step) -> Result<(), Wrong>
+    requires free { Q.name queues.old ≡ None }
+    requires may { allows_step (Q.state queues.old) step ≡ true }
+    ensures free { Q.name queues.new ≡ None }
+    ensures after { OnOk result (Q.state queues.new ≡ after_step (Q.state queues.old) step.entry) }
+{
+    match step {
+        Step::CreateRoot(number, item) => calls::create_root(queues, alloc, number, item),
+        Step::Create(frame, number) => calls::create(queues, frame, number),
+        Step::Spawn(parent, child, queue, mode) => calls::spawn(queues, parent, child, queue, mode),
+        Step::Push(frame, queue, item) => calls::push(queues, frame, queue, item),
+        Step::Pop(frame, queue, item) => calls::pop(queues, frame, queue, item),
+        Step::PopNone(frame, queue) => calls::pop_none(queues, frame, queue),
+        Step::PopWait(frame, queue, cause) => calls::pop_wait(queues, frame, queue, cause),
+        Step::Test(frame, queue, answer) => calls::test(queues, frame, queue, answer),
+        Step::Look(frame, queue, answer) => calls::look(queues, frame, queue, answer),
+        Step::Finish(frame) => {
+            calls::finish(queues, frame);
+            Ok(())
+        }
+        Step::TakeRest(queue, items) => calls::take_rest(queues, queue, items),
+    }
+}
+
+/// Makes the calls of a table on new hyperqueues of the free name. Err is the first one that gives another answer, or
+/// for which there is no memory.
+pub fn run<Q: Queues>(queues: &mut Q, alloc: Global, steps: &[Step]) -> Result<(), WrongStep>
+    requires free { Q.name queues.old ≡ None }
+    requires new { Q.state queues.old ≡ new_state }
+    requires may { allows_steps new_state steps.now ≡ true }
+    ensures free { Q.name queues.new ≡ None }
+    ensures after { OnOk result (Q.state queues.new ≡ after_steps new_state steps.now) }
+{
+    for index in 0..steps.len() {
+        match make(queues, alloc, steps[index]) {
+            Ok(()) => {}
+            Err(wrong) => return Err(WrongStep { step: index, wrong }),
+        }
+    }
+    Ok(())
+}

@@ -1,0 +1,30 @@
+// A call on hyperqueues with its answer.
+use queue_book::{Tested, WaitFor};
+use swan_model::Mode;
+
+/// A call on hyperqueues, with the answer that it has to give. Frames and queues go by their numbers, a frame first.
+#[derive(Clone, Copy)]
+pub enum Step<'a> {
+    /// Makes a root queue with one first item: its number, and the item.
+    CreateRoot(u32, i64),
+    /// Makes a queue, which gets this number.
+    Create(u64, u32),
+    /// Makes this child of a frame, which is given one queue by a mode.
+    Spawn(u64, u64, u32, Mode),
+    /// Pushes a number.
+    Push(u64, u32, i64),
+    /// Pops a number.
+    Pop(u64, u32, i64),
+    /// Pops, and finds that none is left.
+    PopNone(u64, u32),
+    /// Pops, and has to wait.
+    PopWait(u64, u32, WaitFor),
+    /// Tests for emptiness.
+    Test(u64, u32, Tested),
+    /// Looks whether there is an item.
+    Look(u64, u32, Tested),
+    /// Syncs and ends a frame.
+    Finish(u64),
+    /// Takes what is left of a queue: these numbers.
+    TakeRest(u32, &'a [i64]),
+}

@@ -1,0 +1,113 @@
+// The tables on each form of hyperqueues.
+ghost use Rattle.std.specs.Prelude.{◌≡◌, None, true};
+ghost use Rattle.swan_model.specs.QueueState.{new_state};
+ghost use Rattle.queue_tests.specs.Steps.{allows_steps};
+
+use crate::*;
+use queue_book::{BookQueues, Queues, Tested, WaitFor};
+use std::alloc::Global;
+use std::test::Fail;
+use swan_model::{Mode, RunName};
+
+/// Hyperqueues in plain form, of a run with the free name.
+fn book(alloc: Global) -> BookQueues
+    ensures { result ≡ record { name = None; state = new_state } }
+{
+    BookQueues::new(alloc, RunName::free())
+}
+
+#[test]
+fn two_pushers_in_serial_order(rt: HostRuntime) -> Result<(), Fail> {
+    run(&mut book(rt.alloc()), rt.alloc(), TWO_PUSHERS)?;
+    Ok(())
+}
+
+#[test]
+fn first_items_are_popped_while_a_pusher_is_active(rt: HostRuntime) -> Result<(), Fail> {
+    run(&mut book(rt.alloc()), rt.alloc(), FIRST_ITEMS)?;
+    Ok(())
+}
+
+#[test]
+fn items_of_a_grandchild_come_between_those_of_its_parent(rt: HostRuntime) -> Result<(), Fail> {
+    run(&mut book(rt.alloc()), rt.alloc(), GRANDCHILD)?;
+    Ok(())
+}
+
+#[test]
+fn a_pusher_between_two_poppers(rt: HostRuntime) -> Result<(), Fail> {
+    run(&mut book(rt.alloc()), rt.alloc(), PUSHER_BETWEEN_POPPERS)?;
+    Ok(())
+}
+
+#[test]
+fn a_queue_of_a_child_ends_with_it_and_its_number_stays_taken(rt: HostRuntime) -> Result<(), Fail> {
+    run(&mut book(rt.alloc()), rt.alloc(), CHILD_QUEUE_ENDS)?;
+    Ok(())
+}
+
+#[test]
+fn ends_come_back_to_their_frame_alone(rt: HostRuntime) -> Result<(), Fail> {
+    lend_two(&mut book(rt.alloc()), rt.alloc(), TWO_CHILDREN, 1, 2)
+}
+
+#[test]
+fn a_million_items_are_let_go(rt: HostRuntime) -> Result<(), Fail> {
+    let mut queues = book(rt.alloc());
+    push_many(&mut queues, 1_000_000)?;
+    let_go(queues);
+    Ok(())
+}
+
+/// Lets go what may be sent to another thread.
+fn let_go<T: Send + Drop>(_value: T) {}
+
+#[test]
+fn queues_and_ends_may_be_sent(rt: HostRuntime) {
+    let mut queues = book(rt.alloc());
+    let_go(queues.lend(0));
+    let_go(queues);
+}
+
+/// Runs a table in which this call alone has a wrong answer, which has to be found.
+fn finds(alloc: Global, step: usize, steps: &[Step]) -> Result<(), Fail>
+    requires { allows_steps new_state steps.now ≡ true }
+{
+    match run(&mut book(alloc), alloc, steps) {
+        Err(found) if found.step == step && found.wrong == Wrong::Answer => Ok(()),
+        _ => Err("a wrong answer wasn't found".into()),
+    }
+}
+
+#[test]
+fn wrong_numbers_and_items_are_found(rt: HostRuntime) -> Result<(), Fail> {
+    let alloc = rt.alloc();
+    finds(alloc, 0, &[Step::CreateRoot(1, 7)])?;
+    finds(alloc, 0, &[Step::Create(0, 1)])?;
+    finds(alloc, 1, &[Step::CreateRoot(0, 7), Step::Pop(0, 0, 8)])
+}
+
+#[test]
+fn wrong_emptiness_is_found(rt: HostRuntime) -> Result<(), Fail> {
+    let alloc = rt.alloc();
+    let root = Step::CreateRoot(0, 7);
+    finds(alloc, 1, &[root, Step::PopNone(0, 0)])?;
+    finds(alloc, 1, &[root, Step::Test(0, 0, Tested::Empty)])?;
+    finds(alloc, 1, &[root, Step::Look(0, 0, Tested::Empty)])
+}
+
+#[test]
+fn wrong_waits_are_found(rt: HostRuntime) -> Result<(), Fail> {
+    let alloc = rt.alloc();
+    let wait = Step::PopWait(0, 0, WaitFor::Pusher(0));
+    finds(alloc, 1, &[Step::CreateRoot(0, 7), wait])?;
+    let child = Step::Spawn(0, 1, 0, Mode::Push);
+    finds(alloc, 2, &[Step::Create(0, 0), child, wait])
+}
+
+#[test]
+fn wrong_rests_are_found(rt: HostRuntime) -> Result<(), Fail> {
+    let alloc = rt.alloc();
+    let rest = Step::TakeRest(0, &[]);
+    finds(alloc, 2, &[Step::CreateRoot(0, 7), Step::Finish(0), rest])
+}
