@@ -3,7 +3,7 @@ use swan_model::{Kind, Mode};
 
 /// An object at a place of a frame. Versions are named by their keys.
 #[derive(Clone, Copy)]
-pub struct Place {
+pub struct PlacedObject {
     /// Which object it is, by the number of objects that were made before. Contracts speak of it; no code
     /// asks for it.
     pub object: u64,
