@@ -6,7 +6,7 @@ use Rattle.swan_model.specs.declared.rights.Mode.TheVariants.{In, Out}
 use Rattle.swan_model.specs.Rights.{allows}
 use Rattle.swan_model.specs.Versions.{Version, settled, owed, owing as owing_of, Placed, Awaits, placed_at, Holds, MayGet}
 use Rattle.object_versions.specs.declared.node.Node.{Node}
-use Rattle.object_versions.specs.declared.place.Place.{Place}
+use Rattle.object_versions.specs.declared.placed_object.PlacedObject.{PlacedObject}
 use Rattle.object_versions.specs.Store.{Entries, place_at, version_at, object_at, given_of, placed_of, versions_of, uses}
 use Rattle.object_versions.specs.Whole.{IsWhole, MayGive}
 use Rattle.object_versions.specs.Waiting.{AwaitsAt}
@@ -25,20 +25,20 @@ owed_by : (version : Version) (frame : ℕ) → owing_of version ≡ Some frame 
 owed_by (settled value) frame e = absurd (cc)
 owed_by (owed other) frame e = ap owed (some_is other frame e)
 
-given_key : (entries : Entries) (nodes : Slab Node) (frame place owing : ℕ) (has : Place) (o : Option ℕ) → has.given ≡ o → place_at entries frame place ≡ Some has
+given_key : (entries : Entries) (nodes : Slab Node) (frame place owing : ℕ) (has : PlacedObject) (o : Option ℕ) → has.given ≡ o → place_at entries frame place ≡ Some has
     → given_of nodes o ≡ Some owing → AwaitsAt entries nodes frame place owing
 given_key entries nodes frame place owing has None given stands owes = absurd (cc)
 given_key entries nodes frame place owing has (Some key) given stands owes =
     record { has = has; key = key; stands = stands; given = given; owes = owed_by (version_at nodes key) owing owes }
 
 -- nobody owes what a place was given
-abbrev pub NoneOwes : Slab Node → Place → Type 0
+abbrev pub NoneOwes : Slab Node → PlacedObject → Type 0
 NoneOwes nodes has = given_of nodes has.given ≡ None
 
 none_some : (owing : ℕ) → None ≡ Some owing → ⊥
 none_some owing e = cc
 
-pub awaits_here : (entries : Entries) (nodes : Slab Node) (frame place owing : ℕ) (has : Place) → place_at entries frame place ≡ Some has
+pub awaits_here : (entries : Entries) (nodes : Slab Node) (frame place owing : ℕ) (has : PlacedObject) → place_at entries frame place ≡ Some has
     → given_of nodes has.given ≡ Some owing → AwaitsAt entries nodes frame place owing
 awaits_here entries nodes frame place owing has stands owes = given_key entries nodes frame place owing has has.given refl stands owes
 
@@ -105,7 +105,7 @@ map_err (Ok x) P Q f h = tt
 map_err (Err e) P Q f h = f e h
 
 -- what is read of the node of what contracts see
-pub present_by : (entries : Entries) (nodes : Slab Node) (made frame place : ℕ) (has : Place) (version : Version)
+pub present_by : (entries : Entries) (nodes : Slab Node) (made frame place : ℕ) (has : PlacedObject) (version : Version)
     → place_at entries frame place ≡ Some has → version_at nodes has.present ≡ version
     → (object : Placed) → placed_at (versions_of entries nodes made) frame place ≡ Some object → object.present ≡ version
 present_by entries nodes made frame place has version stands reads object seen =
@@ -118,14 +118,14 @@ pub absent : (entries : Entries) (nodes : Slab Node) (made frame place : ℕ) (o
 absent entries nodes made frame place object none seen =
     let kept = kept_of entries nodes made frame place object seen in none_some kept.has (sym none ∙ kept.stands)
   where
-    none_some : (has : Place) → None ≡ Some has → ⊥
+    none_some : (has : PlacedObject) → None ≡ Some has → ⊥
     none_some has e = cc
 
 -- ---- what a parent may give
 
 pub may_give : (entries : Entries) (nodes : Slab Node) (made parent pp child : ℕ) (mode : Mode) → (held : Holds (versions_of entries nodes made) parent pp mode)
     → ((object : Placed) → placed_at (versions_of entries nodes made) parent pp ≡ Some object → MayGet (versions_of entries nodes made) child object.object mode)
-    → (object : Place) × (place_at entries parent pp ≡ Some object) × (allows object.mode mode ≡ true) × MayGive entries child object.object mode
+    → (object : PlacedObject) × (place_at entries parent pp ≡ Some object) × (allows object.mode mode ≡ true) × MayGive entries child object.object mode
 may_give entries nodes made parent pp child mode held alone =
     let kept = kept_of entries nodes made parent pp held.object held.stands in (
       kept.has,

@@ -6,7 +6,7 @@ use Rattle.slab.specs.Slab.{Slab}
 use Rattle.swan_model.specs.declared.value.Value.{Value}
 use Rattle.swan_model.specs.Versions.{Version, settled, owed, owing, Placed, Places, VersionState, settle, settle_placed, still_owing, left_by, stays, after_finish}
 use Rattle.object_versions.specs.declared.node.Node.{Node}
-use Rattle.object_versions.specs.declared.place.Place.{Place}
+use Rattle.object_versions.specs.declared.placed_object.PlacedObject.{PlacedObject}
 use Rattle.object_versions.specs.Store.{Entries, place_at, version_at, object_at, given_of, placed_of, seen, versions_of, uses}
 use Rattle.object_versions.specs.Whole.{IsFit}
 use Rattle.object_versions.specs.Ending.{IsSettling, IsAllPaid, is_other, of_others, IsForgetting}
@@ -73,7 +73,7 @@ module _ (entries : Entries) (start now : Slab Node) (made n : ℕ) (begun : IsS
         ap (λ l. owing (unwrap_or l (owed m))) leaves.1
     by false apart = refl
 
-  placed_settled : (frame place : ℕ) (has : Place) → place_at entries frame place ≡ Some has → placed_of now has ≡ settle_placed state n (placed_of start has)
+  placed_settled : (frame place : ℕ) (has : PlacedObject) → place_at entries frame place ≡ Some has → placed_of now has ≡ settle_placed state n (placed_of start has)
   placed_settled frame place has stands = together (given has.given refl) where
     fit : IsFit start made frame has
     fit = begun.began.fits frame place has stands

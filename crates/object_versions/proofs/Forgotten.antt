@@ -10,7 +10,7 @@ use Rattle.swan_model.specs.declared.rights.Mode.{Mode}
 use Rattle.swan_model.specs.declared.value.Value.{Value}
 use Rattle.swan_model.specs.Versions.{settled, owed, owing, place_cmp, after_access}
 use Rattle.object_versions.specs.declared.node.Node.{Node}
-use Rattle.object_versions.specs.declared.place.Place.{Place}
+use Rattle.object_versions.specs.declared.placed_object.PlacedObject.{PlacedObject}
 use Rattle.object_versions.specs.Store.{Entries, place_at, version_at, given_of, KeepsOwed, placed_of, seen, versions_of, one, one_of, uses_of, released}
 use Rattle.object_versions.specs.Whole.{IsFit, HasOwing, IsWhole}
 use Rattle.object_versions.proofs.Counts.{one_self, one_other, uses_at}
@@ -19,11 +19,11 @@ use Rattle.object_versions.proofs.Steps.{change_in}
 use Rattle.object_versions.proofs.References.{released_whole, released_same}
 use Rattle.object_versions.proofs.Seeing.{seen_set, seen_some, versions_same}
 
-module _ (entries later : Entries) (old new : Slab Node) (made f p key : ℕ) (was : Place) (value : Value) (whole : IsWhole entries old made (λ _. 0))
+module _ (entries later : Entries) (old new : Slab Node) (made f p key : ℕ) (was : PlacedObject) (value : Value) (whole : IsWhole entries old made (λ _. 0))
     (stands : place_at entries f p ≡ Some was) (given : was.given ≡ Some key) (reads : version_at old key ≡ settled value)
     (set : later ≡ set_value (is_at (place_cmp (f, p))) entries (record was { given = None })) (sorted : IsStrictlySortedBy place_cmp (keys_of later))
     (release : (node : Node) → get old key ≡ Some node → Updates old new key (released node)) where
-  abbrev less : Place
+  abbrev less : PlacedObject
   less = record was { given = None }
 
   abbrev after : Entries
@@ -82,7 +82,7 @@ module _ (entries later : Entries) (old new : Slab Node) (made f p key : ℕ) (w
       ∙ seen_after
 
 -- what is left of what was given is owed
-pub left_owed : (E : Type 0) (old new : Slab Node) (was left : Place) → (given_of old was.given ≡ None → left.given ≡ None)
+pub left_owed : (E : Type 0) (old new : Slab Node) (was left : PlacedObject) → (given_of old was.given ≡ None → left.given ≡ None)
     → (KeepsOwed old was.given → (left ≡ was) × E × (new ≡ old)) → KeepsOwed new left.given
 left_owed E old new was left given_up kept = by (given_of old was.given) refl where
   by : (o : Option ℕ) → given_of old was.given ≡ o → KeepsOwed new left.given
@@ -90,7 +90,7 @@ left_owed E old new was left given_up kept = by (given_of old was.given) refl wh
   by (Some frame) is =
       let owes : KeepsOwed old was.given = λ _. is_some (given_of old was.given) frame is in
       let same = kept owes in
-      let P : Place → Type 0 = λ o. KeepsOwed old o.given in
+      let P : PlacedObject → Type 0 = λ o. KeepsOwed old o.given in
       let Q : Slab Node → Type 0 = λ nodes. KeepsOwed nodes left.given in
       subst Q (sym same.2) (subst P (sym same.0) owes)
 

@@ -6,7 +6,7 @@ use Rattle.std.specs.List.Sorted.{IsStrictlySortedBy}
 use Rattle.slab.specs.Slab.{Slab, get, Updates}
 use Rattle.swan_model.specs.Versions.{owed, place_cmp, with_present, with_placed}
 use Rattle.object_versions.specs.declared.node.Node.{Node}
-use Rattle.object_versions.specs.declared.place.Place.{Place}
+use Rattle.object_versions.specs.declared.placed_object.PlacedObject.{PlacedObject}
 use Rattle.object_versions.specs.Store.{Entries, place_at, told_at, version_at, placed_of, seen, versions_of, one, uses_of, uses, released}
 use Rattle.object_versions.specs.Whole.{IsFit, HasOwing, IsWhole, MayGive}
 use Rattle.object_versions.proofs.Commuting.{insert_set}
@@ -17,12 +17,12 @@ use Rattle.object_versions.proofs.References.{released_whole, released_same}
 use Rattle.object_versions.proofs.Seeing.{seen_insert, seen_present, versions_same}
 
 -- what stood at a place stands there once an object came to another
-pub still_stands : (entries with_child : Entries) (parent pp child cp : ℕ) (was gets : Place) → place_at entries parent pp ≡ Some was → place_at entries child cp ≡ None
+pub still_stands : (entries with_child : Entries) (parent pp child cp : ℕ) (was gets : PlacedObject) → place_at entries parent pp ≡ Some was → place_at entries child cp ≡ None
     → with_child ≡ insert_entry place_cmp entries (child, cp) gets → place_at with_child parent pp ≡ Some was
 still_stands entries with_child parent pp child cp was gets stands free put =
     ap (λ es. place_at es parent pp) put ∙ still_inserted entries (child, cp) gets (parent, pp) was free stands
 
-module _ (entries with_child later : Entries) (old middle new : Slab Node) (made parent pp child cp key : ℕ) (was gets : Place)
+module _ (entries with_child later : Entries) (old middle new : Slab Node) (made parent pp child cp key : ℕ) (was gets : PlacedObject)
     (differ : parent ≢ child)
     (whole : IsWhole entries middle made (λ k. one k key + uses_of k gets))
     (same : (k : ℕ) → 0 < uses k entries → told_at middle k ≡ told_at old k)
@@ -84,7 +84,7 @@ module _ (entries with_child later : Entries) (old middle new : Slab Node) (made
   places : map (seen middle) after ≡ insert_entry place_cmp
       (set_value (is_at (place_cmp (parent, pp))) (map (seen old) entries) (record (placed_of old was) { present = owed child })) (child, cp) (placed_of middle gets)
   places =
-      let changed : Place = record was { present = key } in
+      let changed : PlacedObject = record was { present = key } in
       let swapped : after ≡ insert_entry place_cmp (set_value (is_at (place_cmp (parent, pp))) entries changed) (child, cp) gets =
       insert_set (child, cp) (parent, pp) gets changed apart entries in
       let set_seen = seen_present entries old middle same parent pp was stands key (owed child) (ap (λ t. t.1) told) in

@@ -7,7 +7,7 @@ use Rattle.slab.specs.Slab.{Slab}
 use Rattle.swan_model.specs.declared.rights.Mode.{Mode}
 use Rattle.swan_model.specs.Versions.{Placed, VersionState, place_cmp, placed_at, after_access, given_from, got, left_with, with_present}
 use Rattle.object_versions.specs.declared.node.Node.{Node}
-use Rattle.object_versions.specs.declared.place.Place.{Place}
+use Rattle.object_versions.specs.declared.placed_object.PlacedObject.{PlacedObject}
 use Rattle.object_versions.specs.Store.{Entries, place_at, KeepsOwed, placed_of, versions_of}
 use Rattle.object_versions.specs.Whole.{IsWhole}
 use Rattle.object_versions.proofs.Lookups.{at_inserted, at_set, still_set}
@@ -20,7 +20,7 @@ some_is a b e = cc
 
 -- ---- what stands at both places
 
-module _ (entries with_child : Entries) (parent pp child cp : ℕ) (was gets : Place) (stands : place_at entries parent pp ≡ Some was) (free : place_at entries child cp ≡ None)
+module _ (entries with_child : Entries) (parent pp child cp : ℕ) (was gets : PlacedObject) (stands : place_at entries parent pp ≡ Some was) (free : place_at entries child cp ≡ None)
     (put : with_child ≡ insert_entry place_cmp entries (child, cp) gets) where
   there : place_at with_child parent pp ≡ Some was
   there = still_stands entries with_child parent pp child cp was gets stands free put
@@ -28,22 +28,22 @@ module _ (entries with_child : Entries) (parent pp child cp : ℕ) (was gets : P
   came : place_at with_child child cp ≡ Some gets
   came = ap (λ es. place_at es child cp) put ∙ at_inserted entries (child, cp) gets
 
-  pub put_keeps : (has : Place) → place_at with_child parent pp ≡ Some has → has.given ≡ was.given
+  pub put_keeps : (has : PlacedObject) → place_at with_child parent pp ≡ Some has → has.given ≡ was.given
   put_keeps has is = ap (λ o. o.given) (some_is has was (sym is ∙ there))
 
-  pub put_shares : (has : Place) → place_at with_child child cp ≡ Some has → has.present ≡ gets.present
+  pub put_shares : (has : PlacedObject) → place_at with_child child cp ≡ Some has → has.present ≡ gets.present
   put_shares has is = ap (λ o. o.present) (some_is has gets (sym is ∙ came))
 
   module _ (later : Entries) (key : ℕ) (set : later ≡ set_value (is_at (place_cmp (parent, pp))) with_child (record was { present = key })) where
-    pub set_keeps : (has : Place) → place_at later parent pp ≡ Some has → has.given ≡ was.given
+    pub set_keeps : (has : PlacedObject) → place_at later parent pp ≡ Some has → has.given ≡ was.given
     set_keeps has is =
-        let changed : Place = record was { present = key } in
+        let changed : PlacedObject = record was { present = key } in
         let now = ap (λ es. place_at es parent pp) set ∙ at_set with_child (parent, pp) was changed there in
         ap (λ o. o.given) (some_is has changed (sym is ∙ now))
 
-    pub set_shares : parent ≢ child → (has : Place) → place_at later child cp ≡ Some has → has.present ≡ gets.present
+    pub set_shares : parent ≢ child → (has : PlacedObject) → place_at later child cp ≡ Some has → has.present ≡ gets.present
     set_shares differ has is =
-        let changed : Place = record was { present = key } in
+        let changed : PlacedObject = record was { present = key } in
         let now = ap (λ es. place_at es child cp) set
         ∙ still_set with_child (parent, pp) was changed (child, cp) there (λ e. differ (sym (ap (λ (n : ℕ × ℕ). n.0) e))) ∙ came in
         ap (λ o. o.present) (some_is has gets (sym is ∙ now))
@@ -67,11 +67,11 @@ both_ok : {T E : Type 0} (r : Result T E) (P Q R : Type 0) → (P → Q → R) �
 both_ok (Ok x) P Q R f p q = f p q
 both_ok (Err e) P Q R f p q = tt
 
-module _ {T E : Type 0} (r : Result T E) (a b c : Entries) (old own new : Slab Node) (parent pp child cp : ℕ) (mode : Mode) (left : Place) (differ : parent ≢ child)
+module _ {T E : Type 0} (r : Result T E) (a b c : Entries) (old own new : Slab Node) (parent pp child cp : ℕ) (mode : Mode) (left : PlacedObject) (differ : parent ≢ child)
     (whole : (made : ℕ) → IsWhole a old made (λ _. 0) → IsWhole b own made (λ _. 0)) (stands : place_at b parent pp ≡ Some left) (owed : KeepsOwed own left.given)
     (given : OnOk r ((made : ℕ) → IsWhole b own made (λ _. 0) → versions_of c new made ≡ after_access (versions_of b own made) parent pp child cp mode))
-    (keeps : OnOk r ((has : Place) → place_at c parent pp ≡ Some has → has.given ≡ left.given)) where
-  pub then_given_up : OnOk r ((made : ℕ) → IsWhole a old made (λ _. 0) → (has : Place) → place_at c parent pp ≡ Some has → KeepsOwed new has.given)
+    (keeps : OnOk r ((has : PlacedObject) → place_at c parent pp ≡ Some has → has.given ≡ left.given)) where
+  pub then_given_up : OnOk r ((made : ℕ) → IsWhole a old made (λ _. 0) → (has : PlacedObject) → place_at c parent pp ≡ Some has → KeepsOwed new has.given)
   then_given_up = both_ok r _ _ _
       (λ seen same made begun has is some.
       let P : Option ℕ → Type 0 = λ o. IsSome o in

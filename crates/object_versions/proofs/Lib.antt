@@ -9,6 +9,7 @@ pub mod Awaited
 pub mod Lookups
 pub mod Commuting
 pub mod Counts
+pub mod Referred
 pub mod Steps
 pub mod References
 pub mod Seeing
@@ -35,8 +36,6 @@ pub mod FinishFollows
 pub mod SpawnGives
 pub mod CallsFollow
 pub mod EndedChildren
-pub mod Tried
-pub mod Chained
 pub mod GivingPlaces
 pub mod GivingKept
 pub mod GivingAccess

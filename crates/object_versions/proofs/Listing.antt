@@ -14,14 +14,14 @@ use Rattle.swan_model.specs.declared.value.Value.{Value}
 use Rattle.swan_model.specs.Rights.{allows}
 use Rattle.swan_model.specs.Versions.{Version, settled, Placed, place_cmp, may_write, left_by}
 use Rattle.object_versions.specs.declared.node.Node.{Node}
-use Rattle.object_versions.specs.declared.place.Place.{Place}
+use Rattle.object_versions.specs.declared.placed_object.PlacedObject.{PlacedObject}
 use Rattle.object_versions.specs.Store.{Entries, place_at, version_at, seen, versions_of}
 use Rattle.object_versions.specs.Whole.{IsWhole}
 use Rattle.object_versions.proofs.Lookups.{place_total, equal_at}
 
 -- what stands at an index is what stands at its place
 pub place_of : (entries : Entries) (nodes : Slab Node) (made : ℕ) (held : ℕ → ℕ) → IsWhole entries nodes made held
-    → (i : ℕ) (e : (ℕ × ℕ) × Place) → slice_get entries i ≡ Some e → place_at entries e.0.0 e.0.1 ≡ Some e.1
+    → (i : ℕ) (e : (ℕ × ℕ) × PlacedObject) → slice_get entries i ≡ Some e → place_at entries e.0.0 e.0.1 ≡ Some e.1
 place_of entries nodes made held whole i e is =
     lookup_from_place (eq_by_cmp_equiv place_total) entries i e.0 e.1 (IsDistinct-from_sorted place_cmp (keys_of entries) whole.sorted) is
 
@@ -64,7 +64,7 @@ pub equal_to : (a b : ℕ) → a ≡ b → (a == b) ≡ true
 equal_to a b e = grind (arith, nat_tests)
 
 -- what a frame leaves of an object is what it has where it may write it
-pub left_of : (entries : Entries) (nodes : Slab Node) (made : ℕ) (held : ℕ → ℕ) (n q : ℕ) (has : Place) (value : Value) → IsWhole entries nodes made held
+pub left_of : (entries : Entries) (nodes : Slab Node) (made : ℕ) (held : ℕ → ℕ) (n q : ℕ) (has : PlacedObject) (value : Value) → IsWhole entries nodes made held
     → place_at entries n q ≡ Some has → allows has.mode Out ≡ true → version_at nodes has.present ≡ settled value
     → left_by (versions_of entries nodes made) n has.object ≡ Some (settled value)
 left_of entries nodes made held n q has value whole stands may is =
@@ -81,7 +81,7 @@ left_of entries nodes made held n q has value whole stands may is =
         let whole_test : ((n == n) && ((has.object == has.object) && allows has.mode Out)) ≡ true = both _ _ first (both _ _ second may) in
         ap (λ (k : ℕ × ℕ). may_write n has.object (seen nodes (k, has))) (sym key) ∙ whole_test
 
-    all : (i : ℕ) (e : (ℕ × ℕ) × Place) → slice_get entries i ≡ Some e → may_write n has.object (seen nodes e) ≡ true → version_at nodes e.1.present ≡ settled value
+    all : (i : ℕ) (e : (ℕ × ℕ) × PlacedObject) → slice_get entries i ≡ Some e → may_write n has.object (seen nodes e) ≡ true → version_at nodes e.1.present ≡ settled value
     all i e there pass =
         let owner = equal_by e.0.0 n (and_first (e.0.0 == n) ((e.1.object == has.object) && allows e.1.mode Out) pass) in
         let rest = and_second (e.0.0 == n) ((e.1.object == has.object) && allows e.1.mode Out) pass in

@@ -12,7 +12,7 @@ use Rattle.swan_model.specs.Values.{kind_of}
 use Rattle.swan_model.specs.Versions.{settled, owed, place_cmp, after_create}
 use Rattle.object_versions.specs.declared.node.Node.{Node}
 use Rattle.object_versions.specs.declared.node.State.TheVariants.{Settled}
-use Rattle.object_versions.specs.declared.place.Place.{Place}
+use Rattle.object_versions.specs.declared.placed_object.PlacedObject.{PlacedObject}
 use Rattle.object_versions.specs.Store.{Entries, place_at, told_at, version_at, placed_of, seen, versions_of, one, uses_of}
 use Rattle.object_versions.specs.Whole.{IsFit, HasOwing, IsWhole}
 use Rattle.object_versions.proofs.Counts.{one_self, one_other, told_here}
@@ -26,7 +26,7 @@ module _ (entries : Entries) (old new : Slab Node) (made f p key : ℕ) (kind : 
   abbrev node : Node
   node = record { object = made; state = Settled first; uses = 1 }
 
-  abbrev pub created : Place
+  abbrev pub created : PlacedObject
   created = record { object = made; kind = kind; mode = InOut; given = None; present = key; owes = None }
 
   abbrev after : Entries

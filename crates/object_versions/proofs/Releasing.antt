@@ -1,5 +1,5 @@
 -- A place's references are released, and a frame's places are forgotten.
-use Rattle.std.proofs.Common.{◌≡◌, ◌≢◌, ℕ, ◌+◌, ◌<◌, ◌≤◌, Bool, true, false, cond, not, ◌==◌, Option, None, Some, [], ◌∷◌, refl, sym, ap, ◌∙◌, subst, arith}
+use Rattle.std.proofs.Common.{◌≡◌, ◌≢◌, ℕ, ◌+◌, ◌<◌, ◌≤◌, Bool, true, false, cond, not, ◌==◌, Option, None, Some, IsSome, [], ◌∷◌, refl, sym, ap, ◌∙◌, subst, arith}
 use Rattle.std.proofs.lemmas.Bool.Decides.{nat_tests}
 use Rattle.std.specs.BTreeMap.{is_at}
 use Rattle.std.specs.Map.{remove_entry, keys_of}
@@ -7,7 +7,7 @@ use Rattle.std.specs.List.Sorted.{IsStrictlySortedBy}
 use Rattle.slab.specs.Slab.{Slab, get, Updates}
 use Rattle.swan_model.specs.Versions.{place_cmp}
 use Rattle.object_versions.specs.declared.node.Node.{Node}
-use Rattle.object_versions.specs.declared.place.Place.{Place}
+use Rattle.object_versions.specs.declared.placed_object.PlacedObject.{PlacedObject}
 use Rattle.object_versions.specs.Store.{Entries, place_at, one, one_of, uses_of, uses, released}
 use Rattle.object_versions.specs.Whole.{IsWhole}
 use Rattle.object_versions.specs.Ending.{IsReleased, is_other, of_others, IsForgetting}
@@ -16,6 +16,7 @@ use Rattle.object_versions.proofs.Lookups.{equal_at, tied}
 use Rattle.object_versions.proofs.Listing.{equal_to}
 use Rattle.object_versions.proofs.Steps.{go_out}
 use Rattle.object_versions.proofs.References.{released_whole, released_same}
+use Rattle.object_versions.proofs.Referred.{referred_there}
 
 module _ (entries : Entries) (old new : Slab Node) (made : ℕ) (held later : ℕ → ℕ) (key : ℕ) (change : (node : Node) → get old key ≡ Some node → Updates old new key (released node))
     (whole : IsWhole entries old made held) (split : (k : ℕ) → held k ≡ later k + one k key) where
@@ -40,15 +41,45 @@ pub released_at : (entries : Entries) (old new : Slab Node) (made : ℕ) (held l
 released_at entries old new made held later o key is change whole split =
     released_one entries old new made held later key change whole (λ k. split k ∙ ap (λ p. later k + one_of k p) is)
 
--- three in a row: the place's present version, the given one and the owed one
-pub released_all : (entries : Entries) (a b c d : Slab Node) (made : ℕ) (has : Place)
+pub first_there : (entries : Entries) (nodes : Slab Node) (made : ℕ) (has : PlacedObject) → IsWhole entries nodes made (λ k. uses_of k has)
+    → (key : ℕ) → Some has.present ≡ Some key → IsSome (get nodes key)
+first_there entries nodes made has whole key is =
+    let here : one_of key (Some has.present) ≡ one key key = ap (one_of key) is in
+    let self = one_self key in
+    referred_there entries nodes made (λ k. uses_of k has) key whole (omega (arith, self, here))
+
+pub second_there : (entries : Entries) (a b : Slab Node) (made : ℕ) (has : PlacedObject)
+    → ((held later : ℕ → ℕ) → IsWhole entries a made held → ((k : ℕ) → held k ≡ later k + one k has.present) → IsReleased entries a b made later)
+    → IsWhole entries a made (λ k. uses_of k has) → (key : ℕ) → has.given ≡ Some key → IsSome (get b key)
+second_there entries a b made has present whole key is =
+    let first = present (λ k. uses_of k has) (λ k. one_of k has.given + one_of k has.owes) whole (λ k. omega arith) in
+    let self = one_self key in let here : one_of key has.given ≡ one key key = ap (one_of key) is in
+    referred_there entries b made (λ k. one_of k has.given + one_of k has.owes) key first.whole (omega (arith, self, here))
+
+-- Three in a row: the place's present version, the given one and the owed one. Each is there when it is released.
+module _ (entries : Entries) (a b c : Slab Node) (made : ℕ) (has : PlacedObject)
+    (present : (held later : ℕ → ℕ) → IsWhole entries a made held → ((k : ℕ) → held k ≡ later k + one k has.present) → IsReleased entries a b made later)
+    (given : (held later : ℕ → ℕ) → IsWhole entries b made held → ((k : ℕ) → held k ≡ later k + one_of k has.given) → IsReleased entries b c made later)
+    (whole : IsWhole entries a made (λ k. uses_of k has)) where
+  released_first : IsReleased entries a b made (λ k. one_of k has.given + one_of k has.owes)
+  released_first = present (λ k. uses_of k has) (λ k. one_of k has.given + one_of k has.owes) whole (λ k. omega arith)
+
+  released_second : IsReleased entries b c made (λ k. one_of k has.owes)
+  released_second = given (λ k. one_of k has.given + one_of k has.owes) (λ k. one_of k has.owes) released_first.whole (λ k. omega arith)
+
+  pub third_there : (key : ℕ) → has.owes ≡ Some key → IsSome (get c key)
+  third_there key is =
+      let self = one_self key in let here : one_of key has.owes ≡ one key key = ap (one_of key) is in
+      referred_there entries c made (λ k. one_of k has.owes) key released_second.whole (omega (arith, self, here))
+
+pub released_all : (entries : Entries) (a b c d : Slab Node) (made : ℕ) (has : PlacedObject)
     → ((held later : ℕ → ℕ) → IsWhole entries a made held → ((k : ℕ) → held k ≡ later k + one k has.present) → IsReleased entries a b made later)
     → ((held later : ℕ → ℕ) → IsWhole entries b made held → ((k : ℕ) → held k ≡ later k + one_of k has.given) → IsReleased entries b c made later)
     → ((held later : ℕ → ℕ) → IsWhole entries c made held → ((k : ℕ) → held k ≡ later k + one_of k has.owes) → IsReleased entries c d made later)
     → IsWhole entries a made (λ k. uses_of k has) → IsReleased entries a d made (λ _. 0)
 released_all entries a b c d made has present given owes whole =
-    let first = present (λ k. uses_of k has) (λ k. one_of k has.given + one_of k has.owes) whole (λ k. omega arith) in
-    let second = given (λ k. one_of k has.given + one_of k has.owes) (λ k. one_of k has.owes) first.whole (λ k. omega arith) in
+    let first = released_first entries a b c made has present given whole in
+    let second = released_second entries a b c made has present given whole in
     let third = owes (λ k. one_of k has.owes) (λ _. 0) second.whole (λ k. omega arith) in
     record {
       whole = third.whole;
@@ -97,15 +128,22 @@ all_others frame (e ∷ es) none = by (e.0.0 == frame) refl (all_others frame es
 
 -- ---- one place more is forgotten
 
-pub forgot_one : (before now later : Entries) (old new next : Slab Node) (made frame at : ℕ) (has : Place) → IsForgetting before now old new made frame
+-- its versions are still referred to until they are released
+pub taken_out : (before now later : Entries) (old new : Slab Node) (made frame at : ℕ) (has : PlacedObject) → IsForgetting before now old new made frame
+    → place_at now frame at ≡ Some has → later ≡ remove_entry (is_at (place_cmp (frame, at))) now → IsStrictlySortedBy place_cmp (keys_of later)
+    → IsWhole later new made (λ k. uses_of k has)
+taken_out before now later old new made frame at has forgetting stands without sorted =
+    let Q : Entries → Type 0 = λ es. IsStrictlySortedBy place_cmp (keys_of es) in
+    let W : Entries → Type 0 = λ es. IsWhole es new made (λ k. uses_of k has) in
+    subst W (sym without)
+    (go_out now new made (λ _. 0) (λ k. uses_of k has) frame at has forgetting.whole stands forgetting.owes_none (λ k. omega arith) (subst Q without sorted))
+
+pub forgot_one : (before now later : Entries) (old new next : Slab Node) (made frame at : ℕ) (has : PlacedObject) → IsForgetting before now old new made frame
     → place_at now frame at ≡ Some has → later ≡ remove_entry (is_at (place_cmp (frame, at))) now → IsStrictlySortedBy place_cmp (keys_of later)
     → (IsWhole later new made (λ k. uses_of k has) → IsReleased later new next made (λ _. 0)) → IsForgetting before later old next made frame
 forgot_one before now later old new next made frame at has forgetting stands without sorted release =
     let left : Entries = remove_entry (is_at (place_cmp (frame, at))) now in
-    let Q : Entries → Type 0 = λ es. IsStrictlySortedBy place_cmp (keys_of es) in
-    let W : Entries → Type 0 = λ es. IsWhole es new made (λ k. uses_of k has) in
-    let out = go_out now new made (λ _. 0) (λ k. uses_of k has) frame at has forgetting.whole stands forgetting.owes_none (λ k. omega arith) (subst Q without sorted) in
-    let done = release (subst W (sym without) out) in
+    let done = release (taken_out before now later old new made frame at has forgetting stands without sorted) in
     let fewer : (k : ℕ) → uses k later ≤ uses k now = λ k.
     let sums = uses_without now k frame at has stands in
     let same : uses k later ≡ uses k left = ap (uses k) without in omega (arith, sums, same) in

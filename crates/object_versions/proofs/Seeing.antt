@@ -8,7 +8,7 @@ use Rattle.std.specs.Option.{option_map}
 use Rattle.slab.specs.Slab.{Slab}
 use Rattle.swan_model.specs.Versions.{Version, owing, Placed, place_cmp, placed_at}
 use Rattle.object_versions.specs.declared.node.Node.{Node}
-use Rattle.object_versions.specs.declared.place.Place.{Place}
+use Rattle.object_versions.specs.declared.placed_object.PlacedObject.{PlacedObject}
 use Rattle.object_versions.specs.Store.{Entries, place_at, told_at, version_at, given_of, placed_of, seen, versions_of, uses_of, uses}
 use Rattle.object_versions.proofs.Commuting.{each_insert, each_set}
 use Rattle.object_versions.proofs.Counts.{uses_at, present_used, given_used}
@@ -17,7 +17,7 @@ same_version : (a b : ℕ × Version) → a ≡ b → a.1 ≡ b.1
 same_version a b e = ap (λ t. t.1) e
 
 -- who sees the same of each of its keys is seen as before
-pub placed_same : (old new : Slab Node) (has : Place) → ((k : ℕ) → 0 < uses_of k has → told_at new k ≡ told_at old k) → placed_of new has ≡ placed_of old has
+pub placed_same : (old new : Slab Node) (has : PlacedObject) → ((k : ℕ) → 0 < uses_of k has → told_at new k ≡ told_at old k) → placed_of new has ≡ placed_of old has
 placed_same old new has same = record_same (by has.given refl) where
   by : (o : Option ℕ) → has.given ≡ o → given_of new has.given ≡ given_of old has.given
   by None is = ap (given_of new) is ∙ sym (ap (given_of old) is)
@@ -48,13 +48,13 @@ versions_same old new entries made same = let e = seen_same old new entries same
 pub seen_at : (entries : Entries) (nodes : Slab Node) (made frame place : ℕ) → placed_at (versions_of entries nodes made) frame place ≡ option_map (placed_of nodes) (place_at entries frame place)
 seen_at entries nodes made frame place = lookup-map_values (placed_of nodes) (is_at (place_cmp (frame, place))) entries
 
-pub seen_some : (entries : Entries) (nodes : Slab Node) (made frame place : ℕ) (has : Place) → place_at entries frame place ≡ Some has
+pub seen_some : (entries : Entries) (nodes : Slab Node) (made frame place : ℕ) (has : PlacedObject) → place_at entries frame place ≡ Some has
     → placed_at (versions_of entries nodes made) frame place ≡ Some (placed_of nodes has)
 seen_some entries nodes made frame place has stands = seen_at entries nodes made frame place ∙ ap (option_map (placed_of nodes)) stands
 
 -- what is kept of what contracts see at a place
 pub record IsKept (entries : Entries) (nodes : Slab Node) (frame place : ℕ) (object : Placed) : Type 0 where
-  pub has : Place
+  pub has : PlacedObject
   pub stands : place_at entries frame place ≡ Some has
   pub is : object ≡ placed_of nodes has
 
@@ -64,7 +64,7 @@ none_is object e = cc
 pub kept_of : (entries : Entries) (nodes : Slab Node) (made frame place : ℕ) (object : Placed) → placed_at (versions_of entries nodes made) frame place ≡ Some object
     → IsKept entries nodes frame place object
 kept_of entries nodes made frame place object stands = by (place_at entries frame place) refl where
-  by : (o : Option Place) → place_at entries frame place ≡ o → IsKept entries nodes frame place object
+  by : (o : Option PlacedObject) → place_at entries frame place ≡ o → IsKept entries nodes frame place object
   by None is = absurd (none_is object (sym (seen_at entries nodes made frame place ∙ ap (option_map (placed_of nodes)) is) ∙ stands))
   by (Some has) is =
       let same : Some object ≡ Some (placed_of nodes has) = sym stands ∙ seen_some entries nodes made frame place has is in
@@ -73,21 +73,21 @@ kept_of entries nodes made frame place object stands = by (place_at entries fram
 
 pub free_of : (entries : Entries) (nodes : Slab Node) (made frame place : ℕ) → placed_at (versions_of entries nodes made) frame place ≡ None → place_at entries frame place ≡ None
 free_of entries nodes made frame place free = by (place_at entries frame place) refl where
-  by : (o : Option Place) → place_at entries frame place ≡ o → place_at entries frame place ≡ None
+  by : (o : Option PlacedObject) → place_at entries frame place ≡ o → place_at entries frame place ≡ None
   by None is = is
   by (Some has) is = absurd (none_is (placed_of nodes has) (sym free ∙ seen_some entries nodes made frame place has is))
 
 -- an object comes to a place
-pub seen_insert : (entries : Entries) (nodes : Slab Node) (frame place : ℕ) (has : Place)
+pub seen_insert : (entries : Entries) (nodes : Slab Node) (frame place : ℕ) (has : PlacedObject)
     → map (seen nodes) (insert_entry place_cmp entries (frame, place) has) ≡ insert_entry place_cmp (map (seen nodes) entries) (frame, place) (placed_of nodes has)
 seen_insert entries nodes frame place has = each_insert (placed_of nodes) entries (frame, place) has
 
 -- a place has another version
-pub seen_set : (entries : Entries) (nodes : Slab Node) (frame place : ℕ) (has : Place)
+pub seen_set : (entries : Entries) (nodes : Slab Node) (frame place : ℕ) (has : PlacedObject)
     → map (seen nodes) (set_value (is_at (place_cmp (frame, place))) entries has) ≡ set_value (is_at (place_cmp (frame, place))) (map (seen nodes) entries) (placed_of nodes has)
 seen_set entries nodes frame place has = each_set (placed_of nodes) (is_at (place_cmp (frame, place))) entries has
 
-module _ (entries : Entries) (old new : Slab Node) (same : (k : ℕ) → 0 < uses k entries → told_at new k ≡ told_at old k) (f p : ℕ) (was : Place)
+module _ (entries : Entries) (old new : Slab Node) (same : (k : ℕ) → 0 < uses k entries → told_at new k ≡ told_at old k) (f p : ℕ) (was : PlacedObject)
     (stands : place_at entries f p ≡ Some was) where
   pub same_there : placed_of new was ≡ placed_of old was
   same_there = placed_same old new was (λ k h. let most = uses_at entries k f p was stands in same k (omega arith))

@@ -8,7 +8,7 @@ use Rattle.swan_model.specs.Versions.{settled, owed, VersionState, settle, left_
 use Rattle.object_versions.specs.declared.node.Node.{Node}
 use Rattle.object_versions.specs.declared.node.State.{State}
 use Rattle.object_versions.specs.declared.node.State.TheVariants.{Settled, Owed}
-use Rattle.object_versions.specs.declared.place.Place.{Place}
+use Rattle.object_versions.specs.declared.placed_object.PlacedObject.{PlacedObject}
 use Rattle.object_versions.specs.Store.{Entries, place_at, told_of, version_of, version_at, object_at, versions_of, uses, uses_in, state_settled}
 use Rattle.object_versions.specs.Whole.{IsFit, IsWhole}
 use Rattle.object_versions.specs.Ending.{IsSettling, OwesNoMore, IsPaid}
@@ -48,7 +48,7 @@ settles_so (Owed f) v state n o left by =
     sym (ap (λ b. cond b (unwrap_or (left_by state n o) (owed f)) (owed f)) test ∙ ap (λ l. unwrap_or l (owed f)) left)
 
 -- what a place's version was where the frame began to end is what it is
-module _ (entries : Entries) (start now : Slab Node) (made n : ℕ) (begun : IsSettling entries start now made n) (q : ℕ) (has : Place) (stands : place_at entries n q ≡ Some has) where
+module _ (entries : Entries) (start now : Slab Node) (made n : ℕ) (begun : IsSettling entries start now made n) (q : ℕ) (has : PlacedObject) (stands : place_at entries n q ≡ Some has) where
   present_use : 0 < uses has.present entries
   present_use = let most = uses_at entries has.present n q has stands in let here = present_used has in omega arith
 
@@ -61,7 +61,7 @@ module _ (entries : Entries) (start now : Slab Node) (made n : ℕ) (begun : IsS
   pub read_at_start : (value : Value) → version_at now has.present ≡ settled value → version_at start has.present ≡ settled value
   read_at_start value reads = began_with.1 ∙ sym (begun.stay has.present began_with.0 present_use began_with.1) ∙ reads
 
-module _ (entries : Entries) (start now next : Slab Node) (made n q : ℕ) (has : Place) (key : ℕ) (value : Value) (begun : IsSettling entries start now made n)
+module _ (entries : Entries) (start now next : Slab Node) (made n q : ℕ) (has : PlacedObject) (key : ℕ) (value : Value) (begun : IsSettling entries start now made n)
     (stands : place_at entries n q ≡ Some has) (owes : has.owes ≡ Some key) (reads : version_at now has.present ≡ settled value)
     (change : (node : Node) → get now key ≡ Some node → Updates now next key (Some (record node { state = state_settled node.state value }))) where
   owes_use : 0 < uses key entries
@@ -124,7 +124,7 @@ module _ (entries : Entries) (start now next : Slab Node) (made n q : ℕ) (has 
       (λ apart. ap (λ t. settle (versions_of entries start made) n (object_at start k) t.1) (told_elsewhere now next key _ update k apart))
       (cases_eq k key)
 
-  fit_next : (frame place : ℕ) (other : Place) → place_at entries frame place ≡ Some other → IsFit next made frame other
+  fit_next : (frame place : ℕ) (other : PlacedObject) → place_at entries frame place ≡ Some other → IsFit next made frame other
   fit_next frame place other is = let fit = begun.whole.fits frame place other is in record {
     known = fit.known;
     present = same_object other.present ∙ fit.present;

@@ -8,7 +8,7 @@ use Rattle.slab.specs.Slab.{Slab}
 use Rattle.swan_model.specs.declared.rights.Mode.TheVariants.{In}
 use Rattle.swan_model.specs.Versions.{Version, owed, place_cmp}
 use Rattle.object_versions.specs.declared.node.Node.{Node}
-use Rattle.object_versions.specs.declared.place.Place.{Place}
+use Rattle.object_versions.specs.declared.placed_object.PlacedObject.{PlacedObject}
 use Rattle.object_versions.specs.Store.{Entries, place_at, told_at, version_at, object_at, one, uses_of, uses}
 use Rattle.object_versions.specs.Whole.{IsCounted, IsFit, HasOwing, IsWhole, MayGive}
 use Rattle.object_versions.proofs.Lookups.{here, IsHere, IsThere, after_insert, after_set, after_removal, at_inserted, at_set, still_inserted, still_set, still_without, cases_place}
@@ -22,7 +22,7 @@ told_object a b e = ap (λ t. t.0) e
 told_version : (a b : ℕ × Version) → a ≡ b → a.1 ≡ b.1
 told_version a b e = ap (λ t. t.1) e
 
-pub moved_fit : (old new : Slab Node) (made frame : ℕ) (has : Place) → ((k : ℕ) → 0 < uses_of k has → told_at new k ≡ told_at old k)
+pub moved_fit : (old new : Slab Node) (made frame : ℕ) (has : PlacedObject) → ((k : ℕ) → 0 < uses_of k has → told_at new k ≡ told_at old k)
     → IsFit old made frame has → IsFit new made frame has
 moved_fit old new made frame has same fit = record {
   known = fit.known;
@@ -66,7 +66,7 @@ more_made entries nodes made held whole = record {
 
 -- ---- an object comes to a place
 
-module _ (entries : Entries) (nodes : Slab Node) (made : ℕ) (held later : ℕ → ℕ) (f p : ℕ) (has : Place) (whole : IsWhole entries nodes made held)
+module _ (entries : Entries) (nodes : Slab Node) (made : ℕ) (held later : ℕ → ℕ) (f p : ℕ) (has : PlacedObject) (whole : IsWhole entries nodes made held)
     (free : place_at entries f p ≡ None) where
   abbrev after : Entries
   after = insert_entry place_cmp entries (f, p) has
@@ -96,7 +96,7 @@ module _ (entries : Entries) (nodes : Slab Node) (made : ℕ) (held later : ℕ 
         ⊎_elim (owing_still key frame) (λ own. owing_new key frame own.0 own.1) (new key frame (omega arith) is)
     by (suc n) some = owing_still key frame (whole.owing key frame (omega arith) is)
 
-  alone_after : MayGive entries f has.object has.mode → (frame place other : ℕ) (a b : Place) → place_at after frame place ≡ Some a → place_at after frame other ≡ Some b
+  alone_after : MayGive entries f has.object has.mode → (frame place other : ℕ) (a b : PlacedObject) → place_at after frame place ≡ Some a → place_at after frame other ≡ Some b
       → place ≢ other → a.object ≡ b.object → (a.mode ≡ In) × (b.mode ≡ In)
   alone_after may frame place other a b left right apart same =
       ⊎_elim
@@ -124,7 +124,7 @@ module _ (entries : Entries) (nodes : Slab Node) (made : ℕ) (held later : ℕ 
     fits = λ frame place other stands. ⊎_elim
         (λ (x : IsHere (f, p) (frame, place) has other).
         let P : ℕ → Type 0 = λ n. IsFit nodes made n other in
-        let Q : Place → Type 0 = λ o. IsFit nodes made f o in
+        let Q : PlacedObject → Type 0 = λ o. IsFit nodes made f o in
         subst P (sym (ap (λ (k : ℕ × ℕ). k.0) x.same)) (subst Q (sym x.is) fit))
         (λ (x : IsThere entries (f, p) (frame, place) other). whole.fits frame place other x.was)
         (after_insert entries (f, p) has (frame, place) other stands);
@@ -134,7 +134,7 @@ module _ (entries : Entries) (nodes : Slab Node) (made : ℕ) (held later : ℕ 
 
 -- ---- what is kept at a place changes
 
-module _ (entries : Entries) (nodes : Slab Node) (made : ℕ) (held later : ℕ → ℕ) (f p : ℕ) (was changed : Place) (whole : IsWhole entries nodes made held)
+module _ (entries : Entries) (nodes : Slab Node) (made : ℕ) (held later : ℕ → ℕ) (f p : ℕ) (was changed : PlacedObject) (whole : IsWhole entries nodes made held)
     (stands : place_at entries f p ≡ Some was) (same_object : changed.object ≡ was.object) (same_mode : changed.mode ≡ was.mode) (same_owes : changed.owes ≡ was.owes) where
   abbrev with_changed : Entries
   with_changed = set_value (is_at (place_cmp (f, p))) entries changed
@@ -159,13 +159,13 @@ module _ (entries : Entries) (nodes : Slab Node) (made : ℕ) (held later : ℕ 
       (cases_place (frame, owing.place) (f, p))
 
   -- what a place has now has the object and the mode of what it had
-  record Had (n : ℕ × ℕ) (has : Place) : Type 0 where
-    before : Place
+  record Had (n : ℕ × ℕ) (has : PlacedObject) : Type 0 where
+    before : PlacedObject
     stood : here entries n ≡ Some before
     object : before.object ≡ has.object
     mode : before.mode ≡ has.mode
 
-  had : (n : ℕ × ℕ) (has : Place) → here with_changed n ≡ Some has → Had n has
+  had : (n : ℕ × ℕ) (has : PlacedObject) → here with_changed n ≡ Some has → Had n has
   had n has is = ⊎_elim
       (λ (x : IsHere (f, p) n changed has). record {
         before = was;
@@ -192,7 +192,7 @@ module _ (entries : Entries) (nodes : Slab Node) (made : ℕ) (held later : ℕ 
     fits = λ frame place has is. ⊎_elim
         (λ (x : IsHere (f, p) (frame, place) changed has).
         let P : ℕ → Type 0 = λ n. IsFit nodes made n has in
-        let Q : Place → Type 0 = λ o. IsFit nodes made f o in
+        let Q : PlacedObject → Type 0 = λ o. IsFit nodes made f o in
         subst P (sym (ap (λ (k : ℕ × ℕ). k.0) x.same)) (subst Q (sym x.is) fit))
         (λ (x : IsThere entries (f, p) (frame, place) has). whole.fits frame place has x.was)
         (after_set entries (f, p) was changed (frame, place) has stands is);
@@ -205,7 +205,7 @@ module _ (entries : Entries) (nodes : Slab Node) (made : ℕ) (held later : ℕ 
   }
 
 -- a place has another version
-module _ (entries : Entries) (nodes : Slab Node) (made : ℕ) (held later : ℕ → ℕ) (f p key : ℕ) (was : Place) (whole : IsWhole entries nodes made held)
+module _ (entries : Entries) (nodes : Slab Node) (made : ℕ) (held later : ℕ → ℕ) (f p key : ℕ) (was : PlacedObject) (whole : IsWhole entries nodes made held)
     (stands : place_at entries f p ≡ Some was) where
   fit_now : object_at nodes key ≡ was.object → IsFit nodes made f (record was { present = key })
   fit_now same = let fit = whole.fits f p was stands in record {
@@ -231,7 +231,7 @@ module _ (entries : Entries) (nodes : Slab Node) (made : ℕ) (held later : ℕ 
 
 -- ---- what a frame has at a place goes out
 
-module _ (entries : Entries) (nodes : Slab Node) (made : ℕ) (held later : ℕ → ℕ) (f p : ℕ) (has : Place) (whole : IsWhole entries nodes made held)
+module _ (entries : Entries) (nodes : Slab Node) (made : ℕ) (held later : ℕ → ℕ) (f p : ℕ) (has : PlacedObject) (whole : IsWhole entries nodes made held)
     (stands : place_at entries f p ≡ Some has) where
   abbrev left : Entries
   left = remove_entry (is_at (place_cmp (f, p))) entries

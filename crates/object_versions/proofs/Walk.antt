@@ -11,37 +11,37 @@ use Rattle.std.specs.BTreeMap.Range.{entries_between, range_contains}
 use Rattle.std.specs.declared.cmp.Ordering.TheVariants.{Less}
 use Rattle.std.specs.declared.ops.Bound.TheVariants.{Included, Unbounded}
 use Rattle.swan_model.specs.Versions.{place_cmp}
-use Rattle.object_versions.specs.declared.place.Place.{Place}
+use Rattle.object_versions.specs.declared.placed_object.PlacedObject.{PlacedObject}
 use Rattle.object_versions.specs.Store.{Entries, place_at}
 use Rattle.object_versions.proofs.Lookups.{equal_at, tied}
 
 -- These entries are left of a walk over a frame's places: what is left stands in the map, in rising order and at no
 -- frame before this one; and each place of the frame is done or left.
-pub record IsWalk (entries left : Entries) (frame : ℕ) (Done : Place → Type 0) : Type 0 where
+pub record IsWalk (entries left : Entries) (frame : ℕ) (Done : PlacedObject → Type 0) : Type 0 where
   pub sorted : IsStrictlySortedBy place_cmp (keys_of left)
-  pub from : (owner place : ℕ) (has : Place) → place_at left owner place ≡ Some has → frame ≤ owner
-  pub there : (owner place : ℕ) (has : Place) → place_at left owner place ≡ Some has → place_at entries owner place ≡ Some has
-  pub done : (place : ℕ) (has : Place) → place_at entries frame place ≡ Some has → Done has ⊎ (place_at left frame place ≡ Some has)
+  pub from : (owner place : ℕ) (has : PlacedObject) → place_at left owner place ≡ Some has → frame ≤ owner
+  pub there : (owner place : ℕ) (has : PlacedObject) → place_at left owner place ≡ Some has → place_at entries owner place ≡ Some has
+  pub done : (place : ℕ) (has : PlacedObject) → place_at entries frame place ≡ Some has → Done has ⊎ (place_at left frame place ≡ Some has)
 
-none_is : (has : Place) → None ≡ Some has → ⊥
+none_is : (has : PlacedObject) → None ≡ Some has → ⊥
 none_is has e = cc
 
-some_is : (a b : Place) → Some a ≡ Some b → a ≡ b
+some_is : (a b : PlacedObject) → Some a ≡ Some b → a ≡ b
 some_is a b e = cc
 
 -- what is true of all keys is true of one that is found
-all_found : (P : ℕ × ℕ → Type 0) (es : Entries) (n : ℕ × ℕ) (has : Place) → AllByRecursion P (keys_of es) → place_at es n.0 n.1 ≡ Some has → P n
+all_found : (P : ℕ × ℕ → Type 0) (es : Entries) (n : ℕ × ℕ) (has : PlacedObject) → AllByRecursion P (keys_of es) → place_at es n.0 n.1 ≡ Some has → P n
 all_found P [] n has all is = absurd (none_is has is)
 all_found P (e ∷ es) n has all is = by (is_at (place_cmp n) e.0) refl is (all_found P es n has all.1) where
   by : (b : Bool) → is_at (place_cmp n) e.0 ≡ b → cond b (Some e.1) (place_at es n.0 n.1) ≡ Some has → (place_at es n.0 n.1 ≡ Some has → P n) → P n
   by true same at rest = subst P (sym (equal_at n e.0 same)) all.0
   by false other at rest = rest at
 
-later_keys : (e : (ℕ × ℕ) × Place) (left : Entries) → IsStrictlySortedBy place_cmp (keys_of (e ∷ left)) → AllByRecursion (λ k. place_cmp e.0 k ≡ Less) (keys_of left)
+later_keys : (e : (ℕ × ℕ) × PlacedObject) (left : Entries) → IsStrictlySortedBy place_cmp (keys_of (e ∷ left)) → AllByRecursion (λ k. place_cmp e.0 k ≡ Less) (keys_of left)
 unfolding IsStrictlySortedBy
 later_keys e left sorted = sorted.0
 
-rest_sorted : (e : (ℕ × ℕ) × Place) (left : Entries) → IsStrictlySortedBy place_cmp (keys_of (e ∷ left)) → IsStrictlySortedBy place_cmp (keys_of left)
+rest_sorted : (e : (ℕ × ℕ) × PlacedObject) (left : Entries) → IsStrictlySortedBy place_cmp (keys_of (e ∷ left)) → IsStrictlySortedBy place_cmp (keys_of left)
 unfolding IsStrictlySortedBy
 rest_sorted e left sorted = sorted.1
 
@@ -50,25 +50,25 @@ never_itself k less = grind (arith, nat_tests)
 
 -- ---- the next entry
 
-module _ (entries left : Entries) (frame : ℕ) (Done : Place → Type 0) (e : (ℕ × ℕ) × Place) (walk : IsWalk entries (e ∷ left) frame Done) where
+module _ (entries left : Entries) (frame : ℕ) (Done : PlacedObject → Type 0) (e : (ℕ × ℕ) × PlacedObject) (walk : IsWalk entries (e ∷ left) frame Done) where
   first : place_at (e ∷ left) e.0.0 e.0.1 ≡ Some e.1
   first = ap (λ b. cond b (Some e.1) (place_at left e.0.0 e.0.1)) (tied e.0)
 
-  later : (n : ℕ × ℕ) (has : Place) → place_at left n.0 n.1 ≡ Some has → place_cmp e.0 n ≡ Less
+  later : (n : ℕ × ℕ) (has : PlacedObject) → place_at left n.0 n.1 ≡ Some has → place_cmp e.0 n ≡ Less
   later n has is = all_found (λ k. place_cmp e.0 k ≡ Less) left n has (later_keys e left walk.sorted) is
 
-  still : (n : ℕ × ℕ) (has : Place) → place_at left n.0 n.1 ≡ Some has → place_at (e ∷ left) n.0 n.1 ≡ Some has
+  still : (n : ℕ × ℕ) (has : PlacedObject) → place_at left n.0 n.1 ≡ Some has → place_at (e ∷ left) n.0 n.1 ≡ Some has
   still n has is = by (is_at (place_cmp n) e.0) refl where
     by : (b : Bool) → is_at (place_cmp n) e.0 ≡ b → cond b (Some e.1) (place_at left n.0 n.1) ≡ Some has
     by true same = absurd (never_itself e.0 (ap (place_cmp e.0) (sym (equal_at n e.0 same)) ∙ later n has is))
     by false other = is
 
   -- what is found is the next entry, or one after it
-  data Found (n : ℕ × ℕ) (has : Place) : Type 0 where
+  data Found (n : ℕ × ℕ) (has : PlacedObject) : Type 0 where
     here : n ≡ e.0 → e.1 ≡ has → Found n has
     after : place_at left n.0 n.1 ≡ Some has → Found n has
 
-  found : (n : ℕ × ℕ) (has : Place) → place_at (e ∷ left) n.0 n.1 ≡ Some has → Found n has
+  found : (n : ℕ × ℕ) (has : PlacedObject) → place_at (e ∷ left) n.0 n.1 ≡ Some has → Found n has
   found n has is = by (is_at (place_cmp n) e.0) refl is where
     by : (b : Bool) → is_at (place_cmp n) e.0 ≡ b → cond b (Some e.1) (place_at left n.0 n.1) ≡ Some has → Found n has
     by true same at = here (equal_at n e.0 same) (some_is e.1 has at)
@@ -84,7 +84,7 @@ module _ (entries left : Entries) (frame : ℕ) (Done : Place → Type 0) (e : (
   in_order : (owner place other : ℕ) → place_cmp (owner, place) (frame, other) ≡ Less → owner ≡ frame → place ≤ other
   in_order owner place other less same = grind (arith, nat_tests)
 
-  none_of_it : e.0.0 ≢ frame → (place : ℕ) (has : Place) → place_at (e ∷ left) frame place ≡ Some has → ⊥
+  none_of_it : e.0.0 ≢ frame → (place : ℕ) (has : PlacedObject) → place_at (e ∷ left) frame place ≡ Some has → ⊥
   none_of_it apart place has is = elim (found (frame, place) has is) [
     | here same at ↦ apart (ap (λ n. n.0) (sym same))
     | after is ↦
@@ -94,14 +94,14 @@ module _ (entries left : Entries) (frame : ℕ) (Done : Place → Type 0) (e : (
   ]
 
   -- where the next entry is of a later frame, all places are done
-  pub ends_at : e.0.0 ≢ frame → (place : ℕ) (has : Place) → place_at entries frame place ≡ Some has → Done has
+  pub ends_at : e.0.0 ≢ frame → (place : ℕ) (has : PlacedObject) → place_at entries frame place ≡ Some has → Done has
   ends_at apart place has is = elim (walk.done place has is) [
     | inl done ↦ done
     | inr still_left ↦ absurd (none_of_it apart place has still_left)
   ]
 
   -- no place before the next entry's is left
-  pub least : e.0.0 ≡ frame → (place : ℕ) (has : Place) → place_at entries frame place ≡ Some has → (Done has → ⊥) → e.0.1 ≤ place
+  pub least : e.0.0 ≡ frame → (place : ℕ) (has : PlacedObject) → place_at entries frame place ≡ Some has → (Done has → ⊥) → e.0.1 ≤ place
   least same place has is never = elim (walk.done place has is) [
     | inl done ↦ absurd (never done)
     | inr still_left ↦ elim (found (frame, place) has still_left) [
@@ -111,7 +111,7 @@ module _ (entries left : Entries) (frame : ℕ) (Done : Place → Type 0) (e : (
   ]
 
   -- the next entry is done
-  pub goes_on : (Later : Place → Type 0) → ((place : ℕ) (has : Place) → place_at entries frame place ≡ Some has → Done has → Later has) → Later e.1
+  pub goes_on : (Later : PlacedObject → Type 0) → ((place : ℕ) (has : PlacedObject) → place_at entries frame place ≡ Some has → Done has → Later has) → Later e.1
       → IsWalk entries left frame Later
   goes_on Later keeps now = record {
     sorted = rest_sorted e left walk.sorted;
@@ -127,7 +127,7 @@ module _ (entries left : Entries) (frame : ℕ) (Done : Place → Type 0) (e : (
   }
 
 -- where nothing is left, all places are done
-pub ends : (entries : Entries) (frame : ℕ) (Done : Place → Type 0) → IsWalk entries [] frame Done → (place : ℕ) (has : Place) → place_at entries frame place ≡ Some has → Done has
+pub ends : (entries : Entries) (frame : ℕ) (Done : PlacedObject → Type 0) → IsWalk entries [] frame Done → (place : ℕ) (has : PlacedObject) → place_at entries frame place ≡ Some has → Done has
 ends entries frame Done walk place has is = elim (walk.done place has is) [
   | inl done ↦ done
   | inr still_left ↦ absurd (none_is has still_left)
@@ -147,7 +147,7 @@ from_own frame place k same = ap (is_from frame) (sym (equal_at (frame, place) k
 from_later : (frame owner place : ℕ) → is_from frame (owner, place) ≡ true → frame ≤ owner
 from_later frame owner place is = grind (arith, nat_tests)
 
-kept : (b : Bool) (o : Option Place) (has : Place) → cond b o None ≡ Some has → (b ≡ true) × (o ≡ Some has)
+kept : (b : Bool) (o : Option PlacedObject) (has : PlacedObject) → cond b o None ≡ Some has → (b ≡ true) × (o ≡ Some has)
 kept true o has is = (refl, is)
 kept false o has is = absurd (none_is has is)
 
@@ -160,7 +160,7 @@ keys_kept p (e ∷ es) = by (p e.0) (keys_kept p es) where
   by false rest = rest
 
 -- the walk begins with all entries from the frame's first place on
-pub begins : (entries : Entries) (frame : ℕ) (Done : Place → Type 0) → IsStrictlySortedBy place_cmp (keys_of entries)
+pub begins : (entries : Entries) (frame : ℕ) (Done : PlacedObject → Type 0) → IsStrictlySortedBy place_cmp (keys_of entries)
     → IsWalk entries (entries_between place_cmp (Included (frame, 0)) Unbounded entries) frame Done
 begins entries frame Done sorted = record {
   sorted = keys_from;
@@ -173,7 +173,7 @@ begins entries frame Done sorted = record {
       let P : List (ℕ × ℕ) → Type 0 = λ keys. IsStrictlySortedBy place_cmp keys in
       subst P (sym (keys_kept (is_from frame) entries)) (IsStrictlySortedBy-filter place_cmp (is_from frame) (keys_of entries) sorted)
 
-  found : (owner place : ℕ) (has : Place) → place_at (entries_between place_cmp (Included (frame, 0)) Unbounded entries) owner place ≡ Some has
+  found : (owner place : ℕ) (has : PlacedObject) → place_at (entries_between place_cmp (Included (frame, 0)) Unbounded entries) owner place ≡ Some has
       → (is_from frame (owner, place) ≡ true) × (place_at entries owner place ≡ Some has)
   found owner place has is = kept (is_from frame (owner, place)) (place_at entries owner place) has
       (sym (lookup-filter-keys (is_at (place_cmp (owner, place))) (is_from frame) (is_from frame (owner, place))

@@ -8,7 +8,7 @@ use Rattle.swan_model.specs.declared.value.Value.{Value}
 use Rattle.swan_model.specs.Versions.{settled, owed, place_cmp, with_present, after_write, written_at}
 use Rattle.object_versions.specs.declared.node.Node.{Node}
 use Rattle.object_versions.specs.declared.node.State.TheVariants.{Settled}
-use Rattle.object_versions.specs.declared.place.Place.{Place}
+use Rattle.object_versions.specs.declared.placed_object.PlacedObject.{PlacedObject}
 use Rattle.object_versions.specs.Store.{Entries, place_at, told_at, given_of, KeepsOwed, placed_of, versions_of, one, uses, uses_in, released}
 use Rattle.object_versions.specs.Whole.{IsWhole, HasOwn}
 use Rattle.object_versions.proofs.Lookups.{at_set}
@@ -17,7 +17,7 @@ use Rattle.object_versions.proofs.Steps.{set_in}
 use Rattle.object_versions.proofs.References.{made_whole, made_told, released_whole, released_same}
 use Rattle.object_versions.proofs.Seeing.{placed_same, same_there, seen_present, seen_some, versions_same}
 
-module _ (entries later : Entries) (old middle new : Slab Node) (made f p key : ℕ) (was : Place) (value : Value) (whole : IsWhole entries old made (λ _. 0))
+module _ (entries later : Entries) (old middle new : Slab Node) (made f p key : ℕ) (was : PlacedObject) (value : Value) (whole : IsWhole entries old made (λ _. 0))
     (stands : place_at entries f p ≡ Some was) (vacant : get old key ≡ None)
     (change : Updates old middle key (Some (record { object = was.object; state = Settled value; uses = 1 })))
     (set : later ≡ set_value (is_at (place_cmp (f, p))) entries (record was { present = key }))
@@ -96,7 +96,7 @@ module _ (entries later : Entries) (old middle new : Slab Node) (made f p key : 
 
   same_given : given_of new was.given ≡ given_of old was.given
   same_given =
-      let changed : Place = record was { present = key } in
+      let changed : PlacedObject = record was { present = key } in
       ap (λ o. o.given) (placed_same middle new changed (λ k h.
       let most = uses_at after k f p changed stands_after in
       released_same after middle new made (λ k. one k was.present) (λ _. 0) was.present with_set some_held release

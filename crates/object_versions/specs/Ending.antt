@@ -4,7 +4,7 @@ use Rattle.slab.specs.Slab.{Slab}
 use Rattle.swan_model.specs.declared.value.Value.{Value}
 use Rattle.swan_model.specs.Versions.{settled, owed, settle, IsSettled}
 use Rattle.object_versions.specs.declared.node.Node.{Node}
-use Rattle.object_versions.specs.declared.place.Place.{Place}
+use Rattle.object_versions.specs.declared.placed_object.PlacedObject.{PlacedObject}
 use Rattle.object_versions.specs.Store.{Entries, place_at, told_at, version_at, object_at, versions_of, uses}
 use Rattle.object_versions.specs.Whole.{IsWhole}
 
@@ -24,12 +24,12 @@ pub record OwesNoMore (entries : Entries) (old new : Slab Node) : Type 0 where
   pub before : (key frame : ℕ) → 0 < uses key entries → version_at new key ≡ owed frame → version_at old key ≡ owed frame
 
 -- the version that is owed for a place has its value
-pub record IsPaid (nodes : Slab Node) (place : Place) : Type 0 where
+pub record IsPaid (nodes : Slab Node) (place : PlacedObject) : Type 0 where
   pub settled : (key frame : ℕ) → place.owes ≡ Some key → version_at nodes key ≡ owed frame → ⊥
 
 -- each version that a frame owes has its value
 pub record IsAllPaid (entries : Entries) (nodes : Slab Node) (frame : ℕ) : Type 0 where
-  pub paid : (place : ℕ) (has : Place) → place_at entries frame place ≡ Some has → IsPaid nodes has
+  pub paid : (place : ℕ) (has : PlacedObject) → place_at entries frame place ≡ Some has → IsPaid nodes has
 
 -- ---- forgetting
 

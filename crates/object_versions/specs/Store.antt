@@ -9,14 +9,14 @@ use Rattle.swan_model.specs.Versions.{Version, settled, owed, owing, Placed, Ver
 use Rattle.object_versions.specs.declared.node.Node.{Node}
 use Rattle.object_versions.specs.declared.node.State.{State}
 use Rattle.object_versions.specs.declared.node.State.TheVariants.{Settled, Owed}
-use Rattle.object_versions.specs.declared.place.Place.{Place}
+use Rattle.object_versions.specs.declared.placed_object.PlacedObject.{PlacedObject}
 
 -- what is kept of each place, by frame and place in rising order
 abbrev pub Entries : Type 0
-Entries = List ((ℕ × ℕ) × Place)
+Entries = List ((ℕ × ℕ) × PlacedObject)
 
 -- what is kept of a frame's place
-abbrev pub place_at : Entries → ℕ → ℕ → Option Place
+abbrev pub place_at : Entries → ℕ → ℕ → Option PlacedObject
 place_at entries frame place = lookup (is_at (place_cmp (frame, place))) entries
 
 -- ---- what places and keys stand for
@@ -48,7 +48,7 @@ given_of nodes (Some key) = owing (version_at nodes key)
 abbrev pub KeepsOwed : Slab Node → Option ℕ → Type 0
 KeepsOwed nodes given = IsSome given → IsSome (given_of nodes given)
 
-abbrev pub placed_of : Slab Node → Place → Placed
+abbrev pub placed_of : Slab Node → PlacedObject → Placed
 placed_of nodes place = record {
   object = place.object;
   kind = place.kind;
@@ -57,7 +57,7 @@ placed_of nodes place = record {
   present = version_at nodes place.present;
 }
 
-abbrev pub seen : Slab Node → (ℕ × ℕ) × Place → (ℕ × ℕ) × Placed
+abbrev pub seen : Slab Node → (ℕ × ℕ) × PlacedObject → (ℕ × ℕ) × Placed
 seen nodes entry = (entry.0, placed_of nodes entry.1)
 
 -- the renamed objects that are kept so
@@ -73,7 +73,7 @@ abbrev pub one_of : ℕ → Option ℕ → ℕ
 one_of key None = 0
 one_of key (Some other) = one key other
 
-abbrev pub uses_of : ℕ → Place → ℕ
+abbrev pub uses_of : ℕ → PlacedObject → ℕ
 uses_of key place = one key place.present + (one_of key place.given + one_of key place.owes)
 
 abbrev pub uses : ℕ → Entries → ℕ

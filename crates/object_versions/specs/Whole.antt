@@ -8,7 +8,7 @@ use Rattle.swan_model.specs.declared.rights.Mode.TheVariants.{In, Out}
 use Rattle.swan_model.specs.Rights.{allows}
 use Rattle.swan_model.specs.Versions.{owed, place_cmp}
 use Rattle.object_versions.specs.declared.node.Node.{Node}
-use Rattle.object_versions.specs.declared.place.Place.{Place}
+use Rattle.object_versions.specs.declared.placed_object.PlacedObject.{PlacedObject}
 use Rattle.object_versions.specs.Store.{Entries, place_at, version_at, object_at, KeepsOwed, uses, uses_in}
 
 -- Each version counts exactly those who refer to it, and is there only while someone does.
@@ -17,13 +17,13 @@ pub record IsCounted (nodes : Slab Node) (count : ℕ → ℕ) : Type 0 where
   pub live : (key : ℕ) (node : Node) → get nodes key ≡ Some node → 0 < node.uses
 
 -- a version that a frame owes for a place of it
-pub record IsOwing (nodes : Slab Node) (frame : ℕ) (place : Place) (key : ℕ) : Type 0 where
+pub record IsOwing (nodes : Slab Node) (frame : ℕ) (place : PlacedObject) (key : ℕ) : Type 0 where
   pub same : object_at nodes key ≡ place.object
   pub may : allows place.mode Out ≡ true
   pub by : (other : ℕ) → version_at nodes key ≡ owed other → other ≡ frame
 
 -- a place and its versions, which are all of its object
-pub record IsFit (nodes : Slab Node) (made frame : ℕ) (place : Place) : Type 0 where
+pub record IsFit (nodes : Slab Node) (made frame : ℕ) (place : PlacedObject) : Type 0 where
   pub known : place.object < made
   pub present : object_at nodes place.present ≡ place.object
   pub given : (key : ℕ) → place.given ≡ Some key → object_at nodes key ≡ place.object
@@ -34,7 +34,7 @@ pub record IsFit (nodes : Slab Node) (made frame : ℕ) (place : Place) : Type 0
 -- a place of a frame which owes a version
 pub record HasOwing (entries : Entries) (key frame : ℕ) : Type 0 where
   pub place : ℕ
-  pub has : Place
+  pub has : PlacedObject
   pub stands : place_at entries frame place ≡ Some has
   pub owes : has.owes ≡ Some key
 
@@ -42,20 +42,20 @@ pub record HasOwing (entries : Entries) (key frame : ℕ) : Type 0 where
 pub record IsWhole (entries : Entries) (nodes : Slab Node) (made : ℕ) (held : ℕ → ℕ) : Type 0 where
   pub sorted : IsStrictlySortedBy place_cmp (keys_of entries)
   pub counted : IsCounted nodes (λ key. uses key entries + held key)
-  pub fits : (frame place : ℕ) (has : Place) → place_at entries frame place ≡ Some has → IsFit nodes made frame has
+  pub fits : (frame place : ℕ) (has : PlacedObject) → place_at entries frame place ≡ Some has → IsFit nodes made frame has
   -- a version that a frame owes is owed for a place of that frame
   pub owing : (key frame : ℕ) → 0 < uses key entries → version_at nodes key ≡ owed frame → HasOwing entries key frame
   -- an object that stands at two places of a frame may only be read there
-  pub alone : (frame place other : ℕ) (a b : Place) → place_at entries frame place ≡ Some a → place_at entries frame other ≡ Some b
+  pub alone : (frame place other : ℕ) (a b : PlacedObject) → place_at entries frame place ≡ Some a → place_at entries frame other ≡ Some b
       → place ≢ other → a.object ≡ b.object → (a.mode ≡ In) × (b.mode ≡ In)
 
 -- At this place a frame has a version that nobody else has, and of what it was given it keeps only what is still owed.
 pub record HasOwn (entries : Entries) (nodes : Slab Node) (frame place : ℕ) : Type 0 where
-  pub has : Place
+  pub has : PlacedObject
   pub stands : place_at entries frame place ≡ Some has
   pub alone : uses_in (get nodes has.present) ≡ 1
   pub given : KeepsOwed nodes has.given
 
 -- a frame that has the object already may get it once more only to read, and only where it reads it there too
 pub record MayGive (entries : Entries) (child object : ℕ) (mode : Mode) : Type 0 where
-  pub alone : (place : ℕ) (has : Place) → place_at entries child place ≡ Some has → has.object ≡ object → (has.mode ≡ In) × (mode ≡ In)
+  pub alone : (place : ℕ) (has : PlacedObject) → place_at entries child place ≡ Some has → has.object ≡ object → (has.mode ≡ In) × (mode ≡ In)

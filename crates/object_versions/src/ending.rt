@@ -1,8 +1,8 @@
 // What a frame that ends leaves.
-ghost use Rattle.std.specs.Prelude.{◌≡◌, ℕ, ◌+◌, Some, None, OnOk};
+ghost use Rattle.std.specs.Prelude.{◌≡◌, ℕ, ◌+◌, Some, None, IsSome, OnOk};
 ghost use Rattle.swan_model.specs.declared.value.Value.{Value};
 ghost use Rattle.swan_model.specs.Versions.{settled};
-ghost use Rattle.slab.specs.Slab.{Slab as Kept};
+ghost use Rattle.slab.specs.Slab.{Slab as Kept, get};
 ghost use Rattle.object_versions.specs.declared.node.Node.{Node as Version};
 ghost use Rattle.object_versions.specs.Store.{Entries, place_at, version_at, one_of, uses_of};
 ghost use Rattle.object_versions.specs.Whole.{IsWhole};
@@ -10,14 +10,15 @@ ghost use Rattle.object_versions.specs.Ending.{IsSettling, OwesNoMore, IsPaid, I
 
 use crate::nodes::{release, settle, value_at};
 use crate::places::{first_place, take_out};
-use crate::{Node, Place};
+use crate::{Node, PlacedObject};
 use slab::Slab;
 use std::collections::BTreeMap;
 use swan_model::NoMemory;
 
 /// Settles the version that a frame owes for a place, with the frame's value there. `O(1)`.
-fn settle_owed(nodes: &mut Slab<Node>, place: &Place) -> Result<(), NoMemory>
+fn settle_owed(nodes: &mut Slab<Node>, place: &PlacedObject) -> Result<(), NoMemory>
     requires reads { (value : Value) × (version_at nodes.old place.now.present ≡ settled value) }
+    requires owed { (key : ℕ) → place.now.owes ≡ Some key → IsSome (get nodes.old key) }
     ensures settling { (entries : Entries) (start : Kept Version) (made frame at : ℕ) → IsSettling entries start nodes.old made frame
         → place_at entries frame at ≡ Some place.now → IsSettling entries start nodes.new made frame }
     ensures no_more { (entries : Entries) (start : Kept Version) (made frame at : ℕ) → IsSettling entries start nodes.old made frame
@@ -39,7 +40,7 @@ fn settle_owed(nodes: &mut Slab<Node>, place: &Place) -> Result<(), NoMemory>
 /// Settles each version that a frame owes: one walk over the frame's places, `O(k + log n)` for k objects of
 /// the frame and n places of all frames.
 pub fn settle_all(
-    places: &BTreeMap<(u64, u32), Place>,
+    places: &BTreeMap<(u64, u32), PlacedObject>,
     nodes: &mut Slab<Node>,
     frame: u64,
 ) -> Result<(), NoMemory>
@@ -58,6 +59,7 @@ pub fn settle_all(
 
 /// Counts one less who refers to a version, where there is one. `O(1)`; it takes no memory.
 fn release_one(nodes: &mut Slab<Node>, key: Option<usize>)
+    requires { (is : ℕ) → key ≡ Some is → IsSome (get nodes.old is) }
     ensures { (entries : Entries) (made : ℕ) (held later : ℕ → ℕ) → IsWhole entries nodes.old made held → ((k : ℕ) → held k ≡ later k + one_of k key)
         → IsReleased entries nodes.old nodes.new made later }
 {
@@ -67,7 +69,8 @@ fn release_one(nodes: &mut Slab<Node>, key: Option<usize>)
 }
 
 /// Releases the versions to which a place referred. `O(1)`; it takes no memory.
-fn release_all(nodes: &mut Slab<Node>, place: &Place)
+fn release_all(nodes: &mut Slab<Node>, place: &PlacedObject)
+    requires whole { (entries : Entries) × (made : ℕ) × IsWhole entries nodes.old made (λ k. uses_of k place.now) }
     ensures { (entries : Entries) (made : ℕ) → IsWhole entries nodes.old made (λ k. uses_of k place.now) → IsReleased entries nodes.old nodes.new made (λ _. 0) }
 {
     release_one(nodes, Some(place.present));
@@ -76,7 +79,12 @@ fn release_all(nodes: &mut Slab<Node>, place: &Place)
 }
 
 /// Forgets all places of a frame. `O(k log n)` for k objects of the frame; it takes no memory.
-pub fn forget_all(places: &mut BTreeMap<(u64, u32), Place>, nodes: &mut Slab<Node>, frame: u64)
+pub fn forget_all(
+    places: &mut BTreeMap<(u64, u32), PlacedObject>,
+    nodes: &mut Slab<Node>,
+    frame: u64,
+)
+    requires began { (made : ℕ) × IsForgetting places.old.entries places.old.entries nodes.old nodes.old made frame }
     ensures forgotten { (made : ℕ) → IsForgetting places.old.entries places.old.entries nodes.old nodes.old made frame
         → IsForgetting places.old.entries places.new.entries nodes.old nodes.new made frame }
     ensures none { (place : ℕ) → place_at places.new.entries frame place ≡ None }

@@ -1,16 +1,17 @@
 // Objects that a parent gives to a child.
-ghost use Rattle.std.specs.Prelude.{◌≡◌, ◌≢◌, ℕ, true, false, Some, None, OnOk};
+ghost use Rattle.std.specs.Prelude.{◌≡◌, ◌≢◌, ℕ, true, false, Some, None, IsSome, OnOk};
+ghost use Rattle.slab.specs.Slab.{get};
 ghost use Rattle.swan_model.specs.Rights.{allows, is_queue_mode};
 ghost use Rattle.swan_model.specs.declared.rights.Mode.TheVariants.{In, Out, InOut};
 ghost use Rattle.swan_model.specs.Versions.{after_access};
 ghost use Rattle.object_versions.specs.Store.{place_at, KeepsOwed, versions_of};
 ghost use Rattle.object_versions.specs.Whole.{IsWhole, MayGive};
-ghost use Rattle.object_versions.specs.declared.place.Place.{Place as Held};
+ghost use Rattle.object_versions.specs.declared.placed_object.PlacedObject.{PlacedObject as Held};
 
 use crate::nodes::{make, release, share};
 use crate::places::{put, set_present};
 use crate::store::Store;
-use crate::{Place, State};
+use crate::{PlacedObject, State};
 use swan_model::{Mode, NoMemory, Value};
 
 /// Where an object is given from, and where to.
@@ -34,6 +35,7 @@ impl Store {
             × (allows object.mode mode ≡ true) × MayGive self.old.places.entries gift.child object.object mode }
         requires of_objects { is_queue_mode mode ≡ false }
         requires free { place_at self.old.places.entries gift.child gift.child_place ≡ None }
+        requires whole { (made : ℕ) × IsWhole self.old.places.entries self.old.nodes made (λ _. 0) }
         ensures whole { OnOk result ((made : ℕ) → IsWhole self.old.places.entries self.old.nodes made (λ _. 0) → IsWhole self.new.places.entries self.new.nodes made (λ _. 0)) }
         ensures given { OnOk result ((made : ℕ) → IsWhole self.old.places.entries self.old.nodes made (λ _. 0)
             → versions_of self.new.places.entries self.new.nodes made
@@ -56,12 +58,13 @@ impl Store {
     }
 
     /// Gives a child a parent's object to read: its version is the parent's. `O(log n)`.
-    fn give_to_read(&mut self, object: &Place, gift: Gift) -> Result<(), NoMemory>
+    fn give_to_read(&mut self, object: &PlacedObject, gift: Gift) -> Result<(), NoMemory>
         requires differ { gift.parent ≢ gift.child }
         requires stands { place_at self.old.places.entries gift.parent gift.parent_place ≡ Some object.now }
         requires may { allows object.now.mode In ≡ true }
         requires free { place_at self.old.places.entries gift.child gift.child_place ≡ None }
         requires alone { MayGive self.old.places.entries gift.child object.now.object In }
+        requires present { IsSome (get self.old.nodes object.now.present) }
         ensures whole { OnOk result ((made : ℕ) → IsWhole self.old.places.entries self.old.nodes made (λ _. 0) → IsWhole self.new.places.entries self.new.nodes made (λ _. 0)) }
         ensures given { OnOk result ((made : ℕ) → IsWhole self.old.places.entries self.old.nodes made (λ _. 0)
             → versions_of self.new.places.entries self.new.nodes made
@@ -71,7 +74,7 @@ impl Store {
     {
         let shared = object.present;
         share(&mut self.nodes, shared, 2)?;
-        let read = Place {
+        let read = PlacedObject {
             object: object.object,
             kind: object.kind,
             mode: Mode::In,
@@ -85,12 +88,13 @@ impl Store {
 
     /// Gives a child a parent's object to write: its version has the zero of the object's kind, and the
     /// parent has one that the child owes. `O(log n)`, amortised.
-    fn give_to_write(&mut self, object: &Place, gift: Gift) -> Result<(), NoMemory>
+    fn give_to_write(&mut self, object: &PlacedObject, gift: Gift) -> Result<(), NoMemory>
         requires differ { gift.parent ≢ gift.child }
         requires stands { place_at self.old.places.entries gift.parent gift.parent_place ≡ Some object.now }
         requires may { allows object.now.mode Out ≡ true }
         requires free { place_at self.old.places.entries gift.child gift.child_place ≡ None }
         requires alone { MayGive self.old.places.entries gift.child object.now.object Out }
+        requires present { IsSome (get self.old.nodes object.now.present) }
         ensures whole { OnOk result ((made : ℕ) → IsWhole self.old.places.entries self.old.nodes made (λ _. 0) → IsWhole self.new.places.entries self.new.nodes made (λ _. 0)) }
         ensures given { OnOk result ((made : ℕ) → IsWhole self.old.places.entries self.old.nodes made (λ _. 0)
             → versions_of self.new.places.entries self.new.nodes made
@@ -100,7 +104,7 @@ impl Store {
         let zero = Value::zero(self.alloc, object.kind)?;
         let owed = make(&mut self.nodes, object.object, State::Owed(gift.child), 2)?;
         let own = make(&mut self.nodes, object.object, State::Settled(zero), 1)?;
-        let written = Place {
+        let written = PlacedObject {
             object: object.object,
             kind: object.kind,
             mode: Mode::Out,
@@ -116,12 +120,13 @@ impl Store {
 
     /// Gives a child a parent's object to read and write: its version is the parent's, and the parent has one
     /// that the child owes. `O(log n)`, amortised.
-    fn give_to_change(&mut self, object: &Place, gift: Gift) -> Result<(), NoMemory>
+    fn give_to_change(&mut self, object: &PlacedObject, gift: Gift) -> Result<(), NoMemory>
         requires differ { gift.parent ≢ gift.child }
         requires stands { place_at self.old.places.entries gift.parent gift.parent_place ≡ Some object.now }
         requires may { allows object.now.mode InOut ≡ true }
         requires free { place_at self.old.places.entries gift.child gift.child_place ≡ None }
         requires alone { MayGive self.old.places.entries gift.child object.now.object InOut }
+        requires present { IsSome (get self.old.nodes object.now.present) }
         ensures whole { OnOk result ((made : ℕ) → IsWhole self.old.places.entries self.old.nodes made (λ _. 0) → IsWhole self.new.places.entries self.new.nodes made (λ _. 0)) }
         ensures given { OnOk result ((made : ℕ) → IsWhole self.old.places.entries self.old.nodes made (λ _. 0)
             → versions_of self.new.places.entries self.new.nodes made
@@ -131,7 +136,7 @@ impl Store {
     {
         share(&mut self.nodes, object.present, 2)?;
         let next = make(&mut self.nodes, object.object, State::Owed(gift.child), 2)?;
-        let changed = Place {
+        let changed = PlacedObject {
             object: object.object,
             kind: object.kind,
             mode: Mode::InOut,

@@ -31,15 +31,13 @@ mod giving;
 mod laws;
 mod node;
 mod nodes;
-mod place;
+mod placed_object;
 mod places;
 mod store;
-#[cfg(test)]
-mod tests;
 mod versions;
 mod waiting;
 
 pub use laws::{ended_children_leave_all_settled, giving_begins, other_entries_pass};
 use node::{Node, State};
-use place::Place;
+use placed_object::PlacedObject;
 pub use versions::Versions;

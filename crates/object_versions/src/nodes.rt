@@ -28,10 +28,11 @@ pub fn make(nodes: &mut Slab<Node>, object: u64, state: State, uses: u64) -> Res
 
 /// Counts so many more who refer to a version. Err also where the count would pass 64 bits. `O(1)`.
 pub fn share(nodes: &mut Slab<Node>, key: usize, more: u64) -> Result<(), NoMemory>
+    requires { IsSome (get nodes.old key) }
     ensures { OnOk result ((node : Version) → get nodes.old key ≡ Some node → Updates nodes.old nodes.new key (Some (record node { uses = node.uses + more }))) }
 {
     let Some(node) = nodes.get_mut(key) else {
-        return Ok(());
+        unreachable!()
     };
     match node.uses.checked_add(more) {
         Some(uses) => {
@@ -45,10 +46,11 @@ pub fn share(nodes: &mut Slab<Node>, key: usize, more: u64) -> Result<(), NoMemo
 /// Counts one less who refers to a version, and gives it up where nobody does any more. `O(1)`; it takes no
 /// memory.
 pub fn release(nodes: &mut Slab<Node>, key: usize)
+    requires { IsSome (get nodes.old key) }
     ensures { (node : Version) → get nodes.old key ≡ Some node → Updates nodes.old nodes.new key (released node) }
 {
     let Some(node) = nodes.get_mut(key) else {
-        return;
+        unreachable!()
     };
     if node.uses > 1 {
         node.uses -= 1;
@@ -59,10 +61,11 @@ pub fn release(nodes: &mut Slab<Node>, key: usize)
 
 /// Gives a version its value where a frame owes it. `O(1)`; it takes no memory.
 pub fn settle(nodes: &mut Slab<Node>, key: usize, value: Value)
+    requires { IsSome (get nodes.old key) }
     ensures { (node : Version) → get nodes.old key ≡ Some node → Updates nodes.old nodes.new key (Some (record node { state = state_settled node.state value })) }
 {
     let Some(node) = nodes.get_mut(key) else {
-        return;
+        unreachable!()
     };
     if let State::Owed(_) = node.state {
         node.state = State::Settled(value);
@@ -90,9 +93,9 @@ pub fn overwrite(nodes: &mut Slab<Node>, key: usize, value: Value)
     node.state = State::Settled(value);
 }
 
-/// The value of a version, and else the frame that owes it, or 0 where there is no version. `O(1)`; it takes
-/// no memory.
+/// The value of a version, and else the frame that owes it. `O(1)`; it takes no memory.
 pub fn value_at(nodes: &Slab<Node>, key: usize) -> Result<&Value, u64>
+    requires { IsSome (get nodes.now key) }
     ensures ok { IfOk result (λ value. version_at nodes.now key ≡ settled value.now) }
     ensures err { IfErr result (λ owing. version_at nodes.now key ≡ owed owing) }
 {
@@ -109,6 +112,6 @@ pub fn value_at(nodes: &Slab<Node>, key: usize) -> Result<&Value, u64>
                 ..
             },
         ) => Err(*owing),
-        None => Err(0),
+        None => unreachable!(),
     }
 }

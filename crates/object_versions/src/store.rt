@@ -6,7 +6,7 @@ ghost use Rattle.object_versions.specs.Whole.{IsWhole, HasOwn};
 
 use crate::nodes::{is_alone, make, overwrite, release, value_at};
 use crate::places::{forget_given, put, set_present};
-use crate::{Node, Place, State};
+use crate::{Node, PlacedObject, State};
 use slab::Slab;
 use std::alloc::Global;
 use std::collections::BTreeMap;
@@ -20,7 +20,7 @@ pub struct Store {
     /// Where memory comes from.
     pub alloc: Global,
     /// What each frame has at its places, by frame and place.
-    pub places: BTreeMap<(u64, u32), Place>,
+    pub places: BTreeMap<(u64, u32), PlacedObject>,
     /// The versions, by key.
     pub nodes: Slab<Node>,
 }
@@ -65,7 +65,7 @@ impl Store {
     {
         let kind = first.kind();
         let present = make(&mut self.nodes, made, State::Settled(first), 1)?;
-        let object = Place {
+        let object = PlacedObject {
             object: made,
             kind,
             mode: Mode::InOut,
@@ -79,8 +79,9 @@ impl Store {
 
     /// Gives up the version that a frame was given at a place, where that has its value: nobody waits for it any
     /// more. Answers what is kept at the place then. `O(log n)`; it takes no memory.
-    pub fn release_given(&mut self, frame: u64, place: u32, object: Place) -> Place
-        requires { place_at self.old.places.entries frame place ≡ Some object }
+    pub fn release_given(&mut self, frame: u64, place: u32, object: PlacedObject) -> PlacedObject
+        requires stands { place_at self.old.places.entries frame place ≡ Some object }
+        requires whole { (made : ℕ) × IsWhole self.old.places.entries self.old.nodes made (λ _. 0) }
         ensures stands { place_at self.new.places.entries frame place ≡ Some result }
         ensures same { result ≡ record object { given = result.given } }
         ensures others { (other at : ℕ) → other ≢ frame → place_at self.new.places.entries other at ≡ place_at self.old.places.entries other at }
@@ -100,7 +101,7 @@ impl Store {
         }
         forget_given(&mut self.places, frame, place);
         release(&mut self.nodes, given);
-        Place {
+        PlacedObject {
             given: None,
             ..object
         }
@@ -113,10 +114,11 @@ impl Store {
         &mut self,
         frame: u64,
         place: u32,
-        object: Place,
+        object: PlacedObject,
         value: Value,
     ) -> Result<(), NoMemory>
-        requires { place_at self.old.places.entries frame place ≡ Some object }
+        requires stands { place_at self.old.places.entries frame place ≡ Some object }
+        requires whole { (made : ℕ) × IsWhole self.old.places.entries self.old.nodes made (λ _. 0) }
         ensures whole { OnOk result ((made : ℕ) → IsWhole self.old.places.entries self.old.nodes made (λ _. 0) → IsWhole self.new.places.entries self.new.nodes made (λ _. 0)) }
         ensures written { OnOk result ((made : ℕ) → IsWhole self.old.places.entries self.old.nodes made (λ _. 0)
             → versions_of self.new.places.entries self.new.nodes made ≡ after_write (versions_of self.old.places.entries self.old.nodes made) frame place value) }

@@ -232,10 +232,4 @@ impl Versions {
             Err(NoMemory) => Err(NoMemory),
         }
     }
-
-    /// How many versions are kept.
-    #[cfg(test)]
-    pub fn version_count(&self) -> usize {
-        self.store.nodes.len()
-    }
 }

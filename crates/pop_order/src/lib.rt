@@ -34,8 +34,6 @@ mod makers;
 mod order;
 mod poppers;
 mod sets;
-#[cfg(test)]
-mod tests;
 mod turns;
 mod walk;
 

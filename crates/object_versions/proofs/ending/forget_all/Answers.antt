@@ -1,5 +1,5 @@
 use Rattle.std.proofs.Common.{sym, arith}
-use Rattle.object_versions.proofs.Releasing.{forgot_one}
+use Rattle.object_versions.proofs.Releasing.{forgot_one, taken_out}
 use Rattle.object_versions.proofs.ending.forget_all.Goals as goal
 
 pub loop-at-smaller : goal.loop-at-smaller
@@ -11,3 +11,16 @@ loop-at-preserved c = λ made began.
     forgot_one c.args.places.now.entries c.loop-at.places.entries later c.args.nodes.now c.loop-at.nodes c.release_all.new.nodes made c.args.frame c.in-Some.at
     c.in-Some-take_out.place (c.loop-at.invariant made began) (sym c.in-Some-take_out.ensures.was) c.take_out.ensures.without c.take_out.ensures.sorted
     (c.release_all.ensures later made)
+
+pub release_all-requires : goal.release_all-requires
+release_all-requires c =
+    let made = c.requires.began.0 in
+    let later = c.take_out.new.places.entries in
+    record {
+      whole = (
+        later,
+        made,
+        taken_out c.args.places.now.entries c.loop-at.places.entries later c.args.nodes.now c.loop-at.nodes made c.args.frame c.in-Some.at c.in-Some-take_out.place
+            (c.loop-at.invariant made c.requires.began.1) (sym c.in-Some-take_out.ensures.was) c.take_out.ensures.without c.take_out.ensures.sorted,
+      );
+    }

@@ -1,6 +1,7 @@
 use Rattle.std.proofs.Common.{sym, subst, ◌∙◌}
 use Rattle.object_versions.specs.Store.{Entries}
 use Rattle.object_versions.proofs.Settling.{reads_value}
+use Rattle.object_versions.proofs.Referred.{owes_there}
 use Rattle.object_versions.proofs.Paying.{IsPaidThen, next_under_way, all_paid, all_paid_at_end}
 use Rattle.object_versions.proofs.Walk.{IsWalk, begins, stands}
 use Rattle.object_versions.proofs.ending.settle_all.Goals as goal
@@ -29,7 +30,12 @@ pub settle_owed-requires : goal.settle_owed-requires
 settle_owed-requires c =
     let under = rw c.in-Some.ensures.steps at c.loop-owner.invariant.2 in
     let made = c.requires.began.0 in
-    record { reads = reads_value _ _ _ made c.args.frame (under.settling made c.requires.began.1) _ _ (stands _ _ _ _ _ under.walk c.if-owner-frame.false) }
+    let begun = under.settling made c.requires.began.1 in
+    let here = stands _ _ _ _ _ under.walk c.if-owner-frame.false in
+    record {
+      reads = reads_value _ _ _ made c.args.frame begun _ _ here;
+      owed = owes_there _ _ made c.args.frame _ _ begun.whole here;
+    }
 
 pub returns-in_err-settle_owed-clause-settling : goal.returns-in_err-settle_owed-clause-settling
 returns-in_err-settle_owed-clause-settling c = λ made begun.

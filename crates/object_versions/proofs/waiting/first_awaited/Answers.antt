@@ -2,6 +2,7 @@ use Rattle.std.proofs.Common.{sym, subst, ◌∙◌}
 use Rattle.object_versions.specs.Store.{Entries}
 use Rattle.object_versions.proofs.Awaited.{NoneOwes, awaits_here, awaits_none}
 use Rattle.object_versions.proofs.Walk.{IsWalk, begins, stands, least, goes_on, ends_at, ends}
+use Rattle.object_versions.proofs.Referred.{given_there}
 use Rattle.object_versions.proofs.waiting.first_awaited.Goals as goal
 
 pub loop-owner-init : goal.loop-owner-init
@@ -38,3 +39,8 @@ pub returns-clause-none : goal.returns-clause-none
 returns-clause-none c = λ place owing waits.
     let walk = rw c.in-None.ensures.steps.0 at c.loop-owner.invariant.2 in
     awaits_none _ _ _ _ _ waits (ends _ _ _ walk place waits.has waits.stands)
+
+pub owing_of-requires : goal.owing_of-requires
+owing_of-requires c =
+    let walk = rw c.in-Some.ensures.steps at c.loop-owner.invariant.2 in
+    given_there c.args.places.now.entries c.args.nodes.now c.requires.whole.0 c.args.frame _ c.in-Some.object.now c.requires.whole.1 (stands _ _ _ _ _ walk c.if-owner-frame.false)

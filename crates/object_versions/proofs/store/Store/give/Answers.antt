@@ -2,6 +2,7 @@ use Rattle.std.proofs.Common.{sym}
 use Rattle.swan_model.specs.declared.rights.Mode.TheVariants.{In, Out, InOut}
 use Rattle.object_versions.proofs.Forgotten.{left_owed, then_whole, then_given}
 use Rattle.object_versions.proofs.GivingUp.{then_given_up}
+use Rattle.object_versions.proofs.Referred.{present_there}
 use Rattle.object_versions.proofs.store.Store.give.Goals as goal
 
 pub returns-in-In-clause-whole : goal.returns-in-In-clause-whole
@@ -60,3 +61,21 @@ returns-in-InOut-clause-given_up c =
     then_given_up c.give_to_change.result c.args.self.now.places.entries own.new.self.places.entries c.give_to_change.new.self.places.entries c.args.self.now.nodes own.new.self.nodes c.give_to_change.new.self.nodes
     c.args.gift.parent c.args.gift.parent_place c.args.gift.child c.args.gift.child_place InOut own.result c.requires.differ own.ensures.whole own.ensures.stands
     (left_owed _ c.args.self.now.nodes own.new.self.nodes c.in-Some.field-0.now own.result own.ensures.given_up own.ensures.kept) c.give_to_change.ensures.given c.give_to_change.ensures.keeps
+
+pub give_to_read-requires-clause-present : goal.give_to_read-requires-clause-present
+give_to_read-requires-clause-present c =
+    let own = c.release_given-object in
+    let made = c.requires.whole.0 in
+    present_there own.new.self.places.entries own.new.self.nodes made c.args.gift.parent c.args.gift.parent_place own.result (own.ensures.whole made c.requires.whole.1) own.ensures.stands
+
+pub give_to_write-requires-clause-present : goal.give_to_write-requires-clause-present
+give_to_write-requires-clause-present c =
+    let own = c.release_given-object in
+    let made = c.requires.whole.0 in
+    present_there own.new.self.places.entries own.new.self.nodes made c.args.gift.parent c.args.gift.parent_place own.result (own.ensures.whole made c.requires.whole.1) own.ensures.stands
+
+pub give_to_change-requires-clause-present : goal.give_to_change-requires-clause-present
+give_to_change-requires-clause-present c =
+    let own = c.release_given-object in
+    let made = c.requires.whole.0 in
+    present_there own.new.self.places.entries own.new.self.nodes made c.args.gift.parent c.args.gift.parent_place own.result (own.ensures.whole made c.requires.whole.1) own.ensures.stands

@@ -1,6 +1,7 @@
 use Rattle.object_versions.proofs.GivingInOut.{changed_whole, changed_seen}
 use Rattle.object_versions.proofs.Given.{still_stands}
 use Rattle.object_versions.proofs.GivingUp.{set_keeps, set_shares}
+use Rattle.object_versions.proofs.Referred.{still_there, still_shared}
 use Rattle.object_versions.proofs.store.Store.give_to_change.Goals as goal
 
 pub returns-clause-whole : goal.returns-clause-whole
@@ -38,3 +39,9 @@ returns-clause-shares c =
     c.requires.stands c.requires.free c.in_ok-put.ensures.put c.set_present.new.places.entries c.in_ok-next.next
     (c.set_present.ensures.set c.args.object.now (still_stands c.args.self.now.places.entries c.put.new.places.entries c.args.gift.parent c.args.gift.parent_place c.args.gift.child c.args.gift.child_place
     c.args.object.now _ c.requires.stands c.requires.free c.in_ok-put.ensures.put)) c.requires.differ
+
+pub release-requires : goal.release-requires
+release-requires c =
+    let key = c.args.object.now.present in
+    still_there c.share.new.nodes c.make.new.nodes c.in_ok-next.next key _ c.in_ok-next.ensures.made
+    (still_shared c.args.self.now.nodes c.share.new.nodes key key _ c.in_ok-share.ensures c.requires.present c.requires.present)

@@ -1,6 +1,7 @@
 use Rattle.object_versions.proofs.GivingOut.{out_whole, out_seen}
 use Rattle.object_versions.proofs.Given.{still_stands}
 use Rattle.object_versions.proofs.GivingUp.{set_keeps}
+use Rattle.object_versions.proofs.Referred.{still_there}
 use Rattle.object_versions.proofs.store.Store.give_to_write.Goals as goal
 
 pub returns-clause-whole : goal.returns-clause-whole
@@ -31,3 +32,8 @@ returns-clause-keeps c =
     c.requires.stands c.requires.free c.in_ok-put.ensures.put c.set_present.new.places.entries c.in_ok-owed.owed
     (c.set_present.ensures.set c.args.object.now (still_stands c.args.self.now.places.entries c.put.new.places.entries c.args.gift.parent c.args.gift.parent_place c.args.gift.child c.args.gift.child_place
     c.args.object.now _ c.requires.stands c.requires.free c.in_ok-put.ensures.put))
+
+pub release-requires : goal.release-requires
+release-requires c =
+    still_there c.make.new.nodes c.make-2.new.nodes c.in_ok-own.own c.args.object.now.present _ c.in_ok-own.ensures.made
+    (still_there c.args.self.now.nodes c.make.new.nodes c.in_ok-owed.owed c.args.object.now.present _ c.in_ok-owed.ensures.made c.requires.present)

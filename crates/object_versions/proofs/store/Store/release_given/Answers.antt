@@ -1,30 +1,39 @@
 use Rattle.std.proofs.Common.{ℕ, None, ap, ◌∙◌}
-use Rattle.object_versions.specs.declared.place.Place.{Place}
+use Rattle.object_versions.specs.declared.placed_object.PlacedObject.{PlacedObject}
 use Rattle.object_versions.specs.Store.{Entries, place_at}
 use Rattle.object_versions.proofs.Lookups.{at_set, still_set}
 use Rattle.object_versions.proofs.Forgotten.{forgotten_whole, forgotten_seen}
+use Rattle.object_versions.proofs.Referred.{given_there}
 use Rattle.object_versions.proofs.store.Store.release_given.Goals as goal
 
 pub returns-clause-stands : goal.returns-clause-stands
 returns-clause-stands c =
-    let less : Place = record c.args.object { given = None } in
-    ap (λ (es : Entries). place_at es c.args.frame c.args.place) (c.forget_given.ensures.set c.args.object c.requires)
-    ∙ at_set c.args.self.now.places.entries (c.args.frame, c.args.place) c.args.object less c.requires
+    let less : PlacedObject = record c.args.object { given = None } in
+    ap (λ (es : Entries). place_at es c.args.frame c.args.place) (c.forget_given.ensures.set c.args.object c.requires.stands)
+    ∙ at_set c.args.self.now.places.entries (c.args.frame, c.args.place) c.args.object less c.requires.stands
 
 pub returns-clause-others : goal.returns-clause-others
 returns-clause-others c = λ other at apart.
-    let less : Place = record c.args.object { given = None } in
-    ap (λ (es : Entries). place_at es other at) (c.forget_given.ensures.set c.args.object c.requires)
-    ∙ still_set c.args.self.now.places.entries (c.args.frame, c.args.place) c.args.object less (other, at) c.requires (λ e. apart (ap (λ (n : ℕ × ℕ). n.0) e))
+    let less : PlacedObject = record c.args.object { given = None } in
+    ap (λ (es : Entries). place_at es other at) (c.forget_given.ensures.set c.args.object c.requires.stands)
+    ∙ still_set c.args.self.now.places.entries (c.args.frame, c.args.place) c.args.object less (other, at) c.requires.stands (λ e. apart (ap (λ (n : ℕ × ℕ). n.0) e))
 
 pub returns-clause-whole : goal.returns-clause-whole
 returns-clause-whole c = λ made whole.
     forgotten_whole c.args.self.now.places.entries c.forget_given.new.places.entries c.args.self.now.nodes c.release.new.nodes made c.args.frame c.args.place
-    c.in-Some.given c.args.object c.in-Ok.field-0.now whole c.requires c.in-Some.is c.in-Ok.ensures.ok
-    (c.forget_given.ensures.set c.args.object c.requires) c.forget_given.ensures.sorted c.release.ensures
+    c.in-Some.given c.args.object c.in-Ok.field-0.now whole c.requires.stands c.in-Some.is c.in-Ok.ensures.ok
+    (c.forget_given.ensures.set c.args.object c.requires.stands) c.forget_given.ensures.sorted c.release.ensures
 
 pub returns-clause-seen : goal.returns-clause-seen
 returns-clause-seen c = λ made whole.
     forgotten_seen c.args.self.now.places.entries c.forget_given.new.places.entries c.args.self.now.nodes c.release.new.nodes made c.args.frame c.args.place
-    c.in-Some.given c.args.object c.in-Ok.field-0.now whole c.requires c.in-Some.is c.in-Ok.ensures.ok
-    (c.forget_given.ensures.set c.args.object c.requires) c.forget_given.ensures.sorted c.release.ensures
+    c.in-Some.given c.args.object c.in-Ok.field-0.now whole c.requires.stands c.in-Some.is c.in-Ok.ensures.ok
+    (c.forget_given.ensures.set c.args.object c.requires.stands) c.forget_given.ensures.sorted c.release.ensures
+
+pub value_at-requires : goal.value_at-requires
+value_at-requires c =
+    given_there c.args.self.now.places.entries c.args.self.now.nodes c.requires.whole.0 c.args.frame c.args.place c.args.object c.requires.whole.1 c.requires.stands c.in-Some.given c.in-Some.is
+
+pub release-requires : goal.release-requires
+release-requires c =
+    given_there c.args.self.now.places.entries c.args.self.now.nodes c.requires.whole.0 c.args.frame c.args.place c.args.object c.requires.whole.1 c.requires.stands c.in-Some.given c.in-Some.is

@@ -3,6 +3,7 @@ use Rattle.swan_model.specs.Versions.{after_write}
 use Rattle.object_versions.proofs.Forgotten.{left_owed}
 use Rattle.object_versions.proofs.Writing.{written_whole, written_seen, written_own}
 use Rattle.object_versions.proofs.Overwriting.{overwritten_whole, overwritten_seen, overwritten_own}
+use Rattle.object_versions.proofs.Referred.{present_there, still_there}
 use Rattle.object_versions.proofs.store.Store.write.Goals as goal
 
 pub returns-then-is_alone-clause-whole : goal.returns-then-is_alone-clause-whole
@@ -47,3 +48,10 @@ returns-clause-own c = λ made whole.
     c.in_ok-next.next own.result c.args.value (own.ensures.whole made whole) own.ensures.stands c.in_ok-next.ensures.vacant c.in_ok-next.ensures.made
     (c.set_present.ensures.set own.result own.ensures.stands) c.set_present.ensures.sorted c.release.ensures
     (left_owed _ c.args.self.now.nodes own.new.self.nodes c.args.object own.result own.ensures.given_up own.ensures.kept)
+
+pub release-requires : goal.release-requires
+release-requires c =
+    let own = c.release_given-own in
+    let made = c.requires.whole.0 in
+    still_there own.new.self.nodes c.make.new.nodes c.in_ok-next.next own.result.present _ c.in_ok-next.ensures.made
+    (present_there own.new.self.places.entries own.new.self.nodes made c.args.frame c.args.place own.result (own.ensures.whole made c.requires.whole.1) own.ensures.stands)

@@ -46,3 +46,6 @@ returns-in-Ok-clause-beside c =
 pub returns-in-Ok-clause-last_beside : goal.returns-in-Ok-clause-last_beside
 returns-in-Ok-clause-last_beside c =
     last_meanwhile c.args.self.now _ c.args.parent c.args.parent_place c.args.child c.args.child_place c.args.mode c.requires.held c.requires.free c.requires.alone (search rules)
+
+pub give-requires-clause-whole : goal.give-requires-clause-whole
+give-requires-clause-whole c = (c.self.inside.made, c.self.invariant)

@@ -59,3 +59,16 @@ returns-else-frame-ne0-clause-follows c = finish_told c.args.self.now _ c.args.f
 
 pub returns-else-frame-ne0-clause-giving : goal.returns-else-frame-ne0-clause-giving
 returns-else-frame-ne0-clause-giving c = finished_giving c.args.self.now _ c.args.frame c.requires.settled (returns-else-frame-ne0-clause-ok c)
+
+pub forget_all-requires : goal.forget_all-requires
+forget_all-requires c =
+    let P : VersionState → Type 0 = λ state. IsSettled state c.args.frame in
+    let entries = c.self.inside.store.places.entries in
+    let made = c.self.inside.made in
+    let begun = begins entries c.self.inside.store.nodes made c.args.frame c.self.invariant (subst P (sym c.self.view_is) c.requires.settled) in
+    record {
+      began = (
+        made,
+        not_begun entries c.self.inside.store.nodes c.settle_all.new.nodes made c.args.frame (c.in-Ok.ensures.settling made begun) (c.in-Ok.ensures.paid made begun),
+      );
+    }

@@ -33,3 +33,6 @@ returns-in-Some-clause-owes c =
     let P : VersionState → Type 0 = λ state. (place : ℕ) (awaits : Awaits state c.args.frame place owing)
     → (other : ℕ) × (has : Placed) × (placed_at state owing other ≡ Some has) × (has.object ≡ awaits.object.object) × (allows has.mode Out ≡ true) in
     subst P c.self.view_is (λ place awaits. given_owes c.self.inside.store.places.entries c.self.inside.store.nodes c.self.inside.made c.self.invariant c.args.frame place owing awaits)
+
+pub first_awaited-requires : goal.first_awaited-requires
+first_awaited-requires c = record { whole = (c.self.inside.made, c.self.invariant) }

@@ -4,6 +4,7 @@ use Rattle.swan_model.specs.Rights.{allows}
 use Rattle.swan_model.specs.Versions.{VersionState, Placed, placed_at, settled, owed}
 use Rattle.object_versions.proofs.Awaited.{absent, present_by, map_ok, map_err, present_owes}
 use Rattle.object_versions.proofs.CallsFollow.{value_told}
+use Rattle.object_versions.proofs.Referred.{present_there}
 use Rattle.object_versions.proofs.versions.Versions.value.Goals as goal
 
 pub unreachable-requires : goal.unreachable-requires
@@ -35,3 +36,7 @@ returns-clause-owes c = map_err c.value_at.result _ _ (λ owing all object seen.
 
 pub returns-clause-follows : goal.returns-clause-follows
 returns-clause-follows c = value_told c.args.self.now c.args.frame c.args.place c.value_at.result (returns-clause-ok c)
+
+pub value_at-requires : goal.value_at-requires
+value_at-requires c =
+    present_there c.self.inside.store.places.entries c.self.inside.store.nodes c.self.inside.made c.args.frame c.args.place c.in-Some.object.now c.self.invariant (sym c.in-Some.ensures.value)

@@ -21,3 +21,6 @@ returns-in-Ok-clause-follows c = write_told c.args.self.now _ c.args.frame c.arg
 
 pub returns-in-Ok-clause-giving : goal.returns-in-Ok-clause-giving
 returns-in-Ok-clause-giving c = written_giving c.args.self.now _ c.args.frame c.args.place c.args.value (search rules)
+
+pub write-requires-clause-whole : goal.write-requires-clause-whole
+write-requires-clause-whole c = (c.self.inside.made, c.self.invariant)

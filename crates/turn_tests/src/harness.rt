@@ -1,0 +1,60 @@
+// What takes the steps of a test.
+ghost use Rattle.std.specs.Prelude.{◌≡◌, true, [], IfOk};
+ghost use Rattle.turn_tests.specs.declared.step.Step.TheVariants as step;
+ghost use Rattle.turn_tests.specs.Steps.{allows_step, allows_steps, after_step};
+
+use crate::Step;
+use pop_order::PopTurns;
+use std::alloc::Global;
+use std::test::Fail;
+use swan_model::NoMemory;
+
+/// Lends to a child, and answers whether it may start: where it may not, nothing is done.
+fn lends(turns: &mut PopTurns, child: u64) -> bool
+    ensures { result ≡ true → turns.new ≡ after_step turns.old (step.Lend child) }
+{
+    match turns.may_start(child) {
+        Ok(()) => {
+            turns.lend(child);
+            true
+        }
+        Err(_) => false,
+    }
+}
+
+/// Makes a step's call, and answers whether that had the step's answer. Err is want of memory.
+fn does(turns: &mut PopTurns, step: Step) -> Result<bool, NoMemory>
+    requires { allows_step turns.old step ≡ true }
+    ensures { IfOk result (λ right. right ≡ true → turns.new ≡ after_step turns.old step) }
+{
+    match step {
+        Step::Enlist(parent, child, queue, mode) => {
+            turns.enlist(parent, child, queue, mode)?;
+            Ok(true)
+        }
+        Step::MayStart(child, answer) => Ok(turns.may_start(child) == answer),
+        Step::Lend(child) => Ok(lends(turns, child)),
+        Step::Back(child) => {
+            turns.back(child);
+            Ok(true)
+        }
+        Step::PoppingChild(frame, queue, answer) => {
+            Ok(turns.popping_child(frame, queue) == answer)
+        }
+        Step::Finds(frame, queue, answer) => Ok(turns.certain(frame, queue) == answer),
+    }
+}
+
+/// Takes these steps on turns with no frames. Err names the first step that is answered
+/// otherwise, counted from 0.
+pub fn run(alloc: Global, steps: &[Step]) -> Result<(), Fail>
+    requires { allows_steps [] steps.now ≡ true }
+{
+    let mut turns = PopTurns::new(alloc);
+    for (index, step) in steps.iter().enumerate() {
+        if !does(&mut turns, *step)? {
+            return Err(Fail::new(format_args!("another answer at step {index}")));
+        }
+    }
+    Ok(())
+}

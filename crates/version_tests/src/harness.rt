@@ -1,0 +1,126 @@
+// What takes the steps of a test.
+ghost use Rattle.std.specs.Prelude.{◌≡◌, true, IfOk, OnOk};
+ghost use Rattle.swan_model.specs.Versions.{new_versions};
+ghost use Rattle.version_tests.specs.declared.step.Step.TheVariants as step;
+ghost use Rattle.version_tests.specs.Steps.{allows_step, allows_steps, after_step};
+
+use crate::Step;
+use object_versions::Versions;
+use std::alloc::Global;
+use std::test::Fail;
+use swan_model::{Mode, NoMemory, Record, Value};
+
+/// Makes an object with a number.
+fn creates(versions: &mut Versions, frame: u64, place: u32, first: i64) -> Result<(), NoMemory>
+    requires { allows_step versions.old (step.Create frame place first) ≡ true }
+    ensures { OnOk result (versions.new ≡ after_step versions.old (step.Create frame place first)) }
+{
+    versions.create(frame, place, Value::Int(first))
+}
+
+/// Makes an object with a record.
+fn creates_record(
+    versions: &mut Versions,
+    alloc: Global,
+    frame: u64,
+    place: u32,
+    bytes: [u8; 2],
+) -> Result<(), NoMemory>
+    requires { allows_step versions.old (step.CreateRecord frame place bytes) ≡ true }
+    ensures { OnOk result (versions.new ≡ after_step versions.old (step.CreateRecord frame place bytes)) }
+{
+    match Record::of(alloc, &bytes) {
+        Ok(record) => versions.create(frame, place, Value::Bytes(record)),
+        Err(_) => Err(NoMemory),
+    }
+}
+
+/// Gives a child an object.
+fn gives(
+    versions: &mut Versions,
+    parent: u64,
+    place: u32,
+    child: u64,
+    child_place: u32,
+    mode: Mode,
+) -> Result<(), NoMemory>
+    requires { allows_step versions.old (step.Access parent place child child_place mode) ≡ true }
+    ensures { OnOk result (versions.new ≡ after_step versions.old (step.Access parent place child child_place mode)) }
+{
+    versions.access(parent, place, child, child_place, mode)
+}
+
+/// Whether a frame reads this number, or waits for this frame.
+fn reads(versions: &Versions, frame: u64, place: u32, answer: Result<i64, u64>) -> bool
+    requires { allows_step versions.now (step.Reads frame place answer) ≡ true }
+{
+    match versions.value(frame, place) {
+        Ok(Value::Int(number)) => answer == Ok(*number),
+        Ok(Value::Bytes(_)) => false,
+        Err(owing) => answer == Err(owing),
+    }
+}
+
+/// Whether a frame reads a record of so many bytes.
+fn reads_record(versions: &Versions, frame: u64, place: u32, size: usize) -> bool
+    requires { allows_step versions.now (step.ReadsRecord frame place size) ≡ true }
+{
+    match versions.value(frame, place) {
+        Ok(Value::Bytes(record)) => record.as_slice().len() == size,
+        _ => false,
+    }
+}
+
+/// Writes a number.
+fn writes(versions: &mut Versions, frame: u64, place: u32, number: i64) -> Result<(), NoMemory>
+    requires { allows_step versions.old (step.Write frame place number) ≡ true }
+    ensures { OnOk result (versions.new ≡ after_step versions.old (step.Write frame place number)) }
+{
+    versions.write(frame, place, Value::Int(number))
+}
+
+/// Ends a frame.
+fn ends(versions: &mut Versions, frame: u64) -> Result<(), NoMemory>
+    requires { allows_step versions.old (step.Finish frame) ≡ true }
+    ensures { OnOk result (versions.new ≡ after_step versions.old (step.Finish frame)) }
+{
+    versions.finish(frame)
+}
+
+/// Makes a step's call, and answers whether that had the step's answer. Err is want of memory.
+fn does(versions: &mut Versions, alloc: Global, step: Step) -> Result<bool, NoMemory>
+    requires { allows_step versions.old step ≡ true }
+    ensures { IfOk result (λ right. right ≡ true → versions.new ≡ after_step versions.old step) }
+{
+    match step {
+        Step::Create(frame, place, first) => creates(versions, frame, place, first)?,
+        Step::CreateRecord(frame, place, bytes) => {
+            creates_record(versions, alloc, frame, place, bytes)?
+        }
+        Step::Access(parent, place, child, child_place, mode) => {
+            gives(versions, parent, place, child, child_place, mode)?
+        }
+        Step::Ready(frame, answer) => return Ok(versions.ready(frame) == answer),
+        Step::Reads(frame, place, answer) => return Ok(reads(versions, frame, place, answer)),
+        Step::ReadsRecord(frame, place, size) => {
+            return Ok(reads_record(versions, frame, place, size));
+        }
+        Step::Write(frame, place, number) => writes(versions, frame, place, number)?,
+        Step::Finish(frame) => ends(versions, frame)?,
+    }
+    Ok(true)
+}
+
+/// Takes these steps on no objects, and answers the objects that they leave. Err names the first step that
+/// is answered otherwise, counted from 0.
+pub fn run(alloc: Global, steps: &[Step]) -> Result<Versions, Fail>
+    requires { allows_steps new_versions steps.now ≡ true }
+{
+    let mut versions = Versions::new(alloc);
+    for (index, step) in steps.iter().enumerate() {
+        if !does(&mut versions, alloc, *step)? {
+            return Err(Fail::new(format_args!("another answer at step {index}")));
+        }
+    }
+    Ok(versions)
+}
