@@ -1,5 +1,6 @@
-"""The time of a step: lines of int arithmetic and lines of text, as ratios to the like loop in python3."""
+"""The time of a step: lines of int arithmetic, of text and of queues, as ratios to the like loop in python3."""
 import time
+from collections import deque
 
 from common import folder, least, written
 
@@ -7,6 +8,9 @@ TURNS = 1_500_000
 
 # Each turn has eight lines of text and four others.
 TEXT_TURNS = 750_000
+
+# Each turn has 8 pushes, 8 pops and 9 tests whether the queue is empty, and 64 others.
+QUEUE_TURNS = 100_000
 
 INTS = f"""swan 1
 output sum int
@@ -53,6 +57,38 @@ task main
 end
 """
 
+QUEUES = f"""swan 1
+output sum int
+task main
+  var i int
+  var k int
+  var s int
+  var none int
+  var more int
+  queue q int
+  do
+  more = lt i {QUEUE_TURNS}
+  while more
+    k = set 8
+    while k
+      push q k
+      k = sub k 1
+    end
+    empty none q
+    more = not none
+    while more
+      pop k q
+      s = add s k
+      empty none q
+      more = not none
+    end
+    i = add i 1
+    more = lt i {QUEUE_TURNS}
+  end
+  push sum s
+end
+"""
+
 EMPTY = "swan 1\ntask main\n  do\nend\n"
 
 
@@ -84,6 +120,27 @@ def texts():
     return len(part)
 
 
+def queues():
+    i = s = 0
+    q = deque()
+    more = i < QUEUE_TURNS
+    while more:
+        k = 8
+        while k:
+            q.append(k)
+            k = k - 1
+        none = not q
+        more = not none
+        while more:
+            k = q.popleft()
+            s = s + k
+            none = not q
+            more = not none
+        i = i + 1
+        more = i < QUEUE_TURNS
+    return s
+
+
 def least_of(function):
     times = []
     for _ in range(3):
@@ -98,6 +155,7 @@ with folder() as here:
     for name, text, function, steps in [
         ("int arithmetic", INTS, ints, 5 * TURNS),
         ("text", TEXTS, texts, 12 * TEXT_TURNS),
+        ("queues", QUEUES, queues, 89 * QUEUE_TURNS),
     ]:
         seconds, _ = least(["elide", 10_000_000, written(here, name.split()[0], [text])], 3)
         other = least_of(function)
