@@ -8,7 +8,11 @@ ghost use Rattle.job_reader.specs.FirstFault.{job_of};
 ghost use Rattle.job_reader.specs.Jobs.{IsJob};
 ghost use Rattle.job_reader.specs.Pieces.{AreLines, AreTokens, StandsFor};
 ghost use Rattle.job_reader.specs.Tokens.{tokens};
+ghost use Rattle.job_reader.specs.declared.atom.TheConstants.{NAME_MOST};
+ghost use Rattle.job_reader.specs.declared.job.TheConstants.{JOB_LINES_MOST};
 ghost use Rattle.job_reader.specs.declared.line.Line.{Line as JobLine};
+ghost use Rattle.job_reader.specs.declared.place.TheConstants.{BLOCKS_MOST, INPUTS_MOST};
+ghost use Rattle.job_reader.specs.declared.read.TheConstants.{LINE_MOST};
 
 /// What a text reads as is read again from its canonical text, and written a second time it has the same
 /// bytes.
@@ -38,4 +42,14 @@ pub fn literals_are_pieces()
     ensures pieces { (rest bytes : List ℕ) → literal rest ≡ Ok bytes → StandsFor rest bytes }
     ensures fits { (rest bytes : List ℕ) → literal rest ≡ Ok bytes → length bytes ≤ RECORD_MOST }
     ensures only { (rest bytes : List ℕ) → StandsFor rest bytes → length bytes ≤ RECORD_MOST → literal rest ≡ Ok bytes }
+{}
+
+/// The law that says of each limit of a job's text which number it is. The definitions name the limits, so
+/// without it another number would change what they mean.
+pub fn limits_of_jobs()
+    ensures lines { JOB_LINES_MOST ≡ 20000 }
+    ensures line { LINE_MOST ≡ 4096 }
+    ensures inputs { INPUTS_MOST ≡ 16 }
+    ensures blocks { BLOCKS_MOST ≡ 32 }
+    ensures name { NAME_MOST ≡ 32 }
 {}

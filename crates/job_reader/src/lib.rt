@@ -44,7 +44,9 @@ mod write_atom;
 pub use atom::{Atom, Atoms};
 pub use fault::{JobFault, JobKind, ReadJob};
 pub use job::Job;
-pub use laws::{lines_are_pieces, literals_are_pieces, text_reads_back, tokens_are_pieces};
+pub use laws::{
+    limits_of_jobs, lines_are_pieces, literals_are_pieces, text_reads_back, tokens_are_pieces,
+};
 pub use line::Line;
 pub use number::read_number;
 pub use op::Op;

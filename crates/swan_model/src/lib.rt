@@ -15,6 +15,7 @@
 
 mod body;
 mod fault;
+mod limits;
 mod lines;
 mod listed;
 mod meaning;
@@ -36,6 +37,7 @@ mod value;
 
 pub use body::{Answer, Ask, Body, Child, Stop, Worked};
 pub use fault::{Fault, FaultKind, Faults, Trouble};
+pub use limits::limits_of_values_and_plans;
 pub use lines::{LINES_MOST, LinesAnswer, lines_of};
 pub use listed::Listed;
 pub use meaning::{Meaning, Means};

@@ -2,8 +2,8 @@
 //!
 //! Everything that a run takes from the world or gives to it goes through two traits: `Files`,
 //! whose one call reads a whole file by its name, and `Sink`, whose one call takes some bytes of a
-//! piece. There are three kinds of each: those that a caller writes, those in memory, which answer
-//! exactly what they are told to, and those of the system.
+//! piece. There are four kinds of each: those that a caller writes, those in memory, which answer
+//! exactly what they are told to, honest ones, of which no call fails, and those of the system.
 //!
 //! Promised of every implementation:
 //!
@@ -24,6 +24,9 @@
 mod answer;
 mod counts;
 mod files;
+mod honest_files;
+mod honest_sink;
+mod limits;
 mod memory_files;
 mod memory_sink;
 mod os_files;
@@ -32,6 +35,9 @@ mod sink;
 
 pub use answer::{Failed, ReadAnswer};
 pub use files::{FILE_MOST, FileBlob, Files};
+pub use honest_files::HonestFiles;
+pub use honest_sink::HonestSink;
+pub use limits::limits_of_files_and_sinks;
 pub use memory_files::MemoryFiles;
 pub use memory_sink::MemorySink;
 pub use os_files::OsFiles;

@@ -112,7 +112,7 @@ fn append_content(files: &[FileBlob], name: &Word, into: &mut Vec<u8>) -> Result
 }
 
 /// The first file of this name.
-fn file_named<'a>(files: &'a [FileBlob], name: &Word) -> Option<&'a FileBlob>
+pub(crate) fn file_named<'a>(files: &'a [FileBlob], name: &Word) -> Option<&'a FileBlob>
     ensures { option_copied result ≡ find (λ file. bytes_eq file.name name.now) files.now }
 {
     files
@@ -121,7 +121,7 @@ fn file_named<'a>(files: &'a [FileBlob], name: &Word) -> Option<&'a FileBlob>
 }
 
 /// Adds a whole content to the end of the buffer.
-fn append_whole(content: &[u8], into: &mut Vec<u8>) -> Result<(), ReadAnswer>
+pub(crate) fn append_whole(content: &[u8], into: &mut Vec<u8>) -> Result<(), ReadAnswer>
     ensures answer { IsAnswerTo (Some content.now) result }
     ensures whole { OnOk result (Reads (Some content.now) into.old.items into.new.items) }
     ensures unread { OnErr result (into.new.items ≡ into.old.items) }

@@ -56,12 +56,13 @@ impl<T: Runtime> Files for OsFiles<T> {
 
     ghost long_reads = { λ it. it.long_reads };
 
-    /// Adds the whole content of a file to the end of the buffer. The name is its path. A pipe or
-    /// another special file is read to its end, or to one byte past `FILE_MOST`. Failed comes where
-    /// the system can't open or read the file: it is missing, or a directory, or its name is empty
-    /// or has a NUL byte. TooLong comes where the file has more than `FILE_MOST` bytes, of which no
-    /// more than one past that is read. NoMemory comes where the buffer can't grow, or the system
-    /// has no memory.
+    /// Adds the whole content of a file to the end of the buffer. The name is its path, as it is. A
+    /// pipe or another special file is read to its end, or to one byte past `FILE_MOST`. Failed
+    /// comes where the system can't open or read the file: it is missing, or a directory, or its
+    /// name is empty or has a NUL byte. TooLong comes where the file has more than `FILE_MOST`
+    /// bytes, of which no more than one past that is read. NoMemory comes only once a file was
+    /// opened, where the buffer can't grow or the system has no memory to read: so a missing file
+    /// is never want of memory.
     ///
     /// Where the runtime tells what its files have left, the bytes are all that one of its files
     /// had, and TooLong comes only where one had more than `FILE_MOST`. `O(bytes that are read)`.
@@ -75,6 +76,7 @@ impl<T: Runtime> Files for OsFiles<T> {
         ensures long { result ≡ Err answer.TooLong → Rose self.old.long_reads self.new.long_reads }
         ensures long_file { result ≡ Err answer.TooLong →
             (file : T.File) × IsTooLong (T.File.remaining file) }
+        ensures opened { result ≡ Err answer.NoMemory → T.File }
         ensures no_fault { result ≢ Err answer.Failed → self.new.faults ≡ self.old.faults }
         ensures no_long_read { result ≢ Err answer.TooLong →
             self.new.long_reads ≡ self.old.long_reads }
@@ -100,9 +102,12 @@ fn append_file<T: Runtime>(rt: &T, name: &str, into: &mut Vec<u8>) -> Result<(),
         × Reads (T.File.remaining file) into.old.items into.new.items) }
     ensures long { result ≡ Err answer.TooLong →
         (file : T.File) × IsTooLong (T.File.remaining file) }
+    ensures opened { result ≡ Err answer.NoMemory → T.File }
 {
-    let mut file = fs::open(rt, name).map_err(refusal_of)?;
-    append_rest(&mut file, into)
+    match fs::open(rt, name) {
+        Ok(mut file) => append_rest(&mut file, into),
+        Err(_) => Err(ReadAnswer::Failed),
+    }
 }
 
 /// Adds what a reader has left to the end of the buffer. After a refusal a part of it may be there.
@@ -183,13 +188,19 @@ mod tests {
 
     const SHORT: &str = "swan_outside_test_short";
 
+    /// The same name with a space before it.
+    const SPACED: &str = " swan_outside_test_short";
+
     const LONG: &str = "swan_outside_test_long";
 
     #[test]
     fn reads_files_of_the_system(rt: HostRuntime) -> Result<(), Fail> {
         fs::write(&rt, SHORT, "some bytes")?;
+        fs::write(&rt, SPACED, "others")?;
         let rows = [
             (SHORT, Ok(()), ">some bytes"),
+            (SPACED, Ok(()), ">others"),
+            ("swan_outside_test_short ", Err(ReadAnswer::Failed), ">"),
             ("swan_outside_test_missing", Err(ReadAnswer::Failed), ">"),
             (".", Err(ReadAnswer::Failed), ">"),
             ("", Err(ReadAnswer::Failed), ">"),
@@ -204,9 +215,10 @@ mod tests {
             assert_eq!(rt; files.read(&name, &mut into), answer);
             assert_eq!(rt; into.as_slice(), left.as_bytes());
         }
-        assert_eq!(rt; files.counts.faults, 4);
+        assert_eq!(rt; files.counts.faults, 5);
         assert_eq!(rt; files.counts.long_reads, 1);
         fs::remove_file(&rt, SHORT)?;
+        fs::remove_file(&rt, SPACED)?;
         Ok(())
     }
 
@@ -265,6 +277,11 @@ mod tests {
             let mut reader = Stumbling { reads: 0, last };
             assert_eq!(rt; append_rest(&mut reader, &mut into), answer);
             assert_eq!(rt; into.as_slice(), b"13".as_slice());
+            assert_eq!(rt;
+                reader.reads,
+                4,
+                "no read is made again but the interrupted one"
+            );
         }
         Ok(())
     }

@@ -5,7 +5,7 @@ ghost use Rattle.swan_outside.specs.Told.{Appends};
 ghost use Rattle.swan_outside.specs.Streams.{text_front, IsTakenBy};
 
 use crate::{Failed, Sink};
-use std::io::ErrorKind;
+use std::io::{Eprint, ErrorKind, Print};
 use std::marker::Model;
 use std::rt::Runtime;
 
@@ -24,13 +24,13 @@ enum Stream {
 
 /// Standard output, or standard error. It tells no bytes. Contracts see it as a `StreamState`.
 #[derive(Drop)]
-pub struct OsSink<T: Runtime> {
+pub struct OsSink<T: Print + Eprint + Drop> {
     rt: T,
     stream: Stream,
     faults: u64,
 }
 
-impl<T: Runtime> Model for OsSink<T> {
+impl<T: Print + Eprint + Drop> Model for OsSink<T> {
     ghost use Rattle.swan_outside.specs.Streams.{StreamState};
 
     ghost Value = { StreamState };
@@ -62,7 +62,7 @@ impl<T: Runtime> OsSink<T> {
     }
 }
 
-impl<T: Runtime> Sink for OsSink<T> {
+impl<T: Print + Eprint + Drop> Sink for OsSink<T> {
     ghost written = { λ _. None };
 
     ghost faults = { λ it. it.faults };
@@ -93,7 +93,7 @@ impl<T: Runtime> Sink for OsSink<T> {
 }
 
 /// Writes bytes from the front of a piece to this stream.
-fn write_front<T: Runtime>(rt: &T, stream: Stream, piece: &[u8]) -> Result<usize, Failed>
+fn write_front<T: Print + Eprint>(rt: &T, stream: Stream, piece: &[u8]) -> Result<usize, Failed>
     ensures front { IfOk result (λ n. IsTakenBy stream piece.now n) }
     ensures some { IfOk result (λ n. 1 ≤ n) }
     ensures most { IfOk result (λ n. n ≤ length piece.now) }
@@ -106,7 +106,7 @@ fn write_front<T: Runtime>(rt: &T, stream: Stream, piece: &[u8]) -> Result<usize
 
 /// Writes some bytes from the front of a piece to standard output, again where a signal interrupts
 /// it.
-fn write_some<T: Runtime>(rt: &T, piece: &[u8]) -> Result<usize, Failed>
+fn write_some<T: Print>(rt: &T, piece: &[u8]) -> Result<usize, Failed>
     ensures some { IfOk result (λ n. 1 ≤ n) }
     ensures most { IfOk result (λ n. n ≤ length piece.now) }
 {
@@ -123,7 +123,7 @@ fn write_some<T: Runtime>(rt: &T, piece: &[u8]) -> Result<usize, Failed>
 
 /// Writes the front of a piece that is whole characters to standard error.
 #[tactic(auto, using(crate::proofs::Fronts::text_front_le))]
-fn write_text<T: Runtime>(rt: &T, piece: &[u8]) -> Result<usize, Failed>
+fn write_text<T: Eprint>(rt: &T, piece: &[u8]) -> Result<usize, Failed>
     ensures front { IfOk result (λ n. n ≡ length (text_front piece.now)) }
     ensures some { IfOk result (λ n. 1 ≤ n) }
     ensures most { IfOk result (λ n. n ≤ length piece.now) }
@@ -152,6 +152,122 @@ fn front_of(piece: &[u8]) -> &str
 #[cfg(test)]
 mod tests {
     use super::*;
+    use std::alloc::Global;
+    use std::cell::{Cell, RefCell};
+    use std::fmt::Display;
+    use std::io;
+    use std::process::Abort;
+    use std::test::Fail;
+
+    /// A stream in memory, which keeps what it takes and counts its calls. The first calls are
+    /// interrupted. Each later one takes so many bytes at most, or fails where no number is there.
+    #[derive(Drop)]
+    struct Fake {
+        alloc: Global,
+        interrupts: u32,
+        takes: Option<usize>,
+        calls: Cell<u32>,
+        written: RefCell<Vec<u8>>,
+    }
+
+    impl Fake {
+        fn take(&self, bytes: &[u8]) -> io::Result<usize> {
+            let calls = self.calls.get();
+            self.calls.set(calls.saturating_add(1));
+            if calls < self.interrupts {
+                return Err(io::Error::from(ErrorKind::Interrupted));
+            }
+            let Some(most) = self.takes else {
+                return Err(io::Error::from(ErrorKind::StorageFull));
+            };
+            let front = &bytes[..most.min(bytes.len())];
+            match self.written.try_borrow_mut() {
+                Ok(mut written) => written.extend_from_slice(front)?,
+                Err(_) => return Err(io::Error::from(ErrorKind::ResourceBusy)),
+            }
+            Ok(front.len())
+        }
+
+        fn take_text<D: Display + Drop>(&self, value: D) -> io::Result<()> {
+            let text = format!(in self.alloc; "{value}")?;
+            self.take(text.as_bytes())?;
+            Ok(())
+        }
+    }
+
+    impl Print for Fake {
+        fn print<D: Display + Drop>(&self, value: D) -> io::Result<()> {
+            self.take_text(value)
+        }
+
+        fn println<D: Display + Drop>(&self, value: D) -> io::Result<()> {
+            self.take_text(value)
+        }
+
+        fn write_all(&self, bytes: &[u8]) -> io::Result<()> {
+            self.take(bytes)?;
+            Ok(())
+        }
+
+        fn write_some(&self, bytes: &[u8]) -> io::Result<usize> {
+            Ok(self.take(bytes)?.min(bytes.len()))
+        }
+    }
+
+    impl Eprint for Fake {
+        fn eprint<D: Display + Drop>(&self, value: D) -> io::Result<()> {
+            self.take_text(value)
+        }
+
+        fn eprintln<D: Display + Drop>(&self, value: D) -> io::Result<()> {
+            self.take_text(value)
+        }
+    }
+
+    /// What two streams make of a put of an e with an accent, a b and a line feed, which are 4 bytes: the
+    /// answer, and what they have then taken, by how many calls.
+    #[test]
+    fn the_bytes_of_a_piece_are_written_once(rt: HostRuntime) -> Result<(), Fail> {
+        let whole = "\u{e9}b\n";
+        let rows = [
+            (Stream::Output, 0, Some(9), Ok(4), whole, 1),
+            (Stream::Output, 2, Some(2), Ok(2), "\u{e9}", 3),
+            (Stream::Output, 0, Some(0), Err(Failed), "", 1),
+            (Stream::Output, 1, None, Err(Failed), "", 2),
+            (Stream::Error, 0, Some(9), Ok(4), whole, 1),
+            (Stream::Error, 0, None, Err(Failed), "", 1),
+        ];
+        for (stream, interrupts, takes, answer, written, calls) in rows {
+            let mut sink = OsSink {
+                rt: fake(rt.alloc(), interrupts, takes),
+                stream,
+                faults: 0,
+            };
+            assert_eq!(rt; sink.put(whole.as_bytes()), answer);
+            hold_written(&rt, &sink.rt, written, calls);
+        }
+        Ok(())
+    }
+
+    fn fake(alloc: Global, interrupts: u32, takes: Option<usize>) -> Fake {
+        Fake {
+            alloc,
+            interrupts,
+            takes,
+            calls: Cell::new(0),
+            written: RefCell::new(Vec::new(alloc)),
+        }
+    }
+
+    /// Asserts what a stream took, and by how many calls.
+    fn hold_written(rt: &impl Abort, fake: &Fake, written: &str, calls: u32) {
+        assert_eq!(rt; fake.calls.get(), calls);
+        let is_so = match fake.written.try_borrow() {
+            Ok(bytes) => bytes.as_slice() == written.as_bytes(),
+            Err(_) => false,
+        };
+        assert!(rt; is_so, "{written}");
+    }
 
     #[test]
     fn writes_to_each_stream(rt: HostRuntime) {

@@ -5,10 +5,10 @@ use Rattle.job_reader.specs.declared.line.Line.{Line}
 use Rattle.swan_model.specs.declared.outcome.Outcome.{Outcome}
 use Rattle.swan_model.specs.declared.plan.Plan.{Plan}
 use Rattle.swan_top.specs.Decision.{Verdict, accepted, checked, unread, unless_unread, next_of_check, next_of_job, next_of_run, ran}
-use Rattle.swan_top.specs.Headline.{AreRead, IsRead, FilesSeen, Follows, Leads, NoReadFailed, NoneTooLong, files_seen}
-use Rattle.swan_top.specs.Settled.{Stops, IsRefused, InputRefused}
+use Rattle.swan_top.specs.Headline.{AreRead, IsRead, FilesSeen, Follows, Leads, NoReadFailed, NoneTooLong, ReadRefused, files_seen}
+use Rattle.swan_top.specs.Settled.{Stops, StopsOver, IsRefused, InputRefused}
 use Rattle.swan_top.specs.declared.verdict.Stop.{Stop}
-use Rattle.swan_top.proofs.TextsRead.{Stops-map, ReadRefused-since}
+use Rattle.swan_top.proofs.TextsRead.{Stops-map, ReadRefused-since, Unrefused, unrefused_since}
 
 -- texts of told contents, told at another moment
 pub AreRead-as : (content mid : List ℕ → Option (List ℕ)) → ((other : List ℕ) → mid other ≡ content other) → (files texts : List (List ℕ)) → AreRead mid files texts → AreRead content files texts
@@ -20,29 +20,30 @@ AreRead-as content mid same (file ∷ files) (text ∷ texts) read =
 
 module _ (files : FilesSeen) (job text : List ℕ) (told : IsRead (files.content job) text) where
   -- a job that is refused when it is checked
-  pub refused_check : NoReadFailed files → NoneTooLong files → (why : Stop) → Stops (IsRefused text) why → Stops (Leads files (job ∷ []) (next_of_check job)) why
-  refused_check read short = Stops-map (IsRefused text) (Leads files (job ∷ []) (next_of_check job))
+  pub refused_check : NoReadFailed files → NoneTooLong files → (why : Stop) → Stops (IsRefused text) why → StopsOver files (Leads files (job ∷ []) (next_of_check job)) why
+  refused_check read short = Stops-map (Unit {0}) (Unrefused files) (IsRefused text) (Leads files (job ∷ []) (next_of_check job)) (λ _. (read, short))
       (λ verdict refused. record { texts = text ∷ []; are_read = (told, tt); follows = (refused.refused ∙ sym (ap checked refused.first), read, short) })
 
   -- and one that is accepted
-  pub accepted_check : NoReadFailed files → NoneTooLong files → (lines : List Line) (verdict : Verdict) → accepted text ≡ Ok lines → verdict ≡ checked (Ok lines) → Leads files (job ∷ []) (next_of_check job) verdict
-  accepted_check read short lines verdict is done = record { texts = text ∷ []; are_read = (told, tt); follows = (done ∙ sym (ap checked is), read, short) }
+  pub accepted_check : NoReadFailed files → NoneTooLong files → (lines : List Line) → accepted text ≡ Ok lines → (verdict : Verdict) → verdict ≡ checked (Ok lines) → Leads files (job ∷ []) (next_of_check job) verdict
+  accepted_check read short lines is verdict done = record { texts = text ∷ []; are_read = (told, tt); follows = (done ∙ sym (ap checked is), read, short) }
 
   module _ (outcome_of : Plan (List Line) Standing → Outcome) (fuel : ℕ) (names : List (List ℕ)) where
     abbrev pub RunLeads : Verdict → Type 0
     RunLeads = Leads files (job ∷ names) (next_of_run outcome_of fuel job names)
 
     -- a job that is refused when it is to run
-    pub refused_run : NoReadFailed files → NoneTooLong files → (why : Stop) → Stops (IsRefused text) why → Stops RunLeads why
-    refused_run read short = Stops-map (IsRefused text) RunLeads
+    pub refused_run : NoReadFailed files → NoneTooLong files → (why : Stop) → Stops (IsRefused text) why → StopsOver files RunLeads why
+    refused_run read short = Stops-map (Unit {0}) (Unrefused files) (IsRefused text) RunLeads (λ _. (read, short))
         (λ verdict refused.
         let P : Result (List Line) _ → Type 0 = λ r. Follows files (next_of_job outcome_of fuel names r []) verdict in
         record { texts = text ∷ []; are_read = (told, tt); follows = subst P (sym refused.first) (refused.refused, read, short) })
 
     module _ (lines : List Line) (is : accepted text ≡ Ok lines) (mid : List ℕ → Option (List ℕ)) (same : (other : List ℕ) → mid other ≡ files.content other) where
       -- an input that couldn't be read
-      pub unread_run : (f1 l1 : ℕ) → f1 ≡ files.faults_before → l1 ≡ files.long_before → (why : Stop) → Stops (InputRefused (files_seen mid f1 files.faults_after l1 files.long_after) names) why → Stops RunLeads why
-      unread_run f1 l1 faults long = Stops-map (InputRefused (files_seen mid f1 files.faults_after l1 files.long_after) names) RunLeads
+      pub unread_run : (f1 l1 : ℕ) → f1 ≡ files.faults_before → l1 ≡ files.long_before → (why : Stop) → StopsOver (files_seen mid f1 files.faults_after l1 files.long_after) (InputRefused (files_seen mid f1 files.faults_after l1 files.long_after) names) why → StopsOver files RunLeads why
+      unread_run f1 l1 faults long = Stops-map (Unrefused (files_seen mid f1 files.faults_after l1 files.long_after)) (Unrefused files) (InputRefused (files_seen mid f1 files.faults_after l1 files.long_after) names) RunLeads
+          (unrefused_since files.content mid files.faults_before f1 files.faults_after files.long_before l1 files.long_after faults long same)
           (λ verdict refused.
           let P : Result (List Line) _ → Type 0 = λ r. Follows files (next_of_job outcome_of fuel names r refused.texts) verdict in
           let Q : Option (List ℕ) → Type 0 = λ o. Follows files (unless_unread o (ran outcome_of lines refused.texts fuel)) verdict in
@@ -63,3 +64,13 @@ module _ (files : FilesSeen) (job text : List ℕ) (told : IsRead (files.content
             are_read = (told, AreRead-as files.content mid same names texts read);
             follows = subst P (sym is) (subst Q (sym all) (ended, well, short));
           }
+
+-- the job itself couldn't be read
+module _ (files : FilesSeen) (job : List ℕ) where
+  pub unread_check : (why : Stop) → StopsOver files (ReadRefused files job) why → StopsOver files (Leads files (job ∷ []) (next_of_check job)) why
+  unread_check = Stops-map (Unrefused files) (Unrefused files) (ReadRefused files job) (Leads files (job ∷ []) (next_of_check job)) (λ kept. kept)
+      (λ verdict refused. record { texts = []; are_read = tt; follows = refused })
+
+  pub unread_job : (outcome_of : Plan (List Line) Standing → Outcome) (fuel : ℕ) (names : List (List ℕ)) (why : Stop) → StopsOver files (ReadRefused files job) why → StopsOver files (Leads files (job ∷ names) (next_of_run outcome_of fuel job names)) why
+  unread_job outcome_of fuel names = Stops-map (Unrefused files) (Unrefused files) (ReadRefused files job) (Leads files (job ∷ names) (next_of_run outcome_of fuel job names)) (λ kept. kept)
+      (λ verdict refused. record { texts = []; are_read = tt; follows = refused })

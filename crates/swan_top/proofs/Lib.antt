@@ -1,3 +1,4 @@
+pub mod Completeness
 pub mod Leading
 pub mod TextsRead
 pub mod WordsRead

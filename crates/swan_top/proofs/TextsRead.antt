@@ -5,8 +5,8 @@ use Rattle.swan_top.specs.declared.verdict.Settled.{Settled}
 use Rattle.swan_outside.specs.Counts.{Rose}
 use Rattle.swan_outside.specs.Reads.{IsTooLong}
 use Rattle.swan_top.specs.Decision.{Verdict, unread}
-use Rattle.swan_top.specs.Headline.{AreRead, IsRead, ReadRefused, files_seen}
-use Rattle.swan_top.specs.Settled.{Is, Stops, InputRefused, verdict_of}
+use Rattle.swan_top.specs.Headline.{AreRead, FilesSeen, IsRead, NoReadFailed, NoneTooLong, ReadRefused, files_seen}
+use Rattle.swan_top.specs.Settled.{Is, StopsOver, StopsWith, InputRefused, verdict_of}
 use Rattle.swan_top.specs.declared.verdict.Stop.{Stop}
 use Rattle.swan_top.specs.declared.verdict.Stop.TheVariants as stop
 
@@ -29,10 +29,14 @@ unread_none [] texts within = refl
 unread_none (name ∷ names) [] within = absurd (omega arith)
 unread_none (name ∷ names) (text ∷ texts) within = unread_none names texts (omega arith)
 
+-- no read was refused
+abbrev pub Unrefused : FilesSeen → Type 0
+Unrefused files = NoReadFailed files × NoneTooLong files
+
 -- a verdict that is so is so in another way
-pub Stops-map : (P Q : Verdict → Type 0) → ((verdict : Verdict) → P verdict → Q verdict) → (why : Stop) → Stops P why → Stops Q why
-Stops-map P Q f (stop.Settled verdict) is = record { fact = f (verdict_of verdict) is.fact; ends = is.ends }
-Stops-map P Q f stop.NoMemory is = tt
+pub Stops-map : (U V : Type 0) (P Q : Verdict → Type 0) → (U → V) → ((verdict : Verdict) → P verdict → Q verdict) → (why : Stop) → StopsWith U P why → StopsWith V Q why
+Stops-map U V P Q g f (stop.Settled verdict) is = record { fact = f (verdict_of verdict) is.fact; ends = is.ends }
+Stops-map U V P Q g f stop.NoMemory is = g is
 
 module _ (content mid : List ℕ → Option (List ℕ)) (f0 f1 f2 l0 l1 l2 : ℕ) (faults : f1 ≡ f0) (long : l1 ≡ l0) (same : (other : List ℕ) → mid other ≡ content other) where
   -- a refusal of a later read is one of the whole call
@@ -45,9 +49,12 @@ module _ (content mid : List ℕ → Option (List ℕ)) (f0 f1 f2 l0 l1 l2 : ℕ
       let Q : Option (List ℕ) → Type 0 = λ o. IsTooLong o in
       inr (longer.0, subst P long longer.1, longer.2 ∙ faults, subst Q (same file) longer.3)
 
-  pub input_refused : (names texts : List (List ℕ)) (file : List ℕ) → AreRead content names texts → unread names texts ≡ Some file → (why : Stop) → Stops (ReadRefused (files_seen mid f1 f2 l1 l2) file) why → Stops (InputRefused (files_seen content f0 f2 l0 l2) names) why
+  pub unrefused_since : Unrefused (files_seen mid f1 f2 l1 l2) → Unrefused (files_seen content f0 f2 l0 l2)
+  unrefused_since kept = (kept.0 ∙ faults, kept.1 ∙ long)
+
+  pub input_refused : (names texts : List (List ℕ)) (file : List ℕ) → AreRead content names texts → unread names texts ≡ Some file → (why : Stop) → StopsOver (files_seen mid f1 f2 l1 l2) (ReadRefused (files_seen mid f1 f2 l1 l2) file) why → StopsOver (files_seen content f0 f2 l0 l2) (InputRefused (files_seen content f0 f2 l0 l2) names) why
   input_refused names texts file read is_next =
-      Stops-map (ReadRefused (files_seen mid f1 f2 l1 l2) file) (InputRefused (files_seen content f0 f2 l0 l2) names)
+      Stops-map (Unrefused (files_seen mid f1 f2 l1 l2)) (Unrefused (files_seen content f0 f2 l0 l2)) (ReadRefused (files_seen mid f1 f2 l1 l2) file) (InputRefused (files_seen content f0 f2 l0 l2) names) (unrefused_since)
       (λ verdict refused. record { texts = texts; are_read = read; file = file; is_next = is_next; refused = ReadRefused-since file verdict refused })
 
 pub Is-map : (P Q : Verdict → Type 0) → ((verdict : Verdict) → P verdict → Q verdict) → (verdict : Settled) → Is P verdict → Is Q verdict

@@ -111,12 +111,13 @@ abbrev pub Settles : (Plan (List Line) Standing → Outcome) → FilesSeen → C
 Settles outcome_of files command = Leads files (files_of command) (next outcome_of command)
 
 -- What a call answers. Words that are no command are refused without memory, and no read was refused. Else the
--- call ends as the verdict says that its command leads to; or memory ran out, and nothing was written.
+-- call ends as the verdict says that its command leads to; or memory ran out, where no read was refused, and
+-- nothing was written.
 abbrev pub usage : Verdict
 usage = refuses (codes "usage\n") status.Usage
 
 abbrev pub Answers : (Plan (List Line) Standing → Outcome) → FilesSeen → (out report : SinkSeen) → Option Command → Status → Type 0
 Answers outcome_of files out report None ends = Ends out report usage ends × NoReadFailed files × NoneTooLong files
-Answers outcome_of files out report (Some command) status.NoMemory = WroteNothing out report
+Answers outcome_of files out report (Some command) status.NoMemory = WroteNothing out report × NoReadFailed files × NoneTooLong files
 Answers outcome_of files out report (Some command) ends =
     (verdict : Verdict) × Settles outcome_of files command verdict × Ends out report verdict ends

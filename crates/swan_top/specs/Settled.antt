@@ -2,7 +2,7 @@
 use Rattle.std.specs.Prelude.{◌≡◌, ℕ, List, Some, Err}
 use Rattle.job_reader.specs.declared.fault.JobFault.{JobFault}
 use Rattle.swan_top.specs.Decision.{Verdict, prints, refuses, unread, accepted, job_refused}
-use Rattle.swan_top.specs.Headline.{FilesSeen, AreRead, ReadRefused}
+use Rattle.swan_top.specs.Headline.{FilesSeen, AreRead, NoReadFailed, NoneTooLong, ReadRefused}
 use Rattle.swan_top.specs.declared.status.Status.{Status}
 use Rattle.swan_top.specs.declared.status.Status.TheVariants as status
 use Rattle.swan_top.specs.declared.verdict.Settled.{Settled}
@@ -29,10 +29,18 @@ pub record Is (P : Verdict → Type 0) (verdict : Settled) : Type 0 where
   pub fact : P (verdict_of verdict)
   pub ends : EndsSo verdict
 
--- where a verdict stops it, the verdict is so
+-- where a verdict stops it, the verdict is so, and where want of memory does, this fact holds
+abbrev pub StopsWith : Type 0 → (Verdict → Type 0) → Stop → Type 0
+StopsWith unread P (stop.Settled verdict) = Is P verdict
+StopsWith unread P stop.NoMemory = unread
+
+-- the same where no file is at hand
 abbrev pub Stops : (Verdict → Type 0) → Stop → Type 0
-Stops P (stop.Settled verdict) = Is P verdict
-Stops P stop.NoMemory = Unit {0}
+Stops P = StopsWith (Unit {0}) P
+
+-- and over files: memory ran out only where no read was refused
+abbrev pub StopsOver : FilesSeen → (Verdict → Type 0) → Stop → Type 0
+StopsOver files P = StopsWith (NoReadFailed files × NoneTooLong files) P
 
 -- An input couldn't be read, and those before it were.
 pub record InputRefused (files : FilesSeen) (names : List (List ℕ)) (verdict : Verdict) : Type 0 where

@@ -2,7 +2,7 @@
 ghost use Rattle.std.specs.Prelude.{◌≡◌, ℕ, List, Some, None, IfOk, OnOk, IfErr};
 ghost use Rattle.swan_top.specs.Decision.{unread};
 ghost use Rattle.swan_top.specs.Headline.{AreRead, ReadRefused, files_seen};
-ghost use Rattle.swan_top.specs.Settled.{Stops, InputRefused};
+ghost use Rattle.swan_top.specs.Settled.{StopsOver, InputRefused};
 
 use crate::read::read_file;
 use crate::verdict::Stop;
@@ -18,8 +18,9 @@ pub(crate) fn read_inputs<F: Files>(
 ) -> Result<Vec<Blob>, Stop>
     ensures read { IfOk result (λ inputs. AreRead (F.content files.old) names.now inputs.items) }
     ensures all { IfOk result (λ inputs. unread names.now inputs.items ≡ None) }
-    ensures refused { IfErr result (λ stop. Stops (InputRefused (files_seen (F.content files.old)
-        (F.faults files.old) (F.faults files.new) (F.long_reads files.old) (F.long_reads files.new)) names.now) stop) }
+    ensures refused { let seen = files_seen (F.content files.old) (F.faults files.old) (F.faults files.new)
+        (F.long_reads files.old) (F.long_reads files.new) in
+        IfErr result (λ stop. StopsOver seen (InputRefused seen names.now) stop) }
     ensures no_fault { OnOk result (F.faults files.new ≡ F.faults files.old) }
     ensures no_long_read { OnOk result (F.long_reads files.new ≡ F.long_reads files.old) }
 {

@@ -4,7 +4,9 @@
 //! output and the report, in this order. Its clause `answered` is the headline of the project: it says
 //! of every status what was read, what was decided of it, and what is then in the sinks. The
 //! definitions that it cites stand in `specs/Headline.antt`, which is meant to be read from top to
-//! bottom, with `specs/Command.antt` and `specs/Decision.antt` before it.
+//! bottom, with `specs/Command.antt` and `specs/Decision.antt` before it. Its clause `complete` says when a
+//! call ends as its command says (`specs/Completeness.antt`), and the law `honest_calls_end_well` says both of
+//! files and sinks that never fail.
 //!
 //! Not promised: that memory is found, and what real files and streams hold. Over those only the causes
 //! of each status are known.
@@ -13,7 +15,9 @@
 mod accept;
 mod command;
 mod help;
+mod honest;
 mod inputs;
+mod limits;
 mod read;
 mod run;
 mod settle;
@@ -26,5 +30,7 @@ mod write;
 
 pub use command::{Command, FUEL_WORD_MOST, Usage, WORKERS_MOST, read_words};
 pub use help::{HELP, VERSION};
+pub use honest::honest_calls_end_well;
+pub use limits::limits_of_words;
 pub use status::Status;
 pub use top_call::swan;

@@ -1,9 +1,10 @@
 // Reading files.
-ghost use Rattle.std.specs.Prelude.{◌≡◌, ℕ, List, Some, None, IfOk, OnOk, IfErr};
-ghost use Rattle.swan_top.specs.Decision.{unread};
+ghost use Rattle.std.specs.Prelude.{◌≡◌, ◌+◌, ◌≤◌, ℕ, List, [], length, vec_capacity, Some, None, IfOk, OnOk, IfErr};
+ghost use Rattle.swan_top.specs.Decision.{refuses};
 ghost use Rattle.swan_top.specs.Headline.{IsRead, ReadRefused, files_seen};
 ghost use Rattle.swan_top.specs.Refusals.{file_line};
-ghost use Rattle.swan_top.specs.Settled.{Stops};
+ghost use Rattle.swan_top.specs.Settled.{StopsOver, StopsWith};
+ghost use Rattle.swan_top.specs.declared.status.Status.TheVariants as status;
 
 use crate::Status;
 use crate::verdict::{Settled, Stop};
@@ -11,38 +12,61 @@ use std::alloc::{AllocError, Global};
 use swan_model::{Blob, Word};
 use swan_outside::{Files, ReadAnswer};
 
-// A line that names a file.
-fn file_line(alloc: Global, what: &str, file: &Word) -> Result<Blob, AllocError>
-    ensures { IfOk result (λ line. line ≡ file_line what.now file.now) }
+// Room for the line of a refusal that names this file.
+fn room_for_line(alloc: Global, file: &Word) -> Result<Vec<u8>, AllocError>
+    ensures empty { IfOk result (λ line. line.items ≡ []) }
+    ensures room { IfOk result (λ line. 13 + length file.now ≤ vec_capacity line) }
 {
-    let mut line = Vec::from_slice(alloc, what.as_bytes())?;
-    line.extend_from_slice(file.as_str().as_bytes())?;
-    line.push(b'\n')?;
-    Ok(Blob::new(line))
+    Vec::with_capacity(alloc, 13 + file.as_str().len())
 }
 
-// Reads a whole file, or settles that it can't be read.
+// A line that names a file. It takes no memory, since there is room for it.
+fn file_line(mut line: Vec<u8>, what: &str, file: &Word) -> Blob
+    requires empty { line.items ≡ [] }
+    requires short { length what.now ≤ 12 }
+    requires room { 13 + length file.now ≤ vec_capacity line }
+    ensures { result ≡ file_line what.now file.now }
+{
+    line.extend_from_slice(what.as_bytes()).unwrap();
+    line.extend_from_slice(file.as_str().as_bytes()).unwrap();
+    line.extend_from_slice(b"\n").unwrap();
+    Blob::new(line)
+}
+
+// Settles that a file can't be read. It takes no memory.
+fn refuse(line: Vec<u8>, what: &str, file: &Word) -> Stop
+    requires empty { line.items ≡ [] }
+    requires short { length what.now ≤ 12 }
+    requires room { 13 + length file.now ≤ vec_capacity line }
+    ensures { StopsWith ⊥ (λ verdict. verdict ≡ refuses (file_line what.now file.now) status.ReadFailed) result }
+{
+    Stop::Settled(Settled::Refuses {
+        line: file_line(line, what, file),
+        ends: Status::ReadFailed,
+    })
+}
+
+// Reads a whole file, or settles that it can't be read. The room for a refusal is made before the read, so a read
+// that was refused is never want of memory.
 pub(crate) fn read_file<F: Files>(
     alloc: Global,
     files: &mut F,
     file: &Word,
 ) -> Result<Vec<u8>, Stop>
     ensures read { IfOk result (λ text. IsRead (F.content files.old file.now) text.items) }
-    ensures refused { IfErr result (λ stop. Stops (ReadRefused (files_seen (F.content files.old)
-        (F.faults files.old) (F.faults files.new) (F.long_reads files.old) (F.long_reads files.new)) file.now) stop) }
+    ensures refused { let seen = files_seen (F.content files.old) (F.faults files.old) (F.faults files.new)
+        (F.long_reads files.old) (F.long_reads files.new) in
+        IfErr result (λ stop. StopsOver seen (ReadRefused seen file.now) stop) }
     ensures no_fault { OnOk result (F.faults files.new ≡ F.faults files.old) }
     ensures no_long_read { OnOk result (F.long_reads files.new ≡ F.long_reads files.old) }
     ensures contents_kept { (other : List ℕ) → F.content files.new other ≡ F.content files.old other }
 {
+    let line = room_for_line(alloc, file)?;
     let mut text = Vec::new(alloc);
-    let what = match files.read(file, &mut text) {
-        Ok(()) => return Ok(text),
-        Err(ReadAnswer::Failed) => "read failed ",
-        Err(ReadAnswer::TooLong) => "too long ",
-        Err(ReadAnswer::NoMemory) => return Err(Stop::NoMemory),
-    };
-    Err(Stop::Settled(Settled::Refuses {
-        line: file_line(alloc, what, file)?,
-        ends: Status::ReadFailed,
-    }))
+    match files.read(file, &mut text) {
+        Ok(()) => Ok(text),
+        Err(ReadAnswer::Failed) => Err(refuse(line, "read failed ", file)),
+        Err(ReadAnswer::TooLong) => Err(refuse(line, "too long ", file)),
+        Err(ReadAnswer::NoMemory) => Err(Stop::NoMemory),
+    }
 }

@@ -3,9 +3,9 @@ ghost use Rattle.std.specs.Prelude.{◌≡◌, ◌≤◌, ◌∷◌, [], IfOk, I
 ghost use Rattle.swan_model.specs.Elision.{outcome};
 ghost use Rattle.swan_model.specs.declared.plan.TheConstants.{FUEL_MOST};
 ghost use Rattle.swan_top.specs.Command.{asked, IsFueled};
-ghost use Rattle.swan_top.specs.Decision.{next_of_check, next_of_run, prints};
+ghost use Rattle.swan_top.specs.Decision.{checked, next_of_check, next_of_run, prints};
 ghost use Rattle.swan_top.specs.Headline.{Leads, Settles, files_seen};
-ghost use Rattle.swan_top.specs.Settled.{Is, Stops, verdict_of};
+ghost use Rattle.swan_top.specs.Settled.{Is, Stops, StopsOver, verdict_of};
 ghost use Rattle.swan_top.specs.declared.status.Status.TheVariants as status;
 
 use crate::accept::accept;
@@ -16,6 +16,7 @@ use crate::verdict::{Settled, Stop};
 use crate::{Command, HELP, Status, VERSION};
 use job_body::JobBody;
 use job_reader::write_job;
+use privilege_check::CheckedJob;
 use std::alloc::{AllocError, Global};
 use swan_model::{Blob, Body, Word};
 use swan_outside::Files;
@@ -31,22 +32,30 @@ fn settle_text(alloc: Global, text: &str) -> Result<Settled, AllocError>
     })
 }
 
-// What the check of a job leads to.
-fn settle_check<F: Files>(alloc: Global, files: &mut F, job: &Word) -> Result<Settled, Stop>
-    ensures ok { IfOk result (Is (Leads (files_seen (F.content files.old)
-        (F.faults files.old) (F.faults files.new) (F.long_reads files.old) (F.long_reads files.new))
-        (job.now ∷ []) (next_of_check job.now))) }
-    ensures err { IfErr result (Stops (Leads (files_seen (F.content files.old)
-        (F.faults files.old) (F.faults files.new) (F.long_reads files.old) (F.long_reads files.new))
-        (job.now ∷ []) (next_of_check job.now))) }
+// The canonical text of an accepted job, and that it is accepted.
+fn settle_checked(alloc: Global, job: &CheckedJob) -> Result<Settled, Stop>
+    ensures ok { IfOk result (Is (λ verdict. verdict ≡ checked (Ok job.now))) }
+    ensures err { IfErr result (Stops (λ verdict. verdict ≡ checked (Ok job.now))) }
 {
-    let text = read_file(alloc, files, job)?;
-    let job = accept(alloc, text)?;
     Ok(Settled::Prints {
         out: Blob::new(write_job(alloc, job.job())?),
         report: Blob::new(Vec::from_slice(alloc, b"checked\n")?),
         ends: Status::Done,
     })
+}
+
+// What the check of a job leads to.
+fn settle_check<F: Files>(alloc: Global, files: &mut F, job: &Word) -> Result<Settled, Stop>
+    ensures ok { IfOk result (Is (Leads (files_seen (F.content files.old)
+        (F.faults files.old) (F.faults files.new) (F.long_reads files.old) (F.long_reads files.new))
+        (job.now ∷ []) (next_of_check job.now))) }
+    ensures err { let seen = files_seen (F.content files.old) (F.faults files.old) (F.faults files.new)
+        (F.long_reads files.old) (F.long_reads files.new) in
+        IfErr result (StopsOver seen (Leads seen (job.now ∷ []) (next_of_check job.now))) }
+{
+    let text = read_file(alloc, files, job)?;
+    let job = accept(alloc, text)?;
+    settle_checked(alloc, &job)
 }
 
 // What a run of a job leads to.
@@ -61,9 +70,10 @@ fn settle_run<F: Files>(
     ensures ok { IfOk result (Is (Leads (files_seen (F.content files.old)
         (F.faults files.old) (F.faults files.new) (F.long_reads files.old) (F.long_reads files.new))
         (job.now ∷ inputs.now) (next_of_run (outcome ⟦<JobBody as Body>⟧) fuel job.now inputs.now))) }
-    ensures err { IfErr result (Stops (Leads (files_seen (F.content files.old)
-        (F.faults files.old) (F.faults files.new) (F.long_reads files.old) (F.long_reads files.new))
-        (job.now ∷ inputs.now) (next_of_run (outcome ⟦<JobBody as Body>⟧) fuel job.now inputs.now))) }
+    ensures err { let seen = files_seen (F.content files.old) (F.faults files.old) (F.faults files.new)
+        (F.long_reads files.old) (F.long_reads files.new) in
+        IfErr result (StopsOver seen (Leads seen (job.now ∷ inputs.now)
+        (next_of_run (outcome ⟦<JobBody as Body>⟧) fuel job.now inputs.now))) }
 {
     let text = read_file(alloc, files, job)?;
     let job = accept(alloc, text)?;
@@ -80,8 +90,9 @@ pub(crate) fn settle<F: Files>(
     requires { IsFueled (asked command) }
     ensures ok { IfOk result (Is (Settles (outcome ⟦<JobBody as Body>⟧) (files_seen (F.content files.old)
         (F.faults files.old) (F.faults files.new) (F.long_reads files.old) (F.long_reads files.new)) (asked command.entry))) }
-    ensures err { IfErr result (Stops (Settles (outcome ⟦<JobBody as Body>⟧) (files_seen (F.content files.old)
-        (F.faults files.old) (F.faults files.new) (F.long_reads files.old) (F.long_reads files.new)) (asked command.entry))) }
+    ensures err { let seen = files_seen (F.content files.old) (F.faults files.old) (F.faults files.new)
+        (F.long_reads files.old) (F.long_reads files.new) in
+        IfErr result (StopsOver seen (Settles (outcome ⟦<JobBody as Body>⟧) seen (asked command.entry))) }
 {
     match command {
         Command::Help => Ok(settle_text(alloc, HELP)?),

@@ -2,6 +2,7 @@
 ghost use Rattle.std.specs.Prelude.{◌≡◌};
 ghost use Rattle.swan_model.specs.Elision.{outcome};
 ghost use Rattle.swan_top.specs.Command.{command};
+ghost use Rattle.swan_top.specs.Completeness.{Completes};
 ghost use Rattle.swan_top.specs.Headline.{Answers, files_seen, seen_of};
 
 use crate::settle::settle;
@@ -18,15 +19,20 @@ use swan_outside::{Files, Sink};
 /// The order is: the words (Usage), the read of the job (ReadFailed), the job's text, then its names,
 /// kinds and rights (JobRefused), the reads of the inputs in order (ReadFailed), their number and then
 /// each of them (InputRefused), the run, the write of `out`, the write of `report` (WriteFailed). Want
-/// of memory may take the place of any of these but Usage and the writes, and then nothing is written.
+/// of memory may take the place of any of these but Usage, a refused read and the writes, and then nothing is
+/// written.
 ///
 /// Done and Faulted come only where both texts were written whole. Usage, JobRefused, ReadFailed and
 /// InputRefused write one line to `report` and nothing to `out`. ReadFailed comes exactly where a read was
 /// refused, for which a count of `files` rose. WriteFailed comes only where a sink's count of faults rose,
 /// and leaves in that sink a front of its text; where that was `out`, nothing was written to `report`.
 ///
+/// Where the words are a command, the texts that `files` tells are in order for it, and no count of faults
+/// rises, the call ends Done or Faulted as the elision says, or NoMemory.
+///
 /// The contents are those that `files` tells, and what is said of written bytes holds where the sinks
 /// tell them. It always returns.
+#[tactic(auto, using(crate::proofs::Completeness::completes))]
 pub fn swan<F: Files, O: Sink, R: Sink>(
     alloc: Global,
     words: &[Word],
@@ -35,6 +41,28 @@ pub fn swan<F: Files, O: Sink, R: Sink>(
     report: &mut R,
 ) -> Status
     ensures answered { Answers (outcome ⟦<JobBody as Body>⟧)
+        (files_seen (F.content files.old) (F.faults files.old) (F.faults files.new) (F.long_reads files.old) (F.long_reads files.new))
+        (seen_of (O.written out.old) (O.written out.new) (O.faults out.old) (O.faults out.new))
+        (seen_of (R.written report.old) (R.written report.new) (R.faults report.old) (R.faults report.new))
+        (command words.now) result }
+    ensures complete { Completes (outcome ⟦<JobBody as Body>⟧)
+        (files_seen (F.content files.old) (F.faults files.old) (F.faults files.new) (F.long_reads files.old) (F.long_reads files.new))
+        (seen_of (O.written out.old) (O.written out.new) (O.faults out.old) (O.faults out.new))
+        (seen_of (R.written report.old) (R.written report.new) (R.faults report.old) (R.faults report.new))
+        (command words.now) result }
+{
+    follow(alloc, words, files, out, report)
+}
+
+// Follows the words: reads, settles and writes.
+fn follow<F: Files, O: Sink, R: Sink>(
+    alloc: Global,
+    words: &[Word],
+    files: &mut F,
+    out: &mut O,
+    report: &mut R,
+) -> Status
+    ensures { Answers (outcome ⟦<JobBody as Body>⟧)
         (files_seen (F.content files.old) (F.faults files.old) (F.faults files.new) (F.long_reads files.old) (F.long_reads files.new))
         (seen_of (O.written out.old) (O.written out.new) (O.faults out.old) (O.faults out.new))
         (seen_of (R.written report.old) (R.written report.new) (R.faults report.old) (R.faults report.new))

@@ -17,6 +17,6 @@ returns-in-Err-Refused-clause-refused c =
     let text = c.args.text.items in
     let is_text : c.as_slice.result.now ≡ text = c.as_slice.ensures.value in
     let named : fault_of (job_of text) ≡ Some fault = rw (← is_text) first in
-    Stops-map _ _
+    Stops-map (Unit {0}) (Unit {0}) _ _ (λ it. it)
     (λ verdict is. record { fault = fault; first = ap accepted_lines (fault_is (job_of text) fault named); refused = is })
     c.refuse.result c.refuse.ensures

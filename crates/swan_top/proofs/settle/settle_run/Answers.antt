@@ -24,5 +24,5 @@ returns-clause-ok g c =
 
 pub returns-clause-err : goal.returns-clause-err
 returns-clause-err g c =
-    IfErr-map c.run_job.result _ _ (Stops-map _ _ (ran_run _ c.args.job.now c.in_ok-text.text.items c.in_ok-text.ensures.read (outcome ghosts) c.args.fuel c.args.inputs.now _ c.in_ok-job.ensures.job
+    IfErr-map c.run_job.result _ _ (Stops-map (Unit {0}) _ _ _ (λ _. (c.in_ok-inputs.ensures.no_fault ∙ c.in_ok-text.ensures.no_fault, c.in_ok-inputs.ensures.no_long_read ∙ c.in_ok-text.ensures.no_long_read)) (ran_run _ c.args.job.now c.in_ok-text.text.items c.in_ok-text.ensures.read (outcome ghosts) c.args.fuel c.args.inputs.now _ c.in_ok-job.ensures.job
     (g.F.Files.content c.read_file.new.files) c.read_file.ensures.contents_kept (c.in_ok-inputs.ensures.no_fault ∙ c.in_ok-text.ensures.no_fault) (c.in_ok-inputs.ensures.no_long_read ∙ c.in_ok-text.ensures.no_long_read) c.in_ok-inputs.inputs.items c.in_ok-inputs.ensures.read c.in_ok-inputs.ensures.all)) c.run_job.ensures.refused

@@ -1,0 +1,157 @@
+// Files that never fail.
+ghost use Rattle.std.specs.Prelude.{◌≡◌, ◌≢◌, ◌≤◌, List, ℕ, Some, OnOk, OnErr};
+ghost use Rattle.swan_outside.specs.Counts.{Rose};
+ghost use Rattle.swan_outside.specs.FilesState.{IsAnswerTo};
+ghost use Rattle.swan_outside.specs.Honest.{honest_content, long_reads_after};
+ghost use Rattle.swan_outside.specs.Reads.{Reads, IsTooLong};
+ghost use Rattle.swan_outside.specs.declared.answer.ReadAnswer.TheVariants as answer;
+
+use crate::memory_files::{append_whole, file_named};
+use crate::{FileBlob, Files, ReadAnswer};
+use std::marker::Model;
+use swan_model::Word;
+
+/// Files in memory, which tell their contents, and of which no read fails: their count of faults is 0
+/// for good. A name that isn't there reads as the empty content. A look-up goes over the files one by
+/// one. Contracts see them as an `HonestFilesState`.
+#[derive(Drop)]
+pub struct HonestFiles {
+    files: Vec<FileBlob>,
+    long_reads: u64,
+}
+
+impl Model for HonestFiles {
+    ghost use Rattle.swan_outside.specs.Honest.{HonestFilesState};
+
+    ghost Value = { HonestFilesState };
+
+    ghost view = { λ it. record { files = it.files.items; long_reads = it.long_reads } };
+}
+
+impl HonestFiles {
+    /// These files, of which the first of each name counts. Their count of long reads is 0. It takes no
+    /// memory. `O(1)`.
+    pub fn new(files: Vec<FileBlob>) -> HonestFiles
+        ensures { result ≡ record { files = files.items; long_reads = 0 } }
+    {
+        HonestFiles {
+            files,
+            long_reads: 0,
+        }
+    }
+}
+
+impl Files for HonestFiles {
+    ghost content = { λ it name. Some (honest_content it.files name) };
+
+    ghost faults = { λ _. 0 };
+
+    ghost long_reads = { λ it. it.long_reads };
+
+    /// Adds the content of the first file of this name to the end of the buffer, and nothing where no
+    /// file has the name. Failed never comes. TooLong comes exactly where the content passes `FILE_MOST`
+    /// bytes. `O(files + content)`.
+    fn read(&mut self, name: &Word, into: &mut Vec<u8>) -> Result<(), ReadAnswer>
+        ensures answer { IsAnswerTo (Some (honest_content self.old.files name.now)) result }
+        ensures after { self.new ≡ record self.old {
+          long_reads = long_reads_after self.old.long_reads result;
+        } }
+        ensures whole { OnOk result (Reads (Some (honest_content self.old.files name.now))
+            into.old.items into.new.items) }
+        ensures unread { OnErr result (into.new.items ≡ into.old.items) }
+        ensures failed { result ≡ Err answer.Failed → Rose 0 0 }
+        ensures long { result ≡ Err answer.TooLong →
+            Rose self.old.long_reads self.new.long_reads }
+        ensures long_where_told { result ≡ Err answer.TooLong →
+            IsTooLong (Some (honest_content self.old.files name.now)) }
+        ensures no_long_read { result ≢ Err answer.TooLong →
+            self.new.long_reads ≡ self.old.long_reads }
+        ensures long_reads_kept { self.old.long_reads ≤ self.new.long_reads }
+        ensures contents_kept { (other : List ℕ) →
+            Some (honest_content self.new.files other)
+            ≡ Some (honest_content self.old.files other) }
+    {
+        match append_content_or_nothing(&self.files, name, into) {
+            Ok(()) => Ok(()),
+            Err(ReadAnswer::TooLong) => {
+                self.long_reads = self.long_reads.saturating_add(1);
+                Err(ReadAnswer::TooLong)
+            }
+            Err(refusal) => Err(refusal),
+        }
+    }
+}
+
+/// Adds the content of the first file of this name to the end of the buffer, and nothing where no file
+/// has the name.
+fn append_content_or_nothing(
+    files: &[FileBlob],
+    name: &Word,
+    into: &mut Vec<u8>,
+) -> Result<(), ReadAnswer>
+    ensures answer { IsAnswerTo (Some (honest_content files.now name.now)) result }
+    ensures whole { OnOk result (Reads (Some (honest_content files.now name.now))
+        into.old.items into.new.items) }
+    ensures unread { OnErr result (into.new.items ≡ into.old.items) }
+{
+    match file_named(files, name) {
+        Some(file) => append_whole(file.content.as_slice(), into),
+        None => append_whole(&[], into),
+    }
+}
+
+#[cfg(test)]
+mod tests {
+    use super::*;
+    use crate::FILE_MOST;
+    use std::alloc::{AllocError, Global};
+    use std::test::Fail;
+    use swan_model::Blob;
+
+    #[test]
+    fn a_read_never_fails(rt: HostRuntime) -> Result<(), Fail> {
+        let mut files = Vec::new(rt.alloc());
+        for (name, length) in [
+            ("a", 3),
+            ("full", FILE_MOST),
+            ("long", FILE_MOST + 1),
+            ("a", 9),
+        ] {
+            let content = Blob::new(vec![in rt.alloc(); b'x'; length]?);
+            files.push(FileBlob {
+                name: word(rt.alloc(), name)?,
+                content,
+            })?;
+        }
+        let mut files = HonestFiles::new(files);
+        let rows = [
+            ("missing", Ok(()), 1, 0),
+            ("a", Ok(()), 4, 0),
+            ("full", Ok(()), FILE_MOST + 1, 0),
+            ("long", Err(ReadAnswer::TooLong), 1, 1),
+            ("long", Err(ReadAnswer::TooLong), 1, 2),
+            ("a", Ok(()), 4, 2),
+        ];
+        for (name, answer, left, long_reads) in rows {
+            let mut into = vec![in rt.alloc(); b'>']?;
+            let name = word(rt.alloc(), name)?;
+            assert_eq!(rt; read_file(&mut files, &name, &mut into), answer);
+            assert_eq!(rt; into.len(), left);
+            assert_eq!(rt; files.long_reads, long_reads);
+        }
+        Ok(())
+    }
+
+    fn word(alloc: Global, text: &str) -> Result<Word, AllocError> {
+        Word::of(alloc, text).map_err(|_| AllocError)
+    }
+
+    /// A read through the trait's bound.
+    fn read_file<F: Files>(
+        files: &mut F,
+        name: &Word,
+        into: &mut Vec<u8>,
+    ) -> Result<(), ReadAnswer> {
+        files.read(name, into)
+    }
+}

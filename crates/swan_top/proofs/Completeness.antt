@@ -1,0 +1,187 @@
+-- What is in order is settled so, and without a count that rises nothing stands in its way.
+use Rattle.std.proofs.Common.{◌≡◌, ℕ, ◌<◌, List, [], ◌∷◌, length, Option, Some, None, Result, Ok, Err, Bool, true, false, refl, sym, ap, subst, arith, ◌∙◌, inl, inr}
+use Rattle.std.specs.Prelude.{◌⊎◌, codes, if◌then◌else◌}
+use Rattle.job_body.specs.NamesOfJob.{names_of_job}
+use Rattle.job_body.specs.PlanOfJob.{plan_of_job, refusal_of_plan}
+use Rattle.job_body.specs.Standing.{Standing}
+use Rattle.job_body.specs.declared.answer.PlanAnswer.{PlanAnswer}
+use Rattle.job_reader.specs.declared.fault.JobFault.{JobFault}
+use Rattle.job_reader.specs.declared.line.Line.{Line}
+use Rattle.swan_model.specs.Texts.{has_fault}
+use Rattle.swan_model.specs.declared.outcome.Outcome.{Outcome}
+use Rattle.swan_model.specs.declared.plan.Plan.{Plan}
+use Rattle.swan_outside.specs.Counts.{Rose}
+use Rattle.swan_outside.specs.Reads.{IsTooLong}
+use Rattle.swan_outside.specs.Told.{Tells}
+use Rattle.swan_outside.specs.declared.files.TheConstants.{FILE_MOST}
+use Rattle.swan_top.specs.Command.{Command, help, version, check, elide, run}
+use Rattle.swan_top.specs.Completeness.{IsTold, AreTold, NothingFailed, RunsInOrder, ChecksInOrder, InOrder, Completes, EndsWell}
+use Rattle.swan_top.specs.Decision.{Verdict, prints, refuses, Next, reads, settled, next, files_of, unread, unless_unread, accepted, checked, ran, printed, unless_refused, next_of_check, next_of_job, next_of_run}
+use Rattle.swan_top.specs.Headline.{FilesSeen, SinkSeen, Answers, AreRead, IsRead, Ends, FailedToWrite, Follows, ReadRefused, Settles, Wrote, ends_of, usage}
+use Rattle.swan_top.specs.declared.status.Status.{Status}
+use Rattle.swan_top.specs.declared.status.Status.TheVariants as status
+
+-- a text that was read of a file that tells its text is that one
+told_text : (content : Option (List ℕ)) (text read : List ℕ) → IsTold content text → IsRead content read → read ≡ text
+told_text content text read told is = let P : Option (List ℕ) → Type 0 = λ o. Tells o read in subst P told.told is.told
+
+module _ (content : List ℕ → Option (List ℕ)) where
+  -- texts that were read of files that tell theirs are these, or one file is still unread
+  front_told : (names texts read : List (List ℕ)) → AreTold content names texts → AreRead content names read → (read ≡ texts) ⊎ ((file : List ℕ) × (unread names read ≡ Some file))
+  front_told [] [] [] told is = inl refl
+  front_told [] [] (x ∷ xs) told is = absurd is
+  front_told [] (t ∷ ts) read told is = absurd told
+  front_told (name ∷ names) [] read told is = absurd told
+  front_told (name ∷ names) (t ∷ ts) [] told is = inr (name, refl)
+  front_told (name ∷ names) (t ∷ ts) (x ∷ xs) told is =
+      let same : x ≡ t = told_text (content name) t x told.0 is.0 in
+      elim (front_told names ts xs told.1 is.1) [ inl e ↦ inl (cc) | inr u ↦ inr u ]
+
+  -- none is unread then
+  told_all : (names texts : List (List ℕ)) → AreTold content names texts → unread names texts ≡ None
+  told_all [] [] told = refl
+  told_all [] (t ∷ ts) told = absurd told
+  told_all (name ∷ names) [] told = absurd told
+  told_all (name ∷ names) (t ∷ ts) told = told_all names ts told.1
+
+  -- an unread file tells its text
+  unread_told : (names texts read : List (List ℕ)) (file : List ℕ) → AreTold content names texts → unread names read ≡ Some file → (text : List ℕ) × IsTold (content file) text
+  unread_told [] texts read file told is = cc
+  unread_told (name ∷ names) [] read file told is = absurd told
+  unread_told (name ∷ names) (t ∷ ts) [] file told is =
+      let same : name ≡ file = cc in
+      let P : List ℕ → Type 0 = λ f. IsTold (content f) t in
+      (t, subst P same told.0)
+  unread_told (name ∷ names) (t ∷ ts) (x ∷ xs) file told is = unread_told names ts xs file told.1 is
+
+-- the read of a file that tells its text isn't refused where no count of faults rose
+not_refused : (files : FilesSeen) (file text : List ℕ) (verdict : Verdict) → IsTold (files.content file) text → ¬ Rose files.faults_before files.faults_after → ReadRefused files file verdict → ⊥
+not_refused files file text verdict told well (inl failed) = well failed.1
+not_refused files file text verdict told well (inr longer) =
+    let P : Option (List ℕ) → Type 0 = λ o. IsTooLong o in
+    let long : FILE_MOST < length text = subst P told.told longer.3 in
+    let most = told.most in
+    omega arith
+
+module _ (files : FilesSeen) (well : ¬ Rose files.faults_before files.faults_after) (verdict verdict' : Verdict) where
+  check_settles : (job text : List ℕ) (read : List (List ℕ)) → IsTold (files.content job) text → ChecksInOrder text verdict → AreRead files.content (job ∷ []) read → Follows files (next_of_check job read) verdict' → verdict' ≡ verdict
+  check_settles job text [] told order is follows = absurd (not_refused files job text verdict' told well follows)
+  check_settles job text (x ∷ xs) told order is follows =
+      let same : x ≡ text = told_text (files.content job) text x told is.0 in
+      follows.0 ∙ ap (λ t. checked (accepted t)) same ∙ ap checked order.is_accepted ∙ sym order.prints_text
+
+  module _ (outcome_of : Plan (List Line) Standing → Outcome) where
+    run_settles : (fuel : ℕ) (job text : List ℕ) (names inputs read : List (List ℕ)) → IsTold (files.content job) text → AreTold files.content names inputs → RunsInOrder outcome_of fuel text inputs verdict → AreRead files.content (job ∷ names) read → Follows files (next_of_run outcome_of fuel job names read) verdict' → verdict' ≡ verdict
+    run_settles fuel job text names inputs [] told all order is follows = absurd (not_refused files job text verdict' told well follows)
+    run_settles fuel job text names inputs (x ∷ xs) told all order is follows =
+        let same : accepted x ≡ Ok order.lines = ap (λ t. accepted t) (told_text (files.content job) text x told is.0) ∙ order.is_accepted in
+        let P : Result (List Line) JobFault → Type 0 = λ r. Follows files (next_of_job outcome_of fuel names r xs) verdict' in
+        let Q : List (List ℕ) → Option (List ℕ) → Type 0 = λ inputs' file. Follows files (unless_unread file (ran outcome_of order.lines inputs' fuel)) verdict' in
+        let comes : Q xs (unread names xs) = subst P same follows in
+        elim (front_told files.content names inputs xs all is.1) [
+          | inl e ↦ (
+              let R : List (List ℕ) → Type 0 = λ inputs'. Q inputs' (unread names inputs') in
+              let S : Option (List ℕ) → Type 0 = λ file. Q inputs file in
+              let ends : Q inputs None = subst S (told_all files.content names inputs all) (subst R e comes) in
+              ends.0 ∙ ap (λ why. unless_refused outcome_of order.lines inputs fuel why) order.none_refused ∙ sym order.prints_outcome)
+          | inr u ↦ (
+              let S : Option (List ℕ) → Type 0 = λ file. Q xs file in
+              let refused : ReadRefused files u.0 verdict' = subst S u.1 comes in
+              let t = unread_told files.content names inputs xs u.0 all u.1 in
+              absurd (not_refused files u.0 t.0 verdict' t.1 well refused))
+        ]
+
+    leads_in_order : (command : Command) (texts : List (List ℕ)) → AreTold files.content (files_of command) texts → InOrder outcome_of command texts verdict → Settles outcome_of files command verdict' → verdict' ≡ verdict
+    leads_in_order (help) texts told order leads = leads.follows.0 ∙ sym order
+    leads_in_order (version) texts told order leads = leads.follows.0 ∙ sym order
+    leads_in_order (check job) [] told order leads = absurd order
+    leads_in_order (check job) (text ∷ texts) told order leads = check_settles job text leads.texts told.0 order leads.are_read leads.follows
+    leads_in_order (elide fuel job names) [] told order leads = absurd order
+    leads_in_order (elide fuel job names) (text ∷ inputs) told order leads =
+        run_settles fuel job text names inputs leads.texts told.0 told.1 order leads.are_read leads.follows
+    leads_in_order (run workers fuel job names) [] told order leads = absurd order
+    leads_in_order (run workers fuel job names) (text ∷ inputs) told order leads =
+        run_settles fuel job text names inputs leads.texts told.0 told.1 order leads.are_read leads.follows
+
+-- where no count of a sink rose, no write failed
+no_failed_write : (out report : SinkSeen) (verdict : Verdict) → ¬ Rose out.faults_before out.faults_after → ¬ Rose report.faults_before report.faults_after → FailedToWrite out report verdict → ⊥
+no_failed_write out report (prints a b ends) out_well report_well (inl failed) = out_well failed.0.0
+no_failed_write out report (prints a b ends) out_well report_well (inr failed) = report_well failed.1.0
+no_failed_write out report (refuses line ends) out_well report_well failed = report_well failed.1.0
+
+module _ (outcome_of : Plan (List Line) Standing → Outcome) (files : FilesSeen) (out report : SinkSeen) where
+  written : (command : Command) (verdict : Verdict) (ends : Status) → Settles outcome_of files command verdict → (ends ≡ ends_of verdict) × Wrote out report verdict → Completes outcome_of files out report (Some command) ends
+  written command verdict ends settles is =
+      λ texts verdict' told order well.
+      let P : Verdict → Type 0 = λ v. (ends ≡ ends_of v) × Wrote out report v in
+      let same : verdict ≡ verdict' = leads_in_order files well.files_well verdict' verdict outcome_of command texts told order settles in
+      inr (subst P same is)
+
+  pub completes : (asked : Option Command) (ends : Status) → Answers outcome_of files out report asked ends → Completes outcome_of files out report asked ends
+  completes None ends is = tt
+  completes (Some command) status.NoMemory is = λ texts verdict told order well. inl refl
+  completes (Some command) status.WriteFailed is =
+      λ texts verdict told order well. absurd (no_failed_write out report is.0 well.out_well well.report_well is.2)
+  completes (Some command) status.Done is = written command is.0 status.Done is.1 is.2
+  completes (Some command) status.Faulted is = written command is.0 status.Faulted is.1 is.2
+  completes (Some command) status.Usage is = written command is.0 status.Usage is.1 is.2
+  completes (Some command) status.JobRefused is = written command is.0 status.JobRefused is.1 is.2
+  completes (Some command) status.ReadFailed is = written command is.0 status.ReadFailed is.1 is.2
+  completes (Some command) status.InputRefused is = written command is.0 status.InputRefused is.1 is.2
+
+-- No decision settles that a read failed: that comes of reads alone.
+checked_ends : (r : Result (List Line) JobFault) → ends_of (checked r) ≡ status.ReadFailed → ⊥
+checked_ends (Ok lines) is = cc
+checked_ends (Err fault) is = cc
+
+status_ends : (b : Bool) → (if b then status.Faulted else status.Done) ≡ status.ReadFailed → ⊥
+status_ends true is = cc
+status_ends false is = cc
+
+module _ (outcome_of : Plan (List Line) Standing → Outcome) where
+  ran_ends : (lines : List Line) (inputs : List (List ℕ)) (fuel : ℕ) (why : Option PlanAnswer) → ends_of (unless_refused outcome_of lines inputs fuel why) ≡ status.ReadFailed → ⊥
+  ran_ends lines inputs fuel None is = status_ends (has_fault (outcome_of (plan_of_job lines inputs fuel))) is
+  ran_ends lines inputs fuel (Some why) is = cc
+
+  unless_unread_ends : (file : Option (List ℕ)) (verdict v : Verdict) → (ends_of verdict ≡ status.ReadFailed → ⊥) → unless_unread file verdict ≡ settled v → ends_of v ≡ status.ReadFailed → ⊥
+  unless_unread_ends None verdict v never is ends = let same : verdict ≡ v = cc in never (ap ends_of same ∙ ends)
+  unless_unread_ends (Some file) verdict v never is ends = cc
+
+  job_ends : (fuel : ℕ) (names : List (List ℕ)) (job : Result (List Line) JobFault) (inputs : List (List ℕ)) (v : Verdict) → next_of_job outcome_of fuel names job inputs ≡ settled v → ends_of v ≡ status.ReadFailed → ⊥
+  job_ends fuel names (Ok lines) inputs v is ends =
+      unless_unread_ends (unread names inputs) (ran outcome_of lines inputs fuel) v (ran_ends lines inputs fuel (refusal_of_plan lines inputs)) is ends
+  job_ends fuel names (Err fault) inputs v is ends = cc
+
+  run_ends : (fuel : ℕ) (job : List ℕ) (names texts : List (List ℕ)) (v : Verdict) → next_of_run outcome_of fuel job names texts ≡ settled v → ends_of v ≡ status.ReadFailed → ⊥
+  run_ends fuel job names [] v is ends = cc
+  run_ends fuel job names (text ∷ inputs) v is ends = job_ends fuel names (accepted text) inputs v is ends
+
+  next_ends : (command : Command) (texts : List (List ℕ)) (v : Verdict) → next outcome_of command texts ≡ settled v → ends_of v ≡ status.ReadFailed → ⊥
+  next_ends (help) texts v is ends = cc
+  next_ends (version) texts v is ends = cc
+  next_ends (check job) [] v is ends = cc
+  next_ends (check job) (text ∷ texts) v is ends =
+      let same : checked (accepted text) ≡ v = cc in checked_ends (accepted text) (ap ends_of same ∙ ends)
+  next_ends (elide fuel job names) texts v is ends = run_ends fuel job names texts v is ends
+  next_ends (run workers fuel job names) texts v is ends = run_ends fuel job names texts v is ends
+
+  module _ (files : FilesSeen) (out report : SinkSeen) (well : NothingFailed files out report) where
+    read_refused : (n : Next) (verdict : Verdict) → ((v : Verdict) → n ≡ settled v → ends_of v ≡ status.ReadFailed → ⊥) → Follows files n verdict → status.ReadFailed ≡ ends_of verdict → Wrote out report verdict → EndsWell files report status.ReadFailed
+    read_refused (settled v) verdict never follows ends wrote = absurd (never v refl (sym (ends ∙ ap ends_of follows.0)))
+    read_refused (reads file) verdict never (inl failed) ends wrote = absurd (well.files_well failed.1)
+    read_refused (reads file) verdict never (inr longer) ends wrote =
+        let P : Verdict → Type 0 = λ v. Wrote out report v in
+        (file, longer.3, (subst P longer.0 wrote).1)
+
+    pub ends_well : (asked : Option Command) (ends : Status) → Answers outcome_of files out report asked ends → EndsWell files report ends
+    ends_well None status.WriteFailed is = absurd (no_failed_write out report usage well.out_well well.report_well is.0)
+    ends_well None status.ReadFailed is = let bad : status.ReadFailed ≡ status.Usage = is.0.0 in absurd (cc)
+    ends_well (Some command) status.WriteFailed is = absurd (no_failed_write out report is.0 well.out_well well.report_well is.2)
+    ends_well (Some command) status.ReadFailed is =
+        read_refused (next outcome_of command is.1.texts) is.0 (next_ends command is.1.texts) is.1.follows is.2.0 is.2.1
+    ends_well asked status.Done is = tt
+    ends_well asked status.Faulted is = tt
+    ends_well asked status.Usage is = tt
+    ends_well asked status.JobRefused is = tt
+    ends_well asked status.NoMemory is = tt
+    ends_well asked status.InputRefused is = tt

@@ -1,0 +1,78 @@
+-- Completeness: a call ends as its command says where the command is in order and nothing outside fails.
+use Rattle.std.specs.Prelude.{◌≡◌, ℕ, ◌≤◌, ◌⊎◌, length, Option, Some, None, Result, Ok, List, [], ◌∷◌, codes}
+use Rattle.job_body.specs.NamesOfJob.{names_of_job}
+use Rattle.job_body.specs.PlanOfJob.{plan_of_job, refusal_of_plan}
+use Rattle.job_body.specs.Standing.{Standing}
+use Rattle.job_reader.specs.CanonicalText.{text_of}
+use Rattle.job_reader.specs.declared.line.Line.{Line}
+use Rattle.swan_model.specs.declared.outcome.Outcome.{Outcome}
+use Rattle.swan_model.specs.declared.plan.Plan.{Plan}
+use Rattle.swan_outside.specs.Counts.{Rose}
+use Rattle.swan_outside.specs.Reads.{IsTooLong}
+use Rattle.swan_outside.specs.declared.files.TheConstants.{FILE_MOST}
+use Rattle.swan_top.specs.Command.{Command, help, version, check, elide, run}
+use Rattle.swan_top.specs.Decision.{Verdict, prints, accepted, printed, files_of}
+use Rattle.swan_top.specs.Headline.{FilesSeen, SinkSeen, Took, Wrote, ends_of}
+use Rattle.swan_top.specs.Refusals.{file_line}
+use Rattle.swan_top.specs.declared.help.TheConstants.{HELP, VERSION}
+use Rattle.swan_top.specs.declared.status.Status.{Status}
+use Rattle.swan_top.specs.declared.status.Status.TheVariants as status
+
+-- the files tell this text, which is within their limit
+pub record IsTold (content : Option (List ℕ)) (text : List ℕ) : Type 0 where
+  pub told : content ≡ Some text
+  pub most : length text ≤ FILE_MOST
+
+-- the files tell these texts, one of each name
+abbrev pub AreTold : (List ℕ → Option (List ℕ)) → (names : List (List ℕ)) → (texts : List (List ℕ)) → Type 0
+AreTold content [] [] = Unit {0}
+AreTold content [] (text ∷ texts) = ⊥
+AreTold content (name ∷ names) [] = ⊥
+AreTold content (name ∷ names) (text ∷ texts) = IsTold (content name) text × AreTold content names texts
+
+-- no count of faults rose: neither that of the files nor that of a sink
+pub record NothingFailed (files : FilesSeen) (out report : SinkSeen) : Type 0 where
+  pub files_well : ¬ Rose files.faults_before files.faults_after
+  pub out_well : ¬ Rose out.faults_before out.faults_after
+  pub report_well : ¬ Rose report.faults_before report.faults_after
+
+-- A check is in order: its job is accepted.
+pub record ChecksInOrder (text : List ℕ) (verdict : Verdict) : Type 0 where
+  pub lines : List Line
+  pub is_accepted : accepted text ≡ Ok lines
+  pub prints_text : verdict ≡ prints (text_of lines) (codes "checked\n") status.Done
+
+module _ (outcome_of : Plan (List Line) Standing → Outcome) where
+  -- A run is in order: its job is accepted, and its inputs are as many as the job wants, each within the limits of
+  -- lines. What is printed is what the outcome of the job's plan leaves.
+  pub record RunsInOrder (fuel : ℕ) (text : List ℕ) (inputs : List (List ℕ)) (verdict : Verdict) : Type 0 where
+    pub lines : List Line
+    pub is_accepted : accepted text ≡ Ok lines
+    pub none_refused : refusal_of_plan lines inputs ≡ None
+    pub prints_outcome : verdict ≡ printed (names_of_job lines) (outcome_of (plan_of_job lines inputs fuel))
+
+  -- A command is in order over the texts of its files, and this is what it comes to.
+  abbrev pub InOrder : Command → (texts : List (List ℕ)) → Verdict → Type 0
+  InOrder help texts verdict = verdict ≡ prints HELP.now [] status.Done
+  InOrder version texts verdict = verdict ≡ prints VERSION.now [] status.Done
+  InOrder (check job) (text ∷ texts) verdict = ChecksInOrder text verdict
+  InOrder (elide fuel job names) (text ∷ inputs) verdict = RunsInOrder fuel text inputs verdict
+  InOrder (run workers fuel job names) (text ∷ inputs) verdict = RunsInOrder fuel text inputs verdict
+  InOrder command [] verdict = ⊥
+
+  -- Where the files tell texts over which the command is in order, and no count of faults rises, the call wrote
+  -- all that the command comes to and ends so; or memory ran out.
+  abbrev pub Completes : FilesSeen → (out report : SinkSeen) → Option Command → Status → Type 0
+  Completes files out report None ends = Unit {0}
+  Completes files out report (Some command) ends =
+      (texts : List (List ℕ)) (verdict : Verdict)
+      → AreTold files.content (files_of command) texts → InOrder command texts verdict → NothingFailed files out report
+      → (ends ≡ status.NoMemory) ⊎ ((ends ≡ ends_of verdict) × Wrote out report verdict)
+
+-- How a call ends over files and sinks that never fail: it writes all that it settles, and a read is refused only
+-- where the file is too long.
+abbrev pub EndsWell : FilesSeen → (report : SinkSeen) → Status → Type 0
+EndsWell files report status.WriteFailed = ⊥
+EndsWell files report status.ReadFailed =
+    (file : List ℕ) × IsTooLong (files.content file) × Took report (file_line (codes "too long ") file)
+EndsWell files report ends = Unit {0}

@@ -1,0 +1,10 @@
+// The limits of words, each with its number.
+ghost use Rattle.std.specs.Prelude.{◌≡◌};
+ghost use Rattle.swan_top.specs.declared.command.TheConstants.{FUEL_WORD_MOST, WORKERS_MOST};
+
+/// The law that says of each limit of words which number it is. The definition of commands names the limits, so
+/// without it another number would change what words mean.
+pub fn limits_of_words()
+    ensures fuel { FUEL_WORD_MOST ≡ 10000000 }
+    ensures workers { WORKERS_MOST ≡ 1 }
+{}
