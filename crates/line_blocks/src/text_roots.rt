@@ -7,8 +7,8 @@ ghost use Rattle.line_blocks.specs.TextRoots.{line_roots, text_names};
 
 use std::alloc::Global;
 use swan_model::{
-    FIRST_ITEMS_MOST, LinesAnswer, Mode, Names, NoMemory, QueueName, QueueNames, RootQueue, Roots, Shown, Values,
-    Word, Words, lines_of,
+    FIRST_ITEMS_MOST, LinesAnswer, Mode, Names, NoMemory, QueueName, QueueNames, RootQueue, Roots,
+    Shown, Values, Word, Words, lines_of,
 };
 
 /// The largest number of bytes of a text that a pipeline takes.

@@ -56,7 +56,10 @@ fn handed(alloc: Global, held: Held) -> Result<Step, NoMemory>
     ensures { IfOk result (λ step. step ≡ handed held) }
 {
     match held {
-        Held::Fewer(lines) => Ok((RecordLocal::Reads(QueueReader::Tested(lines)), Ask::Empty(0))),
+        Held::Fewer(lines) => Ok((
+            RecordLocal::Reads(QueueReader::Tested(lines)),
+            Ask::Empty(0),
+        )),
         Held::Block(block, lines) => Ok((
             RecordLocal::Reads(QueueReader::Looks(lines)),
             Ask::Spawn(block_task(alloc, block)?),
@@ -80,7 +83,10 @@ fn reads(alloc: Global, step: ReaderStep<HeldLines>) -> Result<Step, NoMemory>
 {
     match step {
         ReaderStep::Tests(lines) => {
-            Ok((RecordLocal::Reads(QueueReader::Tested(lines)), Ask::Empty(0)))
+            Ok((
+                RecordLocal::Reads(QueueReader::Tested(lines)),
+                Ask::Empty(0),
+            ))
         }
         ReaderStep::Pops(lines) => {
             Ok((RecordLocal::Reads(QueueReader::Popped(lines)), Ask::Pop(0)))

@@ -7,7 +7,9 @@ ghost use Rattle.record_pipeline.specs.Plans.{first_width, record_plan};
 
 use crate::fields::field_count;
 use crate::{RecordBody, RecordLocal};
-use line_blocks::{HeldLines, QueueReader, TEXT_MOST, bytes_of, line_roots, text_lines, text_names};
+use line_blocks::{
+    HeldLines, QueueReader, TEXT_MOST, bytes_of, line_roots, text_lines, text_names,
+};
 use std::alloc::Global;
 use swan_model::{LinesAnswer, Names, NoMemory, Plan, PlanFuel, Values};
 

@@ -170,15 +170,3 @@ module _ {B L S W : Type 0} {G : Ghosts B L} {body : B} (r : Reader G body S W) 
         (λ left kids same number.
         subst (λ v. RunsWhole G body (reading (r.test (last s items)) (answer.Flag true) left kids) (r.shape [] v) after_it more) (sym (made_none items s w))
         (rest left kids (omega (arith, same, spent_none items s)))))
-
-  -- ---- a reader whose children book no fault
-
-  pub booked_quiet : ((path : List ℕ) (child : Child L) → r.books path child ≡ []) → (items : List Value) (s : S) (n : ℕ) → booked s items n ≡ []
-  booked_quiet quiet [] s n = refl
-  booked_quiet quiet (x ∷ xs) s n =
-      ap (λ fs. fs ++ booked (r.keeps s x) xs (n + one (r.gives s x))) (none_of (r.gives s x) n)
-      ∙ booked_quiet quiet xs (r.keeps s x) (n + one (r.gives s x))
-    where
-      none_of : (at : Option (Child L)) (m : ℕ) → faults_of at m ≡ []
-      none_of None m = refl
-      none_of (Some child) m = quiet (r.path ++ m ∷ []) child

@@ -299,16 +299,3 @@ module _ {B L W : Type 0} {G : Ghosts B L} {body : B} (t : BlockTask G body W) w
     faults_of_blocks [] k n begins short = last_book n k.before k.held begins short ∙ ap (books_at k.before) (sym (append-nil k.held))
     faults_of_blocks (x ∷ xs) k n begins short =
         book_more (is_full k) x xs k n refl (faults_of_blocks xs) begins short ∙ ap (books_at k.before) (append_assoc k.held (x ∷ []) xs)
-
-  -- there are no more blocks than items
-  pub number_of_blocks : (items : List Value) (k : Held) → length (blocks k items) ≤ length k.held + length items
-  number_of_blocks [] k = last_one k.held
-    where
-      last_one : (held : List Value) → length (last_block k.before held) ≤ length held + 0
-      last_one [] = omega arith
-      last_one (x ∷ xs) = omega arith
-  number_of_blocks (x ∷ xs) k = by_case (is_full k) (number_of_blocks xs)
-    where
-      by_case : (full : Bool) → ((now : Held) → length (blocks now xs) ≤ length now.held + length xs) → length (with_block (given_if full k x) (blocks (kept_if full k x) xs)) ≤ length k.held + length (x ∷ xs)
-      by_case true rest = omega (arith, rest (kept_if true k x))
-      by_case false rest = omega (arith, rest (kept_if false k x), length-append k.held (x ∷ []))
