@@ -6,9 +6,9 @@ use crate::IndexLocal;
 use crate::pairs::Pairs;
 use crate::pairs_left::PairsLeft;
 use crate::words_left::WordsLeft;
+use line_blocks::{Held, HeldLines, LineBlock, QueueReader, ReaderStep, bytes_of, gives_of};
 use std::alloc::Global;
 use swan_model::{Answer, Ask, Body, Child, Give, Mode, NoMemory};
-use line_blocks::{Held, HeldLines, LineBlock, QueueReader, ReaderStep, bytes_of, gives_of};
 
 /// The root's place of the lines, which it pops.
 const INPUT: u32 = 0;
@@ -138,10 +138,7 @@ impl IndexBody {
         if block.is_empty() {
             return Ok((IndexLocal::Ends, Ask::Spawn(self.collector(alloc)?)));
         }
-        Ok((
-            IndexLocal::Gathers,
-            Ask::Spawn(block_task(alloc, block)?),
-        ))
+        Ok((IndexLocal::Gathers, Ask::Spawn(block_task(alloc, block)?)))
     }
 
     /// The root's step as it reads.

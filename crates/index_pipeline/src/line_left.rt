@@ -5,10 +5,10 @@ ghost use Rattle.index_pipeline.specs.Texts.{line_records};
 
 use crate::pair::Pair;
 use crate::word::{first_run, word_of};
+use line_blocks::bytes_of;
 use std::alloc::Global;
 use std::marker::Model;
 use swan_model::{NoMemory, Value};
-use line_blocks::bytes_of;
 
 /// A line, of which some words are taken already. Contracts see it as the records of the words that are
 /// left, in order.

@@ -6,9 +6,9 @@ ghost use Rattle.line_blocks.specs.TextRoots.{text_names};
 ghost use Rattle.index_pipeline.specs.Plans.{index_plan};
 
 use crate::{IndexBody, IndexLocal};
+use line_blocks::{TEXT_MOST, line_roots, text_lines, text_names};
 use std::alloc::Global;
 use swan_model::{LinesAnswer, Names, NoMemory, Plan, PlanFuel};
-use line_blocks::{TEXT_MOST, line_roots, text_lines, text_names};
 
 /// The plan of the index of a text. It is refused as `lines_of` refuses the text. `O(length)`.
 pub fn index_plan(alloc: Global, text: &[u8]) -> Result<Plan<IndexBody>, LinesAnswer>

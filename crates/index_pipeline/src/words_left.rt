@@ -3,10 +3,10 @@ ghost use Rattle.std.specs.Prelude.{◌≡◌, ◌∷◌, ◌++◌, [], IfOk, Ma
 ghost use Rattle.index_pipeline.specs.Texts.{block_records};
 
 use crate::line_left::LineLeft;
+use line_blocks::LineBlock;
 use std::alloc::Global;
 use std::marker::Model;
 use swan_model::{NoMemory, Value};
-use line_blocks::LineBlock;
 
 /// The lines of a block, of which some words are taken already. Contracts see it as the records of the
 /// words that are left, in order.
