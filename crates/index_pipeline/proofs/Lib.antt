@@ -1,0 +1,9 @@
+mod Collecting
+mod Indexing
+mod KeptOrder
+mod Recording
+mod Runs
+mod Taking
+mod Telling
+mod TextLines
+mod Wording

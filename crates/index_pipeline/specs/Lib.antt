@@ -1,0 +1,9 @@
+-- The index of a text, from its words on; and then the steps of the pipeline that makes it, and its plan.
+pub mod Words
+pub mod Pairs
+pub mod Index
+pub mod Texts
+pub mod KeptPairs
+pub mod Steps
+pub mod Plans
+pub mod Indexed

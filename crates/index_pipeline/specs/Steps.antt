@@ -1,0 +1,88 @@
+-- The steps of the index.
+use Rattle.std.specs.Prelude.{ℕ, ◌+◌, ◌*◌, List, [], ◌∷◌, map}
+use Rattle.std.specs.BTreeSet.{insert_key}
+use Rattle.swan_model.specs.declared.body.Answer.{Answer}
+use Rattle.swan_model.specs.declared.body.Ask.{Ask}
+use Rattle.swan_model.specs.declared.body.Ask.TheVariants as ask
+use Rattle.swan_model.specs.declared.body.Child.{Child}
+use Rattle.swan_model.specs.declared.rights.Mode.TheVariants.{Push, Pop}
+use Rattle.swan_model.specs.declared.value.Value.{Value}
+use Rattle.line_blocks.specs.declared.held_lines.Held.{Held}
+use Rattle.line_blocks.specs.declared.held_lines.Held.TheVariants as held
+use Rattle.line_blocks.specs.declared.queue_reader.QueueReader.TheVariants as reader
+use Rattle.line_blocks.specs.declared.queue_reader.ReaderStep.{ReaderStep}
+use Rattle.line_blocks.specs.declared.queue_reader.ReaderStep.TheVariants as step
+use Rattle.line_blocks.specs.Holding.{held_with}
+use Rattle.line_blocks.specs.LineBlocks.{Lines, byte_count, bytes_of, no_lines}
+use Rattle.line_blocks.specs.Readers.{step_of}
+use Rattle.index_pipeline.specs.declared.body.IndexBody.{IndexBody}
+use Rattle.index_pipeline.specs.declared.local.IndexLocal.{IndexLocal}
+use Rattle.index_pipeline.specs.declared.local.IndexLocal.TheVariants as local
+use Rattle.index_pipeline.specs.Pairs.{Pair, pair_of, pair_order}
+use Rattle.index_pipeline.specs.Texts.{block_records, record_of}
+
+-- the root's places: the input, the output, and the queue of words that it makes
+abbrev pub INPUT : ℕ
+INPUT = 0
+
+abbrev pub OUTPUT : ℕ
+OUTPUT = 1
+
+abbrev pub WORDS : ℕ
+WORDS = 2
+
+-- a block task, which may push words
+abbrev pub block_task : Lines → Child IndexLocal
+block_task block = record {
+  local = local.Words (block_records block);
+  gives = (record { place = WORDS; mode = Push }) ∷ [];
+  fuel = 2 * byte_count block.lines + 2;
+}
+
+-- the collector, which may pop words and push to the output
+abbrev pub collector : IndexBody → Child IndexLocal
+collector body = record {
+  local = local.Collects (reader.Looks []);
+  gives = (record { place = WORDS; mode = Pop }) ∷ (record { place = OUTPUT; mode = Push }) ∷ [];
+  fuel = body.collector_fuel;
+}
+
+-- a block is given to a task
+abbrev pub handed : Held → IndexLocal × Ask IndexLocal
+handed (held.Fewer lines) = (local.Reads (reader.Tested lines), ask.Empty INPUT)
+handed (held.Block block lines) = (local.Reads (reader.Looks lines), ask.Spawn (block_task block))
+
+-- once the input is empty, lines that are held are a last block
+abbrev pub handed_last : IndexBody → ℕ → List Value → IndexLocal × Ask IndexLocal
+handed_last body number [] = (local.Ends, ask.Spawn (collector body))
+handed_last body number (line ∷ lines) = (local.Gathers, ask.Spawn (block_task (record { number = number; lines = line ∷ lines })))
+
+abbrev pub reads : IndexBody → ReaderStep Lines → IndexLocal × Ask IndexLocal
+reads body (step.Tests lines) = (local.Reads (reader.Tested lines), ask.Empty INPUT)
+reads body (step.Pops lines) = (local.Reads (reader.Popped lines), ask.Pop INPUT)
+reads body (step.Takes lines line) = handed (held_with lines line)
+reads body (step.Ends lines) = handed_last body lines.number lines.lines
+
+-- what is left is pushed, record by record
+abbrev pub words_left : List Value → IndexLocal × Ask IndexLocal
+words_left [] = (local.Ends, ask.Finish)
+words_left (item ∷ items) = (local.Words items, ask.Push 0 item)
+
+abbrev pub pairs_left : List Value → IndexLocal × Ask IndexLocal
+pairs_left [] = (local.Ends, ask.Finish)
+pairs_left (item ∷ items) = (local.Prints items, ask.Push 1 item)
+
+abbrev pub collects : ReaderStep (List Pair) → IndexLocal × Ask IndexLocal
+collects (step.Tests pairs) = (local.Collects (reader.Tested pairs), ask.Empty 0)
+collects (step.Pops pairs) = (local.Collects (reader.Popped pairs), ask.Pop 0)
+collects (step.Takes pairs item) = (local.Collects (reader.Tested (insert_key pair_order pairs (pair_of (bytes_of item)))), ask.Empty 0)
+collects (step.Ends pairs) = pairs_left (map record_of pairs)
+
+abbrev pub next : IndexBody → IndexLocal → Answer → ℕ → IndexLocal × Ask IndexLocal
+next body local.Begins told fuel = (local.Reads (reader.Looks no_lines), ask.NewQueue)
+next body (local.Reads at) told fuel = reads body (step_of at told)
+next body local.Gathers told fuel = (local.Ends, ask.Spawn (collector body))
+next body (local.Words items) told fuel = words_left items
+next body (local.Collects at) told fuel = collects (step_of at told)
+next body (local.Prints items) told fuel = pairs_left items
+next body local.Ends told fuel = (local.Ends, ask.Finish)

@@ -1,0 +1,14 @@
+use Rattle.std.proofs.Common.{◌≡◌, ◌≤◌, ◌+◌, None, length, map, ap, arith}
+use Rattle.std.proofs.lemmas.List.{length-map}
+use Rattle.swan_model.specs.Lines.{lines, refusal_of}
+use Rattle.swan_model.specs.declared.lines.TheConstants.{LINES_MOST}
+use Rattle.swan_model.specs.declared.value.Value.TheVariants.{Bytes}
+use Rattle.line_blocks.proofs.FewLines.{few_lines}
+use Rattle.line_blocks.proofs.text_roots.text_lines.Goals as goal
+
+pub returns-in-Ok-clause-few : goal.returns-in-Ok-clause-few
+returns-in-Ok-clause-few c =
+    let items : c.in-Ok.items ≡ map Bytes (lines c.args.text.now) = c.in-Ok.ensures.lines in
+    let accepted : refusal_of c.args.text.now ≡ None = c.in-Ok.ensures.accepted in
+    let few : 0 + length (lines c.args.text.now) ≤ LINES_MOST = few_lines 0 (lines c.args.text.now) (omega arith) accepted in
+    omega (arith, ap length items, length-map (lines c.args.text.now) Bytes, few)

@@ -1,0 +1,6 @@
+-- What tasks want that read the lines of a text.
+pub mod LineBlocks
+pub mod Holding
+pub mod Pieces
+pub mod Readers
+pub mod TextRoots

@@ -1,0 +1,5 @@
+mod Converting
+pub mod FieldByField
+mod Recording
+mod TextLines
+pub mod Widths

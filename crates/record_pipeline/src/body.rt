@@ -1,0 +1,173 @@
+// The body of the conversion.
+ghost use Rattle.std.specs.Prelude.{◌≡◌, ◌≤◌, [], ◌∷◌, length, IfOk};
+ghost use Rattle.swan_model.specs.declared.rights.Mode.TheVariants.{Push};
+ghost use Rattle.record_pipeline.specs.Conversion.{trouble_of};
+ghost use Rattle.record_pipeline.specs.Steps.{block_task, converted, handed, handed_last, reads, spawns_lines};
+
+use crate::RecordLocal;
+use crate::fields::{field_count, netstrings};
+use line_blocks::{Held, HeldLines, LineBlock, QueueReader, ReaderStep, bytes_of, gives_of};
+use std::alloc::Global;
+use swan_model::{
+    Answer, Ask, Body, Child, Give, Mode, NoMemory, RECORD_MOST, Record, RecordAnswer, Trouble,
+    Value,
+};
+
+/// The program of the conversion of a text. Only `record_plan` makes one.
+#[derive(Drop)]
+pub struct RecordBody {
+    // how many fields a line has that isn't left out
+    width: u64,
+}
+
+/// What a step leaves as the local, and what it asks for.
+type Step = (RecordLocal, Ask<RecordLocal>);
+
+/// A child that may push to one place of its parent.
+fn pusher(
+    alloc: Global,
+    local: RecordLocal,
+    place: u32,
+    fuel: u64,
+) -> Result<Child<RecordLocal>, NoMemory>
+    ensures { IfOk result (λ child. child ≡ record { local = local; gives = (record { place = place; mode = Push }) ∷ []; fuel = fuel }) }
+{
+    let give = Give {
+        place,
+        mode: Mode::Push,
+    };
+    Ok(Child {
+        local,
+        gives: gives_of(alloc, &[give])?,
+        fuel,
+    })
+}
+
+/// A block task: it spawns a task for each of its lines.
+fn block_task(alloc: Global, block: LineBlock) -> Result<Child<RecordLocal>, NoMemory>
+    ensures { IfOk result (λ child. child ≡ block_task block) }
+{
+    let fuel = 3 * block.len() as u64 + 1;
+    pusher(alloc, RecordLocal::Lines(block), 1, fuel)
+}
+
+/// What the root does with held lines: it gives a block to a task, or reads on.
+fn handed(alloc: Global, held: Held) -> Result<Step, NoMemory>
+    ensures { IfOk result (λ step. step ≡ handed held) }
+{
+    match held {
+        Held::Fewer(lines) => Ok((
+            RecordLocal::Reads(QueueReader::Tested(lines)),
+            Ask::Empty(0),
+        )),
+        Held::Block(block, lines) => Ok((
+            RecordLocal::Reads(QueueReader::Looks(lines)),
+            Ask::Spawn(block_task(alloc, block)?),
+        )),
+    }
+}
+
+/// What the root does once the input is empty: lines that are held are a last block.
+fn handed_last(alloc: Global, block: LineBlock) -> Result<Step, NoMemory>
+    ensures { IfOk result (λ step. step ≡ handed_last block.number block.lines) }
+{
+    if block.is_empty() {
+        return Ok((RecordLocal::Ends, Ask::Finish));
+    }
+    Ok((RecordLocal::Ends, Ask::Spawn(block_task(alloc, block)?)))
+}
+
+/// The root's step as it reads.
+fn reads(alloc: Global, step: ReaderStep<HeldLines>) -> Result<Step, NoMemory>
+    ensures { IfOk result (λ next. next ≡ reads step) }
+{
+    match step {
+        ReaderStep::Tests(lines) => {
+            Ok((
+                RecordLocal::Reads(QueueReader::Tested(lines)),
+                Ask::Empty(0),
+            ))
+        }
+        ReaderStep::Pops(lines) => {
+            Ok((RecordLocal::Reads(QueueReader::Popped(lines)), Ask::Pop(0)))
+        }
+        ReaderStep::Takes(lines, line) => handed(alloc, lines.hold(alloc, line)?),
+        ReaderStep::Ends(lines) => handed_last(alloc, lines.into_block()),
+    }
+}
+
+/// The spawn of the next line's task of a block, or the block task's end.
+fn spawns_lines(alloc: Global, mut block: LineBlock) -> Result<Step, NoMemory>
+    ensures { IfOk result (λ step. step ≡ spawns_lines block.number block.lines) }
+{
+    let number = block.number();
+    match block.take() {
+        Some(line) => {
+            let child = pusher(alloc, RecordLocal::Line(number, line), 0, 2)?;
+            Ok((RecordLocal::Lines(block), Ask::Spawn(child)))
+        }
+        None => Ok((RecordLocal::Ends, Ask::Finish)),
+    }
+}
+
+/// What the task of a line asks for: the push of its record, or the fault of a line that is left out.
+fn converted(alloc: Global, width: u64, line: &[u8]) -> Result<Ask<RecordLocal>, NoMemory>
+    requires { length line.now ≤ RECORD_MOST }
+    ensures { IfOk result (λ asked. asked ≡ converted (trouble_of width line.now) line.now) }
+{
+    if field_count(line) != width {
+        return Ok(Ask::Fail(Trouble::User(1)));
+    }
+    let text = netstrings(alloc, line)?;
+    match Record::of(alloc, &text) {
+        Ok(record) => Ok(Ask::Push(0, Value::Bytes(record))),
+        Err(RecordAnswer::TooLong) => Ok(Ask::Fail(Trouble::TooLong)),
+        Err(RecordAnswer::NoMemory) => Err(NoMemory),
+    }
+}
+
+impl RecordBody {
+    // The program for lines of this many fields.
+    pub(crate) fn new(width: u64) -> RecordBody
+        ensures { result ≡ record { width = width } }
+    {
+        RecordBody { width }
+    }
+}
+
+impl Body for RecordBody {
+    ghost use Rattle.record_pipeline.specs.Steps.{next, place_of};
+
+    type Local = RecordLocal;
+
+    ghost next = { next };
+
+    ghost place_of = { place_of };
+
+    fn advance(
+        &self,
+        alloc: Global,
+        local: RecordLocal,
+        answer: Answer,
+        _fuel: u64,
+    ) -> Result<(RecordLocal, Ask<RecordLocal>), NoMemory> {
+        match local {
+            RecordLocal::Reads(reader) => reads(alloc, reader.step(answer)),
+            RecordLocal::Lines(block) => spawns_lines(alloc, block),
+            RecordLocal::Line(number, line) => {
+                let asked = converted(alloc, self.width, bytes_of(&line))?;
+                Ok((RecordLocal::Done(number), asked))
+            }
+            RecordLocal::Done(number) => Ok((RecordLocal::Done(number), Ask::Finish)),
+            RecordLocal::Ends => Ok((RecordLocal::Ends, Ask::Finish)),
+        }
+    }
+
+    fn place(&self, local: &RecordLocal) -> u64 {
+        match local {
+            RecordLocal::Line(number, _) => *number,
+            RecordLocal::Done(number) => *number,
+            _ => 0,
+        }
+    }
+}

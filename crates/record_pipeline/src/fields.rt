@@ -1,0 +1,59 @@
+// Fields of lines, and their netstrings.
+ghost use Rattle.std.specs.Prelude.{◌≡◌, ◌≤◌, ◌++◌, ◌==◌, not, length, drop, IfOk, OnOk};
+ghost use Rattle.std.specs.List.{prefix_len};
+ghost use Rattle.record_pipeline.specs.Netstrings.{fields, netstring, netstrings};
+
+use std::alloc::Global;
+use swan_model::{NoMemory, RECORD_MOST};
+
+/// How many fields a line has. `O(length)`.
+#[tactic(auto, using(crate::proofs::FieldByField::number_of_fields))]
+pub fn field_count(line: &[u8]) -> u64
+    requires { length line.now ≤ RECORD_MOST }
+    ensures { result ≡ length (fields line.now) }
+{
+    line.iter().filter(|byte| **byte == b'\t').count() as u64 + 1
+}
+
+/// How many bytes the first field has.
+fn field_len(line: &[u8]) -> usize
+    ensures most { result ≤ length line.now }
+    ensures field { result ≡ prefix_len (λ byte. not (byte == 9)) line.now }
+{
+    line.iter().take_while(|byte| **byte != b'\t').count()
+}
+
+/// Adds the netstring of a field. `O(length)` amortised.
+fn push_netstring(alloc: Global, text: &mut Vec<u8>, field: &[u8]) -> Result<(), NoMemory>
+    ensures { OnOk result (text.new.items ≡ text.old.items ++ netstring field.now) }
+{
+    let len = field.len();
+    text.extend_from_slice(format!(in alloc; "{len}:")?.as_bytes())?;
+    text.extend_from_slice(field)?;
+    text.push(b',')?;
+    Ok(())
+}
+
+/// What stands in a line after so many bytes.
+fn after(line: &[u8], len: usize) -> &[u8]
+    requires { len ≤ length line.now }
+    ensures { result.now ≡ drop len line.now }
+{
+    &line[len..]
+}
+
+/// The netstrings of a line's fields, joined. `O(length)`.
+pub fn netstrings(alloc: Global, line: &[u8]) -> Result<Vec<u8>, NoMemory>
+    ensures { IfOk result (λ text. text.items ≡ netstrings line.now) }
+{
+    let mut text = Vec::new(alloc);
+    let mut rest = line;
+    let mut len = field_len(rest);
+    while len < rest.len() {
+        push_netstring(alloc, &mut text, &rest[..len])?;
+        rest = after(rest, len + 1);
+        len = field_len(rest);
+    }
+    push_netstring(alloc, &mut text, rest)?;
+    Ok(text)
+}

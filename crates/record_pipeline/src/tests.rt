@@ -1,0 +1,97 @@
+// The conversion of texts, against answers worked out by hand.
+use crate::{record_names, record_plan};
+use line_blocks::TEXT_MOST;
+use serial_elision::{Printed, elide, print};
+use std::alloc::Global;
+use std::process::Abort;
+use std::test::Fail;
+
+/// The two texts that the conversion of a text leaves.
+fn texts_of(rt: &impl Abort, alloc: Global, text: &[u8]) -> Result<Printed, Fail> {
+    assert!(rt; text.len() <= TEXT_MOST);
+    let plan = record_plan(alloc, text).ok().ok_or("refused")?;
+    let outcome = elide(alloc, plan)?;
+    let names = record_names(alloc)?;
+    assert_eq!(rt; names.queues.len(), outcome.queues.len());
+    assert_eq!(rt; names.objects.len(), outcome.objects.len());
+    Ok(print(alloc, &names, &outcome)?)
+}
+
+/// Whether a text is converted so, with this report of its faults.
+fn leaves(
+    rt: &impl Abort,
+    alloc: Global,
+    text: &[u8],
+    out: &[u8],
+    faults: &str,
+) -> Result<bool, Fail> {
+    let texts = texts_of(rt, alloc, text)?;
+    let report = format!(in alloc; "left input 0\n{faults}")?;
+    Ok(texts.out.as_slice() == out && texts.report.as_slice() == report.as_bytes())
+}
+
+/// A text so many times.
+fn repeated(alloc: Global, text: &[u8], count: usize) -> Result<Vec<u8>, Fail> {
+    let mut all = Vec::new(alloc);
+    for _ in 0..count {
+        all.extend_from_slice(text)?;
+    }
+    Ok(all)
+}
+
+#[test]
+fn fields_become_netstrings(rt: HostRuntime) -> Result<(), Fail> {
+    for (text, out, faults) in [
+        (
+            b"ab\tc\nx\ty\tz\n\t\nw\n".as_slice(),
+            b"2:ab,1:c,\n0:,0:,\n".as_slice(),
+            "faults 2\nfault /0/1 2 User 1\nfault /0/3 4 User 1\n",
+        ),
+        (b"".as_slice(), b"".as_slice(), "faults 0\n"),
+        (b"\n\n".as_slice(), b"0:,\n0:,\n".as_slice(), "faults 0\n"),
+        (
+            b"a\xff:,".as_slice(),
+            b"4:a\xff:,,\n".as_slice(),
+            "faults 0\n",
+        ),
+    ] {
+        assert!(rt; leaves(&rt, rt.alloc(), text, out, faults)?);
+    }
+    Ok(())
+}
+
+#[test]
+fn blocks_have_64_lines(rt: HostRuntime) -> Result<(), Fail> {
+    let alloc = rt.alloc();
+    for (lines, faults) in [
+        (63, "faults 1\nfault /0/63 64 User 1\n"),
+        (64, "faults 1\nfault /1/0 65 User 1\n"),
+        (65, "faults 1\nfault /1/1 66 User 1\n"),
+        (128, "faults 1\nfault /2/0 129 User 1\n"),
+    ] {
+        let mut text = repeated(alloc, b"w\n", lines)?;
+        text.extend_from_slice(b"w\tw")?;
+        let out = repeated(alloc, b"1:w,\n", lines)?;
+        assert!(rt; leaves(&rt, alloc, &text, &out, faults)?, "at {lines}");
+    }
+    Ok(())
+}
+
+#[test]
+fn long_records_are_left_out(rt: HostRuntime) -> Result<(), Fail> {
+    let alloc = rt.alloc();
+    for (bytes, faults) in [
+        (65_528, "faults 0\n"),
+        (65_529, "faults 1\nfault /0/0 1 TooLong\n"),
+    ] {
+        let text = repeated(alloc, b"a", bytes)?;
+        let mut out = Vec::new(alloc);
+        if faults == "faults 0\n" {
+            out.extend_from_slice(b"65528:")?;
+            out.extend_from_slice(&text)?;
+            out.extend_from_slice(b",\n")?;
+        }
+        assert!(rt; leaves(&rt, alloc, &text, &out, faults)?, "at {bytes}");
+    }
+    Ok(())
+}

@@ -1,0 +1,62 @@
+-- Tasks that push the items of a list and end, run whole over any contents.
+use Rattle.std.proofs.Common.{◌≡◌, ℕ, zero, suc, ◌+◌, ◌-◌, ◌≤◌, List, [], ◌∷◌, ◌++◌, Some, refl, sym, ap, subst, ◌∙◌, append_assoc, arith, length}
+use Rattle.std.proofs.lemmas.List.{append-nil}
+use Rattle.std.specs.Prelude.{slice_get, slice_set}
+use Rattle.swan_model.specs.declared.body.Answer.{Answer}
+use Rattle.swan_model.specs.declared.body.Answer.TheVariants as answer
+use Rattle.swan_model.specs.declared.body.Ask.TheVariants as ask
+use Rattle.swan_model.specs.declared.body.Body.{Ghosts}
+use Rattle.swan_model.specs.declared.rights.Mode.TheVariants.{Push}
+use Rattle.swan_model.specs.declared.value.Value.{Value}
+use Rattle.swan_model.specs.SerialState.{Activation, Holding}
+use Rattle.swan_model.specs.SerialStep.{number_at}
+use Rattle.whole_runs.specs.Whole.{Contents, with_queue, RunsWhole}
+use Rattle.whole_runs.proofs.WholeSteps.{pushes, finishes}
+
+-- what stands in a list at the index at which it was set
+pub get-set_same : {X : Type 0} (xs : List X) (n : ℕ) (x y : X) → slice_get xs n ≡ Some x → slice_get (slice_set xs n y) n ≡ Some y
+get-set_same [] n x y is = absurd (cc)
+get-set_same (z ∷ zs) zero x y is = refl
+get-set_same (z ∷ zs) (suc n) x y is = get-set_same zs n x y is
+
+pub set-same : {X : Type 0} (xs : List X) (n : ℕ) (x : X) → slice_get xs n ≡ Some x → slice_set xs n x ≡ xs
+set-same [] n x is = refl
+set-same (z ∷ zs) zero x is = let e : x ≡ z = cc in ap (λ y. y ∷ zs) e
+set-same (z ∷ zs) (suc n) x is = ap (λ ys. z ∷ ys) (set-same zs n x is)
+
+pub set-set : {X : Type 0} (xs : List X) (n : ℕ) (x y : X) → slice_set (slice_set xs n x) n y ≡ slice_set xs n y
+set-set [] n x y = refl
+set-set (z ∷ zs) zero x y = refl
+set-set (z ∷ zs) (suc n) x y = ap (λ ys. z ∷ ys) (set-set zs n x y)
+
+pub with_queue-same : (c : Contents) (n : ℕ) (items : List Value) → slice_get c.queues n ≡ Some items → with_queue c n items ≡ c
+with_queue-same c n items is = ap {B = Contents} (λ qs. record c { queues = qs }) (set-same c.queues n items is)
+
+pub with_queue-twice : (c : Contents) (n : ℕ) (items now : List Value) → with_queue (with_queue c n items) n now ≡ with_queue c n now
+with_queue-twice c n items now = ap {B = Contents} (λ qs. record c { queues = qs }) (set-set c.queues n items now)
+
+-- a task whose local is what is left to push
+pub record Pusher {B L : Type 0} (G : Ghosts B L) (body : B) : Type 0 where
+  pub left : List Value → L
+  pub end : L
+  pub place : ℕ
+  pub more : (x : Value) (xs : List Value) (fuel : ℕ) → G.next body (left (x ∷ xs)) answer.Nothing fuel ≡ (left xs, ask.Push place x)
+  pub ends : (fuel : ℕ) → G.next body (left []) answer.Nothing fuel ≡ (end, ask.Finish)
+
+module _ {B L : Type 0} {G : Ghosts B L} {body : B} (p : Pusher G body) where
+  -- It may come from another local, if it takes the same step there.
+  pub pushes_all : (xs before : List Value) (path : List ℕ) (local : L) (told : Answer) (fuel children number : ℕ) (holdings : List Holding) (c : Contents)
+      → G.next body local told (fuel - 1) ≡ G.next body (p.left xs) answer.Nothing (fuel - 1) → length xs + 1 ≤ fuel → number_at holdings p.place Push ≡ Some number → slice_get c.queues number ≡ Some before
+      → RunsWhole G body (record { path = path; local = local; answer = told; fuel = fuel; holdings = holdings; children = children }) c (with_queue c number (before ++ xs)) []
+  pushes_all [] before path local told fuel children number holdings c is enough held there =
+      let a : Activation L = record { path = path; local = local; answer = told; fuel = fuel; holdings = holdings; children = children } in
+      let same : c ≡ with_queue c number (before ++ []) = sym (ap (with_queue c number) (append-nil before) ∙ with_queue-same c number before there) in
+      subst (λ after. RunsWhole G body a c after []) same (finishes G (omega arith) (is ∙ p.ends (fuel - 1)))
+  pushes_all (x ∷ xs) before path local told fuel children number holdings c is enough held there =
+      let a : Activation L = record { path = path; local = local; answer = told; fuel = fuel; holdings = holdings; children = children } in
+      let mid = with_queue c number (before ++ x ∷ []) in
+      let same : with_queue mid number ((before ++ x ∷ []) ++ xs) ≡ with_queue c number (before ++ x ∷ xs) =
+      with_queue-twice c number (before ++ x ∷ []) _ ∙ ap (with_queue c number) (append_assoc before (x ∷ []) xs) in
+      subst (λ after. RunsWhole G body a c after []) same
+      (pushes G (omega arith) (is ∙ p.more x xs (fuel - 1)) held there
+      (pushes_all xs (before ++ x ∷ []) path (p.left xs) answer.Nothing (fuel - 1) children number holdings mid refl (omega arith) held (get-set_same c.queues number before _ there)))
