@@ -17,15 +17,11 @@
 
 mod atom;
 mod block;
-#[cfg(test)]
-mod example_jobs;
 mod fault;
 mod form;
 mod job;
 mod laws;
 mod line;
-#[cfg(test)]
-mod line_tests;
 mod lines;
 mod literal;
 mod number;
@@ -34,8 +30,6 @@ mod place;
 mod read;
 mod scan;
 mod shape;
-#[cfg(test)]
-mod tests;
 mod trim;
 mod words;
 mod write;

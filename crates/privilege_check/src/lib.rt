@@ -25,7 +25,5 @@ mod meaning;
 mod operation;
 mod refusal;
 mod spawn;
-#[cfg(test)]
-mod tests;
 
 pub use checked::{CheckJob, CheckedJob, check};

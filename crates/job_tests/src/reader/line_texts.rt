@@ -1,6 +1,6 @@
 // Lines, operations and literals: what is accepted, and what is refused.
-use crate::tests::{At, kind_named, number_of, refusal, rewritten, text_with};
-use crate::{Op, read_number};
+use super::{At, kind_named, number_of, refusal, rewritten, text_with};
+use job_reader::read_number;
 use std::test::Fail;
 
 /// Lines: where they stand, what is wrong with them, and their text.
@@ -222,8 +222,6 @@ fn literals(rt: HostRuntime) -> Result<(), Fail> {
 }
 
 #[test]
-fn words(rt: HostRuntime) {
-    assert_eq!(rt; Op::Slice.text(), "slice");
-    assert_eq!(rt; Op::Slice.arity(), 3);
+fn a_number_is_read(rt: HostRuntime) {
     assert_eq!(rt; read_number(b"-12"), Some(-12));
 }

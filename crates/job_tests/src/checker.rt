@@ -1,6 +1,6 @@
 // What is said of jobs, from tables of which each row is a text and what is wrong with it.
-use crate::{CheckJob, check};
 use job_reader::{JobFault, ReadJob, read_job};
+use privilege_check::{CheckJob, check};
 use std::alloc::Global;
 use std::process::Abort;
 use std::test::Fail;
