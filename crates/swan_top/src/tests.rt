@@ -6,6 +6,7 @@ use std::test::Fail;
 use swan_model::{Blob, Word, Words};
 use swan_outside::{FileBlob, MemoryFiles, MemorySink};
 
+mod honest;
 mod jobs;
 mod limits;
 mod rows;
@@ -92,13 +93,13 @@ fn assert_ended(rt: &impl Abort, got: &Ended, row: &str, out: &str, report: &str
 }
 
 // Asserts a row over these files: the words, the output, the report and the code, with | between them
-// and ~ for each line feed. The command stands before the words.
+// and ~ for each line feed. The command stands before the words, and the read of this number fails.
 fn hold_row(
     rt: &impl Abort,
     alloc: Global,
-    names: &str,
-    texts: &[&str],
+    files: Vec<FileBlob>,
     command: &str,
+    failing: u64,
     row: &str,
 ) -> Result<(), Fail> {
     let mut parts = row.split('|');
@@ -107,7 +108,7 @@ fn hold_row(
     let report = with_line_feeds(alloc, parts.next().ok_or("no report")?)?;
     let code = parts.next().ok_or("no code")?;
     let words = format!(in alloc; "{command} {words}")?;
-    let got = called(alloc, files_of(alloc, names, texts)?, words.as_str(), 0)?;
+    let got = called(alloc, files, words.as_str(), failing)?;
     assert_ended(rt, &got, row, out.as_str(), report.as_str(), code);
     Ok(())
 }
@@ -122,7 +123,7 @@ fn hold(
     table: &str,
 ) -> Result<(), Fail> {
     for row in table.lines() {
-        hold_row(rt, alloc, names, texts, command, row)?;
+        hold_row(rt, alloc, files_of(alloc, names, texts)?, command, 0, row)?;
     }
     Ok(())
 }

@@ -2,10 +2,10 @@
 
 /// The names of the files, in order.
 pub const NAMES: &str =
-    "a b c d e f g h i j k least zero l m once n empty five three frob int minus over hex tab big";
+    "a b c d e f g h i j k least zero l m once n empty five three frob int minus over hex tab big range much word user";
 
 /// Their contents.
-pub const TEXTS: [&str; 27] = [
+pub const TEXTS: [&str; 31] = [
     "swan 1\noutput out bytes\ntask main\n  do\n  push out \"hi\"\nend\n",
     "swan 1\ninput text\ntask main\n  do\nend\n",
     "swan 1\noutput out int\ntask count\n  param n int\n  param base int\n  push out int\n  var i int\n  var go int\n  do\n  go = lt i n\n  while go\n    i = add i 1\n    go = lt i n\n  end\n  push out base\n  i = add base 1\n  push out i\nend\ntask main\n  do\n  spawn 1000 count 200 10 out\n  spawn 1000 count 0 20 out\nend\n",
@@ -33,4 +33,8 @@ pub const TEXTS: [&str; 27] = [
     "swan 1\nobject r bytes\ntask main\n  do\n  write r \"hi\\n\"\nend\n",
     "swan 1\noutput out bytes\ntask main\n\tdo\n  push out \"hi\"\nend\n",
     "swan 1\noutput out int\ntask main\n  do\n  push out 9223372036854775808\nend\n",
+    "swan 1\ntask main\n  var s bytes\n  do\n  s = slice \"abc\" 2 4\nend\n",
+    "swan 1\ntask main\n  var s bytes\n  do\n  s = set \"x\"\n  s = cat s s\n  s = cat s s\n  s = cat s s\n  s = cat s s\n  s = cat s s\n  s = cat s s\n  s = cat s s\n  s = cat s s\n  s = cat s s\n  s = cat s s\n  s = cat s s\n  s = cat s s\n  s = cat s s\n  s = cat s s\n  s = cat s s\n  s = cat s s\nend\n",
+    "swan 1\ntask main\n  var n int\n  do\n  n = num \"1x\"\nend\n",
+    "swan 1\ntask main\n  do\n  fail -3\nend\n",
 ];

@@ -2,31 +2,39 @@
 use super::jobs::TEXTS;
 use super::*;
 
-/// The number of the read that fails, the file that is named, and the words.
+/// The number of the read that fails; then the words, the output, the report and the code. Reads count from 1,
+/// so the rows show too that no read is made twice, and none that isn't needed.
 const FAILING_READS: &str = "\
-1 b run 1 5 b x y
-2 x run 1 5 b x y
-3 y run 1 5 b x y
-1 b elide 5 b x y
-2 x elide 5 b x y
-3 y elide 5 b x y
-1 b check b";
-
-// Asserts a row of the failing reads.
-fn hold_failing_read(rt: &impl Abort, alloc: Global, row: &str) -> Result<(), Fail> {
-    let (number, rest) = row.split_once(' ').ok_or("no number")?;
-    let (name, words) = rest.split_once(' ').ok_or("no name")?;
-    let files = files_of(alloc, "b x y", &[TEXTS[1], "1", "2"])?;
-    let got = called(alloc, files, words, number_of(Some(number))? as u64)?;
-    let report = format!(in alloc; "read failed {name}\n")?;
-    assert_ended(rt, &got, row, "", report.as_str(), "4");
-    Ok(())
-}
+1 run 1 5 b x y||read failed b~|4
+2 run 1 5 b x y||read failed x~|4
+3 run 1 5 b x y||read failed y~|4
+4 run 1 5 b x y||inputs 1 2~|7
+1 run 1 5 b x||read failed b~|4
+2 run 1 5 b x||read failed x~|4
+3 run 1 5 b x||left text 1~faults 0~|0
+1 elide 5 b x y||read failed b~|4
+2 elide 5 b x y||read failed x~|4
+3 elide 5 b x y||read failed y~|4
+4 elide 5 b x y||inputs 1 2~|7
+3 elide 5 b x||left text 1~faults 0~|0
+1 check b||read failed b~|4
+2 check b|swan 1~input text~task main~  do~end~|checked~|0
+1 --version|swan 0.1.0~||0
+1 frob||usage~|2";
 
 #[test]
-fn a_failing_read_is_named(rt: HostRuntime) -> Result<(), Fail> {
+fn a_failing_read_is_named_and_none_is_made_again(rt: HostRuntime) -> Result<(), Fail> {
     for row in FAILING_READS.lines() {
-        hold_failing_read(&rt, rt.alloc(), row)?;
+        let (number, row) = row.split_once(' ').ok_or("no number")?;
+        let files = files_of(rt.alloc(), "b x y", &[TEXTS[1], "1", "2"])?;
+        hold_row(
+            &rt,
+            rt.alloc(),
+            files,
+            "",
+            number_of(Some(number))? as u64,
+            row,
+        )?;
     }
     Ok(())
 }
@@ -61,17 +69,25 @@ fn written(
     end_of(alloc, &out, &report, status)
 }
 
+// The puts also count from 1: so the rows show that no put is made again after it failed, and none that
+// isn't needed.
 #[test]
 fn a_failing_write_leaves_a_front(rt: HostRuntime) -> Result<(), Fail> {
-    for (words, out_fails, report_fails, out) in [
-        ("run 1 100 a", 2u64, 0u64, "hi"),
-        ("run 1 100 a", 1, 0, ""),
-        ("elide 100 a", 2, 0, "hi"),
-        ("run 1 100 a", 0, 1, "hi\n"),
-        ("", 0, 1, ""),
+    for (words, out_fails, report_fails, out, report, code) in [
+        ("run 1 100 a", 1u64, 0u64, "", "", "5"),
+        ("run 1 100 a", 2, 0, "hi", "", "5"),
+        ("run 1 100 a", 0, 1, "hi\n", "", "5"),
+        ("run 1 100 a", 3, 2, "hi\n", "faults 0\n", "0"),
+        ("elide 100 a", 2, 0, "hi", "", "5"),
+        ("", 0, 1, "", "", "5"),
+        ("", 1, 2, "", "usage\n", "2"),
+        ("check x", 0, 1, "", "", "5"),
+        ("check x", 1, 2, "", "read failed x\n", "4"),
+        ("--version", 6, 1, "swan 0.1.0", "", "5"),
+        ("--version", 7, 1, "swan 0.1.0\n", "", "0"),
     ] {
         let got = written(rt.alloc(), words, out_fails, report_fails)?;
-        assert_ended(&rt, &got, words, out, "", "5");
+        assert_ended(&rt, &got, words, out, report, code);
     }
     Ok(())
 }
@@ -215,4 +231,39 @@ fn a_job_has_sixteen_inputs_at_most(rt: HostRuntime) -> Result<(), Fail> {
     let names = "sixteen seventeen x y";
     hold(&rt, rt.alloc(), names, &MANY, "run 1", MANY_RUNS)?;
     hold(&rt, rt.alloc(), names, &MANY, "elide", MANY_RUNS)
+}
+
+/// A job as pieces with ^ between them, of which one may stand for so many copies of what is before its *; then
+/// the output, the report and the code.
+const JOBS: &str = "\
+swan 1~output out bytes~task main~  do~  push out \"hi\"~end~^~*19994|hi~|faults 0~|0
+swan 1~output out bytes~task main~  do~  push out \"hi\"~end~^~*19995||refused 20001 Limit~|3
+swan 1~#^x*4095^~output out bytes~task main~  do~  push out \"hi\"~end~|hi~|faults 0~|0
+swan 1~#^x*4096^~output out bytes~task main~  do~  push out \"hi\"~end~||refused 2 Limit~|3
+swan 1~task main~  do~^  if 1~*32^  end~*32^end~||faults 0~|0
+swan 1~task main~  do~^  if 1~*33^  end~*33^end~||refused 36 Limit~|3
+swan 1~task ^a*32^~  do~end~task main~  do~end~||faults 0~|0
+swan 1~task ^a*33^~  do~end~task main~  do~end~||refused 2 BadName~|3";
+
+// The text of pieces.
+fn text_of(alloc: Global, pieces: &str) -> Result<String, Fail> {
+    let mut text = String::new(alloc);
+    for piece in pieces.split('^') {
+        let (part, times) = piece.split_once('*').unwrap_or((piece, "1"));
+        let copies = with_line_feeds(alloc, part)?.repeat(alloc, number_of(Some(times))?)?;
+        text.push_str(copies.as_str())?;
+    }
+    Ok(text)
+}
+
+#[test]
+fn jobs_are_read_up_to_their_limits(rt: HostRuntime) -> Result<(), Fail> {
+    for row in JOBS.lines() {
+        let (pieces, row) = row.split_once('|').ok_or("no pieces")?;
+        let text = text_of(rt.alloc(), pieces)?;
+        let row = format!(in rt.alloc(); "100 j|{row}")?;
+        let files = files_of(rt.alloc(), "j", &[text.as_str()])?;
+        hold_row(&rt, rt.alloc(), files, "run 1", 0, row.as_str())?;
+    }
+    Ok(())
 }

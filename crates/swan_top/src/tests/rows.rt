@@ -20,6 +20,10 @@ const RUNS: &str = "\
 9 least||object x int 0~faults 1~fault / 6 Overflow~|1
 9 zero||object x int 0~faults 1~fault / 6 DivideByZero~|1
 1002 n||faults 1~fault /0/0/0/0/0/0/0/0/0/0/0/0/0/0/0/0/0/0/0/0/0/0/0/0/0/0/0/0/0/0/0/0/0/0/0/0/0/0/0/0/0/0/0/0/0/0/0/0/0/0/0/0/0/0/0/0/0/0/0/0/0/0/0/0 7 Depth~|1
+9 range||faults 1~fault / 5 Range~|1
+20 much||faults 1~fault / 21 TooLong~|1
+9 word||faults 1~fault / 5 BadNumber~|1
+9 user||faults 1~fault / 4 User -3~|1
 5 b three||left text 3~faults 0~|0
 9 hex||object r bytes 68690a~faults 0~|0
 9 minus|-1~|faults 0~|0

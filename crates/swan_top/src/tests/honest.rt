@@ -1,0 +1,64 @@
+// Calls over files and sinks that never fail.
+use super::jobs::{NAMES, TEXTS};
+use super::*;
+use swan_outside::{HonestFiles, HonestSink};
+
+/// The words; then the output, the report and the code. A name that isn't there is an empty file.
+const CALLS: &str = "\
+run 1 100 a|hi~|faults 0~|0
+run 1 1 a|hi~|faults 1~fault / 6 Fuel~|1
+check missing||refused 1 BadHeader~|3
+run 1 5 b missing||left text 0~faults 0~|0
+elide 5 b long||too long long~|4
+check long||too long long~|4
+run 1 5 b three three||inputs 1 2~|7
+frob||usage~|2";
+
+// What a sink tells.
+fn told(alloc: Global, sink: &HonestSink) -> Result<String, AllocError> {
+    match sink.written() {
+        Some(bytes) => String::from_utf8_lossy(alloc, bytes),
+        None => String::from_str(alloc, "nothing is told"),
+    }
+}
+
+// A call with these words over the known jobs, and where they name it, a file past the limit.
+fn called_honestly(alloc: Global, words: &str, room: usize) -> Result<Ended, AllocError> {
+    let mut files = files_of(alloc, NAMES, &TEXTS)?;
+    if words.contains("long") {
+        let name = word(alloc, "long")?;
+        let content = Blob::new(vec![in alloc; b'x'; 67_108_865]?);
+        files.push(FileBlob { name, content })?;
+    }
+    let words = words_of(alloc, words)?;
+    let mut files = HonestFiles::new(files);
+    let mut out = HonestSink::new(alloc, room).map_err(|_| AllocError)?;
+    let mut report = HonestSink::new(alloc, room).map_err(|_| AllocError)?;
+    let status = swan(alloc, words.as_slice(), &mut files, &mut out, &mut report);
+    Ok(Ended {
+        out: told(alloc, &out)?,
+        report: told(alloc, &report)?,
+        code: status.code(),
+    })
+}
+
+#[test]
+fn an_honest_call_ends_as_its_words_say(rt: HostRuntime) -> Result<(), Fail> {
+    for row in CALLS.lines() {
+        let mut parts = row.split('|');
+        let words = parts.next().ok_or("no words")?;
+        let out = with_line_feeds(rt.alloc(), parts.next().ok_or("no output")?)?;
+        let report = with_line_feeds(rt.alloc(), parts.next().ok_or("no report")?)?;
+        let code = parts.next().ok_or("no code")?;
+        let got = called_honestly(rt.alloc(), words, 4_096)?;
+        assert_ended(&rt, &got, row, out.as_str(), report.as_str(), code);
+    }
+    Ok(())
+}
+
+#[test]
+fn an_honest_sink_without_room_takes_all_and_tells_nothing(rt: HostRuntime) -> Result<(), Fail> {
+    let got = called_honestly(rt.alloc(), "run 1 100 a", 3)?;
+    assert_ended(&rt, &got, "room 3", "hi\n", "nothing is told", "0");
+    Ok(())
+}
