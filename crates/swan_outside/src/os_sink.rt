@@ -239,7 +239,7 @@ mod tests {
         ];
         for (stream, interrupts, takes, answer, written, calls) in rows {
             let mut sink = OsSink {
-                rt: fake(rt.alloc(), interrupts, takes),
+                rt: fake_streams(rt.alloc(), interrupts, takes),
                 stream,
                 faults: 0,
             };
@@ -249,7 +249,7 @@ mod tests {
         Ok(())
     }
 
-    fn fake(alloc: Global, interrupts: u32, takes: Option<usize>) -> Fake {
+    fn fake_streams(alloc: Global, interrupts: u32, takes: Option<usize>) -> Fake {
         Fake {
             alloc,
             interrupts,
