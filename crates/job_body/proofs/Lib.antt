@@ -19,3 +19,4 @@ pub mod RightsRuns
 pub mod Namings
 pub mod FewLines
 pub mod Firsts
+pub mod Rows

@@ -13,10 +13,16 @@ use Rattle.swan_model.specs.declared.value.Value.{Value}
 use Rattle.swan_model.specs.declared.value.Value.TheVariants.{Int}
 use Rattle.job_body.specs.declared.block.Block.{Block}
 use Rattle.job_body.specs.declared.block.Block.TheVariants as opened
+use Rattle.job_body.specs.declared.instruction.IntOp.{IntOp}
+use Rattle.job_body.specs.declared.instruction.IntOp.TheVariants as int
+use Rattle.job_body.specs.declared.instruction.Operand.{Operand}
+use Rattle.job_body.specs.declared.instruction.Operand.TheVariants as operand
 use Rattle.job_body.specs.declared.scope.Scope.{Scope}
+use Rattle.job_reader.specs.declared.op.Op.{Op}
+use Rattle.job_reader.specs.declared.op.Op.TheVariants as op
 use Rattle.job_body.specs.Blocks.{blocks_at, exit_at, innermost}
 use Rattle.job_body.specs.Compiled as compiled
-use Rattle.job_body.specs.Compiled.{deed_of, next_of, program_of, seen_at, task_named, tasks_of}
+use Rattle.job_body.specs.Compiled.{action_of, next_of, program_of, seen_at, task_named, tasks_of}
 use Rattle.job_body.specs.Names.{slot}
 use Rattle.job_body.specs.Operations.{operation, flag, is_true, number_of}
 use Rattle.job_body.specs.Steps.{is_kind}
@@ -72,24 +78,71 @@ spawn-found lines s f fuel p found args begins (nowhere e none) =
 
 -- ---- the ends of blocks and of tasks
 
-end-is : (lines : List Line) (s : Standing) (fuel : ℕ) (blocks : List Block) → runs.done (program_of lines) s (compiled.after_end_of lines s.at (innermost blocks)) fuel (compiled.end_deed (innermost blocks)) ≡ steps.ended lines s blocks
+end-is : (lines : List Line) (s : Standing) (fuel : ℕ) (blocks : List Block) → runs.done (program_of lines) s (compiled.after_end_of lines s.at (innermost blocks)) fuel (compiled.end_action (innermost blocks)) ≡ steps.ended lines s blocks
 end-is lines s fuel [] = refl
 end-is lines s fuel (opened.If ∷ blocks) = refl
 end-is lines s fuel (opened.While i ∷ blocks) = refl
 
--- ---- all lines
+-- ---- branches
 
 branch-is : (lines : List Line) (s : Standing) (b : Bool) (to other : ℕ) → ◌≡◌ {A = Standing × Ask Standing} (runs.gone s (if b then to else executed_from lines other), ask.Work) ((if b then runs.gone s to else steps.moved_to lines s other), ask.Work)
 branch-is lines s true to other = refl
 branch-is lines s false to other = refl
 
+-- ---- operations on numbers
+
+number-is : (values : List Value) (a : Operand) → runs.number_in values (compiled.num_of a) ≡ number_of (runs.value_of values a)
+number-is values (operand.Int n) = refl
+number-is values (operand.Bytes bytes) = refl
+number-is values (operand.Variable i) = refl
+
+-- such an operation looks at nothing of its values but their numbers
+of-numbers : (o : IntOp) (a b c : Value) → runs.int_operation o (number_of a) (number_of b) ≡ operation (runs.op_of o) a b c
+of-numbers int.Add a b c = refl
+of-numbers int.Sub a b c = refl
+of-numbers int.Mul a b c = refl
+of-numbers int.Div a b c = refl
+of-numbers int.Rem a b c = refl
+of-numbers int.Lt a b c = refl
+of-numbers int.Le a b c = refl
+of-numbers int.And a b c = refl
+of-numbers int.Or a b c = refl
+of-numbers int.Not a b c = refl
+
+ints-is : (s : Standing) (to slot : ℕ) (o : IntOp) (a b c : Operand) → runs.assigned s to (Some slot) (runs.int_operation o (runs.number_in s.values (compiled.num_of a)) (runs.number_in s.values (compiled.num_of b))) ≡ runs.assigned s to (Some slot) (operation (runs.op_of o) (runs.value_of s.values a) (runs.value_of s.values b) (runs.value_of s.values c))
+ints-is s to slot o a b c =
+    ap (λ n. runs.assigned s to (Some slot) (runs.int_operation o n (runs.number_in s.values (compiled.num_of b)))) (number-is s.values a)
+    ∙ ap (λ n. runs.assigned s to (Some slot) (runs.int_operation o (number_of (runs.value_of s.values a)) n)) (number-is s.values b)
+    ∙ ap (runs.assigned s to (Some slot)) (of-numbers o (runs.value_of s.values a) (runs.value_of s.values b) (runs.value_of s.values c))
+
+assign-none : (s : Standing) (to fuel : ℕ) (found : Option IntOp) (o : Op) (a b c : Operand) → runs.worked s to fuel (compiled.assign_by found o None a b c) ≡ runs.assigned s to None (operation o (runs.value_of s.values a) (runs.value_of s.values b) (runs.value_of s.values c))
+assign-none s to fuel None o a b c = refl
+assign-none s to fuel (Some found) o a b c = refl
+
+assign-is : (s : Standing) (to fuel : ℕ) (o : Op) (slot : Option ℕ) (a b c : Operand) → runs.worked s to fuel (compiled.assign_of o slot a b c) ≡ runs.assigned s to slot (operation o (runs.value_of s.values a) (runs.value_of s.values b) (runs.value_of s.values c))
+assign-is s to fuel o None a b c = assign-none s to fuel (compiled.int_op o) o a b c
+assign-is s to fuel op.Add (Some slot) a b c = ints-is s to slot int.Add a b c
+assign-is s to fuel op.Sub (Some slot) a b c = ints-is s to slot int.Sub a b c
+assign-is s to fuel op.Mul (Some slot) a b c = ints-is s to slot int.Mul a b c
+assign-is s to fuel op.Div (Some slot) a b c = ints-is s to slot int.Div a b c
+assign-is s to fuel op.Rem (Some slot) a b c = ints-is s to slot int.Rem a b c
+assign-is s to fuel op.Lt (Some slot) a b c = ints-is s to slot int.Lt a b c
+assign-is s to fuel op.Le (Some slot) a b c = ints-is s to slot int.Le a b c
+assign-is s to fuel op.And (Some slot) a b c = ints-is s to slot int.And a b c
+assign-is s to fuel op.Or (Some slot) a b c = ints-is s to slot int.Or a b c
+assign-is s to fuel op.Not (Some slot) a b c = ints-is s to slot int.Not a b c
+assign-is s to fuel o (Some slot) a b c = refl
+
+-- ---- all lines
+
 -- what a line does in the program of its job
-done-line : (lines : List Line) (s : Standing) (fuel : ℕ) (line : Line) → runs.done (program_of lines) s (next_of lines (seen_at lines s.at) (exit_at lines s.at) s.at line) fuel (deed_of lines (tasks_of lines) (seen_at lines s.at) (exit_at lines s.at) s.at line) ≡ steps.step lines s fuel line
-done-line lines s fuel (line.Assign v op args) =
-    ap (λ a. runs.assigned s (executed_from lines (s.at + 1)) (compiled.slot_in (seen_at lines s.at) v) (operation op a (runs.value_of s.values (compiled.or_zero (seen_at lines s.at) (slice_get args 1))) (runs.value_of s.values (compiled.or_zero (seen_at lines s.at) (slice_get args 2))))) (sym (argument-is lines s (slice_get args 0)))
-    ∙ ap (λ b. runs.assigned s (executed_from lines (s.at + 1)) (compiled.slot_in (seen_at lines s.at) v) (operation op (steps.result_of lines s args 0) b (runs.value_of s.values (compiled.or_zero (seen_at lines s.at) (slice_get args 2))))) (sym (argument-is lines s (slice_get args 1)))
-    ∙ ap (λ c. runs.assigned s (executed_from lines (s.at + 1)) (compiled.slot_in (seen_at lines s.at) v) (operation op (steps.result_of lines s args 0) (steps.result_of lines s args 1) c)) (sym (argument-is lines s (slice_get args 2)))
-    ∙ assigned-is lines s v (operation op (steps.result_of lines s args 0) (steps.result_of lines s args 1) (steps.result_of lines s args 2))
+done-line : (lines : List Line) (s : Standing) (fuel : ℕ) (line : Line) → runs.done (program_of lines) s (next_of lines (seen_at lines s.at) (exit_at lines s.at) s.at line) fuel (action_of lines (tasks_of lines) (seen_at lines s.at) (exit_at lines s.at) s.at line) ≡ steps.step lines s fuel line
+done-line lines s fuel (line.Assign v o args) =
+    assign-is s (executed_from lines (s.at + 1)) fuel o (compiled.slot_in (seen_at lines s.at) v) (compiled.or_zero (seen_at lines s.at) (slice_get args 0)) (compiled.or_zero (seen_at lines s.at) (slice_get args 1)) (compiled.or_zero (seen_at lines s.at) (slice_get args 2))
+    ∙ ap (λ a. runs.assigned s (executed_from lines (s.at + 1)) (compiled.slot_in (seen_at lines s.at) v) (operation o a (runs.value_of s.values (compiled.or_zero (seen_at lines s.at) (slice_get args 1))) (runs.value_of s.values (compiled.or_zero (seen_at lines s.at) (slice_get args 2))))) (sym (argument-is lines s (slice_get args 0)))
+    ∙ ap (λ b. runs.assigned s (executed_from lines (s.at + 1)) (compiled.slot_in (seen_at lines s.at) v) (operation o (steps.result_of lines s args 0) b (runs.value_of s.values (compiled.or_zero (seen_at lines s.at) (slice_get args 2))))) (sym (argument-is lines s (slice_get args 1)))
+    ∙ ap (λ c. runs.assigned s (executed_from lines (s.at + 1)) (compiled.slot_in (seen_at lines s.at) v) (operation o (steps.result_of lines s args 0) (steps.result_of lines s args 1) c)) (sym (argument-is lines s (slice_get args 2)))
+    ∙ assigned-is lines s v (operation o (steps.result_of lines s args 0) (steps.result_of lines s args 1) (steps.result_of lines s args 2))
 done-line lines s fuel (line.Read v o) = ap (λ place. (steps.moved_on lines s, ask.Read place)) (sym (place-name lines s.at o))
 done-line lines s fuel (line.Write o a) =
     ap (λ place. (steps.moved_on lines s, ask.Write place (runs.value_of s.values (compiled.operand_of (seen_at lines s.at) a)))) (sym (place-name lines s.at o))
@@ -105,10 +158,12 @@ done-line lines s fuel (line.Spawn a task args) =
 done-line lines s fuel (line.Fuel v) = ap (λ values. (runs.gone_with s (executed_from lines (s.at + 1)) values, ask.Work)) (sym (set-slot (steps.names_at lines s.at) s.values v (Int (pos (min fuel (2 ^ 63 - 1))))))
 done-line lines s fuel (line.Fail a) = ap (λ value. (s, ask.Fail (trouble.User (number_of value)))) (sym (value-operand lines s.at s.values a))
 done-line lines s fuel (line.If a) =
-    ap (λ value. (runs.gone s (if is_true value then executed_from lines (s.at + 1) else executed_from lines (exit_at lines s.at).otherwise), ask.Work)) (sym (value-operand lines s.at s.values a))
+    ap (λ n. (runs.gone s (if is_true (Int n) then executed_from lines (s.at + 1) else executed_from lines (exit_at lines s.at).otherwise), ask.Work)) (number-is s.values (compiled.operand_of (seen_at lines s.at) a))
+    ∙ ap (λ value. (runs.gone s (if is_true value then executed_from lines (s.at + 1) else executed_from lines (exit_at lines s.at).otherwise), ask.Work)) (sym (value-operand lines s.at s.values a))
     ∙ branch-is lines s (is_true (steps.value_at lines s.at s.values a)) (executed_from lines (s.at + 1)) (exit_at lines s.at).otherwise
 done-line lines s fuel (line.While a) =
-    ap (λ value. (runs.gone s (if is_true value then executed_from lines (s.at + 1) else executed_from lines (exit_at lines s.at).after), ask.Work)) (sym (value-operand lines s.at s.values a))
+    ap (λ n. (runs.gone s (if is_true (Int n) then executed_from lines (s.at + 1) else executed_from lines (exit_at lines s.at).after), ask.Work)) (number-is s.values (compiled.operand_of (seen_at lines s.at) a))
+    ∙ ap (λ value. (runs.gone s (if is_true value then executed_from lines (s.at + 1) else executed_from lines (exit_at lines s.at).after), ask.Work)) (sym (value-operand lines s.at s.values a))
     ∙ branch-is lines s (is_true (steps.value_at lines s.at s.values a)) (executed_from lines (s.at + 1)) (exit_at lines s.at).after
 done-line lines s fuel line.End = end-is lines s fuel (blocks_at lines s.at)
 done-line lines s fuel line = refl
@@ -120,7 +175,7 @@ received-is lines s v new =
     ap (λ value. if is_kind (kind_of value) (kind_of new) then runs.with_slot s.values (slot (steps.names_at lines s.before) v) new else s.values) (sym (value-slot (steps.names_at lines s.before) s.values v))
     ∙ ap (λ values. if is_kind (kind_of (steps.value_named (steps.names_at lines s.before) s.values v)) (kind_of new) then values else s.values) (sym (set-slot (steps.names_at lines s.before) s.values v new))
 
-answered-end : (values : List Value) (block : Option Block) (a : Answer) → runs.answered values (compiled.end_deed block) a ≡ values
+answered-end : (values : List Value) (block : Option Block) (a : Answer) → runs.answered values (compiled.end_action block) a ≡ values
 answered-end values None a = refl
 answered-end values (Some block) a = refl
 
@@ -128,7 +183,7 @@ answered-spawn : (lines : List Line) (values : List Value) (scope : Scope) (fuel
 answered-spawn lines values scope fuel None args a = refl
 answered-spawn lines values scope fuel (Some task) args a = refl
 
-answered-line : (lines : List Line) (s : Standing) (line : Line) (a : Answer) → runs.answered s.values (deed_of lines (tasks_of lines) (seen_at lines s.before) (exit_at lines s.before) s.before line) a ≡ steps.received_by lines s (Some line) a
+answered-line : (lines : List Line) (s : Standing) (line : Line) (a : Answer) → runs.answered s.values (action_of lines (tasks_of lines) (seen_at lines s.before) (exit_at lines s.before) s.before line) a ≡ steps.received_by lines s (Some line) a
 answered-line lines s (line.Read v o) (answer.Item value) = received-is lines s v value
 answered-line lines s (line.Read v o) a = refl
 answered-line lines s (line.Pop v q) (answer.Item value) = received-is lines s v value

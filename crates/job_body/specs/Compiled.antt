@@ -7,11 +7,18 @@ use Rattle.job_body.specs.Tasks.{access_of, before_task, executed_from, is_main,
 use Rattle.job_body.specs.declared.block.Block.{Block}
 use Rattle.job_body.specs.declared.block.Block.TheVariants as opened
 use Rattle.job_body.specs.declared.exit.Exit.{Exit}
-use Rattle.job_body.specs.declared.instruction.Deed.{Deed}
-use Rattle.job_body.specs.declared.instruction.Deed.TheVariants as deed
+use Rattle.job_body.specs.declared.instruction.Action.{Action}
+use Rattle.job_body.specs.declared.instruction.Action.TheVariants as action
+use Rattle.job_body.specs.declared.instruction.Demand.TheVariants as demand
 use Rattle.job_body.specs.declared.instruction.Instruction.{Instruction}
+use Rattle.job_body.specs.declared.instruction.IntOp.{IntOp}
+use Rattle.job_body.specs.declared.instruction.IntOp.TheVariants as int
+use Rattle.job_body.specs.declared.instruction.Num.{Num}
+use Rattle.job_body.specs.declared.instruction.Num.TheVariants as num
 use Rattle.job_body.specs.declared.instruction.Operand.{Operand}
 use Rattle.job_body.specs.declared.instruction.Operand.TheVariants as operand
+use Rattle.job_body.specs.declared.instruction.Work.{Work}
+use Rattle.job_body.specs.declared.instruction.Work.TheVariants as work
 use Rattle.job_body.specs.declared.scope.Scope.{Scope}
 use Rattle.job_body.specs.declared.take.Take.{Take}
 use Rattle.job_body.specs.declared.take.Take.TheVariants as given
@@ -21,6 +28,8 @@ use Rattle.job_reader.specs.declared.atom.Atom.{Atom}
 use Rattle.job_reader.specs.declared.atom.Atom.TheVariants as atom
 use Rattle.job_reader.specs.declared.line.Line.{Line}
 use Rattle.job_reader.specs.declared.line.Line.TheVariants as line
+use Rattle.job_reader.specs.declared.op.Op.{Op}
+use Rattle.job_reader.specs.declared.op.Op.TheVariants as op
 use Rattle.swan_model.specs.declared.rights.Give.{Give}
 use Rattle.swan_model.specs.declared.value.Kind.{Kind}
 
@@ -116,6 +125,34 @@ abbrev pub place_of_atom : Scope → Atom → ℕ
 place_of_atom s (atom.Name name) = place_in s name
 place_of_atom s _ = length (places_in s)
 
+-- the number that an operand means; bytes count as 0
+abbrev pub num_of : Operand → Num
+num_of (operand.Int n) = num.Const n
+num_of (operand.Bytes bytes) = num.Const (pos 0)
+num_of (operand.Variable i) = num.Slot i
+
+-- an operation as one on numbers, where it looks at nothing but numbers and gives one
+abbrev pub int_op : Op → Option IntOp
+int_op op.Add = Some int.Add
+int_op op.Sub = Some int.Sub
+int_op op.Mul = Some int.Mul
+int_op op.Div = Some int.Div
+int_op op.Rem = Some int.Rem
+int_op op.Lt = Some int.Lt
+int_op op.Le = Some int.Le
+int_op op.And = Some int.And
+int_op op.Or = Some int.Or
+int_op op.Not = Some int.Not
+int_op _ = None
+
+-- an assignment; one on numbers to a known variable takes them from where they stand
+abbrev pub assign_by : Option IntOp → Op → Option ℕ → Operand → Operand → Operand → Work
+assign_by (Some o) op (Some slot) a b c = work.Ints o slot (num_of a) (num_of b)
+assign_by _ op slot a b c = work.Assign slot op a b c
+
+abbrev pub assign_of : Op → Option ℕ → Operand → Operand → Operand → Work
+assign_of op slot a b c = assign_by (int_op op) op slot a b c
+
 -- what a child is given
 abbrev pub param_given : Scope → Take × Atom → List Operand
 param_given s (given.Param, a) = operand_of s a ∷ []
@@ -126,45 +163,49 @@ give_given s (given.Access mode, a) = (record { place = place_of_atom s a; mode 
 give_given s _ = []
 
 -- a spawn; an unknown task stands past all lines and takes nothing
-abbrev pub spawn_of : List Line → Scope → Atom → Option Task → List Atom → Deed
-spawn_of lines s fuel None args = deed.Spawn (operand_of s fuel) (length lines) [] []
+abbrev pub spawn_of : List Line → Scope → Atom → Option Task → List Atom → Action
+spawn_of lines s fuel None args = action.Demand (demand.Spawn (operand_of s fuel) (length lines) [] [])
 spawn_of lines s fuel (Some task) args =
-    deed.Spawn (operand_of s fuel) task.index (flat_map (param_given s) (zip task.takes args)) (flat_map (give_given s) (zip task.takes args))
+    action.Demand (demand.Spawn (operand_of s fuel) task.index (flat_map (param_given s) (zip task.takes args)) (flat_map (give_given s) (zip task.takes args)))
 
 -- the kinds of the variables of the task at an index
 abbrev pub kinds_after : List Line → ℕ → List Kind
 kinds_after lines i = var_kinds (before_task (drop (i + 1) lines))
 
+-- a branch, by where it goes on if the atom is false
+abbrev pub branch_of : List Line → Scope → Atom → ℕ → Action
+branch_of lines s a otherwise = action.Work (work.Branch (num_of (operand_of s a)) (executed_from lines otherwise))
+
 -- what the `end` of the innermost block does, or that of the task
-abbrev pub end_deed : Option Block → Deed
-end_deed None = deed.Finish
-end_deed (Some block) = deed.Go
+abbrev pub end_action : Option Block → Action
+end_action None = action.Demand demand.Finish
+end_action (Some block) = action.Work work.Go
 
 abbrev pub after_end_of : List Line → ℕ → Option Block → ℕ
 after_end_of lines i (Some (opened.While index)) = executed_from lines index
 after_end_of lines i _ = executed_from lines (i + 1)
 
 -- what a line does
-abbrev pub deed_of : List Line → Tasks → Scope → Exit → ℕ → Line → Deed
-deed_of lines tasks s exit i (line.Task name) = deed.Begin (kinds_after lines i)
-deed_of lines tasks s exit i (line.Queue name kind) = deed.NewQueue
-deed_of lines tasks s exit i (line.Object name kind) = deed.NewObject kind
-deed_of lines tasks s exit i (line.Assign v op args) =
-    deed.Assign (slot_in s v) op (or_zero s (slice_get args 0)) (or_zero s (slice_get args 1)) (or_zero s (slice_get args 2))
-deed_of lines tasks s exit i (line.Read v o) = deed.Read (slot_in s v) (place_in s o)
-deed_of lines tasks s exit i (line.Write o a) = deed.Write (place_in s o) (operand_of s a)
-deed_of lines tasks s exit i (line.Push q a) = deed.Push (place_in s q) (operand_of s a)
-deed_of lines tasks s exit i (line.Pop v q) = deed.Pop (slot_in s v) (place_in s q)
-deed_of lines tasks s exit i (line.Empty v q) = deed.Empty (slot_in s v) (place_in s q)
-deed_of lines tasks s exit i (line.Spawn fuel task args) = spawn_of lines s fuel (task_named tasks task) args
-deed_of lines tasks s exit i line.Sync = deed.Sync
-deed_of lines tasks s exit i (line.Fuel v) = deed.Fuel (slot_in s v)
-deed_of lines tasks s exit i (line.Fail a) = deed.Fail (operand_of s a)
-deed_of lines tasks s exit i (line.If a) = deed.Branch (operand_of s a) (executed_from lines exit.otherwise)
-deed_of lines tasks s exit i line.Else = deed.Go
-deed_of lines tasks s exit i (line.While a) = deed.Branch (operand_of s a) (executed_from lines exit.after)
-deed_of lines tasks s exit i line.End = end_deed (innermost s.blocks)
-deed_of lines tasks s exit i _ = deed.Finish
+abbrev pub action_of : List Line → Tasks → Scope → Exit → ℕ → Line → Action
+action_of lines tasks s exit i (line.Task name) = action.Demand (demand.Begin (kinds_after lines i))
+action_of lines tasks s exit i (line.Queue name kind) = action.Demand demand.NewQueue
+action_of lines tasks s exit i (line.Object name kind) = action.Demand (demand.NewObject kind)
+action_of lines tasks s exit i (line.Assign v op args) =
+    action.Work (assign_of op (slot_in s v) (or_zero s (slice_get args 0)) (or_zero s (slice_get args 1)) (or_zero s (slice_get args 2)))
+action_of lines tasks s exit i (line.Read v o) = action.Demand (demand.Read (slot_in s v) (place_in s o))
+action_of lines tasks s exit i (line.Write o a) = action.Demand (demand.Write (place_in s o) (operand_of s a))
+action_of lines tasks s exit i (line.Push q a) = action.Demand (demand.Push (place_in s q) (operand_of s a))
+action_of lines tasks s exit i (line.Pop v q) = action.Demand (demand.Pop (slot_in s v) (place_in s q))
+action_of lines tasks s exit i (line.Empty v q) = action.Demand (demand.Empty (slot_in s v) (place_in s q))
+action_of lines tasks s exit i (line.Spawn fuel task args) = spawn_of lines s fuel (task_named tasks task) args
+action_of lines tasks s exit i line.Sync = action.Demand demand.Sync
+action_of lines tasks s exit i (line.Fuel v) = action.Work (work.Fuel (slot_in s v))
+action_of lines tasks s exit i (line.Fail a) = action.Demand (demand.Fail (operand_of s a))
+action_of lines tasks s exit i (line.If a) = branch_of lines s a exit.otherwise
+action_of lines tasks s exit i line.Else = action.Work work.Go
+action_of lines tasks s exit i (line.While a) = branch_of lines s a exit.after
+action_of lines tasks s exit i line.End = end_action (innermost s.blocks)
+action_of lines tasks s exit i _ = action.Demand demand.Finish
 
 -- where a line goes on
 abbrev pub next_of : List Line → Scope → Exit → ℕ → Line → ℕ
@@ -174,7 +215,7 @@ next_of lines s exit i _ = executed_from lines (i + 1)
 
 abbrev pub instruction_of : List Line → Tasks → Scope → Exit → ℕ → Line → Instruction
 instruction_of lines tasks s exit i line =
-    record { deed = deed_of lines tasks s exit i line; next = next_of lines s exit i line }
+    record { action = action_of lines tasks s exit i line; next = next_of lines s exit i line }
 
 -- the instructions of lines, the first of which has this index
 abbrev pub instructions_from : List Line → ℕ → List Line → List Instruction

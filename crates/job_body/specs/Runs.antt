@@ -3,11 +3,21 @@ use Rattle.std.specs.Prelude.{ℕ, ◌+◌, ◌-◌, ◌^◌, min, ℤ, pos, neg
 use Rattle.job_body.specs.Operations.{flag, is_true, number_of, operation}
 use Rattle.job_body.specs.Standing.{Standing}
 use Rattle.job_body.specs.Steps.{is_kind}
-use Rattle.job_body.specs.declared.instruction.Deed.{Deed}
-use Rattle.job_body.specs.declared.instruction.Deed.TheVariants as deed
+use Rattle.job_body.specs.declared.instruction.Action.{Action}
+use Rattle.job_body.specs.declared.instruction.Action.TheVariants as action
+use Rattle.job_body.specs.declared.instruction.Demand.{Demand}
+use Rattle.job_body.specs.declared.instruction.Demand.TheVariants as demand
 use Rattle.job_body.specs.declared.instruction.Instruction.{Instruction}
+use Rattle.job_body.specs.declared.instruction.IntOp.{IntOp}
+use Rattle.job_body.specs.declared.instruction.IntOp.TheVariants as int
+use Rattle.job_body.specs.declared.instruction.Num.{Num}
+use Rattle.job_body.specs.declared.instruction.Num.TheVariants as num
 use Rattle.job_body.specs.declared.instruction.Operand.{Operand}
 use Rattle.job_body.specs.declared.instruction.Operand.TheVariants as operand
+use Rattle.job_body.specs.declared.instruction.Work.{Work}
+use Rattle.job_body.specs.declared.instruction.Work.TheVariants as work
+use Rattle.job_reader.specs.declared.op.Op.{Op}
+use Rattle.job_reader.specs.declared.op.Op.TheVariants as op
 use Rattle.swan_model.specs.declared.body.Answer.{Answer}
 use Rattle.swan_model.specs.declared.body.Answer.TheVariants as answer
 use Rattle.swan_model.specs.declared.body.Ask.{Ask}
@@ -33,6 +43,33 @@ value_of values (operand.Int n) = Int n
 value_of values (operand.Bytes bytes) = Bytes bytes
 value_of values (operand.Variable i) = value_in values (Some i)
 
+-- the number that a constant or the variable in a slot means
+abbrev pub number_in : List Value → Num → ℤ
+number_in values (num.Const n) = n
+number_in values (num.Slot i) = number_of (value_in values (Some i))
+
+-- an operation on numbers, among all operations
+abbrev pub op_of : IntOp → Op
+op_of int.Add = op.Add
+op_of int.Sub = op.Sub
+op_of int.Mul = op.Mul
+op_of int.Div = op.Div
+op_of int.Rem = op.Rem
+op_of int.Lt = op.Lt
+op_of int.Le = op.Le
+op_of int.And = op.And
+op_of int.Or = op.Or
+op_of int.Not = op.Not
+
+-- its value on numbers
+abbrev pub int_operation : IntOp → ℤ → ℤ → Result Value Trouble
+int_operation o a b = operation (op_of o) (Int a) (Int b) (Int (pos 0))
+
+-- a number as a value, where there is one
+abbrev pub valued : Result ℤ Trouble → Result Value Trouble
+valued (Ok n) = Ok (Int n)
+valued (Err why) = Err why
+
 -- the record that a value is, where it is one
 abbrev pub record_of : Value → Option (List ℕ)
 record_of (Int n) = None
@@ -42,15 +79,15 @@ record_of (Bytes bytes) = Some bytes
 abbrev pub set_by : List Value → Option ℕ → Value → List Value
 set_by values to new = if is_kind (kind_of (value_in values to)) (kind_of new) then with_slot values to new else values
 
-abbrev pub answered : List Value → Deed → Answer → List Value
-answered values (deed.Read to place) (answer.Item value) = set_by values to value
-answered values (deed.Pop to place) (answer.Item value) = set_by values to value
-answered values (deed.Empty to place) (answer.Flag is_empty) = set_by values to (flag is_empty)
+abbrev pub answered : List Value → Action → Answer → List Value
+answered values (action.Demand (demand.Read to place)) (answer.Item value) = set_by values to value
+answered values (action.Demand (demand.Pop to place)) (answer.Item value) = set_by values to value
+answered values (action.Demand (demand.Empty to place)) (answer.Flag is_empty) = set_by values to (flag is_empty)
 answered values _ _ = values
 
 abbrev pub answered_by : List Value → Option Instruction → Answer → List Value
 answered_by values None answer = values
-answered_by values (Some instruction) answer = answered values instruction.deed answer
+answered_by values (Some instruction) answer = answered values instruction.action answer
 
 -- the activation at another line
 abbrev pub gone : Standing → ℕ → Standing
@@ -64,13 +101,13 @@ assigned s to slot (Ok value) = (gone_with s to (with_slot s.values slot value),
 assigned s to slot (Err why) = (s, ask.Fail why)
 
 -- an activation of the task at an index before its first step
-abbrev pub begun_at : ℕ → List Value → ℕ → Deed → Standing
-begun_at index values next (deed.Begin kinds) = record { before = index; at = next; values = values ++ map zero_of kinds }
+abbrev pub begun_at : ℕ → List Value → ℕ → Action → Standing
+begun_at index values next (action.Demand (demand.Begin kinds)) = record { before = index; at = next; values = values ++ map zero_of kinds }
 begun_at index values next _ = record { before = index; at = index + 1; values = values }
 
 abbrev pub begun_by : ℕ → List Value → Option Instruction → Standing
 begun_by index values None = record { before = index; at = index + 1; values = values }
-begun_by index values (Some instruction) = begun_at index values instruction.next instruction.deed
+begun_by index values (Some instruction) = begun_at index values instruction.next instruction.action
 
 abbrev pub begun_in : List Instruction → ℕ → List Value → Standing
 begun_in program index values = begun_by index values (slice_get program index)
@@ -80,32 +117,46 @@ spawned program s to (negsuc n) index params gives = (s, ask.Fail trouble.Range)
 spawned program s to (pos fuel) index params gives =
     (gone s to, ask.Spawn (record { local = begun_in program index (map (value_of s.values) params); gives = gives; fuel = fuel }))
 
--- what an instruction does that goes on at a line
-abbrev pub done : List Instruction → Standing → ℕ → ℕ → Deed → Standing × Ask Standing
-done program s to fuel (deed.Begin kinds) = (s, ask.Finish)
-done program s to fuel deed.NewQueue = (gone s to, ask.NewQueue)
-done program s to fuel (deed.NewObject kind) = (gone s to, ask.NewObject (zero_of kind))
-done program s to fuel (deed.Assign slot op a b c) =
+-- what a line asks for that is the task's own work, by the trouble that it meets, if any
+abbrev pub ask_by : Option Trouble → Ask Standing
+ask_by None = ask.Work
+ask_by (Some why) = ask.Fail why
+
+-- what work does that goes on at a line
+abbrev pub worked : Standing → ℕ → ℕ → Work → Standing × Ask Standing
+worked s to fuel work.Go = (gone s to, ask.Work)
+worked s to fuel (work.Assign slot op a b c) =
     assigned s to slot (operation op (value_of s.values a) (value_of s.values b) (value_of s.values c))
-done program s to fuel (deed.Read slot place) = (gone s to, ask.Read place)
-done program s to fuel (deed.Write place a) = (gone s to, ask.Write place (value_of s.values a))
-done program s to fuel (deed.Push place a) = (gone s to, ask.Push place (value_of s.values a))
-done program s to fuel (deed.Pop slot place) = (gone s to, ask.Pop place)
-done program s to fuel (deed.Empty slot place) = (gone s to, ask.Empty place)
-done program s to fuel (deed.Spawn a index params gives) =
-    spawned program s to (number_of (value_of s.values a)) index params gives
-done program s to fuel deed.Sync = (gone s to, ask.Sync)
-done program s to fuel (deed.Fuel slot) =
+worked s to fuel (work.Ints o slot a b) = assigned s to (Some slot) (int_operation o (number_in s.values a) (number_in s.values b))
+worked s to fuel (work.Branch a otherwise) =
+    (gone s (if is_true (Int (number_in s.values a)) then to else otherwise), ask.Work)
+worked s to fuel (work.Fuel slot) =
     (gone_with s to (with_slot s.values slot (Int (pos (min fuel (2 ^ 63 - 1))))), ask.Work)
-done program s to fuel (deed.Fail a) = (s, ask.Fail (trouble.User (number_of (value_of s.values a))))
-done program s to fuel (deed.Branch a otherwise) =
-    (gone s (if is_true (value_of s.values a) then to else otherwise), ask.Work)
-done program s to fuel deed.Go = (gone s to, ask.Work)
-done program s to fuel deed.Finish = (s, ask.Finish)
+
+-- what a demand does that goes on at a line
+abbrev pub demanded : List Instruction → Standing → ℕ → Demand → Standing × Ask Standing
+demanded program s to (demand.Begin kinds) = (s, ask.Finish)
+demanded program s to demand.NewQueue = (gone s to, ask.NewQueue)
+demanded program s to (demand.NewObject kind) = (gone s to, ask.NewObject (zero_of kind))
+demanded program s to (demand.Read slot place) = (gone s to, ask.Read place)
+demanded program s to (demand.Write place a) = (gone s to, ask.Write place (value_of s.values a))
+demanded program s to (demand.Push place a) = (gone s to, ask.Push place (value_of s.values a))
+demanded program s to (demand.Pop slot place) = (gone s to, ask.Pop place)
+demanded program s to (demand.Empty slot place) = (gone s to, ask.Empty place)
+demanded program s to (demand.Spawn a index params gives) =
+    spawned program s to (number_of (value_of s.values a)) index params gives
+demanded program s to demand.Sync = (gone s to, ask.Sync)
+demanded program s to (demand.Fail a) = (s, ask.Fail (trouble.User (number_of (value_of s.values a))))
+demanded program s to demand.Finish = (s, ask.Finish)
+
+-- what an instruction does that goes on at a line
+abbrev pub done : List Instruction → Standing → ℕ → ℕ → Action → Standing × Ask Standing
+done program s to fuel (action.Work work) = worked s to fuel work
+done program s to fuel (action.Demand demand) = demanded program s to demand
 
 abbrev pub run : List Instruction → Standing → ℕ → Option Instruction → Standing × Ask Standing
 run program s fuel None = (s, ask.Finish)
-run program s fuel (Some instruction) = done program s instruction.next fuel instruction.deed
+run program s fuel (Some instruction) = done program s instruction.next fuel instruction.action
 
 abbrev pub told_by : List Instruction → Standing → Answer → Standing
 told_by program s answer = record s { values = answered_by s.values (slice_get program s.before) answer }

@@ -7,12 +7,12 @@ use crate::compile::program_of;
 use crate::instruction::Instruction;
 use crate::lines::lines;
 use crate::narrow::narrow;
-use crate::run::{begin, step};
+use crate::run::{begin, step, work};
 use job_reader::Line;
 use privilege_check::CheckedJob;
 use std::alloc::Global;
 use std::marker::Model;
-use swan_model::{Answer, Ask, Body, Listed, NoMemory};
+use swan_model::{Answer, Ask, Body, Listed, NoMemory, Worked};
 
 /// The program of a job. Contracts see it as the list of the job's lines.
 #[derive(Drop)]
@@ -91,6 +91,19 @@ impl Body for JobBody {
         fuel: u64,
     ) -> Result<(JobLocal, Ask<JobLocal>), NoMemory> {
         step(alloc, &self.program, local, answer, fuel)
+    }
+
+    /// Takes steps in a row, as long as each asks for work and the budget and the fuel last. The local
+    /// stays where it is, and a step of a line on numbers takes no memory.
+    fn work(
+        &self,
+        alloc: Global,
+        local: JobLocal,
+        answer: Answer,
+        fuel: u64,
+        budget: u64,
+    ) -> Result<Worked<JobLocal>, NoMemory> {
+        work(alloc, &self.program, local, answer, fuel, budget)
     }
 
     /// The number of the line at which the activation stands. It takes no memory. `O(1)`.

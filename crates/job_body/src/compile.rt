@@ -1,20 +1,20 @@
 // From lines to instructions.
 ghost use Rattle.std.specs.Prelude.{◌≡◌, ◌<◌, ◌≤◌, length, flat_map, slice_get, zip, IfOk};
-ghost use Rattle.job_body.specs.Compiled.{after_end_of, deed_of, end_deed, give_given, instruction_of, next_of, or_zero, param_given, program_of, spawn_of, task_named};
+ghost use Rattle.job_body.specs.Compiled.{after_end_of, action_of, assign_of, branch_of, end_action, give_given, instruction_of, int_op, next_of, num_of, or_zero, param_given, program_of, spawn_of, task_named};
 ghost use Rattle.job_body.specs.Blocks.{innermost};
 ghost use Rattle.job_body.specs.Tasks.{before_task, var_kinds};
 
 use crate::block::Block;
 use crate::exit::Exit;
 use crate::exits::exits_of;
-use crate::instruction::{Deed, Instruction, Operand};
+use crate::instruction::{Action, Demand, Instruction, IntOp, Num, Operand, Work};
 use crate::narrow::narrow;
 use crate::roots::roots_of;
 use crate::scope::Scope;
 use crate::source::{Source, firsts_of};
 use crate::take::Take;
 use crate::tasks::Tasks;
-use job_reader::{Atom, Atoms, Line};
+use job_reader::{Atom, Atoms, Line, Op};
 use std::alloc::Global;
 use swan_model::{GIVES_MOST, Give, Gives, Kind, Listed, NoMemory, Word};
 
@@ -90,18 +90,23 @@ fn spawn_of(
     fuel: &Atom,
     name: &Word,
     args: &Atoms,
-) -> Result<Deed, NoMemory>
-    ensures { IfOk result (λ deed. deed ≡ spawn_of lines.now scope.now fuel.now (task_named tasks.now name.now) args.now) }
+) -> Result<Action, NoMemory>
+    ensures { IfOk result (λ action. action ≡ spawn_of lines.now scope.now fuel.now (task_named tasks.now name.now) args.now) }
 {
     let fuel = scope.operand(fuel)?;
     let Some(task) = tasks.find(name) else {
         let index = narrow(lines.len())?;
-        return Ok(Deed::Spawn(fuel, index, Listed::new(alloc), Gives::new(alloc)));
+        return Ok(Action::Demand(Demand::Spawn(
+            fuel,
+            index,
+            Listed::new(alloc),
+            Gives::new(alloc),
+        )));
     };
     let index = narrow(task.index)?;
     let params = params_of(alloc, scope, task.takes.as_slice(), args.as_slice())?;
     let gives = gives_of(alloc, scope, task.takes.as_slice(), args.as_slice())?;
-    Ok(Deed::Spawn(fuel, index, params, gives))
+    Ok(Action::Demand(Demand::Spawn(fuel, index, params, gives)))
 }
 
 /// The atom at an index as an operand, or the number 0 where there is none.
@@ -114,18 +119,66 @@ fn argument(scope: &Scope, args: &Atoms, index: usize) -> Result<Operand, NoMemo
     }
 }
 
+/// The number that an operand means. Bytes count as 0.
+fn num_of(operand: &Operand) -> Num
+    ensures { result ≡ num_of operand.now }
+{
+    match operand {
+        Operand::Int(number) => Num::Const(*number),
+        Operand::Bytes(_) => Num::Const(0),
+        Operand::Variable(slot) => Num::Slot(*slot),
+    }
+}
+
+/// An operation as one on numbers, where it looks at nothing but numbers and gives one.
+fn int_op(op: Op) -> Option<IntOp>
+    ensures { result ≡ int_op op }
+{
+    match op {
+        Op::Add => Some(IntOp::Add),
+        Op::Sub => Some(IntOp::Sub),
+        Op::Mul => Some(IntOp::Mul),
+        Op::Div => Some(IntOp::Div),
+        Op::Rem => Some(IntOp::Rem),
+        Op::Lt => Some(IntOp::Lt),
+        Op::Le => Some(IntOp::Le),
+        Op::And => Some(IntOp::And),
+        Op::Or => Some(IntOp::Or),
+        Op::Not => Some(IntOp::Not),
+        _ => None,
+    }
+}
+
+/// An assignment. One on numbers takes them from where they stand.
+fn assign_of(op: Op, slot: Option<u32>, a: Operand, b: Operand, c: Operand) -> Work
+    ensures { result ≡ assign_of op slot a b c }
+{
+    match (int_op(op), slot) {
+        (Some(op), Some(slot)) => Work::Ints(op, slot, num_of(&a), num_of(&b)),
+        _ => Work::Assign(slot, op, a, b, c),
+    }
+}
+
+/// A branch: where an atom is false, the task goes on from the line at an index.
+fn branch_of(job: &Source, scope: &Scope, a: &Atom, otherwise: usize) -> Result<Action, NoMemory>
+    ensures { IfOk result (λ action. action ≡ branch_of job.now scope.now a.now otherwise) }
+{
+    let condition = num_of(&scope.operand(a)?);
+    Ok(Action::Work(Work::Branch(condition, job.step_from(otherwise)?)))
+}
+
 /// What the `end` of the innermost block does, or that of the task.
-fn end_of(scope: &Scope) -> Deed
-    ensures { result ≡ end_deed (innermost scope.now.blocks) }
+fn end_of(scope: &Scope) -> Action
+    ensures { result ≡ end_action (innermost scope.now.blocks) }
 {
     match scope.blocks.innermost() {
-        Some(_) => Deed::Go,
-        None => Deed::Finish,
+        Some(_) => Action::Work(Work::Go),
+        None => Action::Demand(Demand::Finish),
     }
 }
 
 /// What a line does.
-fn deed_of(
+fn action_of(
     alloc: Global,
     job: &Source,
     tasks: &Tasks,
@@ -133,26 +186,29 @@ fn deed_of(
     exit: Exit,
     index: usize,
     line: &Line,
-) -> Result<Deed, NoMemory>
+) -> Result<Action, NoMemory>
     requires { index < length job.now }
-    ensures { IfOk result (λ deed. deed ≡ deed_of job.now tasks.now scope.now exit index line.now) }
+    ensures { IfOk result (λ action. action ≡ action_of job.now tasks.now scope.now exit index line.now) }
 {
     match line {
-        Line::Task(_) => Ok(Deed::Begin(kinds_of(alloc, &job.lines()[index + 1..])?)),
-        Line::Queue(_, _) => Ok(Deed::NewQueue),
-        Line::Object(_, kind) => Ok(Deed::NewObject(*kind)),
-        Line::Assign(v, op, args) => Ok(Deed::Assign(
-            scope.slot(v)?,
+        Line::Task(_) => Ok(Action::Demand(Demand::Begin(kinds_of(
+            alloc,
+            &job.lines()[index + 1..],
+        )?))),
+        Line::Queue(_, _) => Ok(Action::Demand(Demand::NewQueue)),
+        Line::Object(_, kind) => Ok(Action::Demand(Demand::NewObject(*kind))),
+        Line::Assign(v, op, args) => Ok(Action::Work(assign_of(
             *op,
+            scope.slot(v)?,
             argument(scope, args, 0)?,
             argument(scope, args, 1)?,
             argument(scope, args, 2)?,
-        )),
-        Line::Read(v, o) => Ok(Deed::Read(scope.slot(v)?, scope.place(o)?)),
-        Line::Write(o, a) => Ok(Deed::Write(scope.place(o)?, scope.operand(a)?)),
-        Line::Push(q, a) => Ok(Deed::Push(scope.place(q)?, scope.operand(a)?)),
-        Line::Pop(v, q) => Ok(Deed::Pop(scope.slot(v)?, scope.place(q)?)),
-        Line::Empty(v, q) => Ok(Deed::Empty(scope.slot(v)?, scope.place(q)?)),
+        ))),
+        Line::Read(v, o) => Ok(Action::Demand(Demand::Read(scope.slot(v)?, scope.place(o)?))),
+        Line::Write(o, a) => Ok(Action::Demand(Demand::Write(scope.place(o)?, scope.operand(a)?))),
+        Line::Push(q, a) => Ok(Action::Demand(Demand::Push(scope.place(q)?, scope.operand(a)?))),
+        Line::Pop(v, q) => Ok(Action::Demand(Demand::Pop(scope.slot(v)?, scope.place(q)?))),
+        Line::Empty(v, q) => Ok(Action::Demand(Demand::Empty(scope.slot(v)?, scope.place(q)?))),
         Line::Spawn(fuel, task, args) => spawn_of(
             alloc,
             job.lines(),
@@ -162,14 +218,14 @@ fn deed_of(
             task,
             args,
         ),
-        Line::Sync => Ok(Deed::Sync),
-        Line::Fuel(v) => Ok(Deed::Fuel(scope.slot(v)?)),
-        Line::Fail(a) => Ok(Deed::Fail(scope.operand(a)?)),
-        Line::If(a) => Ok(Deed::Branch(scope.operand(a)?, job.step_from(exit.otherwise)?)),
-        Line::Else => Ok(Deed::Go),
-        Line::While(a) => Ok(Deed::Branch(scope.operand(a)?, job.step_from(exit.after)?)),
+        Line::Sync => Ok(Action::Demand(Demand::Sync)),
+        Line::Fuel(v) => Ok(Action::Work(Work::Fuel(scope.slot(v)?))),
+        Line::Fail(a) => Ok(Action::Demand(Demand::Fail(scope.operand(a)?))),
+        Line::If(a) => branch_of(job, scope, a, exit.otherwise),
+        Line::Else => Ok(Action::Work(Work::Go)),
+        Line::While(a) => branch_of(job, scope, a, exit.after),
         Line::End => Ok(end_of(scope)),
-        _ => Ok(Deed::Finish),
+        _ => Ok(Action::Demand(Demand::Finish)),
     }
 }
 
@@ -216,9 +272,9 @@ fn instruction_of(
     requires fits { index < usize.MAX }
     ensures { IfOk result (λ it. it ≡ instruction_of job.now tasks.now scope.now exit index line.now) }
 {
-    let deed = deed_of(alloc, job, tasks, scope, exit, index, line)?;
+    let action = action_of(alloc, job, tasks, scope, exit, index, line)?;
     let next = next_of(job, scope, exit, index, line)?;
-    Ok(Instruction { deed, next })
+    Ok(Instruction { action, next })
 }
 
 /// The instructions of a job, one for each line. `O(lines log names)`.

@@ -13,18 +13,65 @@ pub enum Operand {
     Variable(u32),
 }
 
-/// What a line does. A slot is the place of a variable among those of its task, and None that of a name
-/// that isn't known.
+/// A number, or that of the variable in a slot; 0 where that has bytes.
+#[derive(Clone, Copy)]
+pub enum Num {
+    /// A number.
+    Const(i64),
+    /// The number of the variable in this slot.
+    Slot(u32),
+}
+
+/// An operation on two numbers, which gives a number.
+#[derive(Clone, Copy)]
+pub enum IntOp {
+    /// The sum.
+    Add,
+    /// The difference.
+    Sub,
+    /// The product.
+    Mul,
+    /// The truncated quotient.
+    Div,
+    /// The rest of the division.
+    Rem,
+    /// 1 where the first number is less, else 0.
+    Lt,
+    /// 1 where the first number isn't more, else 0.
+    Le,
+    /// 1 where both numbers aren't 0, else 0.
+    And,
+    /// 1 where one of the numbers isn't 0, else 0.
+    Or,
+    /// 1 where the first number is 0, else 0.
+    Not,
+}
+
+/// What a line does that is the task's own work. A slot is the place of a variable among those of its
+/// task, and None that of a name that isn't known.
 #[derive(Drop)]
-pub enum Deed {
-    /// A task begins here: its `var` lines have these kinds.
+pub enum Work {
+    /// It sets a slot to the number of an operation on numbers.
+    Ints(IntOp, u32, Num, Num),
+    /// It goes on at this line where a number is false.
+    Branch(Num, u32),
+    /// Nothing.
+    Go,
+    /// It sets a slot to the value of an operation.
+    Assign(Option<u32>, Op, Operand, Operand, Operand),
+    /// It sets a slot to the fuel that is left.
+    Fuel(Option<u32>),
+}
+
+/// What a line asks of the run. A place is that of an object or a queue among those of its task.
+#[derive(Drop)]
+pub enum Demand {
+    /// A task begins here: its `var` lines have these kinds. As a step it ends the task.
     Begin(Listed<Kind>),
     /// It makes a queue.
     NewQueue,
     /// It makes an object of this kind.
     NewObject(Kind),
-    /// It sets a slot to the value of an operation.
-    Assign(Option<u32>, Op, Operand, Operand, Operand),
     /// It reads the object at a place into a slot.
     Read(Option<u32>, u32),
     /// It writes an object.
@@ -39,23 +86,26 @@ pub enum Deed {
     Spawn(Operand, u32, Listed<Operand>, Gives),
     /// It waits for all children.
     Sync,
-    /// It sets a slot to the fuel that is left.
-    Fuel(Option<u32>),
     /// It ends the task with a fault.
     Fail(Operand),
-    /// It goes on at this line where a value is false.
-    Branch(Operand, u32),
-    /// Nothing.
-    Go,
     /// It ends the task.
     Finish,
+}
+
+/// What a line does.
+#[derive(Drop)]
+pub enum Action {
+    /// The task's own work.
+    Work(Work),
+    /// Something that it asks of the run.
+    Demand(Demand),
 }
 
 /// What a line does, and the line at which the task goes on.
 #[derive(Drop)]
 pub struct Instruction {
     /// What it does.
-    pub deed: Deed,
+    pub action: Action,
     /// The index of the line.
     pub next: u32,
 }

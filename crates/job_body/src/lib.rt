@@ -9,7 +9,8 @@
 //! any code beside them. By the files after them the code alone is stated.
 //! When the plan is made, the lines become instructions, which know the places of their variables,
 //! objects and queues and the lines at which they go on. So a step costs the same in a long job as in a
-//! short one.
+//! short one. An instruction is work of the task's own, or a demand on the run. Work is done in rows, in which
+//! the activation stays where it is, and numbers are taken from where they stand.
 //!
 //! A checked job keeps to the rights of its tasks: in the elision of its plan no fault is one of rights.
 //! `plan_of` says so of each plan, and the law `rights_are_kept` of each job that has no fault.

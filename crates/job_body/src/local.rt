@@ -1,6 +1,6 @@
 // Locals of activations.
-use crate::instruction::{Deed, Operand};
-use crate::operation::{flag, number_of};
+use crate::instruction::{Action, Demand, Num, Operand};
+use crate::operation::{flag, make_int, number_of};
 use std::marker::Model;
 use swan_model::{Answer, Kind, NoMemory, Record, Value};
 
@@ -22,11 +22,12 @@ impl Model for JobLocal {
 }
 
 impl JobLocal {
-    ghost use Rattle.std.specs.Prelude.{◌≡◌, ◌≤◌, ◌+◌, length, IfOk};
+    ghost use Rattle.std.specs.Prelude.{◌≡◌, ◌≤◌, ◌+◌, length, Some, IfOk};
     ghost use Rattle.std.specs.Option.{option_copied};
-    ghost use Rattle.job_body.specs.Operations.{bytes_of, is_true, number_of};
-    ghost use Rattle.job_body.specs.Runs.{answered, gone, record_of, set_by, value_in, value_of, with_slot};
+    ghost use Rattle.job_body.specs.Operations.{bytes_of, number_of};
+    ghost use Rattle.job_body.specs.Runs.{answered, gone, number_in, record_of, set_by, value_in, value_of, with_slot};
     ghost use Rattle.swan_model.specs.declared.record.TheConstants.{RECORD_MOST};
+    ghost use Rattle.swan_model.specs.declared.value.Value.TheVariants.{Int};
     ghost use Rattle.swan_model.specs.Values.{kind_of};
 
     /// A local with these parts. `O(1)`.
@@ -73,18 +74,30 @@ impl JobLocal {
         match operand {
             Operand::Int(number) => *number,
             Operand::Bytes(_) => 0,
-            Operand::Variable(slot) => match self.values.get(*slot as usize) {
-                Some(value) => number_of(value),
-                None => 0,
-            },
+            Operand::Variable(slot) => self.number_at(*slot),
         }
     }
 
-    /// Whether an operand means a number that is true. `O(1)`.
-    pub(crate) fn is_true(&self, operand: &Operand) -> bool
-        ensures { result ≡ is_true (value_of self.now.values operand.now) }
+    /// The number in a slot; 0 where it has bytes or isn't there. `O(1)`.
+    #[inline(always)]
+    fn number_at(&self, slot: u32) -> i64
+        ensures { result ≡ number_of (value_in self.now.values (Some slot)) }
     {
-        self.number(operand) != 0
+        match self.values.get(slot as usize) {
+            Some(value) => number_of(value),
+            None => 0,
+        }
+    }
+
+    /// The number that a constant or a slot means. `O(1)`.
+    #[inline(always)]
+    pub(crate) fn number_in(&self, num: Num) -> i64
+        ensures { result ≡ number_in self.now.values num }
+    {
+        match num {
+            Num::Const(number) => number,
+            Num::Slot(slot) => self.number_at(slot),
+        }
     }
 
     /// The record that an operand means; None where it means a number. `O(1)`.
@@ -138,6 +151,16 @@ impl JobLocal {
         }
     }
 
+    /// Puts a number into a slot, where it is there. `O(1)`.
+    #[inline(always)]
+    pub(crate) fn put(&mut self, slot: u32, number: i64)
+        ensures { self.new ≡ record self.old { values = with_slot self.old.values (Some slot) (Int number) } }
+    {
+        if let Some(value) = self.values.get_mut(slot as usize) {
+            make_int(value, number);
+        }
+    }
+
     /// Sets a slot to a value of its kind; one of the other kind leaves it as it is. `O(1)`.
     fn receive(&mut self, slot: Option<u32>, value: Value)
         ensures { self.new ≡ record self.old { values = set_by self.old.values slot value } }
@@ -149,14 +172,16 @@ impl JobLocal {
 
     /// Takes the answer to what the last step asked for. One that it didn't ask for is nothing.
     /// `O(1)`.
-    pub(crate) fn tell(&mut self, last: &Deed, answer: Answer)
+    pub(crate) fn tell(&mut self, last: &Action, answer: Answer)
         ensures { self.new ≡ record self.old { values = answered self.old.values last.now answer } }
     {
         match (last, answer) {
-            (Deed::Read(slot, _) | Deed::Pop(slot, _), Answer::Item(value)) => {
+            (Action::Demand(Demand::Read(slot, _) | Demand::Pop(slot, _)), Answer::Item(value)) => {
                 self.receive(*slot, value);
             }
-            (Deed::Empty(slot, _), Answer::Flag(is_empty)) => self.receive(*slot, flag(is_empty)),
+            (Action::Demand(Demand::Empty(slot, _)), Answer::Flag(is_empty)) => {
+                self.receive(*slot, flag(is_empty));
+            }
             _ => {}
         }
     }

@@ -1,11 +1,13 @@
 // Operations on values.
 ghost use Rattle.std.specs.Prelude.{◌≡◌, ◌≤◌, ◌+ℤ◌, ◌-ℤ◌, ◌*ℤ◌, ◌++◌, ◌==◌, pos, length, drop, position, IfOk};
-ghost use Rattle.job_body.specs.Operations.{operation, number_of, bytes_of, flag, fitting, quotient, rest, is_equal, is_true, byte_at, part, found, fitting_bytes, numbered, up_to, place_after};
-ghost use Rattle.swan_model.specs.declared.value.Value.TheVariants as value;
+ghost use Rattle.job_body.specs.Operations.{number_of, bytes_of, flag, fitting, quotient, rest, is_equal, is_true, byte_at, part, found, fitting_bytes, numbered, up_to, place_after};
+ghost use Rattle.job_body.specs.Runs.{int_operation, valued};
+ghost use Rattle.swan_model.specs.declared.value.Value.TheVariants.{Int, Bytes};
 ghost use Rattle.job_reader.specs.Atoms.{number};
 ghost use Rattle.std.specs.Fmt.{signed_decimal};
 
-use job_reader::{Op, read_number};
+use crate::instruction::IntOp;
+use job_reader::read_number;
 use std::alloc::Global;
 use swan_model::{NoMemory, RECORD_MOST, Record, RecordAnswer, Trouble, Value};
 
@@ -19,62 +21,111 @@ pub fn number_of(value: &Value) -> i64
     }
 }
 
-/// The number that says yes or no.
-pub fn flag(yes: bool) -> Value
-    ensures { result ≡ flag yes }
+/// Makes a value this number: a number is written over alone, and bytes are given up. `O(1)`.
+#[inline(always)]
+pub fn make_int(value: &mut Value, number: i64)
+    ensures { value.new ≡ Int number }
 {
-    Value::Int(if yes { 1 } else { 0 })
+    match value {
+        Value::Int(place) => *place = number,
+        Value::Bytes(_) => *value = Value::Int(number),
+    }
 }
 
-pub fn sum(a: i64, b: i64) -> Result<Value, Trouble>
-    ensures { result ≡ fitting (a +ℤ b) }
+/// Whether a number is true. `O(1)`.
+#[inline(always)]
+pub fn is_true(number: i64) -> bool
+    ensures { result ≡ is_true (Int number) }
+{
+    number != 0
+}
+
+/// The number that says yes or no.
+#[inline(always)]
+fn yes(is_so: bool) -> i64
+    ensures { Int result ≡ flag is_so }
+{
+    if is_so { 1 } else { 0 }
+}
+
+/// The value that says yes or no.
+pub fn flag(is_so: bool) -> Value
+    ensures { result ≡ flag is_so }
+{
+    Value::Int(yes(is_so))
+}
+
+#[inline(always)]
+fn sum(a: i64, b: i64) -> Result<i64, Trouble>
+    ensures { valued result ≡ fitting (a +ℤ b) }
 {
     match a.checked_add(b) {
-        Some(number) => Ok(Value::Int(number)),
+        Some(number) => Ok(number),
         None => Err(Trouble::Overflow),
     }
 }
 
-pub fn difference(a: i64, b: i64) -> Result<Value, Trouble>
-    ensures { result ≡ fitting (a -ℤ b) }
+#[inline(always)]
+fn difference(a: i64, b: i64) -> Result<i64, Trouble>
+    ensures { valued result ≡ fitting (a -ℤ b) }
 {
     match a.checked_sub(b) {
-        Some(number) => Ok(Value::Int(number)),
+        Some(number) => Ok(number),
         None => Err(Trouble::Overflow),
     }
 }
 
-pub fn product(a: i64, b: i64) -> Result<Value, Trouble>
-    ensures { result ≡ fitting (a *ℤ b) }
+#[inline(always)]
+fn product(a: i64, b: i64) -> Result<i64, Trouble>
+    ensures { valued result ≡ fitting (a *ℤ b) }
 {
     match a.checked_mul(b) {
-        Some(number) => Ok(Value::Int(number)),
+        Some(number) => Ok(number),
         None => Err(Trouble::Overflow),
     }
 }
 
-pub fn quotient(a: i64, b: i64) -> Result<Value, Trouble>
-    ensures { result ≡ quotient a b }
+fn quotient(a: i64, b: i64) -> Result<i64, Trouble>
+    ensures { valued result ≡ quotient a b }
 {
     if b == 0 {
         return Err(Trouble::DivideByZero);
     }
     match a.checked_div(b) {
-        Some(number) => Ok(Value::Int(number)),
+        Some(number) => Ok(number),
         None => Err(Trouble::Overflow),
     }
 }
 
-pub fn rest(a: i64, b: i64) -> Result<Value, Trouble>
-    ensures { result ≡ rest a b }
+fn rest(a: i64, b: i64) -> Result<i64, Trouble>
+    ensures { valued result ≡ rest a b }
 {
     if b == 0 {
         return Err(Trouble::DivideByZero);
     }
     if b == -1 {
-        return Ok(Value::Int(0));
+        return Ok(0);
     }
-    Ok(Value::Int(a % b))
+    Ok(a % b)
+}
+
+/// The number of an operation on numbers, or its trouble. `O(1)`.
+#[inline(always)]
+pub fn reckoned(op: IntOp, a: i64, b: i64) -> Result<i64, Trouble>
+    ensures { valued result ≡ int_operation op a b }
+{
+    match op {
+        IntOp::Add => sum(a, b),
+        IntOp::Sub => difference(a, b),
+        IntOp::Mul => product(a, b),
+        IntOp::Div => quotient(a, b),
+        IntOp::Rem => rest(a, b),
+        IntOp::Lt => Ok(yes(a < b)),
+        IntOp::Le => Ok(yes(a <= b)),
+        IntOp::And => Ok(yes(is_true(a) && is_true(b))),
+        IntOp::Or => Ok(yes(is_true(a) || is_true(b))),
+        IntOp::Not => Ok(yes(!is_true(a))),
+    }
 }
 
 /// A number that isn't negative and at most this.
@@ -158,7 +209,7 @@ pub fn found(bytes: &[u8], c: i64, i: i64) -> Result<Value, Trouble>
 /// How many bytes there are.
 pub fn length_of(bytes: &[u8]) -> Value
     requires { length bytes.now ≤ RECORD_MOST }
-    ensures { result ≡ value.Int (pos (length bytes.now)) }
+    ensures { result ≡ Int (pos (length bytes.now)) }
 {
     Value::Int(bytes.len() as i64)
 }
@@ -190,7 +241,7 @@ pub fn numbered(bytes: &[u8]) -> Result<Value, Trouble>
 
 /// The decimal text of a number.
 pub fn text(alloc: Global, number: i64) -> Result<Value, NoMemory>
-    ensures { IfOk result (λ it. it ≡ value.Bytes (signed_decimal number)) }
+    ensures { IfOk result (λ it. it ≡ Bytes (signed_decimal number)) }
 {
     let text = format!(in alloc; "{number}")?;
     match Record::of(alloc, text.as_bytes()) {

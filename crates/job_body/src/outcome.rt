@@ -1,14 +1,11 @@
 // The value of an operation on operands.
 ghost use Rattle.std.specs.Prelude.{◌≡◌, IfOk};
 ghost use Rattle.job_body.specs.Operations.{bytes_of, is_equal, number_of, operation, part};
-ghost use Rattle.job_body.specs.Runs.{value_of};
+ghost use Rattle.job_body.specs.Runs.{int_operation, value_of};
 
 use crate::JobLocal;
-use crate::instruction::Operand;
-use crate::operation::{
-    byte_at, difference, flag, found, joined, length_of, numbered, part, product, quotient, rest,
-    sum, text,
-};
+use crate::instruction::{IntOp, Operand};
+use crate::operation::{byte_at, flag, found, joined, length_of, numbered, part, reckoned, text};
 use job_reader::Op;
 use std::alloc::Global;
 use swan_model::{NoMemory, Record, Trouble, Value};
@@ -43,6 +40,16 @@ fn slice(
     }
 }
 
+/// The value of an operation on the numbers that two operands mean.
+fn of_numbers(local: &JobLocal, op: IntOp, a: &Operand, b: &Operand) -> Result<Value, Trouble>
+    ensures { result ≡ int_operation op (number_of (value_of local.now.values a.now)) (number_of (value_of local.now.values b.now)) }
+{
+    match reckoned(op, local.number(a), local.number(b)) {
+        Ok(number) => Ok(Value::Int(number)),
+        Err(trouble) => Err(trouble),
+    }
+}
+
 /// The value of an operation on operands, or its trouble. No operand is copied but what `set` gives.
 /// `O(1)`, but `O(length)` for an operation that looks at all bytes or makes new ones, with a few
 /// allocations.
@@ -58,17 +65,17 @@ pub fn outcome_of(
 {
     match op {
         Op::Set => Ok(Ok(local.value(a)?)),
-        Op::Add => Ok(sum(local.number(a), local.number(b))),
-        Op::Sub => Ok(difference(local.number(a), local.number(b))),
-        Op::Mul => Ok(product(local.number(a), local.number(b))),
-        Op::Div => Ok(quotient(local.number(a), local.number(b))),
-        Op::Rem => Ok(rest(local.number(a), local.number(b))),
-        Op::Lt => Ok(Ok(flag(local.number(a) < local.number(b)))),
-        Op::Le => Ok(Ok(flag(local.number(a) <= local.number(b)))),
+        Op::Add => Ok(of_numbers(local, IntOp::Add, a, b)),
+        Op::Sub => Ok(of_numbers(local, IntOp::Sub, a, b)),
+        Op::Mul => Ok(of_numbers(local, IntOp::Mul, a, b)),
+        Op::Div => Ok(of_numbers(local, IntOp::Div, a, b)),
+        Op::Rem => Ok(of_numbers(local, IntOp::Rem, a, b)),
+        Op::Lt => Ok(of_numbers(local, IntOp::Lt, a, b)),
+        Op::Le => Ok(of_numbers(local, IntOp::Le, a, b)),
         Op::Eq => Ok(Ok(flag(is_equal(local, a, b)))),
-        Op::And => Ok(Ok(flag(local.is_true(a) && local.is_true(b)))),
-        Op::Or => Ok(Ok(flag(local.is_true(a) || local.is_true(b)))),
-        Op::Not => Ok(Ok(flag(!local.is_true(a)))),
+        Op::And => Ok(of_numbers(local, IntOp::And, a, b)),
+        Op::Or => Ok(of_numbers(local, IntOp::Or, a, b)),
+        Op::Not => Ok(of_numbers(local, IntOp::Not, a, b)),
         Op::Len => Ok(Ok(length_of(local.bytes(a)))),
         Op::At => Ok(byte_at(local.bytes(a), local.number(b))),
         Op::Slice => slice(alloc, local, a, local.number(b), local.number(c)),

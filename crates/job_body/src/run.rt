@@ -1,14 +1,17 @@
 // Running instructions.
-ghost use Rattle.std.specs.Prelude.{◌≡◌, ◌++◌, ◌-◌, ◌^◌, min, map, pos, IfOk};
-ghost use Rattle.job_body.specs.Runs.{assigned, begun_in, done, gone, next_by, spawned, value_of};
+ghost use Rattle.std.specs.Prelude.{◌≡◌, ◌++◌, ◌+◌, ◌-◌, ◌^◌, ◌<◌, suc, min, map, pos, Some, None, IfOk, IfSome, IfNone};
+ghost use Rattle.job_body.specs.Runs.{ask_by, begun_in, demanded, gone, next_by, spawned, told_by, value_of, worked};
+ghost use Rattle.swan_model.specs.Work.{ask_after, AreWork, local_after};
+ghost use Rattle.swan_model.specs.declared.body.Ask.TheVariants as ask;
 ghost use Rattle.swan_model.specs.declared.value.Value.TheVariants as value;
 ghost use Rattle.swan_model.specs.Values.{zero_of};
 
 use crate::JobLocal;
-use crate::instruction::{Deed, Instruction, Operand};
+use crate::instruction::{Action, Demand, Instruction, Operand, Work};
+use crate::operation::{is_true, reckoned};
 use crate::outcome::outcome_of;
 use std::alloc::Global;
-use swan_model::{Answer, Ask, Child, Gives, Kind, Listed, NoMemory, Trouble, Value};
+use swan_model::{Answer, Ask, Child, Gives, Kind, Listed, NoMemory, Stop, Trouble, Value, Worked};
 
 /// The values, and after them the zeros of these kinds.
 fn with_zeros(alloc: Global, mut values: Vec<Value>, kinds: &[Kind]) -> Result<Vec<Value>, NoMemory>
@@ -30,7 +33,7 @@ pub fn begin(
     ensures { IfOk result (λ local. local ≡ begun_in program.now index values.items) }
 {
     if let Some(instruction) = program.get(index as usize) {
-        if let Deed::Begin(kinds) = &instruction.deed {
+        if let Action::Demand(Demand::Begin(kinds)) = &instruction.action {
             let values = with_zeros(alloc, values, kinds.as_slice())?;
             return Ok(JobLocal::new(index, instruction.next, values));
         }
@@ -67,26 +70,6 @@ fn copy_of(alloc: Global, gives: &Gives) -> Result<Gives, NoMemory>
     Ok(all)
 }
 
-/// An assignment, by what its operation gives.
-#[inline(always)]
-fn assign(
-    local: &mut JobLocal,
-    to: u32,
-    slot: Option<u32>,
-    outcome: Result<Value, Trouble>,
-) -> Ask<JobLocal>
-    ensures { (local.new, result) ≡ assigned local.old to slot outcome }
-{
-    match outcome {
-        Ok(value) => {
-            local.set(slot, value);
-            local.go(to);
-            Ask::Work
-        }
-        Err(trouble) => Ask::Fail(trouble),
-    }
-}
-
 /// A spawn, by its fuel.
 fn spawn(
     alloc: Global,
@@ -98,7 +81,8 @@ fn spawn(
     params: &Listed<Operand>,
     gives: &Gives,
 ) -> Result<Ask<JobLocal>, NoMemory>
-    ensures { IfOk result (λ ask. (local.new, ask) ≡ spawned program.now local.old to fuel index params.now gives.now) }
+    ensures does { IfOk result (λ ask. (local.new, ask) ≡ spawned program.now local.old to fuel index params.now gives.now) }
+    ensures other { IfOk result (λ it. it ≡ ask.Work → ⊥) }
 {
     let Ok(fuel) = u64::try_from(fuel) else {
         return Ok(Ask::Fail(Trouble::Range));
@@ -113,13 +97,6 @@ fn spawn(
     Ok(Ask::Spawn(child))
 }
 
-/// A fuel as a number.
-fn fuel_value(fuel: u64) -> Value
-    ensures { result ≡ value.Int (pos (min fuel (2 ^ 63 - 1))) }
-{
-    Value::Int(fuel.min(9_223_372_036_854_775_807) as i64)
-}
-
 /// The local at another line, with what is asked for there.
 fn gone(local: &mut JobLocal, to: u32, ask: Ask<JobLocal>) -> Ask<JobLocal>
     ensures local { local.new ≡ gone local.old to }
@@ -129,52 +106,100 @@ fn gone(local: &mut JobLocal, to: u32, ask: Ask<JobLocal>) -> Ask<JobLocal>
     ask
 }
 
-/// Does what an instruction says that goes on at a line.
-fn perform(
+/// Does what a demand says that goes on at a line. What it asks for isn't work.
+#[inline(never)]
+fn do_demand(
     alloc: Global,
     program: &Listed<Instruction>,
     local: &mut JobLocal,
     to: u32,
-    fuel: u64,
-    deed: &Deed,
+    demand: &Demand,
 ) -> Result<Ask<JobLocal>, NoMemory>
-    ensures { IfOk result (λ ask. (local.new, ask) ≡ done program.now local.old to fuel deed.now) }
+    ensures does { IfOk result (λ ask. (local.new, ask) ≡ demanded program.now local.old to demand.now) }
+    ensures other { IfOk result (λ it. it ≡ ask.Work → ⊥) }
 {
-    match deed {
-        Deed::Begin(_) | Deed::Finish => Ok(Ask::Finish),
-        Deed::NewQueue => Ok(gone(local, to, Ask::NewQueue)),
-        Deed::NewObject(kind) => Ok(gone(local, to, Ask::NewObject(Value::zero(alloc, *kind)?))),
-        Deed::Assign(slot, op, a, b, c) => {
-            let outcome = outcome_of(alloc, local, *op, a, b, c)?;
-            Ok(assign(local, to, *slot, outcome))
-        }
-        Deed::Read(_, place) => Ok(gone(local, to, Ask::Read(*place))),
-        Deed::Write(place, a) => {
+    match demand {
+        Demand::Begin(_) | Demand::Finish => Ok(Ask::Finish),
+        Demand::NewQueue => Ok(gone(local, to, Ask::NewQueue)),
+        Demand::NewObject(kind) => Ok(gone(local, to, Ask::NewObject(Value::zero(alloc, *kind)?))),
+        Demand::Read(_, place) => Ok(gone(local, to, Ask::Read(*place))),
+        Demand::Write(place, a) => {
             let value = local.value(a)?;
             Ok(gone(local, to, Ask::Write(*place, value)))
         }
-        Deed::Push(place, a) => {
+        Demand::Push(place, a) => {
             let value = local.value(a)?;
             Ok(gone(local, to, Ask::Push(*place, value)))
         }
-        Deed::Pop(_, place) => Ok(gone(local, to, Ask::Pop(*place))),
-        Deed::Empty(_, place) => Ok(gone(local, to, Ask::Empty(*place))),
-        Deed::Spawn(a, index, params, gives) => {
+        Demand::Pop(_, place) => Ok(gone(local, to, Ask::Pop(*place))),
+        Demand::Empty(_, place) => Ok(gone(local, to, Ask::Empty(*place))),
+        Demand::Spawn(a, index, params, gives) => {
             let fuel = local.number(a);
             spawn(alloc, program, local, to, fuel, *index, params, gives)
         }
-        Deed::Sync => Ok(gone(local, to, Ask::Sync)),
-        Deed::Fuel(slot) => Ok(assign(local, to, *slot, Ok(fuel_value(fuel)))),
-        Deed::Fail(a) => Ok(Ask::Fail(Trouble::User(local.number(a)))),
-        Deed::Branch(condition, otherwise) => {
-            let to = if local.is_true(condition) {
+        Demand::Sync => Ok(gone(local, to, Ask::Sync)),
+        Demand::Fail(a) => Ok(Ask::Fail(Trouble::User(local.number(a)))),
+    }
+}
+
+/// A fuel as a number.
+fn fuel_value(fuel: u64) -> Value
+    ensures { result ≡ value.Int (pos (min fuel (2 ^ 63 - 1))) }
+{
+    Value::Int(fuel.min(9_223_372_036_854_775_807) as i64)
+}
+
+/// Does work that goes on at a line. It answers the trouble that it met, and has then done nothing.
+#[inline(always)]
+fn do_work(
+    alloc: Global,
+    local: &mut JobLocal,
+    to: u32,
+    fuel: u64,
+    work: &Work,
+) -> Result<Option<Trouble>, NoMemory>
+    ensures { IfOk result (λ trouble. (local.new, ask_by trouble) ≡ worked local.old to fuel work.now) }
+{
+    match work {
+        Work::Ints(op, slot, a, b) => {
+            match reckoned(*op, local.number_in(*a), local.number_in(*b)) {
+                Ok(number) => {
+                    local.put(*slot, number);
+                    local.go(to);
+                }
+                Err(trouble) => return Ok(Some(trouble)),
+            }
+        }
+        Work::Branch(condition, otherwise) => {
+            let to = if is_true(local.number_in(*condition)) {
                 to
             } else {
                 *otherwise
             };
-            Ok(gone(local, to, Ask::Work))
+            local.go(to);
         }
-        Deed::Go => Ok(gone(local, to, Ask::Work)),
+        Work::Go => local.go(to),
+        Work::Assign(slot, op, a, b, c) => match outcome_of(alloc, local, *op, a, b, c)? {
+            Ok(value) => {
+                local.set(*slot, value);
+                local.go(to);
+            }
+            Err(trouble) => return Ok(Some(trouble)),
+        },
+        Work::Fuel(slot) => {
+            local.set(*slot, fuel_value(fuel));
+            local.go(to);
+        }
+    }
+    Ok(None)
+}
+
+/// Tells an activation the answer to the ask of its last step.
+fn tell(program: &Listed<Instruction>, local: &mut JobLocal, answer: Answer)
+    ensures { local.new ≡ told_by program.now local.old answer }
+{
+    if let Some(last) = program.get(local.before() as usize) {
+        local.tell(&last.action, answer);
     }
 }
 
@@ -188,15 +213,88 @@ pub fn step(
 ) -> Result<(JobLocal, Ask<JobLocal>), NoMemory>
     ensures { IfOk result (λ r. (r.0, r.1) ≡ next_by program.now local answer fuel) }
 {
-    if let Some(last) = program.get(local.before() as usize) {
-        local.tell(&last.deed, answer);
+    tell(program, &mut local, answer);
+    let Some(instruction) = program.get(local.at() as usize) else {
+        return Ok((local, Ask::Finish));
+    };
+    let to = instruction.next;
+    let ask = match &instruction.action {
+        Action::Work(work) => match do_work(alloc, &mut local, to, fuel, work)? {
+            None => Ask::Work,
+            Some(trouble) => Ask::Fail(trouble),
+        },
+        Action::Demand(demand) => do_demand(alloc, program, &mut local, to, demand)?,
+    };
+    Ok((local, ask))
+}
+
+/// The most steps of work in a row.
+fn most_steps(fuel: u64, budget: u64) -> u64
+    ensures { result ≡ min budget fuel }
+{
+    budget.min(fuel)
+}
+
+/// A row of steps of work that no other step ended.
+fn row(local: JobLocal, works: u64) -> Worked<JobLocal>
+    ensures { result ≡ record { local = local; works = works; stop = None } }
+{
+    let stop = None;
+    Worked { local, works, stop }
+}
+
+/// A row of steps of work that a step ended which asks for something else.
+#[inline(never)]
+fn stopped(local: JobLocal, works: u64, place: u64, ask: Ask<JobLocal>) -> Worked<JobLocal>
+    ensures { result ≡ record { local = local; works = works; stop = Some (record { ask = ask; place = place }) } }
+{
+    let stop = Some(Stop { ask, place });
+    Worked { local, works, stop }
+}
+
+/// Takes steps in a row, as long as each asks for work and the budget and the fuel last.
+pub fn work(
+    alloc: Global,
+    program: &Listed<Instruction>,
+    local: JobLocal,
+    answer: Answer,
+    fuel: u64,
+    budget: u64,
+) -> Result<Worked<JobLocal>, NoMemory>
+    requires { 0 < budget }
+    ensures works { IfOk result (λ w. AreWork (next_by program.now) local answer fuel w.works) }
+    ensures all { IfOk result (λ w. IfNone w.stop (w.works ≡ min budget fuel)) }
+    ensures last { IfOk result (λ w. IfNone w.stop (w.local ≡ local_after (next_by program.now) local answer fuel w.works)) }
+    ensures stopped { IfOk result (λ w. IfSome w.stop (λ stop. w.works < min budget fuel)) }
+    ensures moved { IfOk result (λ w. IfSome w.stop (λ stop. w.local ≡ local_after (next_by program.now) local answer fuel (suc w.works))) }
+    ensures ask { IfOk result (λ w. IfSome w.stop (λ stop. stop.ask ≡ ask_after (next_by program.now) local answer fuel w.works)) }
+    ensures other { IfOk result (λ w. IfSome w.stop (λ stop. stop.ask ≡ ask.Work → ⊥)) }
+    ensures place { IfOk result (λ w. IfSome w.stop (λ stop. stop.place ≡ (local_after (next_by program.now) local answer fuel w.works).at + 1)) }
+{
+    let mut local = local;
+    let most = most_steps(fuel, budget);
+    if most == 0 {
+        // The answer isn't told: there is no step that it could be told.
+        return Ok(row(local, 0));
     }
-    match program.get(local.at() as usize) {
-        Some(instruction) => {
-            let to = instruction.next;
-            let ask = perform(alloc, program, &mut local, to, fuel, &instruction.deed)?;
-            Ok((local, ask))
+    tell(program, &mut local, answer);
+    for works in 0..most {
+        let place = local.line();
+        let left = fuel - works - 1;
+        let Some(instruction) = program.get(local.at() as usize) else {
+            return Ok(stopped(local, works, place, Ask::Finish));
+        };
+        let to = instruction.next;
+        match &instruction.action {
+            Action::Work(work) => match do_work(alloc, &mut local, to, left, work)? {
+                None => {}
+                Some(trouble) => return Ok(stopped(local, works, place, Ask::Fail(trouble))),
+            },
+            Action::Demand(demand) => {
+                let ask = do_demand(alloc, program, &mut local, to, demand)?;
+                return Ok(stopped(local, works, place, ask));
+            }
         }
-        None => Ok((local, Ask::Finish)),
     }
+    Ok(row(local, most))
 }

@@ -3,3 +3,4 @@ mod jobs;
 mod lines;
 mod operations;
 mod plans;
+mod rows;

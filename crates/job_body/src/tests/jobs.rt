@@ -24,9 +24,20 @@ pub fn plan_of_text(alloc: Global, text: &str) -> Result<Plan<JobBody>, NoMemory
     }
 }
 
+/// The text of a job with these lines first, then these statements, and `push out v` after them.
+pub fn text_of(alloc: Global, head: &str, statements: &str) -> Result<String, NoMemory> {
+    let mut text = String::from_str(alloc, head)?;
+    for statement in statements.split("; ") {
+        text.push_str(statement)?;
+        text.push_str("\n")?;
+    }
+    text.push_str("push out v\nend\n")?;
+    Ok(text)
+}
+
 /// What an ask is answered in tests: 7 to a read, the bytes `ab` to a pop, and to a test that the queue is
 /// empty in the first statement and isn't in a later one.
-fn answer_to(alloc: Global, ask: &Ask<JobLocal>, steps: u64) -> Result<Answer, NoMemory> {
+pub fn answer_to(alloc: Global, ask: &Ask<JobLocal>, steps: u64) -> Result<Answer, NoMemory> {
     match ask {
         Ask::Read(_) => Ok(Answer::Item(Value::Int(7))),
         Ask::Pop(_) => match Record::of(alloc, b"ab") {
@@ -59,15 +70,11 @@ fn first_push(alloc: Global, body: &JobBody, root: JobLocal) -> Result<String, N
 /// What `main` pushes first with these statements, one a line from line 12 on, and `push out v` after them; or its
 /// trouble. It has a number `v`, bytes `b` and a queue `q`.
 pub fn told(alloc: Global, statements: &str) -> Result<String, NoMemory> {
-    let mut text = String::from_str(
+    let text = text_of(
         alloc,
         "swan 1\nobject x int\noutput out int\ntask idle\ndo\nend\ntask main\nvar v int\nvar b bytes\nqueue q bytes\ndo\n",
+        statements,
     )?;
-    for statement in statements.split("; ") {
-        text.push_str(statement)?;
-        text.push_str("\n")?;
-    }
-    text.push_str("push out v\nend\n")?;
     let plan = plan_of_text(alloc, text.as_str())?;
     let Plan {
         body,
