@@ -137,9 +137,9 @@ fn ends(alloc: Global, budget: u64) -> Result<String, NoMemory>
     Ok(all)
 }
 
-/// Where the loop stands: before the first line, and before each line of its three turns.
+/// Where the loop stands: before the queue's line, before the first statement, and before each line of its three turns.
 const ENDS: &str =
-    "Fuel at 13; Fuel at 14; Fuel at 15; Fuel at 16; Fuel at 17; Fuel at 14; Fuel at 15; \
+    "Fuel at 11; Fuel at 13; Fuel at 14; Fuel at 15; Fuel at 16; Fuel at 17; Fuel at 14; Fuel at 15; \
 Fuel at 16; Fuel at 17; Fuel at 14; Fuel at 15; Fuel at 16; Fuel at 17; Fuel at 14; Fuel at 18; ";
 
 #[test]
