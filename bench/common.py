@@ -3,7 +3,6 @@ import os
 import pathlib
 import subprocess
 import tempfile
-import time
 
 ROOT = pathlib.Path(__file__).resolve().parent.parent
 SWAN = ROOT / "crates" / "swan" / "out" / "swan"
@@ -22,12 +21,11 @@ def written(here, name, pieces):
 
 
 def run(words, status=0):
-    """The seconds and the peak memory in bytes of one run."""
-    began = time.perf_counter()
+    """The processor seconds and the peak memory in bytes of one run."""
     with tempfile.TemporaryFile() as report:
         child = subprocess.Popen([str(SWAN), *map(str, words)], stdout=subprocess.DEVNULL, stderr=report)
         _, ended, usage = os.wait4(child.pid, 0)
-        seconds = time.perf_counter() - began
+        seconds = usage.ru_utime + usage.ru_stime
         child.returncode = os.waitstatus_to_exitcode(ended)
         if child.returncode != status:
             report.seek(0)

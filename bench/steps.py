@@ -1,8 +1,8 @@
-"""The time of a step: lines of int arithmetic, of text and of queues, as ratios to the like loop in python3."""
+"""The processor time of a step: lines of int arithmetic, of text and of queues, as ratios to the like loop in python3."""
 import time
 from collections import deque
 
-from common import folder, least, written
+from common import folder, least, run, written
 
 TURNS = 1_500_000
 
@@ -141,13 +141,11 @@ def queues():
     return s
 
 
-def least_of(function):
-    times = []
-    for _ in range(3):
-        began = time.perf_counter()
-        function()
-        times.append(time.perf_counter() - began)
-    return min(times)
+def seconds_of(function):
+    """The processor seconds of one call."""
+    began = time.process_time()
+    function()
+    return time.process_time() - began
 
 
 with folder() as here:
@@ -157,7 +155,9 @@ with folder() as here:
         ("text", TEXTS, texts, 12 * TEXT_TURNS),
         ("queues", QUEUES, queues, 89 * QUEUE_TURNS),
     ]:
-        seconds, _ = least(["elide", 10_000_000, written(here, name.split()[0], [text])], 3)
-        other = least_of(function)
-        each = (seconds - start) / steps * 1e9
-        print(f"{name:16} {each:6.1f} ns a step, {(seconds - start) / other:5.2f} of the loop in python3")
+        job = written(here, name.split()[0], [text])
+        # in turns, so that both meet the same machine
+        runs = [(run(["elide", 10_000_000, job])[0], seconds_of(function)) for _ in range(5)]
+        seconds = min(mine for mine, _ in runs) - start
+        other = min(theirs for _, theirs in runs)
+        print(f"{name:16} {seconds / steps * 1e9:6.1f} ns a step, {seconds / other:5.2f} of the loop in python3")
