@@ -14,8 +14,7 @@ pub const WORKERS_MOST: u32 = 256;
 /// The seats of a new pool, one for each worker, of which there are 1 to `WORKERS_MOST`. The pool's name is that of `like`, each
 /// seat knows it, and its own list is empty.
 ///
-/// It allocates once for all seats and twice for each: its deque with the first ring, and the list of the others.
-/// `O(workers * workers)`.
+/// It allocates the list of the seats, and for each its deque with a first ring and a list of the others. `O(workers * workers)`.
 pub fn pool<T: Named>(alloc: Global, like: &T, workers: u32) -> Result<Vec<PoolSeat<T>>, NoMemory>
     requires { (1 ≤ workers) × (workers ≤ WORKERS_MOST) }
     ensures count { IfOk result (λ seats. vec_len seats ≡ workers) }

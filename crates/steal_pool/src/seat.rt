@@ -35,7 +35,8 @@ pub struct PoolSeat<T: Named> {
 impl<T: Named> PoolSeat<T> {
     ghost use Rattle.steal_pool.specs.Seats.{GivesFirst, GivesListed, GivesStolen, IsNewSeat, SameSeat, SameView, listed, next_put, own_port, own_view, pool_name, stolen};
 
-    /// A seat of the pool that has the name of `like`, which knows no other seat yet, and has room for so many. It allocates twice.
+    /// A seat of the pool that has the name of `like`, which knows no other seat yet, and has room for so many. It
+    /// allocates the deque with its first ring, and the list of the others.
     pub(crate) fn alone(alloc: Global, like: &T, others: usize) -> Result<PoolSeat<T>, NoMemory>
         ensures { IfOk result (λ seat. IsNewSeat (T.name like.now) seat) }
     {
