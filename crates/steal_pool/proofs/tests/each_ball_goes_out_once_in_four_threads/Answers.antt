@@ -1,0 +1,7 @@
+use denote.Param.Send.{sendable}
+use Rattle.std.proofs.Crossing.{crosses}
+use Rattle.steal_pool.proofs.Crosses.{seat_send}
+use Rattle.steal_pool.proofs.tests.each_ball_goes_out_once_in_four_threads.Goals as goal
+
+pub join-first-requires-send-F : goal.join-first-requires-send-F
+join-first-requires-send-F g c κs within = search (seat_send, crosses, sendable) depth 60 fits 20000

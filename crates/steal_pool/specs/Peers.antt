@@ -1,0 +1,14 @@
+-- What clauses say of the other seats.
+use Rattle.std.specs.Prelude.{ℕ, sum_by}
+use Rattle.crossbeam_deque.specs.Handles.{view}
+use Rattle.steal_pool.specs.declared.peer.Peer.{Peer}
+use Rattle.steal_pool.specs.declared.peers.Peers.{Peers}
+
+module _ {T N : Type 0} where
+  -- how many frames were stolen from this one
+  abbrev pub stolen_from : Peer T N → ℕ
+  stolen_from peer = (view peer.pass).taken
+
+  -- how many were stolen from all of them
+  abbrev pub stolen_by : Peers T N → ℕ
+  stolen_by peers = sum_by stolen_from peers.seats.items

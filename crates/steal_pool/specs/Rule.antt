@@ -1,0 +1,61 @@
+-- What holds of a deque of a pool between any two steps, and what each step tells. A rule of a deque can't be told a name that
+-- is known only when it runs, so a deque learns its name from its first parcel, a label. Stage 0 is before the label is put, stage 1
+-- while it is there, and stage 2 from then on: then each frame in the deque has the name.
+use Rattle.std.specs.Prelude.{◌≡◌, ℕ, zero, suc, ◌+◌, List, [], ◌∷◌, Option, Some}
+use mathlib.Core.Option.{some}
+use lib.ListN.{get_elem?}
+use Rattle.steal_pool.specs.declared.parcel.Parcel.{Parcel}
+use Rattle.steal_pool.specs.declared.parcel.Parcel.TheVariants.{Label, Item}
+use Rattle.steal_pool.specs.declared.rule.PoolView.{PoolView}
+
+module _ {N : Type 0} where
+  abbrev pub at_stage : ℕ → Option N → ℕ → PoolView N
+  at_stage stage name taken = record { stage = stage; name = name; taken = taken }
+
+  -- what the pass of another seat knows at first
+  abbrev pub new_pass : PoolView N → PoolView N
+  new_pass v = record v { taken = 0 }
+
+  -- after one frame more has left by the steps of this pass
+  abbrev pub one_more : PoolView N → PoolView N
+  one_more v = record v { taken = v.taken + 1 }
+
+  abbrev pub IsAt : ℕ → Option N → PoolView N → Type 0
+  IsAt stage name v = (v.stage ≡ stage) × (v.name ≡ name)
+
+  -- the worker's own is the only view
+  abbrev pub Single : List (PoolView N) → Type 0
+  Single views = (j : ℕ) (v : PoolView N) → get_elem? views j ≡ some v → j ≡ 0
+
+module _ {T N : Type 0} (name : T → N) where
+  -- it is a frame, and has this name
+  abbrev pub IsOf : Option N → Parcel T N → Type 0
+  IsOf m (Label n) = ⊥
+  IsOf m (Item x) = m ≡ Some (name x)
+
+  abbrev pub AllOf : Option N → List (Parcel T N) → Type 0
+  AllOf m [] = Unit {0}
+  AllOf m (x ∷ xs) = IsOf m x × AllOf m xs
+
+  -- what is in a deque at a stage
+  abbrev pub Stands : ℕ → Option N → List (Parcel T N) → List (PoolView N) → Type 0
+  Stands zero m items views = (items ≡ []) × Single views
+  Stands (suc zero) m items views = (n : N) × (items ≡ Label n ∷ []) × (m ≡ Some n) × Single views
+  Stands (suc (suc k)) m items views = AllOf m items
+
+  -- all views are at one stage, and know one name
+  abbrev pub Pooled : List (Parcel T N) → List (PoolView N) → Type 0
+  Pooled items views = (k : ℕ) × (m : Option N) × ((j : ℕ) (v : PoolView N) → get_elem? views j ≡ some v → IsAt k m v) × Stands k m items views
+
+  abbrev pub taken : PoolView N → List (Parcel T N) → PoolView N → Type 0
+  taken v xs w = (w ≡ one_more v) × AllOf v.name xs
+
+module _ {T N : Type 0} where
+  abbrev pub labelled : PoolView N → List (Parcel T N) → PoolView N → Type 0
+  labelled v xs w = (n : N) × (xs ≡ Label n ∷ []) × (w ≡ record v { stage = 1; name = Some n })
+
+  abbrev pub opened : PoolView N → List (Parcel T N) → PoolView N → Type 0
+  opened v xs w = w ≡ record v { stage = 2 }
+
+  abbrev pub same : PoolView N → List (Parcel T N) → PoolView N → Type 0
+  same v xs w = w ≡ v

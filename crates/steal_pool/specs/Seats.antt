@@ -1,0 +1,59 @@
+-- What clauses say of the seats of a pool.
+use Rattle.std.specs.Prelude.{◌≡◌, ℕ, List, [], ◌∷◌, Some, ◌+◌}
+use Rattle.crossbeam_deque.specs.Handles.{worker_index, worker_port, worker_view}
+use Rattle.crossbeam_utils.specs.Padded.{padded_value}
+use Rattle.named_lock.specs.declared.named.Named.{Ghosts}
+use Rattle.steal_pool.specs.declared.rule.PoolView.{PoolView}
+use Rattle.steal_pool.specs.declared.seat.PoolSeat.{PoolSeat}
+use Rattle.steal_pool.specs.Rule.{IsAt, one_more}
+use Rattle.steal_pool.specs.Kept.{frames}
+use Rattle.steal_pool.specs.Peers.{stolen_by}
+
+module _ {T N : Type 0} {G : Ghosts T N} where
+  -- the name of the pool
+  abbrev pub pool_name : PoolSeat T N G → N
+  pool_name seat = seat.name
+
+  -- the number of the next frame that the seat puts into its deque: it counts up with each put
+  abbrev pub next_put : PoolSeat T N G → ℕ
+  next_put seat = worker_index (padded_value seat.own)
+
+  -- the frames on the seat's own list, the next one first
+  abbrev pub listed : PoolSeat T N G → List T
+  listed seat = frames seat.list
+
+  -- the seat's place at its deque
+  abbrev pub own_port : PoolSeat T N G → ℕ
+  own_port seat = worker_port (padded_value seat.own)
+
+  -- what the seat knows of its deque, and how many frames it took there
+  abbrev pub own_view : PoolSeat T N G → PoolView N
+  own_view seat = worker_view (padded_value seat.own)
+
+  -- how many frames the seat stole from others
+  abbrev pub stolen : PoolSeat T N G → ℕ
+  stolen seat = stolen_by seat.peers
+
+  -- a seat of the pool with this name, which knows the name, and whose own list is empty
+  abbrev pub IsNewSeat : N → PoolSeat T N G → Type 0
+  IsNewSeat name seat = (pool_name seat ≡ name) × IsAt 2 (Some name) (own_view seat) × (listed seat ≡ [])
+
+  -- it is the same seat of the same pool
+  abbrev pub SameSeat : PoolSeat T N G → PoolSeat T N G → Type 0
+  SameSeat old new = (pool_name new ≡ pool_name old) × (own_port new ≡ own_port old)
+
+  -- no frame left the seat's deque or was stolen by its steps
+  abbrev pub SameView : PoolSeat T N G → PoolSeat T N G → Type 0
+  SameView old new = (own_view new ≡ own_view old) × (stolen new ≡ stolen old)
+
+  -- one frame left the seat's deque, and nothing else left
+  abbrev pub GivesFirst : PoolSeat T N G → PoolSeat T N G → Type 0
+  GivesFirst old new = (own_view new ≡ one_more (own_view old)) × (listed new ≡ listed old) × (stolen new ≡ stolen old)
+
+  -- this frame, the first of the seat's own list, left it, and nothing else left
+  abbrev pub GivesListed : T → PoolSeat T N G → PoolSeat T N G → Type 0
+  GivesListed frame old new = SameView old new × (listed old ≡ frame ∷ listed new)
+
+  -- one frame was stolen, where the list was empty, and nothing else left
+  abbrev pub GivesStolen : PoolSeat T N G → PoolSeat T N G → Type 0
+  GivesStolen old new = (own_view new ≡ own_view old) × ((listed old ≡ []) × (listed new ≡ [])) × (stolen new ≡ stolen old + 1)

@@ -1,0 +1,104 @@
+// One deque of a pool, and the ways to it.
+ghost use Rattle.std.specs.Prelude.{◌≡◌, ◌+◌, ◌≤◌, Some, IfOk, IfErr, IfSome, IfNone, OnOk, OnErr};
+ghost use Rattle.crossbeam_deque.specs.Tasks.{Finds};
+ghost use Rattle.crossbeam_deque.specs.Handles.{view, IsPassOf, worker_deque, worker_view, worker_port, worker_flavor, worker_index, stealer_deque, stealer_flavor};
+ghost use Rattle.steal_pool.specs.Rule.{IsAt, new_pass, Pooled, one_more};
+
+use crate::parcel::Parcel;
+use crate::rule::{Labels, Nothing, Opens, PoolRule, PoolView, Puts, Takes, Twins};
+use crossbeam_deque::protocol::Outcome;
+use crossbeam_deque::{Pass, Steal, Stealer, Worker};
+use named_lock::{NameOf, Named};
+use std::alloc::Global;
+use swan_model::NoMemory;
+
+/// How many frames a new deque has room for.
+const FIRST_ROOM: usize = 64;
+
+/// A worker's deque.
+pub(crate) type Own<T> = Worker<Parcel<T>, Global, PoolView<<T as Named>::Name>, PoolRule>;
+
+/// Another worker's deque, to steal from.
+pub(crate) type Other<T> = Stealer<Parcel<T>, Global, PoolView<<T as Named>::Name>, PoolRule>;
+
+/// What a thief steps with.
+pub(crate) type Thief<T> = Pass<Parcel<T>, PoolView<<T as Named>::Name>, Global>;
+
+/// Shows that a pop found its deque empty. Only `pop_frame` makes one.
+#[derive(Drop)]
+pub(crate) struct Empty {
+    _found: (),
+}
+
+/// A deque that has the name of `like`. It allocates the deque with its first ring.
+pub(crate) fn own_like<T: Named>(alloc: Global, like: &T) -> Result<Own<T>, NoMemory>
+    ensures { IfOk result (λ own. (worker_flavor own ≡ 0) × IsAt 2 (Some (T.name like.now)) (worker_view own)) }
+{
+    let mut own = Own::<T>::fifo_as(alloc, FIRST_ROOM)?;
+    let label = Parcel::Label(NameOf::of(like));
+    let Ok(()) = own.push_as::<Labels>(label) else {
+        return Err(NoMemory);
+    };
+    let Some(_) = own.pop_as::<Opens>() else {
+        unreachable!()
+    };
+    Ok(own)
+}
+
+/// Puts a frame that has the name, or hands it back where the deque can't grow. `O(1)` amortised.
+pub(crate) fn push_frame<T: Named>(own: &mut Own<T>, frame: T) -> Result<(), T>
+    requires { IsAt 2 (Some (T.name frame)) (worker_view own.old) }
+    ensures same { (worker_view own.new ≡ worker_view own.old) × (worker_flavor own.new ≡ worker_flavor own.old) × (worker_port own.new ≡ worker_port own.old) }
+    ensures ok { OnOk result (worker_index own.new ≡ worker_index own.old + 1) }
+    ensures err { IfErr result (λ given. (given ≡ frame) × (worker_index own.new ≡ worker_index own.old)) }
+{
+    match own.push_as::<Puts>(Parcel::Item(frame)) {
+        Ok(()) => Ok(()),
+        Err(Parcel::Item(frame)) => Err(frame),
+        Err(Parcel::Label(_)) => unreachable!(),
+    }
+}
+
+/// Takes a frame, which has the name. `Empty` comes only where the deque was empty at one moment. `O(1)`.
+pub(crate) fn pop_frame<T: Named, M: Outcome<T, PoolView<T::Name>>>(
+    own: &mut Own<T>,
+) -> Result<T, Empty>
+    requires stage { (worker_flavor own.old ≡ 0) × ((worker_view own.old).stage ≡ 2) }
+    requires empty { Finds (Pooled T.name) (worker_port own.old) (worker_view own.old) (M.empty (worker_view own.old)) }
+    ensures same { (worker_flavor own.new ≡ worker_flavor own.old) × (worker_port own.new ≡ worker_port own.old) × (worker_index own.new ≤ worker_index own.old) }
+    ensures ok { IfOk result (λ frame. (worker_view own.old).name ≡ Some (T.name frame)) }
+    ensures taken { OnOk result (worker_view own.new ≡ one_more (worker_view own.old)) }
+    ensures empty { OnErr result ((worker_view own.new ≡ worker_view own.old) × M.empty (worker_view own.old)) }
+{
+    match own.pop_as::<Takes<M>>() {
+        Some(Parcel::Item(frame)) => Ok(frame),
+        Some(Parcel::Label(_)) => unreachable!(),
+        None => Err(Empty { _found: () }),
+    }
+}
+
+/// A thief's way to a deque. It allocates nothing, and fails where the deque has all the stealers that it may have.
+pub(crate) fn new_thief<T: Named>(own: &mut Own<T>) -> Result<(Other<T>, Thief<T>), NoMemory>
+    requires { (worker_flavor own.old ≡ 0) × ((worker_view own.old).stage ≡ 2) }
+    ensures own { (worker_view own.new ≡ worker_view own.old) × (worker_flavor own.new ≡ 0) }
+    ensures thief { IfOk result (λ r. IsPassOf (stealer_deque r.0) r.1 × (view r.1 ≡ new_pass (worker_view own.old)) × (stealer_flavor r.0 ≡ 0)) }
+{
+    let stealer = own.stealer()?;
+    let pass = own.another::<Twins>();
+    Ok((stealer, pass))
+}
+
+/// Tries once to steal a frame, which has the name. `O(1)`.
+pub(crate) fn steal_frame<T: Named>(other: &Other<T>, pass: &mut Thief<T>) -> Option<T>
+    requires { IsPassOf (stealer_deque other.now) pass.old × ((view pass.old).stage ≡ 2) }
+    ensures same { IsPassOf (stealer_deque other.now) pass.new }
+    ensures some { IfSome result (λ frame. (view pass.old).name ≡ Some (T.name frame)) }
+    ensures taken { IfSome result (λ frame. view pass.new ≡ one_more (view pass.old)) }
+    ensures none { IfNone result (view pass.new ≡ view pass.old) }
+{
+    match other.steal_as::<Takes<Nothing>>(pass) {
+        Steal::Success(Parcel::Item(frame)) => Some(frame),
+        Steal::Success(Parcel::Label(_)) => unreachable!(),
+        Steal::Empty | Steal::Retry => None,
+    }
+}

@@ -1,0 +1,47 @@
+// Other seats, as a seat sees them.
+ghost use Rattle.std.specs.Prelude.{◌≡◌, ◌+◌, Some, IfNone, IfSome, IfOk};
+ghost use Rattle.crossbeam_deque.specs.Handles.{view, IsPassOf, worker_view, worker_flavor, stealer_deque};
+ghost use Rattle.std.specs.Coded.{Coded-set, coded_option};
+ghost use Rattle.steal_pool.specs.Rule.{IsAt};
+
+use crate::deque::{Other, Own, Thief, new_thief, steal_frame};
+use named_lock::{NameOf, Named};
+use swan_model::NoMemory;
+
+/// Another seat's deque.
+#[derive(Drop)]
+pub(crate) struct Peer<T: Named> {
+    stealer: Other<T>,
+    pass: Thief<T>,
+    pub(crate) name: NameOf<T>,
+    ghost of: { IsPassOf (stealer_deque stealer) pass },
+    ghost stage: { (view pass).stage ≡ 2 },
+    ghost named: { (view pass).name ≡ Some name } by { Coded-set (coded_option T.Name.code) (view pass).name (Some name) },
+}
+
+impl<T: Named> Peer<T> {
+    ghost use Rattle.steal_pool.specs.Peers.{stolen_from};
+
+    /// A way to this deque, which has the name of `like`. It allocates nothing.
+    pub(crate) fn new(own: &mut Own<T>, like: &T) -> Result<Peer<T>, NoMemory>
+        requires { (worker_flavor own.old ≡ 0) × IsAt 2 (Some (T.name like.now)) (worker_view own.old) }
+        ensures own { (worker_flavor own.new ≡ 0) × (worker_view own.new ≡ worker_view own.old) }
+        ensures peer { IfOk result (λ peer. peer.name ≡ T.name like.now) }
+    {
+        let (stealer, pass) = new_thief(own)?;
+        Ok(Peer {
+            stealer,
+            pass,
+            name: NameOf::of(like),
+        })
+    }
+
+    /// Tries once to steal a frame that the other seat put. `O(1)`.
+    pub(crate) fn steal(&mut self) -> Option<T>
+        ensures name { self.new.name ≡ self.old.name }
+        ensures some { IfSome result (λ frame. (T.name frame ≡ self.old.name) × (stolen_from self.new ≡ stolen_from self.old + 1)) }
+        ensures none { IfNone result (stolen_from self.new ≡ stolen_from self.old) }
+    {
+        steal_frame(&self.stealer, &mut self.pass)
+    }
+}

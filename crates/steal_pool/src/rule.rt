@@ -1,0 +1,90 @@
+// What holds of a deque between any two steps, and what each step tells.
+use crate::parcel::Parcel;
+use crossbeam_deque::protocol::{Outcome, Protocol, Split};
+use named_lock::Named;
+use std::marker::PhantomData;
+
+/// What a seat knows of a deque. It is there for contracts: no value of it is made.
+pub struct PoolView<N> {
+    /// 0 before the label is put, 1 while it is there, and 2 once it has left, for good.
+    pub stage: u64,
+    /// The name of the pool, from stage 1 on.
+    pub name: Option<N>,
+    /// How many frames left the deque by the steps of this pass.
+    pub taken: u64,
+}
+
+/// The rule of a deque: what is in it has the pool's name.
+pub struct PoolRule;
+
+impl<T: Named> Protocol<Parcel<T>, PoolView<T::Name>> for PoolRule {
+    ghost use Rattle.std.specs.Prelude.{None};
+    ghost use Rattle.steal_pool.specs.Rule.{Pooled, at_stage};
+
+    ghost holds = { Pooled T.name };
+
+    ghost first = { at_stage 0 None 0 };
+
+    ghost guest = { at_stage 0 None 0 };
+}
+
+/// The label is put.
+pub(crate) struct Labels;
+
+impl<T: Named> Outcome<Parcel<T>, PoolView<T::Name>> for Labels {
+    ghost use Rattle.steal_pool.specs.Rule.{labelled};
+
+    ghost then = { labelled };
+}
+
+/// The label leaves.
+pub(crate) struct Opens;
+
+impl<T: Named> Outcome<Parcel<T>, PoolView<T::Name>> for Opens {
+    ghost use Rattle.steal_pool.specs.Rule.{opened};
+
+    ghost then = { opened };
+
+    ghost empty = { λ _. ⊥ };
+}
+
+/// A frame is put.
+pub(crate) struct Puts;
+
+impl<T: Named> Outcome<Parcel<T>, PoolView<T::Name>> for Puts {
+    ghost use Rattle.steal_pool.specs.Rule.{same};
+
+    ghost then = { same };
+}
+
+/// A frame leaves, and of an empty deque is learnt what `M` says.
+pub(crate) struct Takes<M> {
+    outcome: PhantomData<M>,
+}
+
+impl<T: Named, M: Outcome<T, PoolView<T::Name>>> Outcome<Parcel<T>, PoolView<T::Name>>
+    for Takes<M> {
+    ghost use Rattle.steal_pool.specs.Rule.{taken};
+
+    ghost then = { taken T.name };
+
+    ghost empty = { M.empty };
+}
+
+/// Another seat gets a pass.
+pub(crate) struct Twins;
+
+impl<N> Split<PoolView<N>> for Twins {
+    ghost use Rattle.steal_pool.specs.Rule.{new_pass};
+
+    ghost left = { λ v. v };
+
+    ghost right = { new_pass };
+}
+
+/// Nothing is learnt.
+pub(crate) struct Nothing;
+
+impl<T, V> Outcome<T, V> for Nothing {
+    ghost then = { λ _ _ _. Unit {0} };
+}
