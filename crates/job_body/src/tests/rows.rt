@@ -162,15 +162,15 @@ fn row(alloc: Global, budget: u64) -> Result<String, NoMemory>
         fuel: _,
     } = plan_of_text(alloc, text.as_str())?;
     let (local, _ask) = body.advance(alloc, root_local, Answer::Start, 199)?;
-    let worked = body.work(alloc, local, Answer::Nothing, 199, budget)?;
-    let works = worked.works;
-    match worked.stop {
-        Some(stop) => {
-            let place = stop.place;
-            Ok(format!(in alloc; "{works}, and an ask at {place}")?)
-        }
-        None => Ok(format!(in alloc; "{works}")?),
+    let Worked {
+        local: _,
+        works,
+        stop,
+    } = body.work(alloc, local, Answer::Nothing, 199, budget)?;
+    if let Some(Stop { ask: _, place }) = stop {
+        return Ok(format!(in alloc; "{works}, and an ask at {place}")?);
     }
+    Ok(format!(in alloc; "{works}")?)
 }
 
 #[test]
