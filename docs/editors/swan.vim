@@ -18,9 +18,10 @@ syntax match swanTask /^\s*\(task\|do\|end\)\>\(\s\+=\)\@!/
 syntax match swanTop /^\s*\(input\|output\)\>\(\s\+=\)\@!/
 syntax match swanDeclaration /^\s*\(param\|inout\|in\|out\|pushpop\|var\|queue\|object\)\>\(\s\+=\)\@!/
 syntax match swanStatement /^\s*\(read\|write\|push\|pop\|empty\|spawn\|sync\|fuel\|fail\)\>\(\s\+=\)\@!/
+syntax match swanDeclaration /^\s*\(push\|pop\)\ze\s\+\h\w*\s\+\(int\|bytes\)\s*$/
 syntax match swanBlock /^\s*\(if\|else\|while\)\>\(\s\+=\)\@!/
 syntax match swanOperation /\s=\s\+\zs\(set\|add\|sub\|mul\|div\|rem\|lt\|le\|eq\|and\|or\|not\|len\|at\|slice\|cat\|find\|num\|text\)\>/
-syntax match swanKind /^\s*\(param\|inout\|in\|out\|pushpop\|push\|pop\|var\|queue\|object\|output\)\s\+\h\w*\s\+\zs\(int\|bytes\)\ze\s*$/
+syntax match swanKind /\(^\s*\(param\|inout\|in\|out\|pushpop\|push\|pop\|var\|queue\|object\|output\)\s\+\h\w*\s\+\)\@<=\(int\|bytes\)\ze\s*$/
 
 highlight default link swanHeader PreProc
 highlight default link swanNote Comment
