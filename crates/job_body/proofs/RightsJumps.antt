@@ -4,15 +4,15 @@ use native.Mathlib.Numerals.{unary_clauses}
 use Rattle.std.proofs.lemmas.Bool.{false≢true, true≢false}
 use Rattle.swan_model.specs.declared.rights.Mode.{Mode}
 use Rattle.job_reader.specs.Jobs.{IsPlaced, may_stand}
-use Rattle.job_reader.specs.Places as places
-use Rattle.job_reader.specs.Places.{is_open}
+use Rattle.job_reader.specs.Positions as positions
+use Rattle.job_reader.specs.Positions.{is_open}
 use Rattle.job_reader.specs.declared.atom.Atom.{Atom}
 use Rattle.job_reader.specs.declared.block.Block.{Block as Opened}
 use Rattle.job_reader.specs.declared.block.Block.TheVariants as opened
 use Rattle.job_reader.specs.declared.line.Line.{Line}
 use Rattle.job_reader.specs.declared.line.Line.TheVariants as line
-use Rattle.job_reader.specs.declared.place.Place.{Place}
-use Rattle.job_reader.specs.declared.place.Place.TheVariants.{First, Top, InTask, InDo, Outside}
+use Rattle.job_reader.specs.declared.position.Position.{Position}
+use Rattle.job_reader.specs.declared.position.Position.TheVariants.{First, Top, InTask, InDo, Outside}
 use Rattle.job_body.specs.declared.block.Block.{Block}
 use Rattle.job_body.specs.declared.block.Block.TheVariants as block
 use Rattle.job_body.specs.declared.exit.Exit.{Exit}
@@ -53,7 +53,7 @@ abbrev pub BlocksStand : List Line → List Mode → List Opened → List Block 
 BlocksStand job held inside blocks = (length blocks ≡ length inside) × LoopsStand job held blocks
 
 -- the blocks that are open at a place are as many as the place says
-abbrev pub BlocksAt : Place → List Line → List Mode → List Block → Type 0
+abbrev pub BlocksAt : Position → List Line → List Mode → List Block → Type 0
 BlocksAt InTask job held blocks = blocks ≡ []
 BlocksAt (InDo inside) job held blocks = BlocksStand job held inside blocks
 BlocksAt _ job held blocks = Unit {0}
@@ -66,7 +66,7 @@ blocks-next : (job : List Line) (i : ℕ) (line : Line) → slice_get job i ≡ 
 blocks-next job i line is =
     ap (λ (s : Known). s.blocks) (sym (seen-next job i line is)) ∙ entered-blocks i (seen_at job i) line
 
-declared-blocks : (job : List Line) (held : List Mode) (i : ℕ) (blocks : List Block) (line : Line) → may_stand InTask line ≡ true → blocks ≡ [] → BlocksAt (places.after InTask line) job held (blocks_after i blocks line)
+declared-blocks : (job : List Line) (held : List Mode) (i : ℕ) (blocks : List Block) (line : Line) → may_stand InTask line ≡ true → blocks ≡ [] → BlocksAt (positions.after InTask line) job held (blocks_after i blocks line)
 declared-blocks job held i blocks (line.Note text) stands none = none
 declared-blocks job held i blocks (line.Param name kind) stands none = none
 declared-blocks job held i blocks (line.Access mode name kind) stands none = none
@@ -76,7 +76,7 @@ declared-blocks job held i blocks (line.Object name kind) stands none = none
 declared-blocks job held i blocks line.Do stands none = subst (BlocksStand job held []) (sym none) (refl, tt)
 declared-blocks job held i blocks line stands none = absurd (false≢true stands)
 
-else-blocks : (job : List Line) (held : List Mode) (inside : List Opened) (blocks : List Block) → places.takes_else inside ≡ true → BlocksStand job held inside blocks → BlocksAt (places.after_else inside) job held blocks
+else-blocks : (job : List Line) (held : List Mode) (inside : List Opened) (blocks : List Block) → positions.takes_else inside ≡ true → BlocksStand job held inside blocks → BlocksAt (positions.after_else inside) job held blocks
 else-blocks job held [] blocks stands b = absurd (false≢true stands)
 else-blocks job held (innermost ∷ inside) blocks stands b = b
 
@@ -87,13 +87,13 @@ end-loops : (job : List Line) (held : List Mode) (block : Block) (blocks : List 
 end-loops job held block.If blocks loops = loops
 end-loops job held (block.While i) blocks loops = loops.1
 
-end-blocks : (job : List Line) (held : List Mode) (inside : List Opened) (blocks : List Block) → BlocksStand job held inside blocks → BlocksAt (places.after_end inside) job held (after_end blocks)
+end-blocks : (job : List Line) (held : List Mode) (inside : List Opened) (blocks : List Block) → BlocksStand job held inside blocks → BlocksAt (positions.after_end inside) job held (after_end blocks)
 end-blocks job held [] blocks b = tt
 end-blocks job held (innermost ∷ inside) [] b = absurd (cc)
 end-blocks job held (innermost ∷ inside) (block ∷ blocks) b =
     (less_one (length blocks) (length inside) b.0, end-loops job held block blocks b.1)
 
-done-blocks : (job : List Line) (held : List Mode) (i : ℕ) (inside : List Opened) (blocks : List Block) (line : Line) → may_stand (InDo inside) line ≡ true → Stands job i held → BlocksStand job held inside blocks → BlocksAt (places.after_statement inside line) job held (blocks_after i blocks line)
+done-blocks : (job : List Line) (held : List Mode) (i : ℕ) (inside : List Opened) (blocks : List Block) (line : Line) → may_stand (InDo inside) line ≡ true → Stands job i held → BlocksStand job held inside blocks → BlocksAt (positions.after_statement inside line) job held (blocks_after i blocks line)
 done-blocks job held i inside blocks (line.If a) stands at b = (ap suc b.0, b.1)
 done-blocks job held i inside blocks (line.While a) stands at b = (ap suc b.0, (at, b.1))
 done-blocks job held i inside blocks line.Else stands at b = else-blocks job held inside blocks stands b
@@ -101,16 +101,16 @@ done-blocks job held i inside blocks line.End stands at b = end-blocks job held 
 done-blocks job held i inside blocks (line.Task name) stands at b = absurd (false≢true stands)
 done-blocks job held i inside blocks line stands at b = b
 
-opened-blocks : (job : List Line) (held : List Mode) (n i : ℕ) (blocks : List Block) (line : Line) → BlocksAt (places.after_top n line) job held (blocks_after i blocks line)
+opened-blocks : (job : List Line) (held : List Mode) (n i : ℕ) (blocks : List Block) (line : Line) → BlocksAt (positions.after_top n line) job held (blocks_after i blocks line)
 opened-blocks job held n i blocks (line.Task name) = refl
 opened-blocks job held n i blocks line = tt
 
-outside-blocks : (job : List Line) (held : List Mode) (i : ℕ) (blocks : List Block) (line : Line) → BlocksAt (places.after_outside line) job held (blocks_after i blocks line)
+outside-blocks : (job : List Line) (held : List Mode) (i : ℕ) (blocks : List Block) (line : Line) → BlocksAt (positions.after_outside line) job held (blocks_after i blocks line)
 outside-blocks job held i blocks (line.Task name) = refl
 outside-blocks job held i blocks line = tt
 
 -- what is held after a line: the same after a statement
-blocks-step : (job : List Line) (i : ℕ) (line : Line) (place : Place) → place_at job i ≡ place → slice_get job i ≡ Some line → may_stand place line ≡ true → BlocksAt place job (modes (held_at job i)) (blocks_at job i) → BlocksAt (places.after place line) job (modes (held_at job (i + 1))) (blocks_after i (blocks_at job i) line)
+blocks-step : (job : List Line) (i : ℕ) (line : Line) (place : Position) → place_at job i ≡ place → slice_get job i ≡ Some line → may_stand place line ≡ true → BlocksAt place job (modes (held_at job i)) (blocks_at job i) → BlocksAt (positions.after place line) job (modes (held_at job (i + 1))) (blocks_after i (blocks_at job i) line)
 blocks-step job i line First at is stands b = tt
 blocks-step job i line (Top n) at is stands b = opened-blocks job _ n i (blocks_at job i) line
 blocks-step job i line Outside at is stands b = outside-blocks job _ i (blocks_at job i) line
@@ -119,7 +119,7 @@ blocks-step job i line (InDo inside) at is stands b =
     let plain = statement inside line stands in
     let same : modes (held_at job i) ≡ modes (held_at job (i + 1)) = ap modes (sym (held-same job i line is plain.0 plain.1)) in
     let here : Stands job i (modes (held_at job i)) = record { within = ap is_open at; holds = refl } in
-    subst (λ held. BlocksAt (places.after_statement inside line) job held (blocks_after i (blocks_at job i) line)) same
+    subst (λ held. BlocksAt (positions.after_statement inside line) job held (blocks_after i (blocks_at job i) line)) same
     (done-blocks job (modes (held_at job i)) i inside (blocks_at job i) line stands here b)
 
 drop-past : {A : Type 0} (xs : List A) (i : ℕ) → slice_get xs i ≡ None → drop (i + 1) xs ≡ drop i xs
@@ -135,7 +135,7 @@ blocks-stand job placed =
     (λ i past b. rw (take-past job i past, drop-past job i past) b)
     (λ i line is b.
     subst (λ p. BlocksAt p job (modes (held_at job (i + 1))) (blocks_at job (i + 1))) (sym (place-next job i line is))
-    (subst (BlocksAt (places.after (place_at job i) line) job (modes (held_at job (i + 1)))) (sym (blocks-next job i line is))
+    (subst (BlocksAt (positions.after (place_at job i) line) job (modes (held_at job (i + 1)))) (sym (blocks-next job i line is))
     (blocks-step job i line (place_at job i) refl is (stands_here job i line placed is) b)))
 
 -- ---- exits
@@ -146,7 +146,7 @@ ExitsStand job held [] exits = Unit {0}
 ExitsStand job held (innermost ∷ inside) [] = ⊥
 ExitsStand job held (innermost ∷ inside) (exit ∷ exits) = Stands job exit.otherwise held × Stands job exit.after held × ExitsStand job held inside exits
 
-abbrev pub ExitsAt : Place → List Line → List Mode → List Exit → Type 0
+abbrev pub ExitsAt : Position → List Line → List Mode → List Exit → Type 0
 ExitsAt (InDo inside) job held exits = ExitsStand job held inside exits
 ExitsAt _ job held exits = Unit {0}
 
@@ -154,16 +154,16 @@ if-exits : (job : List Line) (held : List Mode) (innermost : Opened) (inside : L
 if-exits job held innermost inside i a [] e = absurd e
 if-exits job held innermost inside i a (exit ∷ exits) e = e.2
 
-else-exits : (job : List Line) (held : List Mode) (inside : List Opened) (i : ℕ) (exits : List Exit) → places.takes_else inside ≡ true → (is_open (places.after_else inside) ≡ true → Stands job (i + 1) held) → ExitsAt (places.after_else inside) job held exits → ExitsStand job held inside (exits_with i line.Else exits)
+else-exits : (job : List Line) (held : List Mode) (inside : List Opened) (i : ℕ) (exits : List Exit) → positions.takes_else inside ≡ true → (is_open (positions.after_else inside) ≡ true → Stands job (i + 1) held) → ExitsAt (positions.after_else inside) job held exits → ExitsStand job held inside (exits_with i line.Else exits)
 else-exits job held [] i exits stands next e = tt
 else-exits job held (innermost ∷ inside) i [] stands next e = absurd e
 else-exits job held (innermost ∷ inside) i (exit ∷ exits) stands next e = (next refl, e.1, e.2)
 
-end-exits : (job : List Line) (held : List Mode) (inside : List Opened) (i : ℕ) (exits : List Exit) → (is_open (places.after_end inside) ≡ true → Stands job (i + 1) held) → ExitsAt (places.after_end inside) job held exits → ExitsStand job held inside (exits_with i line.End exits)
+end-exits : (job : List Line) (held : List Mode) (inside : List Opened) (i : ℕ) (exits : List Exit) → (is_open (positions.after_end inside) ≡ true → Stands job (i + 1) held) → ExitsAt (positions.after_end inside) job held exits → ExitsStand job held inside (exits_with i line.End exits)
 end-exits job held [] i exits next e = tt
 end-exits job held (innermost ∷ inside) i exits next e = (next refl, next refl, e)
 
-done-exits : (job : List Line) (held : List Mode) (inside : List Opened) (i : ℕ) (line : Line) (exits : List Exit) → may_stand (InDo inside) line ≡ true → (is_open (places.after_statement inside line) ≡ true → Stands job (i + 1) held) → ExitsAt (places.after_statement inside line) job held exits → ExitsStand job held inside (exits_with i line exits)
+done-exits : (job : List Line) (held : List Mode) (inside : List Opened) (i : ℕ) (line : Line) (exits : List Exit) → may_stand (InDo inside) line ≡ true → (is_open (positions.after_statement inside line) ≡ true → Stands job (i + 1) held) → ExitsAt (positions.after_statement inside line) job held exits → ExitsStand job held inside (exits_with i line exits)
 done-exits job held inside i (line.If a) exits stands next e = if-exits job held opened.If inside i a exits e
 done-exits job held inside i (line.While a) exits stands next e = if-exits job held opened.While inside i a exits e
 done-exits job held inside i line.Else exits stands next e = else-exits job held inside i exits stands next e
@@ -172,7 +172,7 @@ done-exits job held inside i (line.Task name) exits stands next e = absurd (fals
 done-exits job held inside i line exits stands next e = e
 
 -- the exits of the rest of a task
-exits-step : (job : List Line) (i : ℕ) (line : Line) (lines : List Line) (place : Place) → place_at job i ≡ place → slice_get job i ≡ Some line → may_stand place line ≡ true → ExitsAt (place_at job (i + 1)) job (modes (held_at job (i + 1))) (exits (i + 1) lines) → ExitsAt place job (modes (held_at job i)) (exits_with i line (exits (i + 1) lines))
+exits-step : (job : List Line) (i : ℕ) (line : Line) (lines : List Line) (place : Position) → place_at job i ≡ place → slice_get job i ≡ Some line → may_stand place line ≡ true → ExitsAt (place_at job (i + 1)) job (modes (held_at job (i + 1))) (exits (i + 1) lines) → ExitsAt place job (modes (held_at job i)) (exits_with i line (exits (i + 1) lines))
 exits-step job i line lines First at is stands later = tt
 exits-step job i line lines (Top n) at is stands later = tt
 exits-step job i line lines Outside at is stands later = tt
@@ -181,13 +181,13 @@ exits-step job i line lines (InDo inside) at is stands later =
     let plain = statement inside line stands in
     let held = modes (held_at job i) in
     let same : modes (held_at job (i + 1)) ≡ held = ap modes (held-same job i line is plain.0 plain.1) in
-    let next : place_at job (i + 1) ≡ places.after_statement inside line = place-next job i line is ∙ ap (λ p. places.after p line) at in
-    let there : ExitsAt (places.after_statement inside line) job held (exits (i + 1) lines) =
+    let next : place_at job (i + 1) ≡ positions.after_statement inside line = place-next job i line is ∙ ap (λ p. positions.after p line) at in
+    let there : ExitsAt (positions.after_statement inside line) job held (exits (i + 1) lines) =
     subst (λ p. ExitsAt p job held (exits (i + 1) lines)) next (subst (λ h. ExitsAt (place_at job (i + 1)) job h (exits (i + 1) lines)) same later) in
     done-exits job held inside i line (exits (i + 1) lines) stands
     (λ goes. record { within = ap is_open next ∙ goes; holds = sym same }) there
 
-never-open : (place : Place) (job : List Line) (held : List Mode) (exits : List Exit) → is_open place ≡ false → ExitsAt place job held exits
+never-open : (place : Position) (job : List Line) (held : List Mode) (exits : List Exit) → is_open place ≡ false → ExitsAt place job held exits
 never-open First job held exits e = tt
 never-open (Top n) job held exits e = tt
 never-open InTask job held exits e = tt

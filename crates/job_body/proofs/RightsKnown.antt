@@ -9,18 +9,18 @@ use Rattle.swan_model.specs.declared.value.Kind.{Kind}
 use Rattle.swan_model.specs.declared.value.Kind.TheVariants as kind
 use Rattle.job_reader.specs.Faults.{◌>>=◌}
 use Rattle.job_reader.specs.Jobs.{IsPlaced, may_stand}
-use Rattle.job_reader.specs.Places as places
+use Rattle.job_reader.specs.Positions as positions
 use Rattle.job_reader.specs.declared.block.Block.{Block}
 use Rattle.job_reader.specs.declared.fault.JobKind.{JobKind}
 use Rattle.job_reader.specs.declared.line.Line.{Line}
 use Rattle.job_reader.specs.declared.line.Line.TheVariants as line
-use Rattle.job_reader.specs.declared.place.Place.{Place}
-use Rattle.job_reader.specs.declared.place.Place.TheVariants.{First, Top, InTask, InDo, Outside}
+use Rattle.job_reader.specs.declared.position.Position.{Position}
+use Rattle.job_reader.specs.declared.position.Position.TheVariants.{First, Top, InTask, InDo, Outside}
 use Rattle.privilege_check.specs.FirstFault.{check_line, fresh}
 use Rattle.privilege_check.specs.Names as checks
 use Rattle.privilege_check.specs.Names.{Before, at_start, declared, declared_in, known, known_in, opened, taken, taken_by, with_name, with_taken}
-use Rattle.privilege_check.specs.declared.meaning.Meaning.{Meaning}
-use Rattle.privilege_check.specs.declared.meaning.Meaning.TheVariants.{Variable, Held}
+use Rattle.privilege_check.specs.declared.declaration.Declaration.{Declaration}
+use Rattle.privilege_check.specs.declared.declaration.Declaration.TheVariants.{Variable, Held}
 use Rattle.job_body.specs.Tasks.{Scope, before_task, is_main, scope_after, scope_from, top_lines}
 use Rattle.job_body.proofs.Known.{scope-push, take-push}
 use Rattle.job_body.proofs.RightsNames.{Entry, mode_known, mode_of, declared-held, declared-variable}
@@ -40,7 +40,7 @@ pub record KnownInTask (job : List Line) (scope : Scope) (before : Before) : Typ
   pub top : (name : List ℕ) → mode_of (root_entries (top_lines job)) name ≡ mode_known (before.top name)
   pub names : (name : List ℕ) → mode_of (entries job scope) name ≡ mode_known (known before name)
 
-abbrev pub KnownAt : Place → List Line → List Line → Scope → Before → Type 0
+abbrev pub KnownAt : Position → List Line → List Line → Scope → Before → Type 0
 KnownAt First job done scope before = KnownAtTop done before
 KnownAt (Top inputs_left) job done scope before = KnownAtTop done before
 KnownAt _ job done scope before = KnownInTask job scope before
@@ -56,19 +56,19 @@ first_of_two (Err k) f b e = absurd (cc)
 -- ---- a name more
 
 -- what is known once a name more is declared
-record Declares (before after : Before) (name : List ℕ) (meaning : Meaning) : Type 0 where
+record Declares (before after : Before) (name : List ℕ) (meaning : Declaration) : Type 0 where
   pub task : after.open_task ≡ before.open_task
   pub top : after.top ≡ before.top
   pub names : (query : List ℕ) → known after query ≡ cond (bytes_eq name query) (Some meaning) (known before query)
 
-or_first : (b : Bool) (meaning : Meaning) (own top : Option Meaning) → option_or (cond b (Some meaning) own) top ≡ cond b (Some meaning) (option_or own top)
+or_first : (b : Bool) (meaning : Declaration) (own top : Option Declaration) → option_or (cond b (Some meaning) own) top ≡ cond b (Some meaning) (option_or own top)
 or_first true meaning own top = refl
 or_first false meaning own top = refl
 
-declared-own : (before : Before) (task name : List ℕ) (meaning : Meaning) → before.open_task ≡ Some task → declared name meaning before ≡ record before { own = with_name name meaning before.own }
+declared-own : (before : Before) (task name : List ℕ) (meaning : Declaration) → before.open_task ≡ Some task → declared name meaning before ≡ record before { own = with_name name meaning before.own }
 declared-own before task name meaning e = ap (λ t. declared_in t name meaning before) e
 
-declares-own : (before : Before) (task name : List ℕ) (meaning : Meaning) → before.open_task ≡ Some task → Declares before (record before { own = with_name name meaning before.own }) name meaning
+declares-own : (before : Before) (task name : List ℕ) (meaning : Declaration) → before.open_task ≡ Some task → Declares before (record before { own = with_name name meaning before.own }) name meaning
 declares-own before task name meaning e =
     record {
       task = refl;
@@ -79,15 +79,15 @@ declares-own before task name meaning e =
           ∙ ap (λ t. cond (bytes_eq name query) (Some meaning) (known_in t before.own before.top query)) (sym e);
     }
 
-declares-declared : (before : Before) (task name : List ℕ) (meaning : Meaning) → before.open_task ≡ Some task → Declares before (declared name meaning before) name meaning
+declares-declared : (before : Before) (task name : List ℕ) (meaning : Declaration) → before.open_task ≡ Some task → Declares before (declared name meaning before) name meaning
 declares-declared before task name meaning e =
     subst (λ after. Declares before after name meaning) (sym (declared-own before task name meaning e)) (declares-own before task name meaning e)
 
-declares-taken_by : (before after : Before) (task : Option (List ℕ)) (name : List ℕ) (meaning : Meaning) → Declares before after name meaning → Declares before (taken_by task meaning after) name meaning
+declares-taken_by : (before after : Before) (task : Option (List ℕ)) (name : List ℕ) (meaning : Declaration) → Declares before after name meaning → Declares before (taken_by task meaning after) name meaning
 declares-taken_by before after None name meaning d = d
 declares-taken_by before after (Some task) name meaning d = record { task = d.task; top = d.top; names = d.names }
 
-declares-taken : (before : Before) (task name : List ℕ) (meaning : Meaning) → before.open_task ≡ Some task → Declares before (taken name meaning before) name meaning
+declares-taken : (before : Before) (task name : List ℕ) (meaning : Declaration) → before.open_task ≡ Some task → Declares before (taken name meaning before) name meaning
 declares-taken before task name meaning e =
     declares-taken_by before (declared name meaning before) (declared name meaning before).open_task name meaning (declares-declared before task name meaning e)
 
@@ -110,7 +110,7 @@ top-quiet done before line same more k =
     }
 
 -- a line that declares an input, an output or an object
-top-held : (done : List Line) (before : Before) (line : Line) (name : List ℕ) (mode : Mode) (meaning : Meaning) (first second : List Entry)
+top-held : (done : List Line) (before : Before) (line : Line) (name : List ℕ) (mode : Mode) (meaning : Declaration) (first second : List Entry)
     → mode_known (Some meaning) ≡ Some mode
     → root_entries done ≡ first ++ second
     → root_entries (done ++ line ∷ []) ≡ first ++ (name, mode) ∷ second
@@ -158,7 +158,7 @@ top-first : (job done : List Line) (scope : Scope) (before : Before) (line : Lin
 top-first job done scope before line.Header stands k = top-quiet done before line.Header (top-none done line.Header refl refl) (λ rest. refl) k
 top-first job done scope before line stands k = absurd (false≢true stands)
 
-top-step : (job done rest : List Line) (n : ℕ) (scope : Scope) (before : Before) (line : Line) → job ≡ done ++ line ∷ rest → IsTrue (may_stand (Top n) line) → check_line before line ≡ Ok tt → KnownAtTop done before → KnownAt (places.after (Top n) line) job (done ++ line ∷ []) (scope_after scope line) (checks.after before line)
+top-step : (job done rest : List Line) (n : ℕ) (scope : Scope) (before : Before) (line : Line) → job ≡ done ++ line ∷ rest → IsTrue (may_stand (Top n) line) → check_line before line ≡ Ok tt → KnownAtTop done before → KnownAt (positions.after (Top n) line) job (done ++ line ∷ []) (scope_after scope line) (checks.after before line)
 top-step job done rest n scope before (line.Note text) whole stands passes k =
     top-quiet done before (line.Note text) (top-none done (line.Note text) refl refl) (λ more. refl) k
 top-step job done rest n scope before (line.Input name) whole stands passes k =
@@ -204,7 +204,7 @@ task-quiet job scope before line access made k =
     }
 
 -- a line that declares a variable
-task-variable : (job : List Line) (scope : Scope) (before after : Before) (line : Line) (name : List ℕ) (meaning : Meaning) → access_entry line ≡ [] → made_entry line ≡ [] → mode_known (Some meaning) ≡ None → fresh (known before name) ≡ Ok tt → Declares before after name meaning → KnownInTask job scope before → KnownInTask job (more_lines scope line) after
+task-variable : (job : List Line) (scope : Scope) (before after : Before) (line : Line) (name : List ℕ) (meaning : Declaration) → access_entry line ≡ [] → made_entry line ≡ [] → mode_known (Some meaning) ≡ None → fresh (known before name) ≡ Ok tt → Declares before after name meaning → KnownInTask job scope before → KnownInTask job (more_lines scope line) after
 task-variable job scope before after line name meaning access made variable is_fresh d k =
     record {
       task = d.task ∙ k.task;
@@ -215,7 +215,7 @@ task-variable job scope before after line name meaning access made variable is_f
     }
 
 -- a line that declares something held
-task-held : (job : List Line) (scope : Scope) (before after : Before) (line : Line) (name : List ℕ) (mode : Mode) (meaning : Meaning) (first second : List Entry)
+task-held : (job : List Line) (scope : Scope) (before after : Before) (line : Line) (name : List ℕ) (mode : Mode) (meaning : Declaration) (first second : List Entry)
     → mode_known (Some meaning) ≡ Some mode
     → entries job scope ≡ first ++ second
     → entries job (more_lines scope line) ≡ first ++ (name, mode) ∷ second
@@ -232,7 +232,7 @@ task-held job scope before after line name mode meaning first second held old ne
     }
 
 -- a line that makes a queue or an object
-task-makes : (job : List Line) (scope : Scope) (before : Before) (line : Line) (name : List ℕ) (mode : Mode) (meaning : Meaning) → access_entry line ≡ [] → made_entry line ≡ (name, mode) ∷ [] → mode_known (Some meaning) ≡ Some mode → fresh (known before name) ≡ Ok tt → KnownInTask job scope before → KnownInTask job (more_lines scope line) (declared name meaning before)
+task-makes : (job : List Line) (scope : Scope) (before : Before) (line : Line) (name : List ℕ) (mode : Mode) (meaning : Declaration) → access_entry line ≡ [] → made_entry line ≡ (name, mode) ∷ [] → mode_known (Some meaning) ≡ Some mode → fresh (known before name) ≡ Ok tt → KnownInTask job scope before → KnownInTask job (more_lines scope line) (declared name meaning before)
 task-makes job scope before line name mode meaning access made held is_fresh k =
     let first = roots_held job scope.name in
     let second = flat_map access_entry scope.lines in
@@ -252,7 +252,7 @@ task-takes job scope before name mode kind is_fresh k =
     task-held job scope before (taken name (Held mode kind) before) (line.Access mode name kind) name mode (Held mode kind) (first ++ second) third refl (sym (append_assoc first second third))
     (entries-more job scope (line.Access mode name kind) ∙ access-between first second third (name, mode)) is_fresh (declares-taken before scope.name name (Held mode kind) k.task) k
 
-task-step : (job done : List Line) (scope : Scope) (before : Before) (line : Line) → IsTrue (may_stand InTask line) → check_line before line ≡ Ok tt → KnownInTask job scope before → KnownAt (places.after InTask line) job (done ++ line ∷ []) (scope_after scope line) (checks.after before line)
+task-step : (job done : List Line) (scope : Scope) (before : Before) (line : Line) → IsTrue (may_stand InTask line) → check_line before line ≡ Ok tt → KnownInTask job scope before → KnownAt (positions.after InTask line) job (done ++ line ∷ []) (scope_after scope line) (checks.after before line)
 task-step job done scope before (line.Note text) stands passes k = task-quiet job scope before (line.Note text) refl refl k
 task-step job done scope before (line.Param name kind) stands passes k =
     task-variable job scope before (taken name (Variable kind) before) (line.Param name kind) name (Variable kind) refl refl refl (first_of_two (fresh (known before name)) _ tt passes) (declares-taken before scope.name name (Variable kind) k.task) k
@@ -281,26 +281,26 @@ do-quiet blocks scope before (line.Queue name kind) stands = absurd (false≢tru
 do-quiet blocks scope before line.Do stands = absurd (false≢true stands)
 do-quiet blocks scope before line stands = (refl, refl, refl, refl)
 
-after-do : (blocks : List Block) (line : Line) (job done : List Line) (scope : Scope) (before : Before) → KnownInTask job scope before → KnownAt (places.after_statement blocks line) job done scope before
+after-do : (blocks : List Block) (line : Line) (job done : List Line) (scope : Scope) (before : Before) → KnownInTask job scope before → KnownAt (positions.after_statement blocks line) job done scope before
 after-do [] line.Else job done scope before k = k
 after-do (innermost ∷ blocks) line.Else job done scope before k = k
 after-do [] line.End job done scope before k = k
 after-do (innermost ∷ blocks) line.End job done scope before k = k
 after-do blocks line job done scope before k = k
 
-do-step : (job done : List Line) (blocks : List Block) (scope : Scope) (before : Before) (line : Line) → IsTrue (may_stand (InDo blocks) line) → KnownInTask job scope before → KnownAt (places.after (InDo blocks) line) job (done ++ line ∷ []) (scope_after scope line) (checks.after before line)
+do-step : (job done : List Line) (blocks : List Block) (scope : Scope) (before : Before) (line : Line) → IsTrue (may_stand (InDo blocks) line) → KnownInTask job scope before → KnownAt (positions.after (InDo blocks) line) job (done ++ line ∷ []) (scope_after scope line) (checks.after before line)
 do-step job done blocks scope before line stands k =
     let quiet = do-quiet blocks scope before line stands in
     let after = after-do blocks line job (done ++ line ∷ []) (more_lines scope line) before (task-quiet job scope before line quiet.0 quiet.1 k) in
-    subst (λ s. KnownAt (places.after (InDo blocks) line) job (done ++ line ∷ []) s (checks.after before line)) (sym quiet.2)
-    (subst (λ b. KnownAt (places.after (InDo blocks) line) job (done ++ line ∷ []) (more_lines scope line) b) (sym quiet.3) after)
+    subst (λ s. KnownAt (positions.after (InDo blocks) line) job (done ++ line ∷ []) s (checks.after before line)) (sym quiet.2)
+    (subst (λ b. KnownAt (positions.after (InDo blocks) line) job (done ++ line ∷ []) (more_lines scope line) b) (sym quiet.3) after)
 
-outside-step : (job done : List Line) (scope : Scope) (before : Before) (line : Line) → IsTrue (may_stand Outside line) → KnownInTask job scope before → KnownAt (places.after Outside line) job (done ++ line ∷ []) (scope_after scope line) (checks.after before line)
+outside-step : (job done : List Line) (scope : Scope) (before : Before) (line : Line) → IsTrue (may_stand Outside line) → KnownInTask job scope before → KnownAt (positions.after Outside line) job (done ++ line ∷ []) (scope_after scope line) (checks.after before line)
 outside-step job done scope before (line.Note text) stands k = task-quiet job scope before (line.Note text) refl refl k
 outside-step job done scope before (line.Task name) stands k = opens job before name k.top
 outside-step job done scope before line stands k = absurd (false≢true stands)
 
-known-step : (job done rest : List Line) (place : Place) (scope : Scope) (before : Before) (line : Line) → job ≡ done ++ line ∷ rest → IsTrue (may_stand place line) → check_line before line ≡ Ok tt → KnownAt place job done scope before → KnownAt (places.after place line) job (done ++ line ∷ []) (scope_after scope line) (checks.after before line)
+known-step : (job done rest : List Line) (place : Position) (scope : Scope) (before : Before) (line : Line) → job ≡ done ++ line ∷ rest → IsTrue (may_stand place line) → check_line before line ≡ Ok tt → KnownAt place job done scope before → KnownAt (positions.after place line) job (done ++ line ∷ []) (scope_after scope line) (checks.after before line)
 known-step job done rest First scope before line whole stands passes k = top-first job done scope before line stands k
 known-step job done rest (Top n) scope before line whole stands passes k = top-step job done rest n scope before line whole stands passes k
 known-step job done rest InTask scope before line whole stands passes k = task-step job done scope before line stands passes k
@@ -317,8 +317,8 @@ known-more job done rest line whole stands passes k =
     let next = known-step job done rest (place_from First done) (scope_from start done) (before_from at_start done) line whole stands passes k in
     let all = done ++ line ∷ [] in
     subst (λ p. KnownAt p job all (scope_from start all) (before_from at_start all)) (sym (place-push First done line))
-    (subst (λ s. KnownAt (places.after (place_from First done) line) job all s (before_from at_start all)) (sym (scope-push start done line))
-    (subst (λ b. KnownAt (places.after (place_from First done) line) job all (scope_after (scope_from start done) line) b) (sym (before-push at_start done line)) next))
+    (subst (λ s. KnownAt (positions.after (place_from First done) line) job all s (before_from at_start all)) (sym (scope-push start done line))
+    (subst (λ b. KnownAt (positions.after (place_from First done) line) job all (scope_after (scope_from start done) line) b) (sym (before-push at_start done line)) next))
 
 -- what is known at each line of a job that passes the check
 pub known-at : (job : List Line) → IsPlaced First job → Passes at_start job → (i : ℕ) → KnownAfter job (take i job)

@@ -7,22 +7,22 @@ use Rattle.swan_model.specs.declared.rights.Mode.{Mode}
 use Rattle.swan_model.specs.declared.value.Kind.TheVariants as kind
 use Rattle.job_reader.specs.Faults.{◌>>=◌}
 use Rattle.job_reader.specs.Jobs.{IsPlaced, may_stand}
-use Rattle.job_reader.specs.Places as places
-use Rattle.job_reader.specs.Places.{is_open}
+use Rattle.job_reader.specs.Positions as positions
+use Rattle.job_reader.specs.Positions.{is_open}
 use Rattle.job_reader.specs.declared.atom.Atom.{Atom}
 use Rattle.job_reader.specs.declared.block.Block.{Block as Opened}
 use Rattle.job_reader.specs.declared.fault.JobKind.{JobKind}
 use Rattle.job_reader.specs.declared.fault.JobKind.TheVariants as fault
 use Rattle.job_reader.specs.declared.line.Line.{Line}
 use Rattle.job_reader.specs.declared.line.Line.TheVariants as line
-use Rattle.job_reader.specs.declared.place.Place.{Place}
-use Rattle.job_reader.specs.declared.place.Place.TheVariants.{First, Top, InTask, InDo, Outside}
+use Rattle.job_reader.specs.declared.position.Position.{Position}
+use Rattle.job_reader.specs.declared.position.Position.TheVariants.{First, Top, InTask, InDo, Outside}
 use Rattle.privilege_check.specs.Names.{Before, at_start, known}
 use Rattle.privilege_check.specs.Names as checks
 use Rattle.privilege_check.specs.Spawns as spawns
 use Rattle.privilege_check.specs.Spawns.{arguments, as_child, is_lent_twice, lent}
 use Rattle.privilege_check.specs.Uses.{value}
-use Rattle.privilege_check.specs.declared.meaning.Meaning.{Meaning}
+use Rattle.privilege_check.specs.declared.declaration.Declaration.{Declaration}
 use Rattle.job_body.specs.Steps as steps
 use Rattle.job_body.specs.Tasks.{Scope, before_task, is_main, scope_at, task_index, top_lines}
 use Rattle.job_body.proofs.RightsEntries.{access_entry, entries, held_at, held_with, made_entry, names-entries, root_entries, roots_held}
@@ -50,7 +50,7 @@ is_statement line.End = true
 is_statement _ = false
 
 -- a statement of a task stands after its `do`
-pub in-do : (place : Place) (line : Line) → is_open place ≡ true → may_stand place line ≡ true → is_statement line ≡ true → (inside : List Opened) × (place ≡ InDo inside)
+pub in-do : (place : Position) (line : Line) → is_open place ≡ true → may_stand place line ≡ true → is_statement line ≡ true → (inside : List Opened) × (place ≡ InDo inside)
 in-do First line within stands e = absurd (false≢true within)
 in-do (Top n) line within stands e = absurd (false≢true within)
 in-do Outside line within stands e = absurd (false≢true within)
@@ -66,12 +66,12 @@ in-do InTask line within stands e = absurd (false≢true stands)
 
 -- ---- after `do` a task takes nothing more
 
-abbrev is_past : Place → Bool
+abbrev is_past : Position → Bool
 is_past (InDo inside) = true
 is_past Outside = true
 is_past _ = false
 
-past-statement : (inside : List Opened) (line : Line) → is_past (places.after_statement inside line) ≡ true
+past-statement : (inside : List Opened) (line : Line) → is_past (positions.after_statement inside line) ≡ true
 past-statement inside (line.If a) = refl
 past-statement inside (line.While a) = refl
 past-statement [] line.Else = refl
@@ -80,7 +80,7 @@ past-statement [] line.End = refl
 past-statement (innermost ∷ inside) line.End = refl
 past-statement inside line = refl
 
-past-line : (place : Place) (line : Line) → is_past place ≡ true → may_stand place line ≡ true → (access_entry line ≡ []) × (meaning_of line ≡ [])
+past-line : (place : Position) (line : Line) → is_past place ≡ true → may_stand place line ≡ true → (access_entry line ≡ []) × (meaning_of line ≡ [])
 past-line First line past stands = absurd (false≢true past)
 past-line (Top n) line past stands = absurd (false≢true past)
 past-line InTask line past stands = absurd (false≢true past)
@@ -101,13 +101,13 @@ takes-more (line.Param name k) lines none rest = absurd (let e = none.1 in cc)
 takes-more (line.Access mode name k) lines none rest = absurd (let e = none.0 in cc)
 takes-more line lines none rest = record { access = rest.access; meaning = rest.meaning }
 
-takes-nothing : (lines : List Line) (place : Place) → is_past place ≡ true → IsPlaced place lines → TakesNothing lines
+takes-nothing : (lines : List Line) (place : Position) → is_past place ≡ true → IsPlaced place lines → TakesNothing lines
 takes-nothing [] place past placed = record { access = refl; meaning = refl }
 takes-nothing (line ∷ lines) First past placed = absurd (false≢true past)
 takes-nothing (line ∷ lines) (Top n) past placed = absurd (false≢true past)
 takes-nothing (line ∷ lines) InTask past placed = absurd (false≢true past)
 takes-nothing (line ∷ lines) (InDo inside) past placed =
-    takes-more line lines (past-line (InDo inside) line past placed.0) (takes-nothing lines (places.after_statement inside line) (past-statement inside line) placed.1)
+    takes-more line lines (past-line (InDo inside) line past placed.0) (takes-nothing lines (positions.after_statement inside line) (past-statement inside line) placed.1)
 takes-nothing (line.Task name ∷ lines) Outside past placed = record { access = refl; meaning = refl }
 takes-nothing (line.Note text ∷ lines) Outside past placed =
     takes-more (line.Note text) lines (refl, refl) (takes-nothing lines Outside refl placed.1)
@@ -154,7 +154,7 @@ before-split before [] (suc i) = refl
 before-split before (line ∷ lines) (suc i) = before-split (checks.after before line) lines i
 
 -- what the check knows of a task at a statement is what its lines say
-pub task-known : (job : List Line) → Passes at_start job → (i : ℕ) (held : List Mode) → IsStatementAt job i held → (task : List ℕ) (taken : List Meaning) → (before_at job i).tasks task ≡ Some taken → IsTaskAt job (task_index job task) task taken
+pub task-known : (job : List Line) → Passes at_start job → (i : ℕ) (held : List Mode) → IsStatementAt job i held → (task : List ℕ) (taken : List Declaration) → (before_at job i).tasks task ≡ Some taken → IsTaskAt job (task_index job task) task taken
 task-known job passes i held at task taken is =
     let all = kept (drop i job) (before_at job i) (scope_at job i).name task taken at.task (passes-from at_start job i passes) is in
     let ends : (before_from at_start job).tasks task ≡ Some taken =
@@ -168,14 +168,14 @@ task-known job passes i held at task taken is =
       nothing-more false = append-nil taken
 
 pub record SpawnPasses (before : Before) (task : List ℕ) (args : List Atom) : Type 0 where
-  pub taken : List Meaning
+  pub taken : List Declaration
   pub known : before.tasks task ≡ Some taken
   pub child : is_main task ≡ false
   pub all : arguments (checks.known before) taken args ≡ Ok tt
   pub once : is_lent_twice (lent taken args) ≡ false
   pub count : length args ≡ length taken
 
-child-parts : (task : List ℕ) (takes : Option (List Meaning)) (next : List Meaning → Result (Unit {0}) JobKind) → (as_child task takes >>= next) ≡ Ok tt → (taken : List Meaning) × (takes ≡ Some taken) × (is_main task ≡ false) × (next taken ≡ Ok tt)
+child-parts : (task : List ℕ) (takes : Option (List Declaration)) (next : List Declaration → Result (Unit {0}) JobKind) → (as_child task takes >>= next) ≡ Ok tt → (taken : List Declaration) × (takes ≡ Some taken) × (is_main task ≡ false) × (next taken ≡ Ok tt)
 child-parts task None next e = absurd (cc)
 child-parts task (Some taken) next e = let is = go (is_main task) refl e in (taken, refl, is.0, is.1) where
   go : (b : Bool) → is_main task ≡ b → ((if b then Err fault.MainParams else Ok taken) >>= next) ≡ Ok tt → (is_main task ≡ false) × (next taken ≡ Ok tt)
@@ -201,7 +201,7 @@ spawn-passes before fuel task args e =
     let rest = second-part (value (known before) (Some kind.Int) fuel) (as_child task (before.tasks task) >>= spawns.given (known before) args) e in
     let child = child-parts task (before.tasks task) (spawns.given (known before) args) rest in
     go child.0 child.1 child.2 (nat_eq (length args) (length child.0)) refl child.3 where
-      go : (taken : List Meaning) → before.tasks task ≡ Some taken → is_main task ≡ false → (b : Bool) → nat_eq (length args) (length taken) ≡ b → (if b then (arguments (known before) taken args >>= λ _. spawns.unaliased (lent taken args)) else Err fault.Arity) ≡ Ok tt → SpawnPasses before task args
+      go : (taken : List Declaration) → before.tasks task ≡ Some taken → is_main task ≡ false → (b : Bool) → nat_eq (length args) (length taken) ≡ b → (if b then (arguments (known before) taken args >>= λ _. spawns.unaliased (lent taken args)) else Err fault.Arity) ≡ Ok tt → SpawnPasses before task args
       go taken is other false count e = absurd (cc)
       go taken is other true count e =
           record {
@@ -215,7 +215,7 @@ spawn-passes before fuel task args e =
 
 -- ---- where a task begins
 
-opens-task : (place : Place) (name : List ℕ) → may_stand place (line.Task name) ≡ true → places.after place (line.Task name) ≡ InTask
+opens-task : (place : Position) (name : List ℕ) → may_stand place (line.Task name) ≡ true → positions.after place (line.Task name) ≡ InTask
 opens-task First name stands = absurd (false≢true stands)
 opens-task (Top n) name stands = refl
 opens-task InTask name stands = absurd (false≢true stands)
@@ -223,7 +223,7 @@ opens-task (InDo inside) name stands = absurd (false≢true stands)
 opens-task Outside name stands = refl
 
 -- a task begins with what the top level lends it and with what it takes
-pub task-stands : (job : List Line) → IsPlaced First job → (index : ℕ) (name : List ℕ) (taken : List Meaning) → IsTaskAt job index name taken → Stands job (index + 1) (modes (roots_held job name) ++ held_modes taken)
+pub task-stands : (job : List Line) → IsPlaced First job → (index : ℕ) (name : List ℕ) (taken : List Declaration) → IsTaskAt job index name taken → Stands job (index + 1) (modes (roots_held job name) ++ held_modes taken)
 task-stands job placed index name taken at =
     let opened : Scope = record { name = name; lines = [] } in
     let within : place_at job (index + 1) ≡ InTask =
@@ -239,6 +239,6 @@ task-stands job placed index name taken at =
     }
 
 -- a child begins with what its task takes
-pub child-stands : (job : List Line) → IsPlaced First job → (index : ℕ) (name : List ℕ) (taken : List Meaning) → is_main name ≡ false → IsTaskAt job index name taken → Stands job (index + 1) (held_modes taken)
+pub child-stands : (job : List Line) → IsPlaced First job → (index : ℕ) (name : List ℕ) (taken : List Declaration) → is_main name ≡ false → IsTaskAt job index name taken → Stands job (index + 1) (held_modes taken)
 child-stands job placed index name taken other at =
     subst (λ b. Stands job (index + 1) (modes (if b then root_entries (top_lines job) else []) ++ held_modes taken)) other (task-stands job placed index name taken at)

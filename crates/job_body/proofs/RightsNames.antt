@@ -5,8 +5,8 @@ use Rattle.std.proofs.lemmas.Bool.{cases_Bool}
 use Rattle.std.proofs.lemmas.Slice.Eq.{bytes_eq-Decides}
 use Rattle.swan_model.specs.declared.rights.Mode.{Mode}
 use Rattle.privilege_check.specs.Names.{Names}
-use Rattle.privilege_check.specs.declared.meaning.Meaning.{Meaning}
-use Rattle.privilege_check.specs.declared.meaning.Meaning.TheVariants.{Variable, Held}
+use Rattle.privilege_check.specs.declared.declaration.Declaration.{Declaration}
+use Rattle.privilege_check.specs.declared.declaration.Declaration.TheVariants.{Variable, Held}
 
 abbrev pub Entry : Type 0
 Entry = List ℕ × Mode
@@ -23,7 +23,7 @@ mode_of [] name = None
 mode_of (entry ∷ entries) name = cond (bytes_eq entry.0 name) (Some entry.1) (mode_of entries name)
 
 -- how a name is held, by what it stands for
-abbrev pub mode_known : Option Meaning → Option Mode
+abbrev pub mode_known : Option Declaration → Option Mode
 mode_known None = None
 mode_known (Some (Variable k)) = None
 mode_known (Some (Held mode k)) = Some mode
@@ -63,7 +63,7 @@ mode_of-between ((first, held) ∷ before) after name mode fresh query =
           absurd (some_none held (ap (λ t. cond t (Some held) (mode_of (before ++ after) name)) (sym same_first) ∙ e))
 
 -- a name that is new, and stands for something held
-pub declared-held : (before after : List Entry) (old new : Names) (name : List ℕ) (mode : Mode) (meaning : Meaning) → mode_known (Some meaning) ≡ Some mode
+pub declared-held : (before after : List Entry) (old new : Names) (name : List ℕ) (mode : Mode) (meaning : Declaration) → mode_known (Some meaning) ≡ Some mode
     → ((query : List ℕ) → mode_of (before ++ after) query ≡ mode_known (old query))
     → old name ≡ None
     → ((query : List ℕ) → new query ≡ cond (bytes_eq name query) (Some meaning) (old query))
@@ -77,7 +77,7 @@ declared-held before after old new name mode meaning held known fresh more query
       choice false = known query
 
 -- a name that is new, and stands for a variable
-pub declared-variable : (entries : List Entry) (old new : Names) (name : List ℕ) (meaning : Meaning) → mode_known (Some meaning) ≡ None
+pub declared-variable : (entries : List Entry) (old new : Names) (name : List ℕ) (meaning : Declaration) → mode_known (Some meaning) ≡ None
     → ((query : List ℕ) → mode_of entries query ≡ mode_known (old query))
     → old name ≡ None
     → ((query : List ℕ) → new query ≡ cond (bytes_eq name query) (Some meaning) (old query))

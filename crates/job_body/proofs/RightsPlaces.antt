@@ -2,10 +2,10 @@
 use Rattle.std.proofs.Common.{◌≡◌, ℕ, zero, suc, ◌+◌, Option, Some, None, Ok, List, [], ◌∷◌, ◌++◌, take, drop, slice_get, IsTrue, refl, ap, ◌∙◌, subst, add-one}
 use native.Mathlib.Numerals.{unary_clauses}
 use Rattle.job_reader.specs.Jobs.{IsPlaced, may_stand}
-use Rattle.job_reader.specs.Places as places
+use Rattle.job_reader.specs.Positions as positions
 use Rattle.job_reader.specs.declared.line.Line.{Line}
-use Rattle.job_reader.specs.declared.place.Place.{Place}
-use Rattle.job_reader.specs.declared.place.Place.TheVariants.{First}
+use Rattle.job_reader.specs.declared.position.Position.{Position}
+use Rattle.job_reader.specs.declared.position.Position.TheVariants.{First}
 use Rattle.privilege_check.specs.FirstFault.{check_line}
 use Rattle.privilege_check.specs.Names as checks
 use Rattle.privilege_check.specs.Names.{Before, at_start}
@@ -14,16 +14,16 @@ use Rattle.job_body.proofs.Known.{scope-push, take-push}
 use Rattle.job_body.proofs.Suffixes.{drop_item}
 
 -- the place after lines, and what they say
-abbrev pub place_from : Place → List Line → Place
+abbrev pub place_from : Position → List Line → Position
 place_from place [] = place
-place_from place (line ∷ lines) = place_from (places.after place line) lines
+place_from place (line ∷ lines) = place_from (positions.after place line) lines
 
 abbrev pub before_from : Before → List Line → Before
 before_from before [] = before
 before_from before (line ∷ lines) = before_from (checks.after before line) lines
 
 -- the place at an index, and what the lines before it say
-abbrev pub place_at : List Line → ℕ → Place
+abbrev pub place_at : List Line → ℕ → Position
 place_at job i = place_from First (take i job)
 
 abbrev pub before_at : List Line → ℕ → Before
@@ -47,15 +47,15 @@ take-past [] (suc i) h = rw add-one refl
 take-past (y ∷ ys) zero h = absurd (cc)
 take-past (y ∷ ys) (suc i) h = simp unary_clauses (simp unary_clauses at (ap (λ zs. y ∷ zs) (take-past ys i h)))
 
-pub place-push : (place : Place) (lines : List Line) (line : Line) → place_from place (lines ++ line ∷ []) ≡ places.after (place_from place lines) line
+pub place-push : (place : Position) (lines : List Line) (line : Line) → place_from place (lines ++ line ∷ []) ≡ positions.after (place_from place lines) line
 place-push place [] line = refl
-place-push place (first ∷ lines) line = place-push (places.after place first) lines line
+place-push place (first ∷ lines) line = place-push (positions.after place first) lines line
 
 pub before-push : (before : Before) (lines : List Line) (line : Line) → before_from before (lines ++ line ∷ []) ≡ checks.after (before_from before lines) line
 before-push before [] line = refl
 before-push before (first ∷ lines) line = before-push (checks.after before first) lines line
 
-pub place-next : (job : List Line) (i : ℕ) (line : Line) → slice_get job i ≡ Some line → place_at job (i + 1) ≡ places.after (place_at job i) line
+pub place-next : (job : List Line) (i : ℕ) (line : Line) → slice_get job i ≡ Some line → place_at job (i + 1) ≡ positions.after (place_at job i) line
 place-next job i line h = ap (place_from First) (take-push job i line h) ∙ place-push First (take i job) line
 
 pub scope-next : (job : List Line) (i : ℕ) (line : Line) → slice_get job i ≡ Some line → scope_at job (i + 1) ≡ scope_after (scope_at job i) line
@@ -71,10 +71,10 @@ along job P first past more (suc i) = rw⁻¹ add-one (go (slice_get job i) refl
 
 -- ---- the rest of a job
 
-pub placed-from : (place : Place) (lines : List Line) (i : ℕ) → IsPlaced place lines → IsPlaced (place_from place (take i lines)) (drop i lines)
+pub placed-from : (place : Position) (lines : List Line) (i : ℕ) → IsPlaced place lines → IsPlaced (place_from place (take i lines)) (drop i lines)
 placed-from place lines zero placed = placed
 placed-from place [] (suc i) placed = placed
-placed-from place (line ∷ lines) (suc i) placed = placed-from (places.after place line) lines i placed.1
+placed-from place (line ∷ lines) (suc i) placed = placed-from (positions.after place line) lines i placed.1
 
 pub passes-from : (before : Before) (lines : List Line) (i : ℕ) → Passes before lines → Passes (before_from before (take i lines)) (drop i lines)
 passes-from before lines zero passes = passes

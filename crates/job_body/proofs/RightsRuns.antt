@@ -12,7 +12,7 @@ use Rattle.swan_model.specs.SerialStep.{Effect, goes_on, spawns, ends, faults, a
 use Rattle.job_reader.specs.Jobs.{IsJob, IsPlaced}
 use Rattle.job_reader.specs.declared.line.Line.{Line}
 use Rattle.job_reader.specs.declared.line.Line.TheVariants as line
-use Rattle.job_reader.specs.declared.place.Place.TheVariants.{First}
+use Rattle.job_reader.specs.declared.position.Position.TheVariants.{First}
 use Rattle.privilege_check.specs.FirstFault.{first_fault}
 use Rattle.privilege_check.specs.Names.{at_start}
 use Rattle.job_body.specs.contracts.body.JobBodyBody.TheImpl.{ghosts}

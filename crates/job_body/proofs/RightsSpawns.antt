@@ -22,8 +22,8 @@ use Rattle.privilege_check.specs.Names.{Names}
 use Rattle.privilege_check.specs.Spawns as spawns
 use Rattle.privilege_check.specs.Spawns.{argument, arguments, in_front_of, is_lent_twice, lent}
 use Rattle.privilege_check.specs.Uses.{as_held, held, is_asked, is_same_sort}
-use Rattle.privilege_check.specs.declared.meaning.Meaning.{Meaning}
-use Rattle.privilege_check.specs.declared.meaning.Meaning.TheVariants.{Variable, Held}
+use Rattle.privilege_check.specs.declared.declaration.Declaration.{Declaration}
+use Rattle.privilege_check.specs.declared.declaration.Declaration.TheVariants.{Variable, Held}
 use Rattle.job_body.specs.Standing.{Standing}
 use Rattle.job_body.specs.Steps.{give_of, place_at}
 use Rattle.job_body.proofs.RightsNames.{Entry, mode_at, mode_known, mode_of, modes, name_at, names, position}
@@ -37,7 +37,7 @@ pub record MayUse (entries : List Entry) (name : List ℕ) (mode : Mode) : Type 
   pub held : mode_of entries name ≡ Some own
   pub allowed : allows own mode ≡ true
 
-as_held-may : (asked : Option Kind) (mode : Mode) (meaning : Option Meaning) (k : Kind) → as_held asked mode meaning ≡ Ok k → (own : Mode) × (mode_known meaning ≡ Some own) × (allows own mode ≡ true)
+as_held-may : (asked : Option Kind) (mode : Mode) (meaning : Option Declaration) (k : Kind) → as_held asked mode meaning ≡ Ok k → (own : Mode) × (mode_known meaning ≡ Some own) × (allows own mode ≡ true)
 as_held-may asked mode None k e = absurd (cc)
 as_held-may asked mode (Some (Variable kind)) k e = absurd (cc)
 as_held-may asked mode (Some (Held own kind)) k e =
@@ -126,7 +126,7 @@ bind-parts : {A : Type 0} (r : Result A JobKind) (x : Result (Unit {0}) JobKind)
 bind-parts (Ok a) x e = ((a, refl), e)
 bind-parts (Err k) x e = absurd (cc)
 
-pub lent-may : (entries : List Entry) (known : Names) → ((query : List ℕ) → mode_of entries query ≡ mode_known (known query)) → (taken : List Meaning) (args : List Atom) → arguments known taken args ≡ Ok tt → AllMayUse entries (lent taken args)
+pub lent-may : (entries : List Entry) (known : Names) → ((query : List ℕ) → mode_of entries query ≡ mode_known (known query)) → (taken : List Declaration) (args : List Atom) → arguments known taken args ≡ Ok tt → AllMayUse entries (lent taken args)
 lent-may entries known names [] args e = tt
 lent-may entries known names (t ∷ taken) [] e = tt
 lent-may entries known names (Variable k ∷ taken) (a ∷ args) e =
@@ -137,7 +137,7 @@ lent-may entries known names (Held mode k ∷ taken) (atom.Name name ∷ args) e
     let parts = bind-parts (held known (Some k) mode name) (arguments known taken args) e in
     (held-may entries known (Some k) mode name parts.0.0 names parts.0.1, lent-may entries known names taken args parts.1)
 
-pub gives-lent : (job : List Line) (s : Standing) (known : Names) (taken : List Meaning) (args : List Atom) → arguments known taken args ≡ Ok tt → flat_map (give_of job s) (zip (map take_of_meaning taken) args) ≡ map (to_give job s.at) (lent taken args)
+pub gives-lent : (job : List Line) (s : Standing) (known : Names) (taken : List Declaration) (args : List Atom) → arguments known taken args ≡ Ok tt → flat_map (give_of job s) (zip (map take_of_meaning taken) args) ≡ map (to_give job s.at) (lent taken args)
 gives-lent job s known [] args e = refl
 gives-lent job s known (t ∷ taken) [] e = refl
 gives-lent job s known (Variable k ∷ taken) (a ∷ args) e =
@@ -152,7 +152,7 @@ gives-lent job s known (Held mode k ∷ taken) (atom.Name name ∷ args) e =
 suc_same : (n m : ℕ) → suc n ≡ suc m → n ≡ m
 suc_same n m e = cc
 
-pub modes-lent : (known : Names) (taken : List Meaning) (args : List Atom) → length args ≡ length taken → arguments known taken args ≡ Ok tt → map (λ (gift : List ℕ × Mode). gift.1) (lent taken args) ≡ held_modes taken
+pub modes-lent : (known : Names) (taken : List Declaration) (args : List Atom) → length args ≡ length taken → arguments known taken args ≡ Ok tt → map (λ (gift : List ℕ × Mode). gift.1) (lent taken args) ≡ held_modes taken
 modes-lent known [] args same e = refl
 modes-lent known (t ∷ taken) [] same e = absurd (cc)
 modes-lent known (Variable k ∷ taken) (a ∷ args) same e =

@@ -4,12 +4,12 @@ use Rattle.std.proofs.lemmas.Bool.{false≢true, true≢false}
 use Rattle.std.proofs.lemmas.List.{append-nil, map-append}
 use Rattle.swan_model.specs.declared.rights.Mode.{Mode}
 use Rattle.job_reader.specs.Jobs.{IsPlaced, may_stand}
-use Rattle.job_reader.specs.Places as places
-use Rattle.job_reader.specs.Places.{is_open}
+use Rattle.job_reader.specs.Positions as positions
+use Rattle.job_reader.specs.Positions.{is_open}
 use Rattle.job_reader.specs.declared.line.Line.{Line}
 use Rattle.job_reader.specs.declared.line.Line.TheVariants as line
-use Rattle.job_reader.specs.declared.place.Place.{Place}
-use Rattle.job_reader.specs.declared.place.Place.TheVariants.{First, Top, InTask, InDo, Outside}
+use Rattle.job_reader.specs.declared.position.Position.{Position}
+use Rattle.job_reader.specs.declared.position.Position.TheVariants.{First, Top, InTask, InDo, Outside}
 use Rattle.job_body.specs.Tasks.{Scope, before_task, executed_from, is_executed, passed_over, scope_after, scope_at}
 use Rattle.job_body.proofs.RightsEntries.{access_entry, made_entry, roots_held, held_at, held_with, flat-more}
 use Rattle.job_body.proofs.RightsNames.{Entry, modes}
@@ -63,7 +63,7 @@ held-same job i line is plain none =
     held-next job i line is plain ∙ ap (λ es. held_at job i ++ es) none ∙ append-nil (held_at job i)
 
 -- the next line, after one that makes nothing
-pub stands-on : (job : List Line) (i : ℕ) (line : Line) (held : List Mode) → slice_get job i ≡ Some line → is_task line ≡ false → made_entry line ≡ [] → is_open (places.after (place_at job i) line) ≡ true → Stands job i held → Stands job (i + 1) held
+pub stands-on : (job : List Line) (i : ℕ) (line : Line) (held : List Mode) → slice_get job i ≡ Some line → is_task line ≡ false → made_entry line ≡ [] → is_open (positions.after (place_at job i) line) ≡ true → Stands job i held → Stands job (i + 1) held
 stands-on job i line held is plain none within at =
     record {
       within = ap is_open (place-next job i line is) ∙ within;
@@ -71,7 +71,7 @@ stands-on job i line held is plain none within at =
     }
 
 -- the next line, after one that makes a queue or an object
-pub stands-made : (job : List Line) (i : ℕ) (line : Line) (held : List Mode) (name : List ℕ) (mode : Mode) → slice_get job i ≡ Some line → is_task line ≡ false → made_entry line ≡ (name, mode) ∷ [] → is_open (places.after (place_at job i) line) ≡ true → Stands job i held → Stands job (i + 1) (held ++ mode ∷ [])
+pub stands-made : (job : List Line) (i : ℕ) (line : Line) (held : List Mode) (name : List ℕ) (mode : Mode) → slice_get job i ≡ Some line → is_task line ≡ false → made_entry line ≡ (name, mode) ∷ [] → is_open (positions.after (place_at job i) line) ≡ true → Stands job i held → Stands job (i + 1) (held ++ mode ∷ [])
 stands-made job i line held name mode is plain made within at =
     record {
       within = ap is_open (place-next job i line is) ∙ within;
@@ -101,7 +101,7 @@ pub stands_here : (job : List Line) (i : ℕ) (line : Line) → IsPlaced First j
 stands_here job i line placed is =
     (subst (IsPlaced (place_at job i)) (drop_item job i line is) (placed-from First job i placed)).0
 
-passes-over : (place : Place) (line : Line) → is_open place ≡ true → may_stand place line ≡ true → is_executed line ≡ false → (is_task line ≡ false) × (made_entry line ≡ []) × (is_open (places.after place line) ≡ true)
+passes-over : (place : Position) (line : Line) → is_open place ≡ true → may_stand place line ≡ true → is_executed line ≡ false → (is_task line ≡ false) × (made_entry line ≡ []) × (is_open (positions.after place line) ≡ true)
 unfolding is_executed
 passes-over First line within stands e = absurd (false≢true within)
 passes-over (Top n) line within stands e = absurd (false≢true within)

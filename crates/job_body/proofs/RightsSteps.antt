@@ -15,16 +15,16 @@ use Rattle.swan_model.specs.SerialStep.{effect, moved}
 use Rattle.swan_model.specs.Values.{zero_of}
 use Rattle.job_reader.specs.Faults.{◌>>=◌}
 use Rattle.job_reader.specs.Jobs.{IsPlaced, may_stand}
-use Rattle.job_reader.specs.Places as places
-use Rattle.job_reader.specs.Places.{is_open}
+use Rattle.job_reader.specs.Positions as positions
+use Rattle.job_reader.specs.Positions.{is_open}
 use Rattle.job_reader.specs.declared.atom.Atom.{Atom}
 use Rattle.job_reader.specs.declared.block.Block.{Block as Opened}
 use Rattle.job_reader.specs.declared.block.Block.TheVariants as opened
 use Rattle.job_reader.specs.declared.fault.JobKind.{JobKind}
 use Rattle.job_reader.specs.declared.line.Line.{Line}
 use Rattle.job_reader.specs.declared.line.Line.TheVariants as line
-use Rattle.job_reader.specs.declared.place.Place.{Place}
-use Rattle.job_reader.specs.declared.place.Place.TheVariants.{First, Top, InTask, InDo, Outside}
+use Rattle.job_reader.specs.declared.position.Position.{Position}
+use Rattle.job_reader.specs.declared.position.Position.TheVariants.{First, Top, InTask, InDo, Outside}
 use Rattle.privilege_check.specs.FirstFault.{checked}
 use Rattle.privilege_check.specs.Names.{Names, at_start, known}
 use Rattle.privilege_check.specs.Spawns.{lent}
@@ -52,7 +52,7 @@ abbrev is_closing : Line → Bool
 is_closing line.End = true
 is_closing _ = false
 
-goes-on : (place : Place) (line : Line) → is_open place ≡ true → may_stand place line ≡ true → is_closing line ≡ false → is_open (places.after place line) ≡ true
+goes-on : (place : Position) (line : Line) → is_open place ≡ true → may_stand place line ≡ true → is_closing line ≡ false → is_open (positions.after place line) ≡ true
 goes-on First line within stands e = absurd (false≢true within)
 goes-on (Top n) line within stands e = absurd (false≢true within)
 goes-on Outside line within stands e = absurd (false≢true within)
@@ -144,7 +144,7 @@ ended-fits : (job : List Line) (n : ℕ) (store : Store) (a : Activation Standin
 ended-fits job n store a s step inside [] at b = tt
 ended-fits job n store a s step [] (block ∷ blocks) at b = absurd (let e = b.0 in cc)
 ended-fits job n store a s step (innermost ∷ inside) (block.If ∷ blocks) at b =
-    let within : is_open (places.after (place_at job s.at) line.End) ≡ true = ap (λ p. is_open (places.after p line.End)) at in
+    let within : is_open (positions.after (place_at job s.at) line.End) ≡ true = ap (λ p. is_open (positions.after p line.End)) at in
     let next = stands-on job s.at line.End (held_modes_of a.holdings) step.is refl refl within step.stands in
     work-fits job n store (moved a (steps.moved_on job s)) (to-fits job store a s line.End step (s.at + 1) next)
 ended-fits job n store a s step (innermost ∷ inside) (block.While i ∷ blocks) at b =
@@ -158,7 +158,7 @@ end-fits job n store a s step =
     (subst (λ p. BlocksAt p job (modes (held_at job s.at)) (blocks_at job s.at)) d.at (blocks-stand job step.placed s.at)))
 
 -- a line that opens a block, or goes past it
-opens-fits : (job : List Line) (store : Store) (a : Activation Standing) (s : Standing) (line : Line) (step : Step job store a s line) (innermost : Opened) (inside : List Opened) → is_task line ≡ false → made_entry line ≡ [] → places.after (place_at job s.at) line ≡ InDo (innermost ∷ inside) → Stands job (exit_at job s.at).otherwise (held_modes_of a.holdings) × Stands job (exit_at job s.at).after (held_modes_of a.holdings)
+opens-fits : (job : List Line) (store : Store) (a : Activation Standing) (s : Standing) (line : Line) (step : Step job store a s line) (innermost : Opened) (inside : List Opened) → is_task line ≡ false → made_entry line ≡ [] → positions.after (place_at job s.at) line ≡ InDo (innermost ∷ inside) → Stands job (exit_at job s.at).otherwise (held_modes_of a.holdings) × Stands job (exit_at job s.at).after (held_modes_of a.holdings)
 opens-fits job store a s line step innermost inside plain none at =
     exit-stands job s.at innermost inside (held_modes_of a.holdings) step.placed (place-next job s.at line step.is ∙ at)
     (ap modes (held-same job s.at line step.is plain none) ∙ sym step.stands.holds)
@@ -166,27 +166,27 @@ opens-fits job store a s line step innermost inside plain none at =
 if-fits : (job : List Line) (n : ℕ) (store : Store) (a : Activation Standing) (s : Standing) (c : Atom) (step : Step job store a s (line.If c)) (b : Bool) → StepFits job n store a ((if b then steps.moved_on job s else steps.moved_to job s (exit_at job s.at).otherwise), ask.Work)
 if-fits job n store a s c step b =
     let d = doing job store a s (line.If c) step refl in
-    let out = opens-fits job store a s (line.If c) step opened.If d.inside refl refl (ap (λ p. places.after p (line.If c)) d.at) in
+    let out = opens-fits job store a s (line.If c) step opened.If d.inside refl refl (ap (λ p. positions.after p (line.If c)) d.at) in
     branch-fits job n store a b (steps.moved_on job s) (steps.moved_to job s (exit_at job s.at).otherwise)
     (on-fits job store a s (line.If c) step refl refl refl) (to-fits job store a s (line.If c) step (exit_at job s.at).otherwise out.0)
 
 while-fits : (job : List Line) (n : ℕ) (store : Store) (a : Activation Standing) (s : Standing) (c : Atom) (step : Step job store a s (line.While c)) (b : Bool) → StepFits job n store a ((if b then steps.moved_on job s else steps.moved_to job s (exit_at job s.at).after), ask.Work)
 while-fits job n store a s c step b =
     let d = doing job store a s (line.While c) step refl in
-    let out = opens-fits job store a s (line.While c) step opened.While d.inside refl refl (ap (λ p. places.after p (line.While c)) d.at) in
+    let out = opens-fits job store a s (line.While c) step opened.While d.inside refl refl (ap (λ p. positions.after p (line.While c)) d.at) in
     branch-fits job n store a b (steps.moved_on job s) (steps.moved_to job s (exit_at job s.at).after)
     (on-fits job store a s (line.While c) step refl refl refl) (to-fits job store a s (line.While c) step (exit_at job s.at).after out.1)
 
-after-else : (inside : List Opened) → places.takes_else inside ≡ true → (others : List Opened) × (places.after_else inside ≡ InDo (opened.Else ∷ others))
+after-else : (inside : List Opened) → positions.takes_else inside ≡ true → (others : List Opened) × (positions.after_else inside ≡ InDo (opened.Else ∷ others))
 after-else [] e = absurd (false≢true e)
 after-else (innermost ∷ inside) e = (inside, refl)
 
 else-fits : (job : List Line) (n : ℕ) (store : Store) (a : Activation Standing) (s : Standing) (step : Step job store a s line.Else) → StepFits job n store a (steps.moved_to job s (exit_at job s.at).after, ask.Work)
 else-fits job n store a s step =
     let d = doing job store a s line.Else step refl in
-    let may : places.takes_else d.inside ≡ true = subst (λ p. may_stand p line.Else ≡ true) d.at (at-line job store a s line.Else step).stands in
+    let may : positions.takes_else d.inside ≡ true = subst (λ p. may_stand p line.Else ≡ true) d.at (at-line job store a s line.Else step).stands in
     let others = after-else d.inside may in
-    let out = opens-fits job store a s line.Else step opened.Else others.0 refl refl (ap (λ p. places.after p line.Else) d.at ∙ others.1) in
+    let out = opens-fits job store a s line.Else step opened.Else others.0 refl refl (ap (λ p. positions.after p line.Else) d.at ∙ others.1) in
     work-fits job n store (moved a (steps.moved_to job s (exit_at job s.at).after)) (to-fits job store a s line.Else step (exit_at job s.at).after out.1)
 
 -- ---- spawns

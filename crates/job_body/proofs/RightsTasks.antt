@@ -13,8 +13,8 @@ use Rattle.job_reader.specs.declared.line.Line.TheVariants as line
 use Rattle.privilege_check.specs.FirstFault.{check_line, fault_from, fresh, has_main, or_later, outside_main}
 use Rattle.privilege_check.specs.Names as checks
 use Rattle.privilege_check.specs.Names.{Before, at_start, declared, declared_in, is_main, known, opened, taken, taken_by, with_next, with_taken}
-use Rattle.privilege_check.specs.declared.meaning.Meaning.{Meaning}
-use Rattle.privilege_check.specs.declared.meaning.Meaning.TheVariants.{Variable, Held}
+use Rattle.privilege_check.specs.declared.declaration.Declaration.{Declaration}
+use Rattle.privilege_check.specs.declared.declaration.Declaration.TheVariants.{Variable, Held}
 use Rattle.job_body.specs.declared.take.Take.{Take}
 use Rattle.job_body.specs.declared.take.Take.TheVariants as given
 use Rattle.job_body.specs.Tasks.{before_task, takes, task_index}
@@ -27,23 +27,23 @@ some_same : {A : Type 0} {a b : A} → Some a ≡ Some b → a ≡ b
 some_same e = cc
 
 -- what the lines of a task take
-abbrev pub meaning_of : Line → List Meaning
+abbrev pub meaning_of : Line → List Declaration
 meaning_of (line.Param name kind) = Variable kind ∷ []
 meaning_of (line.Access mode name kind) = Held mode kind ∷ []
 meaning_of _ = []
 
-abbrev pub meanings : List Line → List Meaning
+abbrev pub meanings : List Line → List Declaration
 meanings lines = flat_map meaning_of lines
 
 -- what the first task of a name takes, if there is one
-abbrev pub found : List Line → List ℕ → Option (List Meaning)
+abbrev pub found : List Line → List ℕ → Option (List Declaration)
 found [] name = None
 found (line.Task other ∷ lines) name = cond (bytes_eq other name) (Some (meanings (before_task lines))) (found lines name)
 found (line ∷ lines) name = found lines name
 
 -- ---- as a step takes it
 
-abbrev pub take_of_meaning : Meaning → Take
+abbrev pub take_of_meaning : Declaration → Take
 take_of_meaning (Variable kind) = given.Param
 take_of_meaning (Held mode kind) = given.Access mode
 
@@ -54,11 +54,11 @@ takes-meanings (line.Access mode name kind ∷ lines) = ap (λ ts. given.Access 
 takes-meanings (line ∷ lines) = takes-meanings lines
 
 -- the modes of what is taken
-abbrev pub held_mode : Meaning → List Mode
+abbrev pub held_mode : Declaration → List Mode
 held_mode (Variable kind) = []
 held_mode (Held mode kind) = mode ∷ []
 
-abbrev pub held_modes : List Meaning → List Mode
+abbrev pub held_modes : List Declaration → List Mode
 held_modes taken = flat_map held_mode taken
 
 pub modes-meanings : (lines : List Line) → modes (flat_map access_entry lines) ≡ held_modes (meanings lines)
@@ -69,11 +69,11 @@ modes-meanings (line ∷ lines) = modes-meanings lines
 
 -- ---- where the first task of a name stands
 
-pub record IsTaskAt (lines : List Line) (index : ℕ) (name : List ℕ) (taken : List Meaning) : Type 0 where
+pub record IsTaskAt (lines : List Line) (index : ℕ) (name : List ℕ) (taken : List Declaration) : Type 0 where
   pub at : slice_get lines index ≡ Some (line.Task name)
   pub takes : meanings (before_task (drop (index + 1) lines)) ≡ taken
 
-later-task : (first : Line) (lines : List Line) (n m : ℕ) (name : List ℕ) (taken : List Meaning) → m ≡ suc n → IsTaskAt lines n name taken → IsTaskAt (first ∷ lines) m name taken
+later-task : (first : Line) (lines : List Line) (n m : ℕ) (name : List ℕ) (taken : List Declaration) → m ≡ suc n → IsTaskAt lines n name taken → IsTaskAt (first ∷ lines) m name taken
 later-task first lines n m name taken is at =
     let next : m + 1 ≡ suc (n + 1) = omega (arith, is) in
     record {
@@ -81,7 +81,7 @@ later-task first lines n m name taken is at =
       takes = ap (λ k. meanings (before_task (drop k (first ∷ lines)))) next ∙ at.takes;
     }
 
-pub task-found : (lines : List Line) (name : List ℕ) (taken : List Meaning) → found lines name ≡ Some taken → IsTaskAt lines (task_index lines name) name taken
+pub task-found : (lines : List Line) (name : List ℕ) (taken : List Declaration) → found lines name ≡ Some taken → IsTaskAt lines (task_index lines name) name taken
 task-found [] name taken is = absurd (cc)
 task-found (line.Task other ∷ lines) name taken is = go (bytes_eq other name) refl is _ refl (task-found lines name taken) where
   go : (b : Bool) → b ≡ bytes_eq other name → cond b (Some (meanings (before_task lines))) (found lines name) ≡ Some taken → (k : ℕ) → k ≡ cond (not b) (1 + task_index lines name) 0 → (found lines name ≡ Some taken → IsTaskAt lines (task_index lines name) name taken) → IsTaskAt (line.Task other ∷ lines) k name taken
@@ -101,22 +101,22 @@ record IsQuiet (before after : Before) : Type 0 where
   pub entered : after.open_task ≡ before.open_task
   pub tasks : after.tasks ≡ before.tasks
 
-declared_in-quiet : (task : Option (List ℕ)) (name : List ℕ) (meaning : Meaning) (before : Before) → IsQuiet before (declared_in task name meaning before)
+declared_in-quiet : (task : Option (List ℕ)) (name : List ℕ) (meaning : Declaration) (before : Before) → IsQuiet before (declared_in task name meaning before)
 declared_in-quiet None name meaning before = record { entered = refl; tasks = refl }
 declared_in-quiet (Some task) name meaning before = record { entered = refl; tasks = refl }
 
-declared-quiet : (name : List ℕ) (meaning : Meaning) (before : Before) → IsQuiet before (declared name meaning before)
+declared-quiet : (name : List ℕ) (meaning : Declaration) (before : Before) → IsQuiet before (declared name meaning before)
 declared-quiet name meaning before = declared_in-quiet before.open_task name meaning before
 
-taken_by-open : (task : Option (List ℕ)) (meaning : Meaning) (before : Before) → (taken_by task meaning before).open_task ≡ before.open_task
+taken_by-open : (task : Option (List ℕ)) (meaning : Declaration) (before : Before) → (taken_by task meaning before).open_task ≡ before.open_task
 taken_by-open None meaning before = refl
 taken_by-open (Some task) meaning before = refl
 
-taken-open : (name : List ℕ) (meaning : Meaning) (before : Before) → (taken name meaning before).open_task ≡ before.open_task
+taken-open : (name : List ℕ) (meaning : Declaration) (before : Before) → (taken name meaning before).open_task ≡ before.open_task
 taken-open name meaning before =
     taken_by-open (declared name meaning before).open_task meaning (declared name meaning before) ∙ (declared-quiet name meaning before).entered
 
-taken-tasks : (name : List ℕ) (meaning : Meaning) (before : Before) (task : List ℕ) → before.open_task ≡ Some task → (taken name meaning before).tasks ≡ with_next task meaning before.tasks
+taken-tasks : (name : List ℕ) (meaning : Declaration) (before : Before) (task : List ℕ) → before.open_task ≡ Some task → (taken name meaning before).tasks ≡ with_next task meaning before.tasks
 taken-tasks name meaning before task e =
     let quiet = declared-quiet name meaning before in
     ap (λ t. (taken_by t meaning (declared name meaning before)).tasks) (quiet.entered ∙ e)
@@ -125,22 +125,22 @@ taken-tasks name meaning before task e =
 -- ---- as the check knows it
 
 -- what is said of a task once all these lines are read
-abbrev Kept : Before → List Line → List ℕ → List ℕ → List Meaning → Type 0
+abbrev Kept : Before → List Line → List ℕ → List ℕ → List Declaration → Type 0
 Kept after lines task name taken = after.tasks name ≡ Some (taken ++ cond (bytes_eq task name) (meanings (before_task lines)) [])
 
-none-more : (b : Bool) (taken : List Meaning) → taken ++ cond b [] [] ≡ taken
+none-more : (b : Bool) (taken : List Declaration) → taken ++ cond b [] [] ≡ taken
 none-more true taken = append-nil taken
 none-more false taken = append-nil taken
 
 -- what holds of the lines after one, of all states before them
 abbrev KeptBy : List Line → Type 0
-KeptBy lines = (before : Before) (task name : List ℕ) (taken : List Meaning) → before.open_task ≡ Some task → Passes before lines → before.tasks name ≡ Some taken → Kept (before_from before lines) lines task name taken
+KeptBy lines = (before : Before) (task name : List ℕ) (taken : List Declaration) → before.open_task ≡ Some task → Passes before lines → before.tasks name ≡ Some taken → Kept (before_from before lines) lines task name taken
 
-kept-quiet : (before after : Before) (lines : List Line) (task name : List ℕ) (taken : List Meaning) → KeptBy lines → IsQuiet before after → before.open_task ≡ Some task → Passes after lines → before.tasks name ≡ Some taken → Kept (before_from after lines) lines task name taken
+kept-quiet : (before after : Before) (lines : List Line) (task name : List ℕ) (taken : List Declaration) → KeptBy lines → IsQuiet before after → before.open_task ≡ Some task → Passes after lines → before.tasks name ≡ Some taken → Kept (before_from after lines) lines task name taken
 kept-quiet before after lines task name taken later quiet entered passes is =
     later after task name taken (quiet.entered ∙ entered) passes (ap (λ ts. ts name) quiet.tasks ∙ is)
 
-kept-task : (before : Before) (lines : List Line) (task name other : List ℕ) (taken : List Meaning) → KeptBy lines → fresh (before.tasks other) ≡ Ok tt → Passes (opened other before) lines → before.tasks name ≡ Some taken → (before_from (opened other before) lines).tasks name ≡ Some (taken ++ cond (bytes_eq task name) [] [])
+kept-task : (before : Before) (lines : List Line) (task name other : List ℕ) (taken : List Declaration) → KeptBy lines → fresh (before.tasks other) ≡ Ok tt → Passes (opened other before) lines → before.tasks name ≡ Some taken → (before_from (opened other before) lines).tasks name ≡ Some (taken ++ cond (bytes_eq task name) [] [])
 kept-task before lines task name other taken later is_fresh passes is =
     let apart : bytes_eq other name ≡ false = go (bytes_eq other name) refl in
     later (opened other before) other name taken refl passes (ap (λ b. cond b (Some []) (before.tasks name)) apart ∙ is)
@@ -153,7 +153,7 @@ kept-task before lines task name other taken later is_fresh passes is =
           let both : before.tasks name ≡ None = ap before.tasks (sym same) ∙ fresh_is (before.tasks other) is_fresh in
           absurd (cc)
 
-kept-taken : (before : Before) (lines : List Line) (task name other : List ℕ) (meaning : Meaning) (taken_so : List Meaning) → KeptBy lines → before.open_task ≡ Some task → Passes (taken other meaning before) lines → before.tasks name ≡ Some taken_so → (before_from (taken other meaning before) lines).tasks name ≡ Some (taken_so ++ cond (bytes_eq task name) (meaning ∷ meanings (before_task lines)) [])
+kept-taken : (before : Before) (lines : List Line) (task name other : List ℕ) (meaning : Declaration) (taken_so : List Declaration) → KeptBy lines → before.open_task ≡ Some task → Passes (taken other meaning before) lines → before.tasks name ≡ Some taken_so → (before_from (taken other meaning before) lines).tasks name ≡ Some (taken_so ++ cond (bytes_eq task name) (meaning ∷ meanings (before_task lines)) [])
 kept-taken before lines task name other meaning taken_so later entered passes is = go (bytes_eq task name) refl where
   after : Before
   after = taken other meaning before
@@ -203,7 +203,7 @@ kept (line.Queue other k ∷ lines) before task name taken entered passes is =
     kept-quiet before _ lines task name taken (kept lines) (declared-quiet other (Held PushPop k) before) entered passes.1 is
 kept (line ∷ lines) before task name taken entered passes is = kept lines before task name taken entered passes.1 is
 
-taken_by-none : (task : Option (List ℕ)) (meaning : Meaning) (before : Before) (name : List ℕ) → before.tasks name ≡ None → (taken_by task meaning before).tasks name ≡ None
+taken_by-none : (task : Option (List ℕ)) (meaning : Declaration) (before : Before) (name : List ℕ) → before.tasks name ≡ None → (taken_by task meaning before).tasks name ≡ None
 taken_by-none None meaning before name is = is
 taken_by-none (Some task) meaning before name is = go (bytes_eq task name) refl where
   go : (b : Bool) → b ≡ bytes_eq task name → cond b (option_map (λ takes. takes ++ meaning ∷ []) (before.tasks task)) (before.tasks name) ≡ None
@@ -212,12 +212,12 @@ taken_by-none (Some task) meaning before name is = go (bytes_eq task name) refl 
       let same : task ≡ name = same_name task name (sym e) in
       ap (λ t. option_map (λ takes. takes ++ meaning ∷ []) (before.tasks t)) same ∙ ap (option_map (λ takes. takes ++ meaning ∷ [])) is
 
-taken-none : (other : List ℕ) (meaning : Meaning) (before : Before) (name : List ℕ) → before.tasks name ≡ None → (taken other meaning before).tasks name ≡ None
+taken-none : (other : List ℕ) (meaning : Declaration) (before : Before) (name : List ℕ) → before.tasks name ≡ None → (taken other meaning before).tasks name ≡ None
 taken-none other meaning before name is =
     let quiet = declared-quiet other meaning before in
     taken_by-none (declared other meaning before).open_task meaning (declared other meaning before) name (ap (λ ts. ts name) quiet.tasks ∙ is)
 
-declared-none : (other : List ℕ) (meaning : Meaning) (before : Before) (name : List ℕ) → before.tasks name ≡ None → (declared other meaning before).tasks name ≡ None
+declared-none : (other : List ℕ) (meaning : Declaration) (before : Before) (name : List ℕ) → before.tasks name ≡ None → (declared other meaning before).tasks name ≡ None
 declared-none other meaning before name is = ap (λ ts. ts name) (declared-quiet other meaning before).tasks ∙ is
 
 -- what a task takes that the check doesn't know yet
@@ -271,7 +271,7 @@ main-takes (line.Queue other k ∷ lines) before task entered named passes =
     main-takes lines _ task ((declared-quiet other (Held PushPop k) before).entered ∙ entered) named passes.1
 main-takes (line ∷ lines) before task entered named passes = main-takes lines before task entered named passes.1
 
-pub main-found : (lines : List Line) (before : Before) (taken : List Meaning) → Passes before lines → found lines (codes "main") ≡ Some taken → taken ≡ []
+pub main-found : (lines : List Line) (before : Before) (taken : List Declaration) → Passes before lines → found lines (codes "main") ≡ Some taken → taken ≡ []
 main-found [] before taken passes is = absurd (cc)
 main-found (line.Task other ∷ lines) before taken passes is = go (bytes_eq other (codes "main")) refl is (main-found lines (opened other before) taken passes.1) where
   go : (b : Bool) → bytes_eq other (codes "main") ≡ b → cond b (Some (meanings (before_task lines))) (found lines (codes "main")) ≡ Some taken → (found lines (codes "main") ≡ Some taken → taken ≡ []) → taken ≡ []
@@ -285,7 +285,7 @@ or_later-none : (n : ℕ) (r : Result (Unit {0}) JobKind) (later : Option JobFau
 or_later-none n (Ok a) later e = (refl, e)
 or_later-none n (Err k) later e = absurd (cc)
 
-has_main-some : (n : ℕ) (takes : Option (List Meaning)) → has_main n takes ≡ None → (taken : List Meaning) × (takes ≡ Some taken)
+has_main-some : (n : ℕ) (takes : Option (List Declaration)) → has_main n takes ≡ None → (taken : List Declaration) × (takes ≡ Some taken)
 has_main-some n None e = absurd (cc)
 has_main-some n (Some taken) e = (taken, refl)
 
@@ -295,7 +295,7 @@ passes-faultless (line ∷ lines) n before e =
     let parts = or_later-none (suc n) (check_line before line) (fault_from (suc n) (checks.after before line) lines) e in
     (parts.0, passes-faultless lines (suc n) (checks.after before line) parts.1)
 
-pub main-known : (lines : List Line) (n : ℕ) (before : Before) → fault_from n before lines ≡ None → (taken : List Meaning) × ((before_from before lines).tasks (codes "main") ≡ Some taken)
+pub main-known : (lines : List Line) (n : ℕ) (before : Before) → fault_from n before lines ≡ None → (taken : List Declaration) × ((before_from before lines).tasks (codes "main") ≡ Some taken)
 main-known [] n before e = has_main-some n (before.tasks (codes "main")) e
 main-known (line ∷ lines) n before e =
     let parts = or_later-none (suc n) (check_line before line) (fault_from (suc n) (checks.after before line) lines) e in

@@ -8,26 +8,26 @@ use Rattle.job_reader.specs.Faults.{◌>>=◌}
 use Rattle.job_reader.specs.FirstFault.{balanced, is_nothing, is_one_too_many, is_stray_else, is_unbalanced, job_from, job_of, job_of_lines, line_alone, line_at, opens_block}
 use Rattle.job_reader.specs.Jobs.{IsJob, IsPlaced, may_stand}
 use Rattle.job_reader.specs.LineShape.{do_form, form, formed, header, is_assignment, is_first, is_note, known, name_and_atom, name_and_kind, nothing, one_atom, one_name, spawned, two_names, outside_form, shape, task_form, top_form}
-use Rattle.job_reader.specs.Places.{after, is_open}
+use Rattle.job_reader.specs.Positions.{after, is_open}
 use Rattle.job_reader.specs.Tokens.{tokens, trimmed}
 use Rattle.job_reader.specs.declared.fault.JobKind.{JobKind}
 use Rattle.job_reader.specs.declared.fault.JobKind.TheVariants as kind
 use Rattle.job_reader.specs.declared.job.TheConstants.{JOB_LINES_MOST}
 use Rattle.job_reader.specs.declared.line.Line.{Line}
 use Rattle.job_reader.specs.declared.line.Line.TheVariants as line
-use Rattle.job_reader.specs.declared.place.Place.{Place}
-use Rattle.job_reader.specs.declared.place.Place.TheVariants.{First, Top, InTask, InDo, Outside}
+use Rattle.job_reader.specs.declared.position.Position.{Position}
+use Rattle.job_reader.specs.declared.position.Position.TheVariants.{First, Top, InTask, InDo, Outside}
 use Rattle.job_reader.specs.declared.read.TheConstants.{LINE_MOST}
 use Rattle.swan_model.specs.declared.rights.Mode.TheVariants as mode
 use Rattle.swan_model.specs.declared.value.Kind.{Kind}
 use Rattle.job_reader.specs.Atoms.{atoms, name}
 use Rattle.job_reader.specs.Faults.{both}
 use Rattle.job_reader.specs.LineShape.{after_equals, assigned, assignment}
-use Rattle.job_reader.specs.Places.{takes_else}
+use Rattle.job_reader.specs.Positions.{takes_else}
 use Rattle.job_reader.specs.Words.{arity, do_named, do_text, do_words, op_named, task_named, top_named, top_text, top_words}
 use Rattle.job_reader.specs.declared.block.Block.{Block}
 use Rattle.job_reader.specs.declared.op.Op.{Op}
-use Rattle.job_reader.specs.declared.place.TheConstants.{BLOCKS_MOST}
+use Rattle.job_reader.specs.declared.position.TheConstants.{BLOCKS_MOST}
 use Rattle.job_reader.specs.declared.words.DoWord.{DoWord}
 use Rattle.job_reader.specs.declared.words.DoWord.TheVariants as step
 use Rattle.job_reader.specs.declared.words.TaskWord.{TaskWord}
@@ -38,32 +38,32 @@ use Rattle.job_reader.proofs.Canon.{bind_ok, found_text, known_some}
 use Rattle.job_reader.proofs.ReadsBack.{kept, reads_back, split, was_read}
 
 -- no line is past the last number
-few_lines : (raw : List (List ℕ)) (number : ℕ) (place : Place) (ls : List Line) → job_from number place raw ≡ Ok ls → number ≤ JOB_LINES_MOST + 1 → number + length ls ≤ JOB_LINES_MOST + 1
-few_lines [] number place ls is fits = let none : [] ≡ ls = cc in subst (λ l. number + length l ≤ JOB_LINES_MOST + 1) none (omega arith)
-few_lines (bytes ∷ more) number place ls is fits =
-    let parts = split number (is_nothing more) place bytes more ls (line_at number (is_nothing more) place bytes) refl is in
-    let alone = bind_ok (line_alone number place bytes) (balanced (is_nothing more) place) parts.first parts.read in
-    let read = was_read number place bytes alone.0 alone.1 in
-    let limits = or_parts (nat_lt JOB_LINES_MOST number || nat_lt LINE_MOST (length (trimmed bytes))) (is_one_too_many place (tokens (trimmed bytes))) read.1 in
+few_lines : (raw : List (List ℕ)) (number : ℕ) (position : Position) (ls : List Line) → job_from number position raw ≡ Ok ls → number ≤ JOB_LINES_MOST + 1 → number + length ls ≤ JOB_LINES_MOST + 1
+few_lines [] number position ls is fits = let none : [] ≡ ls = cc in subst (λ l. number + length l ≤ JOB_LINES_MOST + 1) none (omega arith)
+few_lines (bytes ∷ more) number position ls is fits =
+    let parts = split number (is_nothing more) position bytes more ls (line_at number (is_nothing more) position bytes) refl is in
+    let alone = bind_ok (line_alone number position bytes) (balanced (is_nothing more) position) parts.first parts.read in
+    let read = was_read number position bytes alone.0 alone.1 in
+    let limits = or_parts (nat_lt JOB_LINES_MOST number || nat_lt LINE_MOST (length (trimmed bytes))) (is_one_too_many position (tokens (trimmed bytes))) read.1 in
     let numbered : number ≤ JOB_LINES_MOST = ltb-false JOB_LINES_MOST number (or_parts (nat_lt JOB_LINES_MOST number) (nat_lt LINE_MOST (length (trimmed bytes))) limits.0).0 in
-    let others = few_lines more (number + 1) (after place parts.first) parts.rest parts.others (omega arith) in
+    let others = few_lines more (number + 1) (after position parts.first) parts.rest parts.others (omega arith) in
     subst (λ l. number + length l ≤ JOB_LINES_MOST + 1) parts.joined (omega arith)
 
-some_lines : (bytes : List ℕ) (more : List (List ℕ)) (number : ℕ) (place : Place) (ls : List Line) → job_from number place (bytes ∷ more) ≡ Ok ls → 0 < length ls
-some_lines bytes more number place ls is =
-    let parts = split number (is_nothing more) place bytes more ls (line_at number (is_nothing more) place bytes) refl is in
+some_lines : (bytes : List ℕ) (more : List (List ℕ)) (number : ℕ) (position : Position) (ls : List Line) → job_from number position (bytes ∷ more) ≡ Ok ls → 0 < length ls
+some_lines bytes more number position ls is =
+    let parts = split number (is_nothing more) position bytes more ls (line_at number (is_nothing more) position bytes) refl is in
     subst (λ l. 0 < length l) parts.joined (omega arith)
 
 -- a line that is made of what was read may stand where each line so made may
-made_stands : {A : Type 0} (place : Place) (reading : Result A JobKind) (make : A → Line) → ((x : A) → may_stand place (make x) ≡ true) → (l : Line) → (reading >>= λ x. Ok (make x)) ≡ Ok l → may_stand place l ≡ true
-made_stands place reading make stands l is =
+made_stands : {A : Type 0} (position : Position) (reading : Result A JobKind) (make : A → Line) → ((x : A) → may_stand position (make x) ≡ true) → (l : Line) → (reading >>= λ x. Ok (make x)) ≡ Ok l → may_stand position l ≡ true
+made_stands position reading make stands l is =
     let found = bind_ok reading (λ x. Ok (make x)) l is in
     let same : make found.0 ≡ l = (let h = found.2 in cc) in
-    ap (may_stand place) (sym same) ∙ stands found.0
+    ap (may_stand position) (sym same) ∙ stands found.0
 
-bare_stands : (place : Place) (one : Line) (rest : List (List ℕ)) → may_stand place one ≡ true → (l : Line) → nothing one rest ≡ Ok l → may_stand place l ≡ true
-bare_stands place one [] stands l is = let same : one ≡ l = cc in ap (may_stand place) (sym same) ∙ stands
-bare_stands place one (token ∷ rest) stands l is = cc
+bare_stands : (position : Position) (one : Line) (rest : List (List ℕ)) → may_stand position one ≡ true → (l : Line) → nothing one rest ≡ Ok l → may_stand position l ≡ true
+bare_stands position one [] stands l is = let same : one ≡ l = cc in ap (may_stand position) (sym same) ∙ stands
+bare_stands position one (token ∷ rest) stands l is = cc
 
 -- there is room for one more input where it isn't one too many
 room_for_input : (left : ℕ) (first : List ℕ) → first ≡ codes "input" → ((left == 0) && bytes_eq first (codes "input")) ≡ false → nat_lt 0 left ≡ true
@@ -155,7 +155,7 @@ header_stands (a ∷ b ∷ []) l is = by_test (bytes_eq a (codes "swan") && byte
     by_test false is = cc
 header_stands (a ∷ b ∷ c ∷ ts) l is = cc
 
-form_stands : (place : Place) (first : List ℕ) (rest : List (List ℕ)) (l : Line) → is_one_too_many place (first ∷ rest) ≡ false → is_stray_else place l ≡ false → form place first rest ≡ Ok l → may_stand place l ≡ true
+form_stands : (position : Position) (first : List ℕ) (rest : List (List ℕ)) (l : Line) → is_one_too_many position (first ∷ rest) ≡ false → is_stray_else position l ≡ false → form position first rest ≡ Ok l → may_stand position l ≡ true
 form_stands First first rest l limit stray is = header_stands (first ∷ rest) l is
 form_stands (Top left) first rest l limit stray is =
     let found = bind_ok (known (top_named first)) (λ w. top_form w rest) l is in
@@ -169,50 +169,50 @@ form_stands Outside first rest l limit stray is =
     let found = bind_ok (known (top_named first)) (λ w. outside_form w rest) l is in
     outside_stands found.0 rest l found.2
 
-formed_stands : (place : Place) (ts : List (List ℕ)) (l : Line) → is_one_too_many place ts ≡ false → is_stray_else place l ≡ false → formed place ts ≡ Ok l → may_stand place l ≡ true
-formed_stands place [] l limit stray is = cc
-formed_stands place (first ∷ rest) l limit stray is = form_stands place first rest l limit stray is
+formed_stands : (position : Position) (ts : List (List ℕ)) (l : Line) → is_one_too_many position ts ≡ false → is_stray_else position l ≡ false → formed position ts ≡ Ok l → may_stand position l ≡ true
+formed_stands position [] l limit stray is = cc
+formed_stands position (first ∷ rest) l limit stray is = form_stands position first rest l limit stray is
 
-note_stands : (place : Place) (text : List ℕ) → is_first place ≡ false → may_stand place (line.Note text) ≡ true
+note_stands : (position : Position) (text : List ℕ) → is_first position ≡ false → may_stand position (line.Note text) ≡ true
 note_stands First text isnt = cc
 note_stands (Top left) text isnt = refl
 note_stands InTask text isnt = refl
 note_stands (InDo blocks) text isnt = refl
 note_stands Outside text isnt = refl
 
-shape_stands : (place : Place) (text : List ℕ) (l : Line) → is_one_too_many place (tokens text) ≡ false → is_stray_else place l ≡ false → shape place text ≡ Ok l → may_stand place l ≡ true
-shape_stands place text l limit stray is =
+shape_stands : (position : Position) (text : List ℕ) (l : Line) → is_one_too_many position (tokens text) ≡ false → is_stray_else position l ≡ false → shape position text ≡ Ok l → may_stand position l ≡ true
+shape_stands position text l limit stray is =
     ⊎_elim
-    (λ (note : (is_note text && not (is_first place)) ≡ true).
-    let made : Ok (line.Note text) ≡ Ok l = sym (cond-true (is_note text && not (is_first place)) _ _ note) ∙ is in
+    (λ (note : (is_note text && not (is_first position)) ≡ true).
+    let made : Ok (line.Note text) ≡ Ok l = sym (cond-true (is_note text && not (is_first position)) _ _ note) ∙ is in
     let same : line.Note text ≡ l = cc in
-    ap (may_stand place) (sym same) ∙ note_stands place text (not-true (is_first place) (and_parts (is_note text) (not (is_first place)) note).1))
-    (λ (isnt : (is_note text && not (is_first place)) ≡ false).
-    formed_stands place (tokens text) l limit stray (sym (cond-false (is_note text && not (is_first place)) _ _ isnt) ∙ is))
-    (cases_Bool (is_note text && not (is_first place)))
+    ap (may_stand position) (sym same) ∙ note_stands position text (not-true (is_first position) (and_parts (is_note text) (not (is_first position)) note).1))
+    (λ (isnt : (is_note text && not (is_first position)) ≡ false).
+    formed_stands position (tokens text) l limit stray (sym (cond-false (is_note text && not (is_first position)) _ _ isnt) ∙ is))
+    (cases_Bool (is_note text && not (is_first position)))
 
 -- what a balanced line says
-in_balance : (last : Bool) (place : Place) (l m : Line) → balanced last place l ≡ Ok m → is_unbalanced last place l ≡ false
-in_balance last place l m is = by_test (is_unbalanced last place l) is
+in_balance : (last : Bool) (position : Position) (l m : Line) → balanced last position l ≡ Ok m → is_unbalanced last position l ≡ false
+in_balance last position l m is = by_test (is_unbalanced last position l) is
   where
     by_test : (b : Bool) → cond b (Err kind.Unbalanced) (Ok l) ≡ Ok m → b ≡ false
     by_test true is = cc
     by_test false is = refl
 
-placed_from : (raw : List (List ℕ)) (number : ℕ) (place : Place) (ls : List Line) → job_from number place raw ≡ Ok ls → (is_nothing raw ≡ true → is_open place ≡ false) → IsPlaced place ls
-placed_from [] number place ls is closed = let none : [] ≡ ls = cc in subst (IsPlaced place) none (closed refl)
-placed_from (bytes ∷ more) number place ls is closed =
-    let parts = split number (is_nothing more) place bytes more ls (line_at number (is_nothing more) place bytes) refl is in
-    let alone = bind_ok (line_alone number place bytes) (balanced (is_nothing more) place) parts.first parts.read in
-    let same = kept (is_nothing more) place alone.0 parts.first alone.2 in
-    let read = was_read number place bytes alone.0 alone.1 in
-    let limits = or_parts (nat_lt JOB_LINES_MOST number || nat_lt LINE_MOST (length (trimmed bytes))) (is_one_too_many place (tokens (trimmed bytes))) read.1 in
-    let balance = or_parts (is_stray_else place alone.0) (is_nothing more && is_open (after place alone.0)) (in_balance (is_nothing more) place alone.0 parts.first alone.2) in
-    let stands = shape_stands place (trimmed bytes) alone.0 limits.1 balance.0 read.2 in
-    let ends : (is_nothing more && is_open (after place parts.first)) ≡ false = ap (λ l. is_nothing more && is_open (after place l)) (sym same) ∙ balance.1 in
-    let others = placed_from more (number + 1) (after place parts.first) parts.rest parts.others
-    (λ none. ⊎_elim (λ (h : is_nothing more ≡ false). absurd (both_ways _ h none)) (λ h. h) (and_cases (is_nothing more) (is_open (after place parts.first)) ends)) in
-    subst (IsPlaced place) parts.joined (ap (may_stand place) (sym same) ∙ stands, others)
+placed_from : (raw : List (List ℕ)) (number : ℕ) (position : Position) (ls : List Line) → job_from number position raw ≡ Ok ls → (is_nothing raw ≡ true → is_open position ≡ false) → IsPlaced position ls
+placed_from [] number position ls is closed = let none : [] ≡ ls = cc in subst (IsPlaced position) none (closed refl)
+placed_from (bytes ∷ more) number position ls is closed =
+    let parts = split number (is_nothing more) position bytes more ls (line_at number (is_nothing more) position bytes) refl is in
+    let alone = bind_ok (line_alone number position bytes) (balanced (is_nothing more) position) parts.first parts.read in
+    let same = kept (is_nothing more) position alone.0 parts.first alone.2 in
+    let read = was_read number position bytes alone.0 alone.1 in
+    let limits = or_parts (nat_lt JOB_LINES_MOST number || nat_lt LINE_MOST (length (trimmed bytes))) (is_one_too_many position (tokens (trimmed bytes))) read.1 in
+    let balance = or_parts (is_stray_else position alone.0) (is_nothing more && is_open (after position alone.0)) (in_balance (is_nothing more) position alone.0 parts.first alone.2) in
+    let stands = shape_stands position (trimmed bytes) alone.0 limits.1 balance.0 read.2 in
+    let ends : (is_nothing more && is_open (after position parts.first)) ≡ false = ap (λ l. is_nothing more && is_open (after position l)) (sym same) ∙ balance.1 in
+    let others = placed_from more (number + 1) (after position parts.first) parts.rest parts.others
+    (λ none. ⊎_elim (λ (h : is_nothing more ≡ false). absurd (both_ways _ h none)) (λ h. h) (and_cases (is_nothing more) (is_open (after position parts.first)) ends)) in
+    subst (IsPlaced position) parts.joined (ap (may_stand position) (sym same) ∙ stands, others)
 
 job_of_raw : (raw : List (List ℕ)) (job : List Line) → job_of_lines raw ≡ Ok job → job_of (text_of job) ≡ Ok job → IsJob job
 job_of_raw [] job is back = cc

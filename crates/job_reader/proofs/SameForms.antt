@@ -16,9 +16,9 @@ use Rattle.job_reader.specs.declared.fault.JobKind.TheVariants as kind
 use Rattle.job_reader.specs.declared.line.Line.{Line}
 use Rattle.job_reader.specs.declared.line.Line.TheVariants as line
 use Rattle.job_reader.specs.declared.op.Op.{Op}
-use Rattle.job_reader.specs.declared.place.Place.{Place}
-use Rattle.job_reader.specs.declared.place.Place.TheVariants.{First, Top, InTask, InDo, Outside}
-use Rattle.job_reader.specs.declared.place.TheConstants.{BLOCKS_MOST}
+use Rattle.job_reader.specs.declared.position.Position.{Position}
+use Rattle.job_reader.specs.declared.position.Position.TheVariants.{First, Top, InTask, InDo, Outside}
+use Rattle.job_reader.specs.declared.position.TheConstants.{BLOCKS_MOST}
 use Rattle.job_reader.specs.declared.scan.Scan.{Scan}
 use Rattle.job_reader.specs.declared.scan.Scan.TheVariants.{Between, Token, Quoted, Escaped}
 use Rattle.job_reader.specs.declared.words.DoWord.{DoWord}
@@ -187,7 +187,7 @@ statement_same v ts allowed may =
     ∙ ap (λ x. cond (is_assignment ts) (assignment v (after_equals ts)) (known x >>= λ w. do_form w (map canon ts))) (same_of_canon do_named (λ x y. refl) v)
     ∙ ap (λ x. cond (is_assignment ts) (assignment v (after_equals ts)) x) (then_same (known (do_named v)) (λ w. do_form w (map canon ts)) (λ w. do_form w ts) (λ w. do_same w ts may))
 
-form_same : (place : Place) (first : List ℕ) (ts : List (List ℕ)) → MayStand (first ∷ ts) → form place (canon first) (map canon ts) ≡ form place first ts
+form_same : (position : Position) (first : List ℕ) (ts : List (List ℕ)) → MayStand (first ∷ ts) → form position (canon first) (map canon ts) ≡ form position first ts
 form_same First first ts may = header_same (first ∷ ts)
 form_same (Top n) first ts may =
     ap (λ x. known x >>= λ w. top_form w (map canon ts)) (same_of_canon top_named (λ x y. refl) first)
@@ -200,9 +200,9 @@ form_same Outside first ts may =
     ap (λ x. known x >>= λ w. outside_form w (map canon ts)) (same_of_canon top_named (λ x y. refl) first)
     ∙ then_same (known (top_named first)) (λ w. outside_form w (map canon ts)) (λ w. outside_form w ts) (λ w. outside_same w ts (first_may first ts may).1)
 
-pub formed_same : (place : Place) (ts : List (List ℕ)) → MayStand ts → formed place (map canon ts) ≡ formed place ts
-formed_same place [] may = refl
-formed_same place (first ∷ ts) may = form_same place first ts may
+pub formed_same : (position : Position) (ts : List (List ℕ)) → MayStand ts → formed position (map canon ts) ≡ formed position ts
+formed_same position [] may = refl
+formed_same position (first ∷ ts) may = form_same position first ts may
 
 opens_same : (first : List ℕ) (ts : List (List ℕ)) → opens_block (canon first) (map canon ts) ≡ opens_block first ts
 opens_same first ts =
@@ -210,7 +210,7 @@ opens_same first ts =
     ∙ ap (λ x. (bytes_eq first (codes "if") || x) && not (is_assignment (map canon ts))) (equal_same first (codes "while") (λ x y. refl))
     ∙ ap (λ x. (bytes_eq first (codes "if") || bytes_eq first (codes "while")) && not x) (is_assignment_same ts)
 
-pub limit_same : (place : Place) (ts : List (List ℕ)) → is_one_too_many place (map canon ts) ≡ is_one_too_many place ts
+pub limit_same : (position : Position) (ts : List (List ℕ)) → is_one_too_many position (map canon ts) ≡ is_one_too_many position ts
 limit_same (Top n) [] = refl
 limit_same (Top n) (first ∷ ts) = ap (λ x. (n == 0) && x) (equal_same first (codes "input") (λ x y. refl))
 limit_same (InDo blocks) [] = refl

@@ -53,12 +53,12 @@ went_on Between _ byte front tokens isnt is = cc
 went_on _ Between byte front tokens isnt is = cc
 went_on _ _ byte front tokens isnt is = front_more front byte tokens
 
--- the front of a list from a place on, with one more element
+-- the front of a list from a position on, with one more element
 range_more : (line : List ℕ) (start i : ℕ) → start ≤ i → i < length line → slice_range line start (i + 1) ≡ slice_range line start i ++ get_or line i 0 ∷ []
 range_more line start i begun inside =
     let more : i + 1 - start ≡ (i - start) + 1 = omega arith in
-    let place : start + (i - start) ≡ i = omega arith in
-    let at : get_or (drop start line) (i - start) 0 ≡ get_or line i 0 = get_or-drop start line (i - start) 0 ∙ ap (λ k. get_or line k 0) place in
+    let position : start + (i - start) ≡ i = omega arith in
+    let at : get_or (drop start line) (i - start) 0 ≡ get_or line i 0 = get_or-drop start line (i - start) 0 ∙ ap (λ k. get_or line k 0) position in
     ap (λ n. take n (drop start line)) more ∙ take_more (drop start line) (i - start) 0 (omega (arith, length-drop start line)) ∙ ap (λ b. take (i - start) (drop start line) ++ b ∷ []) at
 
 range_one : (line : List ℕ) (i : ℕ) → i < length line → slice_range line i (i + 1) ≡ get_or line i 0 ∷ []

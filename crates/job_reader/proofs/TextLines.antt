@@ -3,13 +3,13 @@ use Rattle.std.specs.Prelude.{◌==◌}
 use Rattle.std.proofs.Common.{◌≡◌, ℕ, ◌+◌, Bool, false, List, [], ◌∷◌, ◌++◌, length, Result, Ok, Err, refl, sym, ap, ◌∙◌, append_assoc, arith}
 use Rattle.std.proofs.lemmas.List.{append-nil}
 use Rattle.swan_model.specs.Lines.{lines}
-use Rattle.job_reader.specs.FirstFault.{and_others, is_nothing, job_from, job_of, job_of_lines, line_at, or_fault, with_place}
-use Rattle.job_reader.specs.Places.{after}
+use Rattle.job_reader.specs.FirstFault.{and_others, is_nothing, job_from, job_of, job_of_lines, line_at, or_fault, with_position}
+use Rattle.job_reader.specs.Positions.{after}
 use Rattle.job_reader.specs.declared.fault.JobFault.{JobFault}
 use Rattle.job_reader.specs.declared.fault.JobKind.{JobKind}
 use Rattle.job_reader.specs.declared.line.Line.{Line}
-use Rattle.job_reader.specs.declared.place.Place.{Place}
-use Rattle.job_reader.specs.declared.place.Place.TheVariants.{First}
+use Rattle.job_reader.specs.declared.position.Position.{Position}
+use Rattle.job_reader.specs.declared.position.Position.TheVariants.{First}
 use Rattle.job_reader.proofs.LineEnds.{nothing_left}
 
 -- what is read, after lines that are read already
@@ -21,38 +21,38 @@ one_more : (front : List Line) (line : Line) (rest : Result (List Line) JobFault
 one_more front line (Ok more) = ap (λ l. Ok l) (sym (append_assoc front (line ∷ []) more))
 one_more front line (Err fault) = refl
 
-at_place : (place next : Place) (line : Line) (read : Result Line JobKind) → with_place place read ≡ Ok (line, next) → (read ≡ Ok line) × (next ≡ after place line)
-at_place place next line (Ok other) is =
-    let pair : ◌≡◌ {A = Line × Place} (other, after place other) (line, next) = cc in
-    (ap (λ p. Ok p.0) pair, sym (ap (λ p. p.1) pair) ∙ ap (λ p. after place p.0) pair)
-at_place place next line (Err k) is = cc
+at_position : (position next : Position) (line : Line) (read : Result Line JobKind) → with_position position read ≡ Ok (line, next) → (read ≡ Ok line) × (next ≡ after position line)
+at_position position next line (Ok other) is =
+    let pair : ◌≡◌ {A = Line × Position} (other, after position other) (line, next) = cc in
+    (ap (λ p. Ok p.0) pair, sym (ap (λ p. p.1) pair) ∙ ap (λ p. after position p.0) pair)
+at_position position next line (Err k) is = cc
 
-at_fault : (place : Place) (k : JobKind) (read : Result Line JobKind) → with_place place read ≡ Err k → read ≡ Err k
-at_fault place k (Ok other) is = cc
-at_fault place k (Err j) is = let same : j ≡ k = cc in ap (λ x. Err x) same
+at_fault : (position : Position) (k : JobKind) (read : Result Line JobKind) → with_position position read ≡ Err k → read ≡ Err k
+at_fault position k (Ok other) is = cc
+at_fault position k (Err j) is = let same : j ≡ k = cc in ap (λ x. Err x) same
 
 -- a turn: the text from here on is a line and more
-module _ (text : List ℕ) (front : List Line) (number : ℕ) (place : Place) (rest bytes more : List ℕ) (told : in_front front (job_from number place (lines rest)) ≡ job_from 1 First (lines text)) (split : lines rest ≡ bytes ∷ lines more) (is_last : Bool) (left : is_last ≡ (length more == 0)) where
-  at_turn : in_front front (or_fault number (line_at number (is_nothing (lines more)) place bytes) (λ line. and_others line (job_from (number + 1) (after place line) (lines more)))) ≡ job_from 1 First (lines text)
-  at_turn = ap (λ ls. in_front front (job_from number place ls)) (sym split) ∙ told
+module _ (text : List ℕ) (front : List Line) (number : ℕ) (position : Position) (rest bytes more : List ℕ) (told : in_front front (job_from number position (lines rest)) ≡ job_from 1 First (lines text)) (split : lines rest ≡ bytes ∷ lines more) (is_last : Bool) (left : is_last ≡ (length more == 0)) where
+  at_turn : in_front front (or_fault number (line_at number (is_nothing (lines more)) position bytes) (λ line. and_others line (job_from (number + 1) (after position line) (lines more)))) ≡ job_from 1 First (lines text)
+  at_turn = ap (λ ls. in_front front (job_from number position ls)) (sym split) ∙ told
 
-  pub turn_line : (line : Line) (next : Place) → with_place place (line_at number is_last place bytes) ≡ Ok (line, next) → in_front (front ++ line ∷ []) (job_from (number + 1) next (lines more)) ≡ job_from 1 First (lines text)
+  pub turn_line : (line : Line) (next : Position) → with_position position (line_at number is_last position bytes) ≡ Ok (line, next) → in_front (front ++ line ∷ []) (job_from (number + 1) next (lines more)) ≡ job_from 1 First (lines text)
   turn_line line next is =
-      let found = at_place place next line (line_at number is_last place bytes) is in
-      let read : line_at number (is_nothing (lines more)) place bytes ≡ Ok line = ap (λ b. line_at number b place bytes) (nothing_left more ∙ sym left) ∙ found.0 in
+      let found = at_position position next line (line_at number is_last position bytes) is in
+      let read : line_at number (is_nothing (lines more)) position bytes ≡ Ok line = ap (λ b. line_at number b position bytes) (nothing_left more ∙ sym left) ∙ found.0 in
       ap (λ p. in_front (front ++ line ∷ []) (job_from (number + 1) p (lines more))) found.1
-      ∙ sym (one_more front line (job_from (number + 1) (after place line) (lines more)))
-      ∙ ap (λ r. in_front front (or_fault number r (λ l. and_others l (job_from (number + 1) (after place l) (lines more))))) (sym read)
+      ∙ sym (one_more front line (job_from (number + 1) (after position line) (lines more)))
+      ∙ ap (λ r. in_front front (or_fault number r (λ l. and_others l (job_from (number + 1) (after position l) (lines more))))) (sym read)
       ∙ at_turn
 
-  pub turn_fault : (k : JobKind) → with_place place (line_at number is_last place bytes) ≡ Err k → job_from 1 First (lines text) ≡ Err (record { line = number; kind = k })
+  pub turn_fault : (k : JobKind) → with_position position (line_at number is_last position bytes) ≡ Err k → job_from 1 First (lines text) ≡ Err (record { line = number; kind = k })
   turn_fault k is =
-      let read : line_at number (is_nothing (lines more)) place bytes ≡ Err k = ap (λ b. line_at number b place bytes) (nothing_left more ∙ sym left) ∙ at_fault place k (line_at number is_last place bytes) is in
-      sym at_turn ∙ ap (λ r. in_front front (or_fault number r (λ l. and_others l (job_from (number + 1) (after place l) (lines more))))) read
+      let read : line_at number (is_nothing (lines more)) position bytes ≡ Err k = ap (λ b. line_at number b position bytes) (nothing_left more ∙ sym left) ∙ at_fault position k (line_at number is_last position bytes) is in
+      sym at_turn ∙ ap (λ r. in_front front (or_fault number r (λ l. and_others l (job_from (number + 1) (after position l) (lines more))))) read
 
-pub all_read : (text : List ℕ) (front : List Line) (number : ℕ) (place : Place) (rest : List ℕ) → in_front front (job_from number place (lines rest)) ≡ job_from 1 First (lines text) → length rest ≡ 0 → job_from 1 First (lines text) ≡ Ok front
-all_read text front number place [] told none = sym told ∙ ap (λ l. Ok l) (append-nil front)
-all_read text front number place (byte ∷ bytes) told none = absurd (omega arith)
+pub all_read : (text : List ℕ) (front : List Line) (number : ℕ) (position : Position) (rest : List ℕ) → in_front front (job_from number position (lines rest)) ≡ job_from 1 First (lines text) → length rest ≡ 0 → job_from 1 First (lines text) ≡ Ok front
+all_read text front number position [] told none = sym told ∙ ap (λ l. Ok l) (append-nil front)
+all_read text front number position (byte ∷ bytes) told none = absurd (omega arith)
 
 pub of_lines : (ls : List (List ℕ)) → is_nothing ls ≡ false → job_of_lines ls ≡ job_from 1 First ls
 of_lines [] some = cc

@@ -18,8 +18,8 @@ use Rattle.job_reader.specs.declared.line.Line.{Line}
 use Rattle.job_reader.specs.declared.line.Line.TheVariants as line
 use Rattle.job_reader.specs.declared.op.Op.{Op}
 use Rattle.job_reader.specs.declared.op.Op.TheVariants as op
-use Rattle.job_reader.specs.declared.place.Place.{Place}
-use Rattle.job_reader.specs.declared.place.Place.TheVariants.{First, Top, InTask, InDo, Outside}
+use Rattle.job_reader.specs.declared.position.Position.{Position}
+use Rattle.job_reader.specs.declared.position.Position.TheVariants.{First, Top, InTask, InDo, Outside}
 use Rattle.job_reader.specs.declared.words.DoWord.{DoWord}
 use Rattle.job_reader.specs.declared.words.DoWord.TheVariants as step
 use Rattle.job_reader.specs.declared.words.TaskWord.{TaskWord}
@@ -265,7 +265,7 @@ statement_written first rest false l equals is =
     let found = bind_ok (known (do_named first)) (λ w. do_form w rest) l is in
     worded first (do_text found.0) rest l (found_text do_text do_words first found.0 (known_some (do_named first) found.0 found.1)) (do_stays found.0) (do_written found.0 rest l found.2)
 
-form_written : (place : Place) (first : List ℕ) (rest : List (List ℕ)) (l : Line) → form place first rest ≡ Ok l → IsWritten l (first ∷ rest)
+form_written : (position : Position) (first : List ℕ) (rest : List (List ℕ)) (l : Line) → form position first rest ≡ Ok l → IsWritten l (first ∷ rest)
 form_written First first rest l is = header_written (first ∷ rest) l is
 form_written (Top n) first rest l is =
     let found = bind_ok (known (top_named first)) (λ w. top_form w rest) l is in
@@ -278,6 +278,6 @@ form_written Outside first rest l is =
     let found = bind_ok (known (top_named first)) (λ w. outside_form w rest) l is in
     worded first (top_text found.0) rest l (found_text top_text top_words first found.0 (known_some (top_named first) found.0 found.1)) (top_stays found.0) (outside_written found.0 rest l found.2)
 
-pub formed_written : (place : Place) (tokens : List (List ℕ)) (l : Line) → formed place tokens ≡ Ok l → IsWritten l tokens
-formed_written place [] l is = cc
-formed_written place (first ∷ rest) l is = form_written place first rest l is
+pub formed_written : (position : Position) (tokens : List (List ℕ)) (l : Line) → formed position tokens ≡ Ok l → IsWritten l tokens
+formed_written position [] l is = cc
+formed_written position (first ∷ rest) l is = form_written position first rest l is

@@ -106,7 +106,7 @@ atom (byte ∷ bytes) =
     else (if is_ascii_digit byte || (byte == minus) then as_number (number (byte ∷ bytes))
     else (if is_name (byte ∷ bytes) then Ok (Name (byte ∷ bytes)) else Err kind.BadName))
 
--- A token in a name's place. A literal that isn't one is no line in any place.
+-- A token in a name's position. A literal that isn't one is no line in any position.
 abbrev pub as_name : Result Atom JobKind → Result (List ℕ) JobKind
 as_name (Ok (Name name)) = Ok name
 as_name (Ok _) = Err kind.BadName

@@ -8,14 +8,14 @@ use Rattle.std.specs.List.{join_with_byte}
 use Rattle.swan_model.specs.declared.rights.Mode.{Mode}
 use Rattle.swan_model.specs.declared.rights.Mode.TheVariants.{In, Out, InOut, Push, Pop, PushPop}
 use Rattle.job_reader.specs.Characters.{tab, line_feed, space, quote, backslash, letter_n, letter_t, letter_x, is_allowed}
-use Rattle.job_reader.specs.Places.{after}
+use Rattle.job_reader.specs.Positions.{after}
 use Rattle.job_reader.specs.Words.{kind_text, op_text}
 use Rattle.job_reader.specs.declared.atom.Atom.{Atom}
 use Rattle.job_reader.specs.declared.atom.Atom.TheVariants as atom
 use Rattle.job_reader.specs.declared.line.Line.{Line}
 use Rattle.job_reader.specs.declared.line.Line.TheVariants as line
-use Rattle.job_reader.specs.declared.place.Place.{Place}
-use Rattle.job_reader.specs.declared.place.Place.TheVariants as place
+use Rattle.job_reader.specs.declared.position.Position.{Position}
+use Rattle.job_reader.specs.declared.position.Position.TheVariants as position
 
 -- a byte in a literal, and a literal
 abbrev pub escaped : ℕ → List ℕ
@@ -82,9 +82,9 @@ statement_depth blocks line.Else = blocks
 statement_depth blocks line.End = blocks
 statement_depth blocks _ = blocks + 1
 
-abbrev pub depth : Place → Line → ℕ
-depth place.InTask line = 1
-depth (place.InDo blocks) line = statement_depth (length blocks) line
+abbrev pub depth : Position → Line → ℕ
+depth position.InTask line = 1
+depth (position.InDo blocks) line = statement_depth (length blocks) line
 depth _ line = 0
 
 -- a note that says nothing is an empty line
@@ -92,16 +92,16 @@ abbrev pub is_blank : Line → Bool
 is_blank (line.Note []) = true
 is_blank _ = false
 
-abbrev pub indentation : Place → Line → ℕ
-indentation place line = if is_blank line then 0 else depth place line
+abbrev pub indentation : Position → Line → ℕ
+indentation position line = if is_blank line then 0 else depth position line
 
-abbrev pub whole_line : Place → Line → List ℕ
-whole_line place line = replicate (2 * indentation place line) space ++ line_text line ++ line_feed ∷ []
+abbrev pub whole_line : Position → Line → List ℕ
+whole_line position line = replicate (2 * indentation position line) space ++ line_text line ++ line_feed ∷ []
 
--- the text of lines from a place on
-abbrev pub text_from : Place → List Line → List ℕ
-text_from place [] = []
-text_from place (line ∷ more) = whole_line place line ++ text_from (after place line) more
+-- the text of lines from a position on
+abbrev pub text_from : Position → List Line → List ℕ
+text_from position [] = []
+text_from position (line ∷ more) = whole_line position line ++ text_from (after position line) more
 
 abbrev pub text_of : List Line → List ℕ
-text_of job = text_from place.First job
+text_of job = text_from position.First job

@@ -2,16 +2,16 @@
 use Rattle.std.specs.Prelude.{◌≡◌, ◌<◌, ◌≤◌, nat_lt, Bool, true, false, IsTrue, IsFalse, Ok, List, [], ◌∷◌, length}
 use Rattle.job_reader.specs.CanonicalText.{text_of}
 use Rattle.job_reader.specs.FirstFault.{job_of}
-use Rattle.job_reader.specs.Places.{after, is_open, takes_else}
+use Rattle.job_reader.specs.Positions.{after, is_open, takes_else}
 use Rattle.job_reader.specs.declared.job.TheConstants.{JOB_LINES_MOST}
 use Rattle.job_reader.specs.declared.line.Line.{Line}
 use Rattle.job_reader.specs.declared.line.Line.TheVariants as line
-use Rattle.job_reader.specs.declared.place.Place.{Place}
-use Rattle.job_reader.specs.declared.place.Place.TheVariants.{First, Top, InTask, InDo, Outside}
-use Rattle.job_reader.specs.declared.place.TheConstants.{BLOCKS_MOST}
+use Rattle.job_reader.specs.declared.position.Position.{Position}
+use Rattle.job_reader.specs.declared.position.Position.TheVariants.{First, Top, InTask, InDo, Outside}
+use Rattle.job_reader.specs.declared.position.TheConstants.{BLOCKS_MOST}
 
--- whether a line may stand at a place
-abbrev pub may_stand : Place → Line → Bool
+-- whether a line may stand at a position
+abbrev pub may_stand : Position → Line → Bool
 may_stand First line.Header = true
 may_stand (Top inputs_left) (line.Note text) = true
 may_stand (Top inputs_left) (line.Input name) = nat_lt 0 inputs_left
@@ -44,10 +44,10 @@ may_stand Outside (line.Note text) = true
 may_stand Outside (line.Task name) = true
 may_stand _ _ = false
 
--- each line from a place on may stand where it stands, and no task is open at the end
-abbrev pub IsPlaced : Place → List Line → Type 0
-IsPlaced place [] = IsFalse (is_open place)
-IsPlaced place (line ∷ more) = IsTrue (may_stand place line) × IsPlaced (after place line) more
+-- each line from a position on may stand where it stands, and no task is open at the end
+abbrev pub IsPlaced : Position → List Line → Type 0
+IsPlaced position [] = IsFalse (is_open position)
+IsPlaced position (line ∷ more) = IsTrue (may_stand position line) × IsPlaced (after position line) more
 
 -- a job: its canonical text reads as it
 pub record IsJob (job : List Line) : Type 0 where

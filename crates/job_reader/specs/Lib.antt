@@ -5,7 +5,7 @@ pub mod Tokens
 pub mod Faults
 pub mod Atoms
 pub mod Words
-pub mod Places
+pub mod Positions
 pub mod LineShape
 pub mod FirstFault
 pub mod CanonicalText

@@ -1,4 +1,4 @@
--- The line that a text is at a place, by its tokens, or what is wrong with it: BadHeader, BadLine,
+-- The line that a text is at a position, by its tokens, or what is wrong with it: BadHeader, BadLine,
 -- BadName or BadNumber.
 use Rattle.std.specs.Prelude.{ℕ, ◌==◌, Bool, true, false, not, ◌&&◌, Option, Some, None, Result, Ok, Err, List, [], ◌∷◌, length, codes, bytes_eq, if◌then◌else◌}
 use Rattle.swan_model.specs.declared.rights.Mode.TheVariants as mode
@@ -14,8 +14,8 @@ use Rattle.job_reader.specs.declared.fault.JobKind.TheVariants as kind
 use Rattle.job_reader.specs.declared.line.Line.{Line}
 use Rattle.job_reader.specs.declared.line.Line.TheVariants as line
 use Rattle.job_reader.specs.declared.op.Op.{Op}
-use Rattle.job_reader.specs.declared.place.Place.{Place}
-use Rattle.job_reader.specs.declared.place.Place.TheVariants.{First, Top, InTask, InDo, Outside}
+use Rattle.job_reader.specs.declared.position.Position.{Position}
+use Rattle.job_reader.specs.declared.position.Position.TheVariants.{First, Top, InTask, InDo, Outside}
 use Rattle.job_reader.specs.declared.words.DoWord.{DoWord}
 use Rattle.job_reader.specs.declared.words.DoWord.TheVariants as step
 use Rattle.job_reader.specs.declared.words.TaskWord.{TaskWord}
@@ -132,26 +132,26 @@ statement first rest =
     if is_assignment rest then assignment first (after_equals rest)
     else known (do_named first) >>= λ w. do_form w rest
 
--- the line that the tokens of a text that isn't a note make at a place
-abbrev pub form : Place → List ℕ → List (List ℕ) → Result Line JobKind
+-- the line that the tokens of a text that isn't a note make at a position
+abbrev pub form : Position → List ℕ → List (List ℕ) → Result Line JobKind
 form First first rest = header (first ∷ rest)
 form (Top inputs_left) first rest = known (top_named first) >>= λ w. top_form w rest
 form InTask first rest = known (task_named first) >>= λ w. task_form w rest
 form (InDo blocks) first rest = statement first rest
 form Outside first rest = known (top_named first) >>= λ w. outside_form w rest
 
-abbrev pub formed : Place → List (List ℕ) → Result Line JobKind
-formed place [] = Err kind.BadHeader
-formed place (first ∷ rest) = form place first rest
+abbrev pub formed : Position → List (List ℕ) → Result Line JobKind
+formed position [] = Err kind.BadHeader
+formed position (first ∷ rest) = form position first rest
 
 -- A text without outer spaces that is empty or begins with # is a note, but on the first line.
 abbrev pub is_note : List ℕ → Bool
 is_note [] = true
 is_note (byte ∷ bytes) = byte == hash
 
-abbrev pub is_first : Place → Bool
+abbrev pub is_first : Position → Bool
 is_first First = true
 is_first _ = false
 
-abbrev pub shape : Place → List ℕ → Result Line JobKind
-shape place text = if is_note text && not (is_first place) then Ok (line.Note text) else formed place (tokens text)
+abbrev pub shape : Position → List ℕ → Result Line JobKind
+shape position text = if is_note text && not (is_first position) then Ok (line.Note text) else formed position (tokens text)

@@ -1,4 +1,4 @@
-// Atoms: what stands in a statement in the place of a value.
+// Atoms: what stands in a statement in the position of a value.
 ghost use Rattle.std.specs.Prelude.{◌≡◌, IfOk};
 ghost use Rattle.std.specs.List.{list_all};
 ghost use Rattle.std.specs.Prelude.{IsUtf8};
@@ -16,7 +16,7 @@ use swan_model::{Listed, NoMemory, Record, Word};
 /// The largest number of bytes of a name.
 pub(crate) const NAME_MOST: usize = 32;
 
-/// What stands in a statement in the place of a value.
+/// What stands in a statement in the position of a value.
 #[derive(Drop)]
 pub enum Atom {
     /// A number.
@@ -90,7 +90,7 @@ pub fn read_atom(alloc: Global, token: &[u8]) -> Result<Atom, ReadLine>
     }
 }
 
-/// The name that a token in a name's place is. `O(length)`.
+/// The name that a token in a name's position is. `O(length)`.
 pub fn read_name(alloc: Global, token: &[u8]) -> Result<Word, ReadLine>
     ensures { Gives result (name token.now) }
 {

@@ -1,6 +1,6 @@
 // Open blocks.
 ghost use Rattle.std.specs.Prelude.{◌≡◌, ◌∷◌, ◌<◌, ◌^◌, [], length, MatchOption, OnOk};
-ghost use Rattle.job_reader.specs.Places.{takes_else};
+ghost use Rattle.job_reader.specs.Positions.{takes_else};
 
 use std::alloc::Global;
 use std::marker::Model;

@@ -17,7 +17,7 @@ pub enum JobKind {
     BadHeader,
     /// Not a line that may stand there.
     BadLine,
-    /// A token that isn't a name stands in a name's place.
+    /// A token that isn't a name stands in a name's position.
     BadName,
     /// A token that begins as a number isn't one.
     BadNumber,
@@ -29,7 +29,7 @@ pub enum JobKind {
     Duplicate,
     /// The name isn't known.
     Unknown,
-    /// The name or value is of another sort or kind than its place asks for.
+    /// The name or value is of another sort or kind than its position asks for.
     Kind,
     /// A task is given more or less than it takes.
     Arity,
@@ -103,7 +103,7 @@ impl<T: Drop> From<AllocFailed<T>> for ReadJob {
 }
 
 impl JobKind {
-    /// The place of a kind of the text among the kinds, where a line has several.
+    /// The position of a kind of the text among the kinds, where a line has several.
     fn order(self) -> u8
         ensures { result ≡ order_of self }
     {

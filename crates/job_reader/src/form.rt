@@ -1,4 +1,4 @@
-// The line that a text is at a place.
+// The line that a text is at a position.
 ghost use Rattle.std.specs.Prelude.{◌≡◌, ◌∷◌, length, true, false, MatchOption, IsUtf8};
 ghost use Rattle.std.specs.List.{list_all};
 ghost use Rattle.job_reader.specs.Characters.{is_allowed};
@@ -9,7 +9,7 @@ ghost use Rattle.job_reader.specs.Tokens.{tokens};
 
 use crate::atom::{read_atoms, read_name, word};
 use crate::fault::{ReadLine, both};
-use crate::place::Place;
+use crate::position::Position;
 use crate::shape::{do_line, outside_line, task_line, top_line};
 use crate::words::{DoWord, TaskWord, TopWord, is_text};
 use crate::{JobKind, Line, Op};
@@ -81,22 +81,22 @@ fn statement(alloc: Global, first: &[u8], rest: &[&[u8]]) -> Result<Line, ReadLi
     }
 }
 
-/// The line that tokens make at a place.
-fn form(alloc: Global, place: &Place, first: &[u8], rest: &[&[u8]]) -> Result<Line, ReadLine>
-    ensures { Gives result (form place.now first.now (texts rest.now)) }
+/// The line that tokens make at a position.
+fn form(alloc: Global, position: &Position, first: &[u8], rest: &[&[u8]]) -> Result<Line, ReadLine>
+    ensures { Gives result (form position.now first.now (texts rest.now)) }
 {
-    match place {
-        Place::First => header(first, rest),
-        Place::Top(_) => match TopWord::named(first) {
+    match position {
+        Position::First => header(first, rest),
+        Position::Top(_) => match TopWord::named(first) {
             Some(word) => top_line(alloc, word, rest),
             None => Err(ReadLine::Refused(JobKind::BadLine)),
         },
-        Place::InTask => match TaskWord::named(first) {
+        Position::InTask => match TaskWord::named(first) {
             Some(word) => task_line(alloc, word, rest),
             None => Err(ReadLine::Refused(JobKind::BadLine)),
         },
-        Place::InDo(_) => statement(alloc, first, rest),
-        Place::Outside => match TopWord::named(first) {
+        Position::InDo(_) => statement(alloc, first, rest),
+        Position::Outside => match TopWord::named(first) {
             Some(word) => outside_line(alloc, word, rest),
             None => Err(ReadLine::Refused(JobKind::BadLine)),
         },
@@ -113,17 +113,22 @@ fn is_note(text: &[u8]) -> bool
     }
 }
 
-/// The line that a text without outer spaces is at a place, by its tokens. `O(length)`.
-pub fn shape(alloc: Global, place: &Place, text: &[u8], found: &[&[u8]]) -> Result<Line, ReadLine>
+/// The line that a text without outer spaces is at a position, by its tokens. `O(length)`.
+pub fn shape(
+    alloc: Global,
+    position: &Position,
+    text: &[u8],
+    found: &[&[u8]],
+) -> Result<Line, ReadLine>
     requires tokens { texts found.now ≡ tokens text.now }
     requires ascii { IsUtf8 text.now }
-    ensures { Gives result (shape place.now text.now) }
+    ensures { Gives result (shape position.now text.now) }
 {
-    if is_note(text) && !place.is_first() {
+    if is_note(text) && !position.is_first() {
         return Ok(Line::Note(word(alloc, text)?));
     }
     match found.split_first() {
-        Some((first, rest)) => form(alloc, place, first, rest),
+        Some((first, rest)) => form(alloc, position, first, rest),
         None => Err(ReadLine::Refused(JobKind::BadHeader)),
     }
 }

@@ -11,7 +11,7 @@ ghost use Rattle.job_reader.specs.Tokens.{tokens};
 ghost use Rattle.job_reader.specs.declared.atom.TheConstants.{NAME_MOST};
 ghost use Rattle.job_reader.specs.declared.job.TheConstants.{JOB_LINES_MOST};
 ghost use Rattle.job_reader.specs.declared.line.Line.{Line as JobLine};
-ghost use Rattle.job_reader.specs.declared.place.TheConstants.{BLOCKS_MOST, INPUTS_MOST};
+ghost use Rattle.job_reader.specs.declared.position.TheConstants.{BLOCKS_MOST, INPUTS_MOST};
 ghost use Rattle.job_reader.specs.declared.read.TheConstants.{LINE_MOST};
 
 /// What a text reads as is read again from its canonical text, and written a second time it has the same

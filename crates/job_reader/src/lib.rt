@@ -26,7 +26,7 @@ mod lines;
 mod literal;
 mod number;
 mod op;
-mod place;
+mod position;
 mod read;
 mod scan;
 mod shape;

@@ -33,13 +33,13 @@ pub enum Op {
     Not,
     /// How many bytes there are.
     Len,
-    /// The byte at a place, as a number.
+    /// The byte at a position, as a number.
     At,
-    /// The bytes between two places.
+    /// The bytes between two positions.
     Slice,
     /// Both, joined.
     Cat,
-    /// The place of a byte, from a place on.
+    /// The position of a byte, from a position on.
     Find,
     /// The number that a text is.
     Num,

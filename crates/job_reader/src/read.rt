@@ -1,14 +1,14 @@
 // Reading a job.
 ghost use Rattle.std.specs.Prelude.{◌≡◌, IfOk, Some, if◌then◌else◌};
 ghost use Rattle.job_reader.specs.Faults.{Gives};
-ghost use Rattle.job_reader.specs.FirstFault.{balanced, first_fault, is_one_too_many, job_of, line_alone, line_at, opens_block, with_place};
+ghost use Rattle.job_reader.specs.FirstFault.{balanced, first_fault, is_one_too_many, job_of, line_alone, line_at, opens_block, with_position};
 ghost use Rattle.job_reader.specs.Texts.{texts};
 
 use crate::fault::ReadLine;
 use crate::form::{after_equals, shape};
 use crate::job::JOB_LINES_MOST;
 use crate::lines::first_line;
-use crate::place::{BLOCKS_MOST, Place};
+use crate::position::{BLOCKS_MOST, Position};
 use crate::scan::tokens;
 use crate::trim::{are_allowed, trimmed};
 use crate::words::is_text;
@@ -25,23 +25,28 @@ fn opens_block(first: &[u8], rest: &[&[u8]]) -> bool
     (is_text(first, "if") || is_text(first, "while")) && after_equals(rest).is_none()
 }
 
-/// Whether tokens are one input or one block too many at a place.
-fn is_one_too_many(place: &Place, tokens: &[&[u8]]) -> bool
-    ensures { result ≡ is_one_too_many place.now (texts tokens.now) }
+/// Whether tokens are one input or one block too many at a position.
+fn is_one_too_many(position: &Position, tokens: &[&[u8]]) -> bool
+    ensures { result ≡ is_one_too_many position.now (texts tokens.now) }
 {
     let Some((first, rest)) = tokens.split_first() else {
         return false;
     };
-    match place {
-        Place::Top(inputs_left) => *inputs_left == 0 && is_text(first, "input"),
-        Place::InDo(blocks) => blocks.len() >= BLOCKS_MOST && opens_block(first, rest),
+    match position {
+        Position::Top(inputs_left) => *inputs_left == 0 && is_text(first, "input"),
+        Position::InDo(blocks) => blocks.len() >= BLOCKS_MOST && opens_block(first, rest),
         _ => false,
     }
 }
 
-/// The line that bytes are at a place, by their number in the text, but for its balance. `O(length)`.
-fn line_alone(alloc: Global, number: u64, place: &Place, bytes: &[u8]) -> Result<Line, ReadLine>
-    ensures { Gives result (line_alone number place.now bytes.now) }
+/// The line that bytes are at a position, by their number in the text, but for its balance. `O(length)`.
+fn line_alone(
+    alloc: Global,
+    number: u64,
+    position: &Position,
+    bytes: &[u8],
+) -> Result<Line, ReadLine>
+    ensures { Gives result (line_alone number position.now bytes.now) }
 {
     if !are_allowed(bytes) {
         return Err(ReadLine::Refused(JobKind::BadByte));
@@ -51,29 +56,29 @@ fn line_alone(alloc: Global, number: u64, place: &Place, bytes: &[u8]) -> Result
         return Err(ReadLine::Refused(JobKind::Limit));
     }
     let tokens = tokens(alloc, text)?;
-    if is_one_too_many(place, &tokens) {
+    if is_one_too_many(position, &tokens) {
         return Err(ReadLine::Refused(JobKind::Limit));
     }
-    shape(alloc, place, text, &tokens)
+    shape(alloc, position, text, &tokens)
 }
 
-/// A line and the place after it, where the line is in balance. `O(1)` amortised.
+/// A line and the position after it, where the line is in balance. `O(1)` amortised.
 fn balanced(
     alloc: Global,
     is_last: bool,
-    place: Place,
+    position: Position,
     line: Line,
-) -> Result<(Line, Place), ReadLine>
-    ensures { Gives result (with_place place (balanced is_last place line)) }
+) -> Result<(Line, Position), ReadLine>
+    ensures { Gives result (with_position position (balanced is_last position line)) }
 {
-    let is_stray = place.is_stray_else(&line);
-    let next = place.after(alloc, &line)?;
+    let is_stray = position.is_stray_else(&line);
+    let next = position.after(alloc, &line)?;
     let leaves_open = is_last && next.is_open();
     in_balance(is_stray || leaves_open, line, next)
 }
 
-/// A line and the place after it, where it isn't out of balance.
-fn in_balance(is_out: bool, line: Line, next: Place) -> Result<(Line, Place), ReadLine>
+/// A line and the position after it, where it isn't out of balance.
+fn in_balance(is_out: bool, line: Line, next: Position) -> Result<(Line, Position), ReadLine>
     ensures { Gives result (if is_out then Err JobKind.Unbalanced else Ok (line, next)) }
 {
     if is_out {
@@ -83,18 +88,18 @@ fn in_balance(is_out: bool, line: Line, next: Place) -> Result<(Line, Place), Re
     }
 }
 
-/// The line that bytes are at a place, by their number in the text, and the place after it. `O(length)`.
+/// The line that bytes are at a position, by their number in the text, and the position after it. `O(length)`.
 fn read_line(
     alloc: Global,
     number: u64,
     is_last: bool,
-    place: Place,
+    position: Position,
     bytes: &[u8],
-) -> Result<(Line, Place), ReadLine>
-    ensures { Gives result (with_place place (line_at number is_last place bytes.now)) }
+) -> Result<(Line, Position), ReadLine>
+    ensures { Gives result (with_position position (line_at number is_last position bytes.now)) }
 {
-    let line = line_alone(alloc, number, &place, bytes)?;
-    balanced(alloc, is_last, place, line)
+    let line = line_alone(alloc, number, &position, bytes)?;
+    balanced(alloc, is_last, position, line)
 }
 
 /// Reads the text of a job. Refused comes exactly where the text has a fault, and names the first faulty
@@ -108,16 +113,16 @@ pub fn read_job(alloc: Global, bytes: &[u8]) -> Result<Job, ReadJob>
         return Err(refused(1, JobKind::BadHeader));
     }
     let mut lines = Vec::new(alloc);
-    let mut place = Place::First;
+    let mut position = Position::First;
     let mut rest = bytes;
     let mut number = 0;
     while !rest.is_empty() {
         number += 1;
         let (line, more) = first_line(rest);
-        match read_line(alloc, number, more.is_empty(), place, line) {
+        match read_line(alloc, number, more.is_empty(), position, line) {
             Ok((line, next)) => {
                 lines.push(line)?;
-                place = next;
+                position = next;
             }
             Err(ReadLine::Refused(kind)) => return Err(refused(number, kind)),
             Err(ReadLine::NoMemory) => return Err(ReadJob::NoMemory),

@@ -1,4 +1,4 @@
-// The line that tokens make at a place.
+// The line that tokens make at a position.
 ghost use Rattle.std.specs.Prelude.{◌≡◌, ◌∷◌};
 ghost use Rattle.job_reader.specs.Faults.{Gives};
 ghost use Rattle.job_reader.specs.LineShape.{known, name_and_atom, name_and_kind, nothing, one_atom, one_name, spawned, two_names};

@@ -5,7 +5,7 @@ ghost use Rattle.job_reader.specs.Characters.{space};
 ghost use Rattle.job_reader.specs.FirstFault.{job_of};
 ghost use Rattle.job_reader.specs.Words.{kind_text};
 
-use crate::place::Place;
+use crate::position::Position;
 use crate::words::kind_text;
 use crate::write_atom::{push, push_atom, push_atoms, push_token};
 use crate::{Atom, Atoms, Job, Line, Op};
@@ -153,11 +153,15 @@ fn is_blank(line: &Line) -> bool
     }
 }
 
-/// How many steps of indentation a line has at a place. `O(1)`.
-fn indentation(place: &Place, line: &Line) -> usize
-    ensures { result ≡ indentation place.now line.now }
+/// How many steps of indentation a line has at a position. `O(1)`.
+fn indentation(position: &Position, line: &Line) -> usize
+    ensures { result ≡ indentation position.now line.now }
 {
-    if is_blank(line) { 0 } else { place.depth(line) }
+    if is_blank(line) {
+        0
+    } else {
+        position.depth(line)
+    }
 }
 
 /// Adds steps of indentation. `O(steps)`.
@@ -170,16 +174,16 @@ fn push_indentation(out: &mut Vec<u8>, steps: usize) -> Result<(), NoMemory>
     Ok(())
 }
 
-/// Adds a line at a place, with its indentation and line feed. `O(length)`.
+/// Adds a line at a position, with its indentation and line feed. `O(length)`.
 fn push_whole_line(
     alloc: Global,
     out: &mut Vec<u8>,
-    place: &Place,
+    position: &Position,
     line: &Line,
 ) -> Result<(), NoMemory>
-    ensures { OnOk result (out.new.items ≡ out.old.items ++ whole_line place.now line.now) }
+    ensures { OnOk result (out.new.items ≡ out.old.items ++ whole_line position.now line.now) }
 {
-    push_indentation(out, indentation(place, line))?;
+    push_indentation(out, indentation(position, line))?;
     push_line(alloc, out, line)?;
     push(out, b"\n")
 }
@@ -191,10 +195,10 @@ pub fn write_job(alloc: Global, job: &Job) -> Result<Vec<u8>, NoMemory>
     ensures reads_back { IfOk result (λ text. job_of text.items ≡ Ok job.now) }
 {
     let mut text = Vec::new(alloc);
-    let mut place = Place::First;
+    let mut position = Position::First;
     for line in job.as_slice() {
-        push_whole_line(alloc, &mut text, &place, line)?;
-        place = place.after(alloc, line)?;
+        push_whole_line(alloc, &mut text, &position, line)?;
+        position = position.after(alloc, line)?;
     }
     Ok(text)
 }

@@ -17,7 +17,7 @@ use Rattle.swan_model.specs.Rights.{allows}
 use Rattle.swan_model.specs.SerialTime.{Progress, Reading, frame_of, point, times, version}
 use Rattle.swan_model.specs.Told.{cell}
 use Rattle.swan_model.specs.Versions.{Version, settled, Placed, VersionState, IsSettled, placed_at, new_versions, after_create, after_write, after_finish}
-use Rattle.swan_model.specs.VersionsFollow.{Follows, IsVersionAt}
+use Rattle.swan_model.specs.VersionsFollow.{ObjectsFollow, IsVersionAt}
 use Rattle.object_versions.proofs.FinishFollows.{finish_follows}
 use Rattle.object_versions.proofs.MakeFollows.{made_object_follows, new_follow, root_object_follows}
 use Rattle.object_versions.proofs.WriteFollows.{write_follows}
@@ -25,22 +25,22 @@ use Rattle.object_versions.proofs.WriteFollows.{write_follows}
 -- ---- `new`
 
 pub new_follows : (now : VersionState) → now ≡ new_versions
-    → (s : Script) (queues : List Origin) → IsLawful s → Follows s (at_start queues []) now
-new_follows now is = λ s queues lawful. subst (Follows s (at_start queues [])) (sym is) (new_follow s queues lawful)
+    → (s : Script) (queues : List Origin) → IsLawful s → ObjectsFollow s (at_start queues []) now
+new_follows now is = λ s queues lawful. subst (ObjectsFollow s (at_start queues [])) (sym is) (new_follow s queues lawful)
 
 -- ---- `create`
 
 pub create_root : (old now : VersionState) (frame place : ℕ) (first : Value) → placed_at old frame place ≡ None → now ≡ after_create old frame place first
-    → (s : Script) (r : Reading) (root : Progress) → IsLawful s → Follows s r old → frame ≡ 0 → frame_of r 0 ≡ Some root → root.done ≡ 0
-    → slice_get s.objects old.made ≡ Some first → Follows s (with_object r (Root old.made)) now
+    → (s : Script) (r : Reading) (root : Progress) → IsLawful s → ObjectsFollow s r old → frame ≡ 0 → frame_of r 0 ≡ Some root → root.done ≡ 0
+    → slice_get s.objects old.made ≡ Some first → ObjectsFollow s (with_object r (Root old.made)) now
 create_root old now frame place first free is = λ s r root lawful follows own known start object.
-    subst (Follows s (with_object r (Root old.made))) (sym is) (root_object_follows s r old frame place first root free lawful follows own known start object)
+    subst (ObjectsFollow s (with_object r (Root old.made))) (sym is) (root_object_follows s r old frame place first root free lawful follows own known start object)
 
 pub create_made : (old now : VersionState) (frame place : ℕ) (first : Value) → placed_at old frame place ≡ None → now ≡ after_create old frame place first
-    → (s : Script) (r : Reading) (maker : Progress) → IsLawful s → Follows s r old → frame_of r frame ≡ Some maker → next_deed s maker ≡ Some (deed.MakeObject first)
-    → Follows s (with_object (gone_on r frame) (Step (point s maker))) now
+    → (s : Script) (r : Reading) (maker : Progress) → IsLawful s → ObjectsFollow s r old → frame_of r frame ≡ Some maker → next_deed s maker ≡ Some (deed.MakeObject first)
+    → ObjectsFollow s (with_object (gone_on r frame) (Step (point s maker))) now
 create_made old now frame place first free is = λ s r maker lawful follows known next.
-    subst (Follows s (with_object (gone_on r frame) (Step (point s maker)))) (sym is) (made_object_follows s r old frame place first maker free lawful follows known next)
+    subst (ObjectsFollow s (with_object (gone_on r frame) (Step (point s maker)))) (sym is) (made_object_follows s r old frame place first maker free lawful follows known next)
 
 -- ---- `value`
 
@@ -48,7 +48,7 @@ is_value : (s : Script) (r : Reading) (origin : Origin) (t : ℕ) (found : Versi
 is_value s r origin t found value is at = subst (IsVersionAt s r origin t) is at
 
 pub value_read : (now : VersionState) (frame place : ℕ) (value : Value) → ((object : Placed) → placed_at now frame place ≡ Some object → object.present ≡ settled value)
-    → (s : Script) (r : Reading) (reader : Progress) (object : Placed) → Follows s r now → frame_of r frame ≡ Some reader → placed_at now frame place ≡ Some object
+    → (s : Script) (r : Reading) (reader : Progress) (object : Placed) → ObjectsFollow s r now → frame_of r frame ≡ Some reader → placed_at now frame place ≡ Some object
     → version s r object.object reader ≡ Some value
 value_read now frame place value is = λ s r reader object follows known stands.
     let less = follows.known frame place object stands in
@@ -60,7 +60,7 @@ value_read now frame place value is = λ s r reader object follows known stands.
 -- the same of an answer by reference, which may be an error
 pub value_told : {E : Type 0} (now : VersionState) (frame place : ℕ) (answer : Result (Bor Value) E)
     → IfOk answer (λ value. (object : Placed) → placed_at now frame place ≡ Some object → object.present ≡ settled value.now)
-    → IfOk answer (λ value. (s : Script) (r : Reading) (reader : Progress) (object : Placed) → Follows s r now → frame_of r frame ≡ Some reader
+    → IfOk answer (λ value. (s : Script) (r : Reading) (reader : Progress) (object : Placed) → ObjectsFollow s r now → frame_of r frame ≡ Some reader
     → placed_at now frame place ≡ Some object → version s r object.object reader ≡ Some value.now)
 value_told now frame place (Ok value) is = value_read now frame place value.now is
 value_told now frame place (Err error) is = tt
@@ -68,15 +68,15 @@ value_told now frame place (Err error) is = tt
 -- ---- `write`
 
 pub write_told : (old now : VersionState) (frame place : ℕ) (value : Value) → now ≡ after_write old frame place value
-    → (s : Script) (r : Reading) (writer : Progress) (object : Placed) (origin : Origin) → IsLawful s → Follows s r old → frame_of r frame ≡ Some writer
+    → (s : Script) (r : Reading) (writer : Progress) (object : Placed) (origin : Origin) → IsLawful s → ObjectsFollow s r old → frame_of r frame ≡ Some writer
     → placed_at old frame place ≡ Some object → allows object.mode Out ≡ true → slice_get r.objects object.object ≡ Some origin
-    → next_deed s writer ≡ Some (deed.Write origin value) → Follows s (gone_on r frame) now
+    → next_deed s writer ≡ Some (deed.Write origin value) → ObjectsFollow s (gone_on r frame) now
 write_told old now frame place value is = λ s r writer object origin lawful follows known stands may made next.
-    subst (Follows s (gone_on r frame)) (sym is) (write_follows s r old lawful follows frame place writer object origin value known stands may made next)
+    subst (ObjectsFollow s (gone_on r frame)) (sym is) (write_follows s r old lawful follows frame place writer object origin value known stands may made next)
 
 -- ---- `finish`
 
 pub finish_told : (old now : VersionState) (frame : ℕ) → IsSettled old frame → now ≡ after_finish old frame
-    → (s : Script) (r : Reading) (ended : Progress) → IsLawful s → Follows s r old → frame_of r frame ≡ Some ended → ended.done ≡ length (times s ended.path) → Follows s r now
+    → (s : Script) (r : Reading) (ended : Progress) → IsLawful s → ObjectsFollow s r old → frame_of r frame ≡ Some ended → ended.done ≡ length (times s ended.path) → ObjectsFollow s r now
 finish_told old now frame all is = λ s r ended lawful follows known done.
-    subst (Follows s r) (sym is) (finish_follows s r old frame ended all follows known done)
+    subst (ObjectsFollow s r) (sym is) (finish_follows s r old frame ended all follows known done)

@@ -9,9 +9,9 @@ use Rattle.swan_model.specs.declared.script.Script.{Script}
 use Rattle.swan_model.specs.declared.value.Value.{Value}
 use Rattle.swan_model.specs.SerialTime.{Progress, Reading, frame_of}
 use Rattle.swan_model.specs.Versions.{Version, settled, owed, Awaits, IsSettled, Placed, VersionState, placed_at}
-use Rattle.swan_model.specs.VersionsFollow.{Access, Follows, IsGiving}
+use Rattle.swan_model.specs.VersionsFollow.{Access, ObjectsFollow, IsGiving}
 
-module _ (s : Script) (r : Reading) (state : VersionState) (n : ℕ) (frame : Progress) (follows : Follows s r state) (known : frame_of r n ≡ Some frame)
+module _ (s : Script) (r : Reading) (state : VersionState) (n : ℕ) (frame : Progress) (follows : ObjectsFollow s r state) (known : frame_of r n ≡ Some frame)
     (awaits_none : (place owing : ℕ) → Awaits state n place owing → ⊥)
     (ended : (number index : ℕ) (child : Progress) → frame_of r number ≡ Some child → child.path ≡ frame.path ++ index ∷ [] → (place : ℕ) → placed_at state number place ≡ None)
     (read : (place owing : ℕ) (object : Placed) → placed_at state n place ≡ Some object → object.present ≡ owed owing → (owner : Progress) × (frame_of r owing ≡ Some owner)) where

@@ -12,7 +12,7 @@ use Rattle.swan_model.specs.Rights.{allows}
 use Rattle.swan_model.specs.SerialTime.{Progress, Reading, frame_of, point, time, times}
 use Rattle.swan_model.specs.Told.{cell}
 use Rattle.swan_model.specs.Versions.{Version, settled, owed, Placed, VersionState, IsSettled, placed_at, after_finish, left_by, settle, settle_placed, still_owing}
-use Rattle.swan_model.specs.VersionsFollow.{Follows, FollowsAt, IsVersionAt}
+use Rattle.swan_model.specs.VersionsFollow.{ObjectsFollow, FollowsAt, IsVersionAt}
 use Rattle.object_versions.proofs.FinishPlaces.{after_kept, leaves_from, sorted_kept, still_kept}
 use Rattle.object_versions.proofs.Moves.{Owes}
 use Rattle.object_versions.proofs.Differ.{settled_not-owed}
@@ -31,7 +31,7 @@ owing_other n other apart = ap (λ b. cond b None (Some other)) (ne_eqb other n 
 at_end : (s : Script) (frame : Progress) → frame.done ≡ length (times s frame.path) → point s frame ≡ end_time s frame.path
 at_end s frame all = ap (λ b. cond b (time s frame.path frame.done) (end_time s frame.path)) (le-ltb frame.done (length (times s frame.path)) (omega arith))
 
-module _ (s : Script) (r : Reading) (state : VersionState) (n : ℕ) (ended : Progress) (all_settled : IsSettled state n) (follows : Follows s r state)
+module _ (s : Script) (r : Reading) (state : VersionState) (n : ℕ) (ended : Progress) (all_settled : IsSettled state n) (follows : ObjectsFollow s r state)
     (known : frame_of r n ≡ Some ended) (all : ended.done ≡ length (times s ended.path)) where
   -- what a version that the frame owes becomes
   pub record IsRight (object : ℕ) (origin : Origin) : Type 0 where
@@ -134,7 +134,7 @@ module _ (s : Script) (r : Reading) (state : VersionState) (n : ℕ) (ended : Pr
       let own = follows.owing number place frame kept.was kept.stood was.0 in
       (own.0, settle_placed state n own.1, still_kept state n frame own.0 own.1 own.2 was.1, own.3 ∙ sym (ap (λ o. o.object) kept.now), own.4)
 
-  pub finish_follows : Follows s r (after_finish state n)
+  pub finish_follows : ObjectsFollow s r (after_finish state n)
   finish_follows = record {
     tasks = follows.tasks;
     root = follows.root;

@@ -10,7 +10,7 @@ use Rattle.swan_model.specs.declared.script.Script.{Script}
 use Rattle.swan_model.specs.Rights.{allows}
 use Rattle.swan_model.specs.SerialTime.{Progress, Reading, frame_of, point}
 use Rattle.swan_model.specs.Versions.{Holds, MayGet, owed, Placed, VersionState, placed_at, after_access, got, left_with}
-use Rattle.swan_model.specs.VersionsFollow.{Access, Begins, Follows, FollowsAt, IsAccessMade, IsGiving, IsNextSpawn, IsVersionAt}
+use Rattle.swan_model.specs.VersionsFollow.{Access, Begins, ObjectsFollow, FollowsAt, IsAccessMade, IsGiving, NextSpawnGivesObjects, IsVersionAt}
 use Rattle.object_versions.proofs.Differ.{writes_not-in}
 use Rattle.object_versions.proofs.GivingKept.{IsAboveKept, IsBelowKept, IsUngiven, access_kept, next_spawn_kept}
 use Rattle.object_versions.proofs.GivingPlaces.{IsBack, IsLeft, after_is, child_has, given_now, got_given, got_kind, got_mode, got_object, got_owed, got_present, left, middle, parent_has, which}
@@ -44,7 +44,7 @@ module _ (s : Script) (r : Reading) (state : VersionState) (giver : Progress) (c
   abbrev parent : ℕ
   parent = giver.number
 
-  abbrev follows : Follows s r state
+  abbrev follows : ObjectsFollow s r state
   follows = giving.follows
 
   abbrev after : VersionState
@@ -205,7 +205,7 @@ module _ (s : Script) (r : Reading) (state : VersionState) (giver : Progress) (c
     ]
   ]
 
-  follow : Follows s r after
+  follow : ObjectsFollow s r after
   follow = record {
     tasks = follows.tasks;
     root = follows.root;
@@ -334,7 +334,7 @@ module _ (s : Script) (r : Reading) (state : VersionState) (giver : Progress) (c
     unread = giving.unread;
     spawn =
         let kept = next_spawn_kept s r r state after giver child (λ object origin is. is) above_kept (made ++ access ∷ rest) giving.spawn in
-        subst (λ accesses. IsNextSpawn s r after giver accesses) (sym (append_assoc made (access ∷ []) rest)) kept;
+        subst (λ accesses. NextSpawnGivesObjects s r after giver accesses) (sym (append_assoc made (access ∷ []) rest)) kept;
     each = made_after;
     all = all_after;
     owed_by = owed_after;

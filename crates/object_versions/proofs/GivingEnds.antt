@@ -20,7 +20,7 @@ use Rattle.swan_model.specs.SerialTime.{Progress, Reading, frame_of, point, time
 use Rattle.swan_model.specs.Told.{cell, deed_at, is_given_out, is_out}
 use Rattle.swan_model.specs.Values.{kind_of, zero_of}
 use Rattle.swan_model.specs.Versions.{Version, settled, owed, Placed, VersionState, owing, placed_at}
-use Rattle.swan_model.specs.VersionsFollow.{Access, Begins, Follows, FollowsAt, IsGiving, IsVersionAt, is_object_give, object_give}
+use Rattle.swan_model.specs.VersionsFollow.{Access, Begins, ObjectsFollow, FollowsAt, IsGiving, IsVersionAt, is_object_give, object_give}
 use Rattle.object_versions.proofs.Differ.{not_true, reads_not-out, settled_not-owed}
 use Rattle.object_versions.proofs.Frames.{IsMoved, child_of, frame_number, own_moves, other_stays, path_kept, spawned_back, spawned_there}
 use Rattle.object_versions.proofs.GivingAccess.{no_frame}
@@ -62,7 +62,7 @@ begins_by s r origin t object PushPop is = inr (record { reads = refl; at = is.0
 
 module _ (s : Script) (r : Reading) (state : VersionState) (giver : Progress) (child : ℕ) (accesses : List Access) (lawful : IsLawful s)
     (known : frame_of r giver.number ≡ Some giver) (giving : IsGiving s r state giver child accesses []) where
-  abbrev follows : Follows s r state
+  abbrev follows : ObjectsFollow s r state
   follows = giving.follows
 
   abbrev gives : List OriginGive
@@ -328,7 +328,7 @@ module _ (s : Script) (r : Reading) (state : VersionState) (giver : Progress) (c
     | inr c ↦ subst (λ f. FollowsAt s after f has origin) (sym c.is) (follows_child place has origin (ap (λ k. placed_at state k place) (sym c.same) ∙ stands) made)
   ]
 
-  pub ends_given : Follows s (spawned s r giver child) state
+  pub ends_given : ObjectsFollow s (spawned s r giver child) state
   ends_given = record {
     tasks = tasks_spawned s r lawful follows.tasks giver child gives known next;
     root = (one_more giver.number follows.root.0, spawned_there s r giver child 0 follows.root.0 follows.root.1, path_kept giver.number follows.root.0 ∙ follows.root.2);

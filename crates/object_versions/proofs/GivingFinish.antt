@@ -8,7 +8,7 @@ use Rattle.swan_model.specs.declared.rights.Mode.TheVariants.{In, Out, InOut, Pu
 use Rattle.swan_model.specs.declared.script.Script.{Script}
 use Rattle.swan_model.specs.SerialTime.{Progress, Reading, frame_of, point, times}
 use Rattle.swan_model.specs.Versions.{Version, settled, owed, Placed, VersionState, IsSettled, owing, placed_at, after_finish, settle, settle_placed, still_owing}
-use Rattle.swan_model.specs.VersionsFollow.{Access, Begins, Follows, IsGiving, IsVersionAt}
+use Rattle.swan_model.specs.VersionsFollow.{Access, Begins, ObjectsFollow, IsGiving, IsVersionAt}
 use Rattle.object_versions.proofs.FinishFollows.{other_stays, still_owed, owing_other, right, settle_at, settled_by, still_given}
 use Rattle.object_versions.proofs.FinishPlaces.{after_kept, still_kept}
 use Rattle.object_versions.proofs.GivingKept.{IsAboveKept, IsBelowKept, IsUngiven, giving_kept}
@@ -21,7 +21,7 @@ finish_ungiven old n child ungiven = λ number place has stands given.
     let kept = after_kept old n number place has stands in
     ungiven number place kept.was kept.stood (still_given n child kept.was.given (sym (ap (λ (o : Placed). o.given) kept.now) ∙ given)).0
 
-module _ (s : Script) (r : Reading) (state : VersionState) (n : ℕ) (ended : Progress) (all_settled : IsSettled state n) (follows : Follows s r state)
+module _ (s : Script) (r : Reading) (state : VersionState) (n : ℕ) (ended : Progress) (all_settled : IsSettled state n) (follows : ObjectsFollow s r state)
     (known : frame_of r n ≡ Some ended) (all : ended.done ≡ length (times s ended.path)) where
   -- what a child begins with that may read
   abbrev BeginsLent : Origin → ℕ → Version → Option ℕ → Type 0
@@ -85,13 +85,13 @@ module _ (s : Script) (r : Reading) (state : VersionState) (n : ℕ) (ended : Pr
 -- a frame ended
 pub finish_giving : (old now : VersionState) (n : ℕ) → IsSettled old n → now ≡ after_finish old n
     → (s : Script) (r : Reading) (ended giver : Progress) (child : ℕ) (made left : List Access) → frame_of r n ≡ Some ended → ended.done ≡ length (times s ended.path)
-    → n ≢ giver.number → n ≢ child → IsGiving s r old giver child made left → Follows s r now → IsGiving s r now giver child made left
+    → n ≢ giver.number → n ≢ child → IsGiving s r old giver child made left → ObjectsFollow s r now → IsGiving s r now giver child made left
 finish_giving old now n all is = λ s r ended giver child made left known done not_giver not_child giving follows.
     subst (λ state. IsGiving s r state giver child made left) (sym is)
     (giving_kept s r r old (after_finish old n) giver child (λ object origin has. has)
     (above s r old n ended all giving.follows known done giver.number child not_giver not_child)
     (below s r old n ended all giving.follows known done child (point s giver) not_child)
-    made left giving (subst (Follows s r) is follows) giving.unread
+    made left giving (subst (ObjectsFollow s r) is follows) giving.unread
     (λ place object stands. let kept = after_kept old n child place object stands in (kept.was, kept.stood))
     (owes_before s r old n ended all giving.follows known done child)
     (finish_ungiven old n child giving.ungiven))

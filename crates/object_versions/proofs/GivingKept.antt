@@ -10,7 +10,7 @@ use Rattle.swan_model.specs.declared.script.Script.{Script}
 use Rattle.swan_model.specs.Rights.{allows}
 use Rattle.swan_model.specs.SerialTime.{Progress, Reading, frame_of, point}
 use Rattle.swan_model.specs.Versions.{owed, Placed, VersionState, placed_at}
-use Rattle.swan_model.specs.VersionsFollow.{Access, Begins, Follows, IsAccessMade, IsGiving, IsNextSpawn, is_object_give, object_give}
+use Rattle.swan_model.specs.VersionsFollow.{Access, Begins, ObjectsFollow, IsAccessMade, IsGiving, NextSpawnGivesObjects, is_object_give, object_give}
 use Rattle.object_versions.proofs.Moves.{IsSameTask, version_moves}
 use Rattle.object_versions.proofs.SpawnGives.{given_by}
 
@@ -73,7 +73,7 @@ module _ (s : Script) (r after : Reading) (old new : VersionState) (giver : Prog
       ∙ ap (option_map (λ origin. record { origin = origin; mode = access.mode })) made
       ∙ ap Some last
 
-  pub next_spawn_kept : (accesses : List Access) → IsNextSpawn s r old giver accesses → IsNextSpawn s after new giver accesses
+  pub next_spawn_kept : (accesses : List Access) → NextSpawnGivesObjects s r old giver accesses → NextSpawnGivesObjects s after new giver accesses
   next_spawn_kept accesses spawn = record {
     gives = spawn.gives;
     next = spawn.next;
@@ -101,7 +101,7 @@ module _ (s : Script) (r after : Reading) (old new : VersionState) (giver : Prog
         }
 
     -- as another frame goes on
-    pub giving_kept : (made left : List Access) → IsGiving s r old giver child made left → Follows s after new → frame_of after child ≡ None
+    pub giving_kept : (made left : List Access) → IsGiving s r old giver child made left → ObjectsFollow s after new → frame_of after child ≡ None
         → ((place : ℕ) (object : Placed) → placed_at new child place ≡ Some object → (was : Placed) × (placed_at old child place ≡ Some was))
         → ((number place : ℕ) (object : Placed) → placed_at new number place ≡ Some object → object.present ≡ owed child
         → (was : Placed) × (placed_at old number place ≡ Some was) × (was.present ≡ owed child))

@@ -14,7 +14,7 @@ use Rattle.swan_model.specs.Readings.{gone_on, next_deed, spawned}
 use Rattle.swan_model.specs.Rights.{allows}
 use Rattle.swan_model.specs.SerialTime.{Progress, Reading, frame_of}
 use Rattle.swan_model.specs.Versions.{Holds, MayGet, owed, Placed, VersionState, placed_at, after_access}
-use Rattle.swan_model.specs.VersionsFollow.{Access, Follows, IsGiving, IsNewFrame, IsNextSpawn, is_object_deed, is_object_give}
+use Rattle.swan_model.specs.VersionsFollow.{Access, ObjectsFollow, IsGiving, IsNewFrame, NextSpawnGivesObjects, is_object_deed, is_object_give}
 use Rattle.object_versions.proofs.Frames.{frame_number, gone_back, spawned_back}
 use Rattle.object_versions.proofs.GivingAccess.{no_frame}
 use Rattle.object_versions.proofs.GivingBegins.{giving_begins}
@@ -41,7 +41,7 @@ pass_giving s r state frame does giver child made left lawful giving known next 
 module _ (s : Script) (r : Reading) (state : VersionState) (parent : ℕ) (child_other : ℕ) (access : Access) (giver : Progress) (child : ℕ) (made left : List Access)
     (giving : IsGiving s r state giver child made left) (held : Holds state parent access.place access.mode) (free : placed_at state child_other access.child_place ≡ None)
     (not_giver : parent ≢ giver.number) (not_child : parent ≢ child) (giver_not : child_other ≢ giver.number) (child_not : child_other ≢ child)
-    (follows : Follows s r (after_access state parent access.place child_other access.child_place access.mode)) where
+    (follows : ObjectsFollow s r (after_access state parent access.place child_other access.child_place access.mode)) where
   abbrev object : Placed
   object = held.object
 
@@ -118,7 +118,7 @@ pub spawn_meanwhile : (s : Script) (r : Reading) (state : VersionState) (parent 
     → frame_of r parent.number ≡ Some parent → next_deed s parent ≡ Some (deed.Spawn gives) → filter is_object_give gives ≡ [] → IsNewFrame r state other → child ≢ other
     → IsGiving s r state giver child made left → IsGiving s (spawned s r parent other) state giver child made left
 spawn_meanwhile s r state parent giver other child gives made left lawful known next none new apart giving =
-    let spawn : IsNextSpawn s r state parent [] = record { gives = gives; next = next; objects = ap (map Some) (sym none) } in
+    let spawn : NextSpawnGivesObjects s r state parent [] = record { gives = gives; next = next; objects = ap (map Some) (sym none) } in
     spawn_beside s r state parent giver other child [] made left lawful known (giving_begins s r state parent other [] giving.follows new spawn) apart giving
 
 -- ---- in the shape of the call's clauses
@@ -139,7 +139,7 @@ module _ (old now : VersionState) (parent parent_place child child_place : ℕ) 
       (access_beside s r old parent child this giver other made left beside held free not_giver
       (λ same. no_frame r other own beside.unread (ap (frame_of r) (sym same) ∙ known))
       (λ same. no_frame r child giver giving.unread (ap (frame_of r) same ∙ giver_known))
-      apart (subst (Follows s r) is follows))
+      apart (subst (ObjectsFollow s r) is follows))
 
   -- and so does the last one, by which the spawn is done
   pub last_meanwhile : (s : Script) (r : Reading) (own giver : Progress) (other : ℕ) (done made left : List Access) → IsLawful s → frame_of r parent ≡ Some own

@@ -9,7 +9,7 @@ use Rattle.swan_model.specs.Readings.{gone_on, with_object}
 use Rattle.swan_model.specs.SerialTime.{Progress, Reading, frame_of, point}
 use Rattle.swan_model.specs.Values.{kind_of}
 use Rattle.swan_model.specs.Versions.{Version, settled, owed, Placed, VersionState, placed_at, with_placed, with_present, written_at, after_create, after_write}
-use Rattle.swan_model.specs.VersionsFollow.{Access, Follows, IsGiving}
+use Rattle.swan_model.specs.VersionsFollow.{Access, ObjectsFollow, IsGiving}
 use Rattle.object_versions.proofs.Differ.{settled_not-owed}
 use Rattle.object_versions.proofs.Frames.{gone_back}
 use Rattle.object_versions.proofs.GivingKept.{IsAboveKept, IsBelowKept, IsUngiven, begins_kept, giving_kept}
@@ -39,7 +39,7 @@ present_elsewhere state frame place object version n p stands apart =
 
 -- a frame that goes on, and is neither the parent nor the child, and leaves what both have
 module _ (s : Script) (r after : Reading) (old new : VersionState) (giver : Progress) (child : ℕ) (made left : List Access) (giving : IsGiving s r old giver child made left)
-    (follows : Follows s after new) (unread : frame_of after child ≡ None)
+    (follows : ObjectsFollow s after new) (unread : frame_of after child ≡ None)
     (back : (place : ℕ) (was : Placed) → placed_at old child place ≡ Some was → (number : ℕ) (now : Progress) → was.present ≡ owed number → frame_of after number ≡ Some now
     → IsSameTask r number now)
     (origins : (object : ℕ) (origin : Origin) → slice_get r.objects object ≡ Some origin → slice_get after.objects object ≡ Some origin)
@@ -85,11 +85,11 @@ create_owes old frame place first child number other has stands owes = elim (aft
 -- a frame made an object
 pub create_giving : (old now : VersionState) (frame place : ℕ) (first : Value) → now ≡ after_create old frame place first
     → (s : Script) (r : Reading) (origin : Origin) (giver : Progress) (child : ℕ) (made left : List Access) → frame ≢ giver.number → frame ≢ child
-    → IsGiving s r old giver child made left → Follows s (with_object (gone_on r frame) origin) now → IsGiving s (with_object (gone_on r frame) origin) now giver child made left
+    → IsGiving s r old giver child made left → ObjectsFollow s (with_object (gone_on r frame) origin) now → IsGiving s (with_object (gone_on r frame) origin) now giver child made left
 create_giving old now frame place first is = λ s r origin giver child made left not_giver not_child giving follows.
     let then : Reading = with_object (gone_on r frame) origin in
     subst (λ state. IsGiving s then state giver child made left) (sym is)
-    (others_leave s r then old (after_create old frame place first) giver child made left giving (subst (Follows s then) is follows) (unread_still r frame child giving.unread)
+    (others_leave s r then old (after_create old frame place first) giver child made left giving (subst (ObjectsFollow s then) is follows) (unread_still r frame child giving.unread)
     (λ p was stands number now owes there. same_task r frame number now (gone_back r frame number now there))
     (λ object of has. earlier_element r.objects origin object of has)
     (λ p. placed_elsewhere old frame place (made_object old first) giver.number p not_giver)
@@ -117,13 +117,13 @@ written_given old frame place value object child stood ungiven number other has 
 -- a frame wrote an object
 pub write_giving : (old now : VersionState) (frame place : ℕ) (value : Value) → now ≡ after_write old frame place value
     → (s : Script) (r : Reading) (object : Placed) (giver : Progress) (child : ℕ) (made left : List Access) → placed_at old frame place ≡ Some object → frame ≢ giver.number → frame ≢ child
-    → IsGiving s r old giver child made left → Follows s (gone_on r frame) now → IsGiving s (gone_on r frame) now giver child made left
+    → IsGiving s r old giver child made left → ObjectsFollow s (gone_on r frame) now → IsGiving s (gone_on r frame) now giver child made left
 write_giving old now frame place value is = λ s r object giver child made left stood not_giver not_child giving follows.
     let then : Reading = gone_on r frame in
     let state : VersionState = with_present old frame place object (settled value) in
     let same : now ≡ state = is ∙ ap (written_at old frame place value) stood in
     subst (λ state. IsGiving s then state giver child made left) (sym same)
-    (others_leave s r then old state giver child made left giving (subst (Follows s then) same follows) (unread_still r frame child giving.unread)
+    (others_leave s r then old state giver child made left giving (subst (ObjectsFollow s then) same follows) (unread_still r frame child giving.unread)
     (λ p was stands number now owes there. same_task r frame number now (gone_back r frame number now there))
     (λ object origin has. has)
     (λ p. present_elsewhere old frame place object (settled value) giver.number p stood not_giver)

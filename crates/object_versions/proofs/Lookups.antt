@@ -13,6 +13,7 @@ use Rattle.std.specs.Ordering.{is_eq, match_ordering, eq_by_cmp}
 use Rattle.std.specs.declared.cmp.Ordering.{Ordering}
 use Rattle.std.specs.declared.cmp.Ordering.TheVariants.{Less, Equal, Greater}
 use Rattle.swan_model.specs.Versions.{place_cmp}
+use Rattle.swan_model.proofs.Lookups.{swapped, hidden}
 
 pub place_total : IsTotalOrder place_cmp
 place_total = then_total (on_total (λ (k : ℕ × ℕ). k.0) nat_cmp_total) (on_total (λ (k : ℕ × ℕ). k.1) nat_cmp_total)
@@ -41,17 +42,6 @@ cases_place n k = by (is_at (place_cmp k) n) refl where
   by : (b : Bool) → is_at (place_cmp k) n ≡ b → (n ≡ k) ⊎ (n ≢ k)
   by true e = inl (sym (equal_at k n e))
   by false e = inr (λ same. false≢true (sym e ∙ ap (is_at (place_cmp k)) same ∙ tied k))
-
-swapped : {A : Type 0} (a b : Bool) (x y z : A) → (a ≡ true → b ≡ true → ⊥) → cond a x (cond b y z) ≡ cond b y (cond a x z)
-swapped true true x y z never = absurd (never refl refl)
-swapped true false x y z never = refl
-swapped false b x y z never = refl
-
-hidden : {A : Type 0} (a b : Bool) (x y z : A) → a ≡ b → cond a x z ≡ cond b x (cond a y z)
-hidden true true x y z e = refl
-hidden true false x y z e = absurd (false≢true (sym e))
-hidden false true x y z e = absurd (false≢true e)
-hidden false false x y z e = refl
 
 module _ {X : Type 0} where
   -- what stands at a place

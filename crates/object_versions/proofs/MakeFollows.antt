@@ -24,7 +24,7 @@ use Rattle.swan_model.specs.SerialTime.{Progress, Reading, frame_of, is_done, is
 use Rattle.swan_model.specs.Told.{cell, cell_from, is_same, made}
 use Rattle.swan_model.specs.Values.{kind_of}
 use Rattle.swan_model.specs.Versions.{settled, Placed, VersionState, placed_at, new_versions, after_create}
-use Rattle.swan_model.specs.VersionsFollow.{Follows, FollowsAt}
+use Rattle.swan_model.specs.VersionsFollow.{ObjectsFollow, FollowsAt}
 use Rattle.object_versions.proofs.Frames.{frame_number, gone_back, gone_there, path_kept}
 use Rattle.object_versions.proofs.PlacesAfter.{after_placed, sorted_in, still_placed}
 use Rattle.object_versions.proofs.Moves.{Owes, acting, at_gone, at_moves, does_now}
@@ -47,7 +47,7 @@ one_frame frame (suc i) other is = absurd (cc)
 abbrev start : Progress
 start = record { number = 0; path = []; done = 0 }
 
-pub new_follow : (s : Script) (queues : List Origin) → IsLawful s → Follows s (at_start queues []) new_versions
+pub new_follow : (s : Script) (queues : List Origin) → IsLawful s → ObjectsFollow s (at_start queues []) new_versions
 unfolding IsStrictlySortedBy
 new_follow s queues lawful = record {
   tasks = record {
@@ -72,7 +72,7 @@ new_follow s queues lawful = record {
 abbrev pub made_object : VersionState → Value → Placed
 made_object state value = record { object = state.made; kind = kind_of value; mode = InOut; given = None; present = settled value }
 
-module _ (s : Script) (r after : Reading) (state : VersionState) (follows : Follows s r state) (n place : ℕ) (first : Value) (origin : Origin)
+module _ (s : Script) (r after : Reading) (state : VersionState) (follows : ObjectsFollow s r state) (n place : ℕ) (first : Value) (origin : Origin)
     (free : placed_at state n place ≡ None) (objects : after.objects ≡ r.objects ++ origin ∷ []) (tasks : HasTasks s after)
     (root : (frame : Progress) × (frame_of after 0 ≡ Some frame) × (frame.path ≡ []))
     (done : (k : ℕ) → IsTrue (is_done s r k) → IsTrue (is_done s after k))
@@ -165,7 +165,7 @@ module _ (s : Script) (r after : Reading) (state : VersionState) (follows : Foll
         (own.0, own.1, still_placed state n place (made_object state first) frame own.0 own.1 free own.2, own.3, own.4)
   ]
 
-  made_follow : Follows s after (after_create state n place first)
+  made_follow : ObjectsFollow s after (after_create state n place first)
   made_follow = record {
     tasks = tasks;
     root = root;
@@ -220,8 +220,8 @@ root_holds_object s path index is less =
     ∙ or_second _ _ (ap (λ j. may_use (roots_from InOut 0 (length s.objects)) InOut (Root j)) e ∙ root_among (length s.objects) 0 index less)
 
 pub root_object_follows : (s : Script) (r : Reading) (state : VersionState) (n place : ℕ) (first : Value) (root : Progress) → placed_at state n place ≡ None → IsLawful s
-    → Follows s r state → n ≡ 0 → frame_of r 0 ≡ Some root → root.done ≡ 0 → slice_get s.objects state.made ≡ Some first
-    → Follows s (with_object r (Root state.made)) (after_create state n place first)
+    → ObjectsFollow s r state → n ≡ 0 → frame_of r 0 ≡ Some root → root.done ≡ 0 → slice_get s.objects state.made ≡ Some first
+    → ObjectsFollow s (with_object r (Root state.made)) (after_create state n place first)
 root_object_follows s r state n place first root free lawful follows own known done object =
     made_follow s r (with_object r (Root state.made)) state follows n place first (Root state.made) free refl
     (record {
@@ -254,8 +254,8 @@ root_object_follows s r state n place first root free lawful follows own known d
 -- ---- an object that a step makes
 
 pub made_object_follows : (s : Script) (r : Reading) (state : VersionState) (n place : ℕ) (first : Value) (maker : Progress) → placed_at state n place ≡ None → IsLawful s
-    → Follows s r state → frame_of r n ≡ Some maker → next_deed s maker ≡ Some (deed.MakeObject first)
-    → Follows s (with_object (gone_on r n) (Step (point s maker))) (after_create state n place first)
+    → ObjectsFollow s r state → frame_of r n ≡ Some maker → next_deed s maker ≡ Some (deed.MakeObject first)
+    → ObjectsFollow s (with_object (gone_on r n) (Step (point s maker))) (after_create state n place first)
 made_object_follows s r state n place first maker free lawful follows known next =
     let t : ℕ = point s maker in
     let own = frame_number r.frames n maker known in

@@ -16,7 +16,7 @@ use Rattle.swan_model.specs.Rights.{allows}
 use Rattle.swan_model.specs.SerialTime.{Progress, Reading, frame_of, point, time}
 use Rattle.swan_model.specs.Told.{cell, deed_at}
 use Rattle.swan_model.specs.Versions.{Version, settled, owed, Placed, VersionState, placed_at}
-use Rattle.swan_model.specs.VersionsFollow.{Follows, FollowsAt, IsVersionAt}
+use Rattle.swan_model.specs.VersionsFollow.{ObjectsFollow, FollowsAt, IsVersionAt}
 use Rattle.object_versions.proofs.Frames.{IsMoved, frame_number, other_stays, own_moves, path_kept}
 use Rattle.swan_model.proofs.ScriptCells.{cell_unchanged}
 use Rattle.swan_model.proofs.ScriptDeeds.{is_change_of}
@@ -153,7 +153,7 @@ at_gone s r after lawful n frame does known next other back number now object or
 
 -- ---- which object an origin is
 
-pub one_object : (s : Script) (r : Reading) (state : VersionState) → Follows s r state → (a b : ℕ) (origin : Origin) → slice_get r.objects a ≡ Some origin
+pub one_object : (s : Script) (r : Reading) (state : VersionState) → ObjectsFollow s r state → (a b : ℕ) (origin : Origin) → slice_get r.objects a ≡ Some origin
     → slice_get r.objects b ≡ Some origin → a ≡ b
 one_object s r state follows a b (Root i) is also = follows.roots a i is ∙ sym (follows.roots b i also)
 one_object s r state follows a b (Step n) is also = follows.different a b n is also

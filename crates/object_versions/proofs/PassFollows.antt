@@ -9,7 +9,7 @@ use Rattle.swan_model.specs.Lawful.{IsLawful}
 use Rattle.swan_model.specs.Readings.{gone_on, next_deed, one_more}
 use Rattle.swan_model.specs.SerialTime.{Progress, Reading, frame_of}
 use Rattle.swan_model.specs.Versions.{VersionState}
-use Rattle.swan_model.specs.VersionsFollow.{Follows, is_object_deed}
+use Rattle.swan_model.specs.VersionsFollow.{ObjectsFollow, is_object_deed}
 use Rattle.object_versions.proofs.Frames.{gone_back, gone_there, path_kept}
 use Rattle.object_versions.proofs.Moves.{at_gone, at_moves}
 use Rattle.swan_model.proofs.ScriptDeeds.{is_change_of}
@@ -28,7 +28,7 @@ other_unchanged origin (deed.Read object) other none = refl
 other_unchanged origin (deed.Write object value) other none = absurd (cc)
 
 -- the queues of the reading say nothing of objects
-pub any_queues : (s : Script) (r : Reading) (state : VersionState) (queues : List Origin) → Follows s r state → Follows s (record r { queues = queues }) state
+pub any_queues : (s : Script) (r : Reading) (state : VersionState) (queues : List Origin) → ObjectsFollow s r state → ObjectsFollow s (record r { queues = queues }) state
 any_queues s r state queues follows = record {
   tasks = record {
     different = follows.tasks.different;
@@ -49,8 +49,8 @@ any_queues s r state queues follows = record {
   owing = follows.owing;
 }
 
-same_queues_pass : (s : Script) (r : Reading) (state : VersionState) (frame : Progress) (does : Deed) → IsLawful s → Follows s r state
-    → frame_of r frame.number ≡ Some frame → next_deed s frame ≡ Some does → is_object_deed does ≡ false → is_spawn does ≡ false → Follows s (gone_on r frame.number) state
+same_queues_pass : (s : Script) (r : Reading) (state : VersionState) (frame : Progress) (does : Deed) → IsLawful s → ObjectsFollow s r state
+    → frame_of r frame.number ≡ Some frame → next_deed s frame ≡ Some does → is_object_deed does ≡ false → is_spawn does ≡ false → ObjectsFollow s (gone_on r frame.number) state
 same_queues_pass s r state frame does lawful follows known next other none = record {
   tasks = tasks_gone s r frame.number follows.tasks;
   root = (one_more frame.number follows.root.0, gone_there r frame.number 0 follows.root.0 follows.root.1, path_kept frame.number follows.root.0 ∙ follows.root.2);
@@ -68,8 +68,8 @@ same_queues_pass s r state frame does lawful follows known next other none = rec
   owing = follows.owing;
 }
 
-pub others_pass : (s : Script) (r : Reading) (state : VersionState) (frame : Progress) (does : Deed) → IsLawful s → Follows s r state
+pub others_pass : (s : Script) (r : Reading) (state : VersionState) (frame : Progress) (does : Deed) → IsLawful s → ObjectsFollow s r state
     → frame_of r frame.number ≡ Some frame → next_deed s frame ≡ Some does → is_object_deed does ≡ false → is_spawn does ≡ false → (queues : List Origin)
-    → Follows s (record (gone_on r frame.number) { queues = queues }) state
+    → ObjectsFollow s (record (gone_on r frame.number) { queues = queues }) state
 others_pass s r state frame does lawful follows known next other none queues =
     any_queues s (gone_on r frame.number) state queues (same_queues_pass s r state frame does lawful follows known next other none)

@@ -12,7 +12,7 @@ use Rattle.swan_model.specs.Rights.{allows}
 use Rattle.swan_model.specs.SerialTime.{Progress, Reading, frame_of, point}
 use Rattle.swan_model.specs.Told.{cell, is_same}
 use Rattle.swan_model.specs.Versions.{settled, Placed, VersionState, placed_at, with_present, written_at, after_write}
-use Rattle.swan_model.specs.VersionsFollow.{Follows, FollowsAt}
+use Rattle.swan_model.specs.VersionsFollow.{ObjectsFollow, FollowsAt}
 use Rattle.object_versions.proofs.Frames.{gone_back, gone_there, path_kept}
 use Rattle.object_versions.proofs.Differ.{not_true, settled_not-owed, writes_not-in}
 use Rattle.object_versions.proofs.PlacesAfter.{IsThere, after_present, back_present, sorted_set, still_present}
@@ -21,7 +21,7 @@ use Rattle.swan_model.proofs.Origins.{is_same-equal}
 use Rattle.swan_model.proofs.ScriptCells.{cell_written}
 use Rattle.object_versions.proofs.Tasks.{done_gone, tasks_gone}
 
-module _ (s : Script) (r : Reading) (state : VersionState) (lawful : IsLawful s) (follows : Follows s r state) (n place : ℕ) (writer : Progress) (object : Placed)
+module _ (s : Script) (r : Reading) (state : VersionState) (lawful : IsLawful s) (follows : ObjectsFollow s r state) (n place : ℕ) (writer : Progress) (object : Placed)
     (origin : Origin) (value : Value) (known : frame_of r n ≡ Some writer) (stands : placed_at state n place ≡ Some object) (may : allows object.mode Out ≡ true)
     (is : slice_get r.objects object.object ≡ Some origin) (next : next_deed s writer ≡ Some (deed.Write origin value)) where
   -- at the place of the write
@@ -86,7 +86,7 @@ module _ (s : Script) (r : Reading) (state : VersionState) (lawful : IsLawful s)
     | inr there ↦ owing_still frame has.object (follows.owing number other frame has there.was owes)
   ]
 
-  written : Follows s (gone_on r n) (with_present state n place object (settled value))
+  written : ObjectsFollow s (gone_on r n) (with_present state n place object (settled value))
   written = record {
     tasks = tasks_gone s r n follows.tasks;
     root = (one_more n follows.root.0, gone_there r n 0 follows.root.0 follows.root.1, path_kept n follows.root.0 ∙ follows.root.2);
@@ -107,7 +107,7 @@ module _ (s : Script) (r : Reading) (state : VersionState) (lawful : IsLawful s)
     owing = owing_at;
   }
 
-  pub write_follows : Follows s (gone_on r n) (after_write state n place value)
+  pub write_follows : ObjectsFollow s (gone_on r n) (after_write state n place value)
   write_follows =
       let same : after_write state n place value ≡ with_present state n place object (settled value) = ap (written_at state n place value) stands in
-      subst (λ now. Follows s (gone_on r n) now) (sym same) written
+      subst (λ now. ObjectsFollow s (gone_on r n) now) (sym same) written

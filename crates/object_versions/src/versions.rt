@@ -7,7 +7,7 @@ ghost use Rattle.swan_model.specs.declared.script.Script.{Script};
 ghost use Rattle.swan_model.specs.Lawful.{IsLawful};
 ghost use Rattle.swan_model.specs.Readings.{at_start, gone_on, next_deed, spawned, with_object};
 ghost use Rattle.swan_model.specs.SerialTime.{Progress, Reading, frame_of, point, times, version};
-ghost use Rattle.swan_model.specs.VersionsFollow.{Access, Follows, IsGiving};
+ghost use Rattle.swan_model.specs.VersionsFollow.{Access, ObjectsFollow, IsGiving};
 ghost use Rattle.swan_model.specs.declared.rights.Mode.TheVariants.{In, Out};
 ghost use Rattle.swan_model.specs.Rights.{allows, is_queue_mode};
 ghost use Rattle.swan_model.specs.Versions.{Placed, VersionState, new_versions, placed_at, settled, owed, after_create, after_access, after_write, after_finish, Holds, MayGet, IsSettled, Awaits};
@@ -49,7 +49,7 @@ impl Versions {
     /// No objects. It takes no memory. `O(1)`.
     pub fn new(alloc: Global) -> Versions
         ensures new { result ≡ new_versions }
-        ensures follows { (s : Script) (queues : List Origin) → IsLawful s → Follows s (at_start queues []) result }
+        ensures follows { (s : Script) (queues : List Origin) → IsLawful s → ObjectsFollow s (at_start queues []) result }
     {
         Versions {
             store: Store::new(alloc),
@@ -63,12 +63,12 @@ impl Versions {
     pub fn create(&mut self, frame: u64, place: u32, first: Value) -> Result<(), NoMemory>
         requires free { placed_at self.old frame place ≡ None }
         ensures ok { OnOk result (self.new ≡ after_create self.old frame place first) }
-        ensures root { OnOk result ((s : Script) (r : Reading) (root : Progress) → IsLawful s → Follows s r self.old → frame ≡ 0
+        ensures root { OnOk result ((s : Script) (r : Reading) (root : Progress) → IsLawful s → ObjectsFollow s r self.old → frame ≡ 0
             → frame_of r 0 ≡ Some root → root.done ≡ 0 → slice_get s.objects self.old.made ≡ Some first
-            → Follows s (with_object r (Root self.old.made)) self.new) }
-        ensures made { OnOk result ((s : Script) (r : Reading) (maker : Progress) → IsLawful s → Follows s r self.old
+            → ObjectsFollow s (with_object r (Root self.old.made)) self.new) }
+        ensures made { OnOk result ((s : Script) (r : Reading) (maker : Progress) → IsLawful s → ObjectsFollow s r self.old
             → frame_of r frame ≡ Some maker → next_deed s maker ≡ Some (deed.MakeObject first)
-            → Follows s (with_object (gone_on r frame) (Step (point s maker))) self.new) }
+            → ObjectsFollow s (with_object (gone_on r frame) (Step (point s maker))) self.new) }
         ensures giving { OnOk result ((s : Script) (r : Reading) (maker giver : Progress) (child : ℕ) (made left : List Access) → IsLawful s
             → frame ≢ giver.number → frame ≢ child → IsGiving s r self.old giver child made left
             → frame_of r frame ≡ Some maker → next_deed s maker ≡ Some (deed.MakeObject first)
@@ -119,7 +119,7 @@ impl Versions {
             OnOk result ((s : Script) (r : Reading) (giver : Progress) (made : List Access) → IsLawful s
             → frame_of r parent ≡ Some giver
             → IsGiving s r self.old giver child made (access ∷ [])
-            → Follows s (spawned s r giver child) self.new) }
+            → ObjectsFollow s (spawned s r giver child) self.new) }
         ensures beside { let access : Access = record { place = parent_place; child_place = child_place; mode = mode } in
             OnOk result ((s : Script) (r : Reading) (own giver : Progress) (other : ℕ) (done rest made left : List Access) → IsLawful s
             → frame_of r parent ≡ Some own → IsGiving s r self.old own child done (access ∷ rest)
@@ -168,7 +168,7 @@ impl Versions {
         requires placed { (object : Placed) × (placed_at self.now frame place ≡ Some object) }
         ensures ok { IfOk result (λ value. (object : Placed) → placed_at self.now frame place ≡ Some object → object.present ≡ settled value.now) }
         ensures err { IfErr result (λ owing. (object : Placed) → placed_at self.now frame place ≡ Some object → object.present ≡ owed owing) }
-        ensures follows { IfOk result (λ value. (s : Script) (r : Reading) (reader : Progress) (object : Placed) → Follows s r self.now
+        ensures follows { IfOk result (λ value. (s : Script) (r : Reading) (reader : Progress) (object : Placed) → ObjectsFollow s r self.now
             → frame_of r frame ≡ Some reader → placed_at self.now frame place ≡ Some object → version s r object.object reader ≡ Some value.now) }
         ensures owes { IfErr result (λ owing. (object : Placed) → placed_at self.now frame place ≡ Some object
             → (other : ℕ) × (has : Placed) × (placed_at self.now owing other ≡ Some has) × (has.object ≡ object.object) × (allows has.mode Out ≡ true)) }
@@ -185,10 +185,10 @@ impl Versions {
     pub fn write(&mut self, frame: u64, place: u32, value: Value) -> Result<(), NoMemory>
         requires placed { (object : Placed) × (placed_at self.old frame place ≡ Some object) }
         ensures ok { OnOk result (self.new ≡ after_write self.old frame place value) }
-        ensures follows { OnOk result ((s : Script) (r : Reading) (writer : Progress) (object : Placed) (origin : Origin) → IsLawful s → Follows s r self.old
+        ensures follows { OnOk result ((s : Script) (r : Reading) (writer : Progress) (object : Placed) (origin : Origin) → IsLawful s → ObjectsFollow s r self.old
             → frame_of r frame ≡ Some writer → placed_at self.old frame place ≡ Some object → allows object.mode Out ≡ true
             → slice_get r.objects object.object ≡ Some origin → next_deed s writer ≡ Some (deed.Write origin value)
-            → Follows s (gone_on r frame) self.new) }
+            → ObjectsFollow s (gone_on r frame) self.new) }
         ensures giving { OnOk result ((s : Script) (r : Reading) (writer giver : Progress) (child : ℕ) (made left : List Access) (object : Placed) (origin : Origin)
             → IsLawful s → frame ≢ giver.number → frame ≢ child → IsGiving s r self.old giver child made left
             → frame_of r frame ≡ Some writer → placed_at self.old frame place ≡ Some object → allows object.mode Out ≡ true
@@ -216,8 +216,8 @@ impl Versions {
     pub fn finish(&mut self, frame: u64) -> Result<(), NoMemory>
         requires settled { IsSettled self.old frame }
         ensures ok { OnOk result (self.new ≡ after_finish self.old frame) }
-        ensures follows { OnOk result ((s : Script) (r : Reading) (ended : Progress) → IsLawful s → Follows s r self.old
-            → frame_of r frame ≡ Some ended → ended.done ≡ length (times s ended.path) → Follows s r self.new) }
+        ensures follows { OnOk result ((s : Script) (r : Reading) (ended : Progress) → IsLawful s → ObjectsFollow s r self.old
+            → frame_of r frame ≡ Some ended → ended.done ≡ length (times s ended.path) → ObjectsFollow s r self.new) }
         ensures giving { OnOk result ((s : Script) (r : Reading) (ended giver : Progress) (child : ℕ) (made left : List Access) → IsLawful s
             → frame ≢ giver.number → frame ≢ child → IsGiving s r self.old giver child made left
             → frame_of r frame ≡ Some ended → ended.done ≡ length (times s ended.path) → IsGiving s r self.new giver child made left) }

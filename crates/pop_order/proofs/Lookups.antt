@@ -14,29 +14,10 @@ use Rattle.std.specs.declared.cmp.Ordering.{Ordering}
 use Rattle.std.specs.declared.cmp.Ordering.TheVariants.{Less, Equal, Greater}
 use Rattle.pop_order.specs.Frames.{Frame, Frames, frame_at}
 use Rattle.pop_order.proofs.Flags.{and_parts}
-
-tied : (k n : ℕ) → k ≡ n → is_at (nat_cmp k) n ≡ true
-tied k n e = grind (arith, nat_tests)
-
-untied : (k n : ℕ) → n ≢ k → is_at (nat_cmp k) n ≡ false
-untied k n apart = grind (arith, nat_tests)
-
-equal_at : (k n : ℕ) → is_at (nat_cmp k) n ≡ true → k ≡ n
-equal_at k n h = grind (arith, nat_tests)
+use Rattle.swan_model.proofs.Lookups.{tied, untied, equal_at, swapped, hidden}
 
 one_key : (k x y : ℕ) → is_at (nat_cmp k) x ≡ true → is_at (nat_cmp k) y ≡ eq_by_cmp nat_cmp x y
 one_key k x y h = ap (λ z. is_at (nat_cmp z) y) (equal_at k x h)
-
-swapped : {A : Type 0} (a b : Bool) (x y z : A) → (a ≡ true → b ≡ true → ⊥) → cond a x (cond b y z) ≡ cond b y (cond a x z)
-swapped true true x y z never = absurd (never refl refl)
-swapped true false x y z never = refl
-swapped false b x y z never = refl
-
-hidden : {A : Type 0} (a b : Bool) (x y z : A) → a ≡ b → cond a x z ≡ cond b x (cond a y z)
-hidden true true x y z e = refl
-hidden true false x y z e = absurd (false≢true (sym e))
-hidden false true x y z e = absurd (false≢true e)
-hidden false false x y z e = refl
 
 -- an entry that comes in is found, and all others as before
 found_in : (k : ℕ) (v : Frame) (n : ℕ) (es : Frames) → frame_at (insert_entry nat_cmp es k v) n ≡ cond (is_at (nat_cmp n) k) (Some v) (frame_at es n)

@@ -14,15 +14,15 @@ use Rattle.job_reader.specs.declared.atom.Atom.{Atom}
 use Rattle.job_reader.specs.declared.atom.Atom.TheVariants as atom
 use Rattle.privilege_check.specs.Lending.{clashes}
 use Rattle.privilege_check.specs.Spawns.{clash, in_front_of, is_lent_twice, lent}
-use Rattle.privilege_check.specs.declared.meaning.Meaning.{Meaning}
-use Rattle.privilege_check.specs.declared.meaning.Meaning.TheVariants.{Variable, Held}
+use Rattle.privilege_check.specs.declared.declaration.Declaration.{Declaration}
+use Rattle.privilege_check.specs.declared.declaration.Declaration.TheVariants.{Variable, Held}
 
 -- one more name at the front of those that are lent from a place on
-lent_next : (takes : List Meaning) (args : List Atom) (n : ℕ) (t : Meaning) (a : Atom) (mode : Mode) (k : Kind) (name : List ℕ) → n < length takes → n < length args → get_or takes n t ≡ Held mode k → get_or args n a ≡ atom.Name name → lent (drop n takes) (drop n args) ≡ (name, mode) ∷ lent (drop (suc n) takes) (drop (suc n) args)
+lent_next : (takes : List Declaration) (args : List Atom) (n : ℕ) (t : Declaration) (a : Atom) (mode : Mode) (k : Kind) (name : List ℕ) → n < length takes → n < length args → get_or takes n t ≡ Held mode k → get_or args n a ≡ atom.Name name → lent (drop n takes) (drop n args) ≡ (name, mode) ∷ lent (drop (suc n) takes) (drop (suc n) args)
 lent_next takes args n t a mode k name in_takes in_args is_held is_name =
     rw (drop-cons takes n t in_takes, drop-cons args n a in_args, is_held, is_name) refl
 
-pub lent_more : (takes : List Meaning) (args : List Atom) (i : ℕ) (t : Meaning) (a : Atom) (mode : Mode) (k : Kind) (name : List ℕ) → 0 < i → i ≤ length takes → i ≤ length args → get_or takes (i - 1) t ≡ Held mode k → get_or args (i - 1) a ≡ atom.Name name → lent (drop (i - 1) takes) (drop (i - 1) args) ≡ (name, mode) ∷ lent (drop i takes) (drop i args)
+pub lent_more : (takes : List Declaration) (args : List Atom) (i : ℕ) (t : Declaration) (a : Atom) (mode : Mode) (k : Kind) (name : List ℕ) → 0 < i → i ≤ length takes → i ≤ length args → get_or takes (i - 1) t ≡ Held mode k → get_or args (i - 1) a ≡ atom.Name name → lent (drop (i - 1) takes) (drop (i - 1) args) ≡ (name, mode) ∷ lent (drop i takes) (drop i args)
 lent_more takes args i t a mode k name above in_takes in_args is_held is_name =
     let next : suc (i - 1) ≡ i = omega arith in
     lent_next takes args (i - 1) t a mode k name (omega arith) (omega arith) is_held is_name
@@ -63,18 +63,18 @@ clash_later name mode ((other, held) ∷ more) once =
       | inr apart ↦ rw apart (clash_later name mode more parts.1)
     ]
 
-none_lent : (takes : List Meaning) → lent takes [] ≡ []
+none_lent : (takes : List Declaration) → lent takes [] ≡ []
 none_lent [] = refl
 none_lent (t ∷ takes) = refl
 
-front_twice : (t : Meaning) (a : Atom) (gifts : List (List ℕ × Mode)) → is_lent_twice gifts ≡ true → is_lent_twice (in_front_of t a gifts) ≡ true
+front_twice : (t : Declaration) (a : Atom) (gifts : List (List ℕ × Mode)) → is_lent_twice gifts ≡ true → is_lent_twice (in_front_of t a gifts) ≡ true
 front_twice (Variable k) a gifts twice = twice
 front_twice (Held mode k) (atom.Int n) gifts twice = twice
 front_twice (Held mode k) (atom.Bytes bytes) gifts twice = twice
 front_twice (Held mode k) (atom.Name name) gifts twice = or_right (list_any (clash (name, mode)) gifts) (is_lent_twice gifts) twice
 
 -- what is lent twice from a place on is lent twice
-pub lent_twice_from : (n : ℕ) (takes : List Meaning) (args : List Atom) → is_lent_twice (lent (drop n takes) (drop n args)) ≡ true → is_lent_twice (lent takes args) ≡ true
+pub lent_twice_from : (n : ℕ) (takes : List Declaration) (args : List Atom) → is_lent_twice (lent (drop n takes) (drop n args)) ≡ true → is_lent_twice (lent takes args) ≡ true
 lent_twice_from zero takes args twice = twice
 lent_twice_from (suc n) [] args twice = twice
 lent_twice_from (suc n) (t ∷ takes) [] twice = rw (none_lent (drop n takes)) at twice

@@ -7,12 +7,12 @@ use Rattle.swan_model.specs.declared.rights.Mode.TheVariants.{InOut, Push, Pop, 
 use Rattle.swan_model.specs.declared.value.Kind.TheVariants as kind
 use Rattle.job_reader.specs.declared.line.Line.{Line}
 use Rattle.job_reader.specs.declared.line.Line.TheVariants as line
-use Rattle.privilege_check.specs.declared.meaning.Meaning.{Meaning}
-use Rattle.privilege_check.specs.declared.meaning.Meaning.TheVariants.{Variable, Held}
+use Rattle.privilege_check.specs.declared.declaration.Declaration.{Declaration}
+use Rattle.privilege_check.specs.declared.declaration.Declaration.TheVariants.{Variable, Held}
 
 -- what each name stands for, if it is known
 abbrev pub Names : Type 0
-Names = List ℕ → Option Meaning
+Names = List ℕ → Option Declaration
 
 abbrev pub no_names : {A : Type 0} → List ℕ → Option A
 no_names name = None
@@ -21,10 +21,10 @@ no_names name = None
 -- was, and the names that it declares; and what each task takes, in order: values where it takes a
 -- variable, and else an object or a queue and the rights to it.
 pub record Before : Type 0 where
-  pub top : List ℕ → Option Meaning
+  pub top : List ℕ → Option Declaration
   pub open_task : Option (List ℕ)
-  pub own : List ℕ → Option Meaning
-  pub tasks : List ℕ → Option (List Meaning)
+  pub own : List ℕ → Option Declaration
+  pub tasks : List ℕ → Option (List Declaration)
 
 -- before the first line
 abbrev pub at_start : Before
@@ -43,29 +43,29 @@ abbrev pub known : Before → Names
 known before = known_in before.open_task before.own before.top
 
 -- A declaration adds a name at the top level, or to the open task.
-abbrev pub with_name : List ℕ → Meaning → Names → Names
-with_name name meaning names = update bytes_eq names name (Some meaning)
+abbrev pub with_name : List ℕ → Declaration → Names → Names
+with_name name declaration names = update bytes_eq names name (Some declaration)
 
-abbrev pub declared_in : Option (List ℕ) → List ℕ → Meaning → Before → Before
-declared_in None name meaning before = record before { top = with_name name meaning before.top }
-declared_in (Some task) name meaning before = record before { own = with_name name meaning before.own }
+abbrev pub declared_in : Option (List ℕ) → List ℕ → Declaration → Before → Before
+declared_in None name declaration before = record before { top = with_name name declaration before.top }
+declared_in (Some task) name declaration before = record before { own = with_name name declaration before.own }
 
-abbrev pub declared : List ℕ → Meaning → Before → Before
-declared name meaning before = declared_in before.open_task name meaning before
+abbrev pub declared : List ℕ → Declaration → Before → Before
+declared name declaration before = declared_in before.open_task name declaration before
 
 -- A `param` or access line says what the open task takes next.
-abbrev pub with_next : List ℕ → Meaning → (List ℕ → Option (List Meaning)) → List ℕ → Option (List Meaning)
-with_next task meaning tasks = update bytes_eq tasks task (option_map (λ takes. takes ++ meaning ∷ []) (tasks task))
+abbrev pub with_next : List ℕ → Declaration → (List ℕ → Option (List Declaration)) → List ℕ → Option (List Declaration)
+with_next task declaration tasks = update bytes_eq tasks task (option_map (λ takes. takes ++ declaration ∷ []) (tasks task))
 
-abbrev pub taken_by : Option (List ℕ) → Meaning → Before → Before
-taken_by None meaning before = before
-taken_by (Some task) meaning before = record before { tasks = with_next task meaning before.tasks }
+abbrev pub taken_by : Option (List ℕ) → Declaration → Before → Before
+taken_by None declaration before = before
+taken_by (Some task) declaration before = record before { tasks = with_next task declaration before.tasks }
 
-abbrev pub with_taken : Meaning → Before → Before
-with_taken meaning before = taken_by before.open_task meaning before
+abbrev pub with_taken : Declaration → Before → Before
+with_taken declaration before = taken_by before.open_task declaration before
 
-abbrev pub taken : List ℕ → Meaning → Before → Before
-taken name meaning before = with_taken meaning (declared name meaning before)
+abbrev pub taken : List ℕ → Declaration → Before → Before
+taken name declaration before = with_taken declaration (declared name declaration before)
 
 -- a `task` line opens a task, which takes and declares nothing so far
 abbrev pub opened : List ℕ → Before → Before

@@ -12,31 +12,31 @@ use Rattle.job_reader.specs.declared.fault.JobKind.{JobKind}
 use Rattle.job_reader.specs.declared.fault.JobKind.TheVariants as fault
 use Rattle.privilege_check.specs.Names.{Before, is_main, known, Names}
 use Rattle.privilege_check.specs.Uses.{held, value}
-use Rattle.privilege_check.specs.declared.meaning.Meaning.{Meaning}
-use Rattle.privilege_check.specs.declared.meaning.Meaning.TheVariants.{Variable, Held}
+use Rattle.privilege_check.specs.declared.declaration.Declaration.{Declaration}
+use Rattle.privilege_check.specs.declared.declaration.Declaration.TheVariants.{Variable, Held}
 
 -- the task that is spawned, as what it takes; main is never spawned
-abbrev pub as_child : List ℕ → Option (List Meaning) → Result (List Meaning) JobKind
+abbrev pub as_child : List ℕ → Option (List Declaration) → Result (List Declaration) JobKind
 as_child task None = Err fault.Unknown
 as_child task (Some takes) = if is_main task then Err fault.MainParams else Ok takes
 
 -- an argument for what a task takes: an atom for a variable, and else a name with the rights
-abbrev pub argument : Names → Meaning → Atom → Result Kind JobKind
+abbrev pub argument : Names → Declaration → Atom → Result Kind JobKind
 argument names (Variable k) a = value names (Some k) a
 argument names (Held mode k) (atom.Name name) = held names (Some k) mode name
 argument names (Held mode k) _ = Err fault.Kind
 
 -- arguments in their order
-abbrev pub arguments : Names → List Meaning → List Atom → Result (Unit {0}) JobKind
+abbrev pub arguments : Names → List Declaration → List Atom → Result (Unit {0}) JobKind
 arguments names (takes ∷ more) (a ∷ others) = argument names takes a >>= λ _. arguments names more others
 arguments names _ _ = Ok tt
 
 -- the objects and queues among them, each with how the child may use it
-abbrev pub in_front_of : Meaning → Atom → List (List ℕ × Mode) → List (List ℕ × Mode)
+abbrev pub in_front_of : Declaration → Atom → List (List ℕ × Mode) → List (List ℕ × Mode)
 in_front_of (Held mode k) (atom.Name name) others = (name, mode) ∷ others
 in_front_of _ _ others = others
 
-abbrev pub lent : List Meaning → List Atom → List (List ℕ × Mode)
+abbrev pub lent : List Declaration → List Atom → List (List ℕ × Mode)
 lent (takes ∷ more) (a ∷ others) = in_front_of takes a (lent more others)
 lent _ _ = []
 
@@ -52,7 +52,7 @@ abbrev pub unaliased : List (List ℕ × Mode) → Result (Unit {0}) JobKind
 unaliased gifts = if is_lent_twice gifts then Err fault.Alias else Ok tt
 
 -- what a task is given: as many arguments as it takes, each as it takes it, and nothing twice
-abbrev pub given : Names → List Atom → List Meaning → Result (Unit {0}) JobKind
+abbrev pub given : Names → List Atom → List Declaration → Result (Unit {0}) JobKind
 given names args takes =
     if length args == length takes
     then (arguments names takes args >>= λ _. unaliased (lent takes args))

@@ -10,8 +10,8 @@ use Rattle.job_reader.specs.declared.atom.Atom.TheVariants as atom
 use Rattle.job_reader.specs.declared.fault.JobKind.{JobKind}
 use Rattle.job_reader.specs.declared.fault.JobKind.TheVariants as fault
 use Rattle.privilege_check.specs.Names.{Names}
-use Rattle.privilege_check.specs.declared.meaning.Meaning.{Meaning}
-use Rattle.privilege_check.specs.declared.meaning.Meaning.TheVariants.{Variable, Held}
+use Rattle.privilege_check.specs.declared.declaration.Declaration.{Declaration}
+use Rattle.privilege_check.specs.declared.declaration.Declaration.TheVariants.{Variable, Held}
 
 -- whether a kind is the one that a place asks, if it asks one
 abbrev pub is_asked : Option Kind → Kind → Bool
@@ -24,7 +24,7 @@ abbrev pub of_kind : Option Kind → Kind → Result Kind JobKind
 of_kind asked k = if is_asked asked k then Ok k else Err fault.Kind
 
 -- a name in a variable's place: the kind of the variable
-abbrev pub as_variable : Option Kind → Option Meaning → Result Kind JobKind
+abbrev pub as_variable : Option Kind → Option Declaration → Result Kind JobKind
 as_variable asked None = Err fault.Unknown
 as_variable asked (Some (Variable k)) = of_kind asked k
 as_variable asked (Some (Held mode k)) = Err fault.Kind
@@ -37,7 +37,7 @@ abbrev pub is_same_sort : Mode → Mode → Bool
 is_same_sort a b = if is_queue_mode a then is_queue_mode b else not (is_queue_mode b)
 
 -- a name in the place of an object or a queue that is used by a mode: its kind
-abbrev pub as_held : Option Kind → Mode → Option Meaning → Result Kind JobKind
+abbrev pub as_held : Option Kind → Mode → Option Declaration → Result Kind JobKind
 as_held asked mode None = Err fault.Unknown
 as_held asked mode (Some (Variable k)) = Err fault.Kind
 as_held asked mode (Some (Held own k)) =

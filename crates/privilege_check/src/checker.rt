@@ -6,7 +6,7 @@ ghost use Rattle.privilege_check.specs.Checking.{by_name, state_of};
 ghost use Rattle.privilege_check.specs.Names.{after, at_start, declared, is_main, known, opened, taken, with_next, with_taken};
 ghost use Rattle.privilege_check.specs.FirstFault.{has_main, is_in_main};
 
-use crate::meaning::Meaning;
+use crate::declaration::Declaration;
 use job_reader::{JobFault, JobKind, Line};
 use std::alloc::Global;
 use std::collections::BTreeMap;
@@ -17,13 +17,13 @@ use swan_model::{Kind, Listed, Mode, NoMemory, Word};
 pub struct Checker<'a> {
     alloc: Global,
     /// The names of the top level.
-    top: BTreeMap<&'a str, Meaning>,
+    top: BTreeMap<&'a str, Declaration>,
     /// The task that was opened last.
     open_task: Option<&'a Word>,
     /// The names that it declares.
-    own: BTreeMap<&'a str, Meaning>,
+    own: BTreeMap<&'a str, Declaration>,
     /// What each task takes.
-    tasks: BTreeMap<&'a str, Listed<Meaning>>,
+    tasks: BTreeMap<&'a str, Listed<Declaration>>,
 }
 
 /// Whether a task is `main`.
@@ -47,16 +47,16 @@ fn set<'a, V: Drop>(
 
 /// Adds to what a task takes, if it is known. `O(log tasks)`.
 fn take_next<'a>(
-    tasks: &mut BTreeMap<&'a str, Listed<Meaning>>,
+    tasks: &mut BTreeMap<&'a str, Listed<Declaration>>,
     task: &Word,
-    meaning: Meaning,
+    declaration: Declaration,
 ) -> Result<(), NoMemory>
-    ensures { OnOk result (by_name tasks.new ≡ with_next task.now meaning (by_name tasks.old)) }
+    ensures { OnOk result (by_name tasks.new ≡ with_next task.now declaration (by_name tasks.old)) }
 {
     let Some(takes) = tasks.get_mut(task.as_str()) else {
         return Ok(());
     };
-    match takes.push(meaning) {
+    match takes.push(declaration) {
         Ok(()) => Ok(()),
         Err(_) => Err(NoMemory),
     }
@@ -84,14 +84,14 @@ impl<'a> Checker<'a> {
     }
 
     /// What a name stands for, if it is known. `O(log names)`.
-    pub fn meaning(&self, name: &Word) -> Option<Meaning>
+    pub fn declaration(&self, name: &Word) -> Option<Declaration>
         ensures { result ≡ known (state_of self.now) name.now }
     {
         let Some(task) = self.open_task else {
             return self.top.get(name.as_str()).copied();
         };
         match self.own.get(name.as_str()) {
-            Some(meaning) => Some(*meaning),
+            Some(declaration) => Some(*declaration),
             None if is_main(task) => self.top.get(name.as_str()).copied(),
             None => None,
         }
@@ -108,7 +108,7 @@ impl<'a> Checker<'a> {
     }
 
     /// What a task takes, if it is known. `O(log tasks)`.
-    pub fn takes(&self, task: &str) -> Option<&Listed<Meaning>>
+    pub fn takes(&self, task: &str) -> Option<&Listed<Declaration>>
         ensures { option_copied result ≡ (state_of self.now).tasks task.now }
     {
         self.tasks.get(task)
@@ -132,46 +132,49 @@ impl<'a> Checker<'a> {
         ensures { OnOk result (state_of self.new ≡ after (state_of self.old) line.now) }
     {
         match line {
-            Line::Input(name) => self.declare(name, Meaning::Held(Mode::Pop, Kind::Bytes)),
-            Line::Output(name, kind) => self.declare(name, Meaning::Held(Mode::Push, *kind)),
-            Line::Object(name, kind) => self.declare(name, Meaning::Held(Mode::InOut, *kind)),
+            Line::Input(name) => self.declare(name, Declaration::Held(Mode::Pop, Kind::Bytes)),
+            Line::Output(name, kind) => self.declare(name, Declaration::Held(Mode::Push, *kind)),
+            Line::Object(name, kind) => self.declare(name, Declaration::Held(Mode::InOut, *kind)),
             Line::Task(name) => self.open(name),
-            Line::Param(name, kind) => self.declare_taken(name, Meaning::Variable(*kind)),
-            Line::Access(mode, name, kind) => self.declare_taken(name, Meaning::Held(*mode, *kind)),
-            Line::Var(name, kind) => self.declare(name, Meaning::Variable(*kind)),
-            Line::Queue(name, kind) => self.declare(name, Meaning::Held(Mode::PushPop, *kind)),
+            Line::Param(name, kind) => self.declare_taken(name, Declaration::Variable(*kind)),
+            Line::Access(mode, name, kind) => self.declare_taken(
+                name,
+                Declaration::Held(*mode, *kind),
+            ),
+            Line::Var(name, kind) => self.declare(name, Declaration::Variable(*kind)),
+            Line::Queue(name, kind) => self.declare(name, Declaration::Held(Mode::PushPop, *kind)),
             _ => Ok(()),
         }
     }
 
     /// Adds a name at the top level, or to the open task.
-    fn declare(&mut self, name: &'a Word, meaning: Meaning) -> Result<(), NoMemory>
-        ensures { OnOk result (state_of self.new ≡ declared name.now meaning (state_of self.old)) }
+    fn declare(&mut self, name: &'a Word, declaration: Declaration) -> Result<(), NoMemory>
+        ensures { OnOk result (state_of self.new ≡ declared name.now declaration (state_of self.old)) }
     {
         if self.open_task.is_some() {
-            set(&mut self.own, name, meaning)
+            set(&mut self.own, name, declaration)
         } else {
-            set(&mut self.top, name, meaning)
+            set(&mut self.top, name, declaration)
         }
     }
 
     /// Adds to what the open task takes.
-    fn take(&mut self, meaning: Meaning) -> Result<(), NoMemory>
-        ensures { OnOk result (state_of self.new ≡ with_taken meaning (state_of self.old)) }
+    fn take(&mut self, declaration: Declaration) -> Result<(), NoMemory>
+        ensures { OnOk result (state_of self.new ≡ with_taken declaration (state_of self.old)) }
     {
         let Some(task) = self.open_task else {
             return Ok(());
         };
-        take_next(&mut self.tasks, task, meaning)?;
+        take_next(&mut self.tasks, task, declaration)?;
         Ok(())
     }
 
     /// Adds a name that the open task takes.
-    fn declare_taken(&mut self, name: &'a Word, meaning: Meaning) -> Result<(), NoMemory>
-        ensures { OnOk result (state_of self.new ≡ taken name.now meaning (state_of self.old)) }
+    fn declare_taken(&mut self, name: &'a Word, declaration: Declaration) -> Result<(), NoMemory>
+        ensures { OnOk result (state_of self.new ≡ taken name.now declaration (state_of self.old)) }
     {
-        self.declare(name, meaning)?;
-        self.take(meaning)?;
+        self.declare(name, declaration)?;
+        self.take(declaration)?;
         Ok(())
     }
 

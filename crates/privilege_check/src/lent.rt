@@ -5,7 +5,7 @@ ghost use Rattle.privilege_check.specs.Checking.{by_name};
 ghost use Rattle.privilege_check.specs.Lending.{clashes};
 ghost use Rattle.privilege_check.specs.Spawns.{is_lent_twice, lent};
 
-use crate::meaning::Meaning;
+use crate::declaration::Declaration;
 use job_reader::Atom;
 use std::alloc::Global;
 use std::collections::BTreeMap;
@@ -33,13 +33,13 @@ fn lend<'a>(lent: &mut BTreeMap<&'a str, Mode>, name: &'a str, mode: Mode) -> Re
 
 /// Whether an object or a queue is given twice, and not only to read. `O(n log n)` for n arguments, and
 /// an allocation now and then.
-pub fn is_lent_twice(alloc: Global, takes: &[Meaning], args: &[Atom]) -> Result<bool, NoMemory>
+pub fn is_lent_twice(alloc: Global, takes: &[Declaration], args: &[Atom]) -> Result<bool, NoMemory>
     requires { length args.now ≡ length takes.now }
     ensures { IfOk result (λ twice. twice ≡ is_lent_twice (lent takes.now args.now)) }
 {
     let mut lent = BTreeMap::new(alloc);
     for index in (0..args.len()).rev() {
-        if let (Meaning::Held(mode, _), Atom::Name(name)) = (takes[index], &args[index]) {
+        if let (Declaration::Held(mode, _), Atom::Name(name)) = (takes[index], &args[index]) {
             if lend(&mut lent, name.as_str(), mode)? {
                 return Ok(true);
             }

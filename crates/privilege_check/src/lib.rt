@@ -19,9 +19,9 @@
 
 mod checked;
 mod checker;
+mod declaration;
 mod lent;
 mod line;
-mod meaning;
 mod operation;
 mod refusal;
 mod spawn;

@@ -15,7 +15,7 @@ impl Checker<'_> {
     fn fresh(&self, name: &Word) -> Result<(), JobKind>
         ensures { result ≡ fresh (known (state_of self.now) name.now) }
     {
-        match self.meaning(name) {
+        match self.declaration(name) {
             None => Ok(()),
             Some(_) => Err(JobKind::Duplicate),
         }

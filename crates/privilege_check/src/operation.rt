@@ -6,7 +6,7 @@ ghost use Rattle.privilege_check.specs.Operations.{assignment, first_kind, later
 ghost use Rattle.privilege_check.specs.Uses.{held, value, variable};
 
 use crate::checker::Checker;
-use crate::meaning::of_kind;
+use crate::declaration::of_kind;
 use job_reader::{Atom, JobKind, Op};
 use swan_model::{Kind, Mode, Word};
 
@@ -50,9 +50,9 @@ impl Checker<'_> {
     pub fn variable(&self, asked: Option<Kind>, name: &Word) -> Result<Kind, JobKind>
         ensures { result ≡ variable (known (state_of self.now)) asked name.now }
     {
-        match self.meaning(name) {
+        match self.declaration(name) {
             None => Err(JobKind::Unknown),
-            Some(meaning) => meaning.as_variable(asked),
+            Some(declaration) => declaration.as_variable(asked),
         }
     }
 
@@ -61,9 +61,9 @@ impl Checker<'_> {
     pub fn held(&self, asked: Option<Kind>, mode: Mode, name: &Word) -> Result<Kind, JobKind>
         ensures { result ≡ held (known (state_of self.now)) asked mode name.now }
     {
-        match self.meaning(name) {
+        match self.declaration(name) {
             None => Err(JobKind::Unknown),
-            Some(meaning) => meaning.as_held(asked, mode),
+            Some(declaration) => declaration.as_held(asked, mode),
         }
     }
 

@@ -5,8 +5,8 @@ ghost use Rattle.privilege_check.specs.Names.{known};
 ghost use Rattle.privilege_check.specs.Spawns.{argument, arguments, given, is_lent_twice, lent, spawn};
 
 use crate::checker::{Checker, is_main};
+use crate::declaration::Declaration;
 use crate::lent::is_lent_twice;
-use crate::meaning::Meaning;
 use crate::refusal::CheckLine;
 use job_reader::{Atom, JobKind};
 use swan_model::{Kind, Word};
@@ -14,18 +14,18 @@ use swan_model::{Kind, Word};
 impl Checker<'_> {
     /// An argument for what a task takes: an atom for a variable, and else a name with the rights.
     /// `O(log names)`.
-    fn argument(&self, taken: Meaning, atom: &Atom) -> Result<Kind, JobKind>
+    fn argument(&self, taken: Declaration, atom: &Atom) -> Result<Kind, JobKind>
         ensures { result ≡ argument (known (state_of self.now)) taken atom.now }
     {
         match (taken, atom) {
-            (Meaning::Variable(kind), _) => self.value(Some(kind), atom),
-            (Meaning::Held(mode, kind), Atom::Name(name)) => self.held(Some(kind), mode, name),
+            (Declaration::Variable(kind), _) => self.value(Some(kind), atom),
+            (Declaration::Held(mode, kind), Atom::Name(name)) => self.held(Some(kind), mode, name),
             _ => Err(JobKind::Kind),
         }
     }
 
     /// Arguments in their order. `O(arguments · log names)`.
-    fn arguments(&self, takes: &[Meaning], args: &[Atom]) -> Result<(), JobKind>
+    fn arguments(&self, takes: &[Declaration], args: &[Atom]) -> Result<(), JobKind>
         ensures { result ≡ arguments (known (state_of self.now)) takes.now args.now }
     {
         for (taken, atom) in takes.iter().zip(args) {
@@ -36,7 +36,7 @@ impl Checker<'_> {
 
     /// What a task is given: as many arguments as it takes, each as it takes it, and nothing twice.
     /// `O(arguments · log names)`.
-    fn given(&self, takes: &[Meaning], args: &[Atom]) -> Result<(), CheckLine>
+    fn given(&self, takes: &[Declaration], args: &[Atom]) -> Result<(), CheckLine>
         ensures { Gives result (given (known (state_of self.now)) args.now takes.now) }
     {
         if args.len() != takes.len() {

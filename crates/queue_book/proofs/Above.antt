@@ -3,7 +3,7 @@ use Rattle.std.proofs.Common.{◌≡◌, ◌⊎◌, inl, inr, ℕ, zero, suc, �
 use Rattle.std.proofs.lemmas.Option.{same_Some}
 use Rattle.std.specs.Prelude.{slice_get}
 use Rattle.swan_model.specs.declared.rights.Mode.{Mode}
-use Rattle.swan_model.specs.QueueState.{ActiveFrame, Maker, QueueState, active, holds_queue}
+use Rattle.swan_model.specs.QueueState.{ActiveFrame, QueueMaker, QueueState, active, holds_queue}
 use Rattle.swan_model.proofs.Lists.{last_of, last_same, some_within}
 use Rattle.queue_book.specs.Tree.{IsHeld, made, given, IsTree, has_queue, maker_path}
 use Rattle.queue_book.proofs.Frames.{active_number, same_frame, has_held}
@@ -21,7 +21,7 @@ not_root (first ∷ path) rest part is = absurd (cc)
 
 module _ (state : QueueState) (tree : IsTree state) where
   -- who has a queue is its maker, or below it
-  below_maker : (fuel number queue : ℕ) (frame : ActiveFrame) (maker : Maker) → number < fuel → active state number ≡ Some frame → has_queue frame queue ≡ true
+  below_maker : (fuel number queue : ℕ) (frame : ActiveFrame) (maker : QueueMaker) → number < fuel → active state number ≡ Some frame → has_queue frame queue ≡ true
       → slice_get state.makers queue ≡ Some maker → (below : List ℕ) × (frame.path ≡ maker_path maker ++ below)
   below_maker zero number queue frame maker less live has at = absurd (omega arith)
   below_maker (suc fuel) number queue frame maker less live has at =
@@ -44,13 +44,13 @@ module _ (state : QueueState) (tree : IsTree state) where
           ap (λ p. p ++ from.index ∷ []) upper.1 ∙ append_assoc (maker_path maker) upper.0 (from.index ∷ []) in
           (upper.0 ++ from.index ∷ [], from.path ∙ ap (λ (g : ActiveFrame). g.path ++ from.index ∷ []) one ∙ parts)
 
-  pub under_maker : (number queue : ℕ) (frame : ActiveFrame) (maker : Maker) → active state number ≡ Some frame → has_queue frame queue ≡ true
+  pub under_maker : (number queue : ℕ) (frame : ActiveFrame) (maker : QueueMaker) → active state number ≡ Some frame → has_queue frame queue ≡ true
       → slice_get state.makers queue ≡ Some maker → (below : List ℕ) × (frame.path ≡ maker_path maker ++ below)
   under_maker number queue frame maker live has at = below_maker (suc number) number queue frame maker (omega arith) live has at
 
   -- the maker of a queue that an active frame has
   pub maker_of : (number queue : ℕ) (frame : ActiveFrame) → active state number ≡ Some frame → has_queue frame queue ≡ true
-      → (maker : Maker) × (slice_get state.makers queue ≡ Some maker)
+      → (maker : QueueMaker) × (slice_get state.makers queue ≡ Some maker)
   maker_of number queue frame live has = some_within state.makers queue (tree.held number queue frame live has).0
 
   -- What is told of a frame is told of its parent too, where that is below a path towards its child of this index.
@@ -140,7 +140,7 @@ module _ (state : QueueState) (tree : IsTree state) where
   climb Told top part up number frame rest live path told = climbs Told top part up (suc number) number frame rest (omega arith) live path told
 
   -- who uses a queue that was made elsewhere uses it by right of its parent
-  pub held_above : (queue : ℕ) (mode : Mode) (maker : Maker) (top : List ℕ) (part : ℕ) → slice_get state.makers queue ≡ Some maker
+  pub held_above : (queue : ℕ) (mode : Mode) (maker : QueueMaker) (top : List ℕ) (part : ℕ) → slice_get state.makers queue ≡ Some maker
       → ((rest : List ℕ) → maker_path maker ≡ top ++ part ∷ rest → ⊥) → Climbs (λ frame. holds_queue frame queue mode ≡ true) top part
   held_above queue mode maker top part at elsewhere number parent frame above rest live of alive path held =
       by (tree.held number queue frame live (has_held frame queue mode held)).1

@@ -4,7 +4,7 @@ use Rattle.std.proofs.lemmas.Bool.{eq-eqb, ne_eqb}
 use Rattle.std.specs.List.{find}
 use Rattle.std.specs.Option.{option_map}
 use Rattle.swan_model.specs.QueueState.{ActiveFrame, QueueRight, QueueState, active, after_finish, after_spawn, changed, changing, child_of, with_deed}
-use Rattle.queue_book.proofs.Elements.{find_map}
+use Rattle.swan_model.proofs.Elements.{find_map}
 use Rattle.queue_book.proofs.FramesChanged.{find_last, find_others}
 use Rattle.queue_book.proofs.Frames.{active_number}
 

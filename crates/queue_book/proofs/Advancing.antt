@@ -15,7 +15,7 @@ use Rattle.swan_model.specs.SerialTime.{Progress, is_queue_deed, point, time, ti
 use Rattle.swan_model.specs.Told.{deed_at}
 use Rattle.swan_model.proofs.ScriptSteps.{at_next, deed_is, next_stands}
 use Rattle.queue_book.proofs.Between.{own_last}
-use Rattle.queue_book.proofs.Elements.{as_number, filtered_more}
+use Rattle.swan_model.proofs.Elements.{as_number, filtered_more}
 use Rattle.queue_book.proofs.Fitting.{is_queue_time}
 use Rattle.queue_book.proofs.QueuePoints.{last-ends}
 

@@ -3,7 +3,7 @@ use Rattle.std.proofs.Common.{◌≡◌, inl, inr, ℕ, Option, Some, None, List
 use Rattle.std.proofs.lemmas.Bool.{cases_eq}
 use Rattle.std.specs.List.{list_any}
 use Rattle.std.specs.Prelude.{◌==◌, true}
-use Rattle.swan_model.specs.QueueState.{ActiveFrame, Maker, QueueState, QueueRight, active, changing}
+use Rattle.swan_model.specs.QueueState.{ActiveFrame, QueueMaker, QueueState, QueueRight, active, changing}
 use Rattle.queue_book.specs.Whole.{IsInUse}
 use Rattle.queue_book.proofs.ActiveAfter.{KeepsNumber, others_changed, own_changed}
 
@@ -54,7 +54,7 @@ alike_changing state n frame change keeps live is m = elim (cases_eq m n) [
   | inr other ↦ alike_same (active state m) (active (changing state n change) m) (others_changed state n change keeps m other)
 ]
 
-pub in_use_back : (state after : QueueState) (queue : ℕ) (maker : Maker) → AreAlike state after → IsInUse after queue maker → IsInUse state queue maker
+pub in_use_back : (state after : QueueState) (queue : ℕ) (maker : QueueMaker) → AreAlike state after → IsInUse after queue maker → IsInUse state queue maker
 in_use_back state after queue maker alike (inl of_root) = inl of_root
 in_use_back state after queue maker alike (inr (number, now, live, has)) =
     let was = alike_back (active state number) (active after number) now (alike number) live in

@@ -9,7 +9,7 @@ use Rattle.swan_model.specs.declared.script.Deed.TheVariants as deed
 use Rattle.swan_model.specs.declared.script.Script.{Script}
 use Rattle.swan_model.specs.declared.value.Value.{Value}
 use Rattle.swan_model.specs.QueueFollows.{origin_in, IsNextAbout}
-use Rattle.swan_model.specs.QueueState.{Lent, Maker, QueueState, after_deed, with_deed}
+use Rattle.swan_model.specs.QueueState.{Lent, QueueMaker, QueueState, after_deed, with_deed}
 use Rattle.queue_book.specs.Asks.{MayDo, MayUse, IsOnTurn, OnNext}
 use Rattle.queue_book.specs.Book.{Chunks, without_spent, with_item, without_first}
 use Rattle.queue_book.specs.Chains.{Link, AreChained, in_line}
@@ -98,7 +98,7 @@ module _ (name : Option Script) (state : QueueState) (frames : LiveFrames) (head
     plain : IsPlain name state (in_line q without_spent is.lines)
     plain = trim name state frames heads nodes turns is n q (look_of state n q may)
 
-    maker : (one : Maker) × (slice_get state.makers q ≡ Some one)
+    maker : (one : QueueMaker) × (slice_get state.makers q ≡ Some one)
     maker = maker_of state is.plain.tree n q may.act.frame may.act.may.live (has_held may.act.frame q Pop may.held)
 
     pub book_test : OnNext name state n (λ s f. IsNextAbout deed.Test s state f q) → AreChained (key_at frames) after_heads after_nodes (in_line q without_spent is.lines)

@@ -8,7 +8,7 @@ use Rattle.pop_order.proofs.Flags.{and_parts, eq_of, eq_same, not_true}
 use Rattle.pop_order.specs.Frames.{Frames, without}
 use Rattle.swan_model.specs.declared.script.Script.{Script}
 use Rattle.swan_model.specs.QueueFollows.{next_queue_deed, origin_in}
-use Rattle.swan_model.specs.QueueState.{ActiveFrame, Maker, planned, made_by, QueueState, active, after_finish, IsOfRoot}
+use Rattle.swan_model.specs.QueueState.{ActiveFrame, QueueMaker, planned, made_by, QueueState, active, after_finish, IsOfRoot}
 use Rattle.swan_model.specs.Readings.{end_time}
 use Rattle.swan_model.proofs.Lists.{some_within}
 use Rattle.queue_book.specs.Asks.{MayJoin, OnNext}
@@ -40,14 +40,14 @@ gone_now state n = by (active (after_finish state n) n) refl where
   by None e = refl
   by (Some frame) e = absurd (find_gone state.frames n frame e)
 
-in_use_before : (state : QueueState) (n q : ℕ) (maker : Maker) → IsInUse (after_finish state n) q maker → IsInUse state q maker
+in_use_before : (state : QueueState) (n q : ℕ) (maker : QueueMaker) → IsInUse (after_finish state n) q maker → IsInUse state q maker
 in_use_before state n q maker (inl of_root) = inl of_root
 in_use_before state n q maker (inr (m, frame, live, has)) = elim (cases_eq m n) [
   | inl here ↦ let never : None ≡ Some frame = sym (gone_now state n) ∙ ap (active (after_finish state n)) (sym here) ∙ live in absurd (cc)
   | inr other ↦ inr (m, frame, sym (others_finished state n m other) ∙ live, has)
 ]
 
-root_path : (maker : Maker) → IsOfRoot (Some maker) → maker_path maker ≡ []
+root_path : (maker : QueueMaker) → IsOfRoot (Some maker) → maker_path maker ≡ []
 root_path (planned index) is = refl
 root_path (made_by path deeds) is = is
 
@@ -62,7 +62,7 @@ below_root state tree n frame live other none =
 
 module _ (name : Option Script) (state : QueueState) (lines : ℕ → Chunks) (is : IsPlain name state lines) (n : ℕ) (may : MayJoin state n)
     (over : OnNext name state n (λ s f. next_queue_deed s f.path f.deeds ≡ None)) (kept : KeptFrame) (agrees : IsFrame state kept may.frame) where
-  module _ (q : ℕ) (maker : Maker) (made : slice_get state.makers q ≡ Some maker) where
+  module _ (q : ℕ) (maker : QueueMaker) (made : slice_get state.makers q ≡ Some maker) where
     line_gone : has_queue may.frame q ≡ false → IsLine name (after_finish state n) q maker (lines q)
     line_gone lacks =
         let line = is.queues q maker made in

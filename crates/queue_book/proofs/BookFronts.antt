@@ -10,7 +10,7 @@ use Rattle.swan_model.specs.declared.script.Script.{Script}
 use Rattle.swan_model.specs.declared.value.Value.{Value}
 use Rattle.swan_model.specs.Lawful.{IsLawful}
 use Rattle.swan_model.specs.QueueFollows.{next_item, origin_in, is_ripe_among}
-use Rattle.swan_model.specs.QueueState.{ActiveFrame, Maker, QueueState, active, holds_queue, HasTurn, IsPoppingChild}
+use Rattle.swan_model.specs.QueueState.{ActiveFrame, QueueMaker, QueueState, active, holds_queue, HasTurn, IsPoppingChild}
 use Rattle.swan_model.specs.Readings.{end_time}
 use Rattle.queue_book.specs.Asks.{is_emptied, MayLook, MayUse, IsOnTurn}
 use Rattle.queue_book.specs.Book.{Chunk, Chunks, HasOwners, IsOwner, Matches, without_spent}
@@ -80,7 +80,7 @@ module _ (name : Option Script) (state : QueueState) (frames : LiveFrames) (live
   pub has : has_queue may.frame q ≡ true
   has = has_held may.frame q Pop may.held
 
-  pub made : (maker : Maker) × (slice_get state.makers q ≡ Some maker)
+  pub made : (maker : QueueMaker) × (slice_get state.makers q ≡ Some maker)
   made = maker_of state is.tree n q may.frame may.may.live has
 
   pub owners : HasOwners state q (lines q)

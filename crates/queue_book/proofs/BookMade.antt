@@ -11,7 +11,7 @@ use Rattle.swan_model.specs.declared.script.Deed.TheVariants as deed
 use Rattle.swan_model.specs.declared.script.Script.{Script}
 use Rattle.swan_model.specs.declared.value.Value.{Value}
 use Rattle.swan_model.specs.QueueFollows.{next_queue_deed}
-use Rattle.swan_model.specs.QueueState.{ActiveFrame, Maker, planned, made_by, QueueState, active, after_create, after_create_root, holds_queue, with_deed, with_made, IsUntouched}
+use Rattle.swan_model.specs.QueueState.{ActiveFrame, QueueMaker, planned, made_by, QueueState, active, after_create, after_create_root, holds_queue, with_deed, with_made, IsUntouched}
 use Rattle.queue_book.specs.Asks.{DEEDS_MOST, MayDo, IsOnTurn, OnNext}
 use Rattle.queue_book.specs.Book.{own}
 use Rattle.queue_book.specs.Chains.{Link, AreChained, in_line, put_at}
@@ -27,8 +27,8 @@ use Rattle.queue_book.proofs.ActiveAfter.{AreOthers, others_changed, own_changed
 use Rattle.queue_book.proofs.BookDeeds.{counted, lent_none, not_lent}
 use Rattle.queue_book.proofs.ChainChanges.{chained_same}
 use Rattle.queue_book.proofs.Frames.{active_number, has_held, same_frame}
-use Rattle.queue_book.proofs.FramesChanged.{get_front, get_last}
-use Rattle.queue_book.proofs.ListPlaces.{get-push}
+use Rattle.queue_book.proofs.FramesChanged.{get_front}
+use Rattle.swan_model.proofs.Elements.{more_cases, last_more}
 use Rattle.queue_book.proofs.LiveKept.{kept_live, key_none, keys_same, live_one, place_has}
 use Rattle.queue_book.proofs.LivePut.{keys_put, place_elsewhere, place_here, places_made}
 use Rattle.queue_book.proofs.Making.{holds_before, holds_cases}
@@ -39,19 +39,19 @@ pub one_place : (o : Option OwnChunk) (a b : OwnChunk) → o ≡ Some a → o �
 one_place o a b one two = let both : Some a ≡ Some b = sym one ∙ two in cc
 
 module _ (name : Option Script) (state after : QueueState) (frames : LiveFrames) (heads : List (Option ℕ)) (nodes : Slab Link) (turns : Frames) (is : IsBook name state frames heads nodes turns)
-    (n : ℕ) (frame later : ActiveFrame) (maker : Maker) (live : active state n ≡ Some frame) (now : active after n ≡ Some later) (others : AreOthers state after n)
+    (n : ℕ) (frame later : ActiveFrame) (maker : QueueMaker) (live : active state n ≡ Some frame) (now : active after n ≡ Some later) (others : AreOthers state after n)
     (makers : after.makers ≡ state.makers ++ maker ∷ []) (parent : later.parent ≡ frame.parent) (path : later.path ≡ frame.path) (rights : later.rights ≡ (with_made (length state.makers) frame).rights)
     (own_maker : frame.path ≡ maker_path maker) where
   i : ℕ
   i = length state.makers
 
-  old_maker : (q : ℕ) (one : Maker) → q < length state.makers → slice_get after.makers q ≡ Some one → slice_get state.makers q ≡ Some one
+  old_maker : (q : ℕ) (one : QueueMaker) → q < length state.makers → slice_get after.makers q ≡ Some one → slice_get state.makers q ≡ Some one
   old_maker q one less at =
-      elim (get-push state.makers maker q one (ap (λ (ms : List Maker). slice_get ms q) (sym makers) ∙ at)) [ inl old ↦ old | inr new ↦ let is_last = new.0 in absurd (omega arith) ]
+      elim (more_cases state.makers maker q one (ap (λ (ms : List QueueMaker). slice_get ms q) (sym makers) ∙ at)) [ inl old ↦ old | inr new ↦ let is_last = new.0 in absurd (omega arith) ]
 
-  new_maker : (one : Maker) → slice_get after.makers (length state.makers) ≡ Some one → one ≡ maker
+  new_maker : (one : QueueMaker) → slice_get after.makers (length state.makers) ≡ Some one → one ≡ maker
   new_maker one at =
-      let both : Some one ≡ Some maker = sym at ∙ ap (λ (ms : List Maker). slice_get ms (length state.makers)) makers ∙ get_last state.makers maker in
+      let both : Some one ≡ Some maker = sym at ∙ ap (λ (ms : List QueueMaker). slice_get ms (length state.makers)) makers ∙ last_more state.makers maker in
       cc
 
   later_holds : (q : ℕ) (mode : Mode) → holds_queue later q mode ≡ holds_queue (with_made (length state.makers) frame) q mode
@@ -84,15 +84,15 @@ module _ (name : Option Script) (state after : QueueState) (frames : LiveFrames)
               elim (holds_cases frame (length state.makers) q mode held_later) [
                 | inl old ↦
                     is.turned.all m above q mode frame (ap (active state) here ∙ live) (sym parent ∙ ap (λ (f : ActiveFrame). f.parent) (sym same) ∙ of) old
-                    (λ old_one made is_own. apart old_one (ap (λ (ms : List Maker). slice_get ms q) makers ∙ get_front state.makers (maker ∷ []) q old_one made)
+                    (λ old_one made is_own. apart old_one (ap (λ (ms : List QueueMaker). slice_get ms q) makers ∙ get_front state.makers (maker ∷ []) q old_one made)
                     (ap (λ (f : ActiveFrame). f.path) same ∙ path ∙ is_own))
                 | inr new ↦
-                    absurd (apart maker (ap (λ (ms : List Maker). slice_get ms q) makers ∙ ap (λ k. slice_get (state.makers ++ maker ∷ []) k) new ∙ get_last state.makers maker)
+                    absurd (apart maker (ap (λ (ms : List QueueMaker). slice_get ms q) makers ∙ ap (λ k. slice_get (state.makers ++ maker ∷ []) k) new ∙ last_more state.makers maker)
                     (ap (λ (f : ActiveFrame). f.path) same ∙ path ∙ own_maker))
               ]
           | inr other ↦
               is.turned.all m above q mode one (sym (others m other) ∙ live_one) of held
-              (λ old_one made is_own. apart old_one (ap (λ (ms : List Maker). slice_get ms q) makers ∙ get_front state.makers (maker ∷ []) q old_one made) is_own)
+              (λ old_one made is_own. apart old_one (ap (λ (ms : List QueueMaker). slice_get ms q) makers ∙ get_front state.makers (maker ∷ []) q old_one made) is_own)
         ];
   }
 

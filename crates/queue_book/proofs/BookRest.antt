@@ -10,7 +10,7 @@ use Rattle.pop_order.specs.Frames.{Frames}
 use Rattle.swan_model.specs.declared.script.Script.{Script}
 use Rattle.swan_model.specs.declared.value.Value.{Value}
 use Rattle.swan_model.specs.QueueFollows.{origin_in}
-use Rattle.swan_model.specs.QueueState.{ActiveFrame, Maker, planned, made_by, QueueState, active, after_take_rest, IsOfRoot}
+use Rattle.swan_model.specs.QueueState.{ActiveFrame, QueueMaker, planned, made_by, QueueState, active, after_take_rest, IsOfRoot}
 use Rattle.swan_model.specs.Readings.{end_time}
 use Rattle.queue_book.specs.Asks.{is_emptied, IsRestLeft}
 use Rattle.queue_book.specs.Book.{HasOwners, Matches, items_in}
@@ -52,7 +52,7 @@ none_active state tree over m frame live =
     let never : None ≡ Some root.0 = sym over ∙ root.1 in
     cc
 
-of_root : (maker : Maker) → IsOfRoot (Some maker) → maker_path maker ≡ []
+of_root : (maker : QueueMaker) → IsOfRoot (Some maker) → maker_path maker ≡ []
 of_root (planned index) is = refl
 of_root (made_by path deeds) is = is
 
@@ -83,11 +83,11 @@ module _ (name : Option Script) (state : QueueState) (frames : LiveFrames) (head
   pub rest_unowned : (m : ℕ) → key_at frames m q ≡ None
   rest_unowned m = key_none state frames is.live m q (λ frame live has. none_active state is.plain.tree left.over m frame live)
 
-  maker : (one : Maker) × (slice_get state.makers q ≡ Some one)
+  maker : (one : QueueMaker) × (slice_get state.makers q ≡ Some one)
   maker = some_within state.makers q left.known
 
   is_root : IsOfRoot (Some maker.0)
-  is_root = let P : Option Maker → Type 0 = λ o. IsOfRoot o in subst P maker.1 left.made
+  is_root = let P : Option QueueMaker → Type 0 = λ o. IsOfRoot o in subst P maker.1 left.made
 
   pub rest_is : is_emptied state q ≡ false → (items : List Value) → items ≡ items_in (is.lines q) → OnQueue name state q (λ s origin. items ≡ rest_of s origin)
   rest_is full items are =

@@ -8,8 +8,8 @@ use Rattle.slab.specs.Slab.{Slab}
 use Rattle.pop_order.specs.Frames.{Frame, Frames, frame_at, holds}
 use Rattle.swan_model.specs.declared.rights.Mode.{Mode}
 use Rattle.swan_model.specs.declared.script.Script.{Script}
-use Rattle.swan_model.specs.QueueFollows.{IsNextSpawn}
-use Rattle.swan_model.specs.QueueState.{ActiveFrame, Maker, QueueRight, QueueState, active, after_spawn, child_of, holds_queue, with_deed}
+use Rattle.swan_model.specs.QueueFollows.{NextSpawnGivesQueues}
+use Rattle.swan_model.specs.QueueState.{ActiveFrame, QueueMaker, QueueRight, QueueState, active, after_spawn, child_of, holds_queue, with_deed}
 use Rattle.swan_model.specs.Rights.{allows}
 use Rattle.queue_book.specs.Asks.{MaySpawn, IsOnTurn, OnNext}
 use Rattle.queue_book.specs.Chains.{Link, AreChained}
@@ -104,7 +104,7 @@ module _ (name : Option Script) (state : QueueState) (frames : LiveFrames) (head
   other_live : (m : ℕ) → m ≢ p → m ≢ child → active after m ≡ active state m
   other_live m a b = others_spawned state p child may.act.frame gives may.act.may.live free m a b
 
-  in_use_before : (q : ℕ) (maker : Maker) → IsInUse after q maker → IsInUse state q maker
+  in_use_before : (q : ℕ) (maker : QueueMaker) → IsInUse after q maker → IsInUse state q maker
   in_use_before q maker (inl of_root) = inl of_root
   in_use_before q maker (inr (m, frame, live, has)) = by (cases_eq m child) (cases_eq m p) where
     by : (m ≡ child) ⊎ (m ≢ child) → (m ≡ p) ⊎ (m ≢ p) → IsInUse state q maker
@@ -241,7 +241,7 @@ module _ (name : Option Script) (state : QueueState) (frames : LiveFrames) (head
             (was.0, other_live m other apart ∙ was.1, was.2, was.3)
 
       all_now : (m above q : ℕ) (mode : Mode) (one : ActiveFrame) → active after m ≡ Some one → one.parent ≡ Some above
-          → holds_queue one q mode ≡ true → ((maker : Maker) → slice_get state.makers q ≡ Some maker → one.path ≢ maker_path maker)
+          → holds_queue one q mode ≡ true → ((maker : QueueMaker) → slice_get state.makers q ≡ Some maker → one.path ≢ maker_path maker)
           → (turn : Frame) × (frame_at then_turns m ≡ Some turn) × (turn.parent ≡ above) × (holds turn.holdings q mode ≡ true)
       all_now m above q mode one live of held foreign = by (cases_eq m child) (cases_eq m p) where
         by : (m ≡ child) ⊎ (m ≢ child) → (m ≡ p) ⊎ (m ≢ p) → (turn : Frame) × (frame_at then_turns m ≡ Some turn) × (turn.parent ≡ above) × (holds turn.holdings q mode ≡ true)
@@ -263,7 +263,7 @@ module _ (name : Option Script) (state : QueueState) (frames : LiveFrames) (head
             let turn = is.turned.all m above q mode one (sym (other_live m other apart) ∙ live) of held foreign in
             (turn.0, done.given.other_turns m apart ∙ turn.1, turn.2, turn.3)
 
-    pub book_spawn : OnNext name state p (λ s g. IsNextSpawn s state g gives) → IsOnTurn name state p
+    pub book_spawn : OnNext name state p (λ s g. NextSpawnGivesQueues s state g gives) → IsOnTurn name state p
         → IsBook name (after_spawn state may.act.frame child gives) after_frames heads then_nodes then_turns
     book_spawn next turn = record {
       lines = lines_after_gives p child gives is.lines;

@@ -12,7 +12,7 @@ use Rattle.swan_model.specs.QueueFollows.{AreByEnds, IsTask, QueuesFollow, is_by
 use Rattle.swan_model.specs.QueueState.{ActiveFrame, LentEnd, QueueState, active, after_back, after_deed, after_lend, after_take_rest, new_state, root_frame, with_deed}
 use Rattle.swan_model.proofs.Lists.{some_within}
 use Rattle.queue_book.proofs.Changing.{IsChange, changed_follows, made_on, task_on}
-use Rattle.queue_book.proofs.Elements.{found_is, some_same}
+use Rattle.swan_model.proofs.Elements.{found_is, some_same}
 use Rattle.queue_book.proofs.Lineage.{is_spawn_time}
 use Rattle.queue_book.proofs.Moving.{is_making, point_next, used_task}
 use Rattle.queue_book.proofs.Places.{take-none}

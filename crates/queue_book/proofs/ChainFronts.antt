@@ -8,7 +8,7 @@ use Rattle.swan_model.specs.declared.value.Value.{Value}
 use Rattle.queue_book.specs.Book.{Chunk, Chunks, is_spent, without_spent, without_first}
 use Rattle.queue_book.specs.Chains.{Link, chunk_of, is_among, IsChain, IsFront, AreChained, in_line}
 use Rattle.queue_book.specs.declared.chains.Front.TheVariants as front
-use Rattle.queue_book.proofs.ListPlaces.{get-set}
+use Rattle.swan_model.proofs.Elements.{set_cases}
 use Rattle.queue_book.proofs.ChainKept.{one_link, chain_same, in_chain, apart_from}
 
 -- where a queue has no node, it has no chunk
@@ -121,7 +121,7 @@ module _ (at : ℕ → ℕ → Option ℕ) (heads : List (Option ℕ)) (nodes : 
     chained_drop_first updates unowned = record {
       chains = λ q head now_has.
           let P : Bool → Type 0 = λ b. (keys : List ℕ) × IsChain after q head keys (if b then drop 1 (lines q) else lines q) in
-          elim (get-set heads queue (Some key) link.next q head has now_has) [
+          elim (set_cases heads queue (Some key) link.next q head has now_has) [
             | inl here ↦
                 let first = first_chunk key link has stands in
                 let b_is : (q == queue) ≡ true = ap (λ n. n == queue) here.0 ∙ eq_same queue in

@@ -8,7 +8,7 @@ use Rattle.pop_order.proofs.Flags.{and_both, and_parts, eq_of, eq_same, or_cases
 use Rattle.swan_model.specs.declared.value.Value.{Value}
 use Rattle.queue_book.specs.Book.{Chunk, Chunks, own, is_owned, after_hand_on}
 use Rattle.queue_book.specs.Chains.{Link, chunk_of, is_among, IsChain, AreChained, in_line, put_at}
-use Rattle.queue_book.proofs.ListPlaces.{get-push}
+use Rattle.swan_model.proofs.Elements.{more_cases}
 use Rattle.queue_book.proofs.ChainKept.{one_link, chain_same, in_chain, owned_by, owned_so}
 use Rattle.queue_book.proofs.ChainChanges.{one_some, put_same, put_other}
 
@@ -53,7 +53,7 @@ module _ (at : ℕ → ℕ → Option ℕ) (heads : List (Option ℕ)) (nodes : 
   chained_make = record {
     chains = λ q head has.
         let P : Bool → Type 0 = λ b. (keys : List ℕ) × IsChain after q head keys (if b then (own owner items ∷ []) else lines q) in
-        elim (get-push heads (Some key) q head has) [
+        elim (more_cases heads (Some key) q head has) [
           | inl old ↦
               let one = is.chains q head old in
               let apart : q ≢ length heads = λ e. let within : q < length heads = slice_get_within heads q head old in omega arith in

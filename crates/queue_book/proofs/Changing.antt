@@ -10,8 +10,8 @@ use Rattle.swan_model.specs.declared.script.Entry.{Entry}
 use Rattle.swan_model.specs.declared.script.Script.{Script}
 use Rattle.swan_model.specs.PathOrder.{is_under}
 use Rattle.swan_model.specs.QueueFollows.{IsChildOf, IsMade, IsTask, QueuesFollow, is_done_among, is_reached, queue_origin, queue_point, queue_time}
-use Rattle.swan_model.specs.QueueState.{ActiveFrame, Maker, planned, made_by, QueueState, active, changed}
-use Rattle.queue_book.proofs.Elements.{all_each, all_from, find_map, mapped_is, some_same}
+use Rattle.swan_model.specs.QueueState.{ActiveFrame, QueueMaker, planned, made_by, QueueState, active, changed}
+use Rattle.swan_model.proofs.Elements.{all_each, all_from, find_map, mapped_is, some_same}
 use Rattle.queue_book.proofs.Frames.{active_number}
 
 -- a change of a frame that leaves which task it is, and takes back no child
@@ -53,7 +53,7 @@ module _ (s : Script) where
   done_from state t entry stands all = ap (λ o. option_map_or (λ (e : Entry). list_all (is_reached s t e.path) state.frames) o false) stands ∙ all
 
   -- a queue stays made where what was done is done
-  pub made_on : (state new : QueueState) → ((t : ℕ) → is_done_among s state t ≡ true → is_done_among s new t ≡ true) → (queue : ℕ) (maker : Maker) → IsMade s state queue maker → IsMade s new queue maker
+  pub made_on : (state new : QueueState) → ((t : ℕ) → is_done_among s state t ≡ true → is_done_among s new t ≡ true) → (queue : ℕ) (maker : QueueMaker) → IsMade s state queue maker → IsMade s new queue maker
   made_on state new on queue (planned index) made = made
   made_on state new on queue (made_by path deeds) made = (made.0, made.1, on (queue_time s path deeds) made.2)
 
@@ -127,7 +127,7 @@ module _ (s : Script) (state : QueueState) (follows : QueuesFollow s state) (new
       ap (is_reached s t by.entry.path) (sym x.2) ∙ here))
 
   module _ (task : IsTask s new (change frame)) (others : (n : ℕ) (other : ActiveFrame) → active state n ≡ Some other → (n ≡ number → ⊥) → IsTask s new other)
-      (queues : (queue : ℕ) (maker : Maker) → slice_get new.makers queue ≡ Some maker → (slice_get state.makers queue ≡ Some maker) ⊎ IsMade s new queue maker)
+      (queues : (queue : ℕ) (maker : QueueMaker) → slice_get new.makers queue ≡ Some maker → (slice_get state.makers queue ≡ Some maker) ⊎ IsMade s new queue maker)
       (once : (queue other : ℕ) (origin : Origin) → queue_origin s new queue ≡ Some origin → queue_origin s new other ≡ Some origin → queue ≡ other) where
     task_now : (n : ℕ) (old : ActiveFrame) → active state n ≡ Some old → IsTask s new (changed number change old)
     task_now n old before = elim (cases_eq n number) [

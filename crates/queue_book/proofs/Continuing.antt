@@ -12,7 +12,7 @@ use Rattle.swan_model.specs.QueueState.{ActiveFrame, QueueState, active, changed
 use Rattle.swan_model.specs.SerialTime.{Progress, Reading, frame_of, point, times}
 use Rattle.queue_book.specs.Reads.{more_by}
 use Rattle.queue_book.proofs.Advancing.{fits_same}
-use Rattle.queue_book.proofs.Elements.{find_map, mapped_is, some_same}
+use Rattle.swan_model.proofs.Elements.{find_map, mapped_is, some_same}
 use Rattle.queue_book.proofs.Refitting.{GoesTo, refits}
 use Rattle.queue_book.proofs.Frames.{active_number}
 use Rattle.queue_book.proofs.SerialPoints.{frame_number}

@@ -17,7 +17,7 @@ use Rattle.swan_model.specs.Lawful.{IsLawful}
 use Rattle.swan_model.specs.Nested.{IsEntryOf}
 use Rattle.swan_model.specs.PathOrder.{is_under}
 use Rattle.swan_model.specs.QueueFollows.{IsMade, IsTask, QueuesFollow, is_done_among, is_reached, next_queue_deed, origin_in, queue_origin, queue_point}
-use Rattle.swan_model.specs.QueueState.{ActiveFrame, IsUntouched, Maker, planned, made_by, QueueState, active, after_create, after_create_root, changed, holds_queue, with_deed, with_made}
+use Rattle.swan_model.specs.QueueState.{ActiveFrame, IsUntouched, QueueMaker, planned, made_by, QueueState, active, after_create, after_create_root, changed, holds_queue, with_deed, with_made}
 use Rattle.swan_model.specs.Rights.{allows, is_queue_mode}
 use Rattle.swan_model.specs.Told.{deed_at, is_same}
 use Rattle.swan_model.proofs.Origins.{is_same-equal}
@@ -26,7 +26,7 @@ use Rattle.swan_model.proofs.ScriptSteps.{deed_is, own_under}
 use Rattle.swan_model.proofs.Uses.{may_use-less}
 use Rattle.queue_book.proofs.Between.{point_left, queue_point-own}
 use Rattle.queue_book.proofs.Changing.{IsChange, changed_follows, done_from}
-use Rattle.queue_book.proofs.Elements.{all_from, as_number, found_is, mapped_is, more_cases, some_same}
+use Rattle.swan_model.proofs.Elements.{all_from, as_number, found_is, mapped_is, more_cases, some_same}
 use Rattle.queue_book.proofs.Holders.{all_allowed, maker_above, root_may}
 use Rattle.queue_book.proofs.Kept.{use_kept}
 use Rattle.queue_book.proofs.Lineage.{child_spawned, entries_before}
@@ -36,10 +36,10 @@ use Rattle.queue_book.proofs.QueuePoints.{IsNextDeed, at_own, goes_to, last_make
 use Rattle.queue_book.proofs.Under.{under_rest}
 
 -- a queue that stood has its number below that of the new one
-stood_within : (s : Script) (state : QueueState) (queue : ℕ) (old : Maker) (origin : Origin) → slice_get state.makers queue ≡ Some old → origin_in s old ≡ origin → (queue < length state.makers) × (queue_origin s state queue ≡ Some origin)
+stood_within : (s : Script) (state : QueueState) (queue : ℕ) (old : QueueMaker) (origin : Origin) → slice_get state.makers queue ≡ Some old → origin_in s old ≡ origin → (queue < length state.makers) × (queue_origin s state queue ≡ Some origin)
 stood_within s state queue old origin at is = (slice_get_within state.makers queue old at, ap (option_map (origin_in s)) at ∙ ap Some is)
 
-one_longer : (makers : List Maker) (maker : Maker) → length (makers ++ maker ∷ []) ≡ length makers + 1
+one_longer : (makers : List QueueMaker) (maker : QueueMaker) → length (makers ++ maker ∷ []) ≡ length makers + 1
 one_longer makers maker = length-append makers (maker ∷ [])
 
 -- the queue that an entry makes is no other's
@@ -61,7 +61,7 @@ module _ (s : Script) (lawful : IsLawful s) (state : QueueState) (follows : Queu
   abbrev beyond : ℕ
   beyond = queue_point s frame.path (frame.deeds + 1)
 
-  abbrev maker : Maker
+  abbrev maker : QueueMaker
   maker = made_by frame.path frame.deeds
 
   abbrev change : ActiveFrame → ActiveFrame
@@ -77,7 +77,7 @@ module _ (s : Script) (lawful : IsLawful s) (state : QueueState) (follows : Queu
   origin_here : origin_in s maker ≡ Step here
   origin_here = ap Step (sym (point_left s frame.path frame.deeds next.left))
 
-  fresh : (queue : ℕ) (old : Maker) → slice_get state.makers queue ≡ Some old → origin_in s old ≡ origin_in s maker → ⊥
+  fresh : (queue : ℕ) (old : QueueMaker) → slice_get state.makers queue ≡ Some old → origin_in s old ≡ origin_in s maker → ⊥
   fresh queue old at is = fresh_step s state follows frame.number frame live next.left queue old at (is ∙ origin_here)
 
   after_here : here < beyond
@@ -222,7 +222,7 @@ created_follows s lawful state follows number frame live next =
 -- ---- root queues
 
 module _ (s : Script) (lawful : IsLawful s) (state : QueueState) (follows : QueuesFollow s state) (untouched : IsUntouched state) (within : length state.makers < length s.queues) where
-  abbrev root_maker : Maker
+  abbrev root_maker : QueueMaker
   root_maker = planned (length state.makers)
 
   abbrev root_after : QueueState

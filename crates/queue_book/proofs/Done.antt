@@ -20,7 +20,7 @@ use Rattle.swan_model.proofs.Points.{past_above, same_frame, some_of}
 use Rattle.swan_model.proofs.ScriptSteps.{deed_is}
 use Rattle.swan_model.proofs.TaskEntries.{is_spawn_of, point_over, spawn_own}
 use Rattle.queue_book.proofs.Between.{own_last}
-use Rattle.queue_book.proofs.Elements.{all_each, all_from, answers_same, found_is, option_cases}
+use Rattle.swan_model.proofs.Elements.{all_each, all_from, answers_same, found_is, option_cases}
 use Rattle.queue_book.proofs.Fitting.{same_side}
 use Rattle.queue_book.proofs.QueuePoints.{spawn-gives}
 use Rattle.queue_book.proofs.Refitting.{past_done}

@@ -7,7 +7,7 @@ use Rattle.swan_model.specs.declared.script.Script.{Script}
 use Rattle.swan_model.specs.QueueFollows.{IsChildOf, QueuesFollow, is_done_among, is_reached}
 use Rattle.swan_model.specs.QueueState.{ActiveFrame, IsActiveChild, QueueState, active, after_finish}
 use Rattle.queue_book.proofs.Changing.{done_from, done_is, made_on, task_on}
-use Rattle.queue_book.proofs.Elements.{all_each, all_from, found_is, some_same}
+use Rattle.swan_model.proofs.Elements.{all_each, all_from, found_is, some_same}
 
 -- what stands among those that pass a test stands in the list
 record Stood {X : Type 0} (test : X → Bool) (xs : List X) (x : X) : Type 0 where

@@ -13,7 +13,7 @@ use Rattle.swan_model.specs.Told.{deed_at}
 use Rattle.swan_model.proofs.ScriptSteps.{deed_is, next_stands}
 use Rattle.swan_model.proofs.TaskEntries.{own_before}
 use Rattle.queue_book.proofs.Between.{Comes, IsStill, deeds_before, is_queue_deed_of, to_queue_point}
-use Rattle.queue_book.proofs.Elements.{answers_same, taken_stands}
+use Rattle.swan_model.proofs.Elements.{answers_same, taken_stands}
 use Rattle.queue_book.proofs.Places.{Tells, both_places, places-many, places-take}
 
 -- whether what is done at a time is a queue deed

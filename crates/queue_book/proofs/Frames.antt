@@ -9,7 +9,7 @@ use Rattle.swan_model.specs.declared.rights.Mode.TheVariants.{In, Out, InOut, Pu
 use Rattle.swan_model.specs.QueueState.{ActiveFrame, QueueRight, QueueState, active, holds_queue}
 use Rattle.swan_model.specs.Rights.{allows, is_queue_mode}
 use Rattle.queue_book.specs.Tree.{has_queue}
-use Rattle.queue_book.proofs.Elements.{found_is}
+use Rattle.swan_model.proofs.Elements.{found_is}
 
 -- the active frame of a number has that number
 pub active_number : (state : QueueState) (number : ℕ) (frame : ActiveFrame) → active state number ≡ Some frame → frame.number ≡ number

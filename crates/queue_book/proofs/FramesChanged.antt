@@ -14,10 +14,6 @@ get_front [] ys k x is = absurd (cc)
 get_front (y ∷ xs) ys zero x is = is
 get_front (y ∷ xs) ys (suc k) x is = get_front xs ys k x is
 
-pub get_last : {X : Type 0} (xs : List X) (x : X) → slice_get (xs ++ x ∷ []) (length xs) ≡ Some x
-get_last [] x = refl
-get_last (y ∷ xs) x = get_last xs x
-
 pub get_either : {X : Type 0} (xs : List X) (y x : X) (k : ℕ) → slice_get (xs ++ y ∷ []) k ≡ Some x → (slice_get xs k ≡ Some x) ⊎ (x ≡ y)
 get_either [] y x zero is = inr (sym (same_Some y x is))
 get_either [] y x (suc k) is = absurd (cc)

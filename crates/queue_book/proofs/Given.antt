@@ -16,7 +16,7 @@ use Rattle.swan_model.specs.Rights.{allows, is_queue_mode}
 use Rattle.swan_model.specs.Told.{is_same}
 use Rattle.swan_model.proofs.Origins.{is_same-equal, is_same-self}
 use Rattle.queue_book.proofs.Making.{is_right}
-use Rattle.queue_book.proofs.Elements.{answers_same, mapped_is, some_same}
+use Rattle.swan_model.proofs.Elements.{answers_same, mapped_is, some_same}
 
 -- a mode of objects allows no use of a queue
 object_allows : (has mode : Mode) → is_queue_mode has ≡ false → is_queue_mode mode ≡ true → allows has mode ≡ false

@@ -8,9 +8,9 @@ use Rattle.std.specs.Prelude.{slice_get}
 use Rattle.swan_model.specs.declared.script.Entry.{Entry}
 use Rattle.swan_model.specs.declared.script.Script.{Script}
 use Rattle.swan_model.specs.QueueFollows.{IsChildOf, IsMade, IsTask, QueuesFollow, is_reached, queue_time}
-use Rattle.swan_model.specs.QueueState.{ActiveFrame, Maker, planned, made_by, QueueState, active}
+use Rattle.swan_model.specs.QueueState.{ActiveFrame, QueueMaker, planned, made_by, QueueState, active}
 use Rattle.queue_book.proofs.Changing.{done_from, done_is, task_on}
-use Rattle.queue_book.proofs.Elements.{all_each, all_from, more_cases, some_same}
+use Rattle.swan_model.proofs.Elements.{all_each, all_from, more_cases, some_same}
 
 module _ (s : Script) (state : QueueState) (follows : QueuesFollow s state) where
   -- while any frame is active the root is
@@ -69,7 +69,7 @@ module _ (s : Script) (state : QueueState) (follows : QueuesFollow s state) (chi
     child_on : (frame : ActiveFrame) (p : ℕ) → IsChildOf s state frame p → IsChildOf s grown frame p
     child_on frame p up = record { above = up.above; live = still_active p up.above up.live; index = up.index; path = up.path; spawned = up.spawned }
 
-    made_still : (queue : ℕ) (maker : Maker) → slice_get state.makers queue ≡ Some maker → IsMade s state queue maker → IsMade s grown queue maker
+    made_still : (queue : ℕ) (maker : QueueMaker) → slice_get state.makers queue ≡ Some maker → IsMade s state queue maker → IsMade s grown queue maker
     made_still queue (planned index) at made = made
     made_still queue (made_by path deeds) at made =
         let t = queue_time s path deeds in

@@ -17,7 +17,7 @@ use Rattle.swan_model.proofs.ScriptRights.{held_later}
 use Rattle.swan_model.proofs.ScriptSteps.{deed_is}
 use Rattle.swan_model.proofs.Uses.{may_use-either}
 use Rattle.queue_book.proofs.Between.{IsStill}
-use Rattle.queue_book.proofs.Elements.{answers_same}
+use Rattle.swan_model.proofs.Elements.{answers_same}
 
 -- from one time to another no entry grants a task this use
 pub record GrantsNone (s : Script) (path : List ℕ) (mode : Mode) (origin : Origin) (n m : ℕ) : Type 0 where

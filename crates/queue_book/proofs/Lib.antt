@@ -1,9 +1,7 @@
 -- Lemmas on hyperqueues. Each group stands on those before it; what a file is for stands at its head.
 
 -- lists, and the places of entries
-pub mod Elements
 pub mod Segments
-pub mod ListPlaces
 pub mod Lookups
 pub mod Places
 -- the laws: queues that follow a script, and readings that fit

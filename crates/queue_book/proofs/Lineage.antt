@@ -19,7 +19,7 @@ use Rattle.swan_model.proofs.Places.{passing, passing-rises, passing-stays, plac
 use Rattle.swan_model.proofs.ScriptSteps.{deed_is}
 use Rattle.swan_model.proofs.TaskEntries.{is_spawn_of}
 use Rattle.queue_book.proofs.Between.{deed_left, deeds_before, is_queue_deed_of, no_spawn, own_last, point_left, point_over, queue_point-own, last_own}
-use Rattle.queue_book.proofs.Elements.{some_same, taken_stands}
+use Rattle.swan_model.proofs.Elements.{some_same, taken_stands}
 use Rattle.queue_book.proofs.Places.{Tells, both_places, places-many, places-take}
 use Rattle.queue_book.proofs.QueuePoints.{spawn-gives, spawn_at}
 

@@ -3,7 +3,7 @@ use Rattle.std.proofs.Common.{◌≡◌, ◌≢◌, ℕ, ◌<◌, Bool, true, fa
 use Rattle.std.proofs.lemmas.Bool.{cases_eq, false≢true}
 use Rattle.std.specs.Option.{option_map}
 use Rattle.std.specs.Prelude.{slice_get, is_some, if◌then◌else◌}
-use Rattle.swan_model.specs.QueueState.{ActiveFrame, Maker, QueueState, active, root_frame, new_state}
+use Rattle.swan_model.specs.QueueState.{ActiveFrame, QueueMaker, QueueState, active, root_frame, new_state}
 use Rattle.queue_book.specs.Tree.{IsTree, has_queue}
 use Rattle.queue_book.specs.declared.live_frame.OwnChunk.{OwnChunk}
 use Rattle.queue_book.specs.declared.live_frames.LiveFrames.{LiveFrames}
@@ -13,7 +13,7 @@ use Rattle.queue_book.proofs.ActiveAfter.{AreOthers}
 
 -- the makers of older queues are the same
 abbrev pub SameMakers : QueueState → QueueState → Type 0
-SameMakers state after = (queue : ℕ) (maker : Maker) → queue < length state.makers → slice_get after.makers queue ≡ Some maker → slice_get state.makers queue ≡ Some maker
+SameMakers state after = (queue : ℕ) (maker : QueueMaker) → queue < length state.makers → slice_get after.makers queue ≡ Some maker → slice_get state.makers queue ≡ Some maker
 
 pub kept_active : (state : QueueState) (kept : Option KeptFrame) (found : Option ActiveFrame) (frame : ActiveFrame) → Agrees state kept found → found ≡ Some frame
     → (one : KeptFrame) × (kept ≡ Some one) × IsFrame state one frame

@@ -7,26 +7,7 @@ use Rattle.std.specs.BTreeMap.{is_at, insert_entry}
 use Rattle.std.specs.Ordering.{nat_cmp, is_eq, match_ordering}
 use Rattle.std.specs.declared.cmp.Ordering.{Ordering}
 use Rattle.std.specs.declared.cmp.Ordering.TheVariants.{Less, Equal, Greater}
-
-tied : (k n : ℕ) → k ≡ n → is_at (nat_cmp k) n ≡ true
-tied k n e = grind (arith, nat_tests)
-
-pub untied : (k n : ℕ) → n ≢ k → is_at (nat_cmp k) n ≡ false
-untied k n apart = grind (arith, nat_tests)
-
-equal_at : (k n : ℕ) → is_at (nat_cmp k) n ≡ true → k ≡ n
-equal_at k n h = grind (arith, nat_tests)
-
-swapped : {A : Type 0} (a b : Bool) (x y z : A) → (a ≡ true → b ≡ true → ⊥) → cond a x (cond b y z) ≡ cond b y (cond a x z)
-swapped true true x y z never = absurd (never refl refl)
-swapped true false x y z never = refl
-swapped false b x y z never = refl
-
-hidden : {A : Type 0} (a b : Bool) (x y z : A) → a ≡ b → cond a x z ≡ cond b x (cond a y z)
-hidden true true x y z e = refl
-hidden true false x y z e = absurd (false≢true (sym e))
-hidden false true x y z e = absurd (false≢true e)
-hidden false false x y z e = refl
+use Rattle.swan_model.proofs.Lookups.{tied, untied, equal_at, swapped, hidden}
 
 module _ {V : Type 0} where
   abbrev pub at_number : List (ℕ × V) → ℕ → Option V

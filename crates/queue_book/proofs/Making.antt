@@ -11,7 +11,7 @@ use Rattle.swan_model.specs.declared.rights.Mode.{Mode}
 use Rattle.swan_model.specs.declared.rights.Mode.TheVariants.{PushPop}
 use Rattle.swan_model.specs.declared.script.Script.{Script}
 use Rattle.swan_model.specs.QueueFollows.{QueuesFollow, is_done_among, is_reached, origin_in, queue_origin, queue_point, queue_time, queue_times}
-use Rattle.swan_model.specs.QueueState.{ActiveFrame, Maker, planned, made_by, QueueRight, QueueState, active, holds_queue, with_made}
+use Rattle.swan_model.specs.QueueState.{ActiveFrame, QueueMaker, planned, made_by, QueueRight, QueueState, active, holds_queue, with_made}
 use Rattle.swan_model.specs.Rights.{allows, is_queue_mode}
 use Rattle.swan_model.specs.declared.script.Entry.{Entry}
 use Rattle.swan_model.specs.Nested.{IsEntryOf}
@@ -20,7 +20,7 @@ use Rattle.swan_model.proofs.ScriptSteps.{one_entry}
 use Rattle.queue_book.proofs.Between.{queue_point-own}
 use Rattle.queue_book.proofs.Changing.{done_is}
 use Rattle.queue_book.proofs.Done.{reached_under}
-use Rattle.queue_book.proofs.Elements.{all_each, found_is, mapped_is, more_cases}
+use Rattle.swan_model.proofs.Elements.{all_each, found_is, mapped_is, more_cases}
 use Rattle.queue_book.proofs.Holders.{all_allowed}
 use Rattle.queue_book.proofs.Under.{under_from}
 
@@ -63,11 +63,11 @@ holds_cases frame made queue mode is = elim (or_cases (holds_queue frame queue m
 -- ---- origins, with a queue more
 
 -- the queue of an origin stood before, or is the new one
-pub data IsOrigin (s : Script) (state : QueueState) (maker : Maker) (queue : ℕ) (origin : Origin) : Type 0 where
-  stood : (old : Maker) → slice_get state.makers queue ≡ Some old → origin_in s old ≡ origin → IsOrigin s state maker queue origin
+pub data IsOrigin (s : Script) (state : QueueState) (maker : QueueMaker) (queue : ℕ) (origin : Origin) : Type 0 where
+  stood : (old : QueueMaker) → slice_get state.makers queue ≡ Some old → origin_in s old ≡ origin → IsOrigin s state maker queue origin
   new : queue ≡ length state.makers → origin ≡ origin_in s maker → IsOrigin s state maker queue origin
 
-module _ (s : Script) (state after : QueueState) (maker : Maker) (makers : after.makers ≡ state.makers ++ maker ∷ []) where
+module _ (s : Script) (state after : QueueState) (maker : QueueMaker) (makers : after.makers ≡ state.makers ++ maker ∷ []) where
   pub origin_is : (queue : ℕ) (origin : Origin) → queue_origin s after queue ≡ Some origin → IsOrigin s state maker queue origin
   origin_is queue origin is =
       let found = mapped_is (origin_in s) (slice_get after.makers queue) origin is in
@@ -79,7 +79,7 @@ module _ (s : Script) (state after : QueueState) (maker : Maker) (makers : after
 
   -- no two queues have one origin, where the new one's is new
   pub once_more : ((queue other : ℕ) (origin : Origin) → queue_origin s state queue ≡ Some origin → queue_origin s state other ≡ Some origin → queue ≡ other)
-      → ((queue : ℕ) (old : Maker) → slice_get state.makers queue ≡ Some old → origin_in s old ≡ origin_in s maker → ⊥)
+      → ((queue : ℕ) (old : QueueMaker) → slice_get state.makers queue ≡ Some old → origin_in s old ≡ origin_in s maker → ⊥)
       → (queue other : ℕ) (origin : Origin) → queue_origin s after queue ≡ Some origin → queue_origin s after other ≡ Some origin → queue ≡ other
   once_more once fresh queue other origin one two = by (origin_is queue origin one) (origin_is other origin two)
     where
@@ -105,7 +105,7 @@ module _ (s : Script) (state : QueueState) (follows : QueuesFollow s state) wher
       omega (arith, before)
 
   pub fresh_step : (number : ℕ) (frame : ActiveFrame) → active state number ≡ Some frame → frame.deeds < length (queue_times s frame.path)
-      → (queue : ℕ) (old : Maker) → slice_get state.makers queue ≡ Some old → origin_in s old ≡ Step (queue_point s frame.path frame.deeds) → ⊥
+      → (queue : ℕ) (old : QueueMaker) → slice_get state.makers queue ≡ Some old → origin_in s old ≡ Step (queue_point s frame.path frame.deeds) → ⊥
   fresh_step number frame live left queue (planned index) at is = absurd (cc)
   fresh_step number frame live left queue (made_by path deeds) at is =
       let t = queue_point s frame.path frame.deeds in
@@ -114,7 +114,7 @@ module _ (s : Script) (state : QueueState) (follows : QueuesFollow s state) wher
       let made = follows.queues queue (made_by path deeds) at in
       not_done number frame live own (subst (λ k. is_done_among s state k ≡ true) same made.2)
 
-  pub fresh_root : (queue : ℕ) (old : Maker) → slice_get state.makers queue ≡ Some old → origin_in s old ≡ Root (length state.makers) → ⊥
+  pub fresh_root : (queue : ℕ) (old : QueueMaker) → slice_get state.makers queue ≡ Some old → origin_in s old ≡ Root (length state.makers) → ⊥
   fresh_root queue (made_by path deeds) at is = absurd (cc)
   fresh_root queue (planned index) at is =
       let same : index ≡ length state.makers = cc in

@@ -8,14 +8,14 @@ use Rattle.swan_model.specs.declared.origin.Origin.{Origin}
 use Rattle.swan_model.specs.declared.rights.Mode.TheVariants.{Pop, Push}
 use Rattle.swan_model.specs.declared.script.Script.{Script}
 use Rattle.swan_model.specs.declared.value.Value.{Value}
-use Rattle.swan_model.specs.QueueFollows.{count_at, is_done_among, is_ripe_among, may_push_too, next_item, queue_point, taken_at}
+use Rattle.swan_model.specs.QueueFollows.{count_at, is_done_among, is_ripe_among, active_may_push_too, next_item, queue_point, taken_at}
 use Rattle.swan_model.specs.QueueState.{ActiveFrame, QueueState, active, holds_queue}
 use Rattle.swan_model.specs.Ripe.{push_time}
 use Rattle.swan_model.specs.Told.{first_items, pushes}
 use Rattle.swan_model.proofs.ScriptCounts.{push_before}
 use Rattle.queue_book.specs.Book.{Chunk, Chunks, HasItems, HasTaken, IsOwner, Matches, goes_on_at, goes_on_popping, is_spent, owner_of, without_spent}
 use Rattle.queue_book.specs.Tells.{FindsItem, FindsNone}
-use Rattle.queue_book.proofs.Elements.{filtered_each, found_is}
+use Rattle.swan_model.proofs.Elements.{filtered_each, found_is}
 use Rattle.queue_book.proofs.MatchParts.{NonePops, OwnsAt, ends_before, items_from, left_is, owner_at, owns_at, taken_from, upto_is}
 use Rattle.queue_book.proofs.Segments.{segment_empty, segment_first}
 use Rattle.queue_book.proofs.Frames.{active_number}
@@ -108,7 +108,7 @@ module _ (s : Script) (state : QueueState) (number : ℕ) (queue : Origin) (end 
       few : length (first_items s queue) ≤ taken_at s frame queue
       few = omega (arith, there)
 
-      other_too : may_push_too frame number other ≡ true
+      other_too : active_may_push_too frame number other ≡ true
       other_too =
           let one = active_number state n frame live in
           let two = active_number state m other active_too in
@@ -116,11 +116,11 @@ module _ (s : Script) (state : QueueState) (number : ℕ) (queue : Origin) (end 
           (not_from_false (nat_eq other.number frame.number) (ne_eqb other.number frame.number (λ same. differ (sym two ∙ same ∙ one)))) may_push
 
       not_before : (t : ℕ) → push_time s queue (taken_at s frame queue) ≡ Some t
-          → list_all (λ (f : ActiveFrame). nat_lt t (queue_point s f.path f.deeds)) (filter (may_push_too frame number) state.frames) ≡ false
-      not_before t is = false_from_ne_true (list_all (λ (f : ActiveFrame). nat_lt t (queue_point s f.path f.deeds)) (filter (may_push_too frame number) state.frames)) (λ all.
+          → list_all (λ (f : ActiveFrame). nat_lt t (queue_point s f.path f.deeds)) (filter (active_may_push_too frame number) state.frames) ≡ false
+      not_before t is = false_from_ne_true (list_all (λ (f : ActiveFrame). nat_lt t (queue_point s f.path f.deeds)) (filter (active_may_push_too frame number) state.frames)) (λ all.
           let found = found_is (λ (f : ActiveFrame). nat_eq f.number m) state.frames other active_too in
           let later = ltb-true t (queue_point s other.path other.deeds)
-          (filtered_each (may_push_too frame number) (λ (f : ActiveFrame). nat_lt t (queue_point s f.path f.deeds)) state.frames found.index other all found.stands other_too) in
+          (filtered_each (active_may_push_too frame number) (λ (f : ActiveFrame). nat_lt t (queue_point s f.path f.deeds)) state.frames found.index other all found.stands other_too) in
           let early = push_before s queue (taken_at s frame queue) t (queue_point s other.path other.deeds) few is (omega (arith, there)) in
           omega (arith, later, early))
 
@@ -129,7 +129,7 @@ module _ (s : Script) (state : QueueState) (number : ℕ) (queue : Origin) (end 
           (le-ltb (taken_at s frame queue) (length (first_items s queue)) few) (by (push_time s queue (taken_at s frame queue)) refl)
         where
           others : List ActiveFrame
-          others = filter (may_push_too frame number) state.frames
+          others = filter (active_may_push_too frame number) state.frames
 
           after : Option ℕ → Bool
           after found = option_map_or (λ t. is_done_among s state t && list_all (λ (f : ActiveFrame). nat_lt t (queue_point s f.path f.deeds)) others) found false

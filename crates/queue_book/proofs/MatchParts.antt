@@ -16,7 +16,7 @@ use Rattle.queue_book.specs.Book.{Chunk, Chunks, HasItems, HasTaken, IsOwner, en
 use Rattle.queue_book.specs.Book.HasItems.{chunk as items_chunk}
 use Rattle.queue_book.specs.Book.HasTaken.{chunk as taken_chunk}
 use Rattle.queue_book.proofs.Between.{deed_left, own_last, point_left, point_over}
-use Rattle.queue_book.proofs.Elements.{some_same}
+use Rattle.swan_model.proofs.Elements.{some_same}
 use Rattle.queue_book.proofs.Segments.{segment}
 
 -- a task's point among queues is not after its end

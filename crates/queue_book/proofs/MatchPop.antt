@@ -15,7 +15,7 @@ use Rattle.swan_model.proofs.ScriptCounts.{taken_rises}
 use Rattle.queue_book.specs.Book.{Chunk, Chunks, HasItems, HasTaken, IsOwner, Matches, goes_on_popping, owner_of, pops_at, without_first}
 use Rattle.queue_book.specs.Book.HasItems.{chunk as items_chunk}
 use Rattle.queue_book.specs.Book.HasTaken.{chunk as taken_chunk}
-use Rattle.queue_book.proofs.Elements.{some_same}
+use Rattle.swan_model.proofs.Elements.{some_same}
 use Rattle.queue_book.proofs.MatchDeed.{HasDone, counts_stay, does, takes_later}
 use Rattle.queue_book.proofs.MatchFront.{as_left, holds_now}
 use Rattle.queue_book.proofs.MatchOwners.{AreOtherOwners, IsOnce, none_changed, own_same}

@@ -11,7 +11,7 @@ use Rattle.swan_model.specs.declared.script.Script.{Script}
 use Rattle.swan_model.specs.Granted.{child_path, may_use}
 use Rattle.swan_model.specs.Lawful.{IsLawful}
 use Rattle.swan_model.specs.Nested.{IsEntryOf}
-use Rattle.swan_model.specs.QueueFollows.{IsNextSpawn, QueuesFollow, count_at, queue_origin, queue_point, taken_at}
+use Rattle.swan_model.specs.QueueFollows.{NextSpawnGivesQueues, QueuesFollow, count_at, queue_origin, queue_point, taken_at}
 use Rattle.swan_model.specs.QueueState.{ActiveFrame, MayGive, QueueRight, QueueState, active, after_spawn, child_of, holds_queue, with_deed}
 use Rattle.swan_model.specs.Readings.{end_time}
 use Rattle.swan_model.specs.Rights.{is_queue_mode}
@@ -25,7 +25,7 @@ use Rattle.queue_book.specs.Book.HasItems.{chunk as items_chunk}
 use Rattle.queue_book.specs.Book.HasTaken.{chunk as taken_chunk}
 use Rattle.queue_book.specs.Tree.{IsTree, has_queue}
 use Rattle.queue_book.proofs.ActiveAfter.{child_spawned, others_spawned, parent_spawned}
-use Rattle.queue_book.proofs.Elements.{some_same}
+use Rattle.swan_model.proofs.Elements.{some_same}
 use Rattle.queue_book.proofs.Frames.{has_held, some_mode}
 use Rattle.queue_book.proofs.Given.{child_rights}
 use Rattle.queue_book.proofs.Gives.{gives_held}
@@ -48,7 +48,7 @@ hands_on parent child =
     }
 
 module _ (s : Script) (lawful : IsLawful s) (state : QueueState) (follows : QueuesFollow s state) (tree : IsTree state) (number : ℕ) (queue : Origin) (made : queue_origin s state number ≡ Some queue)
-    (n c : ℕ) (frame : ActiveFrame) (gives : List QueueRight) (live : active state n ≡ Some frame) (new : active state c ≡ None) (may : MayGive frame gives) (spawn : IsNextSpawn s state frame gives) where
+    (n c : ℕ) (frame : ActiveFrame) (gives : List QueueRight) (live : active state n ≡ Some frame) (new : active state c ≡ None) (may : MayGive frame gives) (spawn : NextSpawnGivesQueues s state frame gives) where
   abbrev t : ℕ
   t = queue_point s frame.path frame.deeds
 

@@ -18,7 +18,7 @@ use Rattle.swan_model.specs.Told.{deed_at}
 use Rattle.swan_model.proofs.Places.{passing-rises}
 use Rattle.swan_model.proofs.ScriptSteps.{deed_is}
 use Rattle.queue_book.proofs.Between.{IsQueueDeed, deed-place, deed_left, is_queue_deed_of, own_last, point_left, point_over as queue_point-over}
-use Rattle.queue_book.proofs.Elements.{as_number, filtered_more}
+use Rattle.swan_model.proofs.Elements.{as_number, filtered_more}
 use Rattle.queue_book.proofs.Kept.{GrantsNone, still_grants, use_kept}
 use Rattle.queue_book.proofs.Lineage.{is_spawn_time}
 use Rattle.queue_book.proofs.QueuePoints.{IsNextDeed, at_own, goes_to}

@@ -6,12 +6,13 @@ use Rattle.std.specs.List.{list_any}
 use Rattle.std.specs.Prelude.{◌&&◌, ◌||◌, ◌==◌, slice_get}
 use Rattle.swan_model.specs.declared.rights.Mode.{Mode}
 use Rattle.swan_model.specs.declared.rights.Mode.TheVariants.{Push, Pop, PushPop}
-use Rattle.swan_model.specs.QueueState.{ActiveFrame, Maker, QueueRight, QueueState, active, changed, changing, holds_queue}
+use Rattle.swan_model.specs.QueueState.{ActiveFrame, QueueMaker, QueueRight, QueueState, active, changed, changing, holds_queue}
 use Rattle.swan_model.specs.Rights.{allows, is_queue_mode}
 use Rattle.queue_book.specs.Tree.{IsHeld, made, IsTree, has_queue, maker_path}
 use Rattle.queue_book.proofs.Frames.{active_number}
-use Rattle.queue_book.proofs.FramesChanged.{get_front, get_last}
+use Rattle.queue_book.proofs.FramesChanged.{get_front}
 use Rattle.queue_book.proofs.TreeChanged.{IsChanged}
+use Rattle.swan_model.proofs.Elements.{last_more}
 
 -- a change leaves a frame in its place
 pub record KeepsPlace (change : ActiveFrame → ActiveFrame) : Type 0 where
@@ -97,7 +98,7 @@ module _ (state : QueueState) (tree : IsTree state) (n : ℕ) (change : ActiveFr
     }
 
   -- a frame makes a queue
-  module _ (rights : (frame : ActiveFrame) → (change frame).rights ≡ frame.rights ++ both_on (length state.makers) ∷ []) (maker : Maker)
+  module _ (rights : (frame : ActiveFrame) → (change frame).rights ≡ frame.rights ++ both_on (length state.makers) ∷ []) (maker : QueueMaker)
       (own : (frame : ActiveFrame) → active state n ≡ Some frame → frame.path ≡ maker_path maker) where
     abbrev with_queue : QueueState
     with_queue = record (changing state n change) { makers = state.makers ++ maker ∷ [] }
@@ -124,7 +125,7 @@ module _ (state : QueueState) (tree : IsTree state) (n : ℕ) (change : ActiveFr
         | inr last ↦
             let newest : length state.makers ≡ queue = eqb-true (length state.makers) queue last in
             let same : number ≡ n = sym (active_number state number frame live) ∙ eqb-true frame.number n is in
-            let at : slice_get with_queue.makers queue ≡ Some maker = ap (slice_get with_queue.makers) (sym newest) ∙ get_last state.makers maker in (
+            let at : slice_get with_queue.makers queue ≡ Some maker = ap (slice_get with_queue.makers) (sym newest) ∙ last_more state.makers maker in (
               same,
               omega (arith, length-append state.makers (maker ∷ [])),
               made maker at (kept.paths frame ∙ own frame (ap (active state) (sym same) ∙ live)),

@@ -11,7 +11,7 @@ use Rattle.swan_model.specs.declared.script.Script.{Script}
 use Rattle.swan_model.specs.declared.value.Value.{Value}
 use Rattle.swan_model.specs.Lawful.{IsLawful}
 use Rattle.swan_model.specs.QueueFollows.{next_queue_deed, origin_in, IsNextAbout}
-use Rattle.swan_model.specs.QueueState.{Maker, QueueState, after_deed, holds_queue, with_deed, HasTurn, IsPoppingChild}
+use Rattle.swan_model.specs.QueueState.{QueueMaker, QueueState, after_deed, holds_queue, with_deed, HasTurn, IsPoppingChild}
 use Rattle.swan_model.specs.Readings.{end_time}
 use Rattle.swan_model.specs.Told.{is_same}
 use Rattle.queue_book.specs.Asks.{MayDo, IsOnTurn, OnNext}
@@ -42,10 +42,10 @@ module _ (name : Option Script) (state : QueueState) (lines : ℕ → Chunks) (i
 
   -- a deed with what it makes of the chunks of each queue
   plain_deed : (now : ℕ → Chunks)
-      → ((q : ℕ) (maker : Maker) → slice_get state.makers q ≡ Some maker → HasOwners state q (lines q) → HasOwners (after_deed state n) q (now q))
+      → ((q : ℕ) (maker : QueueMaker) → slice_get state.makers q ≡ Some maker → HasOwners state q (lines q) → HasOwners (after_deed state n) q (now q))
       → ((q : ℕ) → lines q ≡ [] → now q ≡ [])
       → ((s : Script) → name ≡ Some s → IsLawful s → (d : Deed) × (next_queue_deed s act.frame.path act.frame.deeds ≡ Some d) × (is_making d ≡ false))
-      → ((s : Script) → name ≡ Some s → IsLawful s → (q : ℕ) (maker : Maker) → slice_get state.makers q ≡ Some maker
+      → ((s : Script) → name ≡ Some s → IsLawful s → (q : ℕ) (maker : QueueMaker) → slice_get state.makers q ≡ Some maker
       → Matches s state q (origin_in s maker) (end_time s (maker_path maker)) (lines q)
       → Matches s (after_deed state n) q (origin_in s maker) (end_time s (maker_path maker)) (now q))
       → IsPlain name (after_deed state n) now
@@ -66,13 +66,13 @@ module _ (name : Option Script) (state : QueueState) (lines : ℕ → Chunks) (i
         };
   }
 
-  module _ (queue : ℕ) (maker : Maker) (made : slice_get state.makers queue ≡ Some maker) where
+  module _ (queue : ℕ) (maker : QueueMaker) (made : slice_get state.makers queue ≡ Some maker) where
     next_of : (does : Origin → Deed) → OnNext name state n (λ s f. IsNextAbout does s state f queue) → (s : Script) → name ≡ Some s
         → next_queue_deed s act.frame.path act.frame.deeds ≡ Some (does (origin_in s maker))
     next_of does next s named =
         on_next name state n (λ s f. IsNextAbout does s state f queue) s act.frame next named act.may.live ∙ ap (option_map does) (origin_of s state queue maker made)
 
-    differs : (s : Script) → name ≡ Some s → IsLawful s → (q : ℕ) (other : Maker) → slice_get state.makers q ≡ Some other → q ≢ queue → is_same (origin_in s maker) (origin_in s other) ≡ false
+    differs : (s : Script) → name ≡ Some s → IsLawful s → (q : ℕ) (other : QueueMaker) → slice_get state.makers q ≡ Some other → q ≢ queue → is_same (origin_in s maker) (origin_in s other) ≡ false
     differs s named lawful q other made_too apart =
         other_origin s state (is.follows s named lawful) queue q (origin_in s maker) (origin_in s other) (origin_of s state queue maker made) (origin_of s state q other made_too) (λ e. apart (sym e))
 
@@ -95,7 +95,7 @@ module _ (name : Option Script) (state : QueueState) (lines : ℕ → Chunks) (i
           | inl here ↦
               let both : Some maker ≡ Some other = sym made ∙ ap (λ k. slice_get state.makers k) (sym here) ∙ made_too in
               let same : maker ≡ other = cc in
-              let P : Maker → Type 0 = λ m. LeavesQueue s act.frame (origin_in s m) (deed.Pop (origin_in s maker)) in
+              let P : QueueMaker → Type 0 = λ m. LeavesQueue s act.frame (origin_in s m) (deed.Pop (origin_in s maker)) in
               subst P same (leaves_empty s act.frame (origin_in s maker) (none s named lawful))
           | inr apart ↦ leaves_pop s act.frame (origin_in s other) (origin_in s maker) (differs s named lawful q other made_too apart)
         ]))
@@ -114,7 +114,7 @@ module _ (name : Option Script) (state : QueueState) (lines : ℕ → Chunks) (i
         let both : Some maker ≡ Some other = sym made ∙ ap (λ k. slice_get state.makers k) (sym here) ∙ made_too in
         let same : maker ≡ other = cc in
         matches_push s lawful state q (origin_in s other) (end_time s (maker_path other)) (lines q) matches n act.frame act.may.live (is.queues q other made_too).owners value
-        (next_of (λ origin. deed.Push origin value) next s named ∙ ap (λ (m : Maker). Some (deed.Push (origin_in s m) value)) same))
+        (next_of (λ origin. deed.Push origin value) next s named ∙ ap (λ (m : QueueMaker). Some (deed.Push (origin_in s m) value)) same))
         (λ apart. matches_deed s lawful state q (origin_in s other) (end_time s (maker_path other)) (lines q) matches n act.frame act.may.live
         (deed.Push (origin_in s maker) value) (next_of (λ origin. deed.Push origin value) next s named)
         (leaves_push s act.frame (origin_in s other) (origin_in s maker) value (differs s named lawful q other made_too apart))))
@@ -148,7 +148,7 @@ module _ (name : Option Script) (state : QueueState) (lines : ℕ → Chunks) (i
         subst S (sym line)
         (matches_pop s lawful state q (origin_in s other) (end_time s (maker_path other)) first rest (subst P line matches) (subst Q line owners) own.0 n act.frame
         (subst R line own.1) act.may.live pops_q (subst T line popless)
-        (next_of deed.Pop next s named ∙ ap (λ (m : Maker). Some (deed.Pop (origin_in s m))) same) value item))
+        (next_of deed.Pop next s named ∙ ap (λ (m : QueueMaker). Some (deed.Pop (origin_in s m))) same) value item))
         (λ apart. matches_deed s lawful state q (origin_in s other) (end_time s (maker_path other)) (lines q) matches n act.frame act.may.live
         (deed.Pop (origin_in s maker)) (next_of deed.Pop next s named)
         (leaves_pop s act.frame (origin_in s other) (origin_in s maker) (differs s named lawful q other made_too apart))))

@@ -8,7 +8,7 @@ use Rattle.swan_model.specs.declared.script.Script.{Script}
 use Rattle.swan_model.specs.declared.value.Value.{Value}
 use Rattle.swan_model.specs.Lawful.{IsLawful}
 use Rattle.swan_model.specs.QueueFollows.{QueuesFollow, next_queue_deed, origin_in}
-use Rattle.swan_model.specs.QueueState.{ActiveFrame, Maker, planned, made_by, QueueState, active, after_create, after_create_root, with_deed, with_made, IsUntouched}
+use Rattle.swan_model.specs.QueueState.{ActiveFrame, QueueMaker, planned, made_by, QueueState, active, after_create, after_create_root, with_deed, with_made, IsUntouched}
 use Rattle.swan_model.specs.Readings.{end_time}
 use Rattle.queue_book.specs.Asks.{is_emptied, MayDo, IsOnTurn, OnNext}
 use Rattle.queue_book.specs.Book.{Chunks, own, HasOwners, Matches}
@@ -18,7 +18,7 @@ use Rattle.queue_book.specs.Whole.{IsInUse, IsLine, IsPlain}
 use Rattle.queue_book.proofs.ActiveAfter.{AreOthers, others_changed, own_changed}
 use Rattle.queue_book.proofs.Creating.{created_follows, root_created_follows}
 use Rattle.queue_book.proofs.Frames.{active_number, same_frame}
-use Rattle.queue_book.proofs.ListPlaces.{get-push}
+use Rattle.swan_model.proofs.Elements.{more_cases}
 use Rattle.queue_book.proofs.LivePut.{has_not_made}
 use Rattle.queue_book.proofs.Match.{matches_create, matches_create_other, matches_root, matches_root_other}
 use Rattle.queue_book.proofs.PlainSaid.{in_each, on_next, turn_on}
@@ -28,7 +28,7 @@ use Rattle.queue_book.proofs.TreeOwners.{owners_create, owners_kept_create, owne
 
 -- Who has an older queue after a frame made one had it before.
 pub made_in_use : (state after : QueueState) (n : ℕ) (frame later : ActiveFrame) → active state n ≡ Some frame → active after n ≡ Some later → AreOthers state after n
-    → (q : ℕ) (maker : Maker) → (has_queue later q ≡ has_queue frame q) → IsInUse after q maker → IsInUse state q maker
+    → (q : ℕ) (maker : QueueMaker) → (has_queue later q ≡ has_queue frame q) → IsInUse after q maker → IsInUse state q maker
 made_in_use state after n frame later live now others q maker same (inl of_root) = inl of_root
 made_in_use state after n frame later live now others q maker same (inr (number, one, live_one, has)) = elim (cases_eq number n) [
   | inl here ↦
@@ -37,7 +37,7 @@ made_in_use state after n frame later live now others q maker same (inr (number,
   | inr other ↦ inr (number, one, sym (others number other) ∙ live_one, has)
 ]
 
-module _ (name : Option Script) (state after : QueueState) (lines : ℕ → Chunks) (is : IsPlain name state lines) (n : ℕ) (frame later : ActiveFrame) (maker : Maker) (first : List Value)
+module _ (name : Option Script) (state after : QueueState) (lines : ℕ → Chunks) (is : IsPlain name state lines) (n : ℕ) (frame later : ActiveFrame) (maker : QueueMaker) (first : List Value)
     (live : active state n ≡ Some frame) (now : active after n ≡ Some later) (others : AreOthers state after n) (makers : after.makers ≡ state.makers ++ maker ∷ [])
     (emptied : after.emptied ≡ state.emptied) (same : (q : ℕ) → q < length state.makers → has_queue later q ≡ has_queue frame q) where
   full : is_emptied state (length state.makers) ≡ false
@@ -48,7 +48,7 @@ module _ (name : Option Script) (state after : QueueState) (lines : ℕ → Chun
 
   plain_made : IsTree after → ((s : Script) → name ≡ Some s → IsLawful s → QueuesFollow s after) → ((s : Script) → name ≡ Some s → HaveActed after)
       → ((q : ℕ) → q < length state.makers → HasOwners state q (lines q) → HasOwners after q (lines q))
-      → ((s : Script) → name ≡ Some s → IsLawful s → (q : ℕ) (one : Maker) → q < length state.makers → Matches s state q (origin_in s one) (end_time s (maker_path one)) (lines q)
+      → ((s : Script) → name ≡ Some s → IsLawful s → (q : ℕ) (one : QueueMaker) → q < length state.makers → Matches s state q (origin_in s one) (end_time s (maker_path one)) (lines q)
       → Matches s after q (origin_in s one) (end_time s (maker_path one)) (lines q))
       → HasOwners after (length state.makers) (own n first ∷ [])
       → ((s : Script) → name ≡ Some s → IsLawful s → Matches s after (length state.makers) (origin_in s maker) (end_time s (maker_path maker)) (own n first ∷ []))
@@ -62,8 +62,8 @@ module _ (name : Option Script) (state after : QueueState) (lines : ℕ → Chun
     follows = follows;
     acted = acted;
     queues = λ q one made.
-        let at : slice_get (state.makers ++ maker ∷ []) q ≡ Some one = ap (λ (ms : List Maker). slice_get ms q) (sym makers) ∙ made in
-        elim (get-push state.makers maker q one at) [
+        let at : slice_get (state.makers ++ maker ∷ []) q ≡ Some one = ap (λ (ms : List QueueMaker). slice_get ms q) (sym makers) ∙ made in
+        elim (more_cases state.makers maker q one at) [
           | inl old ↦
               let less = slice_get_within state.makers q one old in
               let line = is.queues q one old in
@@ -80,9 +80,9 @@ module _ (name : Option Script) (state after : QueueState) (lines : ℕ → Chun
               let left : is_emptied after q ≡ false = ap (λ (es : List ℕ). is_emptied (record state { emptied = es }) q) emptied ∙ ap (λ k. is_emptied state k) new.0 ∙ full in
               in_each (λ k chunks. IsLine name after k one chunks) (length state.makers) (λ chunks. own n first ∷ []) lines q
               (λ here.
-              let P : ℕ → Maker → Type 0 = λ k m. IsLine name after k m (own n first ∷ []) in
+              let P : ℕ → QueueMaker → Type 0 = λ k m. IsLine name after k m (own n first ∷ []) in
               let Q : ℕ → Type 0 = λ k. P k one in
-              let R : Maker → Type 0 = λ m. P (length state.makers) m in
+              let R : QueueMaker → Type 0 = λ m. P (length state.makers) m in
               subst Q (sym new.0) (subst R (sym new.1) (record {
                 owners = new_owners;
                 matches = λ free in_use s named lawful. new_matches s named lawful;

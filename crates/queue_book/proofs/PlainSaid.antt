@@ -8,7 +8,7 @@ use Rattle.swan_model.specs.declared.origin.Origin.{Origin}
 use Rattle.swan_model.specs.declared.script.Script.{Script}
 use Rattle.swan_model.specs.Lawful.{IsLawful}
 use Rattle.swan_model.specs.QueueFollows.{origin_in, queue_origin}
-use Rattle.swan_model.specs.QueueState.{ActiveFrame, Maker, QueueState, active, HasTurn}
+use Rattle.swan_model.specs.QueueState.{ActiveFrame, QueueMaker, QueueState, active, HasTurn}
 use Rattle.queue_book.specs.Asks.{IsOnTurn, OnNext}
 use Rattle.queue_book.specs.Book.{Chunks}
 use Rattle.queue_book.specs.Chains.{in_line}
@@ -24,11 +24,11 @@ pub turn_on : (name : Option Script) (state : QueueState) (n : ℕ) (s : Script)
 turn_on name state n s frame turn = on_next name state n (λ r f. HasTurn state f) s frame turn
 
 -- the queue of a maker
-pub origin_of : (s : Script) (state : QueueState) (queue : ℕ) (maker : Maker) → slice_get state.makers queue ≡ Some maker → queue_origin s state queue ≡ Some (origin_in s maker)
+pub origin_of : (s : Script) (state : QueueState) (queue : ℕ) (maker : QueueMaker) → slice_get state.makers queue ≡ Some maker → queue_origin s state queue ≡ Some (origin_in s maker)
 origin_of s state queue maker made = ap (option_map (origin_in s)) made
 
 -- what is said of a queue
-pub on_queue : (name : Option Script) (state : QueueState) (queue : ℕ) (maker : Maker) (Says : Script → Origin → Type 0) → slice_get state.makers queue ≡ Some maker
+pub on_queue : (name : Option Script) (state : QueueState) (queue : ℕ) (maker : QueueMaker) (Says : Script → Origin → Type 0) → slice_get state.makers queue ≡ Some maker
     → ((s : Script) → name ≡ Some s → IsLawful s → Says s (origin_in s maker)) → OnQueue name state queue Says
 on_queue name state queue maker Says made says s named lawful origin is =
     let both : Some (origin_in s maker) ≡ Some origin = sym (origin_of s state queue maker made) ∙ is in

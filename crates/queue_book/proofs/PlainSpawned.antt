@@ -2,8 +2,8 @@
 use Rattle.std.proofs.Common.{◌≡◌, ℕ, Bool, true, false, Option, Some, None, List, refl, ap}
 use Rattle.std.specs.Prelude.{slice_get, if◌then◌else◌}
 use Rattle.swan_model.specs.declared.script.Script.{Script}
-use Rattle.swan_model.specs.QueueFollows.{origin_in, IsNextSpawn}
-use Rattle.swan_model.specs.QueueState.{Maker, QueueRight, QueueState, active, after_spawn}
+use Rattle.swan_model.specs.QueueFollows.{origin_in, NextSpawnGivesQueues}
+use Rattle.swan_model.specs.QueueState.{QueueMaker, QueueRight, QueueState, active, after_spawn}
 use Rattle.swan_model.specs.Readings.{end_time}
 use Rattle.queue_book.specs.Asks.{MaySpawn, IsOnTurn, OnNext}
 use Rattle.queue_book.specs.Book.{Chunks, after_hand_on}
@@ -19,15 +19,15 @@ use Rattle.queue_book.proofs.TreeKept.{tree_spawn}
 use Rattle.queue_book.proofs.TreeOwners.{owners_kept_spawn, owners_spawn}
 
 module _ (name : Option Script) (state : QueueState) (lines : ℕ → Chunks) (is : IsPlain name state lines) (p child : ℕ) (gives : List QueueRight) (may : MaySpawn state p child gives)
-    (next : OnNext name state p (λ s f. IsNextSpawn s state f gives)) (turn : IsOnTurn name state p)
-    (in_use_before : (q : ℕ) (maker : Maker) → IsInUse (after_spawn state may.act.frame child gives) q maker → IsInUse state q maker) where
+    (next : OnNext name state p (λ s f. NextSpawnGivesQueues s state f gives)) (turn : IsOnTurn name state p)
+    (in_use_before : (q : ℕ) (maker : QueueMaker) → IsInUse (after_spawn state may.act.frame child gives) q maker → IsInUse state q maker) where
   free : active state child ≡ None
   free = not_active state is.tree child may.newest
 
-  spawn_of : (s : Script) → name ≡ Some s → IsNextSpawn s state may.act.frame gives
-  spawn_of s named = on_next name state p (λ t f. IsNextSpawn t state f gives) s may.act.frame next named may.act.may.live
+  spawn_of : (s : Script) → name ≡ Some s → NextSpawnGivesQueues s state may.act.frame gives
+  spawn_of s named = on_next name state p (λ t f. NextSpawnGivesQueues t state f gives) s may.act.frame next named may.act.may.live
 
-  line : (q : ℕ) (maker : Maker) → slice_get state.makers q ≡ Some maker → (b : Bool) → gives_queue gives q ≡ b
+  line : (q : ℕ) (maker : QueueMaker) → slice_get state.makers q ≡ Some maker → (b : Bool) → gives_queue gives q ≡ b
       → IsLine name (after_spawn state may.act.frame child gives) q maker (if b then after_hand_on p child (lines q) else lines q)
   line q maker made true given =
       let was = is.queues q maker made in

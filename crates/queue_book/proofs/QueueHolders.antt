@@ -5,7 +5,7 @@ use Rattle.std.proofs.lemmas.List.Folds.{list_any-append}
 use Rattle.std.specs.List.{list_any}
 use Rattle.std.specs.Prelude.{◌==◌, ◌||◌, slice_get}
 use Rattle.swan_model.specs.PathOrder.{comes_before}
-use Rattle.swan_model.specs.QueueState.{ActiveFrame, Maker, QueueRight, QueueState, active, after_finish, IsActiveChild, MayAct, MayGive}
+use Rattle.swan_model.specs.QueueState.{ActiveFrame, QueueMaker, QueueRight, QueueState, active, after_finish, IsActiveChild, MayAct, MayGive}
 use Rattle.swan_model.proofs.PathOrder.{how_before, IsAside, IsBelow, left-before, left-below, left-below_other, left-sibling}
 use Rattle.queue_book.specs.Tree.{IsTree, has_queue, maker_path}
 use Rattle.queue_book.proofs.Above.{climb, under_maker}
@@ -132,7 +132,7 @@ module _ (state : QueueState) (gone queue : ℕ) where
   gone_still number path apart old = record { frame = old.frame; live = stays state gone number old.frame apart old.live; has = old.has; is = old.is }
 
 -- once the maker of a queue has ended, nobody has it
-pub none_after_maker : (state : QueueState) (n queue : ℕ) (frame : ActiveFrame) (maker : Maker) → IsTree state → active state n ≡ Some frame
+pub none_after_maker : (state : QueueState) (n queue : ℕ) (frame : ActiveFrame) (maker : QueueMaker) → IsTree state → active state n ≡ Some frame
     → ((child : ℕ) → ¬ IsActiveChild state n child) → slice_get state.makers queue ≡ Some maker → frame.path ≡ maker_path maker
     → (number : ℕ) (path : List ℕ) → IsHolder (after_finish state n) queue number path → ⊥
 none_after_maker state n queue frame maker tree live alone at own number path now =

@@ -21,7 +21,7 @@ use Rattle.queue_book.proofs.Advancing.{does_now, fits_next, fits_same, more_lef
 use Rattle.queue_book.proofs.Between.{deed-more, deed-place, deeds_before, is_queue_deed_of, point_left}
 use Rattle.queue_book.proofs.Calls.{by_end_makes}
 use Rattle.queue_book.proofs.Continuing.{became, changed_gone, fits_by, goes_by, others_kept}
-use Rattle.queue_book.proofs.Elements.{some_same}
+use Rattle.swan_model.proofs.Elements.{some_same}
 use Rattle.queue_book.proofs.Done.{spawn_deed}
 use Rattle.queue_book.proofs.Fitting.{fits_comes}
 use Rattle.queue_book.proofs.Moving.{making_parts}

@@ -26,7 +26,7 @@ use Rattle.swan_model.proofs.TaskEntries.{is_spawn_of, spawn_own}
 use Rattle.queue_book.specs.Reads.{more_by}
 use Rattle.queue_book.proofs.Advancing.{fits_next, fits_same, more_left, own_now}
 use Rattle.queue_book.proofs.Continuing.{became, changed_gone, its, more_number, more_path, other_more, others_kept, own_more}
-use Rattle.queue_book.proofs.Elements.{before_more, find_map, last_more, mapped_is, more_cases, some_same}
+use Rattle.swan_model.proofs.Elements.{before_more, find_map, last_more, mapped_is, more_cases, some_same}
 use Rattle.queue_book.proofs.Fitting.{fits_comes, is_queue_time}
 use Rattle.queue_book.proofs.Lineage.{spawns_by}
 use Rattle.queue_book.proofs.Places.{take-none}

@@ -13,7 +13,7 @@ use Rattle.swan_model.proofs.Lists.{some_within}
 use Rattle.swan_model.proofs.Points.{is_past-child}
 use Rattle.swan_model.proofs.TaskEntries.{first_time, point_at}
 use Rattle.queue_book.proofs.Calls.{only_root}
-use Rattle.queue_book.proofs.Elements.{some_same}
+use Rattle.swan_model.proofs.Elements.{some_same}
 use Rattle.queue_book.proofs.Fitting.{is_queue_time}
 use Rattle.queue_book.proofs.Places.{take-none}
 use Rattle.queue_book.proofs.QueuePoints.{some_own}

@@ -14,7 +14,7 @@ use Rattle.swan_model.specs.Told.{deed_at}
 use Rattle.swan_model.proofs.Lists.{some_within}
 use Rattle.queue_book.specs.Reads.{DiffersIdly}
 use Rattle.queue_book.proofs.Done.{spawn_deed}
-use Rattle.queue_book.proofs.Elements.{found_is, option_cases, some_same}
+use Rattle.swan_model.proofs.Elements.{found_is, option_cases, some_same}
 use Rattle.queue_book.proofs.Fitting.{fits_still, same_side}
 use Rattle.queue_book.proofs.Refitting.{GoesTo, refits}
 use Rattle.queue_book.proofs.SerialPoints.{frame_in, frame_number}

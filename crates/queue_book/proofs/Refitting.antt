@@ -12,7 +12,7 @@ use Rattle.swan_model.specs.SerialTime.{Progress, Reading, frame_of, is_done, is
 use Rattle.swan_model.proofs.Points.{is_past-child}
 use Rattle.swan_model.proofs.TaskEntries.{spawn_own}
 use Rattle.queue_book.proofs.Between.{own_is}
-use Rattle.queue_book.proofs.Elements.{any_from, some_same}
+use Rattle.swan_model.proofs.Elements.{any_from, some_same}
 
 -- what a frame of a reading has come past is done
 pub past_done : (s : Script) (r : Reading) (index : ℕ) (p : Progress) (v : ℕ) → slice_get r.frames index ≡ Some p → IsEntryOf s p.path v → v < point s p → is_done s r v ≡ true

@@ -12,7 +12,7 @@ use Rattle.swan_model.specs.Granted.{is_spawn}
 use Rattle.swan_model.specs.Lawful.{IsLawful}
 use Rattle.swan_model.specs.Nested.{spawn_time}
 use Rattle.swan_model.specs.QueueFollows.{Fits, FitsFrame, origin_in, queue_origin}
-use Rattle.swan_model.specs.QueueState.{ActiveFrame, LentEnd, Maker, planned, QueueState, active, after_create_root, after_deed, after_finish, after_lend, after_take_rest, with_deed, with_made}
+use Rattle.swan_model.specs.QueueState.{ActiveFrame, LentEnd, QueueMaker, planned, QueueState, active, after_create_root, after_deed, after_finish, after_lend, after_take_rest, with_deed, with_made}
 use Rattle.swan_model.specs.Readings.{gone_on, next_deed, with_queue}
 use Rattle.swan_model.specs.SerialTime.{Progress, Reading, frame_of, is_of, is_queue_deed, point, times}
 use Rattle.swan_model.specs.Told.{deed_at}
@@ -23,7 +23,7 @@ use Rattle.queue_book.specs.Reads.{more_by}
 use Rattle.queue_book.proofs.Advancing.{does_now, fits_next, fits_same}
 use Rattle.queue_book.proofs.Between.{no_spawn}
 use Rattle.queue_book.proofs.Continuing.{KeepsOthers, WasActive, all_kept, became, changed_gone, fits_by, goes_by, others_kept}
-use Rattle.queue_book.proofs.Elements.{as_number, some_same}
+use Rattle.swan_model.proofs.Elements.{as_number, some_same}
 use Rattle.queue_book.proofs.Finishing.{not_active, still_active}
 use Rattle.queue_book.proofs.Refitting.{GoesTo, refits}
 use Rattle.queue_book.proofs.SerialPoints.{frame_in, frame_number}
@@ -75,7 +75,7 @@ module _ (s : Script) (state : QueueState) (r : Reading) (fits : Fits s state r)
       let lend : ActiveFrame → ActiveFrame = λ f. record f { lent = Some (record { deeds = frame.deeds; ends = ends }) } in
       still_fits r refl new (all_kept state new frame.number lend (λ f. refl) refl (λ f. refl) (λ f. refl)) (changed_gone state new frame.number lend (λ f. refl) refl) fits.queues
 
-pub more_queue : (f : Maker → Origin) (os : List Origin) (ms : List Maker) (o : Origin) (m : Maker) → ((queue : ℕ) → slice_get os queue ≡ option_map f (slice_get ms queue)) → o ≡ f m
+pub more_queue : (f : QueueMaker → Origin) (os : List Origin) (ms : List QueueMaker) (o : Origin) (m : QueueMaker) → ((queue : ℕ) → slice_get os queue ≡ option_map f (slice_get ms queue)) → o ≡ f m
     → (queue : ℕ) → slice_get (os ++ o ∷ []) queue ≡ option_map f (slice_get (ms ++ m ∷ []) queue)
 more_queue f [] [] o m same is zero = ap Some is
 more_queue f [] [] o m same is (suc queue) = refl

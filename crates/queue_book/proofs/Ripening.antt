@@ -22,7 +22,7 @@ use Rattle.swan_model.specs.Told.{deed_at, first_items, taken}
 use Rattle.swan_model.proofs.Places.{placed}
 use Rattle.swan_model.proofs.ScriptSteps.{deed_is}
 use Rattle.queue_book.proofs.Done.{done_same}
-use Rattle.queue_book.proofs.Elements.{answers_same, filtered_each, filtered_from, found_is}
+use Rattle.swan_model.proofs.Elements.{answers_same, filtered_each, filtered_from, found_is}
 use Rattle.queue_book.proofs.Fitting.{same_side}
 use Rattle.queue_book.proofs.Kept.{still_grants, use_kept}
 use Rattle.queue_book.proofs.QueuePoints.{still_same}
@@ -60,7 +60,7 @@ module _ (s : Script) (lawful : IsLawful s) (state : QueueState) (follows : Queu
 
   module _ (number : ℕ) (frame : ActiveFrame) (a : Progress) (read : IsRead s lawful state r fits number frame a) (queue : ℕ) (origin : Origin) (made : queue_origin s state queue ≡ Some origin) (actives : List Progress) (are : AreActive state r actives) where
     -- who else may push
-    others_same : (other : ℕ) (f : ActiveFrame) (p : Progress) → IsRead s lawful state r fits other f p → among.may_push_too frame queue f ≡ ripe.may_push_too s a origin p
+    others_same : (other : ℕ) (f : ActiveFrame) (p : Progress) → IsRead s lawful state r fits other f p → among.active_may_push_too frame queue f ≡ ripe.active_may_push_too s a origin p
     others_same other f p also =
         let one : f.number ≡ p.number = active_number state other f also.live ∙ sym (frame_number r other p also.known) in
         let two : frame.number ≡ a.number = active_number state number frame read.live ∙ sym (frame_number r number a read.known) in
@@ -73,41 +73,41 @@ module _ (s : Script) (lawful : IsLawful s) (state : QueueState) (follows : Queu
     past_same t deed other f p also = same_side s f.path (point s p) (queue_point s f.path f.deeds) t also.still deed
 
     all_past : (t : ℕ) → is_queue_deed (deed_at s t) ≡ true
-        → list_all (λ (f : ActiveFrame). nat_lt t (queue_point s f.path f.deeds)) (filter (among.may_push_too frame queue) state.frames)
-        ≡ list_all (λ p. nat_lt t (point s p)) (filter (ripe.may_push_too s a origin) actives)
+        → list_all (λ (f : ActiveFrame). nat_lt t (queue_point s f.path f.deeds)) (filter (among.active_may_push_too frame queue) state.frames)
+        ≡ list_all (λ p. nat_lt t (point s p)) (filter (ripe.active_may_push_too s a origin) actives)
     all_past t deed =
         let before : ActiveFrame → Bool = λ f. nat_lt t (queue_point s f.path f.deeds) in
         let past : Progress → Bool = λ p. nat_lt t (point s p) in
         answers_same
-        (list_all before (filter (among.may_push_too frame queue) state.frames))
-        (list_all past (filter (ripe.may_push_too s a origin) actives))
-        (λ all. filtered_from (ripe.may_push_too s a origin) past actives (λ i p at may.
+        (list_all before (filter (among.active_may_push_too frame queue) state.frames))
+        (list_all past (filter (ripe.active_may_push_too s a origin) actives))
+        (λ all. filtered_from (ripe.active_may_push_too s a origin) past actives (λ i p at may.
         let it = are.only i p at in
         let also = is_read s lawful state r fits p.number it.0 p it.1 it.2 in
         let found = found_is (λ (f : ActiveFrame). nat_eq f.number p.number) state.frames it.0 it.1 in
         sym (past_same t deed p.number it.0 p also)
-        ∙ filtered_each (among.may_push_too frame queue) before state.frames found.index it.0 all found.stands (others_same p.number it.0 p also ∙ may)))
-        (λ all. filtered_from (among.may_push_too frame queue) before state.frames (λ i f at may.
+        ∙ filtered_each (among.active_may_push_too frame queue) before state.frames found.index it.0 all found.stands (others_same p.number it.0 p also ∙ may)))
+        (λ all. filtered_from (among.active_may_push_too frame queue) before state.frames (λ i f at may.
         let live = follows.known i f at in
         let q = fits.frames f.number f live in
         let also = is_read s lawful state r fits f.number f q.0 live q.1 in
         let there = are.all f.number f q.0 live q.1 in
         past_same t deed f.number f q.0 also
-        ∙ filtered_each (ripe.may_push_too s a origin) past actives there.0 q.0 all there.1 (sym (others_same f.number f q.0 also) ∙ may)))
+        ∙ filtered_each (ripe.active_may_push_too s a origin) past actives there.0 q.0 all there.1 (sym (others_same f.number f q.0 also) ∙ may)))
 
     pushed_same : (o : Option ℕ) → ((t : ℕ) → o ≡ Some t → is_queue_deed (deed_at s t) ≡ true)
-        → option_map_or (λ t. is_done_among s state t && list_all (λ (f : ActiveFrame). nat_lt t (queue_point s f.path f.deeds)) (filter (among.may_push_too frame queue) state.frames)) o false
-        ≡ option_map_or (λ t. is_done s r t && list_all (λ p. nat_lt t (point s p)) (filter (ripe.may_push_too s a origin) actives)) o false
+        → option_map_or (λ t. is_done_among s state t && list_all (λ (f : ActiveFrame). nat_lt t (queue_point s f.path f.deeds)) (filter (among.active_may_push_too frame queue) state.frames)) o false
+        ≡ option_map_or (λ t. is_done s r t && list_all (λ p. nat_lt t (point s p)) (filter (ripe.active_may_push_too s a origin) actives)) o false
     pushed_same None deed = refl
     pushed_same (Some t) deed =
-        ap (λ b. b && list_all (λ (f : ActiveFrame). nat_lt t (queue_point s f.path f.deeds)) (filter (among.may_push_too frame queue) state.frames)) (done_same s lawful state follows r fits t (deed t refl))
+        ap (λ b. b && list_all (λ (f : ActiveFrame). nat_lt t (queue_point s f.path f.deeds)) (filter (among.active_may_push_too frame queue) state.frames)) (done_same s lawful state follows r fits t (deed t refl))
         ∙ ap (λ b. is_done s r t && b) (all_past t (deed t refl))
 
     pub ripe_same : is_ripe_among s state frame queue origin ≡ is_ripe s r actives a origin
     ripe_same =
         let m = queue_point s frame.path frame.deeds in
         let same = (still_same s origin frame.path (point s a) m read.still).takes in
-        let rest : ℕ → Bool = λ k. option_map_or (λ t. is_done_among s state t && list_all (λ (f : ActiveFrame). nat_lt t (queue_point s f.path f.deeds)) (filter (among.may_push_too frame queue) state.frames)) (push_time s origin k) false in
+        let rest : ℕ → Bool = λ k. option_map_or (λ t. is_done_among s state t && list_all (λ (f : ActiveFrame). nat_lt t (queue_point s f.path f.deeds)) (filter (among.active_may_push_too frame queue) state.frames)) (push_time s origin k) false in
         ap (λ k. nat_lt k (length (first_items s origin)) || rest k) same
         ∙ ap (λ b. nat_lt (taken s origin (point s a)) (length (first_items s origin)) || b)
         (pushed_same (push_time s origin (taken s origin (point s a))) (λ t is. push_deed s origin (taken s origin (point s a)) t is))

@@ -2,7 +2,7 @@
 use Rattle.std.proofs.Common.{◌≡◌, ℕ, zero, suc, ◌+◌, ◌-◌, ◌<◌, ◌≤◌, List, [], ◌∷◌, ◌++◌, length, take, drop, Some, refl, sym, ap, ◌∙◌, arith, length-take, length-drop, take-add, take_at, drop-drop}
 use Rattle.std.proofs.lemmas.List.{drop-take}
 use Rattle.std.specs.Prelude.{slice_get}
-use Rattle.queue_book.proofs.Elements.{some_same}
+use Rattle.swan_model.proofs.Elements.{some_same}
 
 abbrev pub segment : {X : Type 0} → (from upto : ℕ) → List X → List X
 segment from upto xs = take (upto - from) (drop from xs)

@@ -13,7 +13,7 @@ use Rattle.swan_model.proofs.PathOrder.{IsAside, IsBelow, either_before, how_bef
 use Rattle.swan_model.proofs.Points.{past_above, same_frame, spawns_rise}
 use Rattle.swan_model.proofs.TaskEntries.{point_own, spawn_own}
 use Rattle.queue_book.proofs.Between.{IsStill}
-use Rattle.queue_book.proofs.Elements.{answers_same, found_is, some_same}
+use Rattle.swan_model.proofs.Elements.{answers_same, found_is, some_same}
 use Rattle.queue_book.proofs.Fitting.{fits_still}
 
 -- ---- frames by their numbers

@@ -14,7 +14,7 @@ use Rattle.swan_model.specs.Granted.{child_path, children_before, granted, grant
 use Rattle.swan_model.specs.Lawful.{IsLawful}
 use Rattle.swan_model.specs.Nested.{IsEntryOf, IsEntryUnder}
 use Rattle.swan_model.specs.PathOrder.{is_under}
-use Rattle.swan_model.specs.QueueFollows.{IsChildOf, IsNextSpawn, IsTask, QueuesFollow, is_reached, queue_point, queue_time, queue_times}
+use Rattle.swan_model.specs.QueueFollows.{IsChildOf, NextSpawnGivesQueues, IsTask, QueuesFollow, is_reached, queue_point, queue_time, queue_times}
 use Rattle.swan_model.specs.QueueState.{ActiveFrame, made_by, QueueRight, QueueState, active, after_spawn, changed, changing, child_of, with_deed}
 use Rattle.swan_model.specs.Readings.{end_time}
 use Rattle.swan_model.specs.Rights.{is_queue_mode}
@@ -27,7 +27,7 @@ use Rattle.swan_model.proofs.Uses.{granted-none}
 use Rattle.queue_book.proofs.Between.{IsQueueDeed, IsStill, to_queue_point}
 use Rattle.queue_book.proofs.Changing.{IsChange, active_new, changed_follows, done_is, now_is, path_kept, task_on, was}
 use Rattle.queue_book.proofs.Done.{reached_under}
-use Rattle.queue_book.proofs.Elements.{all_each, as_number, found_is}
+use Rattle.swan_model.proofs.Elements.{all_each, as_number, found_is}
 use Rattle.queue_book.proofs.Given.{child_made, child_rights}
 use Rattle.queue_book.proofs.Growing.{grown_follows}
 use Rattle.queue_book.proofs.Kept.{GrantsNone, still_grants, use_kept}
@@ -98,7 +98,7 @@ module _ (s : Script) (lawful : IsLawful s) (path : List ℕ) (t : ℕ) (gives :
         ];
       }
 
-module _ (s : Script) (lawful : IsLawful s) (state : QueueState) (follows : QueuesFollow s state) (parent : ActiveFrame) (live : active state parent.number ≡ Some parent) (rights : List QueueRight) (spawn : IsNextSpawn s state parent rights) where
+module _ (s : Script) (lawful : IsLawful s) (state : QueueState) (follows : QueuesFollow s state) (parent : ActiveFrame) (live : active state parent.number ≡ Some parent) (rights : List QueueRight) (spawn : NextSpawnGivesQueues s state parent rights) where
   abbrev at_time : ℕ
   at_time = queue_point s parent.path parent.deeds
 
@@ -224,7 +224,7 @@ module _ (s : Script) (lawful : IsLawful s) (state : QueueState) (follows : Queu
     spawned = grown_follows s after_parent parent_follows new_child child_number free_after parent.number refl child_below child_task child_apart child_reached
 
 pub spawned_follows : (s : Script) → IsLawful s → (state : QueueState) → QueuesFollow s state → (number child : ℕ) (parent : ActiveFrame) (rights : List QueueRight) → active state number ≡ Some parent → active state child ≡ None
-    → IsNextSpawn s state parent rights → QueuesFollow s (after_spawn state parent child rights)
+    → NextSpawnGivesQueues s state parent rights → QueuesFollow s (after_spawn state parent child rights)
 spawned_follows s lawful state follows number child parent rights live free spawn =
     let found = found_is (λ (f : ActiveFrame). nat_eq f.number number) state.frames parent live in
     spawned s lawful state follows parent (follows.known found.index parent found.stands) rights spawn child free

@@ -6,7 +6,7 @@ use Rattle.std.specs.Option.{option_map}
 use Rattle.std.specs.Prelude.{slice_get}
 use Rattle.swan_model.specs.declared.rights.Mode.{Mode}
 use Rattle.swan_model.specs.declared.rights.Mode.TheVariants.{Pop}
-use Rattle.swan_model.specs.QueueState.{ActiveFrame, Maker, QueueState, active, holds_queue, IsOlderPopper}
+use Rattle.swan_model.specs.QueueState.{ActiveFrame, QueueMaker, QueueState, active, holds_queue, IsOlderPopper}
 use Rattle.swan_model.specs.Rights.{is_queue_mode}
 use Rattle.swan_model.proofs.Lists.{some_within}
 use Rattle.queue_book.specs.Tree.{IsHeld, made, given, IsSpawnedBy, IsTree, has_queue}
@@ -16,7 +16,7 @@ use Rattle.queue_book.proofs.FramesChanged.{find_changed, mapped_some}
 -- Each frame is changed so: it keeps its place, and its rights on all queues that were there.
 pub record IsChanged (before after : QueueState) (each : ActiveFrame → ActiveFrame) (actor : ℕ) : Type 0 where
   pub frames : after.frames ≡ map each before.frames
-  pub makers : (queue : ℕ) (maker : Maker) → slice_get before.makers queue ≡ Some maker → slice_get after.makers queue ≡ Some maker
+  pub makers : (queue : ℕ) (maker : QueueMaker) → slice_get before.makers queue ≡ Some maker → slice_get after.makers queue ≡ Some maker
   pub more : length before.makers ≤ length after.makers
   pub latest : before.latest ≤ after.latest
   pub numbers : (frame : ActiveFrame) → (each frame).number ≡ frame.number
@@ -73,7 +73,7 @@ module _ (before after : QueueState) (each : ActiveFrame → ActiveFrame) (actor
       }
 
   -- of a queue that was there, the maker is the same
-  same_maker : (queue : ℕ) (maker : Maker) → queue < length before.makers → slice_get after.makers queue ≡ Some maker → slice_get before.makers queue ≡ Some maker
+  same_maker : (queue : ℕ) (maker : QueueMaker) → queue < length before.makers → slice_get after.makers queue ≡ Some maker → slice_get before.makers queue ≡ Some maker
   same_maker queue maker there at =
       let own = some_within before.makers queue there in
       own.1 ∙ ap Some (same_Some own.0 maker (sym (change.makers queue own.0 own.1) ∙ at))

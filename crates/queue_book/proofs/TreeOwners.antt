@@ -5,7 +5,7 @@ use Rattle.std.proofs.lemmas.Option.{same_Some}
 use Rattle.std.specs.List.{list_any}
 use Rattle.std.specs.Prelude.{◌==◌, slice_get}
 use Rattle.swan_model.specs.declared.value.Value.{Value}
-use Rattle.swan_model.specs.QueueState.{ActiveFrame, LentEnd, Maker, QueueRight, QueueState, active, after_back, after_create, after_create_root, after_deed, after_finish, after_lend, after_spawn, after_take_rest, changed, IsUntouched, with_deed, with_made}
+use Rattle.swan_model.specs.QueueState.{ActiveFrame, LentEnd, QueueMaker, QueueRight, QueueState, active, after_back, after_create, after_create_root, after_deed, after_finish, after_lend, after_spawn, after_take_rest, changed, IsUntouched, with_deed, with_made}
 use Rattle.queue_book.specs.Asks.{MayDo, MayJoin, MaySpawn}
 use Rattle.queue_book.specs.Book.{Chunks, after_close, after_hand_on, HasOwners, IsOwner, own, without_spent, with_item, without_first}
 use Rattle.queue_book.specs.Tree.{IsTree, has_queue, maker_path}
@@ -170,13 +170,13 @@ owners_kept_finish state n q frame chunks live hasnt owners =
     (λ index. refl))
 
 -- Once the maker has finished, no active frame has the queue, and no chunk has an owner.
-pub none_has : (state : QueueState) (n q : ℕ) (maker : Maker) → IsTree state → (may : MayJoin state n) → slice_get state.makers q ≡ Some maker → may.frame.path ≡ maker_path maker
+pub none_has : (state : QueueState) (n q : ℕ) (maker : QueueMaker) → IsTree state → (may : MayJoin state n) → slice_get state.makers q ≡ Some maker → may.frame.path ≡ maker_path maker
     → (number : ℕ) (frame : ActiveFrame) → active (after_finish state n) number ≡ Some frame → has_queue frame q ≡ true → ⊥
 none_has state n q maker tree may at own number frame live has =
     none_after_maker state n q may.frame maker tree may.may.live may.alone at own number frame.path (record { frame = frame; live = live; has = has; is = refl })
 
 -- So it is where all chunks are given up.
-pub owners_none : (state : QueueState) (n q : ℕ) (maker : Maker) → IsTree state → (may : MayJoin state n) → slice_get state.makers q ≡ Some maker → may.frame.path ≡ maker_path maker
+pub owners_none : (state : QueueState) (n q : ℕ) (maker : QueueMaker) → IsTree state → (may : MayJoin state n) → slice_get state.makers q ≡ Some maker → may.frame.path ≡ maker_path maker
     → HasOwners (after_finish state n) q []
 owners_none state n q maker tree may at own = record {
   owners = λ index number is. absurd (nothing index number is);

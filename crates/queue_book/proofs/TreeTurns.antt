@@ -6,7 +6,7 @@ use Rattle.std.proofs.lemmas.Option.{same_Some}
 use Rattle.std.specs.Prelude.{slice_get}
 use Rattle.swan_model.specs.declared.rights.Mode.TheVariants.{Push, Pop}
 use Rattle.swan_model.specs.PathOrder.{comes_before}
-use Rattle.swan_model.specs.QueueState.{ActiveFrame, Maker, QueueState, active, HasTurn, holds_queue, IsOlderPopper, IsPoppingChild, MayAct}
+use Rattle.swan_model.specs.QueueState.{ActiveFrame, QueueMaker, QueueState, active, HasTurn, holds_queue, IsOlderPopper, IsPoppingChild, MayAct}
 use Rattle.swan_model.proofs.PathOrder.{how_before, IsAside, IsBelow}
 use Rattle.swan_model.proofs.Paths.{not_below-itself}
 use Rattle.queue_book.specs.Book.{Chunk, Chunks, HasOwners, IsOwner}
@@ -21,7 +21,7 @@ module _ (state : QueueState) (tree : IsTree state) (acted : HaveActed state) (q
   Pops frame = holds_queue frame queue Pop ≡ true
 
   -- the maker of the queue isn't beside a frame that has it
-  maker_aside : (number : ℕ) (frame : ActiveFrame) (maker : Maker) (top more : List ℕ) (part other : ℕ) → active state number ≡ Some frame → has_queue frame queue ≡ true
+  maker_aside : (number : ℕ) (frame : ActiveFrame) (maker : QueueMaker) (top more : List ℕ) (part other : ℕ) → active state number ≡ Some frame → has_queue frame queue ≡ true
       → slice_get state.makers queue ≡ Some maker → frame.path ≡ top ++ other ∷ more → (part ≡ other → ⊥) → (rest : List ℕ) → maker_path maker ≡ top ++ part ∷ rest → ⊥
   maker_aside number frame maker top more part other live has at path apart rest there =
       let under = under_maker state tree number queue frame maker live has at in
@@ -29,7 +29,7 @@ module _ (state : QueueState) (tree : IsTree state) (acted : HaveActed state) (q
       (sym (append_assoc top (part ∷ rest) under.0) ∙ ap (λ p. p ++ under.0) (sym there) ∙ sym under.1 ∙ path))
 
   -- nor below it
-  maker_below : (number : ℕ) (frame : ActiveFrame) (maker : Maker) (part : ℕ) → active state number ≡ Some frame → has_queue frame queue ≡ true
+  maker_below : (number : ℕ) (frame : ActiveFrame) (maker : QueueMaker) (part : ℕ) → active state number ≡ Some frame → has_queue frame queue ≡ true
       → slice_get state.makers queue ≡ Some maker → (rest : List ℕ) → maker_path maker ≡ frame.path ++ part ∷ rest → ⊥
   maker_below number frame maker part live has at rest there =
       let under = under_maker state tree number queue frame maker live has at in

@@ -14,12 +14,7 @@ use Rattle.pop_order.proofs.Lookups.{by_inserted}
 use Rattle.pop_order.specs.Frames.{Frame, Frames, enlisted, enlisted_at, frame_at, AreUpTo}
 use Rattle.swan_model.specs.SerialState.{Holding}
 use Rattle.queue_book.specs.Turned.{AreApart}
-
-tied : (k n : ℕ) → k ≡ n → is_at (nat_cmp k) n ≡ true
-tied k n e = grind (arith, nat_tests)
-
-untied : (k n : ℕ) → n ≢ k → is_at (nat_cmp k) n ≡ false
-untied k n apart = grind (arith, nat_tests)
+use Rattle.swan_model.proofs.Lookups.{tied, untied}
 
 apart_inserted : (es : Frames) (k : ℕ) (v : Frame) → frame_at es k ≡ None → AreApart es → AreApart (insert_entry nat_cmp es k v)
 apart_inserted [] k v fresh apart = (refl, tt)

@@ -8,18 +8,10 @@ use Rattle.std.specs.Ordering.{nat_cmp}
 use Rattle.std.specs.Prelude.{slice_get}
 use Rattle.pop_order.proofs.Flags.{and_both}
 use Rattle.pop_order.specs.Frames.{Frame, Frames, frame_at, without, HasNoChild}
-use Rattle.swan_model.specs.QueueState.{Maker, QueueState, active, IsActiveChild}
+use Rattle.swan_model.specs.QueueState.{QueueMaker, QueueState, active, IsActiveChild}
 use Rattle.queue_book.specs.Turned.{AreApart, AreTurns}
 use Rattle.queue_book.proofs.ActiveAfter.{AreOthers}
-
-tied : (k n : ℕ) → k ≡ n → is_at (nat_cmp k) n ≡ true
-tied k n e = grind (arith, nat_tests)
-
-untied : (k n : ℕ) → n ≢ k → is_at (nat_cmp k) n ≡ false
-untied k n apart = grind (arith, nat_tests)
-
-equal_at : (k n : ℕ) → is_at (nat_cmp k) n ≡ true → k ≡ n
-equal_at k n h = grind (arith, nat_tests)
+use Rattle.swan_model.proofs.Lookups.{tied, untied, equal_at}
 
 gone_at : (es : Frames) (k : ℕ) → AreApart es → frame_at (without es k) k ≡ None
 gone_at [] k apart = refl
@@ -84,7 +76,7 @@ turns_gone state after turns n others gone makers is = record {
     | inl here ↦ let never : None ≡ Some frame = sym gone ∙ ap (active after) (sym here) ∙ live in absurd (cc)
     | inr other ↦
         let turn = is.all m parent queue mode frame (sym (others m other) ∙ live) of held
-        (λ maker made. apart maker (ap (λ (ms : List Maker). slice_get ms queue) makers ∙ made)) in
+        (λ maker made. apart maker (ap (λ (ms : List QueueMaker). slice_get ms queue) makers ∙ made)) in
         (turn.0, gone_by turns n m other ∙ turn.1, turn.2, turn.3)
   ];
 }

@@ -5,7 +5,7 @@ use Rattle.pop_order.specs.Frames.{Frame, Frames, holds}
 use Rattle.pop_order.specs.Turns.{IsPoppingChild as PopsTurn}
 use Rattle.swan_model.specs.declared.rights.Mode.{Mode}
 use Rattle.swan_model.specs.declared.rights.Mode.TheVariants.{Pop}
-use Rattle.swan_model.specs.QueueState.{ActiveFrame, Maker, QueueRight, QueueState, active, holds_queue, IsPoppingChild}
+use Rattle.swan_model.specs.QueueState.{ActiveFrame, QueueMaker, QueueRight, QueueState, active, holds_queue, IsPoppingChild}
 use Rattle.queue_book.specs.Tree.{IsTree, has_queue, maker_path}
 use Rattle.queue_book.specs.Turned.{AreTurns}
 use Rattle.queue_book.proofs.Above.{under_maker}
@@ -25,12 +25,12 @@ turns_alike state after turns alike makers is = record {
   all = λ n parent queue mode now live of held apart.
       let was = alike_back (active state n) (active after n) now (alike n) live in
       is.all n parent queue mode was.0 was.1 (sym was.2.parent ∙ of) (sym (rights_hold was.0 now queue mode was.2.rights) ∙ held)
-      (λ maker made same. apart maker (ap (λ (ms : List Maker). slice_get ms queue) makers ∙ made) (was.2.path ∙ same));
+      (λ maker made same. apart maker (ap (λ (ms : List QueueMaker). slice_get ms queue) makers ∙ made) (was.2.path ∙ same));
 }
 
 -- a child of a frame that has a queue didn't make it
 pub child_given : (state : QueueState) → IsTree state → (n child queue : ℕ) (frame below : ActiveFrame) → active state n ≡ Some frame → has_queue frame queue ≡ true
-    → active state child ≡ Some below → below.parent ≡ Some n → (maker : Maker) → slice_get state.makers queue ≡ Some maker → below.path ≢ maker_path maker
+    → active state child ≡ Some below → below.parent ≡ Some n → (maker : QueueMaker) → slice_get state.makers queue ≡ Some maker → below.path ≢ maker_path maker
 child_given state tree n child queue frame below live has live_below of maker made same =
     let spawned = tree.spawned child n below live_below of in
     let is_above : spawned.above ≡ frame = same_frame (active state n) spawned.above frame spawned.live live in

@@ -5,7 +5,7 @@ use Rattle.std.specs.Map.{lookup}
 use Rattle.std.specs.BTreeMap.{is_at, insert_entry}
 use Rattle.std.specs.Ordering.{nat_cmp}
 use Rattle.swan_model.specs.declared.rights.Mode.TheVariants.{Push}
-use Rattle.swan_model.specs.QueueState.{ActiveFrame, Lent, Maker, QueueState, active, holds_queue}
+use Rattle.swan_model.specs.QueueState.{ActiveFrame, Lent, QueueMaker, QueueState, active, holds_queue}
 use Rattle.queue_book.specs.Tree.{has_queue, maker_path}
 use Rattle.queue_book.specs.KeptFrames.{KeptFrame, own_chunk_in}
 use Rattle.queue_book.specs.declared.live_frame.OwnChunk.{OwnChunk}
@@ -60,9 +60,9 @@ pub record IsFrame (state : QueueState) (kept : KeptFrame) (frame : ActiveFrame)
   pub deeds : kept.deeds ≡ frame.deeds
   pub lent : frame.lent ≡ lent_of kept
   pub places : (queue : ℕ) → is_some (own_chunk_in kept.places queue) ≡ has_queue frame queue
-  pub made : (queue : ℕ) (place : OwnChunk) (maker : Maker) → own_chunk_in kept.places queue ≡ Some place → slice_get state.makers queue ≡ Some maker
+  pub made : (queue : ℕ) (place : OwnChunk) (maker : QueueMaker) → own_chunk_in kept.places queue ≡ Some place → slice_get state.makers queue ≡ Some maker
       → place.is_maker ≡ true → frame.path ≡ maker_path maker
-  pub given : (queue : ℕ) (place : OwnChunk) (maker : Maker) → own_chunk_in kept.places queue ≡ Some place → slice_get state.makers queue ≡ Some maker
+  pub given : (queue : ℕ) (place : OwnChunk) (maker : QueueMaker) → own_chunk_in kept.places queue ≡ Some place → slice_get state.makers queue ≡ Some maker
       → place.is_maker ≡ false → frame.path ≢ maker_path maker
   pub pushers : (queue : ℕ) (place : OwnChunk) → own_chunk_in kept.places queue ≡ Some place → place.pushes ≡ holds_queue frame queue Push
 

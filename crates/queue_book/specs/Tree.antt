@@ -3,10 +3,10 @@ use Rattle.std.specs.Prelude.{◌≡◌, ◌≢◌, ℕ, ◌<◌, ◌≤◌, ◌
 use Rattle.std.specs.List.{list_any}
 use Rattle.swan_model.specs.declared.rights.Mode.{Mode}
 use Rattle.swan_model.specs.Rights.{is_queue_mode}
-use Rattle.swan_model.specs.QueueState.{ActiveFrame, Maker, planned, made_by, QueueState, active, holds_queue, HasTurn}
+use Rattle.swan_model.specs.QueueState.{ActiveFrame, QueueMaker, planned, made_by, QueueState, active, holds_queue, HasTurn}
 
 -- the path of the frame that made a queue
-abbrev pub maker_path : Maker → List ℕ
+abbrev pub maker_path : QueueMaker → List ℕ
 maker_path (planned index) = []
 maker_path (made_by path deeds) = path
 
@@ -25,10 +25,10 @@ pub record IsSpawnedBy (state : QueueState) (frame : ActiveFrame) (parent : ℕ)
 
 -- a frame has a queue since it made it, or since its parent gave it, who may use it so too
 pub data IsHeld (state : QueueState) (frame : ActiveFrame) (queue : ℕ) : Type 0 where
-  made : (maker : Maker) → slice_get state.makers queue ≡ Some maker → frame.path ≡ maker_path maker → IsHeld state frame queue
+  made : (maker : QueueMaker) → slice_get state.makers queue ≡ Some maker → frame.path ≡ maker_path maker → IsHeld state frame queue
   given : (parent : ℕ) (above : ActiveFrame) → frame.parent ≡ Some parent → active state parent ≡ Some above
       → has_queue above queue ≡ true → ((mode : Mode) → holds_queue frame queue mode ≡ true → holds_queue above queue mode ≡ true)
-      → ((maker : Maker) → slice_get state.makers queue ≡ Some maker → frame.path ≢ maker_path maker) → IsHeld state frame queue
+      → ((maker : QueueMaker) → slice_get state.makers queue ≡ Some maker → frame.path ≢ maker_path maker) → IsHeld state frame queue
 
 pub record IsTree (state : QueueState) : Type 0 where
   -- each frame of the list is the one of its number

@@ -5,7 +5,7 @@ use Rattle.pop_order.specs.Frames.{Frames}
 use Rattle.swan_model.specs.declared.script.Script.{Script}
 use Rattle.swan_model.specs.Lawful.{IsLawful}
 use Rattle.swan_model.specs.QueueFollows.{QueuesFollow, origin_in}
-use Rattle.swan_model.specs.QueueState.{ActiveFrame, Maker, QueueState, active, IsOfRoot}
+use Rattle.swan_model.specs.QueueState.{ActiveFrame, QueueMaker, QueueState, active, IsOfRoot}
 use Rattle.swan_model.specs.Readings.{end_time}
 use Rattle.queue_book.specs.Asks.{is_emptied}
 use Rattle.queue_book.specs.Book.{Chunks, HasOwners, Matches}
@@ -16,11 +16,11 @@ use Rattle.queue_book.specs.Turned.{AreTurns}
 use Rattle.queue_book.specs.declared.live_frames.LiveFrames.{LiveFrames}
 
 -- an active frame has the queue, or the root made it, so that its rest is left
-abbrev pub IsInUse : QueueState → ℕ → Maker → Type 0
+abbrev pub IsInUse : QueueState → ℕ → QueueMaker → Type 0
 IsInUse state queue maker = IsOfRoot (Some maker) ⊎ ((number : ℕ) × (frame : ActiveFrame) × (active state number ≡ Some frame) × (has_queue frame queue ≡ true))
 
 -- The chunks of a queue have their owners, and match the script, until the queue is given up or its rest is taken.
-pub record IsLine (name : Option Script) (state : QueueState) (queue : ℕ) (maker : Maker) (chunks : Chunks) : Type 0 where
+pub record IsLine (name : Option Script) (state : QueueState) (queue : ℕ) (maker : QueueMaker) (chunks : Chunks) : Type 0 where
   pub owners : HasOwners state queue chunks
   pub matches : is_emptied state queue ≡ false → IsInUse state queue maker → (s : Script) → name ≡ Some s → IsLawful s
       → Matches s state queue (origin_in s maker) (end_time s (maker_path maker)) chunks
@@ -31,7 +31,7 @@ pub record IsPlain (name : Option Script) (state : QueueState) (lines : ℕ → 
   pub tree : IsTree state
   pub follows : (s : Script) → name ≡ Some s → IsLawful s → QueuesFollow s state
   pub acted : (s : Script) → name ≡ Some s → HaveActed state
-  pub queues : (queue : ℕ) (maker : Maker) → slice_get state.makers queue ≡ Some maker → IsLine name state queue maker (lines queue)
+  pub queues : (queue : ℕ) (maker : QueueMaker) → slice_get state.makers queue ≡ Some maker → IsLine name state queue maker (lines queue)
   -- no rest was taken of a queue that isn't made yet
   pub rests : (queue : ℕ) → is_emptied state queue ≡ true → queue < length state.makers
 

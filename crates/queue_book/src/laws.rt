@@ -8,7 +8,7 @@ ghost use Rattle.swan_model.specs.declared.value.Value.{Value};
 ghost use Rattle.swan_model.specs.Granted.{is_spawn};
 ghost use Rattle.swan_model.specs.Lawful.{IsLawful};
 ghost use Rattle.swan_model.specs.PathOrder.{comes_before};
-ghost use Rattle.swan_model.specs.QueueFollows.{AreActive, AreByEnds, Fits, IsNextSpawn, QueuesFollow, count_at, is_done_among, is_ripe_among, next_queue_deed, queue_origin, queue_point, taken_at};
+ghost use Rattle.swan_model.specs.QueueFollows.{AreActive, AreByEnds, Fits, NextSpawnGivesQueues, QueuesFollow, count_at, is_done_among, is_ripe_among, next_queue_deed, queue_origin, queue_point, taken_at};
 ghost use Rattle.swan_model.specs.QueueState.{ActiveFrame, IsActiveChild, IsUntouched, LentEnd, QueueRight, QueueState, active, after_back, after_create, after_create_root, after_deed, after_finish, after_lend, after_spawn, after_take_rest, new_state};
 ghost use Rattle.swan_model.specs.Ripe.{is_ripe};
 ghost use Rattle.swan_model.specs.SerialTime.{Progress, Reading, is_done, is_earlier, is_queue_deed, point};
@@ -50,7 +50,7 @@ pub fn calls_follow()
         → QueuesFollow s (after_create state frame) }
     ensures spawn { (s : Script) (state : QueueState) (number child : ℕ) (parent : ActiveFrame) (gives : List QueueRight)
         → IsLawful s → QueuesFollow s state → active state number ≡ Some parent → active state child ≡ None
-        → IsNextSpawn s state parent gives → QueuesFollow s (after_spawn state parent child gives) }
+        → NextSpawnGivesQueues s state parent gives → QueuesFollow s (after_spawn state parent child gives) }
     ensures deed { (s : Script) (state : QueueState) (number : ℕ) (frame : ActiveFrame) (does : Deed) → IsLawful s → QueuesFollow s state
         → active state number ≡ Some frame → next_queue_deed s frame.path frame.deeds ≡ Some does
         → is_spawn does ≡ false → does ≢ MakeQueue → QueuesFollow s (after_deed state number) }

@@ -6,7 +6,7 @@ ghost use Rattle.swan_model.specs.declared.rights.Mode.TheVariants.{Push, Pop};
 ghost use Rattle.swan_model.specs.declared.script.Deed.TheVariants as deed;
 ghost use Rattle.swan_model.specs.declared.script.Script.{Script};
 ghost use Rattle.swan_model.specs.Lawful.{IsLawful};
-ghost use Rattle.swan_model.specs.QueueFollows.{next_queue_deed, AreByEnds, IsNextAbout, IsNextSpawn};
+ghost use Rattle.swan_model.specs.QueueFollows.{next_queue_deed, AreByEnds, IsNextAbout, NextSpawnGivesQueues};
 ghost use Rattle.swan_model.specs.QueueState.{active, after_back, after_create, after_create_root, after_deed, after_finish, after_lend, after_spawn, after_take_rest, ActiveFrame, IsUntouched, LentEnd, QueueState};
 ghost use Rattle.swan_model.specs.Segments.{segment_queue};
 ghost use Rattle.queue_book.specs.Asks.{HasRoom, IsRestLeft, is_emptied, IsOnTurn, IsRecorded, IsSameRun, MayDo, MayJoin, MayLook, MaySpawn, MayUse, OnActive, OnNext};
@@ -76,7 +76,7 @@ pub trait Queues: Send + Drop {
 
         // where there is a script
         requires turn { IsOnTurn (name self.old) (state self.old) parent }
-        requires next { OnNext (name self.old) (state self.old) parent (λ s f. IsNextSpawn s (state self.old) f gives.now) }
+        requires next { OnNext (name self.old) (state self.old) parent (λ s f. NextSpawnGivesQueues s (state self.old) f gives.now) }
 
         // what it leaves
         ensures ok { OnOk result (OnActive (state self.old) parent (λ f. state self.new ≡ after_spawn (state self.old) f child gives.now)) }

@@ -6,10 +6,10 @@ use Rattle.std.proofs.lemmas.Bool.{and_parts, eqb-true, ltb-true, false≢true}
 use Rattle.swan_model.specs.declared.path.TheConstants.{PATH_MOST}
 use Rattle.swan_model.specs.declared.rights.Mode.{Mode}
 use Rattle.swan_model.specs.declared.rights.Mode.TheVariants.{Pop}
-use Rattle.swan_model.specs.QueueState.{ActiveFrame, IsActiveChild, IsOfRoot, IsUntouched, Maker, MayGive, planned, made_by, QueueRight, QueueState, active, holds_queue}
+use Rattle.swan_model.specs.QueueState.{ActiveFrame, IsActiveChild, IsOfRoot, IsUntouched, QueueMaker, MayGive, planned, made_by, QueueRight, QueueState, active, holds_queue}
 use Rattle.swan_model.specs.Rights.{is_queue_mode}
 use Rattle.queue_book.specs.Asks.{CHILDREN_MOST, DEEDS_MOST, HasRoom, QUEUES_MOST, IsRestLeft, MayDo, MayJoin, MayLook, MaySpawn, MayUse}
-use Rattle.queue_book.proofs.Elements.{any_from, found_is}
+use Rattle.swan_model.proofs.Elements.{any_from, found_is}
 use Rattle.queue_tests.specs.Allowed.{acts, has_room, has_space, is_rest_left, is_of, is_of_root, is_untouched, may_give, may_join, may_make, may_spawn, may_use}
 
 record Acts (found : Option ActiveFrame) (test : ActiveFrame → Bool) : Type 0 where
@@ -121,7 +121,7 @@ joined_by_test state number e =
       alone = λ child of. false≢true (sym (not_of some is.holds) ∙ child_stands state number child of);
     }
 
-root_by_test : (maker : Option Maker) → is_of_root maker ≡ true → IsOfRoot maker
+root_by_test : (maker : Option QueueMaker) → is_of_root maker ≡ true → IsOfRoot maker
 root_by_test None e = absurd (false≢true e)
 root_by_test (Some (planned index)) e = tt
 root_by_test (Some (made_by [] deeds)) e = refl

@@ -3,7 +3,7 @@ use Rattle.std.specs.Prelude.{ℕ, Bool, true, false, ◌&&◌, ◌==◌, not, l
 use Rattle.std.specs.List.{list_any}
 use Rattle.swan_model.specs.declared.path.TheConstants.{PATH_MOST}
 use Rattle.swan_model.specs.declared.rights.Mode.{Mode}
-use Rattle.swan_model.specs.QueueState.{ActiveFrame, Maker, planned, made_by, QueueRight, QueueState, active, holds_queue}
+use Rattle.swan_model.specs.QueueState.{ActiveFrame, QueueMaker, planned, made_by, QueueRight, QueueState, active, holds_queue}
 use Rattle.swan_model.specs.Rights.{is_queue_mode}
 use Rattle.queue_book.specs.Asks.{CHILDREN_MOST, DEEDS_MOST, QUEUES_MOST}
 
@@ -49,7 +49,7 @@ is_of parent (Some other) = other == parent
 abbrev pub may_join : QueueState → ℕ → Bool
 may_join state number = acts (active state number) (λ frame. not (list_any (λ (other : ActiveFrame). is_of number other.parent) state.frames))
 
-abbrev pub is_of_root : Option Maker → Bool
+abbrev pub is_of_root : Option QueueMaker → Bool
 is_of_root None = false
 is_of_root (Some (planned index)) = true
 is_of_root (Some (made_by [] deeds)) = true

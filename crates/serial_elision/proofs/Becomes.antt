@@ -12,7 +12,7 @@ use Rattle.swan_model.specs.SerialState.{Cell, Queue, Store}
 use Rattle.swan_model.specs.SerialStep.{with_value, with_items}
 use Rattle.swan_model.specs.Told.{is_same, changed_by}
 use Rattle.swan_model.specs.Values.{kind_of}
-use Rattle.serial_elision.proofs.At.{get-push, get-set}
+use Rattle.swan_model.proofs.Elements.{more_cases, set_cases}
 use Rattle.serial_elision.proofs.ItemsTold.{items_by, without_first}
 use Rattle.swan_model.proofs.Origins.{IsOld, is_same-self, old-differs}
 
@@ -72,7 +72,7 @@ about-still (Some o) does still = still o
 -- one queue gets other items by a deed that concerns it alone
 queue-set : (n : ℕ) (does : Deed) (store : Store) (number : ℕ) (q new : Queue) → HasOrigins n store → slice_get store.queues number ≡ Some q → new.origin ≡ q.origin → new.items ≡ items_by q.origin does q.items → ((r : Queue) → is_same q.origin r.origin ≡ false → items_by r.origin does r.items ≡ r.items) → (i : ℕ) (now : Queue) → slice_get (slice_set store.queues number new) i ≡ Some now → QueueAfter n does store.queues i now
 queue-set n does store number q new has found origin items others i now is =
-    elim (get-set store.queues number q new i now found is) [
+    elim (set_cases store.queues number q new i now found is) [
       | inl here ↦ stayed q (ap (slice_get store.queues) here.0 ∙ found) (ap (λ (x : Queue). x.origin) here.1 ∙ origin) (ap (λ (x : Queue). x.items) here.1 ∙ items)
       | inr there ↦ elsewhere (is_same q.origin now.origin) refl there.0 there.1
     ]
@@ -83,7 +83,7 @@ queue-set n does store number q new has found origin items others i now is =
 
 cell-set : (n : ℕ) (does : Deed) (store : Store) (number : ℕ) (c new : Cell) → HasOrigins n store → slice_get store.cells number ≡ Some c → new.origin ≡ c.origin → new.kind ≡ c.kind → new.value ≡ changed_by c.origin c.kind does c.value → ((d : Cell) → is_same c.origin d.origin ≡ false → changed_by d.origin d.kind does d.value ≡ d.value) → (i : ℕ) (now : Cell) → slice_get (slice_set store.cells number new) i ≡ Some now → CellAfter n does store.cells i now
 cell-set n does store number c new has found origin kind value others i now is =
-    elim (get-set store.cells number c new i now found is) [
+    elim (set_cases store.cells number c new i now found is) [
       | inl here ↦ kept c (ap (slice_get store.cells) here.0 ∙ found) (ap (λ (x : Cell). x.origin) here.1 ∙ origin) (ap (λ (x : Cell). x.kind) here.1 ∙ kind) (ap (λ (x : Cell). x.value) here.1 ∙ value)
       | inr there ↦ elsewhere (is_same c.origin now.origin) refl there.0 there.1
     ]
@@ -122,7 +122,7 @@ write-becomes n store number c written has found =
 pub queue-becomes : (n : ℕ) (store : Store) → Becomes n deed.MakeQueue store (record store { queues = store.queues ++ (record { origin = Step n; items = [] }) ∷ [] })
 queue-becomes n store =
     record {
-      queues = λ i now is. elim (get-push store.queues _ i now is) [
+      queues = λ i now is. elim (more_cases store.queues _ i now is) [
         | inl old ↦ stayed now old refl refl
         | inr new ↦ is_new new.0 (ap (λ (x : Queue). x.origin) new.1) (ap (λ (x : Queue). x.items) new.1)
       ];
@@ -134,7 +134,7 @@ pub object-becomes : (n : ℕ) (store : Store) (value : Value) → Becomes n (de
 object-becomes n store value =
     record {
       queues = still-queues n (deed.MakeObject value) (λ o xs. refl) store.queues;
-      cells = λ i now is. elim (get-push store.cells _ i now is) [
+      cells = λ i now is. elim (more_cases store.cells _ i now is) [
         | inl old ↦ kept now old refl refl refl
         | inr new ↦ is_made new.0 (ap (λ (x : Cell). x.origin) new.1) (ap (λ (x : Cell). deed.MakeObject x.value) (sym new.1)) (ap (λ (x : Cell). x.kind) new.1 ∙ ap (λ (x : Cell). kind_of x.value) (sym new.1))
       ];

@@ -26,23 +26,9 @@ use Rattle.serial_elision.proofs.MadeAbove.{IsGrantedBy, of_own, of_gives, uses,
 use Rattle.swan_model.proofs.Paths.{path_is-itself, same_path}
 use Rattle.swan_model.proofs.TaskEntries.{point_is, point_own}
 use Rattle.swan_model.proofs.Times.{times_rise, times_all}
+use Rattle.swan_model.proofs.Lists.{last_same}
 
 -- ---- lists and modes
-
-pub last-same : (xs ys : List ℕ) (x y : ℕ) → xs ++ x ∷ [] ≡ ys ++ y ∷ [] → (xs ≡ ys) × (x ≡ y)
-last-same [] [] x y is = (refl, cc)
-last-same [] (z ∷ ys) x y is =
-    let e : length (x ∷ []) ≡ length (z ∷ (ys ++ y ∷ [])) = ap length is in
-    absurd (omega (arith, e, length-append ys (y ∷ [])))
-last-same (z ∷ xs) [] x y is =
-    let e : length (z ∷ (xs ++ x ∷ [])) ≡ length (y ∷ []) = ap length is in
-    absurd (omega (arith, e, length-append xs (x ∷ [])))
-last-same (w ∷ xs) (z ∷ ys) x y is =
-    let first : w ≡ z = cc in
-    let later : xs ++ x ∷ [] ≡ ys ++ y ∷ [] = cc in
-    let rest = last-same xs ys x y later in
-    let fronts : xs ≡ ys = rest.0 in
-    (cc, rest.1)
 
 no-empty : (xs : List ℕ) (x : ℕ) → xs ++ x ∷ [] ≡ [] → ⊥
 no-empty xs x is = let e : length (xs ++ x ∷ []) ≡ 0 = ap length is in omega (arith, e, length-append xs (x ∷ []))
@@ -187,7 +173,7 @@ given-newly s lawful parent gives now m mode origin none entry stands (of_gives 
     let n = point s parent in
     let child = children_before s parent.path n in
     let other = children_before s entry.path m in
-    let same = last-same entry.path parent.path other child named in
+    let same = last_same entry.path parent.path other child named in
     let here : spawn_time s entry.path other ≡ Some m = spawn_is_next s m entry stands (ap is_spawn is) in
     let there : spawn_time s now.entry.path (children_before s now.entry.path n) ≡ Some n = spawn_is_next s n now.entry now.stands (ap is_spawn now.deed_is) in
     let known : spawn_time s parent.path child ≡ Some n = subst (λ p. spawn_time s p (children_before s p n) ≡ Some n) now.own there in

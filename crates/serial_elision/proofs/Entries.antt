@@ -10,7 +10,8 @@ use Rattle.swan_model.specs.Elision.{serial, final, most_steps}
 use Rattle.swan_model.specs.Script.{entry_of, entry_on, next_entry, with_entry, entries, script}
 use Rattle.swan_model.specs.SerialState.{Activation, State}
 use Rattle.swan_model.specs.SerialStep.{step_on, effect_of}
-use Rattle.serial_elision.proofs.At.{get-append-before, get-append-at}
+use Rattle.serial_elision.proofs.At.{get-append-before}
+use Rattle.swan_model.proofs.Elements.{last_more}
 use Rattle.serial_elision.proofs.Ends.{serial_ends}
 use Rattle.serial_elision.proofs.Runs.{steps-after, le-serial, serial-over}
 use Rattle.serial_elision.proofs.Scripts.{none-over}
@@ -23,7 +24,7 @@ get-with-before es (Some entry) n (inr none) = absurd (cc)
 
 get-with-at : (es : List Entry) (more : Option Entry) (n : ℕ) → length es ≤ n → (length es ≡ n) ⊎ (more ≡ None) → slice_get (with_entry es more) n ≡ more
 get-with-at es None n past either = slice_get_past es n past
-get-with-at es (Some entry) n past (inl is) = ap (slice_get (es ++ entry ∷ [])) (sym is) ∙ get-append-at es entry
+get-with-at es (Some entry) n past (inl is) = ap (slice_get (es ++ entry ∷ [])) (sym is) ∙ last_more es entry
 get-with-at es (Some entry) n past (inr none) = absurd (cc)
 
 module _ {B L : Type 0} (G : Ghosts B L) where

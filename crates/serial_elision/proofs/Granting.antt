@@ -26,7 +26,7 @@ use Rattle.swan_model.specs.SerialStep.{Effect, goes_on, spawns, ends, faults, a
 use Rattle.swan_model.specs.SerialTime.{is_of}
 use Rattle.swan_model.specs.Told.{is_same}
 use Rattle.serial_elision.proofs.Asks.{on_object-either, on_queue-either, if-either}
-use Rattle.serial_elision.proofs.At.{get-append-at}
+use Rattle.swan_model.proofs.Elements.{last_more}
 use Rattle.serial_elision.proofs.Held.{IsHeldBy, AreHeldBy, Stand, held-more, held-append, gives-held, given-each}
 use Rattle.swan_model.proofs.Origins.{is_same-self}
 use Rattle.swan_model.proofs.Places.{passing}
@@ -72,7 +72,7 @@ made-queue n store before =
     record {
       holding = record { mode = PushPop; number = length store.queues };
       last = refl;
-      stands = ap (option_map (λ (queue : Queue). queue.origin)) (get-append-at store.queues (record { origin = Step n; items = [] }));
+      stands = ap (option_map (λ (queue : Queue). queue.origin)) (last_more store.queues (record { origin = Step n; items = [] }));
       may = λ is_child mode allowed. or_left (allows PushPop mode && is_same (Step n) (Step n)) false (and_from (allows PushPop mode) (is_same (Step n) (Step n)) allowed (is_same-self (Step n)));
     }
 
@@ -81,7 +81,7 @@ made-object n store value cell before is =
     record {
       holding = record { mode = InOut; number = length store.cells };
       last = refl;
-      stands = ap (option_map (λ (c : Cell). c.origin)) (get-append-at store.cells cell) ∙ ap Some is;
+      stands = ap (option_map (λ (c : Cell). c.origin)) (last_more store.cells cell) ∙ ap Some is;
       may = λ is_child mode allowed. or_left (allows InOut mode && is_same (Step n) (Step n)) false (and_from (allows InOut mode) (is_same (Step n) (Step n)) allowed (is_same-self (Step n)));
     }
 

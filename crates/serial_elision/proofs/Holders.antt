@@ -11,11 +11,11 @@ use Rattle.swan_model.specs.declared.script.Script.{Script}
 use Rattle.swan_model.specs.Granted.{children_before, holds, is_spawn, may_use, root_holds}
 use Rattle.swan_model.specs.Lawful.{IsLawful, IsNextPath, of_child, of_parent, of_same}
 use Rattle.swan_model.specs.Nested.{spawn_time, IsEntryOf}
-use Rattle.serial_elision.proofs.ChildFirst.{last-same, push-of}
+use Rattle.serial_elision.proofs.ChildFirst.{push-of}
 use Rattle.swan_model.proofs.TaskEntries.{spawn_is_next}
 use Rattle.serial_elision.proofs.MadeAbove.{IsGrantedBy, of_own, of_gives, held-before, given_from-parent, late-give}
 use Rattle.swan_model.proofs.Paths.{same_path}
-use Rattle.swan_model.proofs.Lists.{last_of}
+use Rattle.swan_model.proofs.Lists.{last_of, last_same}
 
 -- the path of a child, below another path: it is the child there, or its parent is below that path too
 data IsChildBelow (parent : List ℕ) (number : ℕ) (path : List ℕ) (child : ℕ) (rest : List ℕ) : Type 0 where
@@ -24,13 +24,13 @@ data IsChildBelow (parent : List ℕ) (number : ℕ) (path : List ℕ) (child : 
 
 child-below : (parent path rest : List ℕ) (number child : ℕ) → parent ++ number ∷ [] ≡ path ++ child ∷ rest → IsChildBelow parent number path child rest
 child-below parent path [] number child is =
-    let same = last-same parent path number child is in
+    let same = last_same parent path number child is in
     itself same.0 same.1
 child-below parent path (x ∷ xs) number child is =
     let last = last_of x xs in
     let whole : parent ++ number ∷ [] ≡ (path ++ child ∷ last.front) ++ last.last ∷ [] =
     is ∙ ap (λ p. path ++ child ∷ p) last.is ∙ sym (append_assoc path (child ∷ last.front) (last.last ∷ [])) in
-    deeper last.front (last-same parent (path ++ child ∷ last.front) number last.last whole).0
+    deeper last.front (last_same parent (path ++ child ∷ last.front) number last.last whole).0
 
 not-empty : (path rest : List ℕ) (child : ℕ) → path ++ child ∷ rest ≡ [] → ⊥
 not-empty path rest child is =

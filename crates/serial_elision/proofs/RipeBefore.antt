@@ -29,25 +29,18 @@ use Rattle.swan_model.proofs.Places.{one_if, passing, passing-more, passing-rise
 use Rattle.swan_model.proofs.Points.{IsPast, past_above, same_frame}
 use Rattle.swan_model.proofs.TaskEntries.{point_own, spawn_own}
 use Rattle.serial_elision.proofs.PointsRise.{point-over}
-use Rattle.serial_elision.proofs.RipeSpawns.{all-at}
 use Rattle.serial_elision.proofs.RipeStays.{done-by, done_under, IsPushAt, push-at, pusher-holds}
 use Rattle.swan_model.proofs.Times.{times_rise, times_all}
+use Rattle.swan_model.proofs.Elements.{any_from, filtered_each}
 
 -- ---- what is done, and what is left
-
-any-at : {X : Type 0} (test : X → Bool) (xs : List X) (i : ℕ) (x : X) → slice_get xs i ≡ Some x → test x ≡ true → list_any test xs ≡ true
-any-at test [] i x at passes = absurd (cc)
-any-at test (y ∷ xs) zero x at passes =
-    let same : y ≡ x = cc in
-    or_left (test y) (list_any test xs) (ap test same ∙ passes)
-any-at test (y ∷ xs) (suc i) x at passes = or_right (test y) (list_any test xs) (any-at test xs i x at passes)
 
 -- an entry of a frame's task is done where the frame has come past it
 done-past : (s : Script) (r : Reading) (u : ℕ) (entry : Entry) (index : ℕ) (frame : Progress) → slice_get s.entries u ≡ Some entry → slice_get r.frames index ≡ Some frame → entry.path ≡ frame.path → u < point s frame → is_done s r u ≡ true
 done-past s r u entry index frame at stands own past =
     let mine : is_of frame.path entry ≡ true = ap (λ p. pointwise nat_eq p frame.path) own ∙ path_is-itself frame.path in
     ap (λ o. option_map_or (λ e. list_any (is_past s u e) r.frames) o false) at
-    ∙ any-at (is_past s u entry) r.frames index frame stands (and_from (is_of frame.path entry) (nat_lt u (point s frame)) mine (lt-ltb u (point s frame) past))
+    ∙ any_from (is_past s u entry) r.frames index frame stands (and_from (is_of frame.path entry) (nat_lt u (point s frame)) mine (lt-ltb u (point s frame) past))
 
 -- where a frame has an entry from its point on, it has one left
 left-by : (s : Script) (frame : Progress) (u : ℕ) → IsEntryOf s frame.path u → point s frame ≤ u → frame.done < length (times s frame.path)
@@ -127,7 +120,7 @@ module _ (s : Script) (r : Reading) (lawful : IsLawful s) (tasks : HasTasks s r)
         | inr apart ↦
             let differ : not (nat_eq other.number frame.number) ≡ true = not_from_false (nat_eq other.number frame.number) (ne_eqb other.number frame.number apart) in
             let also = and_from (not (nat_eq other.number frame.number)) (may_use (holds s other.path (point s other)) Push queue) differ may in
-            let before = ltb-true t (point s other) (all-at (may_push_too s frame queue) (λ x. nat_lt t (point s x)) active at.0 other others at.1 also) in
+            let before = ltb-true t (point s other) (filtered_each (may_push_too s frame queue) (λ x. nat_lt t (point s x)) active at.0 other others at.1 also) in
             omega (arith, before, late, early, less)
       ]
 

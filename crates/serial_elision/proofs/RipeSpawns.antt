@@ -21,15 +21,7 @@ use Rattle.swan_model.specs.Told.{first_items, taken}
 use Rattle.serial_elision.specs.Laws.{AreFramesOf}
 use Rattle.serial_elision.proofs.ChildFirst.{IsSpawning, spawning, first_frame, child_pushes}
 use Rattle.serial_elision.proofs.RipeStays.{all-first, all-more, all_stay, done_stays, push-at}
-
--- one that passes among all that pass, and one more at the end
-pub all-at : {X : Type 0} (passes test : X → Bool) (xs : List X) (i : ℕ) (x : X) → list_all test (filter passes xs) ≡ true → slice_get xs i ≡ Some x → passes x ≡ true → test x ≡ true
-all-at passes test [] i x is at ok = absurd (cc)
-all-at passes test (y ∷ xs) zero x is at ok =
-    let same : y ≡ x = cc in
-    let first = (all-first passes test y xs is).0 in
-    ap test (sym same) ∙ first (ap passes same ∙ ok)
-all-at passes test (y ∷ xs) (suc i) x is at ok = all-at passes test xs i x (all-first passes test y xs is).1 at ok
+use Rattle.swan_model.proofs.Elements.{filtered_each, filtered_from}
 
 all-push : {X : Type 0} (passes test : X → Bool) (xs : List X) (x : X) → list_all test (filter passes xs) ≡ true → (passes x ≡ true → test x ≡ true) → list_all test (filter passes (xs ++ x ∷ [])) ≡ true
 all-push passes test [] x is last = all-more passes test x [] last refl
@@ -60,7 +52,7 @@ child-later s lawful active frame parent queue gives number t i stands now apart
     let from = child_pushes s lawful parent gives number now queue both.1 in
     let other : not (nat_eq parent.number frame.number) ≡ true = not_from_false (nat_eq parent.number frame.number) (ne_eqb parent.number frame.number apart) in
     let also = and_from (not (nat_eq parent.number frame.number)) (may_use (holds s parent.path (point s parent)) Push queue) other from.0 in
-    let before = ltb-true t (point s parent) (all-at (may_push_too s frame queue) (λ x. nat_lt t (point s x)) active i parent all stands also) in
+    let before = ltb-true t (point s parent) (filtered_each (may_push_too s frame queue) (λ x. nat_lt t (point s x)) active i parent all stands also) in
     lt-ltb t (point s child) (omega (arith, before, from.1))
 
 module _ (s : Script) (r : Reading) (active : List Progress) (frame : Progress) (queue : Origin) (parent : Progress) (gives : List OriginGive) (number i : ℕ) where
@@ -90,11 +82,6 @@ module _ (s : Script) (r : Reading) (active : List Progress) (frame : Progress) 
 
 -- ---- fewer frames
 
-all-of : {X : Type 0} (passes test : X → Bool) (xs : List X) → ((i : ℕ) (x : X) → slice_get xs i ≡ Some x → passes x ≡ true → test x ≡ true) → list_all test (filter passes xs) ≡ true
-all-of passes test [] each = refl
-all-of passes test (x ∷ xs) each =
-    all-more passes test x xs (each 0 x refl) (all-of passes test xs (λ i y at ok. each (suc i) y at ok))
-
 fewer-later : (s : Script) (r : Reading) (active fewer : List Progress) (frame : Progress) (queue : Origin) → ((i : ℕ) (other : Progress) → slice_get fewer i ≡ Some other → (j : ℕ) × (slice_get active j ≡ Some other)) → (found : Option ℕ)
     → option_map_or (λ t. is_done s r t && list_all (λ other. nat_lt t (point s other)) (filter (may_push_too s frame queue) active)) found false ≡ true
     → option_map_or (λ t. is_done s r t && list_all (λ other. nat_lt t (point s other)) (filter (may_push_too s frame queue) fewer)) found false ≡ true
@@ -104,7 +91,7 @@ fewer-later s r active fewer frame queue among (Some t) is =
     let test : Progress → Bool = λ other. nat_lt t (point s other) in
     let both = and_parts (is_done s r t) (list_all test (filter passes active)) is in
     and_from (is_done s r t) (list_all test (filter passes fewer)) both.0
-    (all-of passes test fewer (λ i other stands ok. let at = among i other stands in all-at passes test active at.0 other both.1 at.1 ok))
+    (filtered_from passes test fewer (λ i other stands ok. let at = among i other stands in filtered_each passes test active at.0 other both.1 at.1 ok))
 
 -- what is ripe among these frames is so among fewer of them
 pub ripe_fewer : (s : Script) (r : Reading) (active fewer : List Progress) (frame : Progress) (queue : Origin) → ((i : ℕ) (other : Progress) → slice_get fewer i ≡ Some other → (j : ℕ) × (slice_get active j ≡ Some other)) → is_ripe s r active frame queue ≡ true → is_ripe s r fewer frame queue ≡ true

@@ -14,7 +14,7 @@ use Rattle.swan_model.specs.SerialState.{Cell, Queue, Holding, Store}
 use Rattle.swan_model.specs.SerialStep.{zeroed, zeroed_by, zero_cell}
 use Rattle.swan_model.specs.Told.{is_same, is_out, is_given_out}
 use Rattle.swan_model.specs.Values.{zero_of}
-use Rattle.serial_elision.proofs.At.{get-set}
+use Rattle.swan_model.proofs.Elements.{set_cases}
 use Rattle.serial_elision.proofs.Becomes.{kept, stayed, HasOrigins, Becomes}
 use Rattle.swan_model.proofs.Origins.{IsOld, is_same-self, old-differs}
 
@@ -46,7 +46,7 @@ module _ (store : Store) where
   -- a give by Out of an object that stands
   out_found : (cells : List Cell) (number : ℕ) (c : Cell) → OneOrigin cells → slice_get cells number ≡ Some c → (i : ℕ) (now : Cell) → slice_get (slice_set cells number (record c { value = zero_of c.kind })) i ≡ Some now → IsZeroedBy ((record { origin = c.origin; mode = Out }) ∷ []) cells i now
   out_found cells number c one found i now is =
-      elim (get-set cells number c _ i now found is) [
+      elim (set_cases cells number c _ i now found is) [
         | inl here ↦ record {
           was = c;
           stood = ap (slice_get cells) here.0 ∙ found;

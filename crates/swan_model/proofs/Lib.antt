@@ -1,6 +1,8 @@
+pub mod Elements
 pub mod FirstLine
 pub mod ScriptLength
 pub mod Lists
+pub mod Lookups
 pub mod Origins
 pub mod PathOrder
 pub mod Paths

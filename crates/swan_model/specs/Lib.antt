@@ -30,3 +30,5 @@ pub mod PathOrder
 pub mod QueueState
 pub mod QueueFollows
 pub mod Segments
+-- Last, when a task that runs by itself, apart from all others, is what its task is in the elision.
+pub mod TrueFrames

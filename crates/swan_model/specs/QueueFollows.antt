@@ -16,7 +16,7 @@ use Rattle.swan_model.specs.declared.value.Value.{Value}
 use Rattle.swan_model.specs.Granted.{holds, is_spawn, may_use}
 use Rattle.swan_model.specs.Nested.{HasTasks, spawn_time}
 use Rattle.swan_model.specs.PathOrder.{is_under}
-use Rattle.swan_model.specs.QueueState.{ActiveFrame, QueueRight, QueueState, Maker, planned, made_by, active, holds_queue}
+use Rattle.swan_model.specs.QueueState.{ActiveFrame, QueueRight, QueueState, QueueMaker, planned, made_by, active, holds_queue}
 use Rattle.swan_model.specs.Rights.{is_queue_mode}
 use Rattle.swan_model.specs.Ripe.{push_time}
 use Rattle.swan_model.specs.SerialTime.{Progress, Reading, is_of, is_queue_deed, frame_of, is_done, places_from, time, times}
@@ -45,7 +45,7 @@ abbrev pub next_queue_deed : Script → List ℕ → (deeds : ℕ) → Option De
 next_queue_deed s path deeds = if has_deed_left s path deeds then Some (deed_at s (queue_time s path deeds)) else None
 
 -- what made a queue, in the words of a script
-abbrev pub origin_in : Script → Maker → Origin
+abbrev pub origin_in : Script → QueueMaker → Origin
 origin_in s (planned index) = Root index
 origin_in s (made_by path deeds) = Step (queue_time s path deeds)
 
@@ -64,7 +64,7 @@ abbrev pub IsNextAbout : (Origin → Deed) → Script → QueueState → ActiveF
 IsNextAbout does s state frame queue = next_queue_deed s frame.path frame.deeds ≡ option_map does (queue_origin s state queue)
 
 -- A frame's next queue deed is a spawn that gives these queues. It may give objects too.
-pub record IsNextSpawn (s : Script) (state : QueueState) (parent : ActiveFrame) (gives : List QueueRight) : Type 0 where
+pub record NextSpawnGivesQueues (s : Script) (state : QueueState) (parent : ActiveFrame) (gives : List QueueRight) : Type 0 where
   pub all : List OriginGive
   pub next : next_queue_deed s parent.path parent.deeds ≡ Some (deed.Spawn all)
   pub queues : map (queue_give s state) gives ≡ map Some (filter (λ give. is_queue_mode give.mode) all)
@@ -113,7 +113,7 @@ pub record IsChildOf (s : Script) (state : QueueState) (frame : ActiveFrame) (pa
   pub spawned : index < above.children
 
 -- what made a queue stands in the script, and is done
-abbrev pub IsMade : Script → QueueState → ℕ → Maker → Type 0
+abbrev pub IsMade : Script → QueueState → ℕ → QueueMaker → Type 0
 IsMade s state queue (planned index) = (queue ≡ index) × (index < length s.queues)
 IsMade s state queue (made_by path deeds) =
     (deed_at s (queue_time s path deeds) ≡ deed.MakeQueue) × (deeds < length (queue_times s path))
@@ -128,22 +128,22 @@ pub record QueuesFollow (s : Script) (state : QueueState) : Type 0 where
   pub tasks : (number : ℕ) (frame : ActiveFrame) → active state number ≡ Some frame → IsTask s state frame
   pub children : (number parent : ℕ) (frame : ActiveFrame) → active state number ≡ Some frame → frame.parent ≡ Some parent → IsChildOf s state frame parent
   pub different : (number other : ℕ) (a b : ActiveFrame) → active state number ≡ Some a → active state other ≡ Some b → a.path ≡ b.path → number ≡ other
-  pub queues : (queue : ℕ) (maker : Maker) → slice_get state.makers queue ≡ Some maker → IsMade s state queue maker
+  pub queues : (queue : ℕ) (maker : QueueMaker) → slice_get state.makers queue ≡ Some maker → IsMade s state queue maker
   -- no two queues are made by the same
   pub once : (queue other : ℕ) (origin : Origin) → queue_origin s state queue ≡ Some origin → queue_origin s state other ≡ Some origin → queue ≡ other
 
 -- ---- what is ripe
 
 -- whether an active frame is another one than this, and may push to the queue
-abbrev pub may_push_too : ActiveFrame → ℕ → ActiveFrame → Bool
-may_push_too frame queue other = not (other.number == frame.number) && holds_queue other queue Push
+abbrev pub active_may_push_too : ActiveFrame → ℕ → ActiveFrame → Bool
+active_may_push_too frame queue other = not (other.number == frame.number) && holds_queue other queue Push
 
 -- Whether the next item of a queue is ripe for an active frame: it is one of the queue's first items, or it is pushed
 -- already, and at a time before the points of all other active frames that may push to the queue.
 abbrev pub is_ripe_among : Script → QueueState → ActiveFrame → (queue : ℕ) → Origin → Bool
 is_ripe_among s state frame queue origin =
     let index = taken s origin (queue_point s frame.path frame.deeds) in
-    let others = filter (may_push_too frame queue) state.frames in
+    let others = filter (active_may_push_too frame queue) state.frames in
     nat_lt index (length (first_items s origin))
     || option_map_or (λ t. is_done_among s state t && list_all (λ other. nat_lt t (queue_point s other.path other.deeds)) others) (push_time s origin index) false
 

@@ -16,14 +16,14 @@ pub record QueueRight : Type 0 where
 
 -- What made a queue: the plan, where it is the root queue of this index; or the queue deed of the frame with this path
 -- that has so many earlier ones.
-pub data Maker : Type 0 where
-  planned : ℕ → Maker
-  made_by : (path : List ℕ) → (deeds : ℕ) → Maker
+pub data QueueMaker : Type 0 where
+  planned : ℕ → QueueMaker
+  made_by : (path : List ℕ) → (deeds : ℕ) → QueueMaker
 
 -- What made a segment of a queue: what made the queue, where it is the first one; or else a push, which is the queue deed of
 -- the frame with this path that has so many earlier ones.
 pub data SegmentTag : Type 0 where
-  first_of : Maker → SegmentTag
+  first_of : QueueMaker → SegmentTag
   pushed_by : (path : List ℕ) → (deeds : ℕ) → SegmentTag
 
 -- An end that is lent to a running frame, to push to a segment of a queue or to pop from it.
@@ -56,7 +56,7 @@ pub record QueueState : Type 0 where
   -- in the order of their spawning, the root first
   pub frames : List ActiveFrame
   -- what made each queue, by the queue's number
-  pub makers : List Maker
+  pub makers : List QueueMaker
   -- the largest number of a frame so far
   pub latest : ℕ
   -- the queues whose rest was taken
@@ -186,7 +186,7 @@ MayGive frame (give ∷ gives) =
     × (list_any (λ other. other.queue == give.queue) gives ≡ false) × MayGive frame gives
 
 -- the root made the queue, as the plan or by a step of its own
-abbrev pub IsOfRoot : Option Maker → Type 0
+abbrev pub IsOfRoot : Option QueueMaker → Type 0
 IsOfRoot None = ⊥
 IsOfRoot (Some (planned index)) = Unit {0}
 IsOfRoot (Some (made_by path deeds)) = path ≡ []

@@ -47,7 +47,7 @@ pub record FollowsAt (s : Script) (r : Reading) (frame : Progress) (object : Pla
   pub kind : object.kind ≡ kind_of first
 
 -- The renamed objects follow a script and a reading.
-pub record Follows (s : Script) (r : Reading) (state : VersionState) : Type 0 where
+pub record ObjectsFollow (s : Script) (r : Reading) (state : VersionState) : Type 0 where
   -- the frames of the reading are tasks of the script, each with the spawn of its own done
   pub tasks : HasTasks s r
   -- the root is frame 0
@@ -91,7 +91,7 @@ abbrev pub is_object_give : OriginGive → Bool
 is_object_give give = not (is_queue_mode give.mode)
 
 -- The parent's next entry spawns a child and gives it these objects, in this order.
-pub record IsNextSpawn (s : Script) (r : Reading) (state : VersionState) (parent : Progress) (accesses : List Access) : Type 0 where
+pub record NextSpawnGivesObjects (s : Script) (r : Reading) (state : VersionState) (parent : Progress) (accesses : List Access) : Type 0 where
   pub gives : List OriginGive
   pub next : next_deed s parent ≡ Some (deed.Spawn gives)
   pub objects : map (object_give r state parent.number) accesses ≡ map Some (filter is_object_give gives)
@@ -125,9 +125,9 @@ pub record IsAccessMade (s : Script) (r : Reading) (state : VersionState) (paren
 -- The parent is about to spawn a child: of the accesses that its next entry stands for, these are made and these are left. Other
 -- frames may go on meanwhile. Of the child nothing is said yet, nor of what it owes.
 pub record IsGiving (s : Script) (r : Reading) (state : VersionState) (parent : Progress) (child : ℕ) (made left : List Access) : Type 0 where
-  pub follows : Follows s r state
+  pub follows : ObjectsFollow s r state
   pub unread : frame_of r child ≡ None
-  pub spawn : IsNextSpawn s r state parent (made ++ left)
+  pub spawn : NextSpawnGivesObjects s r state parent (made ++ left)
   pub each : (i : ℕ) (access : Access) → slice_get made i ≡ Some access → IsAccessMade s r state parent child access
   -- the child has nothing else, and owes nothing else
   pub all : (place : ℕ) (object : Placed) → placed_at state child place ≡ Some object

@@ -109,7 +109,8 @@ pub trait Body: Drop + Send + Sync {
     /// Takes steps of a task in a row, as long as each asks for work and the budget and the fuel last. The
     /// first one is told this answer. Where a step asks for something else, its unit of fuel is taken too,
     /// that step isn't counted among those of work, and its ask has had no effect. Once as many steps of work
-    /// as the budget are taken, no further step is asked; with fuel 0 none is.
+    /// as the budget are taken, no further step is asked; with fuel 0 none is, and then the local comes back as it
+    /// was and the answer is let go. It costs what its steps cost.
     ///
     /// A body may have a loop of its own, which is owed the same clauses. This one takes a step by `advance`
     /// for each step.

@@ -26,6 +26,7 @@ pub enum Mode {
 
 impl Mode {
     /// Whether who holds an object or a queue by this mode may use it by the other. `O(1)`.
+    #[inline]
     pub fn allows(self, other: Mode) -> bool
         ensures { result ≡ allows self other }
     {
@@ -39,6 +40,7 @@ impl Mode {
     }
 
     /// Whether it is a mode of queues. `O(1)`.
+    #[inline]
     pub fn is_of_queues(self) -> bool
         ensures { result ≡ is_queue_mode self }
     {

@@ -14,4 +14,4 @@ returns-in-Ok c =
     fun_ext (btree_map_updates_str c.as_str.result.now c.args.tasks.now (c.get_mut.follows.lender v) (Some v) ((c.get_mut.follows.holds v).3 (search rules)))
     ∙ ap (λ task. update bytes_eq tasks task (Some v)) c.as_str.ensures
     ∙ ap (λ takes. update bytes_eq tasks c.args.task.now (Some takes)) c.in-Ok.ensures.ok
-    ∙ ap (λ takes. update bytes_eq tasks c.args.task.now (option_map (λ it. it ++ c.args.meaning ∷ []) takes)) found
+    ∙ ap (λ takes. update bytes_eq tasks c.args.task.now (option_map (λ it. it ++ c.args.declaration ∷ []) takes)) found

@@ -3,7 +3,7 @@ use Rattle.std.proofs.lemmas.Bool.{cases_eq, false≢true}
 use Rattle.queue_book.specs.Ended.{own_keys}
 use Rattle.queue_book.specs.KeptFrames.{own_chunk_in}
 use Rattle.queue_book.proofs.ChainEnds.{alone_still, chained_all, chained_one_more, left_lines, own_key}
-use Rattle.queue_book.proofs.Lookups.{untied}
+use Rattle.swan_model.proofs.Lookups.{untied}
 use Rattle.queue_book.proofs.ending.end_chunks.Goals as goal
 
 pub loop-queue-preserved : goal.loop-queue-preserved

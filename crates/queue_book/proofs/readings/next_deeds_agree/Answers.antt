@@ -1,7 +1,7 @@
 use Rattle.std.proofs.Common.{inl, inr}
 use Rattle.swan_model.specs.QueueState.{active}
 use Rattle.swan_model.proofs.ScriptSteps.{at_next}
-use Rattle.queue_book.proofs.Elements.{option_cases}
+use Rattle.swan_model.proofs.Elements.{option_cases}
 use Rattle.queue_book.proofs.NextDeeds.{next_same, none_after, none_then}
 use Rattle.queue_book.proofs.Rereading.{fit_of, live_left}
 use Rattle.queue_book.proofs.readings.next_deeds_agree.Goals as goal

@@ -1,5 +1,5 @@
 use Rattle.std.proofs.Common.{ℕ, Option, List, sym, subst, ◌∙◌}
-use Rattle.swan_model.specs.QueueFollows.{IsNextSpawn}
+use Rattle.swan_model.specs.QueueFollows.{NextSpawnGivesQueues}
 use Rattle.swan_model.specs.QueueState.{QueueState, after_spawn}
 use Rattle.queue_book.specs.Asks.{MaySpawn, IsOnTurn, OnNext}
 use Rattle.queue_book.specs.BookView.{BookView}
@@ -38,8 +38,8 @@ invariant_of-self c =
     let gives = c.args.gives.now in
     let May : BookView → Type 0 = λ v. MaySpawn v.state p child gives in
     let may : MaySpawn state p child gives = subst May (sym c.self.view_is) c.requires.may in
-    let Next : BookView → Type 0 = λ v. OnNext v.name v.state p (λ s f. IsNextSpawn s v.state f gives) in
-    let next : OnNext name state p (λ s f. IsNextSpawn s state f gives) = subst Next (sym c.self.view_is) c.requires.next in
+    let Next : BookView → Type 0 = λ v. OnNext v.name v.state p (λ s f. NextSpawnGivesQueues s v.state f gives) in
+    let next : OnNext name state p (λ s f. NextSpawnGivesQueues s state f gives) = subst Next (sym c.self.view_is) c.requires.next in
     let Turn : BookView → Type 0 = λ v. IsOnTurn v.name v.state p in
     let turn : IsOnTurn name state p = subst Turn (sym c.self.view_is) c.requires.turn in
     let nodes_now = c.spawn.new.self.chains.nodes in

@@ -3,7 +3,7 @@ use Rattle.std.proofs.Common.{◌≡◌, ◌⊎◌, inl, inr, ℕ, zero, suc, �
 use Rattle.std.proofs.lemmas.Bool.{and_from, and_parts, false_from_ne_true, or_left, or_right}
 use Rattle.std.specs.List.{find, list_all, list_any}
 use Rattle.std.specs.Option.{option_map}
-use Rattle.std.specs.Prelude.{slice_get, filter}
+use Rattle.std.specs.Prelude.{slice_get, slice_set, filter}
 
 -- two answers are the same where each is true as the other is
 pub answers_same : (a b : Bool) → (a ≡ true → b ≡ true) → (b ≡ true → a ≡ true) → a ≡ b
@@ -97,6 +97,17 @@ more_cases (z ∷ xs) x zero y is = inl is
 more_cases (z ∷ xs) x (suc i) y is = elim (more_cases xs x i y is) [
   | inl before ↦ inl before
   | inr last ↦ inr (ap suc last.0, last.1)
+]
+
+-- what stands in a list in which one element was replaced is the new element, or stands elsewhere
+pub set_cases : {X : Type 0} (xs : List X) (n : ℕ) (x y : X) (i : ℕ) (z : X) → slice_get xs n ≡ Some x → slice_get (slice_set xs n y) i ≡ Some z → ((i ≡ n) × (z ≡ y)) ⊎ ((i ≡ n → ⊥) × (slice_get xs i ≡ Some z))
+set_cases [] n x y i z found is = absurd (cc)
+set_cases (w ∷ xs) zero x y zero z found is = inl (refl, cc)
+set_cases (w ∷ xs) zero x y (suc i) z found is = inr (λ same. absurd (omega arith), is)
+set_cases (w ∷ xs) (suc n) x y zero z found is = inr (λ same. absurd (omega arith), is)
+set_cases (w ∷ xs) (suc n) x y (suc i) z found is = elim (set_cases xs n x y i z found is) [
+  | inl new ↦ inl (ap suc new.0, new.1)
+  | inr old ↦ inr (λ same. old.0 (omega arith), old.1)
 ]
 
 pub before_more : {X : Type 0} (xs : List X) (x : X) (i : ℕ) (y : X) → slice_get xs i ≡ Some y → slice_get (xs ++ x ∷ []) i ≡ Some y

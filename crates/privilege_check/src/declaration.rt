@@ -7,7 +7,7 @@ use swan_model::{Kind, Mode};
 
 /// What a name stands for in a task.
 #[derive(Clone, Copy, Debug, PartialEq, Eq)]
-pub enum Meaning {
+pub enum Declaration {
     /// A variable of this kind.
     Variable(Kind),
     /// An object or a queue, as the mode says, of this kind. The mode is how it may be used.
@@ -35,14 +35,14 @@ pub fn of_kind(asked: Option<Kind>, kind: Kind) -> Result<Kind, JobKind>
     }
 }
 
-impl Meaning {
+impl Declaration {
     /// The kind of a variable. Kind comes exactly where it is none, or isn't of the kind that is asked.
     pub fn as_variable(self, asked: Option<Kind>) -> Result<Kind, JobKind>
         ensures { result ≡ as_variable asked (Some self) }
     {
         match self {
-            Meaning::Variable(kind) => of_kind(asked, kind),
-            Meaning::Held(_, _) => Err(JobKind::Kind),
+            Declaration::Variable(kind) => of_kind(asked, kind),
+            Declaration::Held(_, _) => Err(JobKind::Kind),
         }
     }
 
@@ -52,8 +52,8 @@ impl Meaning {
         ensures { result ≡ as_held asked mode (Some self) }
     {
         match self {
-            Meaning::Variable(_) => Err(JobKind::Kind),
-            Meaning::Held(own, kind) => {
+            Declaration::Variable(_) => Err(JobKind::Kind),
+            Declaration::Held(own, kind) => {
                 if own.is_of_queues() != mode.is_of_queues() || !is_asked(asked, kind) {
                     Err(JobKind::Kind)
                 } else if own.allows(mode) {
