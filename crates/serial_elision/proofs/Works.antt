@@ -11,7 +11,7 @@ use Rattle.swan_model.specs.declared.body.Worked.{Worked}
 use Rattle.swan_model.specs.declared.fault.FaultKind.{FaultKind}
 use Rattle.swan_model.specs.declared.fault.FaultKind.TheVariants as kind
 use Rattle.swan_model.specs.SerialState.{Activation, State, Store}
-use Rattle.swan_model.specs.SerialStep.{Effect, goes_on, spawns, ends, faults, after, effect, effect_of, moved, step, step_on, told}
+use Rattle.swan_model.specs.SerialStep.{Effect, goes_on, spawns, ends, faults, after, effect, effect_of, moved, step, told}
 use Rattle.swan_model.specs.Work.{ask_after, AreWork, local_after, told_after}
 use Rattle.serial_elision.specs.Working.{after_steps}
 use Rattle.serial_elision.proofs.Steps.{effect-paid, stepped}

@@ -1,6 +1,6 @@
 -- Objects and queues at the places of one who holds them, and what asks about them answer and change.
 use Rattle.std.specs.Option.{option_map}
-use Rattle.std.specs.Prelude.{◌≡◌, ℕ, Option, Some, None, List, [], ◌∷◌, ◌++◌, Result, Ok, Err, slice_get}
+use Rattle.std.specs.Prelude.{ℕ, Option, Some, None, List, [], ◌∷◌, ◌++◌, Result, Ok, Err, slice_get}
 use Rattle.swan_model.specs.declared.fault.FaultKind.{FaultKind}
 use Rattle.swan_model.specs.declared.fault.FaultKind.TheVariants.{Privilege, PopEmpty}
 use Rattle.swan_model.specs.declared.rights.Mode.{Mode}

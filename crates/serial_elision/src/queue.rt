@@ -5,7 +5,7 @@ use std::collections::VecDeque;
 use std::marker::Model;
 use swan_model::{Origin, Value};
 
-/// Room for so many items isn't given back.
+/// Room for so many items is kept.
 const SHRUNK_LEAST: usize = 32;
 
 /// A queue. Contracts see it as the queue of the serial state.
@@ -26,9 +26,9 @@ impl Model for Queue {
 }
 
 impl Queue {
-    /// Takes the first item off, and None exactly where there is none. It gives memory back once less
-    /// than a quarter of the queue's room is used, where that is room for more than 32 items. `O(1)`
-    /// amortised.
+    /// Takes the first item off, and None exactly where there is none. Once less than a quarter of the
+    /// queue's room is used it gives half of that back, but keeps room for 32 items. `O(1)` amortised.
+    #[inline]
     pub fn pop(&mut self) -> Option<Value>
         ensures first { MatchOption result (self.old.items ≡ [])
             (λ item. self.old.items ≡ item ∷ self.new.items) }
@@ -38,7 +38,7 @@ impl Queue {
         let first = self.items.pop_front();
         let room = self.items.capacity();
         if room > SHRUNK_LEAST && self.items.len() < room / 4 {
-            self.items.shrink_to(room / 2);
+            self.items.shrink_to((room / 2).max(SHRUNK_LEAST));
         }
         first
     }

@@ -10,7 +10,9 @@ use crate::spawn::spawn;
 use crate::{Activation, Effect, OwnAsk, Reply, Stack, Store};
 use std::alloc::Global;
 use std::marker::Model;
-use swan_model::{Answer, Ask, Body, FUEL_MOST, Fault, FaultKind, Faults, NoMemory, Path, Worked};
+use swan_model::{
+    Answer, Ask, Body, FUEL_MOST, Fault, FaultKind, Faults, NoMemory, Path, Stop, Worked,
+};
 
 /// The serial state. Contracts see it as the state of the definitions.
 #[derive(Drop)]
@@ -181,22 +183,20 @@ impl<L: Drop> State<L> {
         } = top;
         let mut left = fuel;
         for _row in 0..fuel {
-            let row = body.work(alloc, local, answer, left, FUEL_MOST)?;
             let Worked {
                 local: moved,
                 works,
                 stop,
-            } = row;
+            } = body.work(alloc, local, answer, left, FUEL_MOST)?;
             local = moved;
             self.steps += works;
-            let Some(stop) = stop else {
-                let place = body.place(&local);
-                return self.fail(path, place, FaultKind::Fuel);
+            let Some(Stop { ask, place }) = stop else {
+                break;
             };
             left = left - works - 1;
-            match self.store.answer(holdings.as_slice(), stop.ask)? {
+            match self.store.answer(holdings.as_slice(), ask)? {
                 Reply::Told(told) => answer = told,
-                Reply::Fault(kind) => return self.fail(path, stop.place, kind),
+                Reply::Fault(kind) => return self.fail(path, place, kind),
                 Reply::Own(ask) => {
                     let top = Activation {
                         path,
@@ -206,7 +206,7 @@ impl<L: Drop> State<L> {
                         holdings,
                         children,
                     };
-                    return self.finish(alloc, top, stop.place, ask);
+                    return self.finish(alloc, top, place, ask);
                 }
             }
             self.steps += 1;
