@@ -23,7 +23,7 @@ use Rattle.swan_model.proofs.Paths.{not_below-itself}
 
 module _ {B L : Type 0} (G : Ghosts B L) where
   -- an entry of the script at the time of a step of this activation
-  entry_now : (plan : Plan B L) (n : ℕ) (top : Activation L) (below : List (Activation L)) → (serial G plan n).stack ≡ top ∷ below → slice_get (script G plan).entries n ≡ Some (entry_of G plan.body (serial G plan n).steps (serial G plan n).store top)
+  pub entry_now : (plan : Plan B L) (n : ℕ) (top : Activation L) (below : List (Activation L)) → (serial G plan n).stack ≡ top ∷ below → slice_get (script G plan).entries n ≡ Some (entry_of G plan.body (serial G plan n).steps (serial G plan n).store top)
   entry_now plan n top below is = get_script G plan n ∙ ap (entry_on G plan.body (serial G plan n)) is
 
   running-on : (plan : Plan B L) (path : List ℕ) (n : ℕ) (stack : List (Activation L)) → (serial G plan n).stack ≡ stack → IsRunning path stack → IsEndOf (script G plan) path n ⊎ IsRunning path (step_on G plan.body (serial G plan n) stack).stack

@@ -59,7 +59,7 @@ spawned-within store a child (Some holdings) =
     if-within a.fuel (nat_lt a.fuel child.fuel) _ _ tt (λ enough.
     let most : child.fuel ≤ a.fuel = search (rules, tests) in omega arith)))
 
-effect-within : {L : Type 0} (n : ℕ) (store : Store) (a : Activation L) (asked : Ask L) → IsWithinFuel a.fuel (effect n store a asked)
+pub effect-within : {L : Type 0} (n : ℕ) (store : Store) (a : Activation L) (asked : Ask L) → IsWithinFuel a.fuel (effect n store a asked)
 effect-within n store a ask.Work = omega arith
 effect-within n store a (ask.Read place) =
     on_object-within a.fuel store (number_at a.holdings place In) _ (λ number cell. omega arith)

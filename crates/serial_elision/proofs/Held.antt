@@ -75,13 +75,13 @@ pub held-append : (held : List OriginGive) (store : Store) (hs more : List Holdi
 held-append held store [] more are also = also
 held-append held store (h ∷ hs) more are also = (are.0, held-append held store hs more are.1 also)
 
-held-at : (held : List OriginGive) (store : Store) (hs : List Holding) (place : ℕ) (h : Holding) → AreHeldBy held store hs → slice_get hs place ≡ Some h → IsHeldBy held store h
+pub held-at : (held : List OriginGive) (store : Store) (hs : List Holding) (place : ℕ) (h : Holding) → AreHeldBy held store hs → slice_get hs place ≡ Some h → IsHeldBy held store h
 held-at held store [] place h are is = absurd (cc)
 held-at held store (x ∷ hs) zero h are is = let same : x ≡ h = cc in subst (IsHeldBy held store) same are.0
 held-at held store (x ∷ hs) (suc place) h are is = held-at held store hs place h are.1 is
 
 -- what may be used at a place
-record IsUsed (hs : List Holding) (place number : ℕ) (mode : Mode) : Type 0 where
+pub record IsUsed (hs : List Holding) (place number : ℕ) (mode : Mode) : Type 0 where
   pub holding : Holding
   pub stands : slice_get hs place ≡ Some holding
   pub allowed : allows holding.mode mode ≡ true
@@ -91,7 +91,7 @@ used-if : (hs : List Holding) (place number : ℕ) (mode : Mode) (h : Holding) (
 used-if hs place number mode h true stands allowed is = record { holding = h; stands = stands; allowed = allowed; same = cc }
 used-if hs place number mode h false stands allowed is = absurd (cc)
 
-used-at : (hs : List Holding) (place number : ℕ) (mode : Mode) (found : Option Holding) → slice_get hs place ≡ found → used_by mode found ≡ Some number → IsUsed hs place number mode
+pub used-at : (hs : List Holding) (place number : ℕ) (mode : Mode) (found : Option Holding) → slice_get hs place ≡ found → used_by mode found ≡ Some number → IsUsed hs place number mode
 used-at hs place number mode None found is = absurd (cc)
 used-at hs place number mode (Some h) found is =
     used-if hs place number mode h (allows h.mode mode) found refl is

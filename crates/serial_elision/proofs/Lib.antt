@@ -1,4 +1,6 @@
 pub mod Aliases
+pub mod AskMakes
+pub mod AskSteps
 pub mod Asks
 pub mod AsksTold
 pub mod At
@@ -10,6 +12,9 @@ pub mod Endings
 pub mod Ends
 pub mod Entries
 pub mod FaultOrder
+pub mod FaultsTold
+pub mod FewHeld
+pub mod FewMade
 pub mod Finals
 pub mod Granting
 pub mod Held
@@ -18,6 +23,7 @@ pub mod ItemsTold
 pub mod Lawful
 pub mod MadeAbove
 pub mod OutcomeTold
+pub mod NamesStay
 pub mod Nesting
 pub mod Passing
 pub mod PointsRise
@@ -28,6 +34,7 @@ pub mod RipeSpawns
 pub mod RipeStays
 pub mod Rights
 pub mod RootLists
+pub mod RootNames
 pub mod Runs
 pub mod Scripts
 pub mod SerialTold
@@ -37,6 +44,7 @@ pub mod StateTold
 pub mod StepLaws
 pub mod Steps
 pub mod Still
+pub mod TaskSteps
 pub mod Turns
 pub mod Works
 pub mod Zeroed

@@ -82,14 +82,14 @@ abbrev pub IsRunning : {L : Type 0} → List ℕ → List (Activation L) → Typ
 IsRunning path [] = ⊥
 IsRunning path (a ∷ below) = (a.path ≡ path) ⊎ (IsUnder path a.path × IsRunning path below)
 
-under-moved : (path a b : List ℕ) → b ≡ a → IsUnder path a → IsUnder path b
+pub under-moved : (path a b : List ℕ) → b ≡ a → IsUnder path a → IsUnder path b
 under-moved path a b same under = record { rest = under.rest; is = same ∙ under.is }
 
-under-child : (path a child : List ℕ) (number : ℕ) → child ≡ a ++ number ∷ [] → IsUnder path a → IsUnder path child
+pub under-child : (path a child : List ℕ) (number : ℕ) → child ≡ a ++ number ∷ [] → IsUnder path a → IsUnder path child
 under-child path a child number same under =
     record { rest = under.rest ++ number ∷ []; is = same ∙ ap (λ p. p ++ number ∷ []) under.is ∙ append_assoc path under.rest (number ∷ []) }
 
-under-itself : (path other : List ℕ) → other ≡ path → IsUnder path other
+pub under-itself : (path other : List ℕ) → other ≡ path → IsUnder path other
 under-itself path other same = record { rest = []; is = same ∙ sym (append-nil path) }
 
 pub after-running : {L : Type 0} (path : List ℕ) (s : State L) (top : Activation L) (below : List (Activation L)) (place : ℕ) (does : Deed) (done : Effect L) → Fits top does done → IsRunning path (top ∷ below) → ((top.path ≡ path) × (is_end done ≡ true)) ⊎ IsRunning path (after s below top.path place done).stack

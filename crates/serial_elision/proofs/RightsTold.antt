@@ -45,7 +45,7 @@ origin-still P f same None after origin still is = absurd (cc)
 origin-still P f same (Some x) None origin still is = absurd still
 origin-still P f same (Some x) (Some y) origin still is = ap Some (same x y still) ∙ is
 
-stand-of : (held : List Holding) (before after : Store) → RightsBind held before after → Stand before after
+pub stand-of : (held : List Holding) (before after : Store) → RightsBind held before after → Stand before after
 stand-of held before after binds = record { origins = λ mode number origin is. by (is_queue_mode mode) number origin is } where
   by : (b : Bool) (number : ℕ) (origin : Origin)
       → cond b (option_map (λ (queue : Queue). queue.origin) (slice_get before.queues number)) (option_map (λ (cell : Cell). cell.origin) (slice_get before.cells number)) ≡ Some origin
@@ -99,20 +99,36 @@ objects-held held store k (v ∷ values) each =
     )
 
 module _ {B L : Type 0} (G : Ghosts B L) where
+  -- each queue and each object of the plan stands in the first store
+  pub root-queue_stands : (plan : Plan B L) → IsWithinBounds plan.roots.queues plan.roots.objects → (j : ℕ) (q : RootQueue) → slice_get plan.roots.queues j ≡ Some q → origin_of (first_store plan.roots) q.mode (0 + j) ≡ Some (Root j)
+  root-queue_stands plan bounds j q is =
+      let queues = plan.roots.queues in
+      let zero_j : 0 + j ≡ j = omega arith in
+      let queue : is_queue_mode q.mode ≡ true = subst (λ (r : RootQueue). is_queue_mode r.mode ≡ true) (get_or_from_slice_get queues j q q is) (bounds.each j q (slice_get_within queues j q is)).mode in
+      ap (origin_of (first_store plan.roots) q.mode) zero_j
+      ∙ origin-kind (first_store plan.roots) q.mode PushPop j queue
+      ∙ ap (option_map (λ (x : Queue). x.origin)) (get-first_queues 0 queues j ∙ ap (option_map (λ (r : RootQueue). let made : Queue = record { origin = Root (0 + j); items = r.items } in made)) is)
+      ∙ ap (λ n. Some (Root n)) zero_j
+
+  pub root-object_stands : (plan : Plan B L) (j : ℕ) (v : Value) → slice_get plan.roots.objects j ≡ Some v → origin_of (first_store plan.roots) InOut (0 + j) ≡ Some (Root j)
+  root-object_stands plan j v is =
+      let values = plan.roots.objects in
+      let zero_j : 0 + j ≡ j = omega arith in
+      ap (origin_of (first_store plan.roots) InOut) zero_j
+      ∙ ap (option_map (λ (x : Cell). x.origin)) (get-first_cells 0 values j ∙ ap (option_map (λ (w : Value). let made : Cell = record { origin = Root (0 + j); kind = kind_of w; value = w } in made)) is)
+      ∙ ap (λ n. Some (Root n)) zero_j
+
   root_queue : (plan : Plan B L) → IsWithinBounds plan.roots.queues plan.roots.objects → (j : ℕ) (q : RootQueue) → slice_get plan.roots.queues j ≡ Some q → IsHeldBy (root_holds (script G plan)) (first_store plan.roots) (record { mode = q.mode; number = 0 + j })
   root_queue plan bounds j q is =
       let s = script G plan in
       let queues = plan.roots.queues in
       let within = slice_get_within queues j q is in
-      let zero_j : j ≡ 0 + j = omega arith in
       let queue : is_queue_mode q.mode ≡ true = subst (λ (r : RootQueue). is_queue_mode r.mode ≡ true) (get_or_from_slice_get queues j q q is) (bounds.each j q within).mode in
       let many : length s.queues ≡ length queues = length-map queues (λ (r : RootQueue). r.items) in
-      let stands : origin_of (first_store plan.roots) q.mode j ≡ Some (Root (0 + j)) =
-      origin-kind (first_store plan.roots) q.mode PushPop j queue
-      ∙ ap (option_map (λ (x : Queue). x.origin)) (get-first_queues 0 queues j ∙ ap (option_map (λ (r : RootQueue). let made : Queue = record { origin = Root (0 + j); items = r.items } in made)) is) in
+      let zero_j : Root j ≡ Root (0 + j) = ap Root (let e : j ≡ 0 + j = omega arith in e) in
       record {
         origin = Root (0 + j);
-        stands = ap (origin_of (first_store plan.roots) q.mode) (sym zero_j) ∙ stands;
+        stands = root-queue_stands plan bounds j q is ∙ ap Some zero_j;
         may = λ mode allowed. (more-append (roots_from PushPop 0 (length s.queues)) (roots_from InOut 0 (length s.objects))).may mode (Root (0 + j))
             (roots-have PushPop 0 (length s.queues) j mode (omega (arith, many, within)) (queue_allows q.mode mode queue allowed));
       }
@@ -122,12 +138,10 @@ module _ {B L : Type 0} (G : Ghosts B L) where
       let s = script G plan in
       let values = plan.roots.objects in
       let within = slice_get_within values j v is in
-      let zero_j : j ≡ 0 + j = omega arith in
-      let stands : origin_of (first_store plan.roots) InOut j ≡ Some (Root (0 + j)) =
-      ap (option_map (λ (x : Cell). x.origin)) (get-first_cells 0 values j ∙ ap (option_map (λ (w : Value). let made : Cell = record { origin = Root (0 + j); kind = kind_of w; value = w } in made)) is) in
+      let zero_j : Root j ≡ Root (0 + j) = ap Root (let e : j ≡ 0 + j = omega arith in e) in
       record {
         origin = Root (0 + j);
-        stands = ap (origin_of (first_store plan.roots) InOut) (sym zero_j) ∙ stands;
+        stands = root-object_stands plan j v is ∙ ap Some zero_j;
         may = λ mode allowed. (more-after (roots_from PushPop 0 (length s.queues)) (roots_from InOut 0 (length s.objects))).may mode (Root (0 + j))
             (roots-have InOut 0 (length s.objects) j mode (omega (arith, within)) allowed);
       }
@@ -140,7 +154,7 @@ module _ {B L : Type 0} (G : Ghosts B L) where
       let objects = objects-held held store 0 plan.roots.objects (root_object plan) in
       (held-append held store (queue_holdings 0 plan.roots.queues) (object_holdings 0 plan.roots.objects) queues objects, tt)
 
-  step-grants : (plan : Plan B L) (n : ℕ) (top : Activation L) (below : List (Activation L)) → (serial G plan n).stack ≡ top ∷ below → Grants n (serial G plan n).store top (next_deed G plan.body (serial G plan n).store top) (effect_of G plan.body (serial G plan n).steps (serial G plan n).store top)
+  pub step-grants : (plan : Plan B L) (n : ℕ) (top : Activation L) (below : List (Activation L)) → (serial G plan n).stack ≡ top ∷ below → Grants n (serial G plan n).store top (next_deed G plan.body (serial G plan n).store top) (effect_of G plan.body (serial G plan n).steps (serial G plan n).store top)
   step-grants plan n top below is =
       let s = serial G plan n in
       let does = next_deed G plan.body s.store top in

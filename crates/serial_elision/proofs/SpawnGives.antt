@@ -30,7 +30,7 @@ use Rattle.serial_elision.proofs.RightsTold.{hold-each}
 use Rattle.serial_elision.proofs.Turns.{about-is, next_deed}
 
 -- these are the gives of a child, named by what made them
-record AreNamed (store : Store) (holdings : List Holding) (asked : List Give) (gives : List OriginGive) : Type 0 where
+pub record AreNamed (store : Store) (holdings : List Holding) (asked : List Give) (gives : List OriginGive) : Type 0 where
   pub many : length gives ≡ length asked
   pub modes : map (λ (give : OriginGive). give.mode) gives ≡ map (λ (give : Give). give.mode) asked
   pub named : map Some gives ≡ map (named_give store holdings) asked
@@ -59,7 +59,7 @@ named-also held store holdings give asked (Some number) (Some more) hs are at la
     subst (λ list. AreNamed store holdings (give ∷ asked) (gives_of store list)) same
     (subst (AreNamed store holdings (give ∷ asked)) (sym gives) all)
 
-named-gives : (held : List OriginGive) (store : Store) (holdings : List Holding) (asked : List Give) (hs : List Holding) → AreHeldBy held store holdings → given holdings asked ≡ Some hs → AreNamed store holdings asked (gives_of store hs)
+pub named-gives : (held : List OriginGive) (store : Store) (holdings : List Holding) (asked : List Give) (hs : List Holding) → AreHeldBy held store holdings → given holdings asked ≡ Some hs → AreNamed store holdings asked (gives_of store hs)
 named-gives held store holdings [] hs are is =
     let same : [] ≡ hs = cc in
     subst (λ list. AreNamed store holdings [] (gives_of store list)) same (record { many = refl; modes = refl; named = refl })

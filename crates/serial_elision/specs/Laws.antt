@@ -5,9 +5,12 @@ use Rattle.swan_model.specs.declared.body.Ask.TheVariants.{Spawn}
 use Rattle.swan_model.specs.declared.body.Body.{Ghosts}
 use Rattle.swan_model.specs.declared.body.Child.{Child}
 use Rattle.swan_model.specs.declared.fault.Fault.{Fault}
+use Rattle.swan_model.specs.declared.origin.Origin.{Origin}
+use Rattle.swan_model.specs.declared.origin.Origin.TheVariants.{Root, Step}
 use Rattle.swan_model.specs.declared.rights.Give.{Give}
 use Rattle.swan_model.specs.declared.rights.Mode.TheVariants.{Out, Push, Pop}
 use Rattle.swan_model.specs.declared.rights.Mode.{Mode}
+use Rattle.swan_model.specs.declared.script.Deed.TheVariants as deed
 use Rattle.swan_model.specs.declared.script.OriginGive.{OriginGive}
 use Rattle.swan_model.specs.declared.script.Script.{Script}
 use Rattle.swan_model.specs.declared.value.Value.{Value}
@@ -17,6 +20,7 @@ use Rattle.swan_model.specs.Script.{origin_at}
 use Rattle.swan_model.specs.SerialState.{Holding, Activation, Cell, Queue, Store, State}
 use Rattle.swan_model.specs.SerialStep.{number_at}
 use Rattle.swan_model.specs.SerialTime.{Progress, Reading, is_done, times}
+use Rattle.swan_model.specs.Told.{deed_at}
 
 -- what a give is in a script: the object or queue at its place, named by what made it, where the giver holds
 -- it so, and the give's mode
@@ -109,3 +113,18 @@ pub record HasActive (s : Script) (r : Reading) (active : List Progress) : Type 
   pub root : (i : ℕ) × (frame : Progress) × (slice_get r.frames i ≡ Some frame) × (frame.path ≡ [])
   pub children : (path : List ℕ) (child spawn : ℕ) → spawn_time s path child ≡ Some spawn → IsTrue (is_done s r spawn)
       → (i : ℕ) × (frame : Progress) × (slice_get r.frames i ≡ Some frame) × (frame.path ≡ path ++ child ∷ [])
+
+-- this made a queue of the script, which is one of the plan's, or one that a step made
+abbrev pub IsQueueOf : Script → Origin → Type 0
+IsQueueOf s (Root i) = i < length s.queues
+IsQueueOf s (Step n) = deed_at s n ≡ deed.MakeQueue
+
+-- and an object
+abbrev pub IsObjectOf : Script → Origin → Type 0
+IsObjectOf s (Root i) = i < length s.objects
+IsObjectOf s (Step n) = (first : Value) × (deed_at s n ≡ deed.MakeObject first)
+
+-- each of these is such an origin, and none stands twice
+pub record AreEachOnce (IsOne : Origin → Type 0) (origins : List Origin) : Type 0 where
+  pub each : (i : ℕ) (origin : Origin) → slice_get origins i ≡ Some origin → IsOne origin
+  pub once : (i j : ℕ) (origin : Origin) → slice_get origins i ≡ Some origin → slice_get origins j ≡ Some origin → i ≡ j

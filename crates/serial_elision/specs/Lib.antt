@@ -2,4 +2,5 @@ pub mod Bounds
 pub mod Effects
 pub mod Laws
 pub mod Places
+pub mod TaskSteps
 pub mod Working

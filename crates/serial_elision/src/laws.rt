@@ -2,17 +2,9 @@
 ghost use Rattle.std.specs.Prelude.{◌≡◌, ℕ, ◌+◌};
 ghost use Rattle.swan_model.specs.declared.plan.Plan.{Plan};
 ghost use Rattle.swan_model.specs.Elision.{serial};
-ghost use Rattle.swan_model.specs.SerialStep.{step};
 ghost use Rattle.serial_elision.specs.Laws.{AreInOrder, EndsWhereItFaults, RightsBind, top_holdings};
 
 use swan_model::Body;
-
-/// The law that the state after one step more is a step of the state before.
-#[tactic(auto, using(crate::proofs::StepLaws::serial_add_one))]
-pub fn one_step_more<B: Body>()
-    ensures { (plan : Plan B B.Local) (n : ℕ) →
-        serial B.Body plan (n + 1) ≡ step B.Body plan.body (serial B.Body plan n) }
-{}
 
 /// The law that a fault ends its task and nothing else: a step books no fault, or one, which has the
 /// path of the task whose step it was and the place where that stood; then this task is gone, those

@@ -1,5 +1,5 @@
 // Laws of scripts.
-ghost use Rattle.std.specs.Prelude.{◌≡◌, ◌≢◌, ℕ, ◌+◌, ◌<◌, ◌≤◌, List, [], ◌∷◌, ◌++◌, Some, IfSome, IsSomeAnd, IsTrue, length, map, slice_get};
+ghost use Rattle.std.specs.Prelude.{◌≡◌, ◌≢◌, ℕ, ◌+◌, ◌<◌, ◌≤◌, List, [], ◌∷◌, ◌++◌, Some, IfSome, IsSomeAnd, IsTrue, drop, length, map, slice_get};
 ghost use Rattle.std.specs.Option.{option_map};
 ghost use Rattle.swan_model.specs.declared.origin.Origin.{Origin};
 ghost use Rattle.swan_model.specs.declared.origin.Origin.TheVariants.{Root};
@@ -18,7 +18,7 @@ ghost use Rattle.swan_model.specs.Readings.{gone_on, next_deed, one_more, spawne
 ghost use Rattle.swan_model.specs.Ripe.{is_push_to, is_ripe, push_time};
 ghost use Rattle.swan_model.specs.Script.{next_entry, script};
 ghost use Rattle.swan_model.specs.SerialTime.{Progress, Reading, is_done, is_of, times, time, point, is_earlier};
-ghost use Rattle.swan_model.specs.Told.{items, cell, first_items, taken};
+ghost use Rattle.swan_model.specs.Told.{items, cell, first_items, pushes, taken};
 ghost use Rattle.serial_elision.specs.Laws.{AsksToGive, AreFramesOf, HasActive};
 
 use swan_model::Body;
@@ -43,7 +43,7 @@ pub fn each_step_has_its_entry<B: Body>()
 /// items, and each object the value, that the script tells before its entry n. So what the elision
 /// leaves of the plan's queues and objects is told by the script alone: at each index of the plan's queues
 /// stand the items, and at each index of its objects the value, that the script tells after its last entry,
-/// and nothing stands past them.
+/// and nothing stands past them. The items are all that ever stood in the queue, but those that were taken.
 #[tactic(auto, using(crate::proofs::SerialTold::items_told, crate::proofs::SerialTold::cells_told))]
 pub fn a_script_tells_queues_and_objects<B: Body>()
     ensures items { (plan : Plan B B.Local) (n i : ℕ) →
@@ -55,6 +55,9 @@ pub fn a_script_tells_queues_and_objects<B: Body>()
     ensures items_left { (plan : Plan B B.Local) (i : ℕ) → let s = script B.Body plan in
         slice_get (outcome B.Body plan).queues i
         ≡ option_map (λ first. items s (Root i) (length s.entries)) (slice_get s.queues i) }
+    ensures rest_left { (plan : Plan B B.Local) (i : ℕ) → let s = script B.Body plan in
+        slice_get (outcome B.Body plan).queues i
+        ≡ option_map (λ first. drop (taken s (Root i) (length s.entries)) (pushes s (Root i))) (slice_get s.queues i) }
     ensures values_left { (plan : Plan B B.Local) (i : ℕ) → let s = script B.Body plan in
         slice_get (outcome B.Body plan).objects i ≡ cell s (Root i) (length s.entries) }
 {}

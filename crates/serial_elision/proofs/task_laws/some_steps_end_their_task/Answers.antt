@@ -1,0 +1,15 @@
+use Rattle.serial_elision.proofs.AskMakes.{aliased, too-dear, too-deep}
+use Rattle.serial_elision.proofs.AskSteps.{dry, fails, finishes, pops-none, refused}
+use Rattle.serial_elision.proofs.task_laws.some_steps_end_their_task.Goals as goal
+
+pub returns : goal.returns
+returns g c = record {
+  dry = λ plan path k top at none. dry g.B.Body plan path k top at none;
+  finish = λ plan path k top local is. finishes g.B.Body plan path k top local is;
+  fail = λ plan path k top local trouble is. fails g.B.Body plan path k top local trouble is;
+  refused = λ plan path k top local asks is none. refused g.B.Body plan path k top local asks is none;
+  pop_of_none = λ plan bounds path k top local place queue is has none. pops-none g.B.Body plan path k top local bounds place queue has is none;
+  alias = λ plan path k top local child holdings is held twice. aliased g.B.Body plan path k top local child is holdings held twice;
+  depth = λ plan path k top local child holdings is held once deep. too-deep g.B.Body plan path k top local child is holdings held once deep;
+  fuel = λ plan path k top local child holdings is held once shallow dear. too-dear g.B.Body plan path k top local child is holdings held once shallow dear;
+}

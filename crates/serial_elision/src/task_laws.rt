@@ -1,0 +1,232 @@
+// Laws of tasks: how each goes on by its own steps, what its steps do, and what they leave.
+ghost use Rattle.std.specs.Prelude.{◌≡◌, ◌⊎◌, ℕ, ◌+◌, ◌-◌, ◌<◌, ◌≤◌, true, false, List, [], ◌∷◌, ◌++◌, Some, None, IsSomeAnd, filter, length, map, max, slice_get, take};
+ghost use Rattle.swan_model.specs.declared.body.Answer.TheVariants as answer;
+ghost use Rattle.swan_model.specs.declared.body.Ask.{Ask};
+ghost use Rattle.swan_model.specs.declared.body.Ask.TheVariants as ask;
+ghost use Rattle.swan_model.specs.declared.body.Child.{Child};
+ghost use Rattle.swan_model.specs.declared.fault.Fault.{Fault};
+ghost use Rattle.swan_model.specs.declared.fault.FaultKind.TheVariants as kind;
+ghost use Rattle.swan_model.specs.declared.fault.Trouble.{Trouble};
+ghost use Rattle.swan_model.specs.declared.origin.Origin.{Origin};
+ghost use Rattle.swan_model.specs.declared.origin.Origin.TheVariants.{Root};
+ghost use Rattle.swan_model.specs.declared.path.TheConstants.{PATH_MOST};
+ghost use Rattle.swan_model.specs.declared.plan.Plan.{Plan};
+ghost use Rattle.swan_model.specs.declared.plan.RootQueue.{RootQueue};
+ghost use Rattle.swan_model.specs.declared.rights.Mode.{Mode};
+ghost use Rattle.swan_model.specs.declared.rights.Mode.TheVariants.{In, Out, InOut, Push, Pop, PushPop};
+ghost use Rattle.swan_model.specs.declared.script.Deed.TheVariants as deed;
+ghost use Rattle.swan_model.specs.declared.value.Value.{Value};
+ghost use Rattle.swan_model.specs.Elision.{most_steps, outcome, root, serial};
+ghost use Rattle.swan_model.specs.Rights.{allows, is_aliased};
+ghost use Rattle.swan_model.specs.Roots.{IsWithinBounds};
+ghost use Rattle.swan_model.specs.Script.{give_of, is_end, script};
+ghost use Rattle.swan_model.specs.SerialState.{Activation, Holding, Store};
+ghost use Rattle.swan_model.specs.SerialStep.{given, goes_on, spawns};
+ghost use Rattle.swan_model.specs.SerialTime.{is_queue_deed, time, times};
+ghost use Rattle.swan_model.specs.Told.{cell, count, deed_at, pushes, taken};
+ghost use Rattle.swan_model.specs.TrueFrames.{StandsAt, effect_at, gives_at};
+ghost use Rattle.swan_model.specs.QueueFollows.{queue_times};
+ghost use Rattle.swan_model.specs.declared.plan.TheConstants.{FUEL_MOST, ROOTS_MOST};
+ghost use Rattle.swan_model.specs.declared.rights.TheConstants.{GIVES_MOST};
+ghost use Rattle.swan_model.specs.declared.rights.Give.{Give};
+ghost use Rattle.serial_elision.specs.Laws.{AreEachOnce, AreInOrder, IsObjectOf, IsQueueOf};
+ghost use Rattle.serial_elision.specs.TaskSteps.{Ends, Faults, GetsPlace, GoesOn, IsAsking, IsFaultOf, IsRefused, MayUseAt, Spawns};
+
+use swan_model::Body;
+
+/// The law that a task goes on by its own steps. The root stands at its first step. Where a task stands at a
+/// step of its own, and the step neither ends it nor spawns, it stands at its next step as this step left it;
+/// after a spawn it does so once the child has ended, as the spawn left it, and the child stands at its first
+/// step as it was made. A step that ends a task is its last one. A task stands at each step that it has, as one
+/// activation alone, and at a later step as the one before has left it. So what a task is at a step depends on
+/// nothing but its own steps, and on what they were told.
+pub fn tasks_go_on<B: Body>()
+    ensures root { (plan : Plan B B.Local) → StandsAt B.Body plan [] 0 (root plan) }
+    ensures goes_on { (plan : Plan B B.Local) (path : List ℕ) (k : ℕ) (top next : Activation B.Local) (store : Store)
+        → StandsAt B.Body plan path k top → effect_at B.Body plan path k top ≡ goes_on next store → StandsAt B.Body plan path (k + 1) next }
+    ensures spawns { (plan : Plan B B.Local) (path : List ℕ) (k : ℕ) (top parent child : Activation B.Local) (store : Store)
+        → StandsAt B.Body plan path k top → effect_at B.Body plan path k top ≡ spawns parent child store → StandsAt B.Body plan path (k + 1) parent }
+    ensures begins { (plan : Plan B B.Local) (path : List ℕ) (k : ℕ) (top parent child : Activation B.Local) (store : Store)
+        → StandsAt B.Body plan path k top → effect_at B.Body plan path k top ≡ spawns parent child store → StandsAt B.Body plan child.path 0 child }
+    ensures ends { (plan : Plan B B.Local) (path : List ℕ) (k : ℕ) (top : Activation B.Local)
+        → StandsAt B.Body plan path k top → is_end (effect_at B.Body plan path k top) ≡ true
+        → k + 1 ≡ length (times (script B.Body plan) path) }
+    ensures each { (plan : Plan B B.Local) (path : List ℕ) (k : ℕ) → k < length (times (script B.Body plan) path)
+        → (top : Activation B.Local) × StandsAt B.Body plan path k top }
+    ensures one { (plan : Plan B B.Local) (path : List ℕ) (k : ℕ) (a b : Activation B.Local)
+        → StandsAt B.Body plan path k a → StandsAt B.Body plan path k b → a ≡ b }
+    ensures before { (plan : Plan B B.Local) (path : List ℕ) (k : ℕ) (top : Activation B.Local)
+        → StandsAt B.Body plan path (k + 1) top
+        → (before : Activation B.Local) × (store : Store) × StandsAt B.Body plan path k before
+        × ((effect_at B.Body plan path k before ≡ goes_on top store)
+        ⊎ ((child : Activation B.Local) × (effect_at B.Body plan path k before ≡ spawns top child store))) }
+{}
+
+/// The law that what is held keeps its name. Whatever a task holds at a step has a name, by what made it, and
+/// has it at each later time of the elision; so a task that holds the same at its next step has the same names
+/// for it. The root begins with the plan's queues and then its objects, by their names. The plan's lists are within their bounds, as those of each plan that is made are.
+pub fn names_stay<B: Body>()
+    ensures named { (plan : Plan B B.Local) → IsWithinBounds plan.roots.queues plan.roots.objects
+        → (path : List ℕ) (k : ℕ) (top : Activation B.Local) (place : ℕ) (holding : Holding) → StandsAt B.Body plan path k top
+        → slice_get top.holdings place ≡ Some holding
+        → (origin : Origin) × (slice_get (gives_at B.Body plan path k top) place ≡ Some (Some (record { origin = origin; mode = holding.mode }))) }
+    ensures later { (plan : Plan B B.Local) → IsWithinBounds plan.roots.queues plan.roots.objects
+        → (path : List ℕ) (k n : ℕ) (top : Activation B.Local) → StandsAt B.Body plan path k top
+        → time (script B.Body plan) path k ≤ n
+        → map (give_of (serial B.Body plan n).store) top.holdings ≡ gives_at B.Body plan path k top }
+    ensures next { (plan : Plan B B.Local) → IsWithinBounds plan.roots.queues plan.roots.objects
+        → (path : List ℕ) (k : ℕ) (top next : Activation B.Local) → StandsAt B.Body plan path k top
+        → StandsAt B.Body plan path (k + 1) next → next.holdings ≡ top.holdings
+        → gives_at B.Body plan path (k + 1) next ≡ gives_at B.Body plan path k top }
+    ensures usable { (plan : Plan B B.Local) → IsWithinBounds plan.roots.queues plan.roots.objects
+        → (path : List ℕ) (k : ℕ) (top : Activation B.Local) (place : ℕ) (holding : Holding) (mode : Mode) → StandsAt B.Body plan path k top
+        → slice_get top.holdings place ≡ Some holding → allows holding.mode mode ≡ true
+        → (origin : Origin) × MayUseAt B.Body plan path k top place mode origin }
+    ensures root_queues { (plan : Plan B B.Local) → IsWithinBounds plan.roots.queues plan.roots.objects
+        → (i : ℕ) (queue : RootQueue) → slice_get plan.roots.queues i ≡ Some queue
+        → slice_get (gives_at B.Body plan [] 0 (root plan)) i ≡ Some (Some (record { origin = Root i; mode = queue.mode })) }
+    ensures root_objects { (plan : Plan B B.Local) → IsWithinBounds plan.roots.queues plan.roots.objects
+        → (i : ℕ) (first : Value) → slice_get plan.roots.objects i ≡ Some first
+        → slice_get (gives_at B.Body plan [] 0 (root plan)) (length plan.roots.queues + i) ≡ Some (Some (record { origin = Root i; mode = InOut })) }
+{}
+
+/// The law of what each ask is answered, and of the deed that the script has for it. Work and the wait for
+/// children are answered with nothing; a read with the value that the script tells of the object at this time; a
+/// write and a push with nothing; a pop with the queue's next item, where one is left; the test of a queue with
+/// whether none is left; and who makes a queue or an object is told its new place. Whoever is answered holds the
+/// same as before, by the same names, and a maker one place more, which has the name of this step. The plan's
+/// lists are within their bounds, as those of each plan that is made are.
+pub fn asks_are_answered<B: Body>()
+    ensures work { (plan : Plan B B.Local) → IsWithinBounds plan.roots.queues plan.roots.objects
+        → (path : List ℕ) (k : ℕ) (top : Activation B.Local) (local : B.Local)
+        → IsAsking B.Body plan path k top local ask.Work → GoesOn B.Body plan path k top local answer.Nothing deed.Quiet }
+    ensures sync { (plan : Plan B B.Local) → IsWithinBounds plan.roots.queues plan.roots.objects
+        → (path : List ℕ) (k : ℕ) (top : Activation B.Local) (local : B.Local)
+        → IsAsking B.Body plan path k top local ask.Sync → GoesOn B.Body plan path k top local answer.Nothing deed.Sync }
+    ensures read { (plan : Plan B B.Local) → IsWithinBounds plan.roots.queues plan.roots.objects
+        → (path : List ℕ) (k : ℕ) (top : Activation B.Local) (local : B.Local) (place : ℕ) (object : Origin)
+        → IsAsking B.Body plan path k top local (ask.Read place) → MayUseAt B.Body plan path k top place In object
+        → let s = script B.Body plan in IsSomeAnd (cell s object (time s path k))
+        (λ value. GoesOn B.Body plan path k top local (answer.Item value) (deed.Read object)) }
+    ensures write { (plan : Plan B B.Local) → IsWithinBounds plan.roots.queues plan.roots.objects
+        → (path : List ℕ) (k : ℕ) (top : Activation B.Local) (local : B.Local) (place : ℕ) (value : Value) (object : Origin)
+        → IsAsking B.Body plan path k top local (ask.Write place value) → MayUseAt B.Body plan path k top place Out object
+        → GoesOn B.Body plan path k top local answer.Nothing (deed.Write object value) }
+    ensures push { (plan : Plan B B.Local) → IsWithinBounds plan.roots.queues plan.roots.objects
+        → (path : List ℕ) (k : ℕ) (top : Activation B.Local) (local : B.Local) (place : ℕ) (value : Value) (queue : Origin)
+        → IsAsking B.Body plan path k top local (ask.Push place value) → MayUseAt B.Body plan path k top place Push queue
+        → GoesOn B.Body plan path k top local answer.Nothing (deed.Push queue value) }
+    ensures pop { (plan : Plan B B.Local) → IsWithinBounds plan.roots.queues plan.roots.objects
+        → (path : List ℕ) (k : ℕ) (top : Activation B.Local) (local : B.Local) (place : ℕ) (queue : Origin)
+        → IsAsking B.Body plan path k top local (ask.Pop place) → MayUseAt B.Body plan path k top place Pop queue
+        → let s = script B.Body plan in let t = time s path k in taken s queue t < count s queue t
+        → IsSomeAnd (slice_get (pushes s queue) (taken s queue t))
+        (λ item. GoesOn B.Body plan path k top local (answer.Item item) (deed.Pop queue)) }
+    ensures test_of_some { (plan : Plan B B.Local) → IsWithinBounds plan.roots.queues plan.roots.objects
+        → (path : List ℕ) (k : ℕ) (top : Activation B.Local) (local : B.Local) (place : ℕ) (queue : Origin)
+        → IsAsking B.Body plan path k top local (ask.Empty place) → MayUseAt B.Body plan path k top place Pop queue
+        → let s = script B.Body plan in let t = time s path k in taken s queue t < count s queue t
+        → GoesOn B.Body plan path k top local (answer.Flag false) (deed.Test queue) }
+    ensures test_of_none { (plan : Plan B B.Local) → IsWithinBounds plan.roots.queues plan.roots.objects
+        → (path : List ℕ) (k : ℕ) (top : Activation B.Local) (local : B.Local) (place : ℕ) (queue : Origin)
+        → IsAsking B.Body plan path k top local (ask.Empty place) → MayUseAt B.Body plan path k top place Pop queue
+        → let s = script B.Body plan in let t = time s path k in count s queue t ≤ taken s queue t
+        → GoesOn B.Body plan path k top local (answer.Flag true) (deed.Test queue) }
+    ensures new_queue { (plan : Plan B B.Local) → IsWithinBounds plan.roots.queues plan.roots.objects
+        → (path : List ℕ) (k : ℕ) (top : Activation B.Local) (local : B.Local)
+        → IsAsking B.Body plan path k top local ask.NewQueue → GetsPlace B.Body plan path k top local PushPop deed.MakeQueue }
+    ensures new_object { (plan : Plan B B.Local) → IsWithinBounds plan.roots.queues plan.roots.objects
+        → (path : List ℕ) (k : ℕ) (top : Activation B.Local) (local : B.Local) (first : Value)
+        → IsAsking B.Body plan path k top local (ask.NewObject first) → GetsPlace B.Body plan path k top local InOut (deed.MakeObject first) }
+{}
+
+/// The law of the steps that end their task. A task without fuel ends by the fault Fuel, one that may not use a
+/// place so, or not give what it is to give, by Privilege, one that pops a queue in which nothing is left by
+/// PopEmpty, and one that gives up by its own trouble. A child that it may give all is refused where a
+/// place is given twice, else where the path is too deep, else where the fuel doesn't last, by Alias, Depth and
+/// Fuel. In the script none of these steps does anything, but the pop of an empty queue is a pop.
+pub fn some_steps_end_their_task<B: Body>()
+    ensures dry { (plan : Plan B B.Local) (path : List ℕ) (k : ℕ) (top : Activation B.Local)
+        → StandsAt B.Body plan path k top → top.fuel ≡ 0 → Faults B.Body plan path k top kind.Fuel deed.Quiet }
+    ensures finish { (plan : Plan B B.Local) (path : List ℕ) (k : ℕ) (top : Activation B.Local) (local : B.Local)
+        → IsAsking B.Body plan path k top local ask.Finish → Ends B.Body plan path k top }
+    ensures fail { (plan : Plan B B.Local) (path : List ℕ) (k : ℕ) (top : Activation B.Local) (local : B.Local) (trouble : Trouble)
+        → IsAsking B.Body plan path k top local (ask.Fail trouble) → Faults B.Body plan path k top (kind.Trouble trouble) deed.Quiet }
+    ensures refused { (plan : Plan B B.Local) (path : List ℕ) (k : ℕ) (top : Activation B.Local) (local : B.Local) (asks : Ask B.Local)
+        → IsAsking B.Body plan path k top local asks → IsRefused B.Body plan path k top asks → Faults B.Body plan path k top kind.Privilege deed.Quiet }
+    ensures pop_of_none { (plan : Plan B B.Local) → IsWithinBounds plan.roots.queues plan.roots.objects
+        → (path : List ℕ) (k : ℕ) (top : Activation B.Local) (local : B.Local) (place : ℕ) (queue : Origin)
+        → IsAsking B.Body plan path k top local (ask.Pop place) → MayUseAt B.Body plan path k top place Pop queue
+        → let s = script B.Body plan in let t = time s path k in count s queue t ≤ taken s queue t
+        → Faults B.Body plan path k top kind.PopEmpty (deed.Pop queue) }
+    ensures alias { (plan : Plan B B.Local) (path : List ℕ) (k : ℕ) (top : Activation B.Local) (local : B.Local) (child : Child B.Local) (holdings : List Holding)
+        → IsAsking B.Body plan path k top local (ask.Spawn child) → given top.holdings child.gives ≡ Some holdings
+        → is_aliased child.gives ≡ true → Faults B.Body plan path k top kind.Alias deed.Quiet }
+    ensures depth { (plan : Plan B B.Local) (path : List ℕ) (k : ℕ) (top : Activation B.Local) (local : B.Local) (child : Child B.Local) (holdings : List Holding)
+        → IsAsking B.Body plan path k top local (ask.Spawn child) → given top.holdings child.gives ≡ Some holdings
+        → is_aliased child.gives ≡ false → PATH_MOST ≤ length top.path → Faults B.Body plan path k top kind.Depth deed.Quiet }
+    ensures fuel { (plan : Plan B B.Local) (path : List ℕ) (k : ℕ) (top : Activation B.Local) (local : B.Local) (child : Child B.Local) (holdings : List Holding)
+        → IsAsking B.Body plan path k top local (ask.Spawn child) → given top.holdings child.gives ≡ Some holdings
+        → is_aliased child.gives ≡ false → length top.path < PATH_MOST → top.fuel - 1 < child.fuel
+        → Faults B.Body plan path k top kind.Fuel deed.Quiet }
+{}
+
+/// The law that a spawn which is no fault makes the child that was asked for. The child holds the gives, each by
+/// the name of what its parent holds at the give's place, and those are the gives of the script's entry; the
+/// parent holds the same as before, by the same names. The plan's lists are within their bounds, as those of each
+/// plan that is made are.
+pub fn a_spawn_makes_its_child<B: Body>()
+    ensures spawns { (plan : Plan B B.Local) → IsWithinBounds plan.roots.queues plan.roots.objects
+        → (path : List ℕ) (k : ℕ) (top : Activation B.Local) (local : B.Local) (child : Child B.Local) (holdings : List Holding)
+        → IsAsking B.Body plan path k top local (ask.Spawn child) → given top.holdings child.gives ≡ Some holdings
+        → is_aliased child.gives ≡ false → length top.path < PATH_MOST → child.fuel ≤ top.fuel - 1
+        → Spawns B.Body plan path k top local child }
+{}
+
+/// The law that the faults which are left are those of tasks' last steps: each is that of a task at its last
+/// step, which is this fault, at the place where the task stood before it; and each such step has booked one.
+/// They stand in the order of their paths, a child's before its parent's. So a list of faults that stand in this order, and are
+/// those of last steps, all of them, is the list that is left.
+pub fn faults_are_those_of_last_steps<B: Body>()
+    ensures each { (plan : Plan B B.Local) (j : ℕ) (fault : Fault) → slice_get (outcome B.Body plan).faults j ≡ Some fault → IsFaultOf B.Body plan fault }
+    ensures all { (plan : Plan B B.Local) (fault : Fault) → IsFaultOf B.Body plan fault → (j : ℕ) × (slice_get (outcome B.Body plan).faults j ≡ Some fault) }
+    ensures order { (plan : Plan B B.Local) → AreInOrder (outcome B.Body plan).faults }
+    ensures alone { (plan : Plan B B.Local) (booked : List Fault) → AreInOrder booked
+        → ((j : ℕ) (fault : Fault) → slice_get booked j ≡ Some fault → IsFaultOf B.Body plan fault)
+        → ((fault : Fault) → IsFaultOf B.Body plan fault → (j : ℕ) × (slice_get booked j ≡ Some fault))
+        → booked ≡ (outcome B.Body plan).faults }
+{}
+
+/// The law that a plan makes no more than its fuel pays for. The queues of its script are at most the plan's own
+/// and one for each unit of fuel, and so are the objects. A task's children and the fuel that it has left are
+/// together at most the plan's fuel; its places and the fuel that it has left are at most those with which it
+/// began, which for a child are as many places as its gives. So there are fewer than 4,294,967,295 queues and
+/// objects, children of a task, and places of one that begins with as many as a plan or a spawn may give. No task
+/// has more steps than the elision takes, nor more of them that queues are told of. The plan's lists and its
+/// fuel are within their bounds, as those of each plan that is made are.
+pub fn a_plan_makes_what_its_fuel_pays<B: Body>()
+    ensures queues { (plan : Plan B B.Local) (queues : List Origin) → AreEachOnce (IsQueueOf (script B.Body plan)) queues
+        → length queues ≤ length plan.roots.queues + plan.fuel }
+    ensures objects { (plan : Plan B B.Local) (objects : List Origin) → AreEachOnce (IsObjectOf (script B.Body plan)) objects
+        → length objects ≤ length plan.roots.objects + plan.fuel }
+    ensures children { (plan : Plan B B.Local) (path : List ℕ) (k : ℕ) (top : Activation B.Local) → StandsAt B.Body plan path k top
+        → top.children + top.fuel ≤ plan.fuel }
+    ensures places { (plan : Plan B B.Local) (path : List ℕ) (k : ℕ) (first top : Activation B.Local)
+        → StandsAt B.Body plan path 0 first → StandsAt B.Body plan path k top
+        → length top.holdings + top.fuel ≤ length first.holdings + first.fuel }
+    ensures root_places { (plan : Plan B B.Local) → length (root plan).holdings ≡ length plan.roots.queues + length plan.roots.objects }
+    ensures child_places { (holdings given_so : List Holding) (gives : List Give) → given holdings gives ≡ Some given_so → length given_so ≡ length gives }
+    ensures few_queues { (plan : Plan B B.Local) (queues : List Origin) → IsWithinBounds plan.roots.queues plan.roots.objects → plan.fuel ≤ FUEL_MOST
+        → AreEachOnce (IsQueueOf (script B.Body plan)) queues → length queues < 4294967295 }
+    ensures few_objects { (plan : Plan B B.Local) (objects : List Origin) → IsWithinBounds plan.roots.queues plan.roots.objects → plan.fuel ≤ FUEL_MOST
+        → AreEachOnce (IsObjectOf (script B.Body plan)) objects → length objects < 4294967295 }
+    ensures few_children { (plan : Plan B B.Local) (path : List ℕ) (k : ℕ) (top : Activation B.Local) → plan.fuel ≤ FUEL_MOST
+        → StandsAt B.Body plan path k top → top.children < 4294967295 }
+    ensures few_places { (plan : Plan B B.Local) (path : List ℕ) (k : ℕ) (first top : Activation B.Local) → plan.fuel ≤ FUEL_MOST
+        → StandsAt B.Body plan path 0 first → length first.holdings ≤ max ROOTS_MOST GIVES_MOST → StandsAt B.Body plan path k top
+        → length top.holdings < 4294967295 }
+    ensures steps { (plan : Plan B B.Local) (path : List ℕ) → length (times (script B.Body plan) path) ≤ most_steps plan }
+    ensures queue_deeds { (plan : Plan B B.Local) (path : List ℕ) → length (queue_times (script B.Body plan) path) ≤ most_steps plan }
+    ensures deeds_so_far { (plan : Plan B B.Local) (path : List ℕ) (k : ℕ) → let s = script B.Body plan in
+        length (filter (λ t. is_queue_deed (deed_at s t)) (take k (times s path))) ≤ most_steps plan }
+{}
