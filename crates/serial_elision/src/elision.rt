@@ -14,8 +14,8 @@ use swan_model::{Body, NoMemory, Outcome, Plan, ValueLists, Values};
 /// It answers NoMemory where memory ran out, and nothing else beside. It takes at most twice the
 /// fuel and two steps. A spawn of `g` gives from a path of `d` parts costs `O(g log g + d)`, and
 /// each other step `O(1)` amortised beside the body's. What a task holds is given up when it ends,
-/// and the room of popped items once less than a quarter of the queue's room is used, where that is
-/// room for more than 32 items; objects and queues stay until the end.
+/// and half of a queue's room once less than a quarter of it is used, down to room for 32 items;
+/// objects and queues stay until the end.
 pub fn elide<B: Body>(alloc: Global, plan: Plan<B>) -> Result<Outcome, NoMemory>
     ensures outcome { IfOk result (λ left. left ≡ outcome B.Body plan) }
     ensures queues { IfOk result (λ left. length left.queues ≡ length plan.roots.queues) }
