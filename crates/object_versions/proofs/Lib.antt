@@ -9,6 +9,7 @@ pub mod Awaited
 pub mod Lookups
 pub mod Commuting
 pub mod Counts
+pub mod FewUses
 pub mod Referred
 pub mod Steps
 pub mod References
@@ -36,6 +37,9 @@ pub mod FinishFollows
 pub mod SpawnGives
 pub mod CallsFollow
 pub mod EndedChildren
+pub mod PlacesStay
+pub mod NoMoreWaits
+pub mod OwnersEarlier
 pub mod GivingPlaces
 pub mod GivingKept
 pub mod GivingAccess

@@ -4,7 +4,7 @@ use Rattle.swan_model.specs.declared.rights.Mode.{Mode}
 use Rattle.swan_model.specs.Versions.{Placed, VersionState, placed_at, with_present, after_access, given_from, got, left_with}
 use Rattle.object_versions.proofs.Lookups.{found_in, still_set, untied}
 
-other_key : (k n : ℕ × ℕ) → (n.0 ≢ k.0) ⊎ (n.1 ≢ k.1) → k ≢ n
+pub other_key : (k n : ℕ × ℕ) → (n.0 ≢ k.0) ⊎ (n.1 ≢ k.1) → k ≢ n
 other_key k n (inl differ) same = differ (sym (ap (λ (n : ℕ × ℕ). n.0) same))
 other_key k n (inr differ) same = differ (sym (ap (λ (n : ℕ × ℕ). n.1) same))
 

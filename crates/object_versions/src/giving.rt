@@ -64,6 +64,7 @@ impl Store {
         requires may { allows object.now.mode In ≡ true }
         requires free { place_at self.old.places.entries gift.child gift.child_place ≡ None }
         requires alone { MayGive self.old.places.entries gift.child object.now.object In }
+        requires known { (made : ℕ) × IsWhole self.old.places.entries self.old.nodes made (λ _. 0) }
         requires present { IsSome (get self.old.nodes object.now.present) }
         ensures whole { OnOk result ((made : ℕ) → IsWhole self.old.places.entries self.old.nodes made (λ _. 0) → IsWhole self.new.places.entries self.new.nodes made (λ _. 0)) }
         ensures given { OnOk result ((made : ℕ) → IsWhole self.old.places.entries self.old.nodes made (λ _. 0)
@@ -73,7 +74,8 @@ impl Store {
         ensures shares { OnOk result ((has : Held) → place_at self.new.places.entries gift.child gift.child_place ≡ Some has → has.present ≡ object.now.present) }
     {
         let shared = object.present;
-        share(&mut self.nodes, shared, 2)?;
+        let _few = self.places.len();
+        share(&mut self.nodes, shared, 2);
         let read = PlacedObject {
             object: object.object,
             kind: object.kind,
@@ -126,6 +128,7 @@ impl Store {
         requires may { allows object.now.mode InOut ≡ true }
         requires free { place_at self.old.places.entries gift.child gift.child_place ≡ None }
         requires alone { MayGive self.old.places.entries gift.child object.now.object InOut }
+        requires known { (made : ℕ) × IsWhole self.old.places.entries self.old.nodes made (λ _. 0) }
         requires present { IsSome (get self.old.nodes object.now.present) }
         ensures whole { OnOk result ((made : ℕ) → IsWhole self.old.places.entries self.old.nodes made (λ _. 0) → IsWhole self.new.places.entries self.new.nodes made (λ _. 0)) }
         ensures given { OnOk result ((made : ℕ) → IsWhole self.old.places.entries self.old.nodes made (λ _. 0)
@@ -134,7 +137,8 @@ impl Store {
         ensures keeps { OnOk result ((has : Held) → place_at self.new.places.entries gift.parent gift.parent_place ≡ Some has → has.given ≡ object.now.given) }
         ensures shares { OnOk result ((has : Held) → place_at self.new.places.entries gift.child gift.child_place ≡ Some has → has.present ≡ object.now.present) }
     {
-        share(&mut self.nodes, object.present, 2)?;
+        let _few = self.places.len();
+        share(&mut self.nodes, object.present, 2);
         let next = make(&mut self.nodes, object.object, State::Owed(gift.child), 2)?;
         let changed = PlacedObject {
             object: object.object,

@@ -1,15 +1,21 @@
-// Laws of renamed objects that follow a reading.
-ghost use Rattle.std.specs.Prelude.{◌≡◌, ◌≢◌, ℕ, List, [], ◌∷◌, ◌++◌, false, filter, Some, None};
+// Laws of renamed objects, and of those that follow a reading.
+ghost use Rattle.std.specs.Prelude.{◌≡◌, ◌≢◌, ◌⊎◌, ℕ, ◌<◌, IsTrue, List, [], ◌∷◌, ◌++◌, false, filter, length, Some, None};
+ghost use Rattle.std.specs.Option.{option_map};
 ghost use Rattle.swan_model.specs.declared.origin.Origin.{Origin};
+ghost use Rattle.swan_model.specs.declared.rights.Mode.{Mode};
+ghost use Rattle.swan_model.specs.declared.rights.Mode.TheVariants.{InOut};
 ghost use Rattle.swan_model.specs.declared.script.Deed.{Deed};
 ghost use Rattle.swan_model.specs.declared.script.Deed.TheVariants as deed;
 ghost use Rattle.swan_model.specs.declared.script.OriginGive.{OriginGive};
 ghost use Rattle.swan_model.specs.declared.script.Script.{Script};
+ghost use Rattle.swan_model.specs.declared.value.Value.{Value};
 ghost use Rattle.swan_model.specs.Granted.{is_spawn};
 ghost use Rattle.swan_model.specs.Lawful.{IsLawful};
+ghost use Rattle.swan_model.specs.PathOrder.{comes_before};
 ghost use Rattle.swan_model.specs.Readings.{gone_on, next_deed, spawned};
-ghost use Rattle.swan_model.specs.SerialTime.{Progress, Reading, frame_of};
-ghost use Rattle.swan_model.specs.Versions.{owed, Awaits, IsSettled, Placed, VersionState, placed_at};
+ghost use Rattle.swan_model.specs.SerialTime.{Progress, Reading, frame_of, is_earlier, times};
+ghost use Rattle.swan_model.specs.Values.{kind_of};
+ghost use Rattle.swan_model.specs.Versions.{settled, owed, Awaits, IsSettled, Placed, VersionState, after_access, after_create, after_finish, after_write, got, left_with, placed_at, settle_placed};
 ghost use Rattle.swan_model.specs.VersionsFollow.{Access, ObjectsFollow, IsGiving, IsNewFrame, NextSpawnGivesObjects, is_object_deed, is_object_give};
 
 /// The law that all entries but those that make or write an object, or give one to a child, are done without
@@ -61,4 +67,62 @@ pub fn ended_children_leave_all_settled()
         → ((place owing : ℕ) (object : Placed) → owing ≢ child → placed_at state n place ≡ Some object → object.present ≡ owed owing
         → (owner : Progress) × (frame_of r owing ≡ Some owner))
         → IsSettled state n }
+{}
+
+/// The law of what each call leaves at each place. The place that a call is told of gets what the call says: the
+/// maker's its object, the writer's its value; where an object is given, the parent's place keeps all but its
+/// version, and the child's gets the parent's object by the mode. Each other place keeps what it has. Where a
+/// frame ends, the other frames keep their places, with the versions that the frame owed settled, and its own
+/// are forgotten but for those of frame 0.
+pub fn places_stay()
+    ensures create { (state : VersionState) (frame place : ℕ) (first : Value) (other at : ℕ) → (other ≢ frame) ⊎ (at ≢ place)
+        → placed_at (after_create state frame place first) other at ≡ placed_at state other at }
+    ensures created { (state : VersionState) (frame place : ℕ) (first : Value)
+        → placed_at (after_create state frame place first) frame place
+        ≡ Some (record { object = state.made; kind = kind_of first; mode = InOut; given = None; present = settled first }) }
+    ensures access { (state : VersionState) (parent place child child_place : ℕ) (mode : Mode) (other at : ℕ)
+        → (other ≢ parent) ⊎ (at ≢ place) → (other ≢ child) ⊎ (at ≢ child_place)
+        → placed_at (after_access state parent place child child_place mode) other at ≡ placed_at state other at }
+    ensures left { (state : VersionState) (parent place child child_place : ℕ) (mode : Mode) (object : Placed) → parent ≢ child
+        → placed_at state parent place ≡ Some object
+        → placed_at (after_access state parent place child child_place mode) parent place ≡ Some (record object { present = left_with object child mode }) }
+    ensures got { (state : VersionState) (parent place child child_place : ℕ) (mode : Mode) (object : Placed)
+        → placed_at state parent place ≡ Some object
+        → placed_at (after_access state parent place child child_place mode) child child_place ≡ Some (got object mode) }
+    ensures write { (state : VersionState) (frame place : ℕ) (value : Value) (other at : ℕ) → (other ≢ frame) ⊎ (at ≢ place)
+        → placed_at (after_write state frame place value) other at ≡ placed_at state other at }
+    ensures written { (state : VersionState) (frame place : ℕ) (value : Value) (object : Placed) → placed_at state frame place ≡ Some object
+        → placed_at (after_write state frame place value) frame place ≡ Some (record object { present = settled value }) }
+    ensures finish { (state : VersionState) (ended other at : ℕ) → (other ≢ ended) ⊎ (ended ≡ 0)
+        → placed_at (after_finish state ended) other at ≡ option_map (settle_placed state ended) (placed_at state other at) }
+    ensures forgotten { (state : VersionState) (ended at : ℕ) → ended ≢ 0 → placed_at (after_finish state ended) ended at ≡ None }
+{}
+
+/// The law that nobody waits again: a frame that waits for nothing which it was given to read waits for nothing
+/// later, whatever is made, given, written and ended by whom, as long as it isn't itself the child to which
+/// an object is given.
+pub fn nobody_waits_again()
+    ensures create { (state : VersionState) (frame place : ℕ) (first : Value) (n : ℕ) → ((at owing : ℕ) → ¬ Awaits state n at owing)
+        → (at owing : ℕ) → ¬ Awaits (after_create state frame place first) n at owing }
+    ensures access { (state : VersionState) (parent place child child_place : ℕ) (mode : Mode) (n : ℕ) → n ≢ child → ((at owing : ℕ) → ¬ Awaits state n at owing)
+        → (at owing : ℕ) → ¬ Awaits (after_access state parent place child child_place mode) n at owing }
+    ensures write { (state : VersionState) (frame place : ℕ) (value : Value) (n : ℕ) → ((at owing : ℕ) → ¬ Awaits state n at owing)
+        → (at owing : ℕ) → ¬ Awaits (after_write state frame place value) n at owing }
+    ensures finish { (state : VersionState) (ended n : ℕ) → ((at owing : ℕ) → ¬ Awaits state n at owing)
+        → (at owing : ℕ) → ¬ Awaits (after_finish state ended) n at owing }
+{}
+
+/// The law that whoever is awaited comes first. Where renamed objects follow a lawful script and a reading, and a
+/// frame that has an entry left has a version that another one owes, or was given it to read, that other one
+/// isn't the root, and while it has an entry left too it is earlier in serial order: its point is, and its path
+/// comes before.
+pub fn who_is_awaited_comes_first()
+    ensures owner { (s : Script) (r : Reading) (state : VersionState) (n place owing : ℕ) (frame owner : Progress) (object : Placed)
+        → IsLawful s → ObjectsFollow s r state → frame_of r n ≡ Some frame → frame.done < length (times s frame.path)
+        → placed_at state n place ≡ Some object → (object.present ≡ owed owing) ⊎ (object.given ≡ Some owing)
+        → frame_of r owing ≡ Some owner → owner.done < length (times s owner.path)
+        → IsTrue (is_earlier s owner frame) × IsTrue (comes_before owner.path frame.path) }
+    ensures no_root { (s : Script) (r : Reading) (state : VersionState) (n place owing : ℕ) (frame : Progress) (object : Placed)
+        → IsLawful s → ObjectsFollow s r state → frame_of r n ≡ Some frame → frame.done < length (times s frame.path)
+        → placed_at state n place ≡ Some object → (object.present ≡ owed owing) ⊎ (object.given ≡ Some owing) → owing ≢ 0 }
 {}

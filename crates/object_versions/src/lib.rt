@@ -37,7 +37,10 @@ mod store;
 mod versions;
 mod waiting;
 
-pub use laws::{ended_children_leave_all_settled, giving_begins, other_entries_pass};
+pub use laws::{
+    ended_children_leave_all_settled, giving_begins, nobody_waits_again, other_entries_pass,
+    places_stay, who_is_awaited_comes_first,
+};
 use node::{Node, State};
 use placed_object::PlacedObject;
 pub use versions::Versions;

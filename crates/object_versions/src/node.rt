@@ -17,6 +17,6 @@ pub struct Node {
     pub object: u64,
     /// Its value, or who owes it.
     pub state: State,
-    /// How often places refer to it. It is given up when none does.
-    pub uses: u64,
+    /// How often places refer to it, each three times at most. It is given up when none does.
+    pub uses: u128,
 }

@@ -1,5 +1,5 @@
 // Versions by key, and how often places refer to each.
-ghost use Rattle.std.specs.Prelude.{◌≡◌, ◌↔◌, ◌+◌, IsTrue, IfOk, IfErr, IsSome, OnOk, Some, None};
+ghost use Rattle.std.specs.Prelude.{◌≡◌, ◌↔◌, ◌+◌, ◌<◌, ◌^◌, IsTrue, IfOk, IfErr, IsSome, Some, None};
 ghost use Rattle.slab.specs.Slab.{get, Updates};
 ghost use Rattle.swan_model.specs.Versions.{settled, owed};
 ghost use Rattle.object_versions.specs.Store.{version_at, uses_in, released, state_settled};
@@ -11,7 +11,12 @@ use slab::Slab;
 use swan_model::{NoMemory, Value};
 
 /// Makes a version to which places will refer so often, and answers its key. `O(1)` amortised.
-pub fn make(nodes: &mut Slab<Node>, object: u64, state: State, uses: u64) -> Result<usize, NoMemory>
+pub fn make(
+    nodes: &mut Slab<Node>,
+    object: u64,
+    state: State,
+    uses: u128,
+) -> Result<usize, NoMemory>
     ensures vacant { IfOk result (λ key. get nodes.old key ≡ None) }
     ensures made { IfOk result (λ key. Updates nodes.old nodes.new key (Some (record { object = object; state = state; uses = uses }))) }
 {
@@ -26,21 +31,16 @@ pub fn make(nodes: &mut Slab<Node>, object: u64, state: State, uses: u64) -> Res
     }
 }
 
-/// Counts so many more who refer to a version. Err also where the count would pass 64 bits. `O(1)`.
-pub fn share(nodes: &mut Slab<Node>, key: usize, more: u64) -> Result<(), NoMemory>
-    requires { IsSome (get nodes.old key) }
-    ensures { OnOk result ((node : Version) → get nodes.old key ≡ Some node → Updates nodes.old nodes.new key (Some (record node { uses = node.uses + more }))) }
+/// Counts so many more who refer to a version. `O(1)`; it takes no memory.
+pub fn share(nodes: &mut Slab<Node>, key: usize, more: u128)
+    requires present { IsSome (get nodes.old key) }
+    requires room { (node : Version) → get nodes.old key ≡ Some node → node.uses + more < 2 ^ 128 }
+    ensures { (node : Version) → get nodes.old key ≡ Some node → Updates nodes.old nodes.new key (Some (record node { uses = node.uses + more })) }
 {
     let Some(node) = nodes.get_mut(key) else {
         unreachable!()
     };
-    match node.uses.checked_add(more) {
-        Some(uses) => {
-            node.uses = uses;
-            Ok(())
-        }
-        None => Err(NoMemory),
-    }
+    node.uses += more;
 }
 
 /// Counts one less who refers to a version, and gives it up where nobody does any more. `O(1)`; it takes no

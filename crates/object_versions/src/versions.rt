@@ -92,8 +92,7 @@ impl Versions {
     /// Gives a child the object at a parent's place, by this mode. To read it the child has the parent's
     /// version. To write it the child has one of its own, with the zero of the object's kind, and the parent
     /// has one that the child owes. To read and write it the child has what was the parent's version, and the
-    /// parent has one that the child owes. Err is want of memory, and also where the count of who refers to a
-    /// version would pass 64 bits. `O(log n)`, amortised.
+    /// parent has one that the child owes. Err is want of memory. `O(log n)`, amortised.
     pub fn access(
         &mut self,
         parent: u64,

@@ -79,3 +79,9 @@ give_to_change-requires-clause-present c =
     let own = c.release_given-object in
     let made = c.requires.whole.0 in
     present_there own.new.self.places.entries own.new.self.nodes made c.args.gift.parent c.args.gift.parent_place own.result (own.ensures.whole made c.requires.whole.1) own.ensures.stands
+
+pub give_to_read-requires-clause-known : goal.give_to_read-requires-clause-known
+give_to_read-requires-clause-known c = (c.requires.whole.0, c.release_given-object.ensures.whole c.requires.whole.0 c.requires.whole.1)
+
+pub give_to_change-requires-clause-known : goal.give_to_change-requires-clause-known
+give_to_change-requires-clause-known c = (c.requires.whole.0, c.release_given-object.ensures.whole c.requires.whole.0 c.requires.whole.1)
