@@ -35,34 +35,28 @@ fn input_count(lines: &[Line]) -> usize
     count
 }
 
-/// Whether there is room for one more queue or object.
-fn has_room(roots: &Roots) -> bool
-    ensures { IsTrue result → length roots.now.queues + length roots.now.objects < ROOTS_MOST }
-{
-    roots.queues().len() + roots.objects().len() < ROOTS_MOST
-}
-
 /// The roots with one more queue.
 fn with_queue(mut roots: Roots, mode: Mode, items: Values) -> Result<Roots, NoMemory>
+    requires room { length roots.queues + length roots.objects < ROOTS_MOST }
     requires mode { IsTrue (is_queue_mode mode) }
     requires items { length items ≤ FIRST_ITEMS_MOST }
     ensures { IfOk result (λ all. all ≡ record roots { queues = roots.queues ++ (record { mode = mode; items = items }) ∷ [] }) }
 {
-    if !has_room(&roots) || roots.push_queue(RootQueue { mode, items }).is_err() {
-        return Err(NoMemory);
+    match roots.push_queue(RootQueue { mode, items }) {
+        Ok(()) => Ok(roots),
+        Err(_) => Err(NoMemory),
     }
-    Ok(roots)
 }
 
 /// The roots with one more object, at the zero of its kind.
 fn with_object(alloc: Global, mut roots: Roots, kind: Kind) -> Result<Roots, NoMemory>
+    requires room { length roots.queues + length roots.objects < ROOTS_MOST }
     ensures { IfOk result (λ all. all ≡ record roots { objects = roots.objects ++ zero_of kind ∷ [] }) }
 {
-    let zero = Value::zero(alloc, kind)?;
-    if !has_room(&roots) || roots.push_object(zero).is_err() {
-        return Err(NoMemory);
+    match roots.push_object(Value::zero(alloc, kind)?) {
+        Ok(()) => Ok(roots),
+        Err(_) => Err(NoMemory),
     }
-    Ok(roots)
 }
 
 /// Why an input is refused, by its number.
@@ -92,9 +86,10 @@ fn items_of(alloc: Global, number: u64, input: &Blob) -> Result<Values, PlanAnsw
     }
 }
 
-/// The root queues and objects of a job over its inputs.
+/// The root queues and objects of a job over its inputs. A job has fewer lines than a plan may have of them.
 fn fill(alloc: Global, lines: &[Line], inputs: &[Blob]) -> Result<Roots, PlanAnswer>
-    requires { length inputs.now ≡ input_count lines.now }
+    requires inputs { length inputs.now ≡ input_count lines.now }
+    requires few { length lines.now ≤ ROOTS_MOST }
     ensures queues { IfOk result (λ roots. roots.queues ≡ root_queues (top_lines lines.now) inputs.now) }
     ensures objects { IfOk result (λ roots. roots.objects ≡ root_objects (top_lines lines.now)) }
     ensures accepted { IfOk result (λ _. first_refused 1 inputs.now ≡ None) }
