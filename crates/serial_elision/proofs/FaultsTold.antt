@@ -23,11 +23,11 @@ use Rattle.serial_elision.proofs.TaskSteps.{ends_last, next-state, stands-now, t
 
 -- ---- lists in serial order
 
-not_before-itself : (path : List ℕ) → comes_before path path ≡ true → ⊥
+pub not_before-itself : (path : List ℕ) → comes_before path path ≡ true → ⊥
 not_before-itself [] is = absurd (cc)
 not_before-itself (part ∷ parts) is = grind (arith, not_before-itself parts)
 
-not_before-both : (path other : List ℕ) → comes_before path other ≡ true → comes_before other path ≡ true → ⊥
+pub not_before-both : (path other : List ℕ) → comes_before path other ≡ true → comes_before other path ≡ true → ⊥
 not_before-both [] other is also = absurd (cc)
 not_before-both (part ∷ parts) [] is also = absurd (cc)
 not_before-both (part ∷ parts) (other ∷ others) is also = grind (arith, not_before-both parts others)

@@ -64,7 +64,8 @@ pub fn tasks_go_on<B: Body>()
 
 /// The law that what is held keeps its name. Whatever a task holds at a step has a name, by what made it, and
 /// has it at each later time of the elision; so a task that holds the same at its next step has the same names
-/// for it. The root begins with the plan's queues and then its objects, by their names. The plan's lists are within their bounds, as those of each plan that is made are.
+/// for it. The root begins with the plan's queues and then its objects, by their names. The plan's lists are
+/// within their bounds, as those of each plan that is made are.
 pub fn names_stay<B: Body>()
     ensures named { (plan : Plan B B.Local) → IsWithinBounds plan.roots.queues plan.roots.objects
         → (path : List ℕ) (k : ℕ) (top : Activation B.Local) (place : ℕ) (holding : Holding) → StandsAt B.Body plan path k top
@@ -185,8 +186,8 @@ pub fn a_spawn_makes_its_child<B: Body>()
 
 /// The law that the faults which are left are those of tasks' last steps: each is that of a task at its last
 /// step, which is this fault, at the place where the task stood before it; and each such step has booked one.
-/// They stand in the order of their paths, a child's before its parent's. So a list of faults that stand in this order, and are
-/// those of last steps, all of them, is the list that is left.
+/// They stand in the order of their paths, a child's before its parent's. So a list of faults in this order that
+/// are those of last steps, all of them, is the list that is left.
 pub fn faults_are_those_of_last_steps<B: Body>()
     ensures each { (plan : Plan B B.Local) (j : ℕ) (fault : Fault) → slice_get (outcome B.Body plan).faults j ≡ Some fault → IsFaultOf B.Body plan fault }
     ensures all { (plan : Plan B B.Local) (fault : Fault) → IsFaultOf B.Body plan fault → (j : ℕ) × (slice_get (outcome B.Body plan).faults j ≡ Some fault) }
