@@ -60,6 +60,8 @@ impl JobLocal {
             Operand::Int(number) => Ok(Value::Int(*number)),
             Operand::Bytes(record) => Ok(Value::Bytes(record.copy()?)),
             Operand::Variable(slot) => match self.values.get(*slot as usize) {
+                // A number needs no call.
+                Some(Value::Int(number)) => Ok(Value::Int(*number)),
                 Some(value) => value.copy(),
                 None => Ok(Value::Int(0)),
             },
@@ -162,6 +164,7 @@ impl JobLocal {
     }
 
     /// Sets a slot to a value of its kind; one of the other kind leaves it as it is. `O(1)`.
+    #[inline(always)]
     fn receive(&mut self, slot: Option<u32>, value: Value)
         ensures { self.new ≡ record self.old { values = set_by self.old.values slot value } }
     {

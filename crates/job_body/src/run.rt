@@ -70,7 +70,8 @@ fn copy_of(alloc: Global, gives: &Gives) -> Result<Gives, NoMemory>
     Ok(all)
 }
 
-/// A spawn, by its fuel.
+/// A spawn, by its fuel. It is seldom, so the loop of `work` has no room for what it makes.
+#[inline(never)]
 fn spawn(
     alloc: Global,
     program: &Listed<Instruction>,
@@ -107,7 +108,7 @@ fn gone(local: &mut JobLocal, to: u32, ask: Ask<JobLocal>) -> Ask<JobLocal>
 }
 
 /// Does what a demand says that goes on at a line. What it asks for isn't work.
-#[inline(never)]
+#[inline(always)]
 fn do_demand(
     alloc: Global,
     program: &Listed<Instruction>,
@@ -244,7 +245,7 @@ fn row(local: JobLocal, works: u64) -> Worked<JobLocal>
 }
 
 /// A row of steps of work that a step ended which asks for something else.
-#[inline(never)]
+#[inline(always)]
 fn stopped(local: JobLocal, works: u64, place: u64, ask: Ask<JobLocal>) -> Worked<JobLocal>
     ensures { result ≡ record { local = local; works = works; stop = Some (record { ask = ask; place = place }) } }
 {
