@@ -20,3 +20,4 @@ pub mod Namings
 pub mod FewLines
 pub mod Firsts
 pub mod Rows
+pub mod FewTakes

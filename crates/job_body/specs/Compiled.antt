@@ -1,6 +1,6 @@
 -- How the code keeps a job: an instruction for each line, which knows the places of its variables,
 -- objects and queues and where it goes on. The code alone is stated by this, and no public clause.
-use Rattle.std.specs.Prelude.{ℕ, ◌+◌, false, Option, Some, None, List, [], ◌∷◌, ◌++◌, length, drop, flat_map, zip, slice_get, unwrap_or, pos, if◌then◌else◌}
+use Rattle.std.specs.Prelude.{◌≡◌, ◌≤◌, ℕ, ◌+◌, false, Option, Some, None, List, [], ◌∷◌, ◌++◌, length, drop, flat_map, zip, slice_get, unwrap_or, pos, if◌then◌else◌}
 use Rattle.job_body.specs.Blocks.{after_end, blocks_at, exits, first_exit, innermost}
 use Rattle.job_body.specs.Names.{slot}
 use Rattle.job_body.specs.Tasks.{access_of, before_task, executed_from, is_main, made_of, param_of, roots, scope_at, takes, top_lines, var_kinds, var_of}
@@ -31,6 +31,7 @@ use Rattle.job_reader.specs.declared.line.Line.TheVariants as line
 use Rattle.job_reader.specs.declared.op.Op.{Op}
 use Rattle.job_reader.specs.declared.op.Op.TheVariants as op
 use Rattle.swan_model.specs.declared.rights.Give.{Give}
+use Rattle.swan_model.specs.declared.rights.TheConstants.{GIVES_MOST}
 use Rattle.swan_model.specs.declared.value.Kind.{Kind}
 
 -- what is known of the tasks: their names, and for each its index and what it takes
@@ -53,6 +54,10 @@ task_at tasks (Some i) = slice_get tasks i
 
 abbrev pub task_named : Tasks → List ℕ → Option Task
 task_named tasks name = task_at tasks.tasks (slot tasks.names name)
+
+-- no task takes more than a spawn may give
+pub record TakeFew (tasks : Tasks) : Type 0 where
+  pub each : (name : List ℕ) (task : Task) → task_named tasks name ≡ Some task → length task.takes ≤ GIVES_MOST
 
 -- how the block goes on that each line opens
 abbrev pub exits_from : ℕ → ℕ → List Line → List Exit

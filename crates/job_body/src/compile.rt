@@ -1,6 +1,6 @@
 // From lines to instructions.
 ghost use Rattle.std.specs.Prelude.{◌≡◌, ◌<◌, ◌≤◌, length, flat_map, slice_get, zip, IfOk};
-ghost use Rattle.job_body.specs.Compiled.{after_end_of, action_of, assign_of, branch_of, end_action, give_given, instruction_of, int_op, next_of, num_of, or_zero, param_given, program_of, spawn_of, task_named};
+ghost use Rattle.job_body.specs.Compiled.{TakeFew, after_end_of, action_of, assign_of, branch_of, end_action, give_given, instruction_of, int_op, next_of, num_of, or_zero, param_given, program_of, spawn_of, task_named};
 ghost use Rattle.job_body.specs.Blocks.{innermost};
 ghost use Rattle.job_body.specs.Tasks.{before_task, var_kinds};
 
@@ -61,8 +61,9 @@ fn params_of(
     Ok(all)
 }
 
-/// The gives of a task that takes these.
+/// The gives of a task that takes these, which are no more than a spawn may have.
 fn gives_of(alloc: Global, scope: &Scope, takes: &[Take], args: &[Atom]) -> Result<Gives, NoMemory>
+    requires few { length takes.now ≤ GIVES_MOST }
     ensures { IfOk result (λ all. all ≡ flat_map (give_given scope.now) (zip takes.now args.now)) }
 {
     let mut all = Gives::new(alloc);
@@ -73,7 +74,7 @@ fn gives_of(alloc: Global, scope: &Scope, takes: &[Take], args: &[Atom]) -> Resu
         let arg = &args[index];
         if let Take::Access(mode) = take {
             let place = scope.place_of(arg)?;
-            if all.len() >= GIVES_MOST || all.push(Give { place, mode: *mode }).is_err() {
+            if all.push(Give { place, mode: *mode }).is_err() {
                 return Err(NoMemory);
             }
         }
@@ -91,6 +92,7 @@ fn spawn_of(
     name: &Word,
     args: &Atoms,
 ) -> Result<Action, NoMemory>
+    requires few { TakeFew tasks.now }
     ensures { IfOk result (λ action. action ≡ spawn_of lines.now scope.now fuel.now (task_named tasks.now name.now) args.now) }
 {
     let fuel = scope.operand(fuel)?;
@@ -187,7 +189,8 @@ fn action_of(
     index: usize,
     line: &Line,
 ) -> Result<Action, NoMemory>
-    requires { index < length job.now }
+    requires within { index < length job.now }
+    requires few { TakeFew tasks.now }
     ensures { IfOk result (λ action. action ≡ action_of job.now tasks.now scope.now exit index line.now) }
 {
     match line {
@@ -270,6 +273,7 @@ fn instruction_of(
 ) -> Result<Instruction, NoMemory>
     requires within { index < length job.now }
     requires fits { index < usize.MAX }
+    requires few { TakeFew tasks.now }
     ensures { IfOk result (λ it. it ≡ instruction_of job.now tasks.now scope.now exit index line.now) }
 {
     let action = action_of(alloc, job, tasks, scope, exit, index, line)?;
@@ -277,8 +281,10 @@ fn instruction_of(
     Ok(Instruction { action, next })
 }
 
-/// The instructions of a job, one for each line. `O(lines log names)`.
+/// The instructions of a job, one for each line. A job has fewer lines than a spawn may have gives.
+/// `O(lines log names)`.
 pub fn program_of(alloc: Global, lines: &[Line]) -> Result<Listed<Instruction>, NoMemory>
+    requires few { length lines.now ≤ GIVES_MOST }
     ensures { IfOk result (λ program. program ≡ program_of lines.now) }
 {
     let tasks = Tasks::of(alloc, lines)?;

@@ -8,4 +8,4 @@ pub returns-then-index-args : goal.returns-then-index-args
 returns-then-index-args c =
     sym (append-nil c.loop-index.all)
     ∙ ap (λ pairs. c.loop-index.all ++ flat_map (give_given c.args.scope.now) pairs) (sym (zip_past c.args.takes.now c.args.args.now c.loop-index.index c.if-index-args.true))
-    ∙ c.loop-index.invariant
+    ∙ c.loop-index.invariant.made

@@ -1,6 +1,7 @@
-use Rattle.std.proofs.Common.{◌≡◌, ◌+◌, ◌++◌, ◌∷◌, [], Some, length, drop, get_or, slice_get, arith, rules, sym, ap, ◌∙◌, append_assoc}
+use Rattle.std.proofs.Common.{◌≡◌, ◌+◌, ◌++◌, ◌∷◌, [], Some, length, drop, get_or, slice_get, arith, rules, subst, sym, ap, ◌∙◌, append_assoc}
 use Rattle.job_body.specs.Blocks.{exit_at}
-use Rattle.job_body.specs.Compiled.{entered, instruction_of, instructions_from, seen_at, tasks_of}
+use Rattle.job_body.specs.Compiled.{TakeFew, entered, instruction_of, instructions_from, seen_at, tasks_of}
+use Rattle.job_body.proofs.FewTakes.{few_takes}
 use Rattle.job_body.proofs.Known.{seen-next}
 use Rattle.job_body.proofs.Suffixes.{drop_item, exit_is, item_at, length_exits}
 use Rattle.job_body.proofs.compile.program_of.Goals as goal
@@ -35,3 +36,6 @@ loop-index-preserved c =
           ∙ ap (λ rest. c.loop-index.program ++ instructions_from c.args.lines.now c.loop-index.index rest) (sym (drop_item c.args.lines.now c.loop-index.index c.index-lines-index.result line))
           ∙ c.loop-index.invariant.made;
     }
+
+pub instruction_of-requires-clause-few : goal.instruction_of-requires-clause-few
+instruction_of-requires-clause-few c = subst TakeFew (sym c.in_ok-tasks.ensures) (few_takes c.args.lines.now c.requires.few)
