@@ -8,7 +8,7 @@ use Rattle.std.specs.declared.cmp.Ordering.TheVariants.{Less, Equal, Greater}
 use Rattle.swan_model.specs.declared.value.Value.{Value}
 use Rattle.line_blocks.specs.LineBlocks.{bytes_of}
 use Rattle.index_pipeline.specs.Pairs.{Pair, pair_of, pair_order, pair_text}
-use Rattle.index_pipeline.specs.Texts.{record_of}
+use Rattle.index_pipeline.specs.Records.{record_of}
 
 -- one more item
 abbrev pub kept_with : List Pair → Value → List Pair

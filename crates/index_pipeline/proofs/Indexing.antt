@@ -16,11 +16,11 @@ use Rattle.swan_model.specs.Elision.{outcome}
 use Rattle.swan_model.specs.Lines.{lines}
 use Rattle.swan_model.specs.SerialState.{Holding}
 use Rattle.swan_model.specs.Texts.{item_text, line, out_bytes}
-use Rattle.line_blocks.specs.declared.held_lines.Held.TheVariants as held
 use Rattle.line_blocks.specs.declared.queue_reader.QueueReader.TheVariants as reader
-use Rattle.line_blocks.specs.Holding.{held_with}
-use Rattle.line_blocks.specs.LineBlocks.{Lines, byte_count, later, with_line, after_lines}
+use Rattle.line_blocks.specs.LineBlocks.{Lines, byte_count, later}
 use Rattle.line_blocks.specs.TextRoots.{text_names}
+use Rattle.line_blocks.proofs.Counting.{count-append}
+use Rattle.line_blocks.proofs.Reading.{hands_block, holds_line, lines_after, number_after}
 use Rattle.whole_runs.specs.Whole.{Contents, RunsWhole}
 use Rattle.whole_runs.proofs.BlockReaders.{Reader, IsGiven, last, reads_alone, begun, reading}
 use Rattle.whole_runs.proofs.Blocks.{Held, BlockTask, runs_blocks, blocks, all_do, all_book, all_cost, seen_of_blocks, cost_of_blocks}
@@ -35,11 +35,11 @@ use Rattle.index_pipeline.specs.Index.{pairs_from, set_of}
 use Rattle.index_pipeline.specs.Indexed.{IsIndexed}
 use Rattle.index_pipeline.specs.Pairs.{Pair, pair_text}
 use Rattle.index_pipeline.specs.Plans.{index_plan}
-use Rattle.index_pipeline.specs.Steps.{block_task, collector, handed}
-use Rattle.index_pipeline.specs.Texts.{block_records, record_of, records_from}
+use Rattle.index_pipeline.specs.Steps.{block_task, collector, reads}
+use Rattle.index_pipeline.specs.Records.{block_records, record_of, records_from}
 use Rattle.index_pipeline.proofs.Collecting.{few_kept, kept_records, kept_with}
 use Rattle.index_pipeline.proofs.Recording.{few_records, pairs_are_told, records-append, records_are}
-use Rattle.index_pipeline.proofs.TextLines.{few_bytes, few_lines}
+use Rattle.line_blocks.proofs.TextLines.{few_bytes, few_lines}
 
 -- the input and the words
 abbrev shape : List Value → List Value → Contents
@@ -80,37 +80,21 @@ module _ (body : IndexBody) where
 
   -- the root, as a task that reads in blocks
   abbrev kept : Held → Lines
-  kept k = record { number = later 1 (length k.before); lines = k.held }
-
-  line_is : (before items : List Value) → later (later 1 (length before)) (length items) ≡ later 1 (length (before ++ items))
-  line_is before items = omega (arith, length-append before items)
-
-  handed_full : (k : Held) (x : Value) → nat_eq (length k.held + 1) 64 ≡ true
-      → handed (held_with (kept k) x) ≡ (local.Reads (reader.Looks (kept (record { before = k.before ++ (k.held ++ x ∷ []); held = [] }))), ask.Spawn (block_task (record { number = later 1 (length k.before); lines = k.held ++ x ∷ [] })))
-  handed_full k x is =
-      let now = with_line (kept k) x in
-      ap (λ full. handed (cond full (held.Block now (after_lines now)) (held.Fewer now))) is
-      ∙ ap {B = IndexLocal × Ask IndexLocal} (λ n. (local.Reads (reader.Looks (record { number = n; lines = [] })), ask.Spawn (block_task now))) (line_is k.before (k.held ++ x ∷ []))
-
-  handed_more : (k : Held) (x : Value) → nat_eq (length k.held + 1) 64 ≡ false
-      → handed (held_with (kept k) x) ≡ (local.Reads (reader.Tested (kept (record { before = k.before; held = k.held ++ x ∷ [] }))), ask.Empty 0)
-  handed_more k x is =
-      let now = with_line (kept k) x in
-      ap (λ full. handed (cond full (held.Block now (after_lines now)) (held.Fewer now))) is
+  kept k = lines_after k.before k.held
 
   abbrev task : BlockTask ghosts body (List Value)
   task = record {
     test = λ k. local.Reads (reader.Tested (kept k));
     take = λ k. local.Reads (reader.Popped (kept k));
     look = λ k. local.Reads (reader.Looks (kept k));
-    rest = λ all. local.Gathers;
+    rest = λ all. local.SpawnsCollector;
     finale = λ all. (local.Ends, ask.Spawn (collector body));
     path = [];
     holdings = holds;
     place = 0;
     number = 0;
     size = 64;
-    block = λ before items. block_task (record { number = later 1 (length before); lines = items });
+    block = λ before items. block_task (lines_after before items);
     shape = shape;
     does = adds;
     books = λ path child. [];
@@ -119,13 +103,13 @@ module _ (body : IndexBody) where
     stands = λ xs w. refl;
     without = λ x xs w. refl;
     takes = λ k fuel. refl;
-    holds = λ k x fuel is. handed_more k x is;
-    hands = λ k x fuel is. handed_full k x is;
+    holds = λ k x fuel is. ap (reads body) (holds_line k.before k.held x is);
+    hands = λ k x fuel is. ap (reads body) (hands_block k.before k.held x is);
     looks = λ k fuel. refl;
     ends = λ before fuel. refl;
     hands_rest = λ before x xs fuel. refl;
     rests = λ all fuel. refl;
-    each = λ before items. block_given (record { number = later 1 (length before); lines = items });
+    each = λ before items. block_given (lines_after before items);
   }
 
   abbrev first : Held
@@ -136,12 +120,8 @@ module _ (body : IndexBody) where
   words_are xs =
       seen_of_blocks task {X = List Value} (λ ws. ws) (λ ws before more. ws ++ records_from (later 1 (length before)) more) (λ before items ws. refl) (λ ws before. append-nil ws)
       (λ ws before more rest. append_assoc ws (records_from (later 1 (length before)) more) (records_from (later 1 (length (before ++ more))) rest)
-      ∙ ap (λ v. ws ++ v) (ap (λ n. records_from (later 1 (length before)) more ++ records_from n rest) (sym (line_is before more)) ∙ sym (records-append (later 1 (length before)) more rest (omega arith))))
+      ∙ ap (λ v. ws ++ v) (ap (λ n. records_from (later 1 (length before)) more ++ records_from n rest) (sym (number_after before more)) ∙ sym (records-append (later 1 (length before)) more rest (omega arith))))
       xs first []
-
-  count-append : (xs ys : List Value) → byte_count (xs ++ ys) ≡ byte_count xs + byte_count ys
-  count-append [] ys = omega arith
-  count-append (x ∷ xs) ys = omega (arith, count-append xs ys)
 
   costs_are : (xs : List Value) → all_cost task (blocks task first xs) ≤ 2 * byte_count xs + 3 * length xs
   costs_are xs =
@@ -235,6 +215,6 @@ is_indexed text few =
     let same : outcome ghosts (index_plan text) ≡ record { objects = []; queues = [] ∷ map Bytes records ∷ []; faults = [] } =
     outcome_of_index text few ∙ ap {B = Outcome} (λ items. record { objects = []; queues = [] ∷ items ∷ []; faults = [] }) (sym (map-map Bytes pair_text pairs)) in
     record {
-      left = same;
+      outcome_is = same;
       output = ap (out_bytes text_names) same ∙ append-nil (flat_map (λ item. line (item_text item)) (map Bytes records)) ∙ flat_map-map (λ item. line (item_text item)) Bytes records;
     }

@@ -1,9 +1,10 @@
 mod Collecting
 mod Indexing
 mod KeptOrder
+mod Lowering
 mod Recording
+mod Rising
 mod Runs
 mod Taking
 mod Telling
-mod TextLines
 mod Wording

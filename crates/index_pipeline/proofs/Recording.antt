@@ -8,7 +8,7 @@ use Rattle.swan_model.specs.declared.value.Value.TheVariants.{Bytes}
 use Rattle.line_blocks.specs.LineBlocks.{byte_count, bytes_of, later}
 use Rattle.index_pipeline.specs.Index.{pairs_from}
 use Rattle.index_pipeline.specs.Pairs.{Pair}
-use Rattle.index_pipeline.specs.Texts.{line_records, record_of, records_from}
+use Rattle.index_pipeline.specs.Records.{line_records, record_of, records_from}
 use Rattle.index_pipeline.specs.Words.{words}
 use Rattle.index_pipeline.proofs.Collecting.{IsTold}
 use Rattle.index_pipeline.proofs.Telling.{pair_of-text}

@@ -16,9 +16,13 @@ pairs_from number (line ∷ lines) = map (λ word. record { word = word; line = 
 abbrev pub set_of : List Pair → List Pair
 set_of pairs = fold (insert_key pair_order) [] pairs
 
--- the records of the index of these lines, which are numbered from 1 on
+-- the pairs of these lines, which are numbered from 1 on
+abbrev pub index_pairs : List (List ℕ) → List Pair
+index_pairs lines = set_of (pairs_from 1 lines)
+
+-- the records of the index of these lines
 abbrev pub index_records : List (List ℕ) → List (List ℕ)
-index_records lines = map pair_text (set_of (pairs_from 1 lines))
+index_records lines = map pair_text (index_pairs lines)
 
 -- the index of a text, a record on each of its lines
 abbrev pub index_of : List ℕ → List ℕ

@@ -10,5 +10,5 @@ use Rattle.index_pipeline.specs.Index.{index_of, index_records}
 -- No line is left in the input, the output has the index's records in order, and nothing went wrong. So the
 -- output is the index of the text.
 pub record IsIndexed (text : List ℕ) (outcome : Outcome) : Type 0 where
-  pub left : outcome ≡ record { objects = []; queues = [] ∷ map Bytes (index_records (lines text)) ∷ []; faults = [] }
+  pub outcome_is : outcome ≡ record { objects = []; queues = [] ∷ map Bytes (index_records (lines text)) ∷ []; faults = [] }
   pub output : out_bytes text_names outcome ≡ index_of text

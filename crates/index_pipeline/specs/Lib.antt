@@ -2,7 +2,8 @@
 pub mod Words
 pub mod Pairs
 pub mod Index
-pub mod Texts
+pub mod Members
+pub mod Records
 pub mod KeptPairs
 pub mod Steps
 pub mod Plans

@@ -7,19 +7,19 @@ use Rattle.swan_model.specs.declared.body.Ask.TheVariants as ask
 use Rattle.swan_model.specs.declared.body.Child.{Child}
 use Rattle.swan_model.specs.declared.rights.Mode.TheVariants.{Push, Pop}
 use Rattle.swan_model.specs.declared.value.Value.{Value}
-use Rattle.line_blocks.specs.declared.held_lines.Held.{Held}
-use Rattle.line_blocks.specs.declared.held_lines.Held.TheVariants as held
+use Rattle.line_blocks.specs.declared.line_reader.LineStep.{LineStep}
+use Rattle.line_blocks.specs.declared.line_reader.LineStep.TheVariants as lines
 use Rattle.line_blocks.specs.declared.queue_reader.QueueReader.TheVariants as reader
 use Rattle.line_blocks.specs.declared.queue_reader.ReaderStep.{ReaderStep}
 use Rattle.line_blocks.specs.declared.queue_reader.ReaderStep.TheVariants as step
-use Rattle.line_blocks.specs.Holding.{held_with}
 use Rattle.line_blocks.specs.LineBlocks.{Lines, byte_count, bytes_of, no_lines}
+use Rattle.line_blocks.specs.LineReading.{line_step}
 use Rattle.line_blocks.specs.Readers.{step_of}
 use Rattle.index_pipeline.specs.declared.body.IndexBody.{IndexBody}
 use Rattle.index_pipeline.specs.declared.local.IndexLocal.{IndexLocal}
 use Rattle.index_pipeline.specs.declared.local.IndexLocal.TheVariants as local
 use Rattle.index_pipeline.specs.Pairs.{Pair, pair_of, pair_order}
-use Rattle.index_pipeline.specs.Texts.{block_records, record_of}
+use Rattle.index_pipeline.specs.Records.{block_records, record_of}
 
 -- the root's places: the input, the output, and the queue of words that it makes
 abbrev pub INPUT : ℕ
@@ -47,21 +47,13 @@ collector body = record {
   fuel = body.collector_fuel;
 }
 
--- a block is given to a task
-abbrev pub handed : Held → IndexLocal × Ask IndexLocal
-handed (held.Fewer lines) = (local.Reads (reader.Tested lines), ask.Empty INPUT)
-handed (held.Block block lines) = (local.Reads (reader.Looks lines), ask.Spawn (block_task block))
-
--- once the input is empty, lines that are held are a last block
-abbrev pub handed_last : IndexBody → ℕ → List Value → IndexLocal × Ask IndexLocal
-handed_last body number [] = (local.Ends, ask.Spawn (collector body))
-handed_last body number (line ∷ lines) = (local.Gathers, ask.Spawn (block_task (record { number = number; lines = line ∷ lines })))
-
-abbrev pub reads : IndexBody → ReaderStep Lines → IndexLocal × Ask IndexLocal
-reads body (step.Tests lines) = (local.Reads (reader.Tested lines), ask.Empty INPUT)
-reads body (step.Pops lines) = (local.Reads (reader.Popped lines), ask.Pop INPUT)
-reads body (step.Takes lines line) = handed (held_with lines line)
-reads body (step.Ends lines) = handed_last body lines.number lines.lines
+-- the root's step as it reads: each block is given to a task, and then the collector begins
+abbrev pub reads : IndexBody → LineStep → IndexLocal × Ask IndexLocal
+reads body (lines.Tests at) = (local.Reads at, ask.Empty INPUT)
+reads body (lines.Pops at) = (local.Reads at, ask.Pop INPUT)
+reads body (lines.Hands block at) = (local.Reads at, ask.Spawn (block_task block))
+reads body (lines.HandsLast block) = (local.SpawnsCollector, ask.Spawn (block_task block))
+reads body lines.Ends = (local.Ends, ask.Spawn (collector body))
 
 -- what is left is pushed, record by record
 abbrev pub words_left : List Value → IndexLocal × Ask IndexLocal
@@ -80,8 +72,8 @@ collects (step.Ends pairs) = pairs_left (map record_of pairs)
 
 abbrev pub next : IndexBody → IndexLocal → Answer → ℕ → IndexLocal × Ask IndexLocal
 next body local.Begins told fuel = (local.Reads (reader.Looks no_lines), ask.NewQueue)
-next body (local.Reads at) told fuel = reads body (step_of at told)
-next body local.Gathers told fuel = (local.Ends, ask.Spawn (collector body))
+next body (local.Reads at) told fuel = reads body (line_step (step_of at told))
+next body local.SpawnsCollector told fuel = (local.Ends, ask.Spawn (collector body))
 next body (local.Words items) told fuel = words_left items
 next body (local.Collects at) told fuel = collects (step_of at told)
 next body (local.Prints items) told fuel = pairs_left items

@@ -1,12 +1,14 @@
 // The body of the index.
 ghost use Rattle.std.specs.Prelude.{◌≡◌, ◌+◌, ◌*◌, ◌≤◌, ◌^◌, IfOk};
-ghost use Rattle.index_pipeline.specs.Steps.{block_task, collector, collects, handed, handed_last, pairs_left, reads, words_left};
+ghost use Rattle.index_pipeline.specs.Steps.{block_task, collector, collects, pairs_left, reads, words_left};
 
 use crate::IndexLocal;
 use crate::pairs::Pairs;
 use crate::pairs_left::PairsLeft;
 use crate::words_left::WordsLeft;
-use line_blocks::{Held, HeldLines, LineBlock, QueueReader, ReaderStep, bytes_of, gives_of};
+use line_blocks::{
+    HeldLines, LineBlock, LineStep, QueueReader, ReaderStep, bytes_of, gives_of, read_lines,
+};
 use std::alloc::Global;
 use swan_model::{Answer, Ask, Body, Child, Give, Mode, NoMemory};
 
@@ -42,22 +44,6 @@ fn block_task(alloc: Global, block: LineBlock) -> Result<Child<IndexLocal>, NoMe
         gives: gives_of(alloc, &[words])?,
         fuel,
     })
-}
-
-/// What the root does with held lines: it gives a block to a task, or reads on.
-fn handed(alloc: Global, held: Held) -> Result<Step, NoMemory>
-    ensures { IfOk result (λ step. step ≡ handed held) }
-{
-    match held {
-        Held::Fewer(lines) => Ok((
-            IndexLocal::Reads(QueueReader::Tested(lines)),
-            Ask::Empty(INPUT),
-        )),
-        Held::Block(block, lines) => Ok((
-            IndexLocal::Reads(QueueReader::Looks(lines)),
-            Ask::Spawn(block_task(alloc, block)?),
-        )),
-    }
 }
 
 /// The collector's step: it keeps the pairs, and pushes them once it has them all.
@@ -131,32 +117,28 @@ impl IndexBody {
         })
     }
 
-    /// What the root does once the input is empty: lines that are held are a last block.
-    fn handed_last(&self, alloc: Global, block: LineBlock) -> Result<Step, NoMemory>
-        ensures { IfOk result (λ step. step ≡ handed_last self.now block.number block.lines) }
-    {
-        if block.is_empty() {
-            return Ok((IndexLocal::Ends, Ask::Spawn(self.collector(alloc)?)));
-        }
-        Ok((IndexLocal::Gathers, Ask::Spawn(block_task(alloc, block)?)))
-    }
-
-    /// The root's step as it reads.
-    fn reads(&self, alloc: Global, step: ReaderStep<HeldLines>) -> Result<Step, NoMemory>
+    /// The root's step as it reads: each block is given to a task, and then the collector begins.
+    fn reads(&self, alloc: Global, step: LineStep) -> Result<Step, NoMemory>
         ensures { IfOk result (λ next. next ≡ reads self.now step) }
     {
-        match step {
-            ReaderStep::Tests(lines) => Ok((
-                IndexLocal::Reads(QueueReader::Tested(lines)),
-                Ask::Empty(INPUT),
-            )),
-            ReaderStep::Pops(lines) => Ok((
-                IndexLocal::Reads(QueueReader::Popped(lines)),
-                Ask::Pop(INPUT),
-            )),
-            ReaderStep::Takes(lines, line) => handed(alloc, lines.hold(alloc, line)?),
-            ReaderStep::Ends(lines) => self.handed_last(alloc, lines.into_block()),
-        }
+        let next = match step {
+            LineStep::Tests(reader) => (IndexLocal::Reads(reader), Ask::Empty(INPUT)),
+            LineStep::Pops(reader) => (IndexLocal::Reads(reader), Ask::Pop(INPUT)),
+            LineStep::Hands(block, reader) => {
+                (
+                    IndexLocal::Reads(reader),
+                    Ask::Spawn(block_task(alloc, block)?),
+                )
+            }
+            LineStep::HandsLast(block) => {
+                (
+                    IndexLocal::SpawnsCollector,
+                    Ask::Spawn(block_task(alloc, block)?),
+                )
+            }
+            LineStep::Ends => (IndexLocal::Ends, Ask::Spawn(self.collector(alloc)?)),
+        };
+        Ok(next)
     }
 }
 
@@ -181,8 +163,11 @@ impl Body for IndexBody {
                 IndexLocal::Reads(QueueReader::Looks(HeldLines::new(alloc))),
                 Ask::NewQueue,
             )),
-            IndexLocal::Reads(reader) => self.reads(alloc, reader.step(answer)),
-            IndexLocal::Gathers => Ok((IndexLocal::Ends, Ask::Spawn(self.collector(alloc)?))),
+            IndexLocal::Reads(reader) => self.reads(alloc, read_lines(alloc, reader, answer)?),
+            IndexLocal::SpawnsCollector => Ok((
+                IndexLocal::Ends,
+                Ask::Spawn(self.collector(alloc)?),
+            )),
             IndexLocal::Words(words) => words_left(alloc, words),
             IndexLocal::Collects(reader) => collects(alloc, reader.step(answer)),
             IndexLocal::Prints(pairs) => pairs_left(alloc, pairs),

@@ -1,9 +1,15 @@
-// The law of the index.
-ghost use Rattle.std.specs.Prelude.{ℕ, ◌≤◌, List, length};
+// The laws of the index.
+ghost use Rattle.std.specs.Prelude.{◌≡◌, ℕ, ◌≤◌, ◌↔◌, List, length};
+ghost use Rattle.std.specs.List.{Contains};
+ghost use Rattle.std.specs.List.Sorted.{IsStrictlySortedBy};
 ghost use Rattle.swan_model.specs.Elision.{outcome};
 ghost use Rattle.line_blocks.specs.declared.text_roots.TheConstants.{TEXT_MOST};
+ghost use Rattle.index_pipeline.specs.Index.{index_pairs};
 ghost use Rattle.index_pipeline.specs.Indexed.{IsIndexed};
+ghost use Rattle.index_pipeline.specs.Members.{StandsOn};
+ghost use Rattle.index_pipeline.specs.Pairs.{Pair, pair_order};
 ghost use Rattle.index_pipeline.specs.Plans.{index_plan};
+ghost use Rattle.index_pipeline.specs.declared.word.TheConstants.{WORD_MOST};
 
 use crate::IndexBody;
 use swan_model::Body;
@@ -14,4 +20,18 @@ use swan_model::Body;
 #[tactic(auto, using(crate::proofs::Indexing::is_indexed))]
 pub fn the_outcome_is_the_index()
     ensures { (text : List ℕ) → length text ≤ TEXT_MOST → IsIndexed text (outcome ⟦<IndexBody as Body>⟧ (index_plan text)) }
+{}
+
+/// The law that the index is a sorted set: its pairs rise strictly, by the words' bytes and then by the numbers,
+/// and they are exactly those of a word and the number of a line on which it stands.
+#[tactic(auto, using(crate::proofs::Rising::rises))]
+pub fn the_index_is_a_sorted_set()
+    ensures rises { (lines : List (List ℕ)) → IsStrictlySortedBy pair_order (index_pairs lines) }
+    ensures members { (lines : List (List ℕ)) (pair : Pair) → Contains (index_pairs lines) pair ↔ StandsOn lines pair }
+{}
+
+/// The law that says which number the limit of words is. The definition of words names the limit, so without it
+/// another number would change what they are.
+pub fn limit_of_words()
+    ensures { WORD_MOST ≡ 64 }
 {}

@@ -1,8 +1,8 @@
 //! The index of a text, as a pipeline: where each word stands.
 //!
-//! A word is a longest run of letters and digits, lowered and cut at 64 bytes. The index has a line `WORD LINE`
-//! for each word and each line on which it stands, each pair once, in the order of the words' bytes and then of
-//! the numbers.
+//! A word is a longest run of the ASCII letters and digits, with A to Z lowered, cut at 64 bytes. The index has a
+//! line `WORD LINE` for each word and each line on which it stands, each pair once, in the order of the words'
+//! bytes and then of the numbers (`the_index_is_a_sorted_set`).
 //!
 //! The root reads the lines and gives them to block tasks by 64. A block task pushes the words of its lines, with
 //! their numbers, to a queue that the root has made. The collector pops them, keeps the set of pairs, and pushes
@@ -29,7 +29,7 @@ mod word;
 mod words_left;
 
 pub use body::IndexBody;
-pub use laws::the_outcome_is_the_index;
+pub use laws::{limit_of_words, the_index_is_a_sorted_set, the_outcome_is_the_index};
 pub use local::IndexLocal;
 pub use plan::{index_names, index_plan};
 pub use word::WORD_MOST;

@@ -3,6 +3,7 @@ ghost use Rattle.std.specs.Prelude.{◌≡◌, ◌≤◌, ◌+◌, length, drop,
 ghost use Rattle.index_pipeline.specs.KeptPairs.{seen};
 ghost use Rattle.index_pipeline.specs.Pairs.{number_of, pair_of, pair_text, word_len};
 
+use itoa::Buffer;
 use std::alloc::Global;
 use swan_model::{NoMemory, Record};
 
@@ -66,7 +67,8 @@ impl Pair {
     {
         let Pair { word, line } = self;
         let mut text = word;
-        text.extend_from_slice(format!(in alloc; " {line}")?.as_bytes())?;
+        text.push(b' ')?;
+        text.extend_from_slice(Buffer::new().format(line).as_bytes())?;
         match Record::of(alloc, &text) {
             Ok(record) => Ok(record),
             Err(_) => Err(NoMemory),

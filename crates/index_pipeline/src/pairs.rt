@@ -2,7 +2,7 @@
 ghost use Rattle.std.specs.Prelude.{◌≡◌, [], map, OnOk};
 ghost use Rattle.std.specs.BTreeSet.{insert_key};
 ghost use Rattle.index_pipeline.specs.Pairs.{pair_of, pair_order};
-ghost use Rattle.index_pipeline.specs.Texts.{record_of};
+ghost use Rattle.index_pipeline.specs.Records.{record_of};
 
 use crate::pair::Pair;
 use crate::pairs_left::PairsLeft;

@@ -1,7 +1,7 @@
 // The pairs that are left to push.
 ghost use Rattle.std.specs.Prelude.{◌≡◌, ◌∷◌, [], map, IfOk, MatchOption};
 ghost use Rattle.index_pipeline.specs.KeptPairs.{seen};
-ghost use Rattle.index_pipeline.specs.Texts.{record_of};
+ghost use Rattle.index_pipeline.specs.Records.{record_of};
 
 use crate::pair::Pair;
 use std::alloc::Global;
@@ -20,7 +20,7 @@ impl Model for PairsLeft {
     ghost use Rattle.std.specs.Prelude.{List, map};
     ghost use Rattle.swan_model.specs.declared.value.Value.{Value as Item};
     ghost use Rattle.index_pipeline.specs.KeptPairs.{seen};
-    ghost use Rattle.index_pipeline.specs.Texts.{record_of};
+    ghost use Rattle.index_pipeline.specs.Records.{record_of};
 
     ghost Value = { List Item };
 

@@ -9,6 +9,9 @@ use std::alloc::{AllocError, Global};
 /// The largest number of bytes of a word in the index.
 pub const WORD_MOST: usize = 64;
 
+// Room for a space and the digits of a number of 64 bits.
+const NUMBER_ROOM: usize = 21;
+
 /// How many bytes stand before the first one of a word.
 fn gap_len(bytes: &[u8]) -> usize
     ensures most { result ≤ length bytes.now }
@@ -41,7 +44,7 @@ pub struct Run {
 }
 
 /// What stands in a line from a byte on.
-fn after(line: &[u8], from: usize) -> &[u8]
+pub fn after(line: &[u8], from: usize) -> &[u8]
     requires { from ≤ length line.now }
     ensures { result.now ≡ drop from line.now }
 {
@@ -67,12 +70,14 @@ pub fn first_run(line: &[u8]) -> Option<Run>
     })
 }
 
-/// The word of a run. `O(1)`: a run's first `WORD_MOST` bytes are taken.
+/// The word of a run, with room for a space and a number after it. `O(1)`: a run's first `WORD_MOST` bytes are
+/// taken, in one copy.
 pub fn word_of(alloc: Global, run: &[u8]) -> Result<Vec<u8>, AllocError>
     ensures { IfOk result (λ word. word.items ≡ word_of run.now) }
 {
-    run.iter()
-        .take(WORD_MOST)
-        .map(|byte| byte.to_ascii_lowercase())
-        .collect(alloc)
+    let len = WORD_MOST.min(run.len());
+    let mut word = Vec::with_capacity(alloc, len + NUMBER_ROOM)?;
+    word.extend_from_slice(&run[..len])?;
+    word.make_ascii_lowercase();
+    Ok(word)
 }

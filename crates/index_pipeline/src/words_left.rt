@@ -1,6 +1,6 @@
 // The words of a block that are left.
 ghost use Rattle.std.specs.Prelude.{◌≡◌, ◌∷◌, ◌++◌, [], IfOk, MatchOption};
-ghost use Rattle.index_pipeline.specs.Texts.{block_records};
+ghost use Rattle.index_pipeline.specs.Records.{block_records};
 
 use crate::line_left::LineLeft;
 use line_blocks::LineBlock;
@@ -21,7 +21,7 @@ pub struct WordsLeft {
 impl Model for WordsLeft {
     ghost use Rattle.std.specs.Prelude.{List, ◌++◌};
     ghost use Rattle.swan_model.specs.declared.value.Value.{Value as Item};
-    ghost use Rattle.index_pipeline.specs.Texts.{block_records};
+    ghost use Rattle.index_pipeline.specs.Records.{block_records};
 
     ghost Value = { List Item };
 

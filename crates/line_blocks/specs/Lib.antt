@@ -3,4 +3,5 @@ pub mod LineBlocks
 pub mod Holding
 pub mod Pieces
 pub mod Readers
+pub mod LineReading
 pub mod TextRoots

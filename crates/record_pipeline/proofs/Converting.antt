@@ -18,11 +18,10 @@ use Rattle.swan_model.specs.Elision.{outcome}
 use Rattle.swan_model.specs.Lines.{lines}
 use Rattle.swan_model.specs.SerialState.{Holding}
 use Rattle.swan_model.specs.Texts.{item_text, line, out_bytes}
-use Rattle.line_blocks.specs.declared.held_lines.Held.TheVariants as held
 use Rattle.line_blocks.specs.declared.queue_reader.QueueReader.TheVariants as reader
-use Rattle.line_blocks.specs.Holding.{held_with}
-use Rattle.line_blocks.specs.LineBlocks.{Lines, after_lines, bytes_of, later, with_line}
+use Rattle.line_blocks.specs.LineBlocks.{Lines, bytes_of, later}
 use Rattle.line_blocks.specs.TextRoots.{text_names}
+use Rattle.line_blocks.proofs.Reading.{hands_block, holds_line, lines_after}
 use Rattle.whole_runs.specs.Whole.{Contents, RunsWhole}
 use Rattle.whole_runs.proofs.BlockReaders.{IsGiven}
 use Rattle.whole_runs.proofs.Blocks.{Held, BlockTask, all_book, all_cost, all_do, blocks, cost_of_blocks, faults_of_blocks, runs_blocks, seen_of_blocks}
@@ -35,9 +34,9 @@ use Rattle.record_pipeline.specs.declared.local.RecordLocal.TheVariants as local
 use Rattle.record_pipeline.specs.Conversion.{faults_from, records_of, width_of}
 use Rattle.record_pipeline.specs.Converted.{IsConverted}
 use Rattle.record_pipeline.specs.Plans.{record_plan}
-use Rattle.record_pipeline.specs.Steps.{block_task, converted, handed}
+use Rattle.record_pipeline.specs.Steps.{block_task, converted, reads}
 use Rattle.record_pipeline.proofs.Recording.{block_faults, booked_of, faults_are, line_faults, line_faults-append, one_block, pushed, pushed-append, pushed_of, records_are, trouble}
-use Rattle.record_pipeline.proofs.TextLines.{few_lines}
+use Rattle.line_blocks.proofs.TextLines.{few_lines}
 
 -- the input and the output
 abbrev shape : List Value → List Value → Contents
@@ -94,26 +93,7 @@ module _ (body : RecordBody) where
 
   -- the root, as a task that reads in blocks
   abbrev kept : Held → Lines
-  kept k = record { number = later 1 (length k.before); lines = k.held }
-
-  abbrev block_at : List Value → List Value → Lines
-  block_at before items = record { number = later 1 (length before); lines = items }
-
-  line_is : (before items : List Value) → later (later 1 (length before)) (length items) ≡ later 1 (length (before ++ items))
-  line_is before items = omega (arith, length-append before items)
-
-  handed_full : (k : Held) (x : Value) → nat_eq (length k.held + 1) 64 ≡ true
-      → handed (held_with (kept k) x) ≡ (local.Reads (reader.Looks (kept (record { before = k.before ++ (k.held ++ x ∷ []); held = [] }))), ask.Spawn (block_task (block_at k.before (k.held ++ x ∷ []))))
-  handed_full k x is =
-      let now = with_line (kept k) x in
-      ap (λ full. handed (cond full (held.Block now (after_lines now)) (held.Fewer now))) is
-      ∙ ap {B = RecordLocal × Ask RecordLocal} (λ n. (local.Reads (reader.Looks (record { number = n; lines = [] })), ask.Spawn (block_task now))) (line_is k.before (k.held ++ x ∷ []))
-
-  handed_more : (k : Held) (x : Value) → nat_eq (length k.held + 1) 64 ≡ false
-      → handed (held_with (kept k) x) ≡ (local.Reads (reader.Tested (kept (record { before = k.before; held = k.held ++ x ∷ [] }))), ask.Empty 0)
-  handed_more k x is =
-      let now = with_line (kept k) x in
-      ap (λ full. handed (cond full (held.Block now (after_lines now)) (held.Fewer now))) is
+  kept k = lines_after k.before k.held
 
   abbrev task : BlockTask ghosts body (List Value)
   task = record {
@@ -127,7 +107,7 @@ module _ (body : RecordBody) where
     place = 0;
     number = 0;
     size = 64;
-    block = λ before items. block_task (block_at before items);
+    block = λ before items. block_task (lines_after before items);
     shape = shape;
     does = adds;
     books = books;
@@ -136,13 +116,13 @@ module _ (body : RecordBody) where
     stands = λ xs out. refl;
     without = λ x xs out. refl;
     takes = λ k fuel. refl;
-    holds = λ k x fuel is. handed_more k x is;
-    hands = λ k x fuel is. handed_full k x is;
+    holds = λ k x fuel is. ap reads (holds_line k.before k.held x is);
+    hands = λ k x fuel is. ap reads (hands_block k.before k.held x is);
     looks = λ k fuel. refl;
     ends = λ before fuel. refl;
     hands_rest = λ before x xs fuel. refl;
     rests = λ all fuel. refl;
-    each = λ before items. block_given (block_at before items);
+    each = λ before items. block_given (lines_after before items);
   }
 
   -- ---- from blocks to the text
@@ -191,6 +171,6 @@ is_converted text few =
     ∙ ap {B = Outcome} (λ out. record { objects = []; queues = [] ∷ out ∷ []; faults = line_faults width 0 xs }) (records_are width ls)
     ∙ ap {B = Outcome} (λ fs. record { objects = []; queues = [] ∷ map Bytes records ∷ []; faults = fs }) (faults_are width 0 ls (omega (arith, few, few_lines text))) in
     record {
-      left = same;
+      outcome_is = same;
       output = ap (out_bytes text_names) same ∙ append-nil (flat_map (λ item. line (item_text item)) (map Bytes records)) ∙ flat_map-map (λ item. line (item_text item)) Bytes records;
     }

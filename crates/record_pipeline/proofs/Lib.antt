@@ -1,5 +1,4 @@
 mod Converting
 pub mod FieldByField
 mod Recording
-mod TextLines
 pub mod Widths

@@ -2,16 +2,22 @@
 ghost use Rattle.std.specs.Prelude.{◌≡◌, ◌≤◌, [], ◌∷◌, length, IfOk};
 ghost use Rattle.swan_model.specs.declared.rights.Mode.TheVariants.{Push};
 ghost use Rattle.record_pipeline.specs.Conversion.{trouble_of};
-ghost use Rattle.record_pipeline.specs.Steps.{block_task, converted, handed, handed_last, reads, spawns_lines};
+ghost use Rattle.record_pipeline.specs.Steps.{block_task, converted, reads, spawns_lines};
 
 use crate::RecordLocal;
 use crate::fields::{field_count, netstrings};
-use line_blocks::{Held, HeldLines, LineBlock, QueueReader, ReaderStep, bytes_of, gives_of};
+use line_blocks::{LineBlock, LineStep, bytes_of, gives_of, read_lines};
 use std::alloc::Global;
 use swan_model::{
     Answer, Ask, Body, Child, Give, Mode, NoMemory, RECORD_MOST, Record, RecordAnswer, Trouble,
     Value,
 };
+
+/// The root's place of the lines, which it pops.
+const INPUT: u32 = 0;
+
+/// The root's place of the conversion, to which it may push.
+const OUTPUT: u32 = 1;
 
 /// The program of the conversion of a text. Only `record_plan` makes one.
 #[derive(Drop)]
@@ -48,52 +54,26 @@ fn block_task(alloc: Global, block: LineBlock) -> Result<Child<RecordLocal>, NoM
     ensures { IfOk result (λ child. child ≡ block_task block) }
 {
     let fuel = 3 * block.len() as u64 + 1;
-    pusher(alloc, RecordLocal::Lines(block), 1, fuel)
+    pusher(alloc, RecordLocal::Lines(block), OUTPUT, fuel)
 }
 
-/// What the root does with held lines: it gives a block to a task, or reads on.
-fn handed(alloc: Global, held: Held) -> Result<Step, NoMemory>
-    ensures { IfOk result (λ step. step ≡ handed held) }
-{
-    match held {
-        Held::Fewer(lines) => Ok((
-            RecordLocal::Reads(QueueReader::Tested(lines)),
-            Ask::Empty(0),
-        )),
-        Held::Block(block, lines) => Ok((
-            RecordLocal::Reads(QueueReader::Looks(lines)),
-            Ask::Spawn(block_task(alloc, block)?),
-        )),
-    }
-}
-
-/// What the root does once the input is empty: lines that are held are a last block.
-fn handed_last(alloc: Global, block: LineBlock) -> Result<Step, NoMemory>
-    ensures { IfOk result (λ step. step ≡ handed_last block.number block.lines) }
-{
-    if block.is_empty() {
-        return Ok((RecordLocal::Ends, Ask::Finish));
-    }
-    Ok((RecordLocal::Ends, Ask::Spawn(block_task(alloc, block)?)))
-}
-
-/// The root's step as it reads.
-fn reads(alloc: Global, step: ReaderStep<HeldLines>) -> Result<Step, NoMemory>
+/// The root's step as it reads: each block is given to a task.
+fn reads(alloc: Global, step: LineStep) -> Result<Step, NoMemory>
     ensures { IfOk result (λ next. next ≡ reads step) }
 {
-    match step {
-        ReaderStep::Tests(lines) => {
-            Ok((
-                RecordLocal::Reads(QueueReader::Tested(lines)),
-                Ask::Empty(0),
-            ))
+    let next = match step {
+        LineStep::Tests(reader) => (RecordLocal::Reads(reader), Ask::Empty(INPUT)),
+        LineStep::Pops(reader) => (RecordLocal::Reads(reader), Ask::Pop(INPUT)),
+        LineStep::Hands(block, reader) => {
+            (
+                RecordLocal::Reads(reader),
+                Ask::Spawn(block_task(alloc, block)?),
+            )
         }
-        ReaderStep::Pops(lines) => {
-            Ok((RecordLocal::Reads(QueueReader::Popped(lines)), Ask::Pop(0)))
-        }
-        ReaderStep::Takes(lines, line) => handed(alloc, lines.hold(alloc, line)?),
-        ReaderStep::Ends(lines) => handed_last(alloc, lines.into_block()),
-    }
+        LineStep::HandsLast(block) => (RecordLocal::Ends, Ask::Spawn(block_task(alloc, block)?)),
+        LineStep::Ends => (RecordLocal::Ends, Ask::Finish),
+    };
+    Ok(next)
 }
 
 /// The spawn of the next line's task of a block, or the block task's end.
@@ -152,7 +132,7 @@ impl Body for RecordBody {
         _fuel: u64,
     ) -> Result<(RecordLocal, Ask<RecordLocal>), NoMemory> {
         match local {
-            RecordLocal::Reads(reader) => reads(alloc, reader.step(answer)),
+            RecordLocal::Reads(reader) => reads(alloc, read_lines(alloc, reader, answer)?),
             RecordLocal::Lines(block) => spawns_lines(alloc, block),
             RecordLocal::Line(number, line) => {
                 let asked = converted(alloc, self.width, bytes_of(&line))?;

@@ -3,6 +3,7 @@ ghost use Rattle.std.specs.Prelude.{◌≡◌, ◌≤◌, ◌++◌, ◌==◌, no
 ghost use Rattle.std.specs.List.{prefix_len};
 ghost use Rattle.record_pipeline.specs.Netstrings.{fields, netstring, netstrings};
 
+use itoa::Buffer;
 use std::alloc::Global;
 use swan_model::{NoMemory, RECORD_MOST};
 
@@ -24,11 +25,12 @@ fn field_len(line: &[u8]) -> usize
 }
 
 /// Adds the netstring of a field. `O(length)` amortised.
-fn push_netstring(alloc: Global, text: &mut Vec<u8>, field: &[u8]) -> Result<(), NoMemory>
+fn push_netstring(text: &mut Vec<u8>, field: &[u8]) -> Result<(), NoMemory>
     ensures { OnOk result (text.new.items ≡ text.old.items ++ netstring field.now) }
 {
     let len = field.len();
-    text.extend_from_slice(format!(in alloc; "{len}:")?.as_bytes())?;
+    text.extend_from_slice(Buffer::new().format(len).as_bytes())?;
+    text.push(b':')?;
     text.extend_from_slice(field)?;
     text.push(b',')?;
     Ok(())
@@ -50,10 +52,10 @@ pub fn netstrings(alloc: Global, line: &[u8]) -> Result<Vec<u8>, NoMemory>
     let mut rest = line;
     let mut len = field_len(rest);
     while len < rest.len() {
-        push_netstring(alloc, &mut text, &rest[..len])?;
+        push_netstring(&mut text, &rest[..len])?;
         rest = after(rest, len + 1);
         len = field_len(rest);
     }
-    push_netstring(alloc, &mut text, rest)?;
+    push_netstring(&mut text, rest)?;
     Ok(text)
 }

@@ -15,7 +15,7 @@ use Rattle.swan_outside.specs.Reads.{IsTooLong}
 use Rattle.swan_outside.specs.Told.{Tells}
 use Rattle.swan_outside.specs.declared.files.TheConstants.{FILE_MOST}
 use Rattle.swan_top.specs.Command.{Command, help, version, check, elide, run}
-use Rattle.swan_top.specs.Completeness.{IsTold, AreTold, NothingFailed, RunsInOrder, ChecksInOrder, InOrder, Completes, EndsWell}
+use Rattle.swan_top.specs.Completeness.{IsTold, AreTold, NothingFailed, RunsInOrder, ChecksInOrder, InOrder, Completes, CompletesWell, EndsWell}
 use Rattle.swan_top.specs.Decision.{Verdict, prints, refuses, Next, reads, settled, next, files_of, unread, unless_unread, accepted, checked, ran, printed, unless_refused, next_of_check, next_of_job, next_of_run}
 use Rattle.swan_top.specs.Headline.{FilesSeen, SinkSeen, Answers, AreRead, IsRead, Ends, FailedToWrite, Follows, ReadRefused, Settles, Wrote, ends_of, usage}
 use Rattle.swan_top.specs.declared.status.Status.{Status}
@@ -185,3 +185,18 @@ module _ (outcome_of : Plan (List Line) Standing → Outcome) where
     ends_well asked status.JobRefused is = tt
     ends_well asked status.NoMemory is = tt
     ends_well asked status.InputRefused is = tt
+
+    usage_ends : (ends : Status) → Ends out report usage ends → (ends ≡ status.Usage) × Wrote out report usage
+    usage_ends status.WriteFailed is = absurd (no_failed_write out report usage well.out_well well.report_well is)
+    usage_ends status.Done is = is
+    usage_ends status.Faulted is = is
+    usage_ends status.Usage is = is
+    usage_ends status.JobRefused is = is
+    usage_ends status.ReadFailed is = is
+    usage_ends status.NoMemory is = is
+    usage_ends status.InputRefused is = is
+
+    pub completes_well : (asked : Option Command) (ends : Status) → Answers outcome_of files out report asked ends → CompletesWell outcome_of files out report asked ends
+    completes_well None ends is = usage_ends ends is.0
+    completes_well (Some command) ends is =
+        λ texts verdict told order. completes outcome_of files out report (Some command) ends is texts verdict told order well

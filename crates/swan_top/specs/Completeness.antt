@@ -12,7 +12,7 @@ use Rattle.swan_outside.specs.Reads.{IsTooLong}
 use Rattle.swan_outside.specs.declared.files.TheConstants.{FILE_MOST}
 use Rattle.swan_top.specs.Command.{Command, help, version, check, elide, run}
 use Rattle.swan_top.specs.Decision.{Verdict, prints, accepted, printed, files_of}
-use Rattle.swan_top.specs.Headline.{FilesSeen, SinkSeen, Took, Wrote, ends_of}
+use Rattle.swan_top.specs.Headline.{FilesSeen, SinkSeen, Took, Wrote, ends_of, usage}
 use Rattle.swan_top.specs.Refusals.{file_line}
 use Rattle.swan_top.specs.declared.help.TheConstants.{HELP, VERSION}
 use Rattle.swan_top.specs.declared.status.Status.{Status}
@@ -67,6 +67,15 @@ module _ (outcome_of : Plan (List Line) Standing → Outcome) where
   Completes files out report (Some command) ends =
       (texts : List (List ℕ)) (verdict : Verdict)
       → AreTold files.content (files_of command) texts → InOrder command texts verdict → NothingFailed files out report
+      → (ends ≡ status.NoMemory) ⊎ ((ends ≡ ends_of verdict) × Wrote out report verdict)
+
+  -- The same over files and sinks that never fail, so that nothing is asked of counts. Words that are no command
+  -- are refused.
+  abbrev pub CompletesWell : FilesSeen → (out report : SinkSeen) → Option Command → Status → Type 0
+  CompletesWell files out report None ends = (ends ≡ status.Usage) × Wrote out report usage
+  CompletesWell files out report (Some command) ends =
+      (texts : List (List ℕ)) (verdict : Verdict)
+      → AreTold files.content (files_of command) texts → InOrder command texts verdict
       → (ends ≡ status.NoMemory) ⊎ ((ends ≡ ends_of verdict) × Wrote out report verdict)
 
 -- How a call ends over files and sinks that never fail: it writes all that it settles, and a read is refused only

@@ -2,20 +2,21 @@
 ghost use Rattle.std.specs.Prelude.{Option};
 ghost use Rattle.swan_model.specs.Elision.{outcome};
 ghost use Rattle.swan_outside.specs.Honest.{HonestFilesState, HonestSinkState};
-ghost use Rattle.swan_top.specs.Command.{Command as Words};
-ghost use Rattle.swan_top.specs.Completeness.{EndsWell, NothingFailed};
+ghost use Rattle.swan_top.specs.Command.{Command};
+ghost use Rattle.swan_top.specs.Completeness.{CompletesWell, EndsWell, NothingFailed};
 ghost use Rattle.swan_top.specs.Headline.{Answers, files_seen, seen_of};
-ghost use Rattle.swan_top.specs.declared.status.Status.{Status as HowItEnds};
+ghost use Rattle.swan_top.specs.declared.status.Status.{Status};
 
 use job_body::JobBody;
 use swan_model::Body;
 use swan_outside::{Files, HonestFiles, HonestSink, Sink};
 
-/// The law that over `HonestFiles` and `HonestSink` no count of faults rises, whatever a call leaves of them. So
-/// what is in order is written and ends so, or memory ran out, by the clause `complete` of `swan`; and by its
-/// clause `answered` no call ends as WriteFailed, and one ends as ReadFailed only where a file has more than
-/// `FILE_MOST` bytes, with the line `too long NAME`.
-#[tactic(auto, using(crate::proofs::Completeness::ends_well))]
+/// The law that over `HonestFiles` and `HonestSink` no count of faults rises, whatever a call leaves of them
+/// (`nothing_fails`). So by the clause `answered` of `swan` no call ends as WriteFailed, and one ends as ReadFailed
+/// only where a file has more than `FILE_MOST` bytes, with the line `too long NAME` (`ends_well`); and where words,
+/// job and inputs are in order, the call writes what they come to and ends as Done or Faulted by the elision's
+/// outcome, or memory ran out (`completes`).
+#[tactic(auto, using(crate::proofs::Completeness::ends_well, crate::proofs::Completeness::completes_well))]
 pub fn honest_calls_end_well()
     ensures nothing_fails { (files files' : HonestFilesState) (out out' report report' : HonestSinkState) →
         let F = ⟦<HonestFiles as Files>⟧ in let S = ⟦<HonestSink as Sink>⟧ in
@@ -24,11 +25,19 @@ pub fn honest_calls_end_well()
         (seen_of (S.written out) (S.written out') (S.faults out) (S.faults out'))
         (seen_of (S.written report) (S.written report') (S.faults report) (S.faults report')) }
     ensures ends_well { (files files' : HonestFilesState) (out out' report report' : HonestSinkState)
-        (asked : Option Words) (ends : HowItEnds) →
+        (asked : Option Command) (ends : Status) →
         let F = ⟦<HonestFiles as Files>⟧ in let S = ⟦<HonestSink as Sink>⟧ in
         let seen = files_seen (F.content files) (F.faults files) (F.faults files') (F.long_reads files) (F.long_reads files') in
         let written = seen_of (S.written report) (S.written report') (S.faults report) (S.faults report') in
         Answers (outcome ⟦<JobBody as Body>⟧) seen
         (seen_of (S.written out) (S.written out') (S.faults out) (S.faults out')) written asked ends
         → EndsWell seen written ends }
+    ensures completes { (files files' : HonestFilesState) (out out' report report' : HonestSinkState)
+        (asked : Option Command) (ends : Status) →
+        let F = ⟦<HonestFiles as Files>⟧ in let S = ⟦<HonestSink as Sink>⟧ in
+        let seen = files_seen (F.content files) (F.faults files) (F.faults files') (F.long_reads files) (F.long_reads files') in
+        let printed = seen_of (S.written out) (S.written out') (S.faults out) (S.faults out') in
+        let written = seen_of (S.written report) (S.written report') (S.faults report) (S.faults report') in
+        Answers (outcome ⟦<JobBody as Body>⟧) seen printed written asked ends
+        → CompletesWell (outcome ⟦<JobBody as Body>⟧) seen printed written asked ends }
 {}

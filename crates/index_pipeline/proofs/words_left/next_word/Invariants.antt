@@ -1,5 +1,5 @@
 use Rattle.std.proofs.Common.{◌≡◌, ◌++◌, length}
-use Rattle.index_pipeline.specs.Texts.{block_records}
+use Rattle.index_pipeline.specs.Records.{block_records}
 use Rattle.index_pipeline.proofs.words_left.next_word.Given as goal
 
 -- the words that are left are those that were left before

@@ -2,7 +2,7 @@
 use Rattle.std.proofs.Common.{◌∙◌, ap, sym, map}
 use Rattle.std.proofs.lemmas.Simd.{map-map}
 use Rattle.index_pipeline.specs.KeptPairs.{seen}
-use Rattle.index_pipeline.specs.Texts.{record_of}
+use Rattle.index_pipeline.specs.Records.{record_of}
 use Rattle.index_pipeline.proofs.pairs.Pairs.into_left.Goals as goal
 
 pub returns : goal.returns
