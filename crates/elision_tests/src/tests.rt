@@ -134,6 +134,32 @@ fn fuel_ends_at_each_step(rt: HostRuntime) -> Result<(), Fail> {
     Ok(())
 }
 
+/// What fuel leaves that ends between pushes and pops: of each row the fuels, the output, and how many jobs are left.
+#[test]
+fn fuel_ends_between_pushes_and_pops(rt: HostRuntime) -> Result<(), Fail> {
+    let words = "work push:1:1 work work push:1:2 pop:0 work push:1:3 empty:0 pop:0";
+    let rows = [
+        (0..2, "", 2),
+        (2..5, "1\n", 2),
+        (5..6, "1\n2\n", 2),
+        (6..8, "1\n2\n", 1),
+        (8..10, "1\n2\n3\n", 1),
+        (10..11, "1\n2\n3\n", 0),
+    ];
+    for (fuels, out, left) in rows {
+        for fuel in fuels {
+            let report = format!(in rt.alloc();
+                "left jobs {left}\nfaults 1\nfault / {fuel} Fuel\n"
+            )?;
+            assert!(rt;
+                leaves(rt.alloc(), words, fuel, out.as_bytes(), report.as_str())?,
+                "{fuel}"
+            );
+        }
+    }
+    Ok(())
+}
+
 #[test]
 fn no_path_has_more_than_64_parts(rt: HostRuntime) -> Result<(), Fail> {
     let alloc = rt.alloc();
