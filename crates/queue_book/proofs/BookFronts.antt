@@ -12,29 +12,29 @@ use Rattle.swan_model.specs.Lawful.{IsLawful}
 use Rattle.swan_model.specs.QueueFollows.{next_item, origin_in, is_ripe_among}
 use Rattle.swan_model.specs.QueueState.{ActiveFrame, QueueMaker, QueueState, active, holds_queue, HasTurn, IsPoppingChild}
 use Rattle.swan_model.specs.Readings.{end_time}
-use Rattle.queue_book.specs.Asks.{is_emptied, MayLook, MayUse, IsOnTurn}
-use Rattle.queue_book.specs.Book.{Chunk, Chunks, HasOwners, IsOwner, Matches, without_spent}
+use Rattle.queues.specs.Asks.{is_emptied, MayLook, MayUse, IsOnTurn}
+use Rattle.queues.specs.Chunks.{Chunk, Chunks, HasOwners, IsOwner, Matches, without_spent}
 use Rattle.queue_book.specs.Chains.{Link, AreChained, in_line, IsFront}
 use Rattle.queue_book.specs.Fronts.{IsBare, IsFrontTold, IsTurnTold, first_open}
 use Rattle.queue_book.specs.Live.{AreLive, is_pusher, key_at}
-use Rattle.queue_book.specs.Tells.{FindsItem, FindsNone, IsFirstPusher, IsPopped, IsTested}
-use Rattle.queue_book.specs.Tree.{has_queue, maker_path}
+use Rattle.queues.specs.Tells.{FindsItem, FindsNone, IsFirstPusher, IsPopped, IsTested}
+use Rattle.queues.specs.Tree.{has_queue, maker_path}
 use Rattle.queue_book.specs.Whole.{IsBook, IsPlain}
-use Rattle.queue_book.specs.declared.answers.Popped.TheVariants as popped
-use Rattle.queue_book.specs.declared.answers.Tested.{Tested}
-use Rattle.queue_book.specs.declared.answers.Tested.TheVariants as tested
-use Rattle.queue_book.specs.declared.answers.WaitFor.TheVariants.{Child, Version, PopTurn, Pusher}
+use Rattle.queues.specs.declared.answers.Popped.TheVariants as popped
+use Rattle.queues.specs.declared.answers.Tested.{Tested}
+use Rattle.queues.specs.declared.answers.Tested.TheVariants as tested
+use Rattle.queues.specs.declared.answers.WaitFor.TheVariants.{Child, Version, PopTurn, Pusher}
 use Rattle.queue_book.specs.declared.chains.Front.TheVariants as front
 use Rattle.queue_book.specs.declared.live_frames.LiveFrames.{LiveFrames}
-use Rattle.queue_book.proofs.Above.{maker_of}
+use Rattle.queues.proofs.Above.{maker_of}
 use Rattle.queue_book.proofs.ChainLoops.{line_same}
-use Rattle.queue_book.proofs.Frames.{active_number, has_held, same_frame}
+use Rattle.queues.proofs.Frames.{active_number, has_held, same_frame}
 use Rattle.queue_book.proofs.OpenOwners.{open_first_owner, open_found, open_own_chunk, owner_has, pushes_kept}
-use Rattle.queue_book.proofs.Match.{holds_now, is_empty, none_pops, not_ripe}
+use Rattle.queues.proofs.Match.{holds_now, is_empty, none_pops, not_ripe}
 use Rattle.queue_book.proofs.PlainDeeds.{plain_trim}
 use Rattle.queue_book.proofs.PlainSaid.{on_queue, turn_on}
-use Rattle.queue_book.proofs.TreeTurns.{earlier_owner_pushes, first_owner_is_first, one_owner}
-use Rattle.queue_book.proofs.TurnsKept.{pops_active, pops_turn}
+use Rattle.queues.proofs.TreeTurns.{earlier_owner_pushes, first_owner_is_first, one_owner}
+use Rattle.queues.proofs.TurnsKept.{pops_active, pops_turn}
 
 -- ---- the first chunk
 

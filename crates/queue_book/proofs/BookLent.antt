@@ -8,20 +8,20 @@ use Rattle.pop_order.specs.Frames.{Frames}
 use Rattle.swan_model.specs.declared.script.Script.{Script}
 use Rattle.swan_model.specs.QueueFollows.{AreByEnds}
 use Rattle.swan_model.specs.QueueState.{ActiveFrame, QueueState, active, after_back, after_lend}
-use Rattle.queue_book.specs.Asks.{IsRecorded}
-use Rattle.queue_book.specs.Calls.{with_active}
+use Rattle.queues.specs.Asks.{IsRecorded}
+use Rattle.queues.specs.Tells.{with_active}
 use Rattle.queue_book.specs.Chains.{Link}
 use Rattle.queue_book.specs.KeptFrames.{KeptFrame}
 use Rattle.queue_book.specs.Live.{is_lent_with, kept_of, key_at, AreLive, IsFrame, IsOnlyChange}
 use Rattle.queue_book.specs.NoEnds.{no_ends}
 use Rattle.queue_book.specs.Whole.{IsBook}
 use Rattle.queue_book.specs.declared.live_frames.LiveFrames.{LiveFrames}
-use Rattle.queue_book.proofs.ActiveAfter.{others_changed, own_changed}
+use Rattle.queues.proofs.ActiveAfter.{others_changed, own_changed}
 use Rattle.queue_book.proofs.ChainChanges.{chained_same}
-use Rattle.queue_book.proofs.Frames.{active_number}
+use Rattle.queues.proofs.Frames.{active_number}
 use Rattle.queue_book.proofs.LiveKept.{kept_live, keys_same, live_kept, live_one}
 use Rattle.queue_book.proofs.PlainLent.{back_alike, lend_alike, plain_back, plain_lend}
-use Rattle.queue_book.proofs.TurnsKept.{turns_alike}
+use Rattle.queues.proofs.TurnsKept.{turns_alike}
 
 abbrev pub with_lent : Bool → KeptFrame → KeptFrame
 with_lent lent kept = record kept { is_lent = lent }

@@ -12,24 +12,24 @@ use Rattle.swan_model.specs.declared.value.Value.{Value}
 use Rattle.swan_model.specs.QueueFollows.{origin_in}
 use Rattle.swan_model.specs.QueueState.{ActiveFrame, QueueMaker, planned, made_by, QueueState, active, after_take_rest, IsOfRoot}
 use Rattle.swan_model.specs.Readings.{end_time}
-use Rattle.queue_book.specs.Asks.{is_emptied, IsRestLeft}
-use Rattle.queue_book.specs.Book.{HasOwners, Matches, items_in}
+use Rattle.queues.specs.Asks.{is_emptied, IsRestLeft}
+use Rattle.queues.specs.Chunks.{HasOwners, Matches, items_in}
 use Rattle.queue_book.specs.Chains.{Link, AreChained, in_line}
 use Rattle.queue_book.specs.Live.{key_at, kept_of, Agrees}
-use Rattle.queue_book.specs.Tells.{OnQueue, rest_of}
-use Rattle.queue_book.specs.Tree.{IsTree, maker_path}
+use Rattle.queues.specs.Tells.{OnQueue, rest_of}
+use Rattle.queues.specs.Tree.{IsTree, maker_path}
 use Rattle.queue_book.specs.Whole.{IsBook, IsLine}
 use Rattle.queue_book.specs.declared.live_frames.LiveFrames.{LiveFrames}
-use Rattle.queue_book.proofs.Alike.{AreAlike, alike_itself, in_use_back}
-use Rattle.queue_book.proofs.Calls.{rest_follows}
-use Rattle.queue_book.proofs.Frames.{active_number}
+use Rattle.queues.proofs.Alike.{AreAlike, alike_itself, in_use_back}
+use Rattle.queues.proofs.Calls.{rest_follows}
+use Rattle.queues.proofs.Frames.{active_number}
 use Rattle.queue_book.proofs.LiveKept.{agrees_on, key_none}
-use Rattle.queue_book.proofs.Match.{matches_rest, rest_told}
+use Rattle.queues.proofs.Match.{matches_rest, rest_told}
 use Rattle.queue_book.proofs.PlainSaid.{in_each, on_queue}
-use Rattle.queue_book.proofs.TreeActed.{acted_rest}
-use Rattle.queue_book.proofs.TreeKept.{tree_rest}
-use Rattle.queue_book.proofs.TreeOwners.{owners_kept_rest}
-use Rattle.queue_book.proofs.TurnsKept.{turns_alike}
+use Rattle.queues.proofs.TreeActed.{acted_rest}
+use Rattle.queues.proofs.TreeKept.{tree_rest}
+use Rattle.queues.proofs.TreeOwners.{owners_kept_rest}
+use Rattle.queues.proofs.TurnsKept.{turns_alike}
 use Rattle.swan_model.proofs.Lists.{some_within}
 
 -- who is active has the root above it

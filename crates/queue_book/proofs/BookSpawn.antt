@@ -11,26 +11,26 @@ use Rattle.swan_model.specs.declared.script.Script.{Script}
 use Rattle.swan_model.specs.QueueFollows.{NextSpawnGivesQueues}
 use Rattle.swan_model.specs.QueueState.{ActiveFrame, QueueMaker, QueueRight, QueueState, active, after_spawn, child_of, holds_queue, with_deed}
 use Rattle.swan_model.specs.Rights.{allows}
-use Rattle.queue_book.specs.Asks.{MaySpawn, IsOnTurn, OnNext}
+use Rattle.queues.specs.Asks.{MaySpawn, IsOnTurn, OnNext}
 use Rattle.queue_book.specs.Chains.{Link, AreChained}
 use Rattle.queue_book.specs.Ended.{own_keys}
-use Rattle.queue_book.specs.Handed.{lines_after_gives, holding_of, turn_of, IsMoved}
+use Rattle.queue_book.specs.Handed.{lines_after_gives, IsMoved}
+use Rattle.queues.specs.Turned.{holding_of, turn_of, AreTurns}
 use Rattle.queue_book.specs.KeptFrames.{KeptFrame}
 use Rattle.queue_book.specs.Live.{kept_of, key_at, key_in, Agrees, AreLive, IsFrame}
 use Rattle.queue_book.specs.Spawned.{IsSpawnedIn, MayHandOn}
-use Rattle.queue_book.specs.Tree.{has_queue, maker_path}
-use Rattle.queue_book.specs.Turned.{AreTurns}
-use Rattle.queue_book.specs.Whole.{IsBook, IsInUse}
+use Rattle.queues.specs.Tree.{has_queue, maker_path, IsInUse}
+use Rattle.queue_book.specs.Whole.{IsBook}
 use Rattle.queue_book.specs.declared.live_frames.LiveFrames.{LiveFrames}
-use Rattle.queue_book.proofs.Above.{under_maker}
-use Rattle.queue_book.proofs.ActiveAfter.{child_spawned, others_spawned, parent_spawned}
+use Rattle.queues.proofs.Above.{under_maker}
+use Rattle.queues.proofs.ActiveAfter.{child_spawned, others_spawned, parent_spawned}
 use Rattle.queue_book.proofs.BookDeeds.{counted, lent_none, not_lent}
 use Rattle.queue_book.proofs.ChainChanges.{chained_same}
 use Rattle.queue_book.proofs.ChainEnds.{other_placed, own_placed}
-use Rattle.queue_book.proofs.Frames.{active_number, same_frame}
-use Rattle.queue_book.proofs.Gives.{gives_had}
+use Rattle.queues.proofs.Frames.{active_number, same_frame}
+use Rattle.queues.proofs.Gives.{gives_had}
 use Rattle.queue_book.proofs.LiveKept.{agrees_on, kept_live, key_none}
-use Rattle.queue_book.proofs.Match.{not_active}
+use Rattle.queues.proofs.Match.{not_active}
 use Rattle.queue_book.proofs.PlainSpawned.{plain_spawn}
 
 -- what the turn of a child says of what it was given

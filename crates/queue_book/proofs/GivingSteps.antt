@@ -10,18 +10,18 @@ use Rattle.swan_model.specs.QueueState.{ActiveFrame, QueueRight, MayGive}
 use Rattle.swan_model.specs.Rights.{allows, is_queue_mode}
 use Rattle.queue_book.specs.Chains.{Link}
 use Rattle.queue_book.specs.Ended.{own_keys}
-use Rattle.queue_book.specs.Handed.{lines_after_gives, holding_of, gives_queue, AreGiven, IsHandedIn}
+use Rattle.queue_book.specs.Handed.{lines_after_gives, AreGiven, IsHandedIn}
+use Rattle.queues.specs.Turned.{holding_of, gives_queue, AreApart}
 use Rattle.queue_book.specs.KeptFrames.{OwnChunks, own_chunk_in}
 use Rattle.queue_book.specs.Live.{key_at, own_chunk_at, own_chunk_of}
 use Rattle.queue_book.specs.Spawned.{MayHandOn}
-use Rattle.queue_book.specs.Turned.{AreApart}
 use Rattle.queue_book.specs.declared.live_frame.OwnChunk.{OwnChunk}
 use Rattle.queue_book.specs.declared.live_frames.LiveFrames.{LiveFrames}
 use Rattle.queue_book.proofs.ChainChanges.{chained_same}
 use Rattle.queue_book.proofs.ChainEnds.{other_placed, own_placed}
 use Rattle.queue_book.proofs.Giving.{step_chained, step_fresh, step_given, step_moved, step_others, step_pushers}
-use Rattle.queue_book.proofs.GivingTurns.{may_get_more, turn_now, turn_others}
-use Rattle.queue_book.proofs.TurnsEnlisted.{apart_enlisted, up_to}
+use Rattle.queues.proofs.GivingTurns.{may_get_more, turn_now, turn_others}
+use Rattle.queues.proofs.TurnsEnlisted.{apart_enlisted, up_to}
 
 pub given_at : (gives : List QueueRight) (i : ℕ) (give : QueueRight) → slice_get gives i ≡ Some give → gives_queue gives give.queue ≡ true
 given_at [] i give at = let never : None ≡ Some give = at in absurd (cc)

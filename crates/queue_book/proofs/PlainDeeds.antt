@@ -14,23 +14,23 @@ use Rattle.swan_model.specs.QueueFollows.{next_queue_deed, origin_in, IsNextAbou
 use Rattle.swan_model.specs.QueueState.{QueueMaker, QueueState, after_deed, holds_queue, with_deed, HasTurn, IsPoppingChild}
 use Rattle.swan_model.specs.Readings.{end_time}
 use Rattle.swan_model.specs.Told.{is_same}
-use Rattle.queue_book.specs.Asks.{MayDo, IsOnTurn, OnNext}
-use Rattle.queue_book.specs.Book.{Chunk, Chunks, HasOwners, IsOwner, Matches, without_spent, with_item, without_first}
+use Rattle.queues.specs.Asks.{MayDo, IsOnTurn, OnNext}
+use Rattle.queues.specs.Chunks.{Chunk, Chunks, HasOwners, IsOwner, Matches, without_spent, with_item, without_first}
 use Rattle.queue_book.specs.Chains.{in_line}
-use Rattle.queue_book.specs.Tells.{FindsNone}
-use Rattle.queue_book.specs.Tree.{maker_path}
+use Rattle.queues.specs.Tells.{FindsNone}
+use Rattle.queues.specs.Tree.{maker_path}
 use Rattle.queue_book.specs.Whole.{IsLine, IsPlain}
-use Rattle.queue_book.proofs.Alike.{AreAlike, alike_changing, in_use_back}
-use Rattle.queue_book.proofs.Calls.{used_follows}
-use Rattle.queue_book.proofs.Match.{leaves_empty, leaves_pop, leaves_push, leaves_test, matches_deed, matches_pop, matches_push, matches_trimmed, none_pops, other_origin}
-use Rattle.queue_book.proofs.Frames.{has_held}
-use Rattle.queue_book.proofs.MatchDeed.{LeavesQueue}
-use Rattle.queue_book.proofs.MatchParts.{NonePops}
-use Rattle.queue_book.proofs.Moving.{is_making}
+use Rattle.queues.proofs.Alike.{AreAlike, alike_changing, in_use_back}
+use Rattle.queues.proofs.Calls.{used_follows}
+use Rattle.queues.proofs.Match.{leaves_empty, leaves_pop, leaves_push, leaves_test, matches_deed, matches_pop, matches_push, matches_trimmed, none_pops, other_origin}
+use Rattle.queues.proofs.Frames.{has_held}
+use Rattle.queues.proofs.MatchDeed.{LeavesQueue}
+use Rattle.queues.proofs.MatchParts.{NonePops}
+use Rattle.queues.proofs.Moving.{is_making}
 use Rattle.queue_book.proofs.PlainSaid.{in_each, on_next, origin_of, turn_on}
-use Rattle.queue_book.proofs.TreeActed.{acted_deed}
-use Rattle.queue_book.proofs.TreeKept.{tree_deed}
-use Rattle.queue_book.proofs.TreeOwners.{owners_kept_deed, owners_push, owners_trimmed, owners_without_first}
+use Rattle.queues.proofs.TreeActed.{acted_deed}
+use Rattle.queues.proofs.TreeKept.{tree_deed}
+use Rattle.queues.proofs.TreeOwners.{owners_kept_deed, owners_push, owners_trimmed, owners_without_first}
 
 module _ (name : Option Script) (state : QueueState) (lines : ℕ → Chunks) (is : IsPlain name state lines) (n : ℕ) (act : MayDo state n) where
   pub deed_alike : AreAlike state (after_deed state n)

@@ -5,17 +5,17 @@ use Rattle.swan_model.specs.declared.script.Script.{Script}
 use Rattle.swan_model.specs.QueueFollows.{QueuesFollow, origin_in}
 use Rattle.swan_model.specs.QueueState.{ActiveFrame, LentEnd, QueueState, active, after_back, after_lend, new_state}
 use Rattle.swan_model.specs.Readings.{end_time}
-use Rattle.queue_book.specs.Book.{Chunks}
+use Rattle.queues.specs.Chunks.{Chunks}
 use Rattle.queue_book.specs.Calls.{no_state}
-use Rattle.queue_book.specs.Tree.{IsTree, maker_path}
+use Rattle.queues.specs.Tree.{IsTree, maker_path}
 use Rattle.queue_book.specs.Whole.{IsPlain}
-use Rattle.queue_book.proofs.Alike.{AreAlike, alike_changing, in_use_back}
-use Rattle.queue_book.proofs.Calls.{back_follows, lent_follows, new_follows}
-use Rattle.queue_book.proofs.Frames.{active_number}
-use Rattle.queue_book.proofs.Match.{matches_back, matches_lend}
-use Rattle.queue_book.proofs.TreeActed.{acted_back, acted_lend, acted_new}
-use Rattle.queue_book.proofs.TreeKept.{tree_back, tree_lend, tree_new}
-use Rattle.queue_book.proofs.TreeOwners.{owners_kept_back, owners_kept_lend}
+use Rattle.queues.proofs.Alike.{AreAlike, alike_changing, in_use_back}
+use Rattle.queues.proofs.Calls.{back_follows, lent_follows, new_follows}
+use Rattle.queues.proofs.Frames.{active_number}
+use Rattle.queues.proofs.Match.{matches_back, matches_lend}
+use Rattle.queues.proofs.TreeActed.{acted_back, acted_lend, acted_new}
+use Rattle.queues.proofs.TreeKept.{tree_back, tree_lend, tree_new}
+use Rattle.queues.proofs.TreeOwners.{owners_kept_back, owners_kept_lend}
 
 pub plain_new : (name : Option Script) → IsPlain name new_state (λ queue. [])
 plain_new name = record {

@@ -10,21 +10,21 @@ use Rattle.swan_model.specs.Lawful.{IsLawful}
 use Rattle.swan_model.specs.QueueFollows.{QueuesFollow, next_queue_deed, origin_in}
 use Rattle.swan_model.specs.QueueState.{ActiveFrame, QueueMaker, planned, made_by, QueueState, active, after_create, after_create_root, with_deed, with_made, IsUntouched}
 use Rattle.swan_model.specs.Readings.{end_time}
-use Rattle.queue_book.specs.Asks.{is_emptied, MayDo, IsOnTurn, OnNext}
-use Rattle.queue_book.specs.Book.{Chunks, own, HasOwners, Matches}
+use Rattle.queues.specs.Asks.{is_emptied, MayDo, IsOnTurn, OnNext}
+use Rattle.queues.specs.Chunks.{Chunks, own, HasOwners, Matches}
 use Rattle.queue_book.specs.Chains.{in_line}
-use Rattle.queue_book.specs.Tree.{HaveActed, IsTree, has_queue, maker_path}
-use Rattle.queue_book.specs.Whole.{IsInUse, IsLine, IsPlain}
-use Rattle.queue_book.proofs.ActiveAfter.{AreOthers, others_changed, own_changed}
-use Rattle.queue_book.proofs.Creating.{created_follows, root_created_follows}
-use Rattle.queue_book.proofs.Frames.{active_number, same_frame}
+use Rattle.queues.specs.Tree.{HaveActed, IsTree, has_queue, maker_path, IsInUse}
+use Rattle.queue_book.specs.Whole.{IsLine, IsPlain}
+use Rattle.queues.proofs.ActiveAfter.{AreOthers, others_changed, own_changed}
+use Rattle.queues.proofs.Creating.{created_follows, root_created_follows}
+use Rattle.queues.proofs.Frames.{active_number, same_frame}
 use Rattle.swan_model.proofs.Elements.{more_cases}
 use Rattle.queue_book.proofs.LivePut.{has_not_made}
-use Rattle.queue_book.proofs.Match.{matches_create, matches_create_other, matches_root, matches_root_other}
+use Rattle.queues.proofs.Match.{matches_create, matches_create_other, matches_root, matches_root_other}
 use Rattle.queue_book.proofs.PlainSaid.{in_each, on_next, turn_on}
-use Rattle.queue_book.proofs.TreeActed.{acted_create, acted_root}
-use Rattle.queue_book.proofs.TreeKept.{tree_create, tree_root}
-use Rattle.queue_book.proofs.TreeOwners.{owners_create, owners_kept_create, owners_kept_root, owners_root}
+use Rattle.queues.proofs.TreeActed.{acted_create, acted_root}
+use Rattle.queues.proofs.TreeKept.{tree_create, tree_root}
+use Rattle.queues.proofs.TreeOwners.{owners_create, owners_kept_create, owners_kept_root, owners_root}
 
 -- Who has an older queue after a frame made one had it before.
 pub made_in_use : (state after : QueueState) (n : ℕ) (frame later : ActiveFrame) → active state n ≡ Some frame → active after n ≡ Some later → AreOthers state after n

@@ -5,18 +5,19 @@ use Rattle.swan_model.specs.declared.script.Script.{Script}
 use Rattle.swan_model.specs.QueueFollows.{origin_in, NextSpawnGivesQueues}
 use Rattle.swan_model.specs.QueueState.{QueueMaker, QueueRight, QueueState, active, after_spawn}
 use Rattle.swan_model.specs.Readings.{end_time}
-use Rattle.queue_book.specs.Asks.{MaySpawn, IsOnTurn, OnNext}
-use Rattle.queue_book.specs.Book.{Chunks, after_hand_on}
-use Rattle.queue_book.specs.Handed.{lines_after_gives, gives_queue}
-use Rattle.queue_book.specs.Tree.{maker_path}
-use Rattle.queue_book.specs.Whole.{IsInUse, IsLine, IsPlain}
-use Rattle.queue_book.proofs.Gives.{gives_had}
-use Rattle.queue_book.proofs.Match.{matches_spawn, matches_spawn_other, not_active}
+use Rattle.queues.specs.Asks.{MaySpawn, IsOnTurn, OnNext}
+use Rattle.queues.specs.Chunks.{Chunks, after_hand_on}
+use Rattle.queue_book.specs.Handed.{lines_after_gives}
+use Rattle.queues.specs.Turned.{gives_queue}
+use Rattle.queues.specs.Tree.{maker_path, IsInUse}
+use Rattle.queue_book.specs.Whole.{IsLine, IsPlain}
+use Rattle.queues.proofs.Gives.{gives_had}
+use Rattle.queues.proofs.Match.{matches_spawn, matches_spawn_other, not_active}
 use Rattle.queue_book.proofs.PlainSaid.{on_next, origin_of, turn_on}
-use Rattle.queue_book.proofs.Spawning.{spawned_follows}
-use Rattle.queue_book.proofs.TreeActed.{acted_spawn}
-use Rattle.queue_book.proofs.TreeKept.{tree_spawn}
-use Rattle.queue_book.proofs.TreeOwners.{owners_kept_spawn, owners_spawn}
+use Rattle.queues.proofs.Spawning.{spawned_follows}
+use Rattle.queues.proofs.TreeActed.{acted_spawn}
+use Rattle.queues.proofs.TreeKept.{tree_spawn}
+use Rattle.queues.proofs.TreeOwners.{owners_kept_spawn, owners_spawn}
 
 module _ (name : Option Script) (state : QueueState) (lines : ℕ → Chunks) (is : IsPlain name state lines) (p child : ℕ) (gives : List QueueRight) (may : MaySpawn state p child gives)
     (next : OnNext name state p (λ s f. NextSpawnGivesQueues s state f gives)) (turn : IsOnTurn name state p)

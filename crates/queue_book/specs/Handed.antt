@@ -10,12 +10,12 @@ use Rattle.swan_model.specs.declared.rights.Mode.TheVariants.{Push}
 use Rattle.swan_model.specs.QueueState.{QueueRight}
 use Rattle.swan_model.specs.Rights.{allows}
 use Rattle.swan_model.specs.SerialState.{Holding}
-use Rattle.queue_book.specs.Book.{Chunks, after_hand_on}
+use Rattle.queues.specs.Chunks.{Chunks, after_hand_on}
 use Rattle.queue_book.specs.Chains.{Link, AreChained, in_line, put_at}
 use Rattle.queue_book.specs.Ended.{own_keys}
 use Rattle.queue_book.specs.KeptFrames.{KeptFrame, OwnChunks, own_chunk_in}
 use Rattle.queue_book.specs.Live.{kept_of, key_at, own_chunk_at, with_own_chunk, IsOnlyChange}
-use Rattle.queue_book.specs.Turned.{AreApart}
+use Rattle.queues.specs.Turned.{AreApart, gives_queue, turn_of}
 use Rattle.queue_book.specs.declared.live_frame.OwnChunk.{OwnChunk}
 use Rattle.queue_book.specs.declared.live_frames.LiveFrames.{LiveFrames}
 
@@ -31,9 +31,6 @@ pub record IsHandedIn (before after : LiveFrames) (parent child queue : ℕ) (pu
 
 -- ---- queue by queue
 
-abbrev pub gives_queue : List QueueRight → ℕ → Bool
-gives_queue gives queue = list_any (λ right. right.queue == queue) gives
-
 -- whether the child may push to a queue
 abbrev pub gives_push : List QueueRight → ℕ → Bool
 gives_push gives queue = list_any (λ right. (right.queue == queue) && allows right.mode Push) gives
@@ -41,14 +38,6 @@ gives_push gives queue = list_any (λ right. (right.queue == queue) && allows ri
 -- the chunks of the queues that were given
 abbrev pub lines_after_gives : (parent child : ℕ) → List QueueRight → (ℕ → Chunks) → ℕ → Chunks
 lines_after_gives parent child gives lines queue = if gives_queue gives queue then after_hand_on parent child (lines queue) else lines queue
-
--- the turn of a child that was given these
-abbrev pub holding_of : QueueRight → Holding
-holding_of right = record { mode = right.mode; number = right.queue }
-
-abbrev pub turn_of : ℕ → List QueueRight → Option Frame
-turn_of parent [] = None
-turn_of parent (give ∷ gives) = Some (record { parent = parent; holdings = map holding_of (give ∷ gives); lent = false })
 
 -- a frame that differs in the keys of its places alone
 pub record IsMoved (before now : KeptFrame) : Type 0 where

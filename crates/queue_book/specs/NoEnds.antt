@@ -1,6 +1,6 @@
 -- Ends that push and pop nothing.
 use Rattle.std.specs.Prelude.{ℕ, List, []}
-use Rattle.queue_book.specs.Asks.{LentEnds}
+use Rattle.queues.specs.Asks.{LentEnds}
 
 -- the ends of a frame that has done so many queue deeds: there are none
 abbrev pub no_ends : (frame deeds : ℕ) → (path : List ℕ) → LentEnds

@@ -7,17 +7,13 @@ use Rattle.swan_model.specs.Lawful.{IsLawful}
 use Rattle.swan_model.specs.QueueFollows.{QueuesFollow, origin_in}
 use Rattle.swan_model.specs.QueueState.{ActiveFrame, QueueMaker, QueueState, active, IsOfRoot}
 use Rattle.swan_model.specs.Readings.{end_time}
-use Rattle.queue_book.specs.Asks.{is_emptied}
-use Rattle.queue_book.specs.Book.{Chunks, HasOwners, Matches}
+use Rattle.queues.specs.Asks.{is_emptied}
+use Rattle.queues.specs.Chunks.{Chunks, HasOwners, Matches}
 use Rattle.queue_book.specs.Chains.{Link, AreChained}
 use Rattle.queue_book.specs.Live.{AreLive, key_at}
-use Rattle.queue_book.specs.Tree.{HaveActed, IsTree, has_queue, maker_path}
-use Rattle.queue_book.specs.Turned.{AreTurns}
+use Rattle.queues.specs.Tree.{HaveActed, IsTree, has_queue, maker_path, IsInUse}
+use Rattle.queues.specs.Turned.{AreTurns}
 use Rattle.queue_book.specs.declared.live_frames.LiveFrames.{LiveFrames}
-
--- an active frame has the queue, or the root made it, so that its rest is left
-abbrev pub IsInUse : QueueState → ℕ → QueueMaker → Type 0
-IsInUse state queue maker = IsOfRoot (Some maker) ⊎ ((number : ℕ) × (frame : ActiveFrame) × (active state number ≡ Some frame) × (has_queue frame queue ≡ true))
 
 -- The chunks of a queue have their owners, and match the script, until the queue is given up or its rest is taken.
 pub record IsLine (name : Option Script) (state : QueueState) (queue : ℕ) (maker : QueueMaker) (chunks : Chunks) : Type 0 where

@@ -1,13 +1,12 @@
 use Rattle.std.proofs.Common.{◌≡◌, ℕ, ◌<◌, Some, List, [], length, sym, ap, subst, ◌∙◌}
 use Rattle.swan_model.specs.declared.script.Deed.TheVariants as deed
 use Rattle.swan_model.specs.QueueState.{QueueState}
-use Rattle.queue_book.specs.Asks.{IsOnTurn, OnNext}
+use Rattle.queues.specs.Asks.{IsOnTurn, OnNext, MayDo, HasRoom, QUEUES_MOST}
 use Rattle.queue_book.specs.BookView.{BookView}
 use Rattle.queue_book.specs.Whole.{IsBook}
 use Rattle.queue_book.proofs.BookLent.{called}
 use Rattle.swan_model.specs.QueueFollows.{next_queue_deed}
 use Rattle.swan_model.specs.QueueState.{after_create}
-use Rattle.queue_book.specs.Asks.{MayDo, HasRoom, QUEUES_MOST}
 use Rattle.queue_book.proofs.BookMade.{book_create, create_room}
 use Rattle.swan_model.specs.declared.value.Value.{Value}
 use Rattle.queue_book.specs.Made.{IsMadeIn}
