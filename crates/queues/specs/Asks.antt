@@ -69,7 +69,7 @@ abbrev pub OnActive : QueueState → ℕ → (ActiveFrame → Type 0) → Type 0
 OnActive state number Holds = (frame : ActiveFrame) → active state number ≡ Some frame → Holds frame
 
 -- two values belong to the same run, by the name and the run that each has
-abbrev pub IsSameRun : {Q : Type 0} → (Q → Option Script) → (Q → Option ℕ) → (before now : Q) → Type 0
+abbrev pub IsSameRun : {Q : Type 0} → (Q → Option Script) → (Q → List ℕ) → (before now : Q) → Type 0
 IsSameRun name run before now = (name now ≡ name before) × (run now ≡ run before)
 
 -- what the run's script says of an active frame's next queue deed

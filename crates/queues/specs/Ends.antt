@@ -1,5 +1,5 @@
--- What lent ends push and pop.
-use Rattle.std.specs.Prelude.{◌≡◌, ℕ, ◌<◌, true, false, Some, slice_get, Bool}
+-- What lent ends push and pop, and what they show of it in numbers.
+use Rattle.std.specs.Prelude.{◌≡◌, ◌≢◌, ℕ, ◌+◌, ◌<◌, ◌⊎◌, true, false, Some, slice_get, Bool}
 use Rattle.swan_model.specs.declared.origin.Origin.{Origin}
 use Rattle.swan_model.specs.declared.script.Deed.{Deed}
 use Rattle.swan_model.specs.declared.script.Deed.TheVariants as deed
@@ -35,3 +35,57 @@ IsItemNext s ends value =
     let t = queue_time s ends.path ends.deeds in
     (origin : Origin) → next_queue_deed s ends.path ends.deeds ≡ Some (deed.Pop origin)
     → (slice_get (pushes s origin) (taken s origin t) ≡ Some value) × (taken s origin t < count s origin t)
+
+-- ---- what an end shows of itself
+
+-- how many items a producer can have pushed
+abbrev pub PUSHED_MOST : ℕ
+PUSHED_MOST = 18446744073709551615
+
+pub record EndCounts : Type 0 where
+  -- how many items it has pushed, or popped
+  pub moved : ℕ
+  -- how many items its ring takes
+  pub size : ℕ
+  -- how often it has looked how many the other side has popped, or pushed
+  pub looks : ℕ
+  -- and how many it found at its last look
+  pub found : ℕ
+
+-- it has looked once, at the same ring
+pub record HasLooked (before after : EndCounts) : Type 0 where
+  pub size : after.size ≡ before.size
+  pub looks : after.looks ≡ before.looks + 1
+
+-- A push: the look found that the ring had room.
+pub record HasPushed (before after : EndCounts) : Type 0 where
+  pub looked : HasLooked before after
+  pub moved : after.moved ≡ before.moved + 1
+  pub room : before.moved < after.found + after.size
+
+-- the look found that as many items as the ring takes were pushed and not popped
+pub record WasFull (before after : EndCounts) : Type 0 where
+  pub looked : HasLooked before after
+  pub moved : after.moved ≡ before.moved
+  pub full : before.moved ≡ after.found + after.size
+
+-- A push was refused: the ring was full, or the count of items has no next number.
+abbrev pub WasRefused : EndCounts → EndCounts → Type 0
+WasRefused before after = WasFull before after ⊎ ((before.moved ≡ PUSHED_MOST) × (after ≡ before))
+
+-- A pop: the look found that more was pushed than popped.
+pub record HasPopped (before after : EndCounts) : Type 0 where
+  pub looked : HasLooked before after
+  pub moved : after.moved ≡ before.moved + 1
+  pub some : before.moved < after.found
+
+-- the look found that all that was pushed is popped
+pub record WasEmpty (before after : EndCounts) : Type 0 where
+  pub looked : HasLooked before after
+  pub moved : after.moved ≡ before.moved
+  pub none : before.moved ≡ after.found
+
+-- the ends but this one show what they showed
+abbrev pub AreOtherCounts : (before after : ℕ → Bool → EndCounts) → (queue : ℕ) → (is_producer : Bool) → Type 0
+AreOtherCounts before after queue is_producer =
+    (other : ℕ) (side : Bool) → (other ≢ queue) ⊎ (side ≢ is_producer) → after other side ≡ before other side

@@ -1,5 +1,5 @@
 // The hyperqueues of a run.
-ghost use Rattle.std.specs.Prelude.{◌≡◌, ℕ, ◌+◌, ◌≤◌, true, false, [], Option, Some, None, IfOk, IfErr, OnOk, OnErr, length, slice_get};
+ghost use Rattle.std.specs.Prelude.{◌≡◌, ℕ, ◌+◌, ◌≤◌, Bool, true, false, List, [], Option, Some, None, IfOk, IfErr, OnOk, OnErr, length, slice_get};
 ghost use Rattle.std.specs.Option.{ForSome};
 ghost use Rattle.swan_model.specs.declared.plan.TheConstants.{FIRST_ITEMS_MOST};
 ghost use Rattle.swan_model.specs.declared.rights.Mode.TheVariants.{Push, Pop};
@@ -9,7 +9,7 @@ ghost use Rattle.swan_model.specs.Lawful.{IsLawful};
 ghost use Rattle.swan_model.specs.QueueFollows.{next_queue_deed, AreByEnds, IsNextAbout, NextSpawnGivesQueues};
 ghost use Rattle.swan_model.specs.QueueState.{active, after_back, after_create, after_create_root, after_deed, after_finish, after_lend, after_spawn, after_take_rest, ActiveFrame, IsUntouched, LentEnd, QueueState};
 ghost use Rattle.swan_model.specs.Segments.{segment_queue};
-ghost use Rattle.queues.specs.Asks.{HasRoom, IsRestLeft, is_emptied, IsOnTurn, IsRecorded, IsSameRun, MayDo, MayJoin, MayLook, MaySpawn, MayUse, OnActive, OnNext};
+ghost use Rattle.queues.specs.Asks.{HasRoom, IsRestLeft, is_emptied, IsOnTurn, IsRecorded, IsSameRun, MayDo, MayJoin, MayLook, MaySpawn, MayUse, OnActive, OnNext, has_end};
 ghost use Rattle.queues.specs.Tells.{OnQueue, IsPopped, after_pop, IsTested, after_test, rest_of};
 
 use crate::{LocalEnds, Popped, QueueGive, Tested};
@@ -31,8 +31,9 @@ pub trait Queues: Send + Drop {
     /// The script of the run's name, where it has one.
     ghost name: { Self → Option Script };
 
-    /// Which run it is, where runs are told apart.
-    ghost run: { Self → Option ℕ };
+    /// What tells this run from others, as the id of a table that no other run shares; the empty list where runs aren't
+    /// told apart.
+    ghost run: { Self → List ℕ };
 
     /// Its frames and queues.
     ghost state: { Self → QueueState };
@@ -91,6 +92,9 @@ pub trait Queues: Send + Drop {
         ensures lent { OnActive (state self.old) frame (λ f.
             Self.Ends.ends result ≡ record { frame = frame; path = f.path; before = f.deeds; deeds = f.deeds; list = (Self.Ends.ends result).list }) }
         ensures own { (Self.Ends.name result ≡ name self.old) × (Self.Ends.run result ≡ run self.old) }
+
+        // what each of them shows: a ring that takes some items
+        ensures rings { (queue : ℕ) (is_producer : Bool) → has_end (Self.Ends.ends result) queue is_producer ≡ true → 1 ≤ (Self.Ends.counts result queue is_producer).size }
 
         // what the script tells of them
         ensures segments { (i : ℕ) (end : LentEnd) → slice_get (Self.Ends.ends result).list i ≡ Some end
