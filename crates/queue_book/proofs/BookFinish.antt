@@ -29,7 +29,7 @@ use Rattle.queues.proofs.FramesChanged.{find_gone}
 use Rattle.queue_book.proofs.LiveKept.{key_none, kept_live, live_gone, place_has}
 use Rattle.queues.proofs.Match.{matches_finish, matches_finish_other}
 use Rattle.queue_book.proofs.PlainSaid.{on_next}
-use Rattle.queues.proofs.TreeActed.{acted_finish}
+use Rattle.queues.proofs.TreeSpawners.{spawners_finish}
 use Rattle.queues.proofs.TreeKept.{tree_finish}
 use Rattle.queues.proofs.TreeOwners.{none_has, owners_finish, owners_kept_finish, owners_none}
 use Rattle.queues.proofs.TurnsGone.{turns_gone}
@@ -117,7 +117,7 @@ module _ (name : Option Script) (state : QueueState) (lines : ℕ → Chunks) (i
   plain_finish = record {
     tree = tree_finish state n is.tree may;
     follows = λ s named lawful. finished_follows s state (is.follows s named lawful) n may.alone;
-    acted = λ s named. acted_finish state n is.tree may (is.acted s named);
+    spawners = λ s named. spawners_finish state n is.tree may (is.spawners s named);
     queues = λ q maker made. line_ended q maker made;
     rests = is.rests;
   }

@@ -133,7 +133,7 @@ module _ (name : Option Script) (state : QueueState) (frames : LiveFrames) (live
         let R : Chunks → Type 0 = λ chunks. HasOwners state q chunks in
         holds_now s state q (origin_in s made.0) (end_time s (maker_path made.0)) some.first some.rest (subst P some.are (matched s named lawful)) own_chunk.0 n may.frame
         (subst Q some.are own_chunk.1) may.may.live may.held
-        (none_pops state q (some.first ∷ some.rest) n own_chunk.0 may.frame is.tree (is.acted s named) (subst R some.are owners) may.may (has_turn s named) may.held alone
+        (none_pops state q (some.first ∷ some.rest) n own_chunk.0 may.frame is.tree (is.spawners s named) (subst R some.are owners) may.may (has_turn s named) may.held alone
         (subst Q some.are own_chunk.1))
         some.value some.item
 
@@ -161,7 +161,7 @@ module _ (name : Option Script) (state : QueueState) (frames : LiveFrames) (live
 
       pushes : holds_queue pusher.0 q Push ≡ true
       pushes =
-          earlier_owner_pushes state q (theirs.first ∷ theirs.rest) n may.frame own_chunk.0 0 m pusher.0 is.tree (is.acted s named) now_owners may.may (has_turn s named) may.held alone
+          earlier_owner_pushes state q (theirs.first ∷ theirs.rest) n may.frame own_chunk.0 0 m pusher.0 is.tree (is.spawners s named) now_owners may.may (has_turn s named) may.held alone
           now_own first_own before pusher.1
 
       pub met_first : first_open frames n q (lines q) ≡ Some m
@@ -174,7 +174,7 @@ module _ (name : Option Script) (state : QueueState) (frames : LiveFrames) (live
           let P : Chunks → Type 0 = λ chunks. Matches s state q (origin_in s made.0) (end_time s (maker_path made.0)) chunks in
           not_ripe s state q (origin_in s made.0) (end_time s (maker_path made.0)) theirs.first theirs.rest (subst P theirs.are (matched s named lawful)) own_chunk.0 n may.frame now_own
           may.may.live may.held
-          (none_pops state q (theirs.first ∷ theirs.rest) n own_chunk.0 may.frame is.tree (is.acted s named) now_owners may.may (has_turn s named) may.held alone now_own)
+          (none_pops state q (theirs.first ∷ theirs.rest) n own_chunk.0 may.frame is.tree (is.spawners s named) now_owners may.may (has_turn s named) may.held alone now_own)
           m pusher.0 theirs.owns pusher.1 differ pushes theirs.none
 
     -- whose the first chunk is, where no item stands at the front

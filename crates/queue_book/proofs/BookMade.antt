@@ -211,10 +211,10 @@ module _ (name : Option Script) (state : QueueState) (frames : LiveFrames) (head
         let room = act.room in
         omega (arith, room, deeds)
 
-    pub book_create : OnNext name state n (λ s f. next_queue_deed s f.path f.deeds ≡ Some deed.MakeQueue) → IsOnTurn name state n → length after_heads ≡ length heads + 1
+    pub book_create : OnNext name state n (λ s f. next_queue_deed s f.path f.deeds ≡ Some deed.MakeQueue) → length after_heads ≡ length heads + 1
         → (after_frames : LiveFrames) → IsOnlyChange mid_frames after_frames n (option_map (λ (kept : KeptFrame). record kept { deeds = kept.deeds + 1 }) (kept_of mid_frames n))
         → IsBook name (after_create state act.frame) after_frames after_heads after_nodes turns
-    book_create next turn more after_frames counted_one =
+    book_create next more after_frames counted_one =
         let frame = act.frame in
         let i = length state.makers in
         let at : q ≡ i = new ∙ is.count in
@@ -235,7 +235,7 @@ module _ (name : Option Script) (state : QueueState) (frames : LiveFrames) (head
         (ap (active (after_create state frame)) (sym number) ∙ own_changed state frame.number change (λ f. refl) frame own_live)
         (subst P number (others_changed state frame.number change (λ f. refl))) refl refl refl refl refl
         after_frames made.key kept now_kept was.1 was.2 one (ap (λ k. k + 1) was.2.deeds) (act.may.back ∙ sym (lent_none now_kept free)) refl
-        [] after_heads after_nodes more (plain_create name state is.lines is.plain n act next turn)
+        [] after_heads after_nodes more (plain_create name state is.lines is.plain n act next)
         (λ m p. keys_same mid_frames after_frames n (with_own_chunk i place kept) now_kept mid.changed (record { changed = one.changed; others = counted_one.others }) refl m p
         ∙ keys_put frames mid_frames n i place kept was.1 mid m p)
         (subst R at (made.chained is.lines is.chained (unplaced n q new)))

@@ -26,7 +26,7 @@ use Rattle.queues.proofs.Frames.{active_number}
 use Rattle.queue_book.proofs.LiveKept.{agrees_on, key_none}
 use Rattle.queues.proofs.Match.{matches_rest, rest_told}
 use Rattle.queue_book.proofs.PlainSaid.{in_each, on_queue}
-use Rattle.queues.proofs.TreeActed.{acted_rest}
+use Rattle.queues.proofs.TreeSpawners.{spawners_rest}
 use Rattle.queues.proofs.TreeKept.{tree_rest}
 use Rattle.queues.proofs.TreeOwners.{owners_kept_rest}
 use Rattle.queues.proofs.TurnsKept.{turns_alike}
@@ -112,7 +112,7 @@ module _ (name : Option Script) (state : QueueState) (frames : LiveFrames) (head
         | inr other ↦ is.plain.rests p (sym (emptied_other state q p other) ∙ over)
       ];
       follows = λ s named lawful. rest_follows s state (is.plain.follows s named lawful) q;
-      acted = λ s named. acted_rest state q is.plain.tree (is.plain.acted s named);
+      spawners = λ s named. spawners_rest state q is.plain.tree (is.plain.spawners s named);
       queues = λ p one made.
           let line = is.plain.queues p one made in
           in_each (λ k chunks. IsLine name (after_take_rest state q) k one chunks) q (λ chunks. []) is.lines p

@@ -15,7 +15,7 @@ use Rattle.queues.proofs.Gives.{gives_had}
 use Rattle.queues.proofs.Match.{matches_spawn, matches_spawn_other, not_active}
 use Rattle.queue_book.proofs.PlainSaid.{on_next, origin_of, turn_on}
 use Rattle.queues.proofs.Spawning.{spawned_follows}
-use Rattle.queues.proofs.TreeActed.{acted_spawn}
+use Rattle.queues.proofs.TreeSpawners.{spawners_spawn}
 use Rattle.queues.proofs.TreeKept.{tree_spawn}
 use Rattle.queues.proofs.TreeOwners.{owners_kept_spawn, owners_spawn}
 
@@ -54,7 +54,7 @@ module _ (name : Option Script) (state : QueueState) (lines : ℕ → Chunks) (i
   plain_spawn = record {
     tree = tree_spawn state p child gives is.tree may;
     follows = λ s named lawful. spawned_follows s lawful state (is.follows s named lawful) p child may.act.frame gives may.act.may.live free (spawn_of s named);
-    acted = λ s named. acted_spawn state p child gives is.tree may (is.acted s named) (turn_on name state p s may.act.frame turn named may.act.may.live);
+    spawners = λ s named. spawners_spawn state p child gives is.tree may (is.spawners s named) (turn_on name state p s may.act.frame turn named may.act.may.live);
     queues = λ q maker made. line q maker made (gives_queue gives q) refl;
     rests = is.rests;
   }

@@ -11,7 +11,7 @@ use Rattle.queues.specs.Asks.{is_emptied}
 use Rattle.queues.specs.Chunks.{Chunks, HasOwners, Matches}
 use Rattle.queue_book.specs.Chains.{Link, AreChained}
 use Rattle.queue_book.specs.Live.{AreLive, key_at}
-use Rattle.queues.specs.Tree.{HaveActed, IsTree, has_queue, maker_path, IsInUse}
+use Rattle.queues.specs.Tree.{SpawnersHaveTurns, IsTree, has_queue, maker_path, IsInUse}
 use Rattle.queues.specs.Turned.{AreTurns}
 use Rattle.queue_book.specs.declared.live_frames.LiveFrames.{LiveFrames}
 
@@ -26,7 +26,7 @@ pub record IsLine (name : Option Script) (state : QueueState) (queue : ℕ) (mak
 pub record IsPlain (name : Option Script) (state : QueueState) (lines : ℕ → Chunks) : Type 0 where
   pub tree : IsTree state
   pub follows : (s : Script) → name ≡ Some s → IsLawful s → QueuesFollow s state
-  pub acted : (s : Script) → name ≡ Some s → HaveActed state
+  pub spawners : (s : Script) → name ≡ Some s → SpawnersHaveTurns state
   pub queues : (queue : ℕ) (maker : QueueMaker) → slice_get state.makers queue ≡ Some maker → IsLine name state queue maker (lines queue)
   -- no rest was taken of a queue that isn't made yet
   pub rests : (queue : ℕ) → is_emptied state queue ≡ true → queue < length state.makers

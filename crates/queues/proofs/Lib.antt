@@ -45,7 +45,7 @@ pub mod TreeAdded
 pub mod TreeWithout
 pub mod TreeCalls
 pub mod TreeKept
-pub mod TreeActed
+pub mod TreeSpawners
 pub mod TreeTurns
 -- who owns the chunks of a queue
 pub mod Owners

@@ -18,7 +18,7 @@ use Rattle.swan_model.specs.Told.{count, is_same, taken}
 use Rattle.swan_model.proofs.Origins.{is_same-equal}
 use Rattle.queues.specs.Chunks.{Chunk, Chunks, HasOwners, IsOwner, Matches, after_close, with_item, without_first}
 use Rattle.queues.specs.Tells.{FindsNone}
-use Rattle.queues.specs.Tree.{HaveActed, IsTree}
+use Rattle.queues.specs.Tree.{SpawnersHaveTurns, IsTree}
 use Rattle.queues.proofs.ActiveAfter.{KeepsNumber, others_changed, others_finished, own_changed}
 use Rattle.queues.proofs.Making.{holds_before}
 use Rattle.queues.proofs.MatchDeed.{HasDone, LeavesQueue, done_deed, matches_stay, matches_told}
@@ -62,10 +62,10 @@ module _ (s : Script) (frame : ActiveFrame) (queue : Origin) where
 -- ---- whose turn it is
 
 -- before the chunk of a frame that pops and has its turn stands none of one that may pop
-pub none_pops : (state : QueueState) (queue : ℕ) (chunks : Chunks) (n index : ℕ) (frame : ActiveFrame) → IsTree state → HaveActed state → HasOwners state queue chunks → MayAct state n frame → HasTurn state frame
+pub none_pops : (state : QueueState) (queue : ℕ) (chunks : Chunks) (n index : ℕ) (frame : ActiveFrame) → IsTree state → SpawnersHaveTurns state → HasOwners state queue chunks → MayAct state n frame → HasTurn state frame
     → holds_queue frame queue Pop ≡ true → ((child : ℕ) → IsPoppingChild state n queue child → ⊥) → IsOwner state chunks index n → NonePops state queue chunks index
-none_pops state queue chunks n index frame tree acted owners may turn pops alone own before m other less theirs live =
-    earlier_owner_is_no_popper state queue chunks n frame index before m other tree acted owners may turn pops alone own theirs less live
+none_pops state queue chunks n index frame tree spawners owners may turn pops alone own before m other less theirs live =
+    earlier_owner_is_no_popper state queue chunks n frame index before m other tree spawners owners may turn pops alone own theirs less live
 
 -- a number that is larger than each so far is of no active frame
 pub not_active : (state : QueueState) → IsTree state → (child : ℕ) → state.latest < child → active state child ≡ None

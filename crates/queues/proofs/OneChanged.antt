@@ -57,16 +57,10 @@ both_of_queues Pop is = refl
 both_of_queues PushPop is = refl
 both_of_queues mode is = absurd (false≢true is)
 
-module _ (state : QueueState) (tree : IsTree state) (n : ℕ) (change : ActiveFrame → ActiveFrame) (kept : KeepsPlace change)
-    (few : (frame : ActiveFrame) → active state n ≡ Some frame → frame.children ≤ frame.deeds → (change frame).children ≤ (change frame).deeds) where
+module _ (state : QueueState) (tree : IsTree state) (n : ℕ) (change : ActiveFrame → ActiveFrame) (kept : KeepsPlace change) where
   -- each frame is the changed one, or as it was
   by_cases : (P : ActiveFrame → Type 0) (frame : ActiveFrame) → P (change frame) → P frame → P (changed n change frame)
   by_cases P frame new old = cond_both (nat_eq frame.number n) (change frame) frame P (λ is. new) (λ is. old)
-
-  spawners-each : (number : ℕ) (frame : ActiveFrame) → active state number ≡ Some frame → (changed n change frame).children ≤ (changed n change frame).deeds
-  spawners-each number frame live = cond_both (nat_eq frame.number n) (change frame) frame (λ now. now.children ≤ now.deeds)
-      (λ is. few frame (ap (active state) (sym (eqb-true frame.number n is) ∙ active_number state number frame live) ∙ live) (tree.spawners number frame live))
-      (λ is. tree.spawners number frame live)
 
   -- a frame goes on with the rights that it had
   module _ (rights : (frame : ActiveFrame) → (change frame).rights ≡ frame.rights) where
@@ -88,7 +82,6 @@ module _ (state : QueueState) (tree : IsTree state) (n : ℕ) (change : ActiveFr
       parents = λ frame. by_cases (λ now. now.parent ≡ frame.parent) frame (kept.parents frame) refl;
       paths = λ frame. by_cases (λ now. now.path ≡ frame.path) frame (kept.paths frame) refl;
       children = λ frame. by_cases (λ now. frame.children ≤ now.children) frame (kept.children frame) (omega arith);
-      spawners = spawners-each;
       has = λ frame queue there. same_has frame queue;
       holds = λ frame queue mode there. same_holds frame queue mode;
       new = λ number queue frame live fresh has.
@@ -152,7 +145,6 @@ module _ (state : QueueState) (tree : IsTree state) (n : ℕ) (change : ActiveFr
       parents = λ frame. by_cases (λ now. now.parent ≡ frame.parent) frame (kept.parents frame) refl;
       paths = λ frame. by_cases (λ now. now.path ≡ frame.path) frame (kept.paths frame) refl;
       children = λ frame. by_cases (λ now. frame.children ≤ now.children) frame (kept.children frame) (omega arith);
-      spawners = spawners-each;
       has = has_old;
       holds = holds_old;
       new = new_queue;

@@ -23,7 +23,6 @@ pub record IsNewest (state : QueueState) (parent new : ActiveFrame) (index : ℕ
   pub path : new.path ≡ parent.path ++ index ∷ []
   pub spawned : index < parent.children
   pub none : new.children ≡ 0
-  pub idle : new.deeds ≡ 0
   -- it is behind all its siblings
   pub later : (number other : ℕ) (frame : ActiveFrame) → active state number ≡ Some frame → frame.path ≡ parent.path ++ other ∷ [] → other < index
   pub has : (queue : ℕ) → has_queue new queue ≡ true → has_queue parent queue ≡ true
@@ -181,5 +180,4 @@ module _ (state : QueueState) (parent new : ActiveFrame) (index : ℕ) (tree : I
         (λ n f alive has. let held = tree.held n queue f alive has in (held.0, held_too queue f held.1)) (new_held queue) number frame live;
     modes = λ number queue frame mode live. for_both (λ n f. holds_queue f queue mode ≡ true → is_queue_mode mode ≡ true)
         (λ n f alive. tree.modes n queue f mode alive) (λ holds. tree.modes parent.number queue parent mode is.live (is.holds queue mode holds)) number frame live;
-    spawners = for_both (λ number frame. frame.children ≤ frame.deeds) tree.spawners (let none = is.none in omega arith);
   }

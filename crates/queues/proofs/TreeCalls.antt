@@ -20,7 +20,7 @@ root_changed state tree =
     let queue = length state.makers in
     makes state tree 0 (with_made queue)
     (in_place (with_made queue) (λ f. refl) (λ f. refl) (λ f. refl) (λ f. omega arith))
-    (λ f live fewer. fewer) (λ f. refl) (planned queue) (λ f live. (tree.root f live).0)
+    (λ f. refl) (planned queue) (λ f live. (tree.root f live).0)
 
 -- a frame with a new queue, after one more deed
 abbrev pub maker_now : QueueState → ActiveFrame → ActiveFrame
@@ -34,14 +34,14 @@ module _ (state : QueueState) (tree : IsTree state) (n : ℕ) (frame : ActiveFra
   create_changed =
       makes state tree frame.number (maker_now state)
       (in_place (maker_now state) (λ f. refl) (λ f. refl) (λ f. refl) (λ f. omega arith))
-      (λ f live fewer. omega arith) (λ f. refl) (made_by frame.path frame.deeds)
+      (λ f. refl) (made_by frame.path frame.deeds)
       (λ f live. ap (λ (g : ActiveFrame). g.path) (same_frame (active state frame.number) f frame live own_live))
 
   deed : IsChanged state (after_deed state frame.number) (changed frame.number with_deed) frame.number
   deed =
       goes_on state tree frame.number with_deed
       (in_place with_deed (λ f. refl) (λ f. refl) (λ f. refl) (λ f. omega arith))
-      (λ f live fewer. omega arith) (λ f. refl)
+      (λ f. refl)
 
   pub deed_changed : IsChanged state (after_deed state n) (changed n with_deed) n
   deed_changed = subst (λ k. IsChanged state (after_deed state k) (changed k with_deed) k) (active_number state n frame may.live) deed
@@ -55,22 +55,17 @@ pub lend_changed : (state : QueueState) (frame : ActiveFrame) (ends : List LentE
 lend_changed state frame ends tree =
     goes_on state tree frame.number (lent_now frame ends)
     (in_place (lent_now frame ends) (λ f. refl) (λ f. refl) (λ f. refl) (λ f. omega arith))
-    (λ f live fewer. fewer) (λ f. refl)
+    (λ f. refl)
 
 -- a frame with its ends back
 abbrev pub back_now : ℕ → ActiveFrame → ActiveFrame
 back_now deeds f = record f { deeds = deeds; lent = None }
 
-pub back_changed : (state : QueueState) (n deeds : ℕ) (frame : ActiveFrame) → IsTree state → active state n ≡ Some frame → frame.deeds ≤ deeds
-    → IsChanged state (after_back state n deeds) (changed n (back_now deeds)) n
-back_changed state n deeds frame tree live more =
+pub back_changed : (state : QueueState) (n deeds : ℕ) → IsTree state → IsChanged state (after_back state n deeds) (changed n (back_now deeds)) n
+back_changed state n deeds tree =
     goes_on state tree n (back_now deeds)
     (in_place (back_now deeds) (λ f. refl) (λ f. refl) (λ f. refl) (λ f. omega arith))
-    (λ f there fewer. let as_many : f.deeds ≡ frame.deeds = same f there in omega arith)
     (λ f. refl)
-  where
-    same : (f : ActiveFrame) → active state n ≡ Some f → f.deeds ≡ frame.deeds
-    same f there = ap (λ (g : ActiveFrame). g.deeds) (same_frame (active state n) f frame there live)
 
 map_same : (frames : List ActiveFrame) → frames ≡ map (λ f. f) frames
 map_same [] = refl
@@ -87,7 +82,6 @@ rest_changed state queue tree = record {
   parents = λ f. refl;
   paths = λ f. refl;
   children = λ f. omega arith;
-  spawners = tree.spawners;
   has = λ f other there. refl;
   holds = λ f other mode there. refl;
   new = λ number other f live fresh has. let there = (tree.held number other f live has).0 in absurd (omega arith);
@@ -108,7 +102,7 @@ module _ (state : QueueState) (tree : IsTree state) (p child : ℕ) (gives : Lis
   parent_changed =
       goes_on state tree frame.number one_more
       (in_place one_more (λ f. refl) (λ f. refl) (λ f. refl) (λ f. omega arith))
-      (λ f live fewer. omega arith) (λ f. refl)
+      (λ f. refl)
 
   pub tree_between : IsTree (with_one_more state frame)
   tree_between = tree_changed state (with_one_more state frame) (changed frame.number one_more) frame.number tree parent_changed
@@ -144,7 +138,6 @@ module _ (state : QueueState) (tree : IsTree state) (p child : ℕ) (gives : Lis
     path = refl;
     spawned = omega arith;
     none = refl;
-    idle = refl;
     later = lesser;
     has = λ queue has. gives_had frame gives lawful queue has;
     holds = λ queue mode held. gives_held frame gives lawful queue mode held;

@@ -23,7 +23,6 @@ pub record IsChanged (before after : QueueState) (each : ActiveFrame → ActiveF
   pub parents : (frame : ActiveFrame) → (each frame).parent ≡ frame.parent
   pub paths : (frame : ActiveFrame) → (each frame).path ≡ frame.path
   pub children : (frame : ActiveFrame) → frame.children ≤ (each frame).children
-  pub spawners : (number : ℕ) (frame : ActiveFrame) → active before number ≡ Some frame → (each frame).children ≤ (each frame).deeds
   pub has : (frame : ActiveFrame) (queue : ℕ) → queue < length before.makers → has_queue (each frame) queue ≡ has_queue frame queue
   pub holds : (frame : ActiveFrame) (queue : ℕ) (mode : Mode) → queue < length before.makers → holds_queue (each frame) queue mode ≡ holds_queue frame queue mode
   -- only one frame gets a new queue
@@ -151,5 +150,4 @@ module _ (before after : QueueState) (each : ActiveFrame → ActiveFrame) (actor
         (λ n f alive. held_now n queue f alive) number frame live;
     modes = λ number queue frame mode live. for_each (λ n f. holds_queue f queue mode ≡ true → is_queue_mode mode ≡ true)
         (λ n f alive. change.modes n queue f mode alive) number frame live;
-    spawners = for_each (λ number frame. frame.children ≤ frame.deeds) change.spawners;
   }

@@ -40,7 +40,6 @@ tree_new = record {
   different = λ number other a b one two same. (only_root number a one).0 ∙ sym (only_root other b two).0;
   held = λ number queue frame live has. absurd (root_only (λ f. has_queue f queue ≡ true → ⊥) (λ is. false≢true is) number frame live has);
   modes = λ number queue frame mode live holds. absurd (root_only (λ f. holds_queue f queue mode ≡ true → ⊥) (λ is. false≢true is) number frame live holds);
-  spawners = λ number frame live. root_only (λ f. f.children ≤ f.deeds) (omega arith) number frame live;
 }
 
 -- ---- the calls
@@ -67,10 +66,8 @@ pub tree_lend : (state : QueueState) (frame : ActiveFrame) (ends : List LentEnd)
 tree_lend state frame ends tree =
     tree_changed state (after_lend state frame ends) (changed frame.number (lent_now frame ends)) frame.number tree (lend_changed state frame ends tree)
 
--- A frame does deeds by its ends, and takes none back.
-pub tree_back : (state : QueueState) (n deeds : ℕ) (frame : ActiveFrame) → IsTree state → active state n ≡ Some frame → frame.deeds ≤ deeds → IsTree (after_back state n deeds)
-tree_back state n deeds frame tree live more =
-    tree_changed state (after_back state n deeds) (changed n (back_now deeds)) n tree (back_changed state n deeds frame tree live more)
+pub tree_back : (state : QueueState) (n deeds : ℕ) → IsTree state → IsTree (after_back state n deeds)
+tree_back state n deeds tree = tree_changed state (after_back state n deeds) (changed n (back_now deeds)) n tree (back_changed state n deeds tree)
 
 pub tree_finish : (state : QueueState) (n : ℕ) → IsTree state → MayJoin state n → IsTree (after_finish state n)
 tree_finish state n tree may = tree_without state n tree may.alone

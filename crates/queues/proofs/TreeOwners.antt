@@ -60,10 +60,9 @@ owners_kept_lend state frame ends q chunks tree owners =
     owners_changed state (after_lend state frame ends) (changed frame.number (lent_now frame ends)) frame.number tree (lend_changed state frame ends tree) q chunks chunks
     (cases_lt q (length state.makers)) (λ index. refl) owners
 
-pub owners_kept_back : (state : QueueState) (n deeds : ℕ) (frame : ActiveFrame) (q : ℕ) (chunks : Chunks) → IsTree state → active state n ≡ Some frame → frame.deeds ≤ deeds
-    → HasOwners state q chunks → HasOwners (after_back state n deeds) q chunks
-owners_kept_back state n deeds frame q chunks tree live more owners =
-    owners_changed state (after_back state n deeds) (changed n (back_now deeds)) n tree (back_changed state n deeds frame tree live more) q chunks chunks
+pub owners_kept_back : (state : QueueState) (n deeds q : ℕ) (chunks : Chunks) → IsTree state → HasOwners state q chunks → HasOwners (after_back state n deeds) q chunks
+owners_kept_back state n deeds q chunks tree owners =
+    owners_changed state (after_back state n deeds) (changed n (back_now deeds)) n tree (back_changed state n deeds tree) q chunks chunks
     (cases_lt q (length state.makers)) (λ index. refl) owners
 
 pub owners_kept_rest : (state : QueueState) (queue q : ℕ) (chunks : Chunks) → IsTree state → HasOwners state q chunks → HasOwners (after_take_rest state queue) q chunks

@@ -11,11 +11,11 @@ use Rattle.swan_model.proofs.PathOrder.{how_before, IsAside, IsBelow}
 use Rattle.swan_model.proofs.Paths.{not_below-itself}
 use Rattle.queues.specs.Chunks.{Chunk, Chunks, HasOwners, IsOwner}
 use Rattle.queues.specs.Tells.{IsFirstPusher}
-use Rattle.queues.specs.Tree.{HaveActed, IsTree, has_queue, maker_path}
+use Rattle.queues.specs.Tree.{SpawnersHaveTurns, IsTree, has_queue, maker_path}
 use Rattle.queues.proofs.Above.{climb, held_above, IsOnWay, maker_of, same_front, under_maker}
 use Rattle.queues.proofs.Frames.{active_number, has_held, pushes_or_pops, same_frame}
 
-module _ (state : QueueState) (tree : IsTree state) (acted : HaveActed state) (queue n : ℕ) (f : ActiveFrame) (may : MayAct state n f)
+module _ (state : QueueState) (tree : IsTree state) (spawners : SpawnersHaveTurns state) (queue n : ℕ) (f : ActiveFrame) (may : MayAct state n f)
     (turn : HasTurn state f) (pops : holds_queue f queue Pop ≡ true) (alone : (c : ℕ) → ¬ IsPoppingChild state n queue c) where
   abbrev Pops : ActiveFrame → Type 0
   Pops frame = holds_queue frame queue Pop ≡ true
@@ -85,9 +85,7 @@ module _ (state : QueueState) (tree : IsTree state) (acted : HaveActed state) (q
         let one = same_frame (active state n) b.child f (subst P same b.live) may.live in
         let Q : ActiveFrame → Type 0 = λ g. IsOlderPopper state g m in
         turn m (subst Q one older)
-    by (inr some) =
-        let done = tree.spawners b.number b.child b.live in
-        acted.acted b.number b.child b.live (omega arith) m older
+    by (inr some) = spawners.turns b.number b.child b.live some m older
 
   no_popper_aside : (m : ℕ) (g : ActiveFrame) → active state m ≡ Some g → Pops g → IsAside g.path f.path → ⊥
   no_popper_aside m g live too aside =
@@ -128,20 +126,20 @@ one_owner state chunks index number other a b =
 -- ---- the owners of chunks before its own
 
 module _ (state : QueueState) (queue : ℕ) (chunks : Chunks) (n : ℕ) (f : ActiveFrame) (i j m : ℕ) (g : ActiveFrame)
-    (tree : IsTree state) (acted : HaveActed state) (owners : HasOwners state queue chunks) (may : MayAct state n f) (turn : HasTurn state f)
+    (tree : IsTree state) (spawners : SpawnersHaveTurns state) (owners : HasOwners state queue chunks) (may : MayAct state n f) (turn : HasTurn state f)
     (pops : holds_queue f queue Pop ≡ true) (alone : (c : ℕ) → ¬ IsPoppingChild state n queue c) (own : IsOwner state chunks i n)
     (other : IsOwner state chunks j m) (before : j < i) (live : active state m ≡ Some g) where
   comes_earlier : comes_before g.path f.path ≡ true
   comes_earlier = owners.order j i m n g f before other own live may.live
 
   pub earlier_owner_is_no_popper : holds_queue g queue Pop ≡ false
-  earlier_owner_is_no_popper = earlier_pops_not state tree acted queue n f may turn pops alone m g live comes_earlier
+  earlier_owner_is_no_popper = earlier_pops_not state tree spawners queue n f may turn pops alone m g live comes_earlier
 
   pub earlier_owner_pushes : holds_queue g queue Push ≡ true
   earlier_owner_pushes =
       let has = owners.owners j m other in
       let P : ActiveFrame → Type 0 = λ h. has_queue h queue ≡ true in
-      earlier_pushes state tree acted queue n f may turn pops alone m g live comes_earlier (subst P (same_frame (active state m) has.0 g has.1 live) has.2)
+      earlier_pushes state tree spawners queue n f may turn pops alone m g live comes_earlier (subst P (same_frame (active state m) has.0 g has.1 live) has.2)
 
 -- ---- those of them that push
 

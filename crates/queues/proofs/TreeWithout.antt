@@ -80,5 +80,4 @@ module _ (state : QueueState) (gone : ℕ) (tree : IsTree state) (alone : (child
         let held = tree.held number queue frame was has in
         (held.0, held_left number queue frame was held.1);
     modes = λ number queue frame mode live. tree.modes number queue frame mode (was_there state gone number frame live).1;
-    spawners = λ number frame live. tree.spawners number frame (was_there state gone number frame live).1;
   }

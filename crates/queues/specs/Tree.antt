@@ -44,12 +44,10 @@ pub record IsTree (state : QueueState) : Type 0 where
   -- rights come from the maker, from parent to child
   pub held : (number queue : ℕ) (frame : ActiveFrame) → active state number ≡ Some frame → has_queue frame queue ≡ true → (queue < length state.makers) × IsHeld state frame queue
   pub modes : (number queue : ℕ) (frame : ActiveFrame) (mode : Mode) → active state number ≡ Some frame → holds_queue frame queue mode ≡ true → is_queue_mode mode ≡ true
-  -- who has spawned has done a deed
-  pub spawners : (number : ℕ) (frame : ActiveFrame) → active state number ≡ Some frame → frame.children ≤ frame.deeds
 
--- Each active frame that has done a deed has its turn to pop. It is so where each deed is done by a frame that has its turn.
-pub record HaveActed (state : QueueState) : Type 0 where
-  pub acted : (number : ℕ) (frame : ActiveFrame) → active state number ≡ Some frame → 0 < frame.deeds → HasTurn state frame
+-- Each active frame that has spawned has its turn to pop. It is so where each spawn is done by a frame that has its turn.
+pub record SpawnersHaveTurns (state : QueueState) : Type 0 where
+  pub turns : (number : ℕ) (frame : ActiveFrame) → active state number ≡ Some frame → 0 < frame.children → HasTurn state frame
 
 -- an active frame has the queue, or the root made it, so that its rest is left
 abbrev pub IsInUse : QueueState → ℕ → QueueMaker → Type 0
