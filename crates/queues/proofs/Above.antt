@@ -5,6 +5,7 @@ use Rattle.std.specs.Prelude.{slice_get}
 use Rattle.swan_model.specs.declared.rights.Mode.{Mode}
 use Rattle.swan_model.specs.QueueState.{ActiveFrame, QueueMaker, QueueState, active, holds_queue}
 use Rattle.swan_model.proofs.Lists.{last_of, last_same, some_within}
+use Rattle.swan_model.proofs.Paths.{not_below-itself}
 use Rattle.queues.specs.Tree.{IsHeld, made, given, IsTree, has_queue, maker_path}
 use Rattle.queues.proofs.Frames.{active_number, same_frame, has_held}
 
@@ -160,3 +161,21 @@ module _ (state : QueueState) (tree : IsTree state) where
           let one = same_frame (active state parent) upper above (subst P same there) alive in
           let Q : ActiveFrame → Type 0 = λ g. holds_queue g queue mode ≡ true in
           subst Q one (modes mode held)
+
+  -- ---- where its maker is not
+
+  -- the maker of a queue isn't beside a frame that has it
+  pub maker_aside : (queue number : ℕ) (frame : ActiveFrame) (maker : QueueMaker) (top more : List ℕ) (part other : ℕ) → active state number ≡ Some frame → has_queue frame queue ≡ true
+      → slice_get state.makers queue ≡ Some maker → frame.path ≡ top ++ other ∷ more → (part ≡ other → ⊥) → (rest : List ℕ) → maker_path maker ≡ top ++ part ∷ rest → ⊥
+  maker_aside queue number frame maker top more part other live has at path apart rest there =
+      let under = under_maker number queue frame maker live has at in
+      apart (same_front top part other (rest ++ under.0) more
+      (sym (append_assoc top (part ∷ rest) under.0) ∙ ap (λ p. p ++ under.0) (sym there) ∙ sym under.1 ∙ path))
+
+  -- nor below it
+  pub maker_below : (queue number : ℕ) (frame : ActiveFrame) (maker : QueueMaker) (part : ℕ) → active state number ≡ Some frame → has_queue frame queue ≡ true
+      → slice_get state.makers queue ≡ Some maker → (rest : List ℕ) → maker_path maker ≡ frame.path ++ part ∷ rest → ⊥
+  maker_below queue number frame maker part live has at rest there =
+      let under = under_maker number queue frame maker live has at in
+      not_below-itself frame.path (rest ++ under.0) part
+      (under.1 ∙ ap (λ p. p ++ under.0) there ∙ append_assoc frame.path (part ∷ rest) under.0)

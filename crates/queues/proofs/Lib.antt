@@ -71,5 +71,6 @@ pub mod Match
 pub mod TurnsKept
 pub mod TurnsGone
 pub mod TurnsEnlisted
+pub mod TurnsTold
 -- each call keeps the whole: first what doesn't depend on how it is kept (`Plain..`), then with frames, chains and turns (`Book..`)
 pub mod GivingTurns

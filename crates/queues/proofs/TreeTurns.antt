@@ -12,7 +12,7 @@ use Rattle.swan_model.proofs.Paths.{not_below-itself}
 use Rattle.queues.specs.Chunks.{Chunk, Chunks, HasOwners, IsOwner}
 use Rattle.queues.specs.Tells.{IsFirstPusher}
 use Rattle.queues.specs.Tree.{SpawnersHaveTurns, IsTree, has_queue, maker_path}
-use Rattle.queues.proofs.Above.{climb, held_above, IsOnWay, maker_of, same_front, under_maker}
+use Rattle.queues.proofs.Above.{climb, held_above, IsOnWay, maker_aside, maker_below, maker_of, same_front}
 use Rattle.queues.proofs.Frames.{active_number, has_held, pushes_or_pops, same_frame}
 
 module _ (state : QueueState) (tree : IsTree state) (spawners : SpawnersHaveTurns state) (queue n : ℕ) (f : ActiveFrame) (may : MayAct state n f)
@@ -20,27 +20,11 @@ module _ (state : QueueState) (tree : IsTree state) (spawners : SpawnersHaveTurn
   abbrev Pops : ActiveFrame → Type 0
   Pops frame = holds_queue frame queue Pop ≡ true
 
-  -- the maker of the queue isn't beside a frame that has it
-  maker_aside : (number : ℕ) (frame : ActiveFrame) (maker : QueueMaker) (top more : List ℕ) (part other : ℕ) → active state number ≡ Some frame → has_queue frame queue ≡ true
-      → slice_get state.makers queue ≡ Some maker → frame.path ≡ top ++ other ∷ more → (part ≡ other → ⊥) → (rest : List ℕ) → maker_path maker ≡ top ++ part ∷ rest → ⊥
-  maker_aside number frame maker top more part other live has at path apart rest there =
-      let under = under_maker state tree number queue frame maker live has at in
-      apart (same_front top part other (rest ++ under.0) more
-      (sym (append_assoc top (part ∷ rest) under.0) ∙ ap (λ p. p ++ under.0) (sym there) ∙ sym under.1 ∙ path))
-
-  -- nor below it
-  maker_below : (number : ℕ) (frame : ActiveFrame) (maker : QueueMaker) (part : ℕ) → active state number ≡ Some frame → has_queue frame queue ≡ true
-      → slice_get state.makers queue ≡ Some maker → (rest : List ℕ) → maker_path maker ≡ frame.path ++ part ∷ rest → ⊥
-  maker_below number frame maker part live has at rest there =
-      let under = under_maker state tree number queue frame maker live has at in
-      not_below-itself frame.path (rest ++ under.0) part
-      (under.1 ∙ ap (λ p. p ++ under.0) there ∙ append_assoc frame.path (part ∷ rest) under.0)
-
   no_popper_below : (m : ℕ) (g : ActiveFrame) → active state m ≡ Some g → Pops g → IsBelow g.path f.path → ⊥
   no_popper_below m g live too below =
       let has = has_held f queue Pop pops in
       let maker = maker_of state tree n queue f may.live has in
-      let up = held_above state tree queue Pop maker.0 f.path below.number maker.1 (maker_below n f maker.0 below.number may.live has maker.1) in
+      let up = held_above state tree queue Pop maker.0 f.path below.number maker.1 (maker_below state tree queue n f maker.0 below.number may.live has maker.1) in
       let way = climb state tree Pops f.path below.number up m g below.rest live below.is too in
       let same : way.parent ≡ n = tree.different way.parent n way.above f way.above_live may.live way.above_path in
       alone way.number (record { frame = way.child; live = way.live; of = way.of ∙ ap Some same; pops = way.told })
@@ -93,9 +77,9 @@ module _ (state : QueueState) (tree : IsTree state) (spawners : SpawnersHaveTurn
       let less = aside.less in
       let maker = maker_of state tree n queue f may.live has in
       let up = held_above state tree queue Pop maker.0 aside.above aside.number maker.1
-      (maker_aside n f maker.0 aside.above aside.more aside.number aside.later may.live has maker.1 aside.also (λ same. absurd (omega arith))) in
+      (maker_aside state tree queue n f maker.0 aside.above aside.more aside.number aside.later may.live has maker.1 aside.also (λ same. absurd (omega arith))) in
       let up_too = held_above state tree queue Pop maker.0 aside.above aside.later maker.1
-      (maker_aside m g maker.0 aside.above aside.rest aside.later aside.number live (has_held g queue Pop too) maker.1 aside.is (λ same. absurd (omega arith))) in
+      (maker_aside state tree queue m g maker.0 aside.above aside.rest aside.later aside.number live (has_held g queue Pop too) maker.1 aside.is (λ same. absurd (omega arith))) in
       let a = climb state tree Pops aside.above aside.number up m g aside.rest live aside.is too in
       let b = climb state tree Pops aside.above aside.later up_too n f aside.more may.live aside.also pops in
       had_turn aside.above aside.later a.number b (older_popper aside.above aside.number aside.later m less a b)
