@@ -27,7 +27,7 @@ use Rattle.queues.proofs.Frames.{has_held}
 use Rattle.queue_book.proofs.LiveKept.{keys_same, kept_live, live_one}
 use Rattle.queue_book.proofs.PlainDeeds.{deed_alike, plain_empty, plain_pop, plain_push, plain_test}
 use Rattle.queue_book.proofs.PlainSaid.{origin_of}
-use Rattle.queues.proofs.TurnsKept.{turns_alike}
+use Rattle.queues.proofs.TurnsCalls.{turns_deed}
 
 abbrev pub counted : KeptFrame → KeptFrame
 counted kept = record kept { deeds = kept.deeds + 1 }
@@ -73,7 +73,7 @@ module _ (name : Option Script) (state : QueueState) (frames : LiveFrames) (head
         count = same ∙ is.count;
         chained = chained_same (key_at frames) (key_at after_frames) after_heads after_nodes lines lines
             (keys_same frames after_frames n kept (counted kept) was.1 counted_one refl) (λ q. refl) chained;
-        turned = turns_alike state (after_deed state n) turns (deed_alike name state is.lines is.plain n act) refl is.turned;
+        turned = turns_deed state turns is.turned n act;
       }
 
 module _ (name : Option Script) (state : QueueState) (frames : LiveFrames) (heads : List (Option ℕ)) (nodes : Slab Link) (turns : Frames) (is : IsBook name state frames heads nodes turns)

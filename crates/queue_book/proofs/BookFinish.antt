@@ -21,7 +21,7 @@ use Rattle.queues.specs.Tree.{IsTree, has_queue, maker_path, IsInUse}
 use Rattle.queue_book.specs.Whole.{IsBook, IsLine, IsPlain}
 use Rattle.queue_book.specs.declared.live_frame.OwnChunk.{OwnChunk}
 use Rattle.queue_book.specs.declared.live_frames.LiveFrames.{LiveFrames}
-use Rattle.queues.proofs.ActiveAfter.{others_finished}
+use Rattle.queues.proofs.ActiveAfter.{others_finished, gone_now}
 use Rattle.queue_book.proofs.ChainChanges.{chained_same}
 use Rattle.queues.proofs.Finishing.{finished_follows}
 use Rattle.queues.proofs.Frames.{same_frame}
@@ -32,13 +32,7 @@ use Rattle.queue_book.proofs.PlainSaid.{on_next}
 use Rattle.queues.proofs.TreeSpawners.{spawners_finish}
 use Rattle.queues.proofs.TreeKept.{tree_finish}
 use Rattle.queues.proofs.TreeOwners.{none_has, owners_finish, owners_kept_finish, owners_none}
-use Rattle.queues.proofs.TurnsGone.{turns_gone}
-
-gone_now : (state : QueueState) (n : ℕ) → active (after_finish state n) n ≡ None
-gone_now state n = by (active (after_finish state n) n) refl where
-  by : (o : Option ActiveFrame) → active (after_finish state n) n ≡ o → o ≡ None
-  by None e = refl
-  by (Some frame) e = absurd (find_gone state.frames n frame e)
+use Rattle.queues.proofs.TurnsCalls.{turns_finish}
 
 in_use_before : (state : QueueState) (n q : ℕ) (maker : QueueMaker) → IsInUse (after_finish state n) q maker → IsInUse state q maker
 in_use_before state n q maker (inl of_root) = inl of_root
@@ -159,7 +153,7 @@ module _ (name : Option Script) (state : QueueState) (frames : LiveFrames) (head
     count = same ∙ is.count;
     chained = chained_same (own_keys n [] (key_at frames)) (key_at after_frames) after_heads after_nodes (lines_after_end n kept.places is.lines) (lines_after_end n kept.places is.lines)
         keys_after (λ q. refl) chained;
-    turned = turns_gone state (after_finish state n) turns n (others_finished state n) (gone_now state n) refl is.turned;
+    turned = turns_finish state turns is.turned n;
   } where
     keys_after : (m q : ℕ) → key_at after_frames m q ≡ own_keys n [] (key_at frames) m q
     keys_after m q = by (m == n) refl where

@@ -29,7 +29,7 @@ use Rattle.queue_book.proofs.PlainSaid.{in_each, on_queue}
 use Rattle.queues.proofs.TreeSpawners.{spawners_rest}
 use Rattle.queues.proofs.TreeKept.{tree_rest}
 use Rattle.queues.proofs.TreeOwners.{owners_kept_rest}
-use Rattle.queues.proofs.TurnsKept.{turns_alike}
+use Rattle.queues.proofs.TurnsCalls.{turns_rest}
 use Rattle.swan_model.proofs.Lists.{some_within}
 
 -- who is active has the root above it
@@ -132,7 +132,7 @@ module _ (name : Option Script) (state : QueueState) (frames : LiveFrames) (head
     live = λ m. agrees_rest m;
     count = same ∙ is.count;
     chained = chained;
-    turned = turns_alike state (after_take_rest state q) turns alike refl is.turned;
+    turned = turns_rest state turns is.turned q;
   } where
     agrees_rest : (m : ℕ) → Agrees (after_take_rest state q) (kept_of frames m) (active (after_take_rest state q) m)
     agrees_rest m = agrees_on state (after_take_rest state q) (kept_of frames m) (active state m) (λ queue one less made. made)

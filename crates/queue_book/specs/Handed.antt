@@ -15,7 +15,7 @@ use Rattle.queue_book.specs.Chains.{Link, AreChained, in_line, put_at}
 use Rattle.queue_book.specs.Ended.{own_keys}
 use Rattle.queue_book.specs.KeptFrames.{KeptFrame, OwnChunks, own_chunk_in}
 use Rattle.queue_book.specs.Live.{kept_of, key_at, own_chunk_at, with_own_chunk, IsOnlyChange}
-use Rattle.queues.specs.Turned.{AreApart, gives_queue, turn_of}
+use Rattle.queues.specs.Turned.{gives_queue, AreGivenTurns}
 use Rattle.queue_book.specs.declared.live_frame.OwnChunk.{OwnChunk}
 use Rattle.queue_book.specs.declared.live_frames.LiveFrames.{LiveFrames}
 
@@ -56,6 +56,4 @@ pub record AreGiven (before now : LiveFrames) (parent child : ℕ) (gives : List
   pub pushers : (queue : ℕ) (place : OwnChunk) → own_chunk_in places queue ≡ Some place → place.pushes ≡ gives_push gives queue
   pub chained : (lines : ℕ → Chunks) → AreChained (key_at before) heads nodes lines → ((queue : ℕ) → key_at before child queue ≡ None)
       → AreChained (own_keys child places (key_at now)) heads now_nodes (lines_after_gives parent child gives lines)
-  pub turn : frame_at now_turns child ≡ turn_of parent gives
-  pub other_turns : (other : ℕ) → other ≢ child → frame_at now_turns other ≡ frame_at turns other
-  pub apart : AreApart turns → AreApart now_turns
+  pub turned : AreGivenTurns turns now_turns parent child gives

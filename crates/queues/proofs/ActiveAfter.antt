@@ -5,7 +5,7 @@ use Rattle.std.specs.List.{find}
 use Rattle.std.specs.Option.{option_map}
 use Rattle.swan_model.specs.QueueState.{ActiveFrame, QueueRight, QueueState, active, after_finish, after_spawn, changed, changing, child_of, with_deed}
 use Rattle.swan_model.proofs.Elements.{find_map}
-use Rattle.queues.proofs.FramesChanged.{find_last, find_others}
+use Rattle.queues.proofs.FramesChanged.{find_last, find_others, find_gone}
 use Rattle.queues.proofs.Frames.{active_number}
 
 -- a change that leaves the numbers of frames
@@ -43,6 +43,12 @@ module _ (state : QueueState) (n : ℕ) (change : ActiveFrame → ActiveFrame) (
 -- without the frame of one number
 pub others_finished : (state : QueueState) (n : ℕ) → AreOthers state (after_finish state n) n
 others_finished state n m differ = find_others state.frames n m differ
+
+pub gone_now : (state : QueueState) (n : ℕ) → active (after_finish state n) n ≡ None
+gone_now state n = by (active (after_finish state n) n) refl where
+  by : (o : Option ActiveFrame) → active (after_finish state n) n ≡ o → o ≡ None
+  by None e = refl
+  by (Some frame) e = absurd (find_gone state.frames n frame e)
 
 -- a frame more at the end
 pub found_more : (n : ℕ) (frames : List ActiveFrame) (last : ActiveFrame) → last.number ≢ n

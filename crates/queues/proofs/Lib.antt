@@ -67,10 +67,13 @@ pub mod MatchRest
 pub mod MatchMade
 pub mod MatchSpawn
 pub mod Match
--- what is kept of the frames, and their turns
+pub mod TakenOn
+-- the turns of poppers
 pub mod TurnsKept
 pub mod TurnsGone
+pub mod TurnsCalls
 pub mod TurnsEnlisted
-pub mod TurnsTold
--- each call keeps the whole: first what doesn't depend on how it is kept (`Plain..`), then with frames, chains and turns (`Book..`)
+pub mod TurnsMade
 pub mod GivingTurns
+pub mod TurnsSpawned
+pub mod TurnsTold

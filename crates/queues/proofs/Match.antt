@@ -152,9 +152,8 @@ module _ (s : Script) (lawful : IsLawful s) (state : QueueState) (number : ℕ) 
       -- The end of a frame closes its chunk.
       pub matches_finish : next_queue_deed s frame.path frame.deeds ≡ None → 0 < length (times s frame.path) → Matches s (after_finish state n) number queue end (after_close n chunks)
       matches_finish over some =
-          matches_closed s lawful state (after_finish state n) number queue end n chunks matches
-          (other_owners state (after_finish state n) n chunks (others_finished state n))
-          (owns_once state number chunks n owners) frame live over some
+          matches_closed s lawful state (after_finish state n) number queue end n frame live over some chunks
+          (other_owners state (after_finish state n) n chunks (others_finished state n)) (owns_once state number chunks n owners) matches
 
 -- A pop takes the first item of the first chunk, where no owner before the frame's chunk may pop.
 pub matches_pop : (s : Script) → IsLawful s → (state : QueueState) (number : ℕ) (queue : Origin) (end : ℕ) (first : Chunk) (chunks : Chunks) → Matches s state number queue end (first ∷ chunks)

@@ -27,8 +27,7 @@ closes n =
       other = λ first rest other. ap (λ b. cond b (left_by first rest) (first ∷ after_close n rest)) other;
     }
 
-module _ (s : Script) (lawful : IsLawful s) (state after : QueueState) (number : ℕ) (queue : Origin) (end n : ℕ) (chunks : Chunks) (matches : Matches s state number queue end chunks)
-    (others : AreOtherOwners state after n chunks) (once : IsOnce n chunks) (frame : ActiveFrame) (live : active state n ≡ Some frame)
+module _ (s : Script) (lawful : IsLawful s) (state after : QueueState) (number : ℕ) (queue : Origin) (end n : ℕ) (frame : ActiveFrame) (live : active state n ≡ Some frame)
     (over : next_queue_deed s frame.path frame.deeds ≡ None) (some : 0 < length (times s frame.path)) where
   items_closed : (first : Chunk) (rest : Chunks) (at : ℕ) → first.owner ≡ Some n → (parts : ItemsFrom s state number queue end first rest at)
       → HasItems s after queue end rest (goes_on_at s queue (owner_of state first) parts.upto) → HasItems s after queue end (left_by first rest) at
@@ -54,10 +53,15 @@ module _ (s : Script) (lawful : IsLawful s) (state after : QueueState) (number :
       by true mine = sym (ended_counts s lawful queue frame.path frame.deeds over some).takes ∙ sym (mine refl)
       by false mine = refl
 
-  pub matches_closed : Matches s after number queue end (after_close n chunks)
-  matches_closed =
-      record {
-        left = matches.left;
-        items = items_altered s state after number queue end n (after_close n) left_by (closes n) chunks matches.left matches.items others once items_closed;
-        taken = taken_altered s state after number queue end n (after_close n) left_by (closes n) chunks matches.left matches.taken others once taken_closed;
-      }
+  module _ (chunks : Chunks) (others : AreOtherOwners state after n chunks) (once : IsOnce n chunks) where
+    -- what is taken, apart from items
+    pub taken_finish : (at : ℕ) → HasTaken s state number queue end chunks at → HasTaken s after number queue end (after_close n chunks) at
+    taken_finish at has = taken_altered s state after number queue end n (after_close n) left_by (closes n) chunks at has others once taken_closed
+
+    pub matches_closed : Matches s state number queue end chunks → Matches s after number queue end (after_close n chunks)
+    matches_closed matches =
+        record {
+          left = matches.left;
+          items = items_altered s state after number queue end n (after_close n) left_by (closes n) chunks matches.left matches.items others once items_closed;
+          taken = taken_finish matches.left matches.taken;
+        }

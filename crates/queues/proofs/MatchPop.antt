@@ -27,7 +27,7 @@ module _ (s : Script) (lawful : IsLawful s) (state after : QueueState) (number :
     (frame later : ActiveFrame) (live : active state n ≡ Some frame) (now : active after n ≡ Some later) (done : HasDone number frame later)
     (pops : holds_queue frame number Pop ≡ true) (next : next_queue_deed s frame.path frame.deeds ≡ Some (deed.Pop queue)) where
   -- Behind the chunk of the frame that pops as much was popped as before, and up to it one more.
-  taken_more : (chunks : Chunks) (at index : ℕ) → HasTaken s state number queue end chunks at → AreOtherOwners state after n chunks → IsOnce n chunks → IsOwner state chunks index n → NonePops state number chunks index
+  pub taken_more : (chunks : Chunks) (at index : ℕ) → HasTaken s state number queue end chunks at → AreOtherOwners state after n chunks → IsOnce n chunks → IsOwner state chunks index n → NonePops state number chunks index
       → taken_at s later queue ≡ at + 1 → HasTaken s after number queue end chunks (at + 1)
   taken_more [] at index has others once own none more = absurd (cc (own.stands))
   taken_more (first ∷ chunks) at zero has others once own none more =

@@ -66,23 +66,23 @@ module _ (s : Script) (lawful : IsLawful s) (state : QueueState) (follows : Queu
   child_is = ap (λ k. frame.path ++ k ∷ []) ((follows.tasks n frame live).children ∙ spawns_by s frame.path frame.deeds t coming_spawn.at.before)
 
   -- by the child's first point as much was pushed and popped as by the parent's point
-  counts_child : count_at s child queue ≡ count_at s frame queue
+  pub counts_child : count_at s child queue ≡ count_at s frame queue
   counts_child =
       ap (λ p. count s queue (queue_point s p 0)) child_is
       ∙ (spawned_counts s lawful queue frame.path frame.deeds spawn.all spawn.next).0.counts
       ∙ count_kept s queue t (ap (is_push_to queue) coming_spawn.does)
 
-  takes_child : taken_at s child queue ≡ taken_at s frame queue
+  pub takes_child : taken_at s child queue ≡ taken_at s frame queue
   takes_child =
       ap (λ p. taken s queue (queue_point s p 0)) child_is
       ∙ (spawned_counts s lawful queue frame.path frame.deeds spawn.all spawn.next).0.takes
       ∙ taken_kept s queue t (ap (is_pop_of queue) coming_spawn.does)
 
   -- and by the parent's next point as much as by the child's end
-  counts_parent : count_at s later queue ≡ count s queue (end_time s child.path)
+  pub counts_parent : count_at s later queue ≡ count s queue (end_time s child.path)
   counts_parent = (spawned_counts s lawful queue frame.path frame.deeds spawn.all spawn.next).1.counts ∙ ap (λ p. count s queue (end_time s p)) (sym child_is)
 
-  takes_parent : taken_at s later queue ≡ taken s queue (end_time s child.path)
+  pub takes_parent : taken_at s later queue ≡ taken s queue (end_time s child.path)
   takes_parent = (spawned_counts s lawful queue frame.path frame.deeds spawn.all spawn.next).1.takes ∙ ap (λ p. taken s queue (end_time s p)) (sym child_is)
 
   -- what the child may do with the queue is what the script gives it
@@ -104,13 +104,13 @@ module _ (s : Script) (lawful : IsLawful s) (state : QueueState) (follows : Queu
     here = coming_point s frame.path t own_entry
 
     -- a child that may not pop takes nothing, and one that may not push adds nothing
-    takes_through : holds_queue child number Pop ≡ false → taken s queue (end_time s child.path) ≡ taken_at s frame queue
+    pub takes_through : holds_queue child number Pop ≡ false → taken s queue (end_time s child.path) ≡ taken_at s frame queue
     takes_through not =
         let lacks = sym (child_may Pop refl) ∙ not in
         let through = taken_through s lawful (coming s frame.path t) spawn.all (coming_deed s frame.path t own_entry ∙ ap Some coming_spawn.does) queue (ap (is_older queue) here ∙ older) lacks in
         ap (λ p. taken s queue (end_time s p)) child_is ∙ subst (λ k. taken s queue (end_time s (child_path s frame.path k)) ≡ taken s queue k) here through
 
-    counts_through : holds_queue child number Push ≡ false → count s queue (end_time s child.path) ≡ count_at s frame queue
+    pub counts_through : holds_queue child number Push ≡ false → count s queue (end_time s child.path) ≡ count_at s frame queue
     counts_through not =
         let lacks = sym (child_may Push refl) ∙ not in
         let through = count_through s lawful (coming s frame.path t) spawn.all (coming_deed s frame.path t own_entry ∙ ap Some coming_spawn.does) queue (ap (is_older queue) here ∙ older) lacks in
@@ -167,7 +167,7 @@ module _ (s : Script) (lawful : IsLawful s) (state : QueueState) (follows : Queu
           taken_chunk (own c first.items) (own n [] ∷ rest) at (subst (λ o. pops_at s number queue o at) (sym its) pops)
           (subst (λ o. HasTaken s after number queue end (own n [] ∷ rest) (goes_on_popping s number queue o at)) (sym its) behind)
 
-  module _ (end : ℕ) (chunks : Chunks) (matches : Matches s state number queue end chunks) (owners : HasOwners state number chunks) where
+  module _ (end : ℕ) (chunks : Chunks) (owners : HasOwners state number chunks) where
     others : AreOtherOwners state (after_spawn state frame c gives) n chunks
     others index chunk stands not = by chunk.owner refl where
       by : (owner : Option ℕ) → chunk.owner ≡ owner → owner_of (after_spawn state frame c gives) (record { owner = owner; items = chunk.items }) ≡ owner_of state (record { owner = owner; items = chunk.items })
@@ -176,20 +176,26 @@ module _ (s : Script) (lawful : IsLawful s) (state : QueueState) (follows : Queu
           let owner = owners.owners index m (record { chunk = chunk; stands = stands; owns = is }) in
           others_spawned state n c frame gives live new m (λ same. not (is ∙ ap Some same)) (λ same. let none : Some owner.0 ≡ None = sym owner.1 ∙ ap (active state) same ∙ new in absurd (cc))
 
+    -- what is taken, apart from items
+    pub taken_spawn : has_queue frame number ≡ true → (at : ℕ) → HasTaken s state number queue end chunks at → HasTaken s (after_spawn state frame c gives) number queue end (after_hand_on n c chunks) at
+    taken_spawn has at taken =
+        taken_altered s state (after_spawn state frame c gives) number queue end n (after_hand_on n c) (handed n c) (hands_on n c) chunks at taken others
+        (owns_once state number chunks n owners) (taken_handed has end)
+
     -- Where the child is given the queue, it takes over the parent's chunk.
-    pub matches_spawn : has_queue frame number ≡ true → Matches s (after_spawn state frame c gives) number queue end (after_hand_on n c chunks)
-    matches_spawn has =
+    pub matches_spawn : Matches s state number queue end chunks → has_queue frame number ≡ true → Matches s (after_spawn state frame c gives) number queue end (after_hand_on n c chunks)
+    matches_spawn matches has =
         let after = after_spawn state frame c gives in
         let once = owns_once state number chunks n owners in
         record {
           left = matches.left;
           items = items_altered s state after number queue end n (after_hand_on n c) (handed n c) (hands_on n c) chunks matches.left matches.items others once (items_handed has end);
-          taken = taken_altered s state after number queue end n (after_hand_on n c) (handed n c) (hands_on n c) chunks matches.left matches.taken others once (taken_handed has end);
+          taken = taken_spawn has matches.left matches.taken;
         }
 
     -- Where it isn't given the queue, the chunks stay.
-    pub matches_spawn_other : list_any (λ (right : QueueRight). right.queue == number) gives ≡ false → Matches s (after_spawn state frame c gives) number queue end chunks
-    matches_spawn_other lacks = elim (cases_Bool (has_queue frame number)) [
+    pub matches_spawn_other : Matches s state number queue end chunks → list_any (λ (right : QueueRight). right.queue == number) gives ≡ false → Matches s (after_spawn state frame c gives) number queue end chunks
+    matches_spawn_other matches lacks = elim (cases_Bool (has_queue frame number)) [
       | inl has ↦
           let not : (mode : Mode) → holds_queue child number mode ≡ false = λ mode. false_from_ne_true (holds_queue child number mode) (λ held. both_ways (has_queue child number) lacks (has_held child number mode held)) in
           matches_told s lawful state after number queue end n chunks matches others frame later live (parent_spawned state n c frame gives live new)

@@ -1,17 +1,15 @@
 -- Where a frame has its turn to pop a queue, no earlier frame pops it: those that have the queue push to it. And, whatever
 -- its turn, the first owner before its own chunk that may push is its first earlier pusher.
-use Rattle.std.proofs.Common.{◌≡◌, ◌⊎◌, inl, inr, ℕ, ◌<◌, ◌≤◌, true, false, Some, List, [], ◌∷◌, ◌++◌, sym, ap, subst, ◌∙◌, append_assoc, arith}
+use Rattle.std.proofs.Common.{◌≡◌, ◌⊎◌, inl, inr, ℕ, ◌<◌, ◌≤◌, true, false, Some, List, [], sym, ap, subst, ◌∙◌, arith}
 use Rattle.std.proofs.lemmas.Bool.{cases_lt, cases_order, false_from_ne_true, false≢true}
 use Rattle.std.proofs.lemmas.Option.{same_Some}
-use Rattle.std.specs.Prelude.{slice_get}
 use Rattle.swan_model.specs.declared.rights.Mode.TheVariants.{Push, Pop}
 use Rattle.swan_model.specs.PathOrder.{comes_before}
-use Rattle.swan_model.specs.QueueState.{ActiveFrame, QueueMaker, QueueState, active, HasTurn, holds_queue, IsOlderPopper, IsPoppingChild, MayAct}
+use Rattle.swan_model.specs.QueueState.{ActiveFrame, QueueState, active, HasTurn, holds_queue, IsOlderPopper, IsPoppingChild, MayAct}
 use Rattle.swan_model.proofs.PathOrder.{how_before, IsAside, IsBelow}
-use Rattle.swan_model.proofs.Paths.{not_below-itself}
 use Rattle.queues.specs.Chunks.{Chunk, Chunks, HasOwners, IsOwner}
 use Rattle.queues.specs.Tells.{IsFirstPusher}
-use Rattle.queues.specs.Tree.{SpawnersHaveTurns, IsTree, has_queue, maker_path}
+use Rattle.queues.specs.Tree.{SpawnersHaveTurns, IsTree, has_queue}
 use Rattle.queues.proofs.Above.{climb, held_above, IsOnWay, maker_aside, maker_below, maker_of, same_front}
 use Rattle.queues.proofs.Frames.{active_number, has_held, pushes_or_pops, same_frame}
 

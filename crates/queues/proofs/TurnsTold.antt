@@ -1,6 +1,6 @@
 -- What the turns of poppers tell of the frames of a state: who comes first, who keeps whom from starting, and what the answers
 -- of the turns mean.
-use Rattle.std.proofs.Common.{◌≡◌, ◌≢◌, inl, inr, ℕ, ◌<◌, true, Some, List, [], ◌∷◌, ◌++◌, refl, sym, ap, subst, ◌∙◌, append_assoc, append-nil, arith}
+use Rattle.std.proofs.Common.{◌≡◌, ◌≢◌, inl, inr, ℕ, ◌<◌, true, Some, List, [], ◌∷◌, ◌++◌, sym, ap, subst, ◌∙◌, append_assoc, append-nil, arith}
 use Rattle.std.proofs.lemmas.Bool.{cases_order}
 use Rattle.std.proofs.lemmas.Option.{same_Some}
 use Rattle.std.specs.Prelude.{slice_get}
@@ -15,7 +15,6 @@ use Rattle.swan_model.specs.declared.rights.Mode.TheVariants.{Push, Pop}
 use Rattle.swan_model.specs.PathOrder.{comes_before}
 use Rattle.swan_model.specs.QueueState.{ActiveFrame, HasTurn, IsEarlierPusher, IsOlderPopper, IsPoppingChild, QueueMaker, QueueState, active, holds_queue}
 use Rattle.swan_model.proofs.PathOrder.{before-below, before-parent, how_before, IsAside, IsBelow, left-before, left-below, left-below_other, left-sibling, not_before-under}
-use Rattle.queues.specs.Tells.{IsFirstPusher}
 use Rattle.queues.specs.Tree.{IsSpawnedBy, IsTree, has_queue, maker_path}
 use Rattle.queues.specs.Turned.{AreTurns, IsToldBy}
 use Rattle.queues.proofs.Above.{Climbs, climb, held_above, IsOnWay, maker_aside, maker_below, maker_of, same_front, under_maker}

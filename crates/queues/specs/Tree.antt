@@ -3,7 +3,11 @@ use Rattle.std.specs.Prelude.{◌≡◌, ◌≢◌, ℕ, ◌<◌, ◌≤◌, ◌
 use Rattle.std.specs.List.{list_any}
 use Rattle.swan_model.specs.declared.rights.Mode.{Mode}
 use Rattle.swan_model.specs.Rights.{is_queue_mode}
-use Rattle.swan_model.specs.QueueState.{ActiveFrame, QueueMaker, planned, made_by, QueueState, active, holds_queue, HasTurn, IsOfRoot}
+use Rattle.swan_model.specs.declared.origin.Origin.{Origin}
+use Rattle.swan_model.specs.declared.script.Script.{Script}
+use Rattle.swan_model.specs.Lawful.{IsLawful}
+use Rattle.swan_model.specs.QueueFollows.{NextSpawnGivesQueues, QueuesFollow, queue_origin}
+use Rattle.swan_model.specs.QueueState.{ActiveFrame, QueueMaker, planned, made_by, QueueState, active, holds_queue, HasTurn, IsOfRoot, MayGive, QueueRight, child_of}
 
 -- the path of the frame that made a queue
 abbrev pub maker_path : QueueMaker → List ℕ
@@ -52,3 +56,10 @@ pub record SpawnersHaveTurns (state : QueueState) : Type 0 where
 -- an active frame has the queue, or the root made it, so that its rest is left
 abbrev pub IsInUse : QueueState → ℕ → QueueMaker → Type 0
 IsInUse state queue maker = IsOfRoot (Some maker) ⊎ ((number : ℕ) × (frame : ActiveFrame) × (active state number ≡ Some frame) × (has_queue frame queue ≡ true))
+
+-- What holds of a frame, the child that it spawns as the script's next deed, and a queue by its number and its origin.
+abbrev pub OnSpawn : Script → QueueState → (ActiveFrame → ActiveFrame → ℕ → Origin → Type 0) → Type 0
+OnSpawn s state Holds =
+    IsLawful s → QueuesFollow s state → IsTree state
+    → (n child : ℕ) (frame : ActiveFrame) (gives : List QueueRight) → active state n ≡ Some frame → active state child ≡ None → MayGive frame gives → NextSpawnGivesQueues s state frame gives
+    → (number : ℕ) (queue : Origin) → queue_origin s state number ≡ Some queue → Holds frame (child_of frame child gives) number queue
