@@ -25,7 +25,7 @@ use Rattle.queues.proofs.Above.{maker_of}
 use Rattle.queue_book.proofs.BookFronts.{alone_by, found_item, look_of, looked, trim}
 use Rattle.queues.proofs.Frames.{has_held}
 use Rattle.queue_book.proofs.LiveKept.{keys_same, kept_live, live_one}
-use Rattle.queue_book.proofs.PlainDeeds.{deed_alike, plain_empty, plain_pop, plain_push, plain_test}
+use Rattle.queue_book.proofs.PlainDeeds.{plain_empty, plain_pop, plain_push, plain_test}
 use Rattle.queue_book.proofs.PlainSaid.{origin_of}
 use Rattle.queues.proofs.TurnsCalls.{turns_deed}
 

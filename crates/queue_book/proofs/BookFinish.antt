@@ -25,7 +25,6 @@ use Rattle.queues.proofs.ActiveAfter.{others_finished, gone_now}
 use Rattle.queue_book.proofs.ChainChanges.{chained_same}
 use Rattle.queues.proofs.Finishing.{finished_follows}
 use Rattle.queues.proofs.Frames.{same_frame}
-use Rattle.queues.proofs.FramesChanged.{find_gone}
 use Rattle.queue_book.proofs.LiveKept.{key_none, kept_live, live_gone, place_has}
 use Rattle.queues.proofs.Match.{matches_finish, matches_finish_other}
 use Rattle.queue_book.proofs.PlainSaid.{on_next}

@@ -20,7 +20,7 @@ use Rattle.queues.proofs.ActiveAfter.{others_changed, own_changed}
 use Rattle.queue_book.proofs.ChainChanges.{chained_same}
 use Rattle.queues.proofs.Frames.{active_number}
 use Rattle.queue_book.proofs.LiveKept.{kept_live, keys_same, live_kept, live_one}
-use Rattle.queue_book.proofs.PlainLent.{back_alike, lend_alike, plain_back, plain_lend}
+use Rattle.queue_book.proofs.PlainLent.{plain_back, plain_lend}
 use Rattle.queues.proofs.TurnsCalls.{turns_back, turns_lend}
 
 abbrev pub with_lent : Bool → KeptFrame → KeptFrame

@@ -12,22 +12,20 @@ use Rattle.swan_model.specs.declared.script.Script.{Script}
 use Rattle.swan_model.specs.declared.value.Value.{Value}
 use Rattle.swan_model.specs.QueueFollows.{next_queue_deed}
 use Rattle.swan_model.specs.QueueState.{ActiveFrame, QueueMaker, planned, made_by, QueueState, active, after_create, after_create_root, holds_queue, with_deed, with_made, IsUntouched}
-use Rattle.queues.specs.Asks.{DEEDS_MOST, MayDo, IsOnTurn, OnNext}
+use Rattle.queues.specs.Asks.{DEEDS_MOST, MayDo, OnNext}
 use Rattle.queues.specs.Chunks.{own}
 use Rattle.queue_book.specs.Chains.{Link, AreChained, in_line, put_at}
 use Rattle.queue_book.specs.KeptFrames.{KeptFrame, own_chunk_in}
 use Rattle.queue_book.specs.Live.{kept_of, key_at, lent_of, with_own_chunk, IsFrame, IsOnlyChange}
 use Rattle.queue_book.specs.Made.{IsMadeIn}
 use Rattle.queues.specs.Tree.{has_queue, maker_path}
-use Rattle.queues.specs.Turned.{AreTurns}
 use Rattle.queue_book.specs.Whole.{IsBook, IsPlain}
 use Rattle.queue_book.specs.declared.live_frame.OwnChunk.{OwnChunk}
 use Rattle.queue_book.specs.declared.live_frames.LiveFrames.{LiveFrames}
 use Rattle.queues.proofs.ActiveAfter.{AreOthers, others_changed, own_changed}
 use Rattle.queue_book.proofs.BookDeeds.{counted, lent_none, not_lent}
 use Rattle.queue_book.proofs.ChainChanges.{chained_same}
-use Rattle.queues.proofs.Frames.{active_number, has_held, same_frame}
-use Rattle.queues.proofs.FramesChanged.{get_front}
+use Rattle.queues.proofs.Frames.{active_number}
 use Rattle.swan_model.proofs.Elements.{more_cases, last_more}
 use Rattle.queue_book.proofs.LiveKept.{kept_live, key_none, keys_same, live_one, place_has}
 use Rattle.queue_book.proofs.LivePut.{keys_put, place_elsewhere, place_here, places_made}

@@ -1,21 +1,17 @@
 -- What holds of hyperqueues in plain form after a spawn.
-use Rattle.std.proofs.Common.{◌≡◌, ◌≢◌, ℕ, ◌+◌, ◌<◌, Bool, true, false, ◌||◌, ◌&&◌, ◌==◌, Option, Some, None, List, [], ◌∷◌, ◌++◌, map, length, refl, sym, ap, subst, ◌∙◌, ◌⊎◌, inl, inr, arith, length-append}
+use Rattle.std.proofs.Common.{◌≡◌, ◌≢◌, ℕ, ◌+◌, ◌<◌, false, Option, Some, None, List, [], ◌∷◌, ◌++◌, length, refl, sym, ap, subst, ◌∙◌, ◌⊎◌, inl, inr, arith, length-append}
 use Rattle.std.proofs.lemmas.Bool.{cases_eq, false≢true}
-use Rattle.std.specs.List.{list_any}
 use Rattle.std.specs.Option.{option_map}
-use Rattle.std.specs.Prelude.{slice_get, is_some}
+use Rattle.std.specs.Prelude.{is_some}
 use Rattle.slab.specs.Slab.{Slab}
-use Rattle.pop_order.specs.Frames.{Frame, Frames, frame_at, holds}
-use Rattle.swan_model.specs.declared.rights.Mode.{Mode}
+use Rattle.pop_order.specs.Frames.{Frames}
 use Rattle.swan_model.specs.declared.script.Script.{Script}
 use Rattle.swan_model.specs.QueueFollows.{NextSpawnGivesQueues}
-use Rattle.swan_model.specs.QueueState.{ActiveFrame, QueueMaker, QueueRight, QueueState, active, after_spawn, child_of, holds_queue, with_deed}
-use Rattle.swan_model.specs.Rights.{allows}
+use Rattle.swan_model.specs.QueueState.{ActiveFrame, QueueMaker, QueueRight, QueueState, active, after_spawn, child_of, with_deed}
 use Rattle.queues.specs.Asks.{MaySpawn, IsOnTurn, OnNext}
 use Rattle.queue_book.specs.Chains.{Link, AreChained}
 use Rattle.queue_book.specs.Ended.{own_keys}
 use Rattle.queue_book.specs.Handed.{lines_after_gives, IsMoved}
-use Rattle.queues.specs.Turned.{holding_of, turn_of, AreTurns}
 use Rattle.queue_book.specs.KeptFrames.{KeptFrame}
 use Rattle.queue_book.specs.Live.{kept_of, key_at, key_in, Agrees, AreLive, IsFrame}
 use Rattle.queue_book.specs.Spawned.{IsSpawnedIn, MayHandOn}
@@ -27,7 +23,7 @@ use Rattle.queues.proofs.ActiveAfter.{child_spawned, others_spawned, parent_spaw
 use Rattle.queue_book.proofs.BookDeeds.{counted, lent_none, not_lent}
 use Rattle.queue_book.proofs.ChainChanges.{chained_same}
 use Rattle.queue_book.proofs.ChainEnds.{other_placed, own_placed}
-use Rattle.queues.proofs.Frames.{active_number, same_frame}
+use Rattle.queues.proofs.Frames.{same_frame}
 use Rattle.queues.proofs.Gives.{gives_had}
 use Rattle.queue_book.proofs.LiveKept.{agrees_on, kept_live, key_none}
 use Rattle.queues.proofs.Match.{not_active}

@@ -1,13 +1,12 @@
 -- What is kept while a child is given its queues, one after another.
-use Rattle.std.proofs.Common.{◌≡◌, ◌≢◌, ℕ, zero, suc, ◌<◌, true, false, ◌||◌, ◌==◌, Option, Some, None, List, [], ◌∷◌, ◌++◌, take, refl, sym, ap, subst, ◌∙◌, inl, inr, arith, rules}
+use Rattle.std.proofs.Common.{◌≡◌, ◌≢◌, ℕ, true, false, Option, Some, None, List, [], ◌∷◌, ◌++◌, take, refl, sym, ap, subst, ◌∙◌, inl, inr, arith}
 use Rattle.std.proofs.lemmas.Bool.{cases_eq, false≢true}
 use Rattle.std.specs.Prelude.{slice_get, is_some}
 use Rattle.slab.specs.Slab.{Slab}
-use Rattle.pop_order.proofs.Flags.{eq_same, or_left, or_right}
-use Rattle.pop_order.specs.Frames.{Frame, Frames, enlisted, frame_at, may_get, AreUpTo, MayGet}
+use Rattle.pop_order.specs.Frames.{Frames, enlisted, AreUpTo, MayGet}
 use Rattle.swan_model.specs.declared.rights.Mode.TheVariants.{Push}
-use Rattle.swan_model.specs.QueueState.{ActiveFrame, QueueRight, MayGive}
-use Rattle.swan_model.specs.Rights.{allows, is_queue_mode}
+use Rattle.swan_model.specs.QueueState.{QueueRight}
+use Rattle.swan_model.specs.Rights.{allows}
 use Rattle.queue_book.specs.Chains.{Link}
 use Rattle.queue_book.specs.Ended.{own_keys}
 use Rattle.queue_book.specs.Handed.{lines_after_gives, AreGiven, IsHandedIn}

@@ -1,6 +1,6 @@
--- Lemmas on hyperqueues. Each group stands on those before it; what a file is for stands at its head.
+-- Lemmas on hyperqueues in the plainest form. Each group stands on those before it; what a file is for stands at its head.
 
--- lists, and the places of entries
+-- entries by numbers
 pub mod Lookups
 -- chunks in chains of nodes
 pub mod ChainKept
@@ -10,7 +10,7 @@ pub mod ChainFronts
 pub mod ChainLoops
 pub mod ChainWalks
 pub mod ChainEnds
--- what is kept of the frames, and their turns
+-- what is kept of the frames
 pub mod LiveKept
 pub mod LivePut
 pub mod OpenOwners

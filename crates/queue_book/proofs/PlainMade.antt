@@ -10,7 +10,7 @@ use Rattle.swan_model.specs.Lawful.{IsLawful}
 use Rattle.swan_model.specs.QueueFollows.{QueuesFollow, next_queue_deed, origin_in}
 use Rattle.swan_model.specs.QueueState.{ActiveFrame, QueueMaker, planned, made_by, QueueState, active, after_create, after_create_root, with_deed, with_made, IsUntouched}
 use Rattle.swan_model.specs.Readings.{end_time}
-use Rattle.queues.specs.Asks.{is_emptied, MayDo, IsOnTurn, OnNext}
+use Rattle.queues.specs.Asks.{is_emptied, MayDo, OnNext}
 use Rattle.queues.specs.Chunks.{Chunks, own, HasOwners, Matches}
 use Rattle.queue_book.specs.Chains.{in_line}
 use Rattle.queues.specs.Tree.{SpawnersHaveTurns, IsTree, has_queue, maker_path, IsInUse}

@@ -1,8 +1,8 @@
 -- What the calls make of a state, by the frame's number.
 use Rattle.queues.specs.Tells.{with_active}
-use Rattle.std.specs.Prelude.{ℕ, Option, Some, None, List, []}
+use Rattle.std.specs.Prelude.{ℕ, List, []}
 use Rattle.std.specs.Option.{option_map_or}
-use Rattle.swan_model.specs.QueueState.{ActiveFrame, QueueRight, QueueState, active, after_back, after_create, after_create_root, after_deed, after_finish, after_lend, after_spawn, after_take_rest}
+use Rattle.swan_model.specs.QueueState.{ActiveFrame, QueueState, active, after_back, after_create, after_create_root, after_deed, after_finish, after_lend, after_take_rest}
 use Rattle.queue_book.specs.declared.stated.Call.{Call}
 use Rattle.queue_book.specs.declared.stated.Call.TheVariants as call
 

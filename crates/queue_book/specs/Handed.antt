@@ -1,15 +1,14 @@
 -- A queue that a child is given, as it is kept.
-use Rattle.std.specs.Prelude.{◌≡◌, ◌≢◌, ℕ, ◌==◌, ◌&&◌, Bool, false, Option, Some, None, List, [], ◌∷◌, map, if◌then◌else◌, is_some}
+use Rattle.std.specs.Prelude.{◌≡◌, ◌≢◌, ℕ, ◌==◌, ◌&&◌, Bool, false, Option, Some, None, List, if◌then◌else◌, is_some}
 use Rattle.std.specs.List.{list_any}
 use Rattle.std.specs.Option.{option_map}
 use Rattle.std.specs.BTreeMap.{insert_entry}
 use Rattle.std.specs.Ordering.{nat_cmp}
 use Rattle.slab.specs.Slab.{Slab}
-use Rattle.pop_order.specs.Frames.{Frame, Frames, frame_at}
+use Rattle.pop_order.specs.Frames.{Frames}
 use Rattle.swan_model.specs.declared.rights.Mode.TheVariants.{Push}
 use Rattle.swan_model.specs.QueueState.{QueueRight}
 use Rattle.swan_model.specs.Rights.{allows}
-use Rattle.swan_model.specs.SerialState.{Holding}
 use Rattle.queues.specs.Chunks.{Chunks, after_hand_on}
 use Rattle.queue_book.specs.Chains.{Link, AreChained, in_line, put_at}
 use Rattle.queue_book.specs.Ended.{own_keys}

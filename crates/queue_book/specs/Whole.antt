@@ -1,17 +1,17 @@
 -- What holds of hyperqueues in plain form.
-use Rattle.std.specs.Prelude.{◌≡◌, ℕ, ◌<◌, true, false, Option, Some, List, [], length, slice_get, ◌⊎◌}
+use Rattle.std.specs.Prelude.{◌≡◌, ℕ, ◌<◌, true, false, Option, Some, List, [], length, slice_get}
 use Rattle.slab.specs.Slab.{Slab}
 use Rattle.pop_order.specs.Frames.{Frames}
 use Rattle.swan_model.specs.declared.script.Script.{Script}
 use Rattle.swan_model.specs.Lawful.{IsLawful}
 use Rattle.swan_model.specs.QueueFollows.{QueuesFollow, origin_in}
-use Rattle.swan_model.specs.QueueState.{ActiveFrame, QueueMaker, QueueState, active, IsOfRoot}
+use Rattle.swan_model.specs.QueueState.{QueueMaker, QueueState}
 use Rattle.swan_model.specs.Readings.{end_time}
 use Rattle.queues.specs.Asks.{is_emptied}
 use Rattle.queues.specs.Chunks.{Chunks, HasOwners, Matches}
 use Rattle.queue_book.specs.Chains.{Link, AreChained}
 use Rattle.queue_book.specs.Live.{AreLive, key_at}
-use Rattle.queues.specs.Tree.{SpawnersHaveTurns, IsTree, has_queue, maker_path, IsInUse}
+use Rattle.queues.specs.Tree.{SpawnersHaveTurns, IsTree, maker_path, IsInUse}
 use Rattle.queues.specs.Turned.{AreTurns}
 use Rattle.queue_book.specs.declared.live_frames.LiveFrames.{LiveFrames}
 

@@ -1,5 +1,5 @@
 -- The active frames after a call: the frame that made it is changed, and all others are as they were.
-use Rattle.std.proofs.Common.{◌≡◌, ◌≢◌, ℕ, ◌+◌, Bool, true, false, cond, not, nat_eq, List, [], ◌∷◌, ◌++◌, map, Option, Some, None, refl, sym, ap, ◌∙◌}
+use Rattle.std.proofs.Common.{◌≡◌, ◌≢◌, ℕ, ◌+◌, Bool, true, false, cond, not, nat_eq, List, [], ◌∷◌, ◌++◌, map, Option, Some, None, refl, sym, ap, ◌∙◌, ◌≤◌}
 use Rattle.std.proofs.lemmas.Bool.{eq-eqb, ne_eqb}
 use Rattle.std.specs.List.{find}
 use Rattle.std.specs.Option.{option_map}
@@ -11,6 +11,13 @@ use Rattle.queues.proofs.Frames.{active_number}
 -- a change that leaves the numbers of frames
 abbrev pub KeepsNumber : (ActiveFrame → ActiveFrame) → Type 0
 KeepsNumber change = (frame : ActiveFrame) → (change frame).number ≡ frame.number
+
+-- a change that leaves which task a frame is, and takes back no child
+pub record KeepsTask (change : ActiveFrame → ActiveFrame) : Type 0 where
+  pub number : KeepsNumber change
+  pub parent : (frame : ActiveFrame) → (change frame).parent ≡ frame.parent
+  pub path : (frame : ActiveFrame) → (change frame).path ≡ frame.path
+  pub children : (frame : ActiveFrame) → frame.children ≤ (change frame).children
 
 -- all active frames but that of one number are the same
 abbrev pub AreOthers : QueueState → QueueState → ℕ → Type 0

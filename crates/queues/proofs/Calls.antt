@@ -1,4 +1,5 @@
 -- Calls that make no queue and no frame leave hyperqueues that follow.
+use Rattle.queues.proofs.ActiveAfter.{KeepsTask}
 use Rattle.std.proofs.Common.{◌≡◌, inl, ℕ, zero, suc, ◌+◌, ◌-◌, ◌≤◌, true, false, nat_eq, List, [], ◌∷◌, length, Some, None, refl, sym, ap, subst, ◌∙◌, arith}
 use Rattle.std.proofs.lemmas.Bool.{eqb-true}
 use Rattle.std.specs.Prelude.{slice_get, filter}
@@ -11,7 +12,7 @@ use Rattle.swan_model.specs.Nested.{IsEntryOf}
 use Rattle.swan_model.specs.QueueFollows.{AreByEnds, IsTask, QueuesFollow, is_by_end, next_queue_deed, queue_point, queue_times}
 use Rattle.swan_model.specs.QueueState.{ActiveFrame, LentEnd, QueueState, active, after_back, after_deed, after_lend, after_take_rest, new_state, root_frame, with_deed}
 use Rattle.swan_model.proofs.Lists.{some_within}
-use Rattle.queues.proofs.Changing.{IsChange, changed_follows, made_on, task_on}
+use Rattle.queues.proofs.Changing.{changed_follows, made_on, task_on}
 use Rattle.swan_model.proofs.Elements.{found_is, some_same}
 use Rattle.queues.proofs.Lineage.{is_spawn_time}
 use Rattle.queues.proofs.Moving.{is_making, point_next, used_task}
@@ -20,7 +21,7 @@ use Rattle.queues.proofs.QueuePoints.{next_is, some_own}
 
 -- ---- deeds that are answered
 
-pub deed_change : IsChange with_deed
+pub deed_change : KeepsTask with_deed
 deed_change = record { number = λ f. refl; parent = λ f. refl; path = λ f. refl; children = λ f. omega arith }
 
 pub used_follows : (s : Script) → IsLawful s → (state : QueueState) → QueuesFollow s state → (number : ℕ) (frame : ActiveFrame) (d : Deed) → active state number ≡ Some frame
@@ -55,7 +56,7 @@ lent_follows s state follows number frame ends live =
     let task = follows.tasks number frame live in
     let found = found_is (λ (f : ActiveFrame). nat_eq f.number number) state.frames frame live in
     let here : active state frame.number ≡ Some frame = follows.known found.index frame found.stands in
-    let change : IsChange lend = record { number = λ f. refl; parent = λ f. refl; path = λ f. refl; children = λ f. omega arith } in
+    let change : KeepsTask lend = record { number = λ f. refl; parent = λ f. refl; path = λ f. refl; children = λ f. omega arith } in
     changed_follows s state follows new frame.number lend frame here change refl (omega arith)
     (record { some = task.some; deeds = task.deeds; children = task.children; rights = task.rights; made = task.made })
     (λ n other at apart. task_on s state new other (λ queue. refl) (omega arith) (follows.tasks n other at))
@@ -102,7 +103,7 @@ module _ (s : Script) (lawful : IsLawful s) (state : QueueState) (frame : Active
       let back : ActiveFrame → ActiveFrame = λ f. record f { deeds = to; lent = None } in
       let all = has_come (follows.tasks number frame live) (to - frame.deeds) to (omega (arith, ends.order)) (omega arith) in
       let task = all.task in
-      let change : IsChange back = record { number = λ f. refl; parent = λ f. refl; path = λ f. refl; children = λ f. omega arith } in
+      let change : KeepsTask back = record { number = λ f. refl; parent = λ f. refl; path = λ f. refl; children = λ f. omega arith } in
       changed_follows s state follows new number back frame live change refl all.later
       (record { some = task.some; deeds = task.deeds; children = task.children; rights = task.rights; made = task.made })
       (λ n other at apart. task_on s state new other (λ queue. refl) (omega arith) (follows.tasks n other at))

@@ -1,4 +1,5 @@
 -- A state in which one frame has gone on follows, where that frame is still a task of the script.
+use Rattle.queues.proofs.ActiveAfter.{KeepsTask}
 use Rattle.std.proofs.Common.{◌≡◌, ◌⊎◌, inl, inr, ℕ, ◌≤◌, Bool, true, false, nat_eq, nat_lt, cond, List, [], ◌∷◌, ◌++◌, length, map, Option, Some, None, refl, sym, ap, subst, ◌∙◌, arith}
 use Rattle.std.proofs.lemmas.Bool.{cases_eq, eq-eqb, eqb-true, lt-ltb, ltb-true, ne_eqb, or_cases, or_left, or_right}
 use Rattle.std.proofs.lemmas.Option.{slice_get-map}
@@ -13,13 +14,6 @@ use Rattle.swan_model.specs.QueueFollows.{IsChildOf, IsMade, IsTask, QueuesFollo
 use Rattle.swan_model.specs.QueueState.{ActiveFrame, QueueMaker, planned, made_by, QueueState, active, changed}
 use Rattle.swan_model.proofs.Elements.{all_each, all_from, find_map, mapped_is, some_same}
 use Rattle.queues.proofs.Frames.{active_number}
-
--- a change of a frame that leaves which task it is, and takes back no child
-pub record IsChange (change : ActiveFrame → ActiveFrame) : Type 0 where
-  pub number : (f : ActiveFrame) → (change f).number ≡ f.number
-  pub parent : (f : ActiveFrame) → (change f).parent ≡ f.parent
-  pub path : (f : ActiveFrame) → (change f).path ≡ f.path
-  pub children : (f : ActiveFrame) → f.children ≤ (change f).children
 
 kept : {Y : Type 0} (get : ActiveFrame → Y) (change : ActiveFrame → ActiveFrame) → ((f : ActiveFrame) → get (change f) ≡ get f) → (b : Bool) (f : ActiveFrame) → get (cond b (change f) f) ≡ get f
 kept get change same true f = same f
@@ -69,7 +63,7 @@ module _ (s : Script) where
       }
 
 module _ (s : Script) (state : QueueState) (follows : QueuesFollow s state) (new : QueueState) (number : ℕ) (change : ActiveFrame → ActiveFrame) (frame : ActiveFrame)
-    (live : active state number ≡ Some frame) (is : IsChange change) (frames : new.frames ≡ map (changed number change) state.frames)
+    (live : active state number ≡ Some frame) (is : KeepsTask change) (frames : new.frames ≡ map (changed number change) state.frames)
     (later : queue_point s frame.path frame.deeds ≤ queue_point s (change frame).path (change frame).deeds) where
   pub active_new : (n : ℕ) → active new n ≡ option_map (changed number change) (active state n)
   active_new n =

@@ -1,4 +1,5 @@
 -- The calls that make a queue leave hyperqueues that follow.
+use Rattle.queues.proofs.ActiveAfter.{KeepsTask}
 use Rattle.std.proofs.Common.{◌≡◌, inl, inr, ℕ, ◌+◌, ◌<◌, Bool, true, false, nat_eq, nat_lt, cond, List, [], ◌∷◌, ◌++◌, length, map, Some, refl, sym, ap, subst, ◌∙◌, append-nil, arith, length-append}
 use Rattle.std.proofs.lemmas.Bool.{and_parts, cases_Bool, cases_eq, eq-eqb, ne_eqb, false_from_ne_true, lt-ltb, ltb-true, or_cases, or_left, or_right}
 use Rattle.std.proofs.lemmas.Option.{slice_get-map, slice_get_within}
@@ -25,7 +26,7 @@ use Rattle.swan_model.proofs.ScriptRights.{held_later, held_older, maker_holds}
 use Rattle.swan_model.proofs.ScriptSteps.{deed_is, own_under}
 use Rattle.swan_model.proofs.Uses.{may_use-less}
 use Rattle.queues.proofs.Between.{point_left, queue_point-own}
-use Rattle.queues.proofs.Changing.{IsChange, changed_follows, done_from}
+use Rattle.queues.proofs.Changing.{changed_follows, done_from}
 use Rattle.swan_model.proofs.Elements.{all_from, as_number, found_is, mapped_is, more_cases, some_same}
 use Rattle.queues.proofs.Holders.{all_allowed, maker_above, root_may}
 use Rattle.queues.proofs.Kept.{use_kept}
@@ -202,7 +203,7 @@ module _ (s : Script) (lawful : IsLawful s) (state : QueueState) (follows : Queu
 
     created : QueuesFollow s after
     created =
-        let is : IsChange change = record { number = λ f. refl; parent = λ f. refl; path = λ f. refl; children = λ f. omega arith } in
+        let is : KeepsTask change = record { number = λ f. refl; parent = λ f. refl; path = λ f. refl; children = λ f. omega arith } in
         let time = point_left s frame.path frame.deeds next.left in
         changed_follows s state follows after frame.number change frame live is frames (omega (arith, after_here)) own_task other_task
         (λ queue one at. elim (more_cases state.makers maker queue one (ap (λ xs. slice_get xs queue) (sym makers) ∙ at)) [
@@ -269,7 +270,7 @@ module _ (s : Script) (lawful : IsLawful s) (state : QueueState) (follows : Queu
 
   root_created : QueuesFollow s root_after
   root_created =
-      let is : IsChange (with_made (length state.makers)) = record { number = λ f. refl; parent = λ f. refl; path = λ f. refl; children = λ f. omega arith } in
+      let is : KeepsTask (with_made (length state.makers)) = record { number = λ f. refl; parent = λ f. refl; path = λ f. refl; children = λ f. omega arith } in
       changed_follows s state follows root_after 0 (with_made (length state.makers)) untouched.root untouched.live is refl (omega arith) root_task
       (λ n other at apart. absurd (alone n other at apart))
       (λ queue one at. elim (more_cases state.makers root_maker queue one at) [

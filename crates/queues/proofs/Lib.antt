@@ -1,6 +1,6 @@
 -- Lemmas on hyperqueues. Each group stands on those before it; what a file is for stands at its head.
 
--- lists, and the places of entries
+-- stretches of lists, and the places of entries
 pub mod Segments
 pub mod Places
 -- the laws: queues that follow a script, and readings that fit

@@ -1,4 +1,5 @@
 -- What the frames keep of each other is kept where one goes on in its place: with the rights that it had, or as the maker of a new queue.
+use Rattle.queues.proofs.ActiveAfter.{KeepsTask}
 use Rattle.std.proofs.Common.{◌≡◌, ◌⊎◌, inl, inr, ℕ, ◌<◌, ◌≤◌, Bool, true, false, cond, nat_eq, Some, List, [], ◌∷◌, ◌++◌, length, refl, sym, ap, ◌∙◌, length-append, arith}
 use Rattle.std.proofs.lemmas.Bool.{and_left, and_parts, cond_both, eqb-true, false≢true, ne_eqb, or_cases}
 use Rattle.std.proofs.lemmas.List.Folds.{list_any-append}
@@ -13,13 +14,6 @@ use Rattle.queues.proofs.Frames.{active_number}
 use Rattle.queues.proofs.FramesChanged.{get_front}
 use Rattle.queues.proofs.TreeChanged.{IsChanged}
 use Rattle.swan_model.proofs.Elements.{last_more}
-
--- a change leaves a frame in its place
-pub record KeepsPlace (change : ActiveFrame → ActiveFrame) : Type 0 where
-  pub numbers : (frame : ActiveFrame) → (change frame).number ≡ frame.number
-  pub parents : (frame : ActiveFrame) → (change frame).parent ≡ frame.parent
-  pub paths : (frame : ActiveFrame) → (change frame).path ≡ frame.path
-  pub children : (frame : ActiveFrame) → frame.children ≤ (change frame).children
 
 -- ---- rights with one more
 
@@ -57,10 +51,18 @@ both_of_queues Pop is = refl
 both_of_queues PushPop is = refl
 both_of_queues mode is = absurd (false≢true is)
 
-module _ (state : QueueState) (tree : IsTree state) (n : ℕ) (change : ActiveFrame → ActiveFrame) (kept : KeepsPlace change) where
+module _ (state : QueueState) (tree : IsTree state) (n : ℕ) (change : ActiveFrame → ActiveFrame) (kept : KeepsTask change) where
   -- each frame is the changed one, or as it was
   by_cases : (P : ActiveFrame → Type 0) (frame : ActiveFrame) → P (change frame) → P frame → P (changed n change frame)
   by_cases P frame new old = cond_both (nat_eq frame.number n) (change frame) frame P (λ is. new) (λ is. old)
+
+  keeps_each : KeepsTask (changed n change)
+  keeps_each = record {
+    number = λ frame. by_cases (λ now. now.number ≡ frame.number) frame (kept.number frame) refl;
+    parent = λ frame. by_cases (λ now. now.parent ≡ frame.parent) frame (kept.parent frame) refl;
+    path = λ frame. by_cases (λ now. now.path ≡ frame.path) frame (kept.path frame) refl;
+    children = λ frame. by_cases (λ now. frame.children ≤ now.children) frame (kept.children frame) (omega arith);
+  }
 
   -- a frame goes on with the rights that it had
   module _ (rights : (frame : ActiveFrame) → (change frame).rights ≡ frame.rights) where
@@ -78,10 +80,7 @@ module _ (state : QueueState) (tree : IsTree state) (n : ℕ) (change : ActiveFr
       makers = λ queue maker at. at;
       more = omega arith;
       latest = omega arith;
-      numbers = λ frame. by_cases (λ now. now.number ≡ frame.number) frame (kept.numbers frame) refl;
-      parents = λ frame. by_cases (λ now. now.parent ≡ frame.parent) frame (kept.parents frame) refl;
-      paths = λ frame. by_cases (λ now. now.path ≡ frame.path) frame (kept.paths frame) refl;
-      children = λ frame. by_cases (λ now. frame.children ≤ now.children) frame (kept.children frame) (omega arith);
+      kept = keeps_each;
       has = λ frame queue there. same_has frame queue;
       holds = λ frame queue mode there. same_holds frame queue mode;
       new = λ number queue frame live fresh has.
@@ -121,7 +120,7 @@ module _ (state : QueueState) (tree : IsTree state) (n : ℕ) (change : ActiveFr
             let at : slice_get with_queue.makers queue ≡ Some maker = ap (slice_get with_queue.makers) (sym newest) ∙ last_more state.makers maker in (
               same,
               omega (arith, length-append state.makers (maker ∷ [])),
-              made maker at (kept.paths frame ∙ own frame (ap (active state) (sym same) ∙ live)),
+              made maker at (kept.path frame ∙ own frame (ap (active state) (sym same) ∙ live)),
             )
       ]
       by false is has = absurd (old has)
@@ -141,10 +140,7 @@ module _ (state : QueueState) (tree : IsTree state) (n : ℕ) (change : ActiveFr
       makers = λ queue other at. get_front state.makers (maker ∷ []) queue other at;
       more = omega (arith, length-append state.makers (maker ∷ []));
       latest = omega arith;
-      numbers = λ frame. by_cases (λ now. now.number ≡ frame.number) frame (kept.numbers frame) refl;
-      parents = λ frame. by_cases (λ now. now.parent ≡ frame.parent) frame (kept.parents frame) refl;
-      paths = λ frame. by_cases (λ now. now.path ≡ frame.path) frame (kept.paths frame) refl;
-      children = λ frame. by_cases (λ now. frame.children ≤ now.children) frame (kept.children frame) (omega arith);
+      kept = keeps_each;
       has = has_old;
       holds = holds_old;
       new = new_queue;

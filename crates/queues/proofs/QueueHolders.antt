@@ -29,7 +29,7 @@ module _ (before after : QueueState) (each : ActiveFrame → ActiveFrame) (actor
         frame = old.0;
         live = old.1;
         has = by old.0 old.1 has there;
-        is = sym (change.paths old.0) ∙ ap (λ (f : ActiveFrame). f.path) (sym old.2) ∙ now.is;
+        is = sym (change.kept.path old.0) ∙ ap (λ (f : ActiveFrame). f.path) (sym old.2) ∙ now.is;
       }
     where
       by : (frame : ActiveFrame) → active before number ≡ Some frame → has_queue (each frame) queue ≡ true → (queue < length before.makers) ⊎ (length after.makers ≤ queue)
@@ -48,7 +48,7 @@ module _ (before after : QueueState) (each : ActiveFrame → ActiveFrame) (actor
         frame = each old.frame;
         live = still before after each actor tree change number old.frame old.live;
         has = change.has old.frame queue known ∙ old.has;
-        is = change.paths old.frame ∙ old.is;
+        is = change.kept.path old.frame ∙ old.is;
       }
 
   -- who has a new queue made it

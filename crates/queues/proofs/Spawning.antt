@@ -1,4 +1,5 @@
 -- The spawn of a child leaves hyperqueues that follow.
+use Rattle.queues.proofs.ActiveAfter.{KeepsTask}
 use Rattle.std.proofs.Common.{◌≡◌, inl, inr, ℕ, ◌+◌, ◌<◌, ◌≤◌, Bool, true, false, nat_eq, nat_lt, cond, List, [], ◌∷◌, ◌++◌, length, Some, None, refl, sym, ap, subst, ◌∙◌, append_assoc, arith}
 use Rattle.std.proofs.lemmas.Bool.{cases_lt, eq-eqb, false_from_ne_true, or_left}
 use Rattle.std.specs.Cmp.Lexicographic.{pointwise}
@@ -25,7 +26,7 @@ use Rattle.swan_model.proofs.ScriptRights.{child_holds}
 use Rattle.swan_model.proofs.ScriptSteps.{deed_is, one_entry}
 use Rattle.swan_model.proofs.Uses.{granted-none}
 use Rattle.queues.proofs.Between.{IsQueueDeed, IsStill, to_queue_point}
-use Rattle.queues.proofs.Changing.{IsChange, active_new, changed_follows, done_is, now_is, path_kept, task_on, was}
+use Rattle.queues.proofs.Changing.{active_new, changed_follows, done_is, now_is, path_kept, task_on, was}
 use Rattle.queues.proofs.Done.{reached_under}
 use Rattle.swan_model.proofs.Elements.{all_each, as_number, found_is}
 use Rattle.queues.proofs.Given.{child_made, child_rights}
@@ -138,7 +139,7 @@ module _ (s : Script) (lawful : IsLawful s) (state : QueueState) (follows : Queu
         made = task.made;
       }
 
-  one_change : IsChange one_more
+  one_change : KeepsTask one_more
   one_change = record { number = λ f. refl; parent = λ f. refl; path = λ f. refl; children = λ f. omega arith }
 
   later_point : at_time ≤ queue_point s parent.path (parent.deeds + 1)

@@ -1,4 +1,5 @@
 -- What each call changes in the frames of a state.
+use Rattle.queues.proofs.ActiveAfter.{KeepsTask}
 use Rattle.std.proofs.Common.{◌≡◌, ℕ, ◌+◌, ◌<◌, ◌≤◌, cond, None, Some, List, [], ◌∷◌, ◌++◌, length, map, refl, sym, ap, subst, ◌∙◌, arith}
 use Rattle.std.proofs.lemmas.Bool.{eq-eqb}
 use Rattle.swan_model.specs.QueueState.{ActiveFrame, LentEnd, planned, made_by, QueueRight, QueueState, active, after_back, after_create, after_create_root, after_deed, after_lend, after_take_rest, changed, changing, child_of, MayAct, MayGive, with_deed, with_made}
@@ -7,13 +8,13 @@ use Rattle.queues.specs.Tree.{IsTree}
 use Rattle.queues.proofs.Above.{parent_of}
 use Rattle.queues.proofs.Frames.{active_number, same_frame}
 use Rattle.queues.proofs.Gives.{gives_had, gives_held}
-use Rattle.queues.proofs.OneChanged.{goes_on, KeepsPlace, makes}
+use Rattle.queues.proofs.OneChanged.{goes_on, makes}
 use Rattle.queues.proofs.TreeAdded.{IsNewest}
 use Rattle.queues.proofs.TreeChanged.{IsChanged, still, tree_changed, was}
 
 in_place : (change : ActiveFrame → ActiveFrame) → ((frame : ActiveFrame) → (change frame).number ≡ frame.number) → ((frame : ActiveFrame) → (change frame).parent ≡ frame.parent)
-    → ((frame : ActiveFrame) → (change frame).path ≡ frame.path) → ((frame : ActiveFrame) → frame.children ≤ (change frame).children) → KeepsPlace change
-in_place change numbers parents paths children = record { numbers = numbers; parents = parents; paths = paths; children = children }
+    → ((frame : ActiveFrame) → (change frame).path ≡ frame.path) → ((frame : ActiveFrame) → frame.children ≤ (change frame).children) → KeepsTask change
+in_place change numbers parents paths children = record { number = numbers; parent = parents; path = paths; children = children }
 
 pub root_changed : (state : QueueState) → IsTree state → IsChanged state (after_create_root state) (changed 0 (with_made (length state.makers))) 0
 root_changed state tree =
@@ -78,10 +79,7 @@ rest_changed state queue tree = record {
   makers = λ other maker at. at;
   more = omega arith;
   latest = omega arith;
-  numbers = λ f. refl;
-  parents = λ f. refl;
-  paths = λ f. refl;
-  children = λ f. omega arith;
+  kept = record { number = λ f. refl; parent = λ f. refl; path = λ f. refl; children = λ f. omega arith };
   has = λ f other there. refl;
   holds = λ f other mode there. refl;
   new = λ number other f live fresh has. let there = (tree.held number other f live has).0 in absurd (omega arith);
@@ -128,7 +126,7 @@ module _ (state : QueueState) (tree : IsTree state) (p child : ℕ) (gives : Lis
   lesser : (number other : ℕ) (f : ActiveFrame) → active (with_one_more state frame) number ≡ Some f → f.path ≡ frame.path ++ other ∷ [] → other < frame.children
   lesser number other f live path =
       let at = was state (with_one_more state frame) (changed frame.number one_more) frame.number tree parent_changed number f live in
-      lesser_before number other at.0 at.1 (sym (parent_changed.paths at.0) ∙ ap (λ (g : ActiveFrame). g.path) (sym at.2) ∙ path)
+      lesser_before number other at.0 at.1 (sym (parent_changed.kept.path at.0) ∙ ap (λ (g : ActiveFrame). g.path) (sym at.2) ∙ path)
 
   pub child_newest : IsNewest (with_one_more state frame) (one_more frame) (child_of frame child gives) frame.children
   child_newest = record {

@@ -1,4 +1,5 @@
 -- What the frames keep of each other is kept where each goes on in its place.
+use Rattle.queues.proofs.ActiveAfter.{KeepsTask}
 use Rattle.std.proofs.Common.{◌≡◌, ◌≢◌, inl, inr, ℕ, ◌<◌, ◌≤◌, true, Some, [], ◌∷◌, ◌++◌, length, map, sym, ap, subst, ◌∙◌, arith}
 use Rattle.std.proofs.lemmas.Bool.{cases_lt}
 use Rattle.std.proofs.lemmas.Option.{same_Some, slice_get-map}
@@ -19,10 +20,7 @@ pub record IsChanged (before after : QueueState) (each : ActiveFrame → ActiveF
   pub makers : (queue : ℕ) (maker : QueueMaker) → slice_get before.makers queue ≡ Some maker → slice_get after.makers queue ≡ Some maker
   pub more : length before.makers ≤ length after.makers
   pub latest : before.latest ≤ after.latest
-  pub numbers : (frame : ActiveFrame) → (each frame).number ≡ frame.number
-  pub parents : (frame : ActiveFrame) → (each frame).parent ≡ frame.parent
-  pub paths : (frame : ActiveFrame) → (each frame).path ≡ frame.path
-  pub children : (frame : ActiveFrame) → frame.children ≤ (each frame).children
+  pub kept : KeepsTask each
   pub has : (frame : ActiveFrame) (queue : ℕ) → queue < length before.makers → has_queue (each frame) queue ≡ has_queue frame queue
   pub holds : (frame : ActiveFrame) (queue : ℕ) (mode : Mode) → queue < length before.makers → holds_queue (each frame) queue mode ≡ holds_queue frame queue mode
   -- only one frame gets a new queue
@@ -35,11 +33,11 @@ module _ (before after : QueueState) (each : ActiveFrame → ActiveFrame) (actor
   same_active number = ap (λ frames. active (record before { frames = frames }) number) change.frames
 
   pub still : (number : ℕ) (frame : ActiveFrame) → active before number ≡ Some frame → active after number ≡ Some (each frame)
-  still number frame live = same_active number ∙ find_changed each change.numbers before.frames number ∙ ap (option_map each) live
+  still number frame live = same_active number ∙ find_changed each change.kept.number before.frames number ∙ ap (option_map each) live
 
   pub was : (number : ℕ) (now : ActiveFrame) → active after number ≡ Some now → (frame : ActiveFrame) × (active before number ≡ Some frame) × (now ≡ each frame)
   was number now live =
-      mapped_some each (active before number) now (sym (find_changed each change.numbers before.frames number) ∙ sym (same_active number) ∙ live)
+      mapped_some each (active before number) now (sym (find_changed each change.kept.number before.frames number) ∙ sym (same_active number) ∙ live)
 
   -- what is shown of changed frames holds of those that are active
   pub for_each : (P : ℕ → ActiveFrame → Type 0) → ((number : ℕ) (frame : ActiveFrame) → active before number ≡ Some frame → P number (each frame))
@@ -52,22 +50,22 @@ module _ (before after : QueueState) (each : ActiveFrame → ActiveFrame) (actor
   known_still index now stands =
       let at = mapped_some each (slice_get before.frames index) now
       (sym (slice_get-map each before.frames index) ∙ ap (λ fs. slice_get fs index) (sym change.frames) ∙ stands) in
-      let own : now.number ≡ at.0.number = ap (λ (f : ActiveFrame). f.number) at.2 ∙ change.numbers at.0 in
+      let own : now.number ≡ at.0.number = ap (λ (f : ActiveFrame). f.number) at.2 ∙ change.kept.number at.0 in
       ap (active after) own ∙ still at.0.number at.0 (tree.known index at.0 at.1) ∙ ap Some (sym at.2)
 
   spawned_still : (number parent : ℕ) (frame : ActiveFrame) → active before number ≡ Some frame → (each frame).parent ≡ Some parent → IsSpawnedBy after (each frame) parent
   spawned_still number parent frame live of =
-      let from = tree.spawned number parent frame live (sym (change.parents frame) ∙ of) in
-      let own = change.numbers frame in
+      let from = tree.spawned number parent frame live (sym (change.kept.parent frame) ∙ of) in
+      let own = change.kept.number frame in
       let older = from.older in
       let fewer = from.spawned in
-      let more = change.children from.above in
+      let more = change.kept.children from.above in
       record {
         above = each from.above;
         live = still parent from.above from.live;
         older = omega arith;
         index = from.index;
-        path = change.paths frame ∙ from.path ∙ ap (λ p. p ++ from.index ∷ []) (sym (change.paths from.above));
+        path = change.kept.path frame ∙ from.path ∙ ap (λ p. p ++ from.index ∷ []) (sym (change.kept.path from.above));
         spawned = omega arith;
       }
 
@@ -78,11 +76,11 @@ module _ (before after : QueueState) (each : ActiveFrame → ActiveFrame) (actor
       own.1 ∙ ap Some (same_Some own.0 maker (sym (change.makers queue own.0 own.1) ∙ at))
 
   held_still : (queue : ℕ) (frame : ActiveFrame) → queue < length before.makers → IsHeld before frame queue → IsHeld after (each frame) queue
-  held_still queue frame there (made maker at own) = made maker (change.makers queue maker at) (change.paths frame ∙ own)
+  held_still queue frame there (made maker at own) = made maker (change.makers queue maker at) (change.kept.path frame ∙ own)
   held_still queue frame there (given parent above of live has modes apart) =
-      given parent (each above) (change.parents frame ∙ of) (still parent above live) (change.has above queue there ∙ has)
+      given parent (each above) (change.kept.parent frame ∙ of) (still parent above live) (change.has above queue there ∙ has)
       (λ mode held. change.holds above queue mode there ∙ modes mode (sym (change.holds frame queue mode there) ∙ held))
-      (λ maker at same. apart maker (same_maker queue maker there at) (sym (change.paths frame) ∙ same))
+      (λ maker at same. apart maker (same_maker queue maker there at) (sym (change.kept.path frame) ∙ same))
 
   held_now : (number queue : ℕ) (frame : ActiveFrame) → active before number ≡ Some frame → has_queue (each frame) queue ≡ true
       → (queue < length after.makers) × IsHeld after (each frame) queue
@@ -99,7 +97,7 @@ module _ (before after : QueueState) (each : ActiveFrame → ActiveFrame) (actor
   older_before number older frame live is =
       let at = was older is.older is.live in
       let own = active_number before number frame live in
-      let kept = change.numbers frame in
+      let kept = change.kept.number frame in
       let less = is.before in
       let P : ActiveFrame → Type 0 = λ g. g.parent ≡ Some is.parent in
       let Q : ActiveFrame → Type 0 = λ g. holds_queue g is.queue Pop ≡ true in
@@ -109,8 +107,8 @@ module _ (before after : QueueState) (each : ActiveFrame → ActiveFrame) (actor
           older = at.0;
           live = at.1;
           parent = is.parent;
-          of = sym (change.parents frame) ∙ is.of;
-          sibling = sym (change.parents at.0) ∙ subst P at.2 is.sibling;
+          of = sym (change.kept.parent frame) ∙ is.of;
+          sibling = sym (change.kept.parent at.0) ∙ subst P at.2 is.sibling;
           before = omega arith;
           queue = is.queue;
           pops = sym (change.holds frame is.queue Pop there) ∙ is.pops;
@@ -130,22 +128,22 @@ module _ (before after : QueueState) (each : ActiveFrame → ActiveFrame) (actor
     root = λ frame live.
         let at = was 0 frame live in
         let top = tree.root at.0 at.1 in
-        (ap (λ (f : ActiveFrame). f.path) at.2 ∙ change.paths at.0 ∙ top.0, ap (λ (f : ActiveFrame). f.parent) at.2 ∙ change.parents at.0 ∙ top.1);
+        (ap (λ (f : ActiveFrame). f.path) at.2 ∙ change.kept.path at.0 ∙ top.0, ap (λ (f : ActiveFrame). f.parent) at.2 ∙ change.kept.parent at.0 ∙ top.1);
     others = for_each (λ number frame. number ≢ 0 → (parent : ℕ) × (frame.parent ≡ Some parent)) (λ number frame live apart.
-        let parent = tree.others number frame live apart in (parent.0, change.parents frame ∙ parent.1));
+        let parent = tree.others number frame live apart in (parent.0, change.kept.parent frame ∙ parent.1));
     spawned = λ number parent frame live. for_each (λ n f. f.parent ≡ Some parent → IsSpawnedBy after f parent)
         (λ n f alive. spawned_still n parent f alive) number frame live;
     siblings = λ number other i j a b path one two at there.
         let first = was number a one in
         let second = was other b two in
         tree.siblings number other i j first.0 second.0 path first.1 second.1
-        (sym (change.paths first.0) ∙ ap (λ (f : ActiveFrame). f.path) (sym first.2) ∙ at)
-        (sym (change.paths second.0) ∙ ap (λ (f : ActiveFrame). f.path) (sym second.2) ∙ there);
+        (sym (change.kept.path first.0) ∙ ap (λ (f : ActiveFrame). f.path) (sym first.2) ∙ at)
+        (sym (change.kept.path second.0) ∙ ap (λ (f : ActiveFrame). f.path) (sym second.2) ∙ there);
     different = λ number other a b one two same.
         let first = was number a one in
         let second = was other b two in
         tree.different number other first.0 second.0 first.1 second.1
-        (sym (change.paths first.0) ∙ ap (λ (f : ActiveFrame). f.path) (sym first.2) ∙ same ∙ ap (λ (f : ActiveFrame). f.path) second.2 ∙ change.paths second.0);
+        (sym (change.kept.path first.0) ∙ ap (λ (f : ActiveFrame). f.path) (sym first.2) ∙ same ∙ ap (λ (f : ActiveFrame). f.path) second.2 ∙ change.kept.path second.0);
     held = λ number queue frame live. for_each (λ n f. has_queue f queue ≡ true → (queue < length after.makers) × IsHeld after f queue)
         (λ n f alive. held_now n queue f alive) number frame live;
     modes = λ number queue frame mode live. for_each (λ n f. holds_queue f queue mode ≡ true → is_queue_mode mode ≡ true)

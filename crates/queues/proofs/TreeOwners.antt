@@ -99,7 +99,7 @@ owners_new before after each actor frame first tree change live has = has_owners
     queue = length before.makers
 
     maker : IsHolder after queue actor frame.path
-    maker = record { frame = each frame; live = still before after each actor tree change actor frame live; has = has; is = change.paths frame }
+    maker = record { frame = each frame; live = still before after each actor tree change actor frame live; has = has; is = change.kept.path frame }
 
     one : (index number : ℕ) → owner_at (own actor first ∷ []) index ≡ Some number → actor ≡ number
     one zero number at = same_Some actor number at

@@ -1,9 +1,9 @@
 -- What the turns of poppers say of a state.
-use Rattle.swan_model.specs.SerialState.{Holding}
-use Rattle.std.specs.List.{list_any}
 use Rattle.std.specs.Prelude.{◌≡◌, ◌≢◌, ℕ, ◌≤◌, true, Some, None, [], ◌∷◌, slice_get, ◌==◌, Bool, false, Option, List, map}
+use Rattle.std.specs.List.{list_any}
 use Rattle.swan_model.specs.declared.rights.Mode.{Mode}
 use Rattle.swan_model.specs.QueueState.{ActiveFrame, QueueMaker, QueueState, active, holds_queue, QueueRight, IsEarlierPusher, IsPoppingChild}
+use Rattle.swan_model.specs.SerialState.{Holding}
 use Rattle.pop_order.specs.Frames.{Frame, Frames, frame_at, holds}
 use Rattle.pop_order.specs.declared.certain.Certain.{Certain}
 use Rattle.pop_order.specs.declared.certain.Certain.TheVariants.{Yes, EarlierPusher, PoppingChild}
