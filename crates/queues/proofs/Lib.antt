@@ -71,8 +71,8 @@ pub mod TakenOn
 -- the turns of poppers
 pub mod TurnsKept
 pub mod TurnsGone
-pub mod TurnsCalls
 pub mod TurnsEnlisted
+pub mod TurnsCalls
 pub mod TurnsMade
 pub mod GivingTurns
 pub mod TurnsSpawned

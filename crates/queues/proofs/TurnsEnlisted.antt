@@ -43,7 +43,7 @@ none_set (e ∷ es) k n v none = by (is_at (nat_cmp n) e.0) refl none (none_set 
         ∙ ap (λ b. cond b (Some e.1) (frame_at (set_value (is_at (nat_cmp k)) es v) n)) is ∙ rest h
   ]
 
-apart_set : (es : Frames) (k : ℕ) (v : Frame) → AreApart es → AreApart (set_value (is_at (nat_cmp k)) es v)
+pub apart_set : (es : Frames) (k : ℕ) (v : Frame) → AreApart es → AreApart (set_value (is_at (nat_cmp k)) es v)
 apart_set [] k v apart = tt
 apart_set (e ∷ es) k v (first, apart) = by (is_at (nat_cmp k) e.0) (apart_set es k v apart) where
   by : (b : Bool) → AreApart (set_value (is_at (nat_cmp k)) es v) → AreApart (cond b ((e.0, v) ∷ es) (e ∷ set_value (is_at (nat_cmp k)) es v))

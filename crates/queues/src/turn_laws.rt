@@ -1,6 +1,6 @@
 // Laws of the turns of poppers beside hyperqueues.
 ghost use Rattle.std.specs.Prelude.{◌≡◌, ℕ, ◌<◌, ◌++◌, ◌∷◌, List, [], Some, false, true};
-ghost use Rattle.pop_order.specs.Frames.{AreUpTo, Frame, Frames, HasNoChild, MayGet, enlisted, frame_at, without};
+ghost use Rattle.pop_order.specs.Frames.{AreUpTo, Frame, Frames, HasNoChild, MayGet, enlisted, frame_at, lent_to, without};
 ghost use Rattle.pop_order.specs.Order.{ComesBefore};
 ghost use Rattle.pop_order.specs.Turns.{Blocks, IsAnswer};
 ghost use Rattle.pop_order.specs.declared.certain.Certain.{Certain};
@@ -14,7 +14,7 @@ ghost use Rattle.queues.specs.Turned.{AreApart, AreGivenTurns, AreTurns, IsToldB
 /// The law that turns which are kept beside hyperqueues are those of their frames, at the start and after each call. A
 /// spawn enlists the child once for each queue that it is given, one after the other (`first`, `newest`, `may_get`,
 /// `more`), and then the turns are those of the state after it (`spawn`). A frame's turn goes with its finish. All other
-/// calls leave the turns.
+/// calls leave the turns, and they may be told that queue views have moved (`moved`).
 pub fn turns_stay()
     ensures start { AreTurns new_state [] }
     ensures create_root { (state : QueueState) (turns : Frames) → IsTree state → AreTurns state turns → IsUntouched state → AreTurns (after_create_root state) turns }
@@ -32,6 +32,7 @@ pub fn turns_stay()
     ensures deed { (state : QueueState) (turns : Frames) (n : ℕ) → AreTurns state turns → MayDo state n → AreTurns (after_deed state n) turns }
     ensures lend { (state : QueueState) (turns : Frames) (n : ℕ) (frame : ActiveFrame) (ends : List LentEnd) → AreTurns state turns → active state n ≡ Some frame → AreTurns (after_lend state frame ends) turns }
     ensures back { (state : QueueState) (turns : Frames) (n deeds : ℕ) (frame : ActiveFrame) → AreTurns state turns → active state n ≡ Some frame → AreTurns (after_back state n deeds) turns }
+    ensures moved { (state : QueueState) (turns : Frames) (child : ℕ) → AreTurns state turns → AreTurns state (lent_to turns child) }
     ensures childless { (state : QueueState) (turns : Frames) (n : ℕ) → AreTurns state turns → MayJoin state n → HasNoChild turns n }
     ensures finish { (state : QueueState) (turns : Frames) (n : ℕ) → AreTurns state turns → AreTurns (after_finish state n) (without turns n) }
     ensures take_rest { (state : QueueState) (turns : Frames) (queue : ℕ) → AreTurns state turns → AreTurns (after_take_rest state queue) turns }

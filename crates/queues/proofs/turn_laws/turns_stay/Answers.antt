@@ -1,7 +1,7 @@
 use Rattle.std.proofs.Common.{refl, ap, ◌∙◌}
 use Rattle.queues.proofs.GivingTurns.{turns_given_more, turns_given_none, turns_may_get, turns_newest}
 use Rattle.queues.proofs.TreeKept.{only_root}
-use Rattle.queues.proofs.TurnsCalls.{turns_back, turns_deed, turns_finish, turns_lend, turns_rest}
+use Rattle.queues.proofs.TurnsCalls.{turns_back, turns_deed, turns_finish, turns_lend, turns_moved, turns_rest}
 use Rattle.queues.proofs.TurnsGone.{turns_childless}
 use Rattle.queues.proofs.TurnsKept.{turns_none}
 use Rattle.queues.proofs.TurnsMade.{turns_create, turns_root}
@@ -44,6 +44,9 @@ returns-clause-lend c state turns n frame ends is live = turns_lend state turns 
 
 pub returns-clause-back : goal.returns-clause-back
 returns-clause-back c state turns n deeds frame is live = turns_back state turns is n deeds frame live
+
+pub returns-clause-moved : goal.returns-clause-moved
+returns-clause-moved c state turns child is = turns_moved state turns is child
 
 pub returns-clause-childless : goal.returns-clause-childless
 returns-clause-childless c state turns n is may = turns_childless state turns n is may.alone
