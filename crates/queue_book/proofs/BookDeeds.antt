@@ -10,24 +10,24 @@ use Rattle.swan_model.specs.declared.script.Script.{Script}
 use Rattle.swan_model.specs.declared.value.Value.{Value}
 use Rattle.swan_model.specs.QueueFollows.{origin_in, IsNextAbout}
 use Rattle.swan_model.specs.QueueState.{Lent, QueueMaker, QueueState, after_deed, with_deed}
-use Rattle.queue_book.specs.Asks.{MayDo, MayUse, IsOnTurn, OnNext}
-use Rattle.queue_book.specs.Book.{Chunks, without_spent, with_item, without_first}
+use Rattle.queues.specs.Asks.{MayDo, MayUse, IsOnTurn, OnNext}
+use Rattle.queues.specs.Chunks.{Chunks, without_spent, with_item, without_first}
 use Rattle.queue_book.specs.Chains.{Link, AreChained, in_line}
 use Rattle.queue_book.specs.Fronts.{IsFrontTold, IsTurnTold}
 use Rattle.queue_book.specs.KeptFrames.{KeptFrame}
 use Rattle.queue_book.specs.Live.{kept_of, key_at, lent_of, IsFrame, IsOnlyChange}
 use Rattle.queue_book.specs.Whole.{IsBook, IsPlain}
-use Rattle.queue_book.specs.declared.answers.Tested.TheVariants as tested
+use Rattle.queues.specs.declared.answers.Tested.TheVariants as tested
 use Rattle.queue_book.specs.declared.live_frames.LiveFrames.{LiveFrames}
-use Rattle.queue_book.proofs.ActiveAfter.{others_changed, own_changed}
+use Rattle.queues.proofs.ActiveAfter.{others_changed, own_changed}
 use Rattle.queue_book.proofs.ChainChanges.{chained_same}
-use Rattle.queue_book.proofs.Above.{maker_of}
+use Rattle.queues.proofs.Above.{maker_of}
 use Rattle.queue_book.proofs.BookFronts.{alone_by, found_item, look_of, looked, trim}
-use Rattle.queue_book.proofs.Frames.{has_held}
+use Rattle.queues.proofs.Frames.{has_held}
 use Rattle.queue_book.proofs.LiveKept.{keys_same, kept_live, live_one}
-use Rattle.queue_book.proofs.PlainDeeds.{deed_alike, plain_empty, plain_pop, plain_push, plain_test}
+use Rattle.queue_book.proofs.PlainDeeds.{plain_empty, plain_pop, plain_push, plain_test}
 use Rattle.queue_book.proofs.PlainSaid.{origin_of}
-use Rattle.queue_book.proofs.TurnsKept.{turns_alike}
+use Rattle.queues.proofs.TurnsCalls.{turns_deed}
 
 abbrev pub counted : KeptFrame → KeptFrame
 counted kept = record kept { deeds = kept.deeds + 1 }
@@ -73,7 +73,7 @@ module _ (name : Option Script) (state : QueueState) (frames : LiveFrames) (head
         count = same ∙ is.count;
         chained = chained_same (key_at frames) (key_at after_frames) after_heads after_nodes lines lines
             (keys_same frames after_frames n kept (counted kept) was.1 counted_one refl) (λ q. refl) chained;
-        turned = turns_alike state (after_deed state n) turns (deed_alike name state is.lines is.plain n act) refl is.turned;
+        turned = turns_deed state turns is.turned n act;
       }
 
 module _ (name : Option Script) (state : QueueState) (frames : LiveFrames) (heads : List (Option ℕ)) (nodes : Slab Link) (turns : Frames) (is : IsBook name state frames heads nodes turns)

@@ -11,34 +11,27 @@ use Rattle.swan_model.specs.QueueFollows.{next_queue_deed, origin_in}
 use Rattle.swan_model.specs.QueueState.{ActiveFrame, QueueMaker, planned, made_by, QueueState, active, after_finish, IsOfRoot}
 use Rattle.swan_model.specs.Readings.{end_time}
 use Rattle.swan_model.proofs.Lists.{some_within}
-use Rattle.queue_book.specs.Asks.{MayJoin, OnNext}
-use Rattle.queue_book.specs.Book.{Chunks, after_close}
+use Rattle.queues.specs.Asks.{MayJoin, OnNext}
+use Rattle.queues.specs.Chunks.{Chunks, after_close}
 use Rattle.queue_book.specs.Chains.{Link, AreChained}
 use Rattle.queue_book.specs.Ended.{line_after_end, lines_after_end, own_keys, IsAlone}
 use Rattle.queue_book.specs.KeptFrames.{KeptFrame, own_chunk_in}
 use Rattle.queue_book.specs.Live.{kept_of, key_at, key_in, IsFrame, IsOnlyChange}
-use Rattle.queue_book.specs.Tree.{IsTree, has_queue, maker_path}
-use Rattle.queue_book.specs.Whole.{IsBook, IsInUse, IsLine, IsPlain}
+use Rattle.queues.specs.Tree.{IsTree, has_queue, maker_path, IsInUse}
+use Rattle.queue_book.specs.Whole.{IsBook, IsLine, IsPlain}
 use Rattle.queue_book.specs.declared.live_frame.OwnChunk.{OwnChunk}
 use Rattle.queue_book.specs.declared.live_frames.LiveFrames.{LiveFrames}
-use Rattle.queue_book.proofs.ActiveAfter.{others_finished}
+use Rattle.queues.proofs.ActiveAfter.{others_finished, gone_now}
 use Rattle.queue_book.proofs.ChainChanges.{chained_same}
-use Rattle.queue_book.proofs.Finishing.{finished_follows}
-use Rattle.queue_book.proofs.Frames.{same_frame}
-use Rattle.queue_book.proofs.FramesChanged.{find_gone}
+use Rattle.queues.proofs.Finishing.{finished_follows}
+use Rattle.queues.proofs.Frames.{same_frame}
 use Rattle.queue_book.proofs.LiveKept.{key_none, kept_live, live_gone, place_has}
-use Rattle.queue_book.proofs.Match.{matches_finish, matches_finish_other}
+use Rattle.queues.proofs.Match.{matches_finish, matches_finish_other}
 use Rattle.queue_book.proofs.PlainSaid.{on_next}
-use Rattle.queue_book.proofs.TreeActed.{acted_finish}
-use Rattle.queue_book.proofs.TreeKept.{tree_finish}
-use Rattle.queue_book.proofs.TreeOwners.{none_has, owners_finish, owners_kept_finish, owners_none}
-use Rattle.queue_book.proofs.TurnsGone.{turns_gone}
-
-gone_now : (state : QueueState) (n : ℕ) → active (after_finish state n) n ≡ None
-gone_now state n = by (active (after_finish state n) n) refl where
-  by : (o : Option ActiveFrame) → active (after_finish state n) n ≡ o → o ≡ None
-  by None e = refl
-  by (Some frame) e = absurd (find_gone state.frames n frame e)
+use Rattle.queues.proofs.TreeSpawners.{spawners_finish}
+use Rattle.queues.proofs.TreeKept.{tree_finish}
+use Rattle.queues.proofs.TreeOwners.{none_has, owners_finish, owners_kept_finish, owners_none}
+use Rattle.queues.proofs.TurnsCalls.{turns_finish}
 
 in_use_before : (state : QueueState) (n q : ℕ) (maker : QueueMaker) → IsInUse (after_finish state n) q maker → IsInUse state q maker
 in_use_before state n q maker (inl of_root) = inl of_root
@@ -117,7 +110,7 @@ module _ (name : Option Script) (state : QueueState) (lines : ℕ → Chunks) (i
   plain_finish = record {
     tree = tree_finish state n is.tree may;
     follows = λ s named lawful. finished_follows s state (is.follows s named lawful) n may.alone;
-    acted = λ s named. acted_finish state n is.tree may (is.acted s named);
+    spawners = λ s named. spawners_finish state n is.tree may (is.spawners s named);
     queues = λ q maker made. line_ended q maker made;
     rests = is.rests;
   }
@@ -159,7 +152,7 @@ module _ (name : Option Script) (state : QueueState) (frames : LiveFrames) (head
     count = same ∙ is.count;
     chained = chained_same (own_keys n [] (key_at frames)) (key_at after_frames) after_heads after_nodes (lines_after_end n kept.places is.lines) (lines_after_end n kept.places is.lines)
         keys_after (λ q. refl) chained;
-    turned = turns_gone state (after_finish state n) turns n (others_finished state n) (gone_now state n) refl is.turned;
+    turned = turns_finish state turns is.turned n;
   } where
     keys_after : (m q : ℕ) → key_at after_frames m q ≡ own_keys n [] (key_at frames) m q
     keys_after m q = by (m == n) refl where

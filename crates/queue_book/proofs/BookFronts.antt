@@ -12,29 +12,29 @@ use Rattle.swan_model.specs.Lawful.{IsLawful}
 use Rattle.swan_model.specs.QueueFollows.{next_item, origin_in, is_ripe_among}
 use Rattle.swan_model.specs.QueueState.{ActiveFrame, QueueMaker, QueueState, active, holds_queue, HasTurn, IsPoppingChild}
 use Rattle.swan_model.specs.Readings.{end_time}
-use Rattle.queue_book.specs.Asks.{is_emptied, MayLook, MayUse, IsOnTurn}
-use Rattle.queue_book.specs.Book.{Chunk, Chunks, HasOwners, IsOwner, Matches, without_spent}
+use Rattle.queues.specs.Asks.{is_emptied, MayLook, MayUse, IsOnTurn}
+use Rattle.queues.specs.Chunks.{Chunk, Chunks, HasOwners, IsOwner, Matches, without_spent}
 use Rattle.queue_book.specs.Chains.{Link, AreChained, in_line, IsFront}
 use Rattle.queue_book.specs.Fronts.{IsBare, IsFrontTold, IsTurnTold, first_open}
 use Rattle.queue_book.specs.Live.{AreLive, is_pusher, key_at}
-use Rattle.queue_book.specs.Tells.{FindsItem, FindsNone, IsFirstPusher, IsPopped, IsTested}
-use Rattle.queue_book.specs.Tree.{has_queue, maker_path}
+use Rattle.queues.specs.Tells.{FindsItem, FindsNone, IsFirstPusher, IsPopped, IsTested}
+use Rattle.queues.specs.Tree.{has_queue, maker_path}
 use Rattle.queue_book.specs.Whole.{IsBook, IsPlain}
-use Rattle.queue_book.specs.declared.answers.Popped.TheVariants as popped
-use Rattle.queue_book.specs.declared.answers.Tested.{Tested}
-use Rattle.queue_book.specs.declared.answers.Tested.TheVariants as tested
-use Rattle.queue_book.specs.declared.answers.WaitFor.TheVariants.{Child, Version, PopTurn, Pusher}
+use Rattle.queues.specs.declared.answers.Popped.TheVariants as popped
+use Rattle.queues.specs.declared.answers.Tested.{Tested}
+use Rattle.queues.specs.declared.answers.Tested.TheVariants as tested
+use Rattle.queues.specs.declared.answers.WaitFor.TheVariants.{Child, Version, PopTurn, Pusher}
 use Rattle.queue_book.specs.declared.chains.Front.TheVariants as front
 use Rattle.queue_book.specs.declared.live_frames.LiveFrames.{LiveFrames}
-use Rattle.queue_book.proofs.Above.{maker_of}
+use Rattle.queues.proofs.Above.{maker_of}
 use Rattle.queue_book.proofs.ChainLoops.{line_same}
-use Rattle.queue_book.proofs.Frames.{active_number, has_held, same_frame}
+use Rattle.queues.proofs.Frames.{active_number, has_held, same_frame}
 use Rattle.queue_book.proofs.OpenOwners.{open_first_owner, open_found, open_own_chunk, owner_has, pushes_kept}
-use Rattle.queue_book.proofs.Match.{holds_now, is_empty, none_pops, not_ripe}
+use Rattle.queues.proofs.Match.{holds_now, is_empty, none_pops, not_ripe}
 use Rattle.queue_book.proofs.PlainDeeds.{plain_trim}
 use Rattle.queue_book.proofs.PlainSaid.{on_queue, turn_on}
-use Rattle.queue_book.proofs.TreeTurns.{earlier_owner_pushes, first_owner_is_first, one_owner}
-use Rattle.queue_book.proofs.TurnsKept.{pops_active, pops_turn}
+use Rattle.queues.proofs.TreeTurns.{earlier_owner_pushes, first_owner_is_first, one_owner}
+use Rattle.queues.proofs.TurnsKept.{pops_active, pops_turn}
 
 -- ---- the first chunk
 
@@ -133,7 +133,7 @@ module _ (name : Option Script) (state : QueueState) (frames : LiveFrames) (live
         let R : Chunks → Type 0 = λ chunks. HasOwners state q chunks in
         holds_now s state q (origin_in s made.0) (end_time s (maker_path made.0)) some.first some.rest (subst P some.are (matched s named lawful)) own_chunk.0 n may.frame
         (subst Q some.are own_chunk.1) may.may.live may.held
-        (none_pops state q (some.first ∷ some.rest) n own_chunk.0 may.frame is.tree (is.acted s named) (subst R some.are owners) may.may (has_turn s named) may.held alone
+        (none_pops state q (some.first ∷ some.rest) n own_chunk.0 may.frame is.tree (is.spawners s named) (subst R some.are owners) may.may (has_turn s named) may.held alone
         (subst Q some.are own_chunk.1))
         some.value some.item
 
@@ -161,7 +161,7 @@ module _ (name : Option Script) (state : QueueState) (frames : LiveFrames) (live
 
       pushes : holds_queue pusher.0 q Push ≡ true
       pushes =
-          earlier_owner_pushes state q (theirs.first ∷ theirs.rest) n may.frame own_chunk.0 0 m pusher.0 is.tree (is.acted s named) now_owners may.may (has_turn s named) may.held alone
+          earlier_owner_pushes state q (theirs.first ∷ theirs.rest) n may.frame own_chunk.0 0 m pusher.0 is.tree (is.spawners s named) now_owners may.may (has_turn s named) may.held alone
           now_own first_own before pusher.1
 
       pub met_first : first_open frames n q (lines q) ≡ Some m
@@ -174,7 +174,7 @@ module _ (name : Option Script) (state : QueueState) (frames : LiveFrames) (live
           let P : Chunks → Type 0 = λ chunks. Matches s state q (origin_in s made.0) (end_time s (maker_path made.0)) chunks in
           not_ripe s state q (origin_in s made.0) (end_time s (maker_path made.0)) theirs.first theirs.rest (subst P theirs.are (matched s named lawful)) own_chunk.0 n may.frame now_own
           may.may.live may.held
-          (none_pops state q (theirs.first ∷ theirs.rest) n own_chunk.0 may.frame is.tree (is.acted s named) now_owners may.may (has_turn s named) may.held alone now_own)
+          (none_pops state q (theirs.first ∷ theirs.rest) n own_chunk.0 may.frame is.tree (is.spawners s named) now_owners may.may (has_turn s named) may.held alone now_own)
           m pusher.0 theirs.owns pusher.1 differ pushes theirs.none
 
     -- whose the first chunk is, where no item stands at the front

@@ -8,20 +8,20 @@ use Rattle.pop_order.specs.Frames.{Frames}
 use Rattle.swan_model.specs.declared.script.Script.{Script}
 use Rattle.swan_model.specs.QueueFollows.{AreByEnds}
 use Rattle.swan_model.specs.QueueState.{ActiveFrame, QueueState, active, after_back, after_lend}
-use Rattle.queue_book.specs.Asks.{IsRecorded}
-use Rattle.queue_book.specs.Calls.{with_active}
+use Rattle.queues.specs.Asks.{IsRecorded}
+use Rattle.queues.specs.Tells.{with_active}
 use Rattle.queue_book.specs.Chains.{Link}
 use Rattle.queue_book.specs.KeptFrames.{KeptFrame}
 use Rattle.queue_book.specs.Live.{is_lent_with, kept_of, key_at, AreLive, IsFrame, IsOnlyChange}
 use Rattle.queue_book.specs.NoEnds.{no_ends}
 use Rattle.queue_book.specs.Whole.{IsBook}
 use Rattle.queue_book.specs.declared.live_frames.LiveFrames.{LiveFrames}
-use Rattle.queue_book.proofs.ActiveAfter.{others_changed, own_changed}
+use Rattle.queues.proofs.ActiveAfter.{others_changed, own_changed}
 use Rattle.queue_book.proofs.ChainChanges.{chained_same}
-use Rattle.queue_book.proofs.Frames.{active_number}
+use Rattle.queues.proofs.Frames.{active_number}
 use Rattle.queue_book.proofs.LiveKept.{kept_live, keys_same, live_kept, live_one}
-use Rattle.queue_book.proofs.PlainLent.{back_alike, lend_alike, plain_back, plain_lend}
-use Rattle.queue_book.proofs.TurnsKept.{turns_alike}
+use Rattle.queue_book.proofs.PlainLent.{plain_back, plain_lend}
+use Rattle.queues.proofs.TurnsCalls.{turns_back, turns_lend}
 
 abbrev pub with_lent : Bool → KeptFrame → KeptFrame
 with_lent lent kept = record kept { is_lent = lent }
@@ -59,7 +59,7 @@ module _ (name : Option Script) (state : QueueState) (frames : LiveFrames) (head
         count = is.count;
         chained = chained_same (key_at frames) (key_at after_frames) heads nodes is.lines is.lines
             (keys_same frames after_frames n kept (with_lent true kept) was.1 lent_one refl) (λ q. refl) is.chained;
-        turned = turns_alike state (after_lend state frame []) turns (lend_alike name state is.lines is.plain n frame live []) refl is.turned;
+        turned = turns_lend state turns is.turned n frame [] live;
       }
 
   pub book_back : (after_frames : LiveFrames) → IsOnlyChange frames after_frames n (option_map (λ (kept : KeptFrame). record kept { is_lent = false }) (kept_of frames n))
@@ -86,7 +86,7 @@ module _ (name : Option Script) (state : QueueState) (frames : LiveFrames) (head
         count = is.count;
         chained = chained_same (key_at frames) (key_at after_frames) heads nodes is.lines is.lines
             (keys_same frames after_frames n kept (with_lent false kept) was.1 back_one refl) (λ q. refl) is.chained;
-        turned = turns_alike state (after_back state n frame.deeds) turns (back_alike name state is.lines is.plain n frame live frame.deeds) refl is.turned;
+        turned = turns_back state turns is.turned n frame.deeds frame live;
       }
 
 -- no deed was done by ends

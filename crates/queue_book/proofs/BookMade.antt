@@ -12,26 +12,25 @@ use Rattle.swan_model.specs.declared.script.Script.{Script}
 use Rattle.swan_model.specs.declared.value.Value.{Value}
 use Rattle.swan_model.specs.QueueFollows.{next_queue_deed}
 use Rattle.swan_model.specs.QueueState.{ActiveFrame, QueueMaker, planned, made_by, QueueState, active, after_create, after_create_root, holds_queue, with_deed, with_made, IsUntouched}
-use Rattle.queue_book.specs.Asks.{DEEDS_MOST, MayDo, IsOnTurn, OnNext}
-use Rattle.queue_book.specs.Book.{own}
+use Rattle.queues.specs.Asks.{DEEDS_MOST, MayDo, OnNext}
+use Rattle.queues.specs.Chunks.{own}
 use Rattle.queue_book.specs.Chains.{Link, AreChained, in_line, put_at}
 use Rattle.queue_book.specs.KeptFrames.{KeptFrame, own_chunk_in}
 use Rattle.queue_book.specs.Live.{kept_of, key_at, lent_of, with_own_chunk, IsFrame, IsOnlyChange}
 use Rattle.queue_book.specs.Made.{IsMadeIn}
-use Rattle.queue_book.specs.Tree.{has_queue, maker_path}
-use Rattle.queue_book.specs.Turned.{AreTurns}
+use Rattle.queues.specs.Tree.{has_queue, maker_path}
 use Rattle.queue_book.specs.Whole.{IsBook, IsPlain}
 use Rattle.queue_book.specs.declared.live_frame.OwnChunk.{OwnChunk}
 use Rattle.queue_book.specs.declared.live_frames.LiveFrames.{LiveFrames}
-use Rattle.queue_book.proofs.ActiveAfter.{AreOthers, others_changed, own_changed}
+use Rattle.queues.proofs.ActiveAfter.{AreOthers, others_changed, own_changed}
 use Rattle.queue_book.proofs.BookDeeds.{counted, lent_none, not_lent}
 use Rattle.queue_book.proofs.ChainChanges.{chained_same}
-use Rattle.queue_book.proofs.Frames.{active_number, has_held, same_frame}
-use Rattle.queue_book.proofs.FramesChanged.{get_front}
+use Rattle.queues.proofs.Frames.{active_number}
 use Rattle.swan_model.proofs.Elements.{more_cases, last_more}
 use Rattle.queue_book.proofs.LiveKept.{kept_live, key_none, keys_same, live_one, place_has}
 use Rattle.queue_book.proofs.LivePut.{keys_put, place_elsewhere, place_here, places_made}
-use Rattle.queue_book.proofs.Making.{holds_before, holds_cases}
+use Rattle.queues.proofs.Making.{holds_before}
+use Rattle.queues.proofs.TurnsMade.{turns_made}
 use Rattle.queue_book.proofs.OpenOwners.{pushes_made}
 use Rattle.queue_book.proofs.PlainMade.{plain_create, plain_create_root}
 
@@ -56,45 +55,6 @@ module _ (name : Option Script) (state after : QueueState) (frames : LiveFrames)
 
   later_holds : (q : ℕ) (mode : Mode) → holds_queue later q mode ≡ holds_queue (with_made (length state.makers) frame) q mode
   later_holds q mode = ap (λ rs. holds_queue (record later { rights = rs }) q mode) rights
-
-  turns_made : AreTurns after turns
-  turns_made = record {
-    apart = is.turned.apart;
-    known = λ m turn at.
-        let was = is.turned.known m turn at in
-        elim (cases_eq m n) [
-          | inl here ↦
-              let same : was.0 ≡ frame = same_frame (active state n) was.0 frame (ap (active state) (sym here) ∙ was.1) live in (
-                later,
-                ap (active after) here ∙ now,
-                parent ∙ ap (λ (f : ActiveFrame). f.parent) (sym same) ∙ was.2,
-                λ q mode held.
-                    let old : holds_queue frame q mode ≡ true = ap (λ (f : ActiveFrame). holds_queue f q mode) (sym same) ∙ was.3 q mode held in
-                    let less = (is.plain.tree.held n q frame live (has_held frame q mode old)).0 in
-                    later_holds q mode ∙ holds_before frame (length state.makers) q mode less ∙ old,
-              )
-          | inr other ↦ (was.0, others m other ∙ was.1, was.2, was.3)
-        ];
-    all = λ m above q mode one live_one of held apart.
-        elim (cases_eq m n) [
-          | inl here ↦
-              let same : one ≡ later = same_frame (active after n) one later (ap (active after) (sym here) ∙ live_one) now in
-              let held_later : holds_queue (with_made (length state.makers) frame) q mode ≡ true =
-              sym (later_holds q mode) ∙ ap (λ (f : ActiveFrame). holds_queue f q mode) (sym same) ∙ held in
-              elim (holds_cases frame (length state.makers) q mode held_later) [
-                | inl old ↦
-                    is.turned.all m above q mode frame (ap (active state) here ∙ live) (sym parent ∙ ap (λ (f : ActiveFrame). f.parent) (sym same) ∙ of) old
-                    (λ old_one made is_own. apart old_one (ap (λ (ms : List QueueMaker). slice_get ms q) makers ∙ get_front state.makers (maker ∷ []) q old_one made)
-                    (ap (λ (f : ActiveFrame). f.path) same ∙ path ∙ is_own))
-                | inr new ↦
-                    absurd (apart maker (ap (λ (ms : List QueueMaker). slice_get ms q) makers ∙ ap (λ k. slice_get (state.makers ++ maker ∷ []) k) new ∙ last_more state.makers maker)
-                    (ap (λ (f : ActiveFrame). f.path) same ∙ path ∙ own_maker))
-              ]
-          | inr other ↦
-              is.turned.all m above q mode one (sym (others m other) ∙ live_one) of held
-              (λ old_one made is_own. apart old_one (ap (λ (ms : List QueueMaker). slice_get ms q) makers ∙ get_front state.makers (maker ∷ []) q old_one made) is_own)
-        ];
-  }
 
   module _ (after_frames : LiveFrames) (key : ℕ) (kept now_kept : KeptFrame) (was : kept_of frames n ≡ Some kept) (agrees : IsFrame state kept frame)
       (one : IsOnlyChange frames after_frames n (Some now_kept)) (deeds : now_kept.deeds ≡ later.deeds) (lent : later.lent ≡ lent_of now_kept)
@@ -157,7 +117,7 @@ module _ (name : Option Script) (state after : QueueState) (frames : LiveFrames)
           omega (arith, more, is.count, long);
       chained = chained_same (put_at n (length state.makers) (Some key) (key_at frames)) (key_at after_frames) after_heads after_nodes
           (in_line (length state.makers) (λ old. own n first ∷ []) is.lines) (in_line (length state.makers) (λ old. own n first ∷ []) is.lines) keys (λ q. refl) chained;
-      turned = turns_made;
+      turned = turns_made state is.plain.tree turns is.turned after n frame later maker live now others makers parent path rights own_maker;
     }
 
 -- one change after another
@@ -211,10 +171,10 @@ module _ (name : Option Script) (state : QueueState) (frames : LiveFrames) (head
         let room = act.room in
         omega (arith, room, deeds)
 
-    pub book_create : OnNext name state n (λ s f. next_queue_deed s f.path f.deeds ≡ Some deed.MakeQueue) → IsOnTurn name state n → length after_heads ≡ length heads + 1
+    pub book_create : OnNext name state n (λ s f. next_queue_deed s f.path f.deeds ≡ Some deed.MakeQueue) → length after_heads ≡ length heads + 1
         → (after_frames : LiveFrames) → IsOnlyChange mid_frames after_frames n (option_map (λ (kept : KeptFrame). record kept { deeds = kept.deeds + 1 }) (kept_of mid_frames n))
         → IsBook name (after_create state act.frame) after_frames after_heads after_nodes turns
-    book_create next turn more after_frames counted_one =
+    book_create next more after_frames counted_one =
         let frame = act.frame in
         let i = length state.makers in
         let at : q ≡ i = new ∙ is.count in
@@ -235,7 +195,7 @@ module _ (name : Option Script) (state : QueueState) (frames : LiveFrames) (head
         (ap (active (after_create state frame)) (sym number) ∙ own_changed state frame.number change (λ f. refl) frame own_live)
         (subst P number (others_changed state frame.number change (λ f. refl))) refl refl refl refl refl
         after_frames made.key kept now_kept was.1 was.2 one (ap (λ k. k + 1) was.2.deeds) (act.may.back ∙ sym (lent_none now_kept free)) refl
-        [] after_heads after_nodes more (plain_create name state is.lines is.plain n act next turn)
+        [] after_heads after_nodes more (plain_create name state is.lines is.plain n act next)
         (λ m p. keys_same mid_frames after_frames n (with_own_chunk i place kept) now_kept mid.changed (record { changed = one.changed; others = counted_one.others }) refl m p
         ∙ keys_put frames mid_frames n i place kept was.1 mid m p)
         (subst R at (made.chained is.lines is.chained (unplaced n q new)))

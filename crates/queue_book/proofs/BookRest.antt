@@ -12,24 +12,24 @@ use Rattle.swan_model.specs.declared.value.Value.{Value}
 use Rattle.swan_model.specs.QueueFollows.{origin_in}
 use Rattle.swan_model.specs.QueueState.{ActiveFrame, QueueMaker, planned, made_by, QueueState, active, after_take_rest, IsOfRoot}
 use Rattle.swan_model.specs.Readings.{end_time}
-use Rattle.queue_book.specs.Asks.{is_emptied, IsRestLeft}
-use Rattle.queue_book.specs.Book.{HasOwners, Matches, items_in}
+use Rattle.queues.specs.Asks.{is_emptied, IsRestLeft}
+use Rattle.queues.specs.Chunks.{HasOwners, Matches, items_in}
 use Rattle.queue_book.specs.Chains.{Link, AreChained, in_line}
 use Rattle.queue_book.specs.Live.{key_at, kept_of, Agrees}
-use Rattle.queue_book.specs.Tells.{OnQueue, rest_of}
-use Rattle.queue_book.specs.Tree.{IsTree, maker_path}
+use Rattle.queues.specs.Tells.{OnQueue, rest_of}
+use Rattle.queues.specs.Tree.{IsTree, maker_path}
 use Rattle.queue_book.specs.Whole.{IsBook, IsLine}
 use Rattle.queue_book.specs.declared.live_frames.LiveFrames.{LiveFrames}
-use Rattle.queue_book.proofs.Alike.{AreAlike, alike_itself, in_use_back}
-use Rattle.queue_book.proofs.Calls.{rest_follows}
-use Rattle.queue_book.proofs.Frames.{active_number}
+use Rattle.queues.proofs.Alike.{AreAlike, alike_itself, in_use_back}
+use Rattle.queues.proofs.Calls.{rest_follows}
+use Rattle.queues.proofs.Frames.{active_number}
 use Rattle.queue_book.proofs.LiveKept.{agrees_on, key_none}
-use Rattle.queue_book.proofs.Match.{matches_rest, rest_told}
+use Rattle.queues.proofs.Match.{matches_rest, rest_told}
 use Rattle.queue_book.proofs.PlainSaid.{in_each, on_queue}
-use Rattle.queue_book.proofs.TreeActed.{acted_rest}
-use Rattle.queue_book.proofs.TreeKept.{tree_rest}
-use Rattle.queue_book.proofs.TreeOwners.{owners_kept_rest}
-use Rattle.queue_book.proofs.TurnsKept.{turns_alike}
+use Rattle.queues.proofs.TreeSpawners.{spawners_rest}
+use Rattle.queues.proofs.TreeKept.{tree_rest}
+use Rattle.queues.proofs.TreeOwners.{owners_kept_rest}
+use Rattle.queues.proofs.TurnsCalls.{turns_rest}
 use Rattle.swan_model.proofs.Lists.{some_within}
 
 -- who is active has the root above it
@@ -112,7 +112,7 @@ module _ (name : Option Script) (state : QueueState) (frames : LiveFrames) (head
         | inr other ↦ is.plain.rests p (sym (emptied_other state q p other) ∙ over)
       ];
       follows = λ s named lawful. rest_follows s state (is.plain.follows s named lawful) q;
-      acted = λ s named. acted_rest state q is.plain.tree (is.plain.acted s named);
+      spawners = λ s named. spawners_rest state q is.plain.tree (is.plain.spawners s named);
       queues = λ p one made.
           let line = is.plain.queues p one made in
           in_each (λ k chunks. IsLine name (after_take_rest state q) k one chunks) q (λ chunks. []) is.lines p
@@ -132,7 +132,7 @@ module _ (name : Option Script) (state : QueueState) (frames : LiveFrames) (head
     live = λ m. agrees_rest m;
     count = same ∙ is.count;
     chained = chained;
-    turned = turns_alike state (after_take_rest state q) turns alike refl is.turned;
+    turned = turns_rest state turns is.turned q;
   } where
     agrees_rest : (m : ℕ) → Agrees (after_take_rest state q) (kept_of frames m) (active (after_take_rest state q) m)
     agrees_rest m = agrees_on state (after_take_rest state q) (kept_of frames m) (active state m) (λ queue one less made. made)

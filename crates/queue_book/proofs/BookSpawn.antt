@@ -1,60 +1,34 @@
 -- What holds of hyperqueues in plain form after a spawn.
-use Rattle.std.proofs.Common.{◌≡◌, ◌≢◌, ℕ, ◌+◌, ◌<◌, Bool, true, false, ◌||◌, ◌&&◌, ◌==◌, Option, Some, None, List, [], ◌∷◌, ◌++◌, map, length, refl, sym, ap, subst, ◌∙◌, ◌⊎◌, inl, inr, arith, length-append}
+use Rattle.std.proofs.Common.{◌≡◌, ◌≢◌, ℕ, ◌+◌, ◌<◌, false, Option, Some, None, List, [], ◌∷◌, ◌++◌, length, refl, sym, ap, subst, ◌∙◌, ◌⊎◌, inl, inr, arith, length-append}
 use Rattle.std.proofs.lemmas.Bool.{cases_eq, false≢true}
-use Rattle.std.specs.List.{list_any}
 use Rattle.std.specs.Option.{option_map}
-use Rattle.std.specs.Prelude.{slice_get, is_some}
+use Rattle.std.specs.Prelude.{is_some}
 use Rattle.slab.specs.Slab.{Slab}
-use Rattle.pop_order.specs.Frames.{Frame, Frames, frame_at, holds}
-use Rattle.swan_model.specs.declared.rights.Mode.{Mode}
+use Rattle.pop_order.specs.Frames.{Frames}
 use Rattle.swan_model.specs.declared.script.Script.{Script}
 use Rattle.swan_model.specs.QueueFollows.{NextSpawnGivesQueues}
-use Rattle.swan_model.specs.QueueState.{ActiveFrame, QueueMaker, QueueRight, QueueState, active, after_spawn, child_of, holds_queue, with_deed}
-use Rattle.swan_model.specs.Rights.{allows}
-use Rattle.queue_book.specs.Asks.{MaySpawn, IsOnTurn, OnNext}
+use Rattle.swan_model.specs.QueueState.{ActiveFrame, QueueMaker, QueueRight, QueueState, active, after_spawn, child_of, with_deed}
+use Rattle.queues.specs.Asks.{MaySpawn, IsOnTurn, OnNext}
 use Rattle.queue_book.specs.Chains.{Link, AreChained}
 use Rattle.queue_book.specs.Ended.{own_keys}
-use Rattle.queue_book.specs.Handed.{lines_after_gives, holding_of, turn_of, IsMoved}
+use Rattle.queue_book.specs.Handed.{lines_after_gives, IsMoved}
 use Rattle.queue_book.specs.KeptFrames.{KeptFrame}
 use Rattle.queue_book.specs.Live.{kept_of, key_at, key_in, Agrees, AreLive, IsFrame}
 use Rattle.queue_book.specs.Spawned.{IsSpawnedIn, MayHandOn}
-use Rattle.queue_book.specs.Tree.{has_queue, maker_path}
-use Rattle.queue_book.specs.Turned.{AreTurns}
-use Rattle.queue_book.specs.Whole.{IsBook, IsInUse}
+use Rattle.queues.specs.Tree.{has_queue, maker_path, IsInUse}
+use Rattle.queue_book.specs.Whole.{IsBook}
 use Rattle.queue_book.specs.declared.live_frames.LiveFrames.{LiveFrames}
-use Rattle.queue_book.proofs.Above.{under_maker}
-use Rattle.queue_book.proofs.ActiveAfter.{child_spawned, others_spawned, parent_spawned}
+use Rattle.queues.proofs.Above.{under_maker}
+use Rattle.queues.proofs.ActiveAfter.{child_spawned, others_spawned, parent_spawned}
 use Rattle.queue_book.proofs.BookDeeds.{counted, lent_none, not_lent}
 use Rattle.queue_book.proofs.ChainChanges.{chained_same}
 use Rattle.queue_book.proofs.ChainEnds.{other_placed, own_placed}
-use Rattle.queue_book.proofs.Frames.{active_number, same_frame}
-use Rattle.queue_book.proofs.Gives.{gives_had}
+use Rattle.queues.proofs.Frames.{same_frame}
+use Rattle.queues.proofs.Gives.{gives_had}
 use Rattle.queue_book.proofs.LiveKept.{agrees_on, kept_live, key_none}
-use Rattle.queue_book.proofs.Match.{not_active}
+use Rattle.queues.proofs.Match.{not_active}
 use Rattle.queue_book.proofs.PlainSpawned.{plain_spawn}
-
--- what the turn of a child says of what it was given
-abbrev rights_for : List QueueRight → ℕ → Mode → Bool
-rights_for gives queue mode = list_any (λ right. (right.queue == queue) && allows right.mode mode) gives
-
-holds_given : (gives : List QueueRight) (queue : ℕ) (mode : Mode) → holds (map holding_of gives) queue mode ≡ rights_for gives queue mode
-holds_given [] queue mode = refl
-holds_given (give ∷ gives) queue mode = ap (λ b. ((give.queue == queue) && allows give.mode mode) || b) (holds_given gives queue mode)
-
-turn_known : (parent : ℕ) (gives : List QueueRight) (turn : Frame) → turn_of parent gives ≡ Some turn
-    → (turn.parent ≡ parent) × ((queue : ℕ) (mode : Mode) → holds turn.holdings queue mode ≡ true → rights_for gives queue mode ≡ true)
-turn_known parent [] turn is = let never : None ≡ Some turn = is in absurd (cc)
-turn_known parent (give ∷ gives) turn is =
-    let whole : record { parent = parent; holdings = map holding_of (give ∷ gives); lent = false } ≡ turn = cc in (
-      ap (λ (t : Frame). t.parent) (sym whole),
-      λ queue mode held. sym (holds_given (give ∷ gives) queue mode) ∙ ap (λ (t : Frame). holds t.holdings queue mode) whole ∙ held,
-    )
-
-turn_some : (parent : ℕ) (gives : List QueueRight) (queue : ℕ) (mode : Mode) → rights_for gives queue mode ≡ true
-    → (turn : Frame) × (turn_of parent gives ≡ Some turn) × (turn.parent ≡ parent) × (holds turn.holdings queue mode ≡ true)
-turn_some parent [] queue mode some = absurd (false≢true some)
-turn_some parent (give ∷ gives) queue mode some =
-    (record { parent = parent; holdings = map holding_of (give ∷ gives); lent = false }, refl, refl, holds_given (give ∷ gives) queue mode ∙ some)
+use Rattle.queues.proofs.TurnsSpawned.{turns_older, turns_spawned}
 
 module _ (name : Option Script) (state : QueueState) (frames : LiveFrames) (heads : List (Option ℕ)) (nodes : Slab Link) (turns : Frames) (is : IsBook name state frames heads nodes turns)
     (p child : ℕ) (gives : List QueueRight) (may : MaySpawn state p child gives) where
@@ -81,11 +55,7 @@ module _ (name : Option Script) (state : QueueState) (frames : LiveFrames) (head
         frame = may.act.frame;
         lawful = may.lawful;
         rising = rising;
-        newest = λ m turn at.
-            let known = is.turned.known m turn at in
-            let old = is.plain.tree.latest m known.0 known.1 in
-            let newest = may.newest in
-            omega arith;
+        newest = turns_older state is.plain.tree turns is.turned p child gives may;
         apart = is.turned.apart;
       }
 
@@ -210,59 +180,6 @@ module _ (name : Option Script) (state : QueueState) (frames : LiveFrames) (head
         keys_now (λ q. refl) (done.given.chained is.lines is.chained (λ q. key_none state frames is.live child q (λ frame live has.
         let never : None ≡ Some frame = sym free ∙ live in absurd (cc))))
 
-    -- ---- the turns
-
-    turns_now : AreTurns after then_turns
-    turns_now = record { apart = done.given.apart is.turned.apart; known = known_now; all = all_now } where
-      known_now : (m : ℕ) (turn : Frame) → frame_at then_turns m ≡ Some turn
-          → (frame : ActiveFrame) × (active after m ≡ Some frame) × (frame.parent ≡ Some turn.parent)
-          × ((queue : ℕ) (mode : Mode) → holds turn.holdings queue mode ≡ true → holds_queue frame queue mode ≡ true)
-      known_now m turn at = by (cases_eq m child) (cases_eq m p) where
-        by : (m ≡ child) ⊎ (m ≢ child) → (m ≡ p) ⊎ (m ≢ p)
-            → (frame : ActiveFrame) × (active after m ≡ Some frame) × (frame.parent ≡ Some turn.parent)
-            × ((queue : ℕ) (mode : Mode) → holds turn.holdings queue mode ≡ true → holds_queue frame queue mode ≡ true)
-        by (inl is_child) c =
-            let told = turn_known p gives turn (sym done.given.turn ∙ ap (frame_at then_turns) (sym is_child) ∙ at) in (
-              child_of may.act.frame child gives,
-              ap (active after) is_child ∙ child_live,
-              ap Some (active_number state p may.act.frame may.act.may.live ∙ sym told.0),
-              told.1,
-            )
-        by (inr apart) (inl is_parent) =
-            let was = is.turned.known m turn (sym (done.given.other_turns m apart) ∙ at) in
-            let same : was.0 ≡ may.act.frame = same_frame (active state p) was.0 may.act.frame (ap (active state) (sym is_parent) ∙ was.1) may.act.may.live in (
-              parent_now,
-              ap (active after) is_parent ∙ parent_live,
-              ap (λ (g : ActiveFrame). g.parent) (sym same) ∙ was.2,
-              λ queue mode held. ap (λ (g : ActiveFrame). holds_queue g queue mode) (sym same) ∙ was.3 queue mode held,
-            )
-        by (inr apart) (inr other) =
-            let was = is.turned.known m turn (sym (done.given.other_turns m apart) ∙ at) in
-            (was.0, other_live m other apart ∙ was.1, was.2, was.3)
-
-      all_now : (m above q : ℕ) (mode : Mode) (one : ActiveFrame) → active after m ≡ Some one → one.parent ≡ Some above
-          → holds_queue one q mode ≡ true → ((maker : QueueMaker) → slice_get state.makers q ≡ Some maker → one.path ≢ maker_path maker)
-          → (turn : Frame) × (frame_at then_turns m ≡ Some turn) × (turn.parent ≡ above) × (holds turn.holdings q mode ≡ true)
-      all_now m above q mode one live of held foreign = by (cases_eq m child) (cases_eq m p) where
-        by : (m ≡ child) ⊎ (m ≢ child) → (m ≡ p) ⊎ (m ≢ p) → (turn : Frame) × (frame_at then_turns m ≡ Some turn) × (turn.parent ≡ above) × (holds turn.holdings q mode ≡ true)
-        by (inl is_child) c =
-            let same : one ≡ child_of may.act.frame child gives =
-            same_frame (active after child) one (child_of may.act.frame child gives)
-            (ap (active after) (sym is_child) ∙ live) child_live in
-            let told = turn_some p gives q mode (ap (λ (g : ActiveFrame). holds_queue g q mode) (sym same) ∙ held) in
-            let both : Some may.act.frame.number ≡ Some above = ap (λ (g : ActiveFrame). g.parent) (sym same) ∙ of in
-            let number : may.act.frame.number ≡ above = cc in
-            (told.0, ap (frame_at then_turns) is_child ∙ done.given.turn ∙ told.1, told.2 ∙ sym (active_number state p may.act.frame may.act.may.live) ∙ number, told.3)
-        by (inr apart) (inl is_parent) =
-            let same : one ≡ parent_now =
-            same_frame (active after p) one parent_now (ap (active after) (sym is_parent) ∙ live) parent_live in
-            let turn = is.turned.all m above q mode may.act.frame (ap (active state) is_parent ∙ may.act.may.live) (ap (λ (g : ActiveFrame). g.parent) (sym same) ∙ of)
-            (ap (λ (g : ActiveFrame). holds_queue g q mode) (sym same) ∙ held) (λ maker made own. foreign maker made (ap (λ (g : ActiveFrame). g.path) same ∙ own)) in
-            (turn.0, done.given.other_turns m apart ∙ turn.1, turn.2, turn.3)
-        by (inr apart) (inr other) =
-            let turn = is.turned.all m above q mode one (sym (other_live m other apart) ∙ live) of held foreign in
-            (turn.0, done.given.other_turns m apart ∙ turn.1, turn.2, turn.3)
-
     pub book_spawn : OnNext name state p (λ s g. NextSpawnGivesQueues s state g gives) → IsOnTurn name state p
         → IsBook name (after_spawn state may.act.frame child gives) after_frames heads then_nodes then_turns
     book_spawn next turn = record {
@@ -271,5 +188,5 @@ module _ (name : Option Script) (state : QueueState) (frames : LiveFrames) (head
       live = live_now;
       count = is.count;
       chained = chained_now;
-      turned = turns_now;
+      turned = turns_spawned state is.plain.tree turns is.turned p child gives may then_turns done.given.turned;
     }

@@ -5,7 +5,7 @@ use Rattle.std.specs.Prelude.{if◌then◌else◌}
 use Rattle.slab.specs.Slab.{Slab, get, Updates}
 use Rattle.pop_order.proofs.Flags.{eq_of, eq_same}
 use Rattle.swan_model.specs.declared.value.Value.{Value}
-use Rattle.queue_book.specs.Book.{Chunk, Chunks, with_item, after_close}
+use Rattle.queues.specs.Chunks.{Chunk, Chunks, with_item, after_close}
 use Rattle.queue_book.specs.Chains.{Link, chunk_of, IsChain, AreChained, in_line, put_at}
 use Rattle.queue_book.proofs.ChainKept.{IsChange, one_link, pushed_is, closed_is, line_changed}
 

@@ -5,7 +5,7 @@ use Rattle.std.specs.Option.{option_map}
 use Rattle.std.specs.Prelude.{if◌then◌else◌}
 use Rattle.slab.specs.Slab.{Slab}
 use Rattle.pop_order.proofs.Flags.{eq_same}
-use Rattle.queue_book.specs.Book.{Chunks, after_close}
+use Rattle.queues.specs.Chunks.{Chunks, after_close}
 use Rattle.queue_book.specs.Chains.{Link, AreChained, in_line, put_at}
 use Rattle.queue_book.specs.Ended.{line_after_end, lines_after_end, own_keys, IsAlone}
 use Rattle.queue_book.specs.KeptFrames.{OwnChunks, own_chunk_in}

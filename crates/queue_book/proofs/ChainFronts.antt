@@ -5,7 +5,7 @@ use Rattle.std.specs.Prelude.{slice_get, slice_set, if◌then◌else◌}
 use Rattle.slab.specs.Slab.{Slab, get, Updates}
 use Rattle.pop_order.proofs.Flags.{eq_same}
 use Rattle.swan_model.specs.declared.value.Value.{Value}
-use Rattle.queue_book.specs.Book.{Chunk, Chunks, is_spent, without_spent, without_first}
+use Rattle.queues.specs.Chunks.{Chunk, Chunks, is_spent, without_spent, without_first}
 use Rattle.queue_book.specs.Chains.{Link, chunk_of, is_among, IsChain, IsFront, AreChained, in_line}
 use Rattle.queue_book.specs.declared.chains.Front.TheVariants as front
 use Rattle.swan_model.proofs.Elements.{set_cases}

@@ -6,7 +6,7 @@ use Rattle.std.specs.Prelude.{if◌then◌else◌}
 use Rattle.slab.specs.Slab.{Slab, get, Updates}
 use Rattle.pop_order.proofs.Flags.{and_both, and_parts, eq_of, eq_same, or_cases, or_left, or_right}
 use Rattle.swan_model.specs.declared.value.Value.{Value}
-use Rattle.queue_book.specs.Book.{Chunk, Chunks, own, is_owned, after_hand_on}
+use Rattle.queues.specs.Chunks.{Chunk, Chunks, own, is_owned, after_hand_on}
 use Rattle.queue_book.specs.Chains.{Link, chunk_of, is_among, IsChain, AreChained, in_line, put_at}
 use Rattle.swan_model.proofs.Elements.{more_cases}
 use Rattle.queue_book.proofs.ChainKept.{one_link, chain_same, in_chain, owned_by, owned_so}

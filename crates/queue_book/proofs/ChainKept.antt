@@ -7,7 +7,7 @@ use Rattle.pop_order.proofs.Flags.{eq_of, eq_same, or_cases, or_left, or_right}
 use Rattle.std.specs.Prelude.{slice_get, if◌then◌else◌}
 use Rattle.slab.specs.Slab.{Slab, get, with_value, Updates}
 use Rattle.swan_model.specs.declared.value.Value.{Value}
-use Rattle.queue_book.specs.Book.{Chunk, Chunks, is_owned, with_item, after_close}
+use Rattle.queues.specs.Chunks.{Chunk, Chunks, is_owned, with_item, after_close}
 use Rattle.queue_book.specs.Chains.{Link, chunk_of, is_among, IsChain, in_line}
 
 -- two nodes of one key are one

@@ -3,12 +3,10 @@ use Rattle.std.proofs.Common.{◌≡◌, ◌≢◌, ℕ, Bool, true, false, ◌=
 use Rattle.std.proofs.lemmas.Bool.{false≢true}
 use Rattle.std.specs.Prelude.{if◌then◌else◌}
 use Rattle.pop_order.proofs.Flags.{eq_of, eq_same}
-use Rattle.queue_book.specs.Book.{is_spent}
-use Rattle.queue_book.specs.Chains.{chunk_of, in_line}
+use Rattle.queues.specs.Chunks.{is_spent, Chunk, Chunks, without_spent, items_in}
+use Rattle.queue_book.specs.Chains.{chunk_of, in_line, Link, AreChained}
 use Rattle.slab.specs.Slab.{Slab, slab_len}
 use Rattle.swan_model.specs.declared.value.Value.{Value}
-use Rattle.queue_book.specs.Book.{Chunk, Chunks, without_spent, items_in}
-use Rattle.queue_book.specs.Chains.{Link, AreChained}
 
 -- some chunks of a queue are gone, with their nodes, and all other queues are as they were
 pub record AreLeft (at : ℕ → ℕ → Option ℕ) (lines : ℕ → Chunks) (queue : ℕ) (start : Slab Link) (heads : List (Option ℕ)) (nodes : Slab Link) : Type 0 where

@@ -4,7 +4,7 @@ use Rattle.std.proofs.lemmas.List.{get_or-set_other}
 use Rattle.std.proofs.lemmas.List.Sums.{sum_by-cons}
 use Rattle.std.specs.Prelude.{count_by, is_some}
 use Rattle.slab.specs.Slab.{Slab, get, slab_len}
-use Rattle.queue_book.specs.Book.{Chunks}
+use Rattle.queues.specs.Chunks.{Chunks}
 use Rattle.queue_book.specs.Chains.{Link, chunk_of, IsChain}
 use Rattle.queue_book.specs.Fronts.{first_open, open_or}
 use Rattle.queue_book.specs.declared.live_frames.LiveFrames.{LiveFrames}

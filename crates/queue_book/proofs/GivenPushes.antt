@@ -6,7 +6,8 @@ use Rattle.pop_order.proofs.Flags.{eq_same}
 use Rattle.swan_model.specs.declared.rights.Mode.TheVariants.{Push}
 use Rattle.swan_model.specs.QueueState.{QueueRight}
 use Rattle.swan_model.specs.Rights.{allows}
-use Rattle.queue_book.specs.Handed.{gives_push, gives_queue}
+use Rattle.queue_book.specs.Handed.{gives_push}
+use Rattle.queues.specs.Turned.{gives_queue}
 
 -- nothing of what isn't given
 pub push_none : (gives : List QueueRight) (q : ℕ) → gives_queue gives q ≡ false → gives_push gives q ≡ false

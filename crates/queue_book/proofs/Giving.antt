@@ -10,10 +10,11 @@ use Rattle.pop_order.specs.Frames.{Frames}
 use Rattle.swan_model.specs.declared.rights.Mode.TheVariants.{Push}
 use Rattle.swan_model.specs.QueueState.{QueueRight}
 use Rattle.swan_model.specs.Rights.{allows}
-use Rattle.queue_book.specs.Book.{Chunks, after_hand_on}
+use Rattle.queues.specs.Chunks.{Chunks, after_hand_on}
 use Rattle.queue_book.specs.Chains.{Link, AreChained, in_line, put_at}
 use Rattle.queue_book.specs.Ended.{own_keys}
-use Rattle.queue_book.specs.Handed.{gives_push, lines_after_gives, gives_queue, AreGiven, IsHandedIn, IsMoved}
+use Rattle.queue_book.specs.Handed.{gives_push, lines_after_gives, AreGiven, IsHandedIn, IsMoved}
+use Rattle.queues.specs.Turned.{gives_queue}
 use Rattle.queue_book.specs.KeptFrames.{KeptFrame, OwnChunks, own_chunk_in}
 use Rattle.queue_book.specs.Live.{kept_of, key_at, key_in, own_chunk_of, with_own_chunk, IsOnlyChange}
 use Rattle.queue_book.specs.declared.live_frame.OwnChunk.{OwnChunk}

@@ -1,73 +1,7 @@
--- Lemmas on hyperqueues. Each group stands on those before it; what a file is for stands at its head.
+-- Lemmas on hyperqueues in the plainest form. Each group stands on those before it; what a file is for stands at its head.
 
--- lists, and the places of entries
-pub mod Segments
+-- entries by numbers
 pub mod Lookups
-pub mod Places
--- the laws: queues that follow a script, and readings that fit
-pub mod Between
-pub mod QueuePoints
-pub mod Under
-pub mod Kept
-pub mod Fitting
-pub mod SerialPoints
-pub mod Frames
-pub mod FramesChanged
-pub mod ActiveAfter
-pub mod Lineage
-pub mod Above
-pub mod Changing
-pub mod Moving
-pub mod Calls
-pub mod Holders
-pub mod Making
-pub mod Creating
-pub mod Growing
-pub mod Given
-pub mod Spawning
-pub mod Finishing
-pub mod Done
-pub mod Ripening
-pub mod Refitting
-pub mod Advancing
-pub mod Continuing
-pub mod Rereading
-pub mod ReadingStart
-pub mod ReadingMakes
-pub mod ReadingSpawns
-pub mod NextDeeds
-pub mod ReadingsAgree
--- what the frames of a state keep of each other
-pub mod Alike
-pub mod OneChanged
-pub mod TreeChanged
-pub mod Gives
-pub mod TreeAdded
-pub mod TreeWithout
-pub mod TreeCalls
-pub mod TreeKept
-pub mod TreeActed
-pub mod TreeTurns
--- who owns the chunks of a queue
-pub mod Owners
-pub mod ChunkOwners
-pub mod OwnersHanded
-pub mod QueueHolders
-pub mod OwnersSpawned
-pub mod TreeOwners
--- the chunks of a queue match the script
-pub mod MatchSame
-pub mod MatchParts
-pub mod MatchFront
-pub mod MatchOwners
-pub mod MatchDeed
-pub mod MatchPush
-pub mod MatchFinish
-pub mod MatchPop
-pub mod MatchRest
-pub mod MatchMade
-pub mod MatchSpawn
-pub mod Match
 -- chunks in chains of nodes
 pub mod ChainKept
 pub mod ChainChanges
@@ -76,13 +10,10 @@ pub mod ChainFronts
 pub mod ChainLoops
 pub mod ChainWalks
 pub mod ChainEnds
--- what is kept of the frames, and their turns
+-- what is kept of the frames
 pub mod LiveKept
 pub mod LivePut
 pub mod OpenOwners
-pub mod TurnsKept
-pub mod TurnsGone
-pub mod TurnsEnlisted
 -- each call keeps the whole: first what doesn't depend on how it is kept (`Plain..`), then with frames, chains and turns (`Book..`)
 pub mod PlainSaid
 pub mod PlainDeeds
@@ -98,6 +29,5 @@ pub mod BookMade
 pub mod BookFinish
 pub mod GivenPushes
 pub mod Giving
-pub mod GivingTurns
 pub mod GivingSteps
 pub mod BookSpawn

@@ -4,12 +4,12 @@ use Rattle.std.proofs.lemmas.Bool.{cases_eq, false≢true}
 use Rattle.std.specs.Option.{option_map}
 use Rattle.std.specs.Prelude.{slice_get, is_some, if◌then◌else◌}
 use Rattle.swan_model.specs.QueueState.{ActiveFrame, QueueMaker, QueueState, active, root_frame, new_state}
-use Rattle.queue_book.specs.Tree.{IsTree, has_queue}
+use Rattle.queues.specs.Tree.{IsTree, has_queue}
 use Rattle.queue_book.specs.declared.live_frame.OwnChunk.{OwnChunk}
 use Rattle.queue_book.specs.declared.live_frames.LiveFrames.{LiveFrames}
 use Rattle.queue_book.specs.KeptFrames.{KeptFrame, own_chunk_in}
 use Rattle.queue_book.specs.Live.{kept_of, key_in, key_at, own_chunk_at, own_chunk_of, Agrees, AreLive, IsFrame, IsOnlyChange}
-use Rattle.queue_book.proofs.ActiveAfter.{AreOthers}
+use Rattle.queues.proofs.ActiveAfter.{AreOthers}
 
 -- the makers of older queues are the same
 abbrev pub SameMakers : QueueState → QueueState → Type 0

@@ -8,13 +8,13 @@ use Rattle.pop_order.proofs.Flags.{and_both, eq_same, or_left, or_right}
 use Rattle.swan_model.specs.declared.rights.Mode.TheVariants.{Push, PushPop}
 use Rattle.swan_model.specs.QueueState.{ActiveFrame, QueueRight, QueueState, active, holds_queue, with_made}
 use Rattle.swan_model.specs.Rights.{allows}
-use Rattle.queue_book.specs.Book.{Chunk, Chunks, HasOwners, IsOwner}
+use Rattle.queues.specs.Chunks.{Chunk, Chunks, HasOwners, IsOwner}
 use Rattle.queue_book.specs.Fronts.{first_open, open_or}
 use Rattle.queue_book.specs.Live.{AreLive, is_pusher}
-use Rattle.queue_book.specs.Tree.{has_queue}
+use Rattle.queues.specs.Tree.{has_queue}
 use Rattle.queue_book.specs.declared.live_frame.OwnChunk.{OwnChunk}
 use Rattle.queue_book.specs.declared.live_frames.LiveFrames.{LiveFrames}
-use Rattle.queue_book.proofs.Frames.{same_frame}
+use Rattle.queues.proofs.Frames.{same_frame}
 use Rattle.queue_book.proofs.LiveKept.{has_key, place_of_key}
 
 -- an owner has the queue

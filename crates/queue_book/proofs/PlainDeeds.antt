@@ -14,23 +14,23 @@ use Rattle.swan_model.specs.QueueFollows.{next_queue_deed, origin_in, IsNextAbou
 use Rattle.swan_model.specs.QueueState.{QueueMaker, QueueState, after_deed, holds_queue, with_deed, HasTurn, IsPoppingChild}
 use Rattle.swan_model.specs.Readings.{end_time}
 use Rattle.swan_model.specs.Told.{is_same}
-use Rattle.queue_book.specs.Asks.{MayDo, IsOnTurn, OnNext}
-use Rattle.queue_book.specs.Book.{Chunk, Chunks, HasOwners, IsOwner, Matches, without_spent, with_item, without_first}
+use Rattle.queues.specs.Asks.{MayDo, IsOnTurn, OnNext}
+use Rattle.queues.specs.Chunks.{Chunk, Chunks, HasOwners, IsOwner, Matches, without_spent, with_item, without_first}
 use Rattle.queue_book.specs.Chains.{in_line}
-use Rattle.queue_book.specs.Tells.{FindsNone}
-use Rattle.queue_book.specs.Tree.{maker_path}
+use Rattle.queues.specs.Tells.{FindsNone}
+use Rattle.queues.specs.Tree.{maker_path}
 use Rattle.queue_book.specs.Whole.{IsLine, IsPlain}
-use Rattle.queue_book.proofs.Alike.{AreAlike, alike_changing, in_use_back}
-use Rattle.queue_book.proofs.Calls.{used_follows}
-use Rattle.queue_book.proofs.Match.{leaves_empty, leaves_pop, leaves_push, leaves_test, matches_deed, matches_pop, matches_push, matches_trimmed, none_pops, other_origin}
-use Rattle.queue_book.proofs.Frames.{has_held}
-use Rattle.queue_book.proofs.MatchDeed.{LeavesQueue}
-use Rattle.queue_book.proofs.MatchParts.{NonePops}
-use Rattle.queue_book.proofs.Moving.{is_making}
+use Rattle.queues.proofs.Alike.{AreAlike, alike_changing, in_use_back}
+use Rattle.queues.proofs.Calls.{used_follows}
+use Rattle.queues.proofs.Match.{leaves_empty, leaves_pop, leaves_push, leaves_test, matches_deed, matches_pop, matches_push, matches_trimmed, none_pops, other_origin}
+use Rattle.queues.proofs.Frames.{has_held}
+use Rattle.queues.proofs.MatchDeed.{LeavesQueue}
+use Rattle.queues.proofs.MatchParts.{NonePops}
+use Rattle.queues.proofs.Moving.{is_making}
 use Rattle.queue_book.proofs.PlainSaid.{in_each, on_next, origin_of, turn_on}
-use Rattle.queue_book.proofs.TreeActed.{acted_deed}
-use Rattle.queue_book.proofs.TreeKept.{tree_deed}
-use Rattle.queue_book.proofs.TreeOwners.{owners_kept_deed, owners_push, owners_trimmed, owners_without_first}
+use Rattle.queues.proofs.TreeSpawners.{spawners_deed}
+use Rattle.queues.proofs.TreeKept.{tree_deed}
+use Rattle.queues.proofs.TreeOwners.{owners_kept_deed, owners_push, owners_trimmed, owners_without_first}
 
 module _ (name : Option Script) (state : QueueState) (lines : ℕ → Chunks) (is : IsPlain name state lines) (n : ℕ) (act : MayDo state n) where
   pub deed_alike : AreAlike state (after_deed state n)
@@ -55,7 +55,7 @@ module _ (name : Option Script) (state : QueueState) (lines : ℕ → Chunks) (i
     follows = λ s named lawful.
         let d = does s named lawful in
         used_follows s lawful state (is.follows s named lawful) n act.frame d.0 act.may.live d.1 d.2;
-    acted = λ s named. acted_deed state n is.tree act (is.acted s named) (had_turn s named);
+    spawners = λ s named. spawners_deed state n is.tree act (is.spawners s named);
     queues = λ q maker made.
         let line = is.queues q maker made in
         record {
@@ -144,7 +144,7 @@ module _ (name : Option Script) (state : QueueState) (lines : ℕ → Chunks) (i
         let R : Chunks → Type 0 = λ chunks. IsOwner state chunks own.0 n in
         let S : Chunks → Type 0 = λ chunks. Matches s (after_deed state n) q (origin_in s other) (end_time s (maker_path other)) (without_first chunks) in
         let T : Chunks → Type 0 = λ chunks. NonePops state q chunks own.0 in
-        let popless = none_pops state q (lines q) n own.0 act.frame is.tree (is.acted s named) owners act.may (had_turn s named) pops_q alone_q own.1 in
+        let popless = none_pops state q (lines q) n own.0 act.frame is.tree (is.spawners s named) owners act.may (had_turn s named) pops_q alone_q own.1 in
         subst S (sym line)
         (matches_pop s lawful state q (origin_in s other) (end_time s (maker_path other)) first rest (subst P line matches) (subst Q line owners) own.0 n act.frame
         (subst R line own.1) act.may.live pops_q (subst T line popless)
@@ -159,7 +159,7 @@ plain_trim name state lines queue is = record {
   rests = is.rests;
   tree = is.tree;
   follows = is.follows;
-  acted = is.acted;
+  spawners = is.spawners;
   queues = λ q maker made.
       let line = is.queues q maker made in
       in_each (λ k chunks. IsLine name state k maker chunks) queue without_spent lines q

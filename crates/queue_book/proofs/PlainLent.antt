@@ -1,28 +1,28 @@
 -- New hyperqueues, ends that are lent, and ends that come back.
-use Rattle.std.proofs.Common.{◌≡◌, ℕ, Option, Some, None, List, [], refl, ap, ◌∙◌, inl, arith}
+use Rattle.std.proofs.Common.{◌≡◌, ℕ, Option, Some, None, List, [], refl, ap, ◌∙◌, arith}
 use Rattle.std.proofs.lemmas.Bool.{false≢true}
 use Rattle.swan_model.specs.declared.script.Script.{Script}
 use Rattle.swan_model.specs.QueueFollows.{QueuesFollow, origin_in}
 use Rattle.swan_model.specs.QueueState.{ActiveFrame, LentEnd, QueueState, active, after_back, after_lend, new_state}
 use Rattle.swan_model.specs.Readings.{end_time}
-use Rattle.queue_book.specs.Book.{Chunks}
+use Rattle.queues.specs.Chunks.{Chunks}
 use Rattle.queue_book.specs.Calls.{no_state}
-use Rattle.queue_book.specs.Tree.{IsTree, maker_path}
+use Rattle.queues.specs.Tree.{IsTree, maker_path}
 use Rattle.queue_book.specs.Whole.{IsPlain}
-use Rattle.queue_book.proofs.Alike.{AreAlike, alike_changing, in_use_back}
-use Rattle.queue_book.proofs.Calls.{back_follows, lent_follows, new_follows}
-use Rattle.queue_book.proofs.Frames.{active_number}
-use Rattle.queue_book.proofs.Match.{matches_back, matches_lend}
-use Rattle.queue_book.proofs.TreeActed.{acted_back, acted_lend, acted_new}
-use Rattle.queue_book.proofs.TreeKept.{tree_back, tree_lend, tree_new}
-use Rattle.queue_book.proofs.TreeOwners.{owners_kept_back, owners_kept_lend}
+use Rattle.queues.proofs.Alike.{AreAlike, alike_changing, in_use_back}
+use Rattle.queues.proofs.Calls.{back_follows, lent_follows, new_follows}
+use Rattle.queues.proofs.Frames.{active_number}
+use Rattle.queues.proofs.Match.{matches_back, matches_lend}
+use Rattle.queues.proofs.TreeSpawners.{spawners_back, spawners_lend, spawners_new}
+use Rattle.queues.proofs.TreeKept.{tree_back, tree_lend, tree_new}
+use Rattle.queues.proofs.TreeOwners.{owners_kept_back, owners_kept_lend}
 
 pub plain_new : (name : Option Script) → IsPlain name new_state (λ queue. [])
 plain_new name = record {
   rests = λ q never. absurd (false≢true never);
   tree = tree_new;
   follows = λ s named lawful. new_follows s lawful;
-  acted = λ s named. acted_new;
+  spawners = λ s named. spawners_new;
   queues = λ q maker made. let never : None ≡ Some maker = made in absurd (cc);
 }
 
@@ -41,7 +41,6 @@ tree_none = record {
   different = λ n other a b live too same. absurd (none_active n a live);
   held = λ n queue frame live has. absurd (none_active n frame live);
   modes = λ n queue frame mode live held. absurd (none_active n frame live);
-  spawners = λ n frame live. absurd (none_active n frame live);
 }
 
 follows_none : (s : Script) → QueuesFollow s no_state
@@ -61,7 +60,7 @@ plain_none name = record {
   rests = λ q never. absurd (false≢true never);
   tree = tree_none;
   follows = λ s named lawful. follows_none s;
-  acted = λ s named. record { acted = λ n frame live some. absurd (none_active n frame live) };
+  spawners = λ s named. record { turns = λ n frame live some. absurd (none_active n frame live) };
   queues = λ q maker made. let never : None ≡ Some maker = made in absurd (cc);
 }
 
@@ -81,7 +80,7 @@ module _ (name : Option Script) (state : QueueState) (lines : ℕ → Chunks) (i
     rests = is.rests;
     tree = tree_lend state frame ends is.tree;
     follows = λ s named lawful. lent_follows s state (is.follows s named lawful) n frame ends live;
-    acted = λ s named. acted_lend state frame ends is.tree (is.acted s named);
+    spawners = λ s named. spawners_lend state frame ends is.tree (is.spawners s named);
     queues = λ q maker made.
         let line = is.queues q maker made in
         record {
@@ -96,14 +95,14 @@ module _ (name : Option Script) (state : QueueState) (lines : ℕ → Chunks) (i
   pub plain_back : IsPlain name (after_back state n frame.deeds) lines
   plain_back = record {
     rests = is.rests;
-    tree = tree_back state n frame.deeds frame is.tree live (omega arith);
+    tree = tree_back state n frame.deeds is.tree;
     follows = λ s named lawful.
         back_follows s lawful state frame frame.deeds (record { order = omega arith; each = λ k from to. absurd (omega arith) }) (is.follows s named lawful) n live;
-    acted = λ s named. acted_back state n frame.deeds frame is.tree live (omega arith) (is.acted s named) (inl refl);
+    spawners = λ s named. spawners_back state n frame.deeds is.tree (is.spawners s named);
     queues = λ q maker made.
         let line = is.queues q maker made in
         record {
-          owners = owners_kept_back state n frame.deeds frame q (lines q) is.tree live (omega arith) line.owners;
+          owners = owners_kept_back state n frame.deeds q (lines q) is.tree line.owners;
           matches = λ left in_use s named lawful.
               matches_back s lawful state q (origin_in s maker) (end_time s (maker_path maker)) (lines q)
               (line.matches left (in_use_back state (after_back state n frame.deeds) q maker (back_alike frame.deeds) in_use) s named lawful) n frame live frame.deeds refl;

@@ -10,21 +10,21 @@ use Rattle.swan_model.specs.Lawful.{IsLawful}
 use Rattle.swan_model.specs.QueueFollows.{QueuesFollow, next_queue_deed, origin_in}
 use Rattle.swan_model.specs.QueueState.{ActiveFrame, QueueMaker, planned, made_by, QueueState, active, after_create, after_create_root, with_deed, with_made, IsUntouched}
 use Rattle.swan_model.specs.Readings.{end_time}
-use Rattle.queue_book.specs.Asks.{is_emptied, MayDo, IsOnTurn, OnNext}
-use Rattle.queue_book.specs.Book.{Chunks, own, HasOwners, Matches}
+use Rattle.queues.specs.Asks.{is_emptied, MayDo, OnNext}
+use Rattle.queues.specs.Chunks.{Chunks, own, HasOwners, Matches}
 use Rattle.queue_book.specs.Chains.{in_line}
-use Rattle.queue_book.specs.Tree.{HaveActed, IsTree, has_queue, maker_path}
-use Rattle.queue_book.specs.Whole.{IsInUse, IsLine, IsPlain}
-use Rattle.queue_book.proofs.ActiveAfter.{AreOthers, others_changed, own_changed}
-use Rattle.queue_book.proofs.Creating.{created_follows, root_created_follows}
-use Rattle.queue_book.proofs.Frames.{active_number, same_frame}
+use Rattle.queues.specs.Tree.{SpawnersHaveTurns, IsTree, has_queue, maker_path, IsInUse}
+use Rattle.queue_book.specs.Whole.{IsLine, IsPlain}
+use Rattle.queues.proofs.ActiveAfter.{AreOthers, others_changed, own_changed}
+use Rattle.queues.proofs.Creating.{created_follows, root_created_follows}
+use Rattle.queues.proofs.Frames.{active_number, same_frame}
 use Rattle.swan_model.proofs.Elements.{more_cases}
 use Rattle.queue_book.proofs.LivePut.{has_not_made}
-use Rattle.queue_book.proofs.Match.{matches_create, matches_create_other, matches_root, matches_root_other}
-use Rattle.queue_book.proofs.PlainSaid.{in_each, on_next, turn_on}
-use Rattle.queue_book.proofs.TreeActed.{acted_create, acted_root}
-use Rattle.queue_book.proofs.TreeKept.{tree_create, tree_root}
-use Rattle.queue_book.proofs.TreeOwners.{owners_create, owners_kept_create, owners_kept_root, owners_root}
+use Rattle.queues.proofs.Match.{matches_create, matches_create_other, matches_root, matches_root_other}
+use Rattle.queue_book.proofs.PlainSaid.{in_each, on_next}
+use Rattle.queues.proofs.TreeSpawners.{spawners_create, spawners_root}
+use Rattle.queues.proofs.TreeKept.{tree_create, tree_root}
+use Rattle.queues.proofs.TreeOwners.{owners_create, owners_kept_create, owners_kept_root, owners_root}
 
 -- Who has an older queue after a frame made one had it before.
 pub made_in_use : (state after : QueueState) (n : ℕ) (frame later : ActiveFrame) → active state n ≡ Some frame → active after n ≡ Some later → AreOthers state after n
@@ -46,21 +46,21 @@ module _ (name : Option Script) (state after : QueueState) (lines : ℕ → Chun
     | inr left ↦ left
   ]
 
-  plain_made : IsTree after → ((s : Script) → name ≡ Some s → IsLawful s → QueuesFollow s after) → ((s : Script) → name ≡ Some s → HaveActed after)
+  plain_made : IsTree after → ((s : Script) → name ≡ Some s → IsLawful s → QueuesFollow s after) → ((s : Script) → name ≡ Some s → SpawnersHaveTurns after)
       → ((q : ℕ) → q < length state.makers → HasOwners state q (lines q) → HasOwners after q (lines q))
       → ((s : Script) → name ≡ Some s → IsLawful s → (q : ℕ) (one : QueueMaker) → q < length state.makers → Matches s state q (origin_in s one) (end_time s (maker_path one)) (lines q)
       → Matches s after q (origin_in s one) (end_time s (maker_path one)) (lines q))
       → HasOwners after (length state.makers) (own n first ∷ [])
       → ((s : Script) → name ≡ Some s → IsLawful s → Matches s after (length state.makers) (origin_in s maker) (end_time s (maker_path maker)) (own n first ∷ []))
       → IsPlain name after (in_line (length state.makers) (λ old. own n first ∷ []) lines)
-  plain_made tree follows acted owners matches new_owners new_matches = record {
+  plain_made tree follows spawners owners matches new_owners new_matches = record {
     rests = λ q over.
         let less : q < length state.makers = is.rests q (sym (ap (λ (es : List ℕ). is_emptied (record state { emptied = es }) q) emptied) ∙ over) in
         let long : length after.makers ≡ length state.makers + 1 = ap length makers ∙ length-append state.makers (maker ∷ []) in
         omega arith;
     tree = tree;
     follows = follows;
-    acted = acted;
+    spawners = spawners;
     queues = λ q one made.
         let at : slice_get (state.makers ++ maker ∷ []) q ≡ Some one = ap (λ (ms : List QueueMaker). slice_get ms q) (sym makers) ∙ made in
         elim (more_cases state.makers maker q one at) [
@@ -93,9 +93,9 @@ module _ (name : Option Script) (state after : QueueState) (lines : ℕ → Chun
   }
 
 module _ (name : Option Script) (state : QueueState) (lines : ℕ → Chunks) (is : IsPlain name state lines) where
-  pub plain_create : (n : ℕ) (act : MayDo state n) → OnNext name state n (λ s f. next_queue_deed s f.path f.deeds ≡ Some deed.MakeQueue) → IsOnTurn name state n
+  pub plain_create : (n : ℕ) (act : MayDo state n) → OnNext name state n (λ s f. next_queue_deed s f.path f.deeds ≡ Some deed.MakeQueue)
       → IsPlain name (after_create state act.frame) (in_line (length state.makers) (λ old. own n [] ∷ []) lines)
-  plain_create n act next turn =
+  plain_create n act next =
       let frame = act.frame in
       let i = length state.makers in
       let change : ActiveFrame → ActiveFrame = λ f. with_deed (with_made i f) in
@@ -110,7 +110,7 @@ module _ (name : Option Script) (state : QueueState) (lines : ℕ → Chunks) (i
       (λ q less. has_not_made frame i q (λ same. omega arith))
       (tree_create state n is.tree act)
       (λ s named lawful. created_follows s lawful state (is.follows s named lawful) n frame act.may.live (told s named))
-      (λ s named. acted_create state n is.tree act (is.acted s named) (turn_on name state n s frame turn named act.may.live))
+      (λ s named. spawners_create state n is.tree act (is.spawners s named))
       (λ q less owners. owners_kept_create state n q (lines q) is.tree act less owners)
       (λ s named lawful q one less matches.
       matches_create_other s lawful state q (origin_in s one) (end_time s (maker_path one)) (lines q) matches n frame act.may.live (told s named) less)
@@ -127,7 +127,7 @@ module _ (name : Option Script) (state : QueueState) (lines : ℕ → Chunks) (i
       (λ q less. has_not_made root i q (λ same. omega arith))
       (tree_root state is.tree untouched)
       (λ s named lawful. root_created_follows s lawful state (is.follows s named lawful) first untouched (next s named))
-      (λ s named. acted_root state is.tree untouched (is.acted s named))
+      (λ s named. spawners_root state is.tree (is.spawners s named))
       (λ q less owners. owners_kept_root state q (lines q) is.tree less owners)
       (λ s named lawful q one less matches. matches_root_other s lawful state q (origin_in s one) (end_time s (maker_path one)) (lines q) matches root untouched.live less)
       (owners_root state first is.tree untouched)

@@ -9,10 +9,10 @@ use Rattle.swan_model.specs.declared.script.Script.{Script}
 use Rattle.swan_model.specs.Lawful.{IsLawful}
 use Rattle.swan_model.specs.QueueFollows.{origin_in, queue_origin}
 use Rattle.swan_model.specs.QueueState.{ActiveFrame, QueueMaker, QueueState, active, HasTurn}
-use Rattle.queue_book.specs.Asks.{IsOnTurn, OnNext}
-use Rattle.queue_book.specs.Book.{Chunks}
+use Rattle.queues.specs.Asks.{IsOnTurn, OnNext}
+use Rattle.queues.specs.Chunks.{Chunks}
 use Rattle.queue_book.specs.Chains.{in_line}
-use Rattle.queue_book.specs.Tells.{OnQueue}
+use Rattle.queues.specs.Tells.{OnQueue}
 
 -- what is said of an active frame's next deed
 pub on_next : (name : Option Script) (state : QueueState) (n : ℕ) (Says : Script → ActiveFrame → Type 0) (s : Script) (frame : ActiveFrame)

@@ -5,18 +5,19 @@ use Rattle.swan_model.specs.declared.script.Script.{Script}
 use Rattle.swan_model.specs.QueueFollows.{origin_in, NextSpawnGivesQueues}
 use Rattle.swan_model.specs.QueueState.{QueueMaker, QueueRight, QueueState, active, after_spawn}
 use Rattle.swan_model.specs.Readings.{end_time}
-use Rattle.queue_book.specs.Asks.{MaySpawn, IsOnTurn, OnNext}
-use Rattle.queue_book.specs.Book.{Chunks, after_hand_on}
-use Rattle.queue_book.specs.Handed.{lines_after_gives, gives_queue}
-use Rattle.queue_book.specs.Tree.{maker_path}
-use Rattle.queue_book.specs.Whole.{IsInUse, IsLine, IsPlain}
-use Rattle.queue_book.proofs.Gives.{gives_had}
-use Rattle.queue_book.proofs.Match.{matches_spawn, matches_spawn_other, not_active}
+use Rattle.queues.specs.Asks.{MaySpawn, IsOnTurn, OnNext}
+use Rattle.queues.specs.Chunks.{Chunks, after_hand_on}
+use Rattle.queue_book.specs.Handed.{lines_after_gives}
+use Rattle.queues.specs.Turned.{gives_queue}
+use Rattle.queues.specs.Tree.{maker_path, IsInUse}
+use Rattle.queue_book.specs.Whole.{IsLine, IsPlain}
+use Rattle.queues.proofs.Gives.{gives_had}
+use Rattle.queues.proofs.Match.{matches_spawn, matches_spawn_other, not_active}
 use Rattle.queue_book.proofs.PlainSaid.{on_next, origin_of, turn_on}
-use Rattle.queue_book.proofs.Spawning.{spawned_follows}
-use Rattle.queue_book.proofs.TreeActed.{acted_spawn}
-use Rattle.queue_book.proofs.TreeKept.{tree_spawn}
-use Rattle.queue_book.proofs.TreeOwners.{owners_kept_spawn, owners_spawn}
+use Rattle.queues.proofs.Spawning.{spawned_follows}
+use Rattle.queues.proofs.TreeSpawners.{spawners_spawn}
+use Rattle.queues.proofs.TreeKept.{tree_spawn}
+use Rattle.queues.proofs.TreeOwners.{owners_kept_spawn, owners_spawn}
 
 module _ (name : Option Script) (state : QueueState) (lines : ℕ → Chunks) (is : IsPlain name state lines) (p child : ℕ) (gives : List QueueRight) (may : MaySpawn state p child gives)
     (next : OnNext name state p (λ s f. NextSpawnGivesQueues s state f gives)) (turn : IsOnTurn name state p)
@@ -35,7 +36,7 @@ module _ (name : Option Script) (state : QueueState) (lines : ℕ → Chunks) (i
         owners = owners_spawn state p child gives q (lines q) is.tree may given was.owners;
         matches = λ left in_use s named lawful.
             matches_spawn s lawful state (is.follows s named lawful) is.tree q (origin_in s maker) (origin_of s state q maker made) p child may.act.frame gives may.act.may.live free may.lawful
-            (spawn_of s named) (end_time s (maker_path maker)) (lines q) (was.matches left (in_use_before q maker in_use) s named lawful) was.owners
+            (spawn_of s named) (end_time s (maker_path maker)) (lines q) was.owners (was.matches left (in_use_before q maker in_use) s named lawful)
             (gives_had may.act.frame gives may.lawful q given);
         emptied = λ over. ap (after_hand_on p child) (was.emptied over);
       }
@@ -45,7 +46,7 @@ module _ (name : Option Script) (state : QueueState) (lines : ℕ → Chunks) (i
         owners = owners_kept_spawn state p child gives q (lines q) is.tree may lacks was.owners;
         matches = λ left in_use s named lawful.
             matches_spawn_other s lawful state (is.follows s named lawful) is.tree q (origin_in s maker) (origin_of s state q maker made) p child may.act.frame gives may.act.may.live free may.lawful
-            (spawn_of s named) (end_time s (maker_path maker)) (lines q) (was.matches left (in_use_before q maker in_use) s named lawful) was.owners lacks;
+            (spawn_of s named) (end_time s (maker_path maker)) (lines q) was.owners (was.matches left (in_use_before q maker in_use) s named lawful) lacks;
         emptied = was.emptied;
       }
 
@@ -53,7 +54,7 @@ module _ (name : Option Script) (state : QueueState) (lines : ℕ → Chunks) (i
   plain_spawn = record {
     tree = tree_spawn state p child gives is.tree may;
     follows = λ s named lawful. spawned_follows s lawful state (is.follows s named lawful) p child may.act.frame gives may.act.may.live free (spawn_of s named);
-    acted = λ s named. acted_spawn state p child gives is.tree may (is.acted s named) (turn_on name state p s may.act.frame turn named may.act.may.live);
+    spawners = λ s named. spawners_spawn state p child gives is.tree may (is.spawners s named) (turn_on name state p s may.act.frame turn named may.act.may.live);
     queues = λ q maker made. line q maker made (gives_queue gives q) refl;
     rests = is.rests;
   }

@@ -5,18 +5,18 @@ use Rattle.slab.specs.Slab.{Slab}
 use Rattle.pop_order.specs.Frames.{Frames}
 use Rattle.swan_model.specs.declared.script.Script.{Script}
 use Rattle.swan_model.specs.QueueState.{ActiveFrame, active, new_state, root_frame}
-use Rattle.queue_book.specs.Book.{Chunks}
+use Rattle.queues.specs.Chunks.{Chunks}
 use Rattle.queue_book.specs.Calls.{no_state}
 use Rattle.queue_book.specs.Chains.{Link, AreChained}
 use Rattle.queue_book.specs.KeptFrames.{KeptFrame}
 use Rattle.queue_book.specs.Live.{kept_of, key_in, key_at, Agrees}
-use Rattle.queue_book.specs.Turned.{AreTurns}
+use Rattle.queues.specs.Turned.{AreTurns}
 use Rattle.queue_book.specs.Whole.{IsBook}
 use Rattle.queue_book.specs.declared.live_frames.LiveFrames.{LiveFrames}
 use Rattle.queue_book.proofs.ChainChanges.{chained_same}
 use Rattle.queue_book.proofs.LiveKept.{live_new}
 use Rattle.queue_book.proofs.PlainLent.{plain_new, plain_none}
-use Rattle.queue_book.proofs.TurnsKept.{turns_none}
+use Rattle.queues.proofs.TurnsKept.{turns_none}
 
 new_active : (n : ℕ) (frame : ActiveFrame) → active new_state n ≡ Some frame → frame ≡ root_frame
 new_active n frame live = by (0 == n) live where

@@ -1,18 +1,14 @@
 -- What the calls make of a state, by the frame's number.
-use Rattle.std.specs.Prelude.{ℕ, Option, Some, None, List, []}
+use Rattle.queues.specs.Tells.{with_active}
+use Rattle.std.specs.Prelude.{ℕ, List, []}
 use Rattle.std.specs.Option.{option_map_or}
-use Rattle.swan_model.specs.QueueState.{ActiveFrame, QueueRight, QueueState, active, after_back, after_create, after_create_root, after_deed, after_finish, after_lend, after_spawn, after_take_rest}
+use Rattle.swan_model.specs.QueueState.{ActiveFrame, QueueState, active, after_back, after_create, after_create_root, after_deed, after_finish, after_lend, after_take_rest}
 use Rattle.queue_book.specs.declared.stated.Call.{Call}
 use Rattle.queue_book.specs.declared.stated.Call.TheVariants as call
 
 -- a state without frames and queues
 abbrev pub no_state : QueueState
 no_state = record { frames = []; makers = []; latest = 0; emptied = [] }
-
--- what is made of a state by an active frame, and nothing where it isn't active
-abbrev pub with_active : (ActiveFrame → QueueState) → QueueState → Option ActiveFrame → QueueState
-with_active change state None = state
-with_active change state (Some frame) = change frame
 
 abbrev pub after_call : QueueState → Call → QueueState
 after_call state call.CreateRoot = after_create_root state
@@ -22,9 +18,6 @@ after_call state (call.Lend frame) = with_active (λ f. after_lend state f []) s
 after_call state (call.Back frame) = with_active (λ f. after_back state frame f.deeds) state (active state frame)
 after_call state (call.Finish frame) = after_finish state frame
 after_call state (call.TakeRest queue) = after_take_rest state queue
-
-abbrev pub after_spawn_by : QueueState → ℕ → ℕ → List QueueRight → QueueState
-after_spawn_by state parent child gives = with_active (λ f. after_spawn state f child gives) state (active state parent)
 
 -- the path of an active frame
 abbrev pub path_in : QueueState → ℕ → List ℕ

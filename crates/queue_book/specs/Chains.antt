@@ -3,7 +3,7 @@ use Rattle.std.specs.Prelude.{◌≡◌, ◌≢◌, ℕ, ◌==◌, Bool, false, 
 use Rattle.std.specs.List.{list_any}
 use Rattle.slab.specs.Slab.{Slab, get}
 use Rattle.swan_model.specs.declared.value.Value.{Value}
-use Rattle.queue_book.specs.Book.{Chunk, Chunks}
+use Rattle.queues.specs.Chunks.{Chunk, Chunks}
 use Rattle.queue_book.specs.declared.chains.Front.{Front}
 use Rattle.queue_book.specs.declared.chains.Front.TheVariants as front
 

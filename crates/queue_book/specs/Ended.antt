@@ -1,7 +1,7 @@
 -- The chunks of a frame's queues once it has ended.
 use Rattle.std.specs.Prelude.{◌≡◌, ◌≢◌, ℕ, ◌==◌, ◌&&◌, not, true, Option, Some, None, [], if◌then◌else◌}
 use Rattle.std.specs.Option.{option_map}
-use Rattle.queue_book.specs.Book.{Chunks, after_close}
+use Rattle.queues.specs.Chunks.{Chunks, after_close}
 use Rattle.queue_book.specs.KeptFrames.{OwnChunks, own_chunk_in}
 use Rattle.queue_book.specs.declared.live_frame.OwnChunk.{OwnChunk}
 

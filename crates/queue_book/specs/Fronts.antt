@@ -3,11 +3,11 @@ use Rattle.std.specs.Prelude.{◌≡◌, ◌==◌, ℕ, ◌≤◌, Option, Some,
 use Rattle.slab.specs.Slab.{Slab}
 use Rattle.pop_order.specs.Frames.{Frames}
 use Rattle.pop_order.specs.Turns.{IsPoppingChild}
-use Rattle.queue_book.specs.Book.{Chunks, without_spent}
+use Rattle.queues.specs.Chunks.{Chunks, without_spent}
 use Rattle.queue_book.specs.Chains.{Link, AreChained, in_line, IsFront}
-use Rattle.queue_book.specs.declared.answers.Tested.{Tested}
-use Rattle.queue_book.specs.declared.answers.Tested.TheVariants as tested
-use Rattle.queue_book.specs.declared.answers.WaitFor.TheVariants.{Child, Version, PopTurn, Pusher}
+use Rattle.queues.specs.declared.answers.Tested.{Tested}
+use Rattle.queues.specs.declared.answers.Tested.TheVariants as tested
+use Rattle.queues.specs.declared.answers.WaitFor.TheVariants.{Child, Version, PopTurn, Pusher}
 use Rattle.queue_book.specs.Live.{is_pusher}
 use Rattle.queue_book.specs.declared.chains.Front.TheVariants as front
 use Rattle.queue_book.specs.declared.fronts.Met.{Met}

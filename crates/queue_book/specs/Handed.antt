@@ -1,21 +1,20 @@
 -- A queue that a child is given, as it is kept.
-use Rattle.std.specs.Prelude.{◌≡◌, ◌≢◌, ℕ, ◌==◌, ◌&&◌, Bool, false, Option, Some, None, List, [], ◌∷◌, map, if◌then◌else◌, is_some}
+use Rattle.std.specs.Prelude.{◌≡◌, ◌≢◌, ℕ, ◌==◌, ◌&&◌, Bool, false, Option, Some, None, List, if◌then◌else◌, is_some}
 use Rattle.std.specs.List.{list_any}
 use Rattle.std.specs.Option.{option_map}
 use Rattle.std.specs.BTreeMap.{insert_entry}
 use Rattle.std.specs.Ordering.{nat_cmp}
 use Rattle.slab.specs.Slab.{Slab}
-use Rattle.pop_order.specs.Frames.{Frame, Frames, frame_at}
+use Rattle.pop_order.specs.Frames.{Frames}
 use Rattle.swan_model.specs.declared.rights.Mode.TheVariants.{Push}
 use Rattle.swan_model.specs.QueueState.{QueueRight}
 use Rattle.swan_model.specs.Rights.{allows}
-use Rattle.swan_model.specs.SerialState.{Holding}
-use Rattle.queue_book.specs.Book.{Chunks, after_hand_on}
+use Rattle.queues.specs.Chunks.{Chunks, after_hand_on}
 use Rattle.queue_book.specs.Chains.{Link, AreChained, in_line, put_at}
 use Rattle.queue_book.specs.Ended.{own_keys}
 use Rattle.queue_book.specs.KeptFrames.{KeptFrame, OwnChunks, own_chunk_in}
 use Rattle.queue_book.specs.Live.{kept_of, key_at, own_chunk_at, with_own_chunk, IsOnlyChange}
-use Rattle.queue_book.specs.Turned.{AreApart}
+use Rattle.queues.specs.Turned.{gives_queue, AreGivenTurns}
 use Rattle.queue_book.specs.declared.live_frame.OwnChunk.{OwnChunk}
 use Rattle.queue_book.specs.declared.live_frames.LiveFrames.{LiveFrames}
 
@@ -31,9 +30,6 @@ pub record IsHandedIn (before after : LiveFrames) (parent child queue : ℕ) (pu
 
 -- ---- queue by queue
 
-abbrev pub gives_queue : List QueueRight → ℕ → Bool
-gives_queue gives queue = list_any (λ right. right.queue == queue) gives
-
 -- whether the child may push to a queue
 abbrev pub gives_push : List QueueRight → ℕ → Bool
 gives_push gives queue = list_any (λ right. (right.queue == queue) && allows right.mode Push) gives
@@ -41,14 +37,6 @@ gives_push gives queue = list_any (λ right. (right.queue == queue) && allows ri
 -- the chunks of the queues that were given
 abbrev pub lines_after_gives : (parent child : ℕ) → List QueueRight → (ℕ → Chunks) → ℕ → Chunks
 lines_after_gives parent child gives lines queue = if gives_queue gives queue then after_hand_on parent child (lines queue) else lines queue
-
--- the turn of a child that was given these
-abbrev pub holding_of : QueueRight → Holding
-holding_of right = record { mode = right.mode; number = right.queue }
-
-abbrev pub turn_of : ℕ → List QueueRight → Option Frame
-turn_of parent [] = None
-turn_of parent (give ∷ gives) = Some (record { parent = parent; holdings = map holding_of (give ∷ gives); lent = false })
 
 -- a frame that differs in the keys of its places alone
 pub record IsMoved (before now : KeptFrame) : Type 0 where
@@ -67,6 +55,4 @@ pub record AreGiven (before now : LiveFrames) (parent child : ℕ) (gives : List
   pub pushers : (queue : ℕ) (place : OwnChunk) → own_chunk_in places queue ≡ Some place → place.pushes ≡ gives_push gives queue
   pub chained : (lines : ℕ → Chunks) → AreChained (key_at before) heads nodes lines → ((queue : ℕ) → key_at before child queue ≡ None)
       → AreChained (own_keys child places (key_at now)) heads now_nodes (lines_after_gives parent child gives lines)
-  pub turn : frame_at now_turns child ≡ turn_of parent gives
-  pub other_turns : (other : ℕ) → other ≢ child → frame_at now_turns other ≡ frame_at turns other
-  pub apart : AreApart turns → AreApart now_turns
+  pub turned : AreGivenTurns turns now_turns parent child gives

@@ -3,7 +3,7 @@ use Rattle.std.specs.Prelude.{◌≡◌, ℕ, true, Option, Some, None, List, []
 use Rattle.std.specs.Option.{option_map}
 use Rattle.slab.specs.Slab.{Slab}
 use Rattle.swan_model.specs.declared.value.Value.{Value}
-use Rattle.queue_book.specs.Book.{Chunks, own}
+use Rattle.queues.specs.Chunks.{Chunks, own}
 use Rattle.queue_book.specs.Chains.{Link, AreChained, in_line, put_at}
 use Rattle.queue_book.specs.Live.{kept_of, key_at, with_own_chunk, IsOnlyChange}
 use Rattle.queue_book.specs.declared.live_frames.LiveFrames.{LiveFrames}

@@ -4,12 +4,12 @@ use Rattle.std.specs.Option.{option_map}
 use Rattle.slab.specs.Slab.{Slab}
 use Rattle.pop_order.specs.Frames.{Frame, Frames, frame_at}
 use Rattle.swan_model.specs.QueueState.{ActiveFrame, QueueRight, MayGive}
-use Rattle.queue_book.specs.Asks.{DEEDS_MOST}
+use Rattle.queues.specs.Asks.{DEEDS_MOST}
 use Rattle.queue_book.specs.Chains.{Link}
-use Rattle.queue_book.specs.Handed.{gives_queue, AreGiven}
+use Rattle.queue_book.specs.Handed.{AreGiven}
+use Rattle.queues.specs.Turned.{gives_queue, AreApart}
 use Rattle.queue_book.specs.KeptFrames.{KeptFrame, OwnChunks, own_chunk_in}
 use Rattle.queue_book.specs.Live.{kept_of, IsOnlyChange}
-use Rattle.queue_book.specs.Turned.{AreApart}
 use Rattle.queue_book.specs.declared.live_frames.LiveFrames.{LiveFrames}
 
 -- The parent is kept and has a place for each queue that it gives; each is given once, by a mode of queues; and the child is

@@ -1,23 +1,19 @@
 -- What holds of hyperqueues in plain form.
-use Rattle.std.specs.Prelude.{◌≡◌, ℕ, ◌<◌, true, false, Option, Some, List, [], length, slice_get, ◌⊎◌}
+use Rattle.std.specs.Prelude.{◌≡◌, ℕ, ◌<◌, true, false, Option, Some, List, [], length, slice_get}
 use Rattle.slab.specs.Slab.{Slab}
 use Rattle.pop_order.specs.Frames.{Frames}
 use Rattle.swan_model.specs.declared.script.Script.{Script}
 use Rattle.swan_model.specs.Lawful.{IsLawful}
 use Rattle.swan_model.specs.QueueFollows.{QueuesFollow, origin_in}
-use Rattle.swan_model.specs.QueueState.{ActiveFrame, QueueMaker, QueueState, active, IsOfRoot}
+use Rattle.swan_model.specs.QueueState.{QueueMaker, QueueState}
 use Rattle.swan_model.specs.Readings.{end_time}
-use Rattle.queue_book.specs.Asks.{is_emptied}
-use Rattle.queue_book.specs.Book.{Chunks, HasOwners, Matches}
+use Rattle.queues.specs.Asks.{is_emptied}
+use Rattle.queues.specs.Chunks.{Chunks, HasOwners, Matches}
 use Rattle.queue_book.specs.Chains.{Link, AreChained}
 use Rattle.queue_book.specs.Live.{AreLive, key_at}
-use Rattle.queue_book.specs.Tree.{HaveActed, IsTree, has_queue, maker_path}
-use Rattle.queue_book.specs.Turned.{AreTurns}
+use Rattle.queues.specs.Tree.{SpawnersHaveTurns, IsTree, maker_path, IsInUse}
+use Rattle.queues.specs.Turned.{AreTurns}
 use Rattle.queue_book.specs.declared.live_frames.LiveFrames.{LiveFrames}
-
--- an active frame has the queue, or the root made it, so that its rest is left
-abbrev pub IsInUse : QueueState → ℕ → QueueMaker → Type 0
-IsInUse state queue maker = IsOfRoot (Some maker) ⊎ ((number : ℕ) × (frame : ActiveFrame) × (active state number ≡ Some frame) × (has_queue frame queue ≡ true))
 
 -- The chunks of a queue have their owners, and match the script, until the queue is given up or its rest is taken.
 pub record IsLine (name : Option Script) (state : QueueState) (queue : ℕ) (maker : QueueMaker) (chunks : Chunks) : Type 0 where
@@ -30,7 +26,7 @@ pub record IsLine (name : Option Script) (state : QueueState) (queue : ℕ) (mak
 pub record IsPlain (name : Option Script) (state : QueueState) (lines : ℕ → Chunks) : Type 0 where
   pub tree : IsTree state
   pub follows : (s : Script) → name ≡ Some s → IsLawful s → QueuesFollow s state
-  pub acted : (s : Script) → name ≡ Some s → HaveActed state
+  pub spawners : (s : Script) → name ≡ Some s → SpawnersHaveTurns state
   pub queues : (queue : ℕ) (maker : QueueMaker) → slice_get state.makers queue ≡ Some maker → IsLine name state queue maker (lines queue)
   -- no rest was taken of a queue that isn't made yet
   pub rests : (queue : ℕ) → is_emptied state queue ≡ true → queue < length state.makers

@@ -54,13 +54,13 @@ fn after(state: &Meaning<Stated>, call: Call) -> Meaning<Stated>
 }
 
 impl Queues for BookQueues {
-    ghost use Rattle.std.specs.Prelude.{None};
+    ghost use Rattle.std.specs.Prelude.{[]};
 
     type Ends = NoEnds;
 
     ghost name = { λ queues. queues.name };
 
-    ghost run = { λ queues. None };
+    ghost run = { λ queues. [] };
 
     ghost state = { λ queues. queues.state };
 

@@ -1,7 +1,7 @@
 // The chunks of all queues.
 ghost use Rattle.std.specs.Prelude.{◌≡◌, ◌≢◌, ℕ, ◌+◌, ◌<◌, Option, Some, None, [], ◌∷◌, drop, length, IfOk, IfSome, IfNone, OnOk, true};
 ghost use Rattle.slab.specs.Slab.{ContainsKey, slab_len};
-ghost use Rattle.queue_book.specs.Book.{Chunk, Chunks, own, is_spent, with_item, after_hand_on, after_close, without_spent, without_first, items_in};
+ghost use Rattle.queues.specs.Chunks.{Chunk, Chunks, own, is_spent, with_item, after_hand_on, after_close, without_spent, without_first, items_in};
 ghost use Rattle.queue_book.specs.Chains.{AreChained, chunk_of, first_item, in_line, put_at, IsFront};
 
 use crate::ChunkNode;

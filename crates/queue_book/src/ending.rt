@@ -1,7 +1,7 @@
 // The end of a frame.
 ghost use Rattle.std.specs.Prelude.{◌≡◌, ◌≢◌, ℕ, ◌<◌, true, [], Option, Some, None, length};
 ghost use Rattle.pop_order.specs.Frames.{without, HasNoChild};
-ghost use Rattle.queue_book.specs.Book.{Chunks};
+ghost use Rattle.queues.specs.Chunks.{Chunks};
 ghost use Rattle.queue_book.specs.Chains.{in_line, put_at, AreChained};
 ghost use Rattle.queue_book.specs.Ended.{line_after_end, lines_after_end, own_keys, IsAlone};
 ghost use Rattle.queue_book.specs.KeptFrames.{KeptFrame, own_chunk_in};

@@ -1,6 +1,6 @@
 // What stands at the front of a queue for a frame that pops it.
 ghost use Rattle.std.specs.Prelude.{◌≡◌, ℕ, ◌<◌, Option, length};
-ghost use Rattle.queue_book.specs.Book.{Chunks};
+ghost use Rattle.queues.specs.Chunks.{Chunks};
 ghost use Rattle.queue_book.specs.Chains.{AreChained};
 ghost use Rattle.queue_book.specs.Fronts.{IsFrontTold, IsTurnTold, first_open, met_or, open_or};
 ghost use Rattle.queue_book.specs.Live.{is_pusher};

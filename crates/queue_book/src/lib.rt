@@ -1,52 +1,32 @@
-//! The contract of the hyperqueues of a run.
+//! The hyperqueues of a run in the plainest form.
 //!
-//! A frame is one task of a run. `Queues` is what its frames use: they make queues, spawn children that may
-//! push or pop, push, pop and test. Frames act in any order that their spawns and syncs allow, and yet each is
-//! answered what it is answered in serial order, or is told for whom it has to wait. `LocalEnds` are the ends
-//! that a running frame has with it, by which it pushes and pops without asking the queues.
+//! `queues` says what hyperqueues are, and promises it of each form. `BookQueues` is the first form, as plain as can
+//! be. A queue is a list of chunks in serial order; each active frame that has the queue owns one, where it pushes, and
+//! one that may only pop owns one too, which marks its place. A pop takes from the first chunk, or says which earlier
+//! frame owns it. Chunks are nodes of a slab, and popped items are given up at once. Its ends, `NoEnds`, push and pop
+//! nothing.
 //!
-//! Contracts see hyperqueues as a name, which means a script or nothing, as a run, and as a state of plain data:
-//! the active frames, what each holds and how many deeds of queues it has done, and what made each queue. Each
-//! call is one equation on the state. What is answered is told by the script, at the frame's point among queues,
-//! for every script that is lawful. With the free name nothing is said of items.
-//!
-//! Proved are four laws. Calls lead from a state that follows a script to one that follows it (`calls_follow`).
-//! What the state says of a frame's point, of items and of the serial order is what each full reading says that
-//! fits (`points_of_queues_agree`), and what a frame does next there is what it does next among queues
-//! (`next_deeds_agree`). With each call such a reading goes on, and all other entries need none
-//! (`readings_go_on`).
-//!
-//! `BookQueues` is the first form, as plain as can be. A queue is a list of chunks in serial order; each active
-//! frame that has the queue owns one, where it pushes, and one that may only pop owns one too, which marks its
-//! place. A pop takes from the first chunk, or says which earlier frame owns it. Chunks are nodes of a slab,
-//! and popped items are given up at once. Its ends, `NoEnds`, push and pop nothing.
+//! What stands in the chunks, and whose they are, is said in `queues` (`specs/Chunks`). Here is said how they are kept:
+//! chains of nodes, the frames by number, and the turns of those that pop.
 #![tactic(auto)]
 
-mod answers;
 mod book;
 mod chains;
 mod ending;
-mod ends;
 mod fronts;
-mod give;
-mod laws;
 mod live_frame;
 mod live_frames;
 mod no_ends;
 mod node;
-mod queues;
-mod readings;
 mod spawns;
 mod stated;
 mod store;
 
-pub use answers::{Popped, Tested, WaitFor};
 pub use book::BookQueues;
-pub use ends::LocalEnds;
-pub use give::QueueGive;
-pub use laws::{calls_follow, points_of_queues_agree};
 use live_frame::{LiveFrame, OwnChunk};
 pub use no_ends::NoEnds;
 use node::ChunkNode;
-pub use queues::Queues;
-pub use readings::{next_deeds_agree, readings_go_on};
+pub use queues::{
+    LocalEnds, Popped, QueueGive, Queues, Tested, WaitFor, calls_follow, next_deeds_agree,
+    points_of_queues_agree, readings_go_on,
+};

@@ -1,7 +1,7 @@
 // The active frames by number.
 ghost use Rattle.std.specs.Prelude.{◌≡◌, ◌≢◌, ℕ, ◌+◌, ◌<◌, Some, None, [], OnOk, false};
 ghost use Rattle.std.specs.Option.{option_copied, option_map};
-ghost use Rattle.queue_book.specs.Asks.{DEEDS_MOST};
+ghost use Rattle.queues.specs.Asks.{DEEDS_MOST};
 ghost use Rattle.queue_book.specs.Live.{is_lent_with, kept_of, own_chunk_at, with_own_chunk, IsOnlyChange};
 ghost use Rattle.queue_book.specs.KeptFrames.{KeptFrame};
 

@@ -43,18 +43,16 @@ impl NoEnds {
 }
 
 impl LocalEnds for NoEnds {
-    ghost use Rattle.std.specs.Prelude.{None};
-    ghost use Rattle.queue_book.specs.NoEnds.{no_ends};
+    ghost use Rattle.std.specs.Prelude.{[]};
+    ghost use Rattle.queue_book.specs.NoEnds.{no_counts, no_ends};
 
     ghost name = { λ ends. ends.name };
 
-    ghost run = { λ ends. None };
+    ghost run = { λ ends. [] };
 
     ghost ends = { λ ends. no_ends ends.frame ends.deeds ends.path.means };
 
-    ghost was_refused = { λ old new queue. ⊥ };
-
-    ghost was_empty = { λ old new queue. ⊥ };
+    ghost counts = { λ ends queue is_producer. no_counts };
 
     /// Gives the value back. `O(1)`.
     fn push(&mut self, _queue: u32, value: Value) -> Result<(), Value> {

@@ -112,7 +112,7 @@ pub struct AfterSpawn<'a> {
 }
 
 impl Means<Stated> for AfterSpawn<'_> {
-    ghost use Rattle.queue_book.specs.Calls.{after_spawn_by};
+    ghost use Rattle.queues.specs.Tells.{after_spawn_by};
 
     ghost means = { λ after. after_spawn_by after.state.now.means after.parent after.child after.gives.now };
 }

@@ -2,7 +2,7 @@
 ghost use Rattle.std.specs.Prelude.{◌≡◌, ◌+◌, ◌<◌, Option, length, IfOk, OnOk};
 ghost use Rattle.swan_model.specs.declared.script.Script.{Script};
 ghost use Rattle.swan_model.specs.QueueState.{new_state};
-ghost use Rattle.queue_book.specs.Asks.{QUEUES_MOST};
+ghost use Rattle.queues.specs.Asks.{QUEUES_MOST};
 ghost use Rattle.queue_book.specs.Made.{IsMadeIn};
 ghost use Rattle.queue_book.specs.Whole.{IsBook};
 

@@ -8,7 +8,7 @@ use Rattle.swan_model.specs.declared.rights.Mode.{Mode}
 use Rattle.swan_model.specs.declared.rights.Mode.TheVariants.{Pop}
 use Rattle.swan_model.specs.QueueState.{ActiveFrame, IsActiveChild, IsOfRoot, IsUntouched, QueueMaker, MayGive, planned, made_by, QueueRight, QueueState, active, holds_queue}
 use Rattle.swan_model.specs.Rights.{is_queue_mode}
-use Rattle.queue_book.specs.Asks.{CHILDREN_MOST, DEEDS_MOST, HasRoom, QUEUES_MOST, IsRestLeft, MayDo, MayJoin, MayLook, MaySpawn, MayUse}
+use Rattle.queues.specs.Asks.{CHILDREN_MOST, DEEDS_MOST, HasRoom, QUEUES_MOST, IsRestLeft, MayDo, MayJoin, MayLook, MaySpawn, MayUse}
 use Rattle.swan_model.proofs.Elements.{any_from, found_is}
 use Rattle.queue_tests.specs.Allowed.{acts, has_room, has_space, is_rest_left, is_of, is_of_root, is_untouched, may_give, may_join, may_make, may_spawn, may_use}
 

@@ -1,8 +1,8 @@
 -- Which frames may lend their ends.
 use Rattle.std.proofs.Common.{◌≡◌, ◌≢◌, ℕ, true, Some, None, List, refl, sym, subst, ◌∙◌}
 use Rattle.swan_model.specs.QueueState.{ActiveFrame, LentEnd, QueueState, active, after_lend, new_state, root_frame}
-use Rattle.queue_book.proofs.ActiveAfter.{others_changed}
-use Rattle.queue_book.proofs.Frames.{active_number}
+use Rattle.queues.proofs.ActiveAfter.{others_changed}
+use Rattle.queues.proofs.Frames.{active_number}
 use Rattle.queue_tests.specs.Allowed.{may_make}
 use Rattle.queue_tests.proofs.Allowing.{lent_by_test}
 

@@ -2,9 +2,9 @@
 use Rattle.std.proofs.Common.{◌≡◌, ℕ, ◌+◌, ◌<◌, true, Some, None, refl, ap, subst, sym, ◌∙◌, [], ◌∷◌}
 use Rattle.swan_model.specs.declared.rights.Mode.TheVariants.{Push, PushPop}
 use Rattle.swan_model.specs.QueueState.{ActiveFrame, QueueState, active, after_create, after_deed, holds_queue, new_state, root_frame, with_deed}
-use Rattle.queue_book.specs.Asks.{DEEDS_MOST, MayUse}
-use Rattle.queue_book.specs.Calls.{with_active}
-use Rattle.queue_book.proofs.ActiveAfter.{own_changed}
+use Rattle.queues.specs.Asks.{DEEDS_MOST, MayUse}
+use Rattle.queues.specs.Tells.{with_active}
+use Rattle.queues.proofs.ActiveAfter.{own_changed}
 use Rattle.queue_tests.specs.Allowed.{has_space, may_make}
 
 -- frame 0 pushes to queue 0, and has done so many deeds

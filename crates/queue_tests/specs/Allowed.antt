@@ -5,7 +5,7 @@ use Rattle.swan_model.specs.declared.path.TheConstants.{PATH_MOST}
 use Rattle.swan_model.specs.declared.rights.Mode.{Mode}
 use Rattle.swan_model.specs.QueueState.{ActiveFrame, QueueMaker, planned, made_by, QueueRight, QueueState, active, holds_queue}
 use Rattle.swan_model.specs.Rights.{is_queue_mode}
-use Rattle.queue_book.specs.Asks.{CHILDREN_MOST, DEEDS_MOST, QUEUES_MOST}
+use Rattle.queues.specs.Asks.{CHILDREN_MOST, DEEDS_MOST, QUEUES_MOST}
 
 -- an active frame with its ends back, of which a condition holds
 abbrev pub acts : Option ActiveFrame → (ActiveFrame → Bool) → Bool

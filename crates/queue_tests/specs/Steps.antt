@@ -2,8 +2,7 @@
 use Rattle.std.specs.Prelude.{Bool, true, ◌&&◌, List, [], ◌∷◌}
 use Rattle.swan_model.specs.declared.rights.Mode.TheVariants.{Push, Pop}
 use Rattle.swan_model.specs.QueueState.{QueueState, active, after_create, after_create_root, after_deed, after_finish, after_take_rest}
-use Rattle.queue_book.specs.Calls.{after_spawn_by, with_active}
-use Rattle.queue_book.specs.Tells.{after_test}
+use Rattle.queues.specs.Tells.{after_spawn_by, with_active, after_test}
 use Rattle.queue_tests.specs.Allowed.{has_space, is_rest_left, is_untouched, may_join, may_make, may_spawn, may_use}
 use Rattle.queue_tests.specs.declared.step.Step.{Step}
 use Rattle.queue_tests.specs.declared.step.Step.TheVariants as step

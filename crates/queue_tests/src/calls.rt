@@ -2,12 +2,11 @@
 ghost use Rattle.std.specs.Prelude.{◌≡◌, true, [], ◌∷◌, None, OnOk};
 ghost use Rattle.swan_model.specs.declared.rights.Mode.TheVariants.{Push, Pop};
 ghost use Rattle.swan_model.specs.QueueState.{active, after_create, after_create_root, after_deed, after_finish, after_take_rest};
-ghost use Rattle.queue_book.specs.Calls.{after_spawn_by, with_active};
-ghost use Rattle.queue_book.specs.Tells.{after_test};
+ghost use Rattle.queues.specs.Tells.{after_spawn_by, with_active, after_test};
 ghost use Rattle.queue_tests.specs.Allowed.{has_space, is_rest_left, is_untouched, may_join, may_make, may_spawn, may_use};
 
 use crate::Wrong;
-use queue_book::{Popped, QueueGive, Queues, Tested, WaitFor};
+use queues::{Popped, QueueGive, Queues, Tested, WaitFor};
 use std::alloc::Global;
 use swan_model::{Mode, Value, Values};
 

@@ -5,7 +5,7 @@ ghost use Rattle.queue_tests.specs.Allowed.{may_make};
 ghost use Rattle.queue_tests.specs.Steps.{after_steps, allows_steps};
 
 use crate::{Step, run};
-use queue_book::Queues;
+use queues::Queues;
 use std::alloc::Global;
 use std::test::Fail;
 

@@ -4,7 +4,7 @@ ghost use Rattle.swan_model.specs.QueueState.{new_state};
 ghost use Rattle.queue_tests.specs.Steps.{after_step, after_steps, allows_step, allows_steps};
 
 use crate::{Step, Wrong, WrongStep, calls};
-use queue_book::Queues;
+use queues::Queues;
 use std::alloc::Global;
 
 /// Makes one call, which has to give its answer.

@@ -3,7 +3,7 @@ ghost use Rattle.std.specs.Prelude.{◌≡◌, None};
 ghost use Rattle.swan_model.specs.QueueState.{new_state};
 
 use crate::calls;
-use queue_book::Queues;
+use queues::Queues;
 use std::test::Fail;
 use swan_model::Value;
 

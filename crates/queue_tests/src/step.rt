@@ -1,5 +1,5 @@
 // A call on hyperqueues with its answer.
-use queue_book::{Tested, WaitFor};
+use queues::{Tested, WaitFor};
 use swan_model::Mode;
 
 /// A call on hyperqueues, with the answer that it has to give. Frames and queues go by their numbers, a frame first.

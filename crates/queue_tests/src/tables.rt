@@ -1,6 +1,6 @@
 // The tables.
 use crate::Step;
-use queue_book::{Tested, WaitFor};
+use queues::{Tested, WaitFor};
 use swan_model::Mode;
 
 /// Two children that push, and the parent after them.

@@ -4,7 +4,8 @@ ghost use Rattle.swan_model.specs.QueueState.{new_state};
 ghost use Rattle.queue_tests.specs.Steps.{allows_steps};
 
 use crate::*;
-use queue_book::{BookQueues, Queues, Tested, WaitFor};
+use queue_book::BookQueues;
+use queues::{Queues, Tested, WaitFor};
 use std::alloc::Global;
 use std::test::Fail;
 use swan_model::{Mode, RunName};

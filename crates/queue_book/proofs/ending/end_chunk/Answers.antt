@@ -1,5 +1,5 @@
 use Rattle.std.proofs.Common.{◌≡◌, ◌≢◌, true, false, ◌&&◌, not, ◌==◌, None, ap, ◌∙◌}
-use Rattle.queue_book.specs.Book.{after_close}
+use Rattle.queues.specs.Chunks.{after_close}
 use Rattle.queue_book.specs.Chains.{in_line, put_at}
 use Rattle.queue_book.proofs.ChainEnds.{chained_closed, chained_over, none_but_own, not_so, still_so}
 use Rattle.queue_book.proofs.ending.end_chunk.Goals as goal

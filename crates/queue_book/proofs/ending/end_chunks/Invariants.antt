@@ -1,6 +1,6 @@
 use Rattle.std.proofs.Common.{◌≡◌, ℕ, Option, None, length, ◌⊎◌}
 use Rattle.std.specs.BTreeMap.{btree_map_len}
-use Rattle.queue_book.specs.Book.{Chunks}
+use Rattle.queues.specs.Chunks.{Chunks}
 use Rattle.queue_book.specs.Chains.{AreChained}
 use Rattle.queue_book.specs.Ended.{own_keys, IsAlone}
 use Rattle.queue_book.specs.KeptFrames.{own_chunk_in}

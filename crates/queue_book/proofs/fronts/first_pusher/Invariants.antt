@@ -1,5 +1,5 @@
 use Rattle.std.proofs.Common.{ℕ, Option}
-use Rattle.queue_book.specs.Book.{Chunks}
+use Rattle.queues.specs.Chunks.{Chunks}
 use Rattle.queue_book.specs.Chains.{AreChained}
 use Rattle.queue_book.proofs.ChainWalks.{IsWalked}
 use Rattle.queue_book.proofs.fronts.first_pusher.Given as goal

@@ -1,5 +1,5 @@
-use Rattle.std.proofs.Common.{ℕ, ◌+◌, ◌<◌, arith, rules}
-use Rattle.queue_book.specs.Asks.{DEEDS_MOST}
+use Rattle.std.proofs.Common.{◌+◌, ◌<◌, arith}
+use Rattle.queues.specs.Asks.{DEEDS_MOST}
 use Rattle.queue_tests.proofs.Pushing.{may_push}
 use Rattle.queue_tests.proofs.many.push_many.Goals as goal
 

@@ -5,8 +5,8 @@ use Rattle.swan_model.specs.QueueState.{ActiveFrame, QueueState, active, after_b
 use Rattle.queue_book.specs.BookView.{BookView}
 use Rattle.queue_book.specs.Whole.{IsBook}
 use Rattle.queue_book.proofs.BookLent.{book_back, by_none, called, recorded}
-use Rattle.queue_book.proofs.Frames.{same_frame}
-use Rattle.queue_book.specs.Asks.{IsRecorded, OnNext}
+use Rattle.queues.proofs.Frames.{same_frame}
+use Rattle.queues.specs.Asks.{IsRecorded, OnNext}
 use Rattle.queue_book.specs.NoEnds.{no_ends}
 use Rattle.queue_book.specs.Live.{is_lent_with, kept_of}
 use Rattle.queue_book.proofs.book.BookQueuesQueues.back.Goals as goal

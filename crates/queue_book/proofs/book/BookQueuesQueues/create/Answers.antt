@@ -1,13 +1,12 @@
 use Rattle.std.proofs.Common.{◌≡◌, ℕ, ◌<◌, Some, List, [], length, sym, ap, subst, ◌∙◌}
 use Rattle.swan_model.specs.declared.script.Deed.TheVariants as deed
 use Rattle.swan_model.specs.QueueState.{QueueState}
-use Rattle.queue_book.specs.Asks.{IsOnTurn, OnNext}
+use Rattle.queues.specs.Asks.{OnNext, MayDo, HasRoom, QUEUES_MOST}
 use Rattle.queue_book.specs.BookView.{BookView}
 use Rattle.queue_book.specs.Whole.{IsBook}
 use Rattle.queue_book.proofs.BookLent.{called}
 use Rattle.swan_model.specs.QueueFollows.{next_queue_deed}
 use Rattle.swan_model.specs.QueueState.{after_create}
-use Rattle.queue_book.specs.Asks.{MayDo, HasRoom, QUEUES_MOST}
 use Rattle.queue_book.proofs.BookMade.{book_create, create_room}
 use Rattle.swan_model.specs.declared.value.Value.{Value}
 use Rattle.queue_book.specs.Made.{IsMadeIn}
@@ -61,12 +60,10 @@ invariant_of-self c =
     subst M c.new-none.ensures c.in-Ok.ensures.made in
     let Next : BookView → Type 0 = λ v. OnNext v.name v.state n (λ s f. next_queue_deed s f.path f.deeds ≡ Some deed.MakeQueue) in
     let next : OnNext name state n (λ s f. next_queue_deed s f.path f.deeds ≡ Some deed.MakeQueue) = subst Next (sym c.self.view_is) c.requires.next in
-    let Turn : BookView → Type 0 = λ v. IsOnTurn v.name v.state n in
-    let turn : IsOnTurn name state n = subst Turn (sym c.self.view_is) c.requires.turn in
     let R : QueueState → Type 0 = λ st. IsBook name st c.count_deed.new.self c.make.new.self.chains.heads.items c.make.new.self.chains.nodes turns in
     rw c.make.ensures.turns (subst R (sym (c.after.ensures ∙ called state n act.frame (after_create state) act.may.live))
     (book_create name state frames heads nodes turns is n act c.in-Ok.queue c.in-Ok.ensures.number c.make.new.self.frames c.make.new.self.chains.heads.items c.make.new.self.chains.nodes made
-    next turn c.in-Ok.ensures.more c.count_deed.new.self c.count_deed.ensures))
+    next c.in-Ok.ensures.more c.count_deed.new.self c.count_deed.ensures))
 
 pub returns-in-Ok-clause-number : goal.returns-in-Ok-clause-number
 returns-in-Ok-clause-number c =

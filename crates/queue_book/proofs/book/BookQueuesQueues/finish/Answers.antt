@@ -1,18 +1,16 @@
 use Rattle.std.proofs.Common.{◌≡◌, Some, None, sym, subst}
 use Rattle.swan_model.specs.QueueState.{QueueState}
-use Rattle.queue_book.specs.Asks.{OnNext}
-use Rattle.queue_book.specs.Live.{key_at}
+use Rattle.queues.specs.Asks.{OnNext, MayJoin}
+use Rattle.queue_book.specs.Live.{key_at, kept_of}
 use Rattle.queue_book.specs.BookView.{BookView}
 use Rattle.queue_book.specs.Whole.{IsBook}
-use Rattle.queue_book.specs.Live.{kept_of}
 use Rattle.swan_model.specs.QueueFollows.{next_queue_deed}
 use Rattle.pop_order.specs.Frames.{Frames}
 use Rattle.swan_model.specs.QueueState.{after_finish}
-use Rattle.queue_book.specs.Asks.{MayJoin}
 use Rattle.queue_book.specs.KeptFrames.{KeptFrame}
 use Rattle.queue_book.proofs.BookFinish.{alone_in, book_finish, chained_before}
 use Rattle.queue_book.proofs.LiveKept.{kept_live}
-use Rattle.queue_book.proofs.TurnsGone.{turns_childless}
+use Rattle.queues.proofs.TurnsGone.{turns_childless}
 use Rattle.queue_book.proofs.book.BookQueuesQueues.finish.Goals as goal
 
 pub end-requires-clause-childless : goal.end-requires-clause-childless

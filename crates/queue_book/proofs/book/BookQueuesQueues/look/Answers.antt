@@ -1,9 +1,9 @@
 use Rattle.std.proofs.Common.{◌≡◌, Some, sym, subst}
 use Rattle.swan_model.specs.QueueState.{ActiveFrame, active}
-use Rattle.queue_book.specs.Asks.{MayLook, IsOnTurn}
+use Rattle.queues.specs.Asks.{MayLook, IsOnTurn}
 use Rattle.queue_book.specs.Live.{key_at}
 use Rattle.queue_book.specs.BookView.{BookView}
-use Rattle.queue_book.specs.Tells.{IsTested}
+use Rattle.queues.specs.Tells.{IsTested}
 use Rattle.queue_book.proofs.BookFronts.{book_looked, known, looked_all}
 use Rattle.queue_book.proofs.book.BookQueuesQueues.look.Goals as goal
 

@@ -3,15 +3,15 @@ use Rattle.swan_model.specs.declared.rights.Mode.TheVariants.{Pop}
 use Rattle.swan_model.specs.declared.script.Deed.TheVariants as deed
 use Rattle.swan_model.specs.QueueFollows.{IsNextAbout}
 use Rattle.swan_model.specs.QueueState.{ActiveFrame, QueueState, active}
-use Rattle.queue_book.specs.Asks.{MayUse, IsOnTurn, OnNext}
-use Rattle.queue_book.specs.Book.{without_spent}
+use Rattle.queues.specs.Asks.{MayUse, IsOnTurn, OnNext}
+use Rattle.queues.specs.Chunks.{without_spent}
 use Rattle.queue_book.specs.Chains.{first_item, in_line}
 use Rattle.queue_book.specs.Live.{key_at}
 use Rattle.queue_book.specs.BookView.{BookView}
-use Rattle.queue_book.specs.Tells.{IsPopped}
+use Rattle.queues.specs.Tells.{IsPopped}
 use Rattle.queue_book.specs.Whole.{IsBook}
-use Rattle.queue_book.specs.declared.answers.Popped.TheVariants as popped
-use Rattle.queue_book.specs.declared.answers.Tested.TheVariants as tested
+use Rattle.queues.specs.declared.answers.Popped.TheVariants as popped
+use Rattle.queues.specs.declared.answers.Tested.TheVariants as tested
 use Rattle.queue_book.proofs.BookDeeds.{book_empty, book_pop}
 use Rattle.queue_book.proofs.BookFronts.{book_looked, found_item, known, look_of, looked_all, popped_all}
 use Rattle.queue_book.proofs.book.BookQueuesQueues.pop.Goals as goal

@@ -4,13 +4,13 @@ use Rattle.swan_model.specs.declared.rights.Mode.TheVariants.{Push}
 use Rattle.swan_model.specs.declared.script.Deed.TheVariants as deed
 use Rattle.swan_model.specs.QueueFollows.{IsNextAbout}
 use Rattle.swan_model.specs.QueueState.{QueueState}
-use Rattle.queue_book.specs.Asks.{MayUse, IsOnTurn, OnNext}
+use Rattle.queues.specs.Asks.{MayUse, IsOnTurn, OnNext}
 use Rattle.queue_book.specs.Live.{key_at}
 use Rattle.queue_book.specs.BookView.{BookView}
 use Rattle.queue_book.specs.Whole.{IsBook}
 use Rattle.queue_book.proofs.BookDeeds.{book_push}
 use Rattle.queue_book.proofs.LiveKept.{has_key, key_of, place_of_key}
-use Rattle.queue_book.proofs.Frames.{has_held}
+use Rattle.queues.proofs.Frames.{has_held}
 use Rattle.queue_book.proofs.book.BookQueuesQueues.push.Goals as goal
 
 pub unreachable-requires : goal.unreachable-requires

@@ -1,7 +1,7 @@
 use Rattle.std.proofs.Common.{ℕ, Option, List, sym, subst, ◌∙◌}
 use Rattle.swan_model.specs.QueueFollows.{NextSpawnGivesQueues}
 use Rattle.swan_model.specs.QueueState.{QueueState, after_spawn}
-use Rattle.queue_book.specs.Asks.{MaySpawn, IsOnTurn, OnNext}
+use Rattle.queues.specs.Asks.{MaySpawn, IsOnTurn, OnNext}
 use Rattle.queue_book.specs.BookView.{BookView}
 use Rattle.queue_book.specs.Whole.{IsBook}
 use Rattle.queue_book.proofs.BookLent.{called}

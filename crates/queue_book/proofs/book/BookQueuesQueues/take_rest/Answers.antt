@@ -3,8 +3,8 @@ use Rattle.swan_model.specs.QueueState.{QueueState}
 use Rattle.queue_book.specs.Live.{key_at}
 use Rattle.queue_book.specs.BookView.{BookView}
 use Rattle.queue_book.specs.Whole.{IsBook}
-use Rattle.queue_book.specs.Asks.{is_emptied, IsRestLeft}
-use Rattle.queue_book.specs.Tells.{OnQueue, rest_of}
+use Rattle.queues.specs.Asks.{is_emptied, IsRestLeft}
+use Rattle.queues.specs.Tells.{OnQueue, rest_of}
 use Rattle.queue_book.proofs.BookRest.{book_rest, rest_is, rest_known, rest_unowned}
 use Rattle.queue_book.proofs.book.BookQueuesQueues.take_rest.Goals as goal
 

@@ -3,12 +3,12 @@ use Rattle.swan_model.specs.declared.rights.Mode.TheVariants.{Pop}
 use Rattle.swan_model.specs.declared.script.Deed.TheVariants as deed
 use Rattle.swan_model.specs.QueueFollows.{IsNextAbout}
 use Rattle.swan_model.specs.QueueState.{ActiveFrame, QueueState, active}
-use Rattle.queue_book.specs.Asks.{MayUse, IsOnTurn, OnNext}
+use Rattle.queues.specs.Asks.{MayUse, IsOnTurn, OnNext}
 use Rattle.queue_book.specs.Live.{key_at}
 use Rattle.queue_book.specs.BookView.{BookView}
-use Rattle.queue_book.specs.Tells.{IsTested}
+use Rattle.queues.specs.Tells.{IsTested}
 use Rattle.queue_book.specs.Whole.{IsBook}
-use Rattle.queue_book.specs.declared.answers.Tested.TheVariants as tested
+use Rattle.queues.specs.declared.answers.Tested.TheVariants as tested
 use Rattle.queue_book.proofs.BookDeeds.{book_test}
 use Rattle.queue_book.proofs.BookFronts.{book_looked, known, look_of, looked_all}
 use Rattle.queue_book.proofs.book.BookQueuesQueues.test.Goals as goal

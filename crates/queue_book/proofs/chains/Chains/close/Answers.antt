@@ -1,6 +1,6 @@
 use Rattle.std.proofs.Common.{◌≡◌, Some, None, sym, subst}
 use Rattle.slab.specs.Slab.{get, with_value}
-use Rattle.queue_book.specs.Book.{after_close}
+use Rattle.queues.specs.Chunks.{after_close}
 use Rattle.queue_book.specs.Chains.{Link, AreChained, in_line, put_at}
 use Rattle.queue_book.proofs.ChainKept.{updates_with}
 use Rattle.queue_book.proofs.ChainChanges.{chained_close}

@@ -1,7 +1,7 @@
 use Rattle.std.proofs.Common.{◌≡◌, ℕ, Option, Some, None, ◌∷◌, drop, refl, sym, ap, subst, ◌∙◌}
 use Rattle.std.proofs.lemmas.Option.{slice_get_read}
 use Rattle.std.specs.Prelude.{slice_get, slice_set}
-use Rattle.queue_book.specs.Book.{Chunks}
+use Rattle.queues.specs.Chunks.{Chunks}
 use Rattle.queue_book.specs.Chains.{chunk_of, AreChained, in_line}
 use Rattle.queue_book.proofs.ChainFronts.{empty_line, first_stands, first_chunk, unowned, chained_drop_first}
 use Rattle.queue_book.proofs.chains.Chains.drop_first.Goals as goal

@@ -2,7 +2,7 @@ use Rattle.std.proofs.Common.{◌≡◌, ◌≢◌, Some, None, [], refl, sym, a
 use Rattle.std.proofs.lemmas.Bool.{false≢true}
 use Rattle.std.proofs.lemmas.Option.{slice_get_read}
 use Rattle.std.specs.Prelude.{slice_get}
-use Rattle.queue_book.specs.Book.{Chunks, without_spent}
+use Rattle.queues.specs.Chunks.{Chunks, without_spent}
 use Rattle.queue_book.specs.Chains.{Link, chunk_of, IsFront}
 use Rattle.queue_book.specs.declared.chains.Front.TheVariants as front
 use Rattle.queue_book.proofs.ChainFronts.{empty_line, first_stands, first_chunk, front_item, front_open, front_spent}

@@ -1,6 +1,6 @@
 use Rattle.std.proofs.Common.{◌≡◌, ℕ, ◌++◌, Option, Some, None, List, [], ◌∷◌, length, sym, ap, subst, ◌∙◌}
 use Rattle.slab.specs.Slab.{Updates}
-use Rattle.queue_book.specs.Book.{own}
+use Rattle.queues.specs.Chunks.{own}
 use Rattle.queue_book.specs.Chains.{Link, AreChained, in_line, put_at}
 use Rattle.queue_book.proofs.ChainGrowth.{chained_make}
 use Rattle.queue_book.proofs.chains.Chains.make.Goals as goal

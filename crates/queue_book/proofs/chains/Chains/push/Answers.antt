@@ -1,6 +1,6 @@
 use Rattle.std.proofs.Common.{◌≡◌, ◌++◌, Some, [], ◌∷◌, sym, subst}
 use Rattle.slab.specs.Slab.{get, with_value}
-use Rattle.queue_book.specs.Book.{with_item}
+use Rattle.queues.specs.Chunks.{with_item}
 use Rattle.queue_book.specs.Chains.{Link, AreChained, in_line}
 use Rattle.queue_book.proofs.ChainKept.{updates_with}
 use Rattle.queue_book.proofs.ChainChanges.{chained_push}

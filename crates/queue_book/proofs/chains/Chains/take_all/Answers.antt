@@ -1,6 +1,6 @@
 use Rattle.std.proofs.Common.{◌++◌, List, refl, ap, ◌∙◌}
 use Rattle.swan_model.specs.declared.value.Value.{Value}
-use Rattle.queue_book.specs.Book.{items_in}
+use Rattle.queues.specs.Chunks.{items_in}
 use Rattle.queue_book.proofs.ChainLoops.{left_none, moved_drop}
 use Rattle.queue_book.proofs.chains.Chains.take_all.Goals as goal
 

@@ -1,6 +1,6 @@
 use Rattle.std.proofs.Common.{◌≡◌, ℕ, Option, None, length}
 use Rattle.slab.specs.Slab.{slab_len}
-use Rattle.queue_book.specs.Book.{Chunks}
+use Rattle.queues.specs.Chunks.{Chunks}
 use Rattle.queue_book.specs.Chains.{AreChained}
 use Rattle.queue_book.proofs.ChainLoops.{AreMoved}
 use Rattle.queue_book.proofs.chains.Chains.take_all.Given as goal

@@ -3,7 +3,7 @@ use Rattle.std.proofs.lemmas.Option.{slice_get_read}
 use Rattle.std.specs.Prelude.{slice_get, if◌then◌else◌, ◌==◌}
 use Rattle.pop_order.proofs.Flags.{eq_of}
 use Rattle.slab.specs.Slab.{get, with_value}
-use Rattle.queue_book.specs.Book.{Chunks, without_first}
+use Rattle.queues.specs.Chunks.{Chunks, without_first}
 use Rattle.queue_book.specs.Chains.{Link, first_item, AreChained, in_line}
 use Rattle.queue_book.proofs.ChainKept.{updates_with}
 use Rattle.queue_book.proofs.ChainChanges.{chained_same}

@@ -1,5 +1,5 @@
 use Rattle.std.proofs.Common.{◌≡◌, ◌∷◌, drop, refl, sym, ap, ◌∙◌}
-use Rattle.queue_book.specs.Book.{Chunk}
+use Rattle.queues.specs.Chunks.{Chunk}
 use Rattle.queue_book.specs.Chains.{chunk_of}
 use Rattle.queue_book.proofs.ChainLoops.{left_none, trimmed_drop}
 use Rattle.queue_book.proofs.ChainFronts.{spent_closed}

@@ -1,6 +1,6 @@
 use Rattle.std.proofs.Common.{◌≡◌, ℕ, Option, length}
 use Rattle.slab.specs.Slab.{slab_len}
-use Rattle.queue_book.specs.Book.{Chunks}
+use Rattle.queues.specs.Chunks.{Chunks}
 use Rattle.queue_book.specs.Chains.{AreChained}
 use Rattle.queue_book.proofs.ChainLoops.{AreTrimmed}
 use Rattle.queue_book.proofs.chains.Chains.trim.Given as goal

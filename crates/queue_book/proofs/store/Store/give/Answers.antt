@@ -1,7 +1,7 @@
 use Rattle.std.proofs.Common.{◌≡◌, ℕ, Bool, false, Option, Some, List, sym, subst}
 use Rattle.std.specs.BTreeMap.{insert_entry}
 use Rattle.std.specs.Ordering.{nat_cmp}
-use Rattle.queue_book.specs.Book.{after_hand_on}
+use Rattle.queues.specs.Chunks.{after_hand_on}
 use Rattle.queue_book.specs.Chains.{AreChained, in_line, put_at}
 use Rattle.queue_book.specs.Handed.{IsHandedIn}
 use Rattle.swan_model.specs.declared.rights.Mode.TheVariants.{Push}

@@ -1,0 +1,91 @@
+-- The active frames after a call: the frame that made it is changed, and all others are as they were.
+use Rattle.std.proofs.Common.{◌≡◌, ◌≢◌, ℕ, ◌+◌, Bool, true, false, cond, not, nat_eq, List, [], ◌∷◌, ◌++◌, map, Option, Some, None, refl, sym, ap, ◌∙◌, ◌≤◌}
+use Rattle.std.proofs.lemmas.Bool.{eq-eqb, ne_eqb}
+use Rattle.std.specs.List.{find}
+use Rattle.std.specs.Option.{option_map}
+use Rattle.swan_model.specs.QueueState.{ActiveFrame, QueueRight, QueueState, active, after_finish, after_spawn, changed, changing, child_of, with_deed}
+use Rattle.swan_model.proofs.Elements.{find_map}
+use Rattle.queues.proofs.FramesChanged.{find_last, find_others, find_gone}
+use Rattle.queues.proofs.Frames.{active_number}
+
+-- a change that leaves the numbers of frames
+abbrev pub KeepsNumber : (ActiveFrame → ActiveFrame) → Type 0
+KeepsNumber change = (frame : ActiveFrame) → (change frame).number ≡ frame.number
+
+-- a change that leaves which task a frame is, and takes back no child
+pub record KeepsTask (change : ActiveFrame → ActiveFrame) : Type 0 where
+  pub number : KeepsNumber change
+  pub parent : (frame : ActiveFrame) → (change frame).parent ≡ frame.parent
+  pub path : (frame : ActiveFrame) → (change frame).path ≡ frame.path
+  pub children : (frame : ActiveFrame) → frame.children ≤ (change frame).children
+
+-- all active frames but that of one number are the same
+abbrev pub AreOthers : QueueState → QueueState → ℕ → Type 0
+AreOthers state after n = (m : ℕ) → m ≢ n → active after m ≡ active state m
+
+module _ (state : QueueState) (n : ℕ) (change : ActiveFrame → ActiveFrame) (keeps : KeepsNumber change) where
+  same_number : (frame : ActiveFrame) → (changed n change frame).number ≡ frame.number
+  same_number frame = by (nat_eq frame.number n) where
+    by : (b : Bool) → (cond b (change frame) frame).number ≡ frame.number
+    by true = keeps frame
+    by false = refl
+
+  pub active_changed : (m : ℕ) → active (changing state n change) m ≡ option_map (changed n change) (active state m)
+  active_changed m =
+      find_map (λ (frame : ActiveFrame). nat_eq frame.number m) (changed n change) (λ frame. ap (λ k. nat_eq k m) (same_number frame)) state.frames
+
+  pub others_changed : AreOthers state (changing state n change) n
+  others_changed m differ = active_changed m ∙ by (active state m) refl where
+    by : (found : Option ActiveFrame) → active state m ≡ found → option_map (changed n change) found ≡ found
+    by None is = refl
+    by (Some frame) is =
+        let other = ne_eqb frame.number n (λ same. differ (sym (active_number state m frame is) ∙ same)) in
+        ap (λ b. Some (cond b (change frame) frame)) other
+
+  pub own_changed : (frame : ActiveFrame) → active state n ≡ Some frame → active (changing state n change) n ≡ Some (change frame)
+  own_changed frame live =
+      active_changed n ∙ ap (option_map (changed n change)) live
+      ∙ ap (λ b. Some (cond b (change frame) frame)) (eq-eqb frame.number n (active_number state n frame live))
+
+-- without the frame of one number
+pub others_finished : (state : QueueState) (n : ℕ) → AreOthers state (after_finish state n) n
+others_finished state n m differ = find_others state.frames n m differ
+
+pub gone_now : (state : QueueState) (n : ℕ) → active (after_finish state n) n ≡ None
+gone_now state n = by (active (after_finish state n) n) refl where
+  by : (o : Option ActiveFrame) → active (after_finish state n) n ≡ o → o ≡ None
+  by None e = refl
+  by (Some frame) e = absurd (find_gone state.frames n frame e)
+
+-- a frame more at the end
+pub found_more : (n : ℕ) (frames : List ActiveFrame) (last : ActiveFrame) → last.number ≢ n
+    → find (λ (frame : ActiveFrame). nat_eq frame.number n) (frames ++ last ∷ []) ≡ find (λ (frame : ActiveFrame). nat_eq frame.number n) frames
+found_more n [] last differ = ap (λ b. cond b (Some last) None) (ne_eqb last.number n differ)
+found_more n (frame ∷ frames) last differ = ap (λ o. cond (nat_eq frame.number n) (Some frame) o) (found_more n frames last differ)
+
+-- after a spawn, of a child that isn't active yet
+module _ (state : QueueState) (n child : ℕ) (frame : ActiveFrame) (gives : List QueueRight) (live : active state n ≡ Some frame) (new : active state child ≡ None) where
+  abbrev one_more : ActiveFrame → ActiveFrame
+  one_more f = with_deed (record f { children = f.children + 1 })
+
+  own_number : frame.number ≡ n
+  own_number = active_number state n frame live
+
+  apart : n ≢ child
+  apart same = let none : Some frame ≡ None = sym live ∙ ap (active state) same ∙ new in absurd (cc)
+
+  pub others_spawned : (m : ℕ) → m ≢ n → m ≢ child → active (after_spawn state frame child gives) m ≡ active state m
+  others_spawned m differ not =
+      found_more m (map (changed frame.number one_more) state.frames) (child_of frame child gives) (λ same. not (sym same))
+      ∙ others_changed state frame.number one_more (λ f. refl) m (λ same. differ (same ∙ own_number))
+
+  pub parent_spawned : active (after_spawn state frame child gives) n ≡ Some (with_deed (record frame { children = frame.children + 1 }))
+  parent_spawned =
+      found_more n (map (changed frame.number one_more) state.frames) (child_of frame child gives) (λ same. apart (sym same))
+      ∙ ap (active (changing state frame.number one_more)) (sym own_number)
+      ∙ own_changed state frame.number one_more (λ f. refl) frame (ap (active state) own_number ∙ live)
+
+  pub child_spawned : active (after_spawn state frame child gives) child ≡ Some (child_of frame child gives)
+  child_spawned =
+      find_last (map (changed frame.number one_more) state.frames) (child_of frame child gives)
+      (λ other found. let none : Some other ≡ None = sym found ∙ active_changed state frame.number one_more (λ f. refl) child ∙ ap (option_map (changed frame.number one_more)) new in absurd (cc))

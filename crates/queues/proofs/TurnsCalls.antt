@@ -1,0 +1,73 @@
+-- The turns of poppers say the same of the state after each call that makes and gives no queue.
+use Rattle.std.proofs.Common.{◌≡◌, ℕ, true, Option, None, Some, List, refl, sym, ap, ◌∙◌, inl, inr}
+use Rattle.std.proofs.lemmas.Bool.{cases_eq}
+use Rattle.std.proofs.lemmas.Option.{same_Some}
+use Rattle.pop_order.proofs.Lookups.{at_set, by_set}
+use Rattle.pop_order.specs.Frames.{Frame, Frames, frame_at, holds, lent_at, lent_to, without}
+use Rattle.swan_model.specs.QueueState.{ActiveFrame, LentEnd, QueueState, active, after_back, after_deed, after_finish, after_lend, after_take_rest, with_deed}
+use Rattle.queues.specs.Asks.{MayDo}
+use Rattle.queues.specs.Turned.{AreTurns}
+use Rattle.queues.proofs.ActiveAfter.{gone_now, others_finished}
+use Rattle.queues.proofs.Alike.{alike_changing, alike_itself}
+use Rattle.queues.proofs.Frames.{active_number}
+use Rattle.queues.proofs.TreeCalls.{back_now, lent_now}
+use Rattle.queues.proofs.TurnsEnlisted.{apart_set}
+use Rattle.queues.proofs.TurnsGone.{turns_gone}
+use Rattle.queues.proofs.TurnsKept.{turns_alike}
+
+module _ (state : QueueState) (turns : Frames) (is : AreTurns state turns) where
+  pub turns_deed : (n : ℕ) → MayDo state n → AreTurns (after_deed state n) turns
+  turns_deed n act =
+      turns_alike state (after_deed state n) turns
+      (alike_changing state n act.frame with_deed (λ f. refl) act.may.live (record { parent = refl; path = refl; rights = refl })) refl is
+
+  pub turns_lend : (n : ℕ) (frame : ActiveFrame) (ends : List LentEnd) → active state n ≡ Some frame → AreTurns (after_lend state frame ends) turns
+  turns_lend n frame ends live =
+      turns_alike state (after_lend state frame ends) turns
+      (alike_changing state frame.number frame (lent_now frame ends) (λ f. refl) (ap (active state) (active_number state n frame live) ∙ live)
+      (record { parent = refl; path = refl; rights = refl })) refl is
+
+  pub turns_back : (n deeds : ℕ) (frame : ActiveFrame) → active state n ≡ Some frame → AreTurns (after_back state n deeds) turns
+  turns_back n deeds frame live =
+      turns_alike state (after_back state n deeds) turns
+      (alike_changing state n frame (back_now deeds) (λ f. refl) live (record { parent = refl; path = refl; rights = refl })) refl is
+
+  pub turns_finish : (n : ℕ) → AreTurns (after_finish state n) (without turns n)
+  turns_finish n = turns_gone state (after_finish state n) turns n (others_finished state n) (gone_now state n) refl is
+
+  pub turns_rest : (queue : ℕ) → AreTurns (after_take_rest state queue) turns
+  turns_rest queue = turns_alike state (after_take_rest state queue) turns (λ number. alike_itself (active state number)) refl is
+
+  -- the queue views of a child move to it, which leaves whose turn it is
+  pub turns_moved : (child : ℕ) → AreTurns state (lent_to turns child)
+  turns_moved child = by (frame_at turns child) refl where
+    by : (o : Option Frame) → frame_at turns child ≡ o → AreTurns state (lent_at turns child o)
+    by None none = is
+    by (Some turn) found =
+        let moved : Frame = record turn { lent = true } in
+        record {
+          apart = apart_set turns child moved is.apart;
+          known = λ n other stands. elim (cases_eq n child) [
+            | inl here ↦
+                let now : moved ≡ other = same_Some moved other (sym (at_set turns child turn moved found) ∙ ap (frame_at (lent_at turns child (Some turn))) (sym here) ∙ stands) in
+                let was = is.known child turn found in (
+                  was.0,
+                  ap (active state) here ∙ was.1,
+                  was.2 ∙ ap (λ (t : Frame). Some t.parent) now,
+                  λ queue mode held. was.3 queue mode (ap (λ (t : Frame). holds t.holdings queue mode) now ∙ held),
+                )
+            | inr apart ↦ is.known n other (sym (by_set turns child turn moved n found apart) ∙ stands)
+          ];
+          all = λ n parent queue mode frame live of held foreign.
+              let t = is.all n parent queue mode frame live of held foreign in
+              elim (cases_eq n child) [
+                | inl here ↦
+                    let same : t.0 ≡ turn = same_Some t.0 turn (sym t.1 ∙ ap (frame_at turns) here ∙ found) in (
+                      moved,
+                      ap (frame_at (lent_at turns child (Some turn))) here ∙ at_set turns child turn moved found,
+                      ap (λ (u : Frame). u.parent) (sym same) ∙ t.2,
+                      ap (λ (u : Frame). holds u.holdings queue mode) (sym same) ∙ t.3,
+                    )
+                | inr apart ↦ (t.0, by_set turns child turn moved n found apart ∙ t.1, t.2, t.3)
+              ];
+        }

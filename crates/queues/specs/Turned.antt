@@ -1,0 +1,55 @@
+-- What the turns of poppers say of a state.
+use Rattle.std.specs.Prelude.{◌≡◌, ◌≢◌, ℕ, ◌≤◌, true, Some, None, [], ◌∷◌, slice_get, ◌==◌, Bool, false, Option, List, map}
+use Rattle.std.specs.List.{list_any}
+use Rattle.swan_model.specs.declared.rights.Mode.{Mode}
+use Rattle.swan_model.specs.QueueState.{ActiveFrame, QueueMaker, QueueState, active, holds_queue, QueueRight, IsEarlierPusher, IsPoppingChild}
+use Rattle.swan_model.specs.SerialState.{Holding}
+use Rattle.pop_order.specs.Frames.{Frame, Frames, frame_at, holds}
+use Rattle.pop_order.specs.declared.certain.Certain.{Certain}
+use Rattle.pop_order.specs.declared.certain.Certain.TheVariants.{Yes, EarlierPusher, PoppingChild}
+use Rattle.queues.specs.Tells.{IsFirstPusher}
+use Rattle.queues.specs.Tree.{maker_path}
+
+-- no number stands twice
+abbrev pub AreApart : Frames → Type 0
+AreApart [] = Unit {0}
+AreApart (entry ∷ entries) = (frame_at entries entry.0 ≡ None) × AreApart entries
+
+-- The frames whose turns are kept are active, with this parent, and may use what they were given; and an active frame that
+-- didn't make a queue which it has was given it.
+pub record AreTurns (state : QueueState) (turns : Frames) : Type 0 where
+  pub apart : AreApart turns
+  pub known : (number : ℕ) (turn : Frame) → frame_at turns number ≡ Some turn
+      → (frame : ActiveFrame) × (active state number ≡ Some frame) × (frame.parent ≡ Some turn.parent)
+      × ((queue : ℕ) (mode : Mode) → holds turn.holdings queue mode ≡ true → holds_queue frame queue mode ≡ true)
+  pub all : (number parent queue : ℕ) (mode : Mode) (frame : ActiveFrame) → active state number ≡ Some frame → frame.parent ≡ Some parent
+      → holds_queue frame queue mode ≡ true → ((maker : QueueMaker) → slice_get state.makers queue ≡ Some maker → frame.path ≢ maker_path maker)
+      → (turn : Frame) × (frame_at turns number ≡ Some turn) × (turn.parent ≡ parent) × (holds turn.holdings queue mode ≡ true)
+
+-- whether a queue is among what a child is given
+abbrev pub gives_queue : List QueueRight → ℕ → Bool
+gives_queue gives queue = list_any (λ right. right.queue == queue) gives
+
+-- the turn of a child that was given these
+abbrev pub holding_of : QueueRight → Holding
+holding_of right = record { mode = right.mode; number = right.queue }
+
+abbrev pub turn_of : ℕ → List QueueRight → Option Frame
+turn_of parent [] = None
+turn_of parent (give ∷ gives) = Some (record { parent = parent; holdings = map holding_of (give ∷ gives); lent = false })
+
+-- The turns once a child was given these queues, where all other turns are as before.
+pub record AreGivenTurns (before now : Frames) (parent child : ℕ) (gives : List QueueRight) : Type 0 where
+  pub turn : frame_at now child ≡ turn_of parent gives
+  pub others : (other : ℕ) → other ≢ child → frame_at now other ≡ frame_at before other
+  pub apart : AreApart before → AreApart now
+
+-- What an answer of the turns says of the frames: the frame's oldest popping child; or where there is none, its first earlier
+-- pusher; or that there is none of these either.
+abbrev pub IsToldBy : QueueState → ActiveFrame → ℕ → Certain → Type 0
+IsToldBy state frame queue (PoppingChild n) =
+    IsPoppingChild state frame.number queue n × ((other : ℕ) → IsPoppingChild state frame.number queue other → n ≤ other)
+IsToldBy state frame queue (EarlierPusher n) =
+    ((other : ℕ) → ¬ IsPoppingChild state frame.number queue other) × IsFirstPusher state frame queue n
+IsToldBy state frame queue Yes =
+    ((other : ℕ) → ¬ IsPoppingChild state frame.number queue other) × ((other : ℕ) → ¬ IsEarlierPusher state frame queue other)
