@@ -1,5 +1,5 @@
 -- Lines that are held after others, as a task reads them in blocks.
-use Rattle.std.proofs.Common.{◌≡◌, ℕ, ◌+◌, true, false, cond, nat_eq, List, [], ◌∷◌, ◌++◌, length, ap, ◌∙◌, arith, length-append}
+use Rattle.std.proofs.Common.{◌≡◌, ◌+◌, true, false, cond, nat_eq, List, [], ◌∷◌, ◌++◌, length, ap, ◌∙◌, arith, length-append}
 use Rattle.swan_model.specs.declared.value.Value.{Value}
 use Rattle.line_blocks.specs.declared.held_lines.Held.TheVariants as held
 use Rattle.line_blocks.specs.declared.line_reader.LineStep.TheVariants.{Tests, Hands}
