@@ -1,2 +1,2 @@
 pub mod Counting
-mod FewLines
+pub mod FewLines
