@@ -1,6 +1,6 @@
 -- The run of a fold: the root reads lines and hands them to block tasks, each of which pushes the fold of its lines and
 -- may end by the fault of its first bad line; and at the end the root spawns the collector.
-use Rattle.std.proofs.Common.{◌≡◌, ℕ, suc, ◌+◌, ◌-◌, ◌*◌, ◌/◌, ◌^◌, ◌≤◌, ◌<◌, Bool, true, false, cond, nat_eq, Option, Some, None, List, [], ◌∷◌, ◌++◌, length, map, refl, sym, ap, ◌∙◌, subst, append_assoc, arith, rules, tests, length-append}
+use Rattle.std.proofs.Common.{◌≡◌, ℕ, suc, ◌+◌, ◌-◌, ◌*◌, ◌/◌, ◌^◌, ◌≤◌, ◌<◌, Bool, true, false, cond, nat_eq, Option, Some, None, List, [], ◌∷◌, ◌++◌, length, map, refl, sym, ap, ◌∙◌, subst, arith, rules, tests, length-append}
 use Rattle.std.proofs.lemmas.List.{append-nil, length-map, map-append}
 use Rattle.std.specs.Prelude.{Result, Ok, Err}
 use Rattle.swan_model.specs.declared.body.Answer.TheVariants as answer
@@ -10,10 +10,9 @@ use Rattle.swan_model.specs.declared.body.Body as body_trait
 use Rattle.swan_model.specs.declared.body.Child.{Child}
 use Rattle.swan_model.specs.declared.fault.Fault.{Fault}
 use Rattle.swan_model.specs.declared.fault.Trouble.{Trouble}
-use Rattle.swan_model.specs.declared.outcome.Outcome.{Outcome}
 use Rattle.swan_model.specs.declared.rights.Mode.TheVariants.{Push, Pop, PushPop}
 use Rattle.swan_model.specs.declared.value.Value.{Value}
-use Rattle.swan_model.specs.declared.value.Value.TheVariants.{Int, Bytes}
+use Rattle.swan_model.specs.declared.value.Value.TheVariants.{Bytes}
 use Rattle.swan_model.specs.Elision.{outcome}
 use Rattle.swan_model.specs.Lines.{lines, refusal_of}
 use Rattle.swan_model.specs.SerialState.{Holding}
@@ -31,7 +30,7 @@ use Rattle.swan_reducers.specs.declared.body.FoldBody.{FoldBody}
 use Rattle.swan_reducers.specs.declared.local.FoldLocal.{FoldLocal}
 use Rattle.swan_reducers.specs.declared.local.FoldLocal.TheVariants as local
 use Rattle.swan_reducers.specs.declared.reducer.Reducer.{Ghosts}
-use Rattle.swan_reducers.specs.Fold.{bad_blocks, bad_line, first_bad, fold_of, in_blocks, joined_from, unless_part, with_part}
+use Rattle.swan_reducers.specs.Fold.{bad_blocks, bad_line, first_bad, fold_of, in_blocks, joined_from, unless_part}
 use Rattle.swan_reducers.specs.Folded.{end_faults, end_records, folded}
 use Rattle.swan_reducers.specs.Plans.{fold_plan}
 use Rattle.swan_reducers.specs.Steps.{as_part, bad_number, block_task, collector, handed, item_part, next, place_of, pushed_end}

@@ -1,7 +1,7 @@
 -- The fold of a text by the reducer of joins is the text's bytes, without line feeds.
 use Rattle.std.proofs.Common.{◌≡◌, ℕ, ◌≤◌, ◌<◌, Bool, true, false, cond, nat_eq, nat_lt, List, [], ◌∷◌, ◌++◌, length, refl, sym, ap, ◌∙◌, append_assoc, rules, tests}
 use Rattle.std.proofs.lemmas.List.{append-nil}
-use Rattle.std.specs.Prelude.{Result, Ok, Err, ⊤}
+use Rattle.std.specs.Prelude.{Ok, Err, ⊤}
 use Rattle.swan_model.specs.declared.fault.Trouble.TheVariants.{TooLong}
 use Rattle.swan_model.specs.Lines.{before_lines, lines}
 use Rattle.swan_reducers.specs.contracts.join_reducer.JoinReducerReducer.TheImpl.{ghosts}
@@ -9,7 +9,7 @@ use Rattle.swan_reducers.specs.declared.join_reducer.JoinReducer.{JoinReducer}
 use Rattle.swan_reducers.specs.declared.join_reducer.TheConstants.{JOIN_MOST}
 use Rattle.swan_reducers.specs.Fold.{fold_of, joined_from}
 use Rattle.swan_reducers.specs.JoinLaws.{fitting_few, fitting_many, join_fitting, joined_not_long}
-use Rattle.swan_reducers.specs.Joins.{all_bytes, fitting, is_too_long, join_end, too_long, whole_text}
+use Rattle.swan_reducers.specs.Joins.{all_bytes, fitting, is_too_long, join_end, whole_text}
 
 -- no line is the line feed
 abbrev NoFeeds : List (List ℕ) → Type 0

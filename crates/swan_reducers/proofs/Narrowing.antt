@@ -1,5 +1,5 @@
 -- Sums that fit 64 bits, and sums that don't.
-use Rattle.std.proofs.Common.{◌≡◌, ℕ, ◌^◌, ◌<◌, Bool, true, false, cond, nat_lt, Some, None, refl, ap, arith, rules, tests}
+use Rattle.std.proofs.Common.{◌≡◌, ◌^◌, ◌<◌, Bool, true, false, cond, Some, None, refl, ap, arith, rules, tests}
 use Rattle.std.specs.Prelude.{ℤ, pos, negsuc, FitsSigned}
 use Rattle.std.specs.Int.{w64}
 use Rattle.swan_reducers.specs.Sums.{fits_64, narrowed}

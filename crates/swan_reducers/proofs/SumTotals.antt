@@ -2,7 +2,7 @@
 use Rattle.std.proofs.Common.{◌≡◌, ℕ, zero, suc, ◌+◌, ◌*◌, ◌^◌, ◌≤◌, ◌<◌, Bool, true, false, cond, nat_eq, nat_lt, nat_le, ◌&&◌, Option, Some, None, List, [], ◌∷◌, length, refl, sym, ap, ◌∙◌, arith, rules, tests}
 use Rattle.std.proofs.lemmas.Int.{fits_signed_from_abs, int_wrap_fits, ints}
 use Rattle.std.specs.Prelude.{ℤ, pos, negsuc, neg_ℤ, ◌+ℤ◌, FitsSigned, option_map, unsigned_abs}
-use Rattle.std.specs.Int.{w128, int_wrap}
+use Rattle.std.specs.Int.{w128}
 use Rattle.std.specs.Str.Parse.{digits_value}
 use Rattle.job_reader.specs.Atoms.{is_natural, negative_number, number, plain_number}
 use Rattle.swan_reducers.specs.contracts.sum_reducer.SumReducerReducer.TheImpl.{ghosts}

@@ -1,12 +1,11 @@
 -- What the outcome of a fold's plan is.
-use Rattle.std.specs.Prelude.{◌≡◌, ℕ, Result, Ok, Err, List, [], ◌∷◌, ◌++◌, length}
+use Rattle.std.specs.Prelude.{ℕ, Result, Ok, Err, List, [], ◌∷◌, ◌++◌, length}
 use Rattle.swan_model.specs.declared.fault.Fault.{Fault}
 use Rattle.swan_model.specs.declared.fault.FaultKind.TheVariants as kind
 use Rattle.swan_model.specs.declared.fault.Trouble.{Trouble}
 use Rattle.swan_model.specs.declared.outcome.Outcome.{Outcome}
 use Rattle.swan_model.specs.declared.value.Value.{Value}
 use Rattle.swan_model.specs.declared.value.Value.TheVariants.{Bytes}
-use Rattle.swan_model.specs.Lines.{lines}
 use Rattle.swan_reducers.specs.declared.reducer.Reducer.{Ghosts}
 use Rattle.swan_reducers.specs.Fold.{bad_blocks, fold_of, in_blocks}
 

@@ -1,5 +1,5 @@
 -- The reducer of joins keeps the laws, and its fold of a text is the text's bytes.
-use Rattle.std.proofs.Common.{◌≡◌, ℕ, ◌+◌, ◌≤◌, ◌<◌, Bool, true, false, cond, nat_eq, nat_lt, nat_le, ◌||◌, Some, List, [], ◌∷◌, ◌++◌, length, refl, sym, ap, ◌∙◌, append_assoc, arith, rules, tests, length-append}
+use Rattle.std.proofs.Common.{◌≡◌, ℕ, ◌≤◌, ◌<◌, Bool, true, false, cond, nat_lt, ◌||◌, Some, List, [], ◌∷◌, ◌++◌, length, refl, sym, ap, ◌∙◌, append_assoc, arith, rules, tests, length-append}
 use Rattle.std.proofs.lemmas.List.{append-nil}
 use Rattle.swan_reducers.specs.declared.join_reducer.TheConstants.{JOIN_MOST}
 use Rattle.swan_reducers.specs.Joins.{bytes_joined, fitting, is_join_part, is_too_long, line_part, too_long}

@@ -1,6 +1,6 @@
 -- The reducer of joins. A part is at most JOIN_MOST bytes, which stand for themselves. The line feed alone stands for
 -- more bytes than that: no line of a text is it, nor is a join of lines.
-use Rattle.std.specs.Prelude.{ℕ, ◌+◌, ◌==◌, nat_lt, nat_le, Bool, false, ◌||◌, Option, Some, Result, Ok, Err, if◌then◌else◌, List, [], ◌∷◌, ◌++◌, length}
+use Rattle.std.specs.Prelude.{ℕ, ◌==◌, nat_lt, nat_le, Bool, false, ◌||◌, Option, Some, Result, Ok, Err, if◌then◌else◌, List, [], ◌∷◌, ◌++◌, length}
 use Rattle.swan_model.specs.declared.fault.Trouble.{Trouble}
 use Rattle.swan_model.specs.declared.fault.Trouble.TheVariants.{TooLong}
 use Rattle.swan_reducers.specs.declared.join_reducer.TheConstants.{JOIN_MOST}

@@ -1,9 +1,9 @@
 -- The reducer of sums keeps the laws.
-use Rattle.std.proofs.Common.{◌≡◌, ℕ, ◌+◌, ◌^◌, ◌<◌, Bool, true, false, nat_eq, ◌&&◌, Option, Some, None, List, [], ◌∷◌, length, refl, sym, ap, ◌∙◌, arith, rules, tests}
+use Rattle.std.proofs.Common.{◌≡◌, ℕ, ◌^◌, ◌<◌, Bool, true, false, nat_eq, ◌&&◌, Option, Some, None, List, length, refl, sym, ap, ◌∙◌, arith, rules, tests}
 use Rattle.std.proofs.lemmas.Int.{ints, SFits-int_wrap, int_wrap-add_left, int_wrap-add_right, int_wrap_fits, of_z-to_z, to_z-of_z}
 use Rattle.std.proofs.Math.Facts.{Fits-of_z, sfits_to_z}
 use Rattle.std.specs.Prelude.{ℤ, pos, ◌+ℤ◌, FitsSigned, option_map}
-use Rattle.std.specs.Int.{w128, byte_len, cast_signed, cast_unsigned, from_be_bytes, int_wrap, to_be_bytes}
+use Rattle.std.specs.Int.{w128, cast_signed, cast_unsigned, from_be_bytes, int_wrap, to_be_bytes}
 use Rattle.std.specs.List.{list_all}
 use Rattle.job_reader.specs.Atoms.{number}
 use Rattle.swan_reducers.specs.Lawful.{IsLawful}
