@@ -1,4 +1,4 @@
 pub mod Counting
-mod FewLines
+pub mod FewLines
 pub mod Reading
 pub mod TextLines

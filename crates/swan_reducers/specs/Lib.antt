@@ -1,0 +1,10 @@
+pub mod Lawful
+pub mod Fold
+pub mod Sums
+pub mod Joins
+pub mod Steps
+pub mod Plans
+pub mod Folded
+pub mod SumBytes
+pub mod SumLaws
+pub mod JoinLaws

@@ -1,0 +1,117 @@
+-- The steps of a fold.
+use Rattle.std.specs.Prelude.{ℕ, Option, Some, None, Result, Ok, Err, if◌then◌else◌, List, [], ◌∷◌, map}
+use Rattle.swan_model.specs.declared.body.Answer.{Answer}
+use Rattle.swan_model.specs.declared.body.Ask.{Ask}
+use Rattle.swan_model.specs.declared.body.Ask.TheVariants as ask
+use Rattle.swan_model.specs.declared.body.Child.{Child}
+use Rattle.swan_model.specs.declared.fault.Trouble.{Trouble}
+use Rattle.swan_model.specs.declared.fault.Trouble.TheVariants.{BadNumber}
+use Rattle.swan_model.specs.declared.rights.Mode.TheVariants.{Push, Pop}
+use Rattle.swan_model.specs.declared.value.Value.{Value}
+use Rattle.swan_model.specs.declared.value.Value.TheVariants.{Int, Bytes}
+use Rattle.line_blocks.specs.declared.held_lines.Held.{Held}
+use Rattle.line_blocks.specs.declared.held_lines.Held.TheVariants as held
+use Rattle.line_blocks.specs.declared.queue_reader.QueueReader.TheVariants as reader
+use Rattle.line_blocks.specs.declared.queue_reader.ReaderStep.{ReaderStep}
+use Rattle.line_blocks.specs.declared.queue_reader.ReaderStep.TheVariants as step
+use Rattle.line_blocks.specs.Holding.{held_with}
+use Rattle.line_blocks.specs.LineBlocks.{Lines, bytes_of, later, no_lines}
+use Rattle.line_blocks.specs.Readers.{step_of}
+use Rattle.swan_reducers.specs.declared.body.FoldBody.{FoldBody}
+use Rattle.swan_reducers.specs.declared.local.FoldLocal.{FoldLocal}
+use Rattle.swan_reducers.specs.declared.local.FoldLocal.TheVariants as local
+use Rattle.swan_reducers.specs.declared.reducer.Reducer.{Ghosts}
+use Rattle.swan_reducers.specs.Fold.{fold_of, unless_part}
+
+-- the root's places: the input, the output, and the queue of parts that it makes
+abbrev pub INPUT : ℕ
+INPUT = 0
+
+abbrev pub OUTPUT : ℕ
+OUTPUT = 1
+
+abbrev pub PARTS : ℕ
+PARTS = 2
+
+-- a block task, which may push its part
+abbrev pub block_task : Lines → Child FoldLocal
+block_task block = record { local = local.Lines block; gives = (record { place = PARTS; mode = Push }) ∷ []; fuel = 2 }
+
+-- a block is given to a task
+abbrev pub handed : Held → FoldLocal × Ask FoldLocal
+handed (held.Fewer lines) = (local.Reads (reader.Tested lines), ask.Empty INPUT)
+handed (held.Block block lines) = (local.Reads (reader.Looks lines), ask.Spawn (block_task block))
+
+-- a block task that has pushed its part ends by the fault of its first bad line, where it has one
+abbrev pub told : Option ℕ → FoldLocal × Ask FoldLocal
+told None = (local.Ends, ask.Finish)
+told (Some number) = (local.Ends, ask.Fail BadNumber)
+
+-- the first bad line that is known, or else another
+abbrev pub or_first : Option ℕ → Option ℕ → Option ℕ
+or_first None other = other
+or_first (Some number) other = Some number
+
+-- the end is pushed, or is a fault
+abbrev pub pushed_end : Result (List ℕ) Trouble → Ask FoldLocal
+pushed_end (Ok item) = ask.Push 1 (Bytes item)
+pushed_end (Err trouble) = ask.Fail trouble
+
+module _ {R : Type 0} (G : Ghosts R) where
+  -- the number of the first bad line of a block, the first line of which has this number
+  abbrev pub bad_number : R → ℕ → List (List ℕ) → Option ℕ
+  bad_number reducer number [] = None
+  bad_number reducer number (line ∷ lines) = unless_part (G.part_of reducer line) number (bad_number reducer (later number 1) lines)
+
+  -- a block task pushes the fold of its lines
+  abbrev pub pushes_part : R → Lines → FoldLocal × Ask FoldLocal
+  pushes_part reducer block =
+      (local.Told (bad_number reducer block.number (map bytes_of block.lines)), ask.Push 0 (Bytes (fold_of G reducer (map bytes_of block.lines))))
+
+  -- a record as a part: the zero stands for one that is none
+  abbrev pub as_part : R → List ℕ → List ℕ
+  as_part reducer item = if G.is_part reducer item then item else G.zero_part reducer
+
+  abbrev pub item_part : R → Value → List ℕ
+  item_part reducer (Bytes item) = as_part reducer item
+  item_part reducer (Int number) = G.zero_part reducer
+
+  -- the collector joins what it gets, and pushes the end of that
+  abbrev pub collects : R → ReaderStep (List ℕ) → FoldLocal × Ask FoldLocal
+  collects reducer (step.Tests whole) = (local.Collects (reader.Tested whole), ask.Empty 0)
+  collects reducer (step.Pops whole) = (local.Collects (reader.Popped whole), ask.Pop 0)
+  collects reducer (step.Takes whole item) = (local.Collects (reader.Tested (G.joined reducer (as_part reducer whole) (item_part reducer item))), ask.Empty 0)
+  collects reducer (step.Ends whole) = (local.Ends, pushed_end (G.end_of reducer (as_part reducer whole)))
+
+  -- the collector, which may pop parts and push to the output
+  abbrev pub collector : FoldBody R → Child FoldLocal
+  collector body = record {
+    local = local.Collects (reader.Looks (G.zero_part body.reducer));
+    gives = (record { place = PARTS; mode = Pop }) ∷ (record { place = OUTPUT; mode = Push }) ∷ [];
+    fuel = body.collector_fuel;
+  }
+
+  -- once the input is empty, lines that are held are a last block
+  abbrev pub handed_last : FoldBody R → ℕ → List Value → FoldLocal × Ask FoldLocal
+  handed_last body number [] = (local.Ends, ask.Spawn (collector body))
+  handed_last body number (line ∷ lines) = (local.Gathers, ask.Spawn (block_task (record { number = number; lines = line ∷ lines })))
+
+  abbrev pub reads : FoldBody R → ReaderStep Lines → FoldLocal × Ask FoldLocal
+  reads body (step.Tests lines) = (local.Reads (reader.Tested lines), ask.Empty INPUT)
+  reads body (step.Pops lines) = (local.Reads (reader.Popped lines), ask.Pop INPUT)
+  reads body (step.Takes lines line) = handed (held_with lines line)
+  reads body (step.Ends lines) = handed_last body lines.number lines.lines
+
+  abbrev pub next : FoldBody R → FoldLocal → Answer → ℕ → FoldLocal × Ask FoldLocal
+  next body local.Begins answer fuel = (local.Reads (reader.Looks no_lines), ask.NewQueue)
+  next body (local.Reads at) answer fuel = reads body (step_of at answer)
+  next body local.Gathers answer fuel = (local.Ends, ask.Spawn (collector body))
+  next body (local.Lines block) answer fuel = pushes_part body.reducer block
+  next body (local.Told bad) answer fuel = told bad
+  next body (local.Collects at) answer fuel = collects body.reducer (step_of at answer)
+  next body local.Ends answer fuel = (local.Ends, ask.Finish)
+
+  -- a block task that has pushed its part stands at its first bad line, and each other task at 0
+  abbrev pub place_of : FoldBody R → FoldLocal → ℕ
+  place_of body (local.Told (Some number)) = number
+  place_of body _ = 0

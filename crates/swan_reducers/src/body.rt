@@ -1,0 +1,309 @@
+// The body of a fold.
+ghost use Rattle.std.specs.Prelude.{◌≡◌, true, map, None, IfOk};
+ghost use Rattle.line_blocks.specs.LineBlocks.{bytes_of};
+ghost use Rattle.swan_reducers.specs.Fold.{fold_of, unless_part, with_part};
+ghost use Rattle.swan_reducers.specs.Steps.{as_part, bad_number, block_task, collector, collects, handed, handed_last, item_part, or_first, pushed_end, pushes_part, reads, told};
+
+use crate::{EndAnswer, FoldLocal, LineAnswer, Reducer};
+use line_blocks::{Held, HeldLines, LineBlock, QueueReader, ReaderStep, gives_of};
+use std::alloc::Global;
+use std::marker::{Send, Sync};
+use swan_model::{Answer, Ask, Body, Child, Give, Mode, NoMemory, Record, Trouble, Value};
+
+/// The root's place of the lines, which it pops.
+const INPUT: u32 = 0;
+
+/// The root's place of the end, to which it may push.
+const OUTPUT: u32 = 1;
+
+/// The root's place of the queue of parts, which it makes.
+const PARTS: u32 = 2;
+
+/// The program of a fold by a reducer. Only `fold_plan` makes one.
+#[derive(Drop)]
+pub struct FoldBody<R> {
+    reducer: R,
+    collector_fuel: u64,
+}
+
+/// What a step leaves as the local, and what it asks for.
+type Step = (FoldLocal, Ask<FoldLocal>);
+
+/// What the lines of a block give.
+#[derive(Drop)]
+struct BlockFold {
+    // the join of their parts
+    part: Record,
+    // the number of the first one without a part
+    bad: Option<u64>,
+}
+
+/// A block task: it pushes the part of its lines.
+fn block_task(alloc: Global, block: LineBlock) -> Result<Child<FoldLocal>, NoMemory>
+    ensures { IfOk result (λ child. child ≡ block_task block) }
+{
+    let parts = Give {
+        place: PARTS,
+        mode: Mode::Push,
+    };
+    Ok(Child {
+        local: FoldLocal::Lines(block),
+        gives: gives_of(alloc, &[parts])?,
+        fuel: 2,
+    })
+}
+
+/// What the root does with held lines: it gives a block to a task, or reads on.
+fn handed(alloc: Global, held: Held) -> Result<Step, NoMemory>
+    ensures { IfOk result (λ step. step ≡ handed held) }
+{
+    match held {
+        Held::Fewer(lines) => Ok((
+            FoldLocal::Reads(QueueReader::Tested(lines)),
+            Ask::Empty(INPUT),
+        )),
+        Held::Block(block, lines) => Ok((
+            FoldLocal::Reads(QueueReader::Looks(lines)),
+            Ask::Spawn(block_task(alloc, block)?),
+        )),
+    }
+}
+
+/// What a block task does once it has pushed its part.
+fn told(bad: Option<u64>) -> Step
+    ensures { result ≡ told bad }
+{
+    match bad {
+        Some(_) => (FoldLocal::Ends, Ask::Fail(Trouble::BadNumber)),
+        None => (FoldLocal::Ends, Ask::Finish),
+    }
+}
+
+/// The record of a line, which is empty for a number. `O(1)`.
+fn record_of(alloc: Global, line: Value) -> Result<Record, NoMemory>
+    ensures { IfOk result (λ it. it ≡ bytes_of line) }
+{
+    match line {
+        Value::Bytes(record) => Ok(record),
+        Value::Int(_) => match Record::of(alloc, &[]) {
+            Ok(empty) => Ok(empty),
+            Err(_) => Err(NoMemory),
+        },
+    }
+}
+
+impl<R: Reducer> FoldBody<R> {
+    // The program, whose collector gets this fuel.
+    pub(crate) fn new(reducer: R, collector_fuel: u64) -> FoldBody<R>
+        ensures { result ≡ record { reducer = reducer; collector_fuel = collector_fuel } }
+    {
+        FoldBody {
+            reducer,
+            collector_fuel,
+        }
+    }
+
+    /// The join with the part of one more line, which may be a bad one.
+    fn with_line(
+        &self,
+        alloc: Global,
+        fold: BlockFold,
+        number: u64,
+        line: &Record,
+    ) -> Result<BlockFold, NoMemory>
+        requires { R.is_part self.now.reducer fold.part ≡ true }
+        ensures part { IfOk result (λ next. next.part ≡ with_part R.Reducer self.now.reducer fold.part (R.part_of self.now.reducer line.now)) }
+        ensures is_part { IfOk result (λ next. R.is_part self.now.reducer next.part ≡ true) }
+        ensures bad { IfOk result (λ next. next.bad ≡ or_first fold.bad (unless_part (R.part_of self.now.reducer line.now) number None)) }
+    {
+        match self.reducer.of_line(alloc, line) {
+            Ok(part) => Ok(BlockFold {
+                part: self.reducer.join(alloc, &fold.part, &part)?,
+                bad: fold.bad,
+            }),
+            Err(LineAnswer::BadNumber) => Ok(BlockFold {
+                part: fold.part,
+                bad: fold.bad.or(Some(number)),
+            }),
+            Err(LineAnswer::NoMemory) => Err(NoMemory),
+        }
+    }
+
+    /// The fold of a block's lines, and its first bad line.
+    fn fold_block(&self, alloc: Global, mut block: LineBlock) -> Result<BlockFold, NoMemory>
+        ensures part { IfOk result (λ fold. fold.part ≡ fold_of R.Reducer self.now.reducer (map bytes_of block.lines)) }
+        ensures bad { IfOk result (λ fold. fold.bad ≡ bad_number R.Reducer self.now.reducer block.number (map bytes_of block.lines)) }
+    {
+        let mut fold = BlockFold {
+            part: self.reducer.zero(alloc)?,
+            bad: None,
+        };
+        let mut number = block.number();
+        while let Some(line) = block.take() {
+            fold = self.with_line(alloc, fold, number, &record_of(alloc, line)?)?;
+            number = block.number();
+        }
+        Ok(fold)
+    }
+
+    /// A block task's step: it pushes the fold of its lines.
+    fn pushes_part(&self, alloc: Global, block: LineBlock) -> Result<Step, NoMemory>
+        ensures { IfOk result (λ step. step ≡ pushes_part R.Reducer self.now.reducer block) }
+    {
+        let fold = self.fold_block(alloc, block)?;
+        Ok((
+            FoldLocal::Told(fold.bad),
+            Ask::Push(0, Value::Bytes(fold.part)),
+        ))
+    }
+
+    /// A record as a part: the zero stands for one that is none.
+    fn as_part(&self, alloc: Global, item: Record) -> Result<Record, NoMemory>
+        ensures value { IfOk result (λ part. part ≡ as_part R.Reducer self.now.reducer item) }
+        ensures part { IfOk result (λ part. R.is_part self.now.reducer part ≡ true) }
+    {
+        if self.reducer.is_part(&item) {
+            Ok(item)
+        } else {
+            self.reducer.zero(alloc)
+        }
+    }
+
+    /// An item of the queue of parts as a part.
+    fn item_part(&self, alloc: Global, item: Value) -> Result<Record, NoMemory>
+        ensures value { IfOk result (λ part. part ≡ item_part R.Reducer self.now.reducer item) }
+        ensures part { IfOk result (λ part. R.is_part self.now.reducer part ≡ true) }
+    {
+        match item {
+            Value::Bytes(record) => self.as_part(alloc, record),
+            Value::Int(_) => self.reducer.zero(alloc),
+        }
+    }
+
+    /// What the collector asks for at last: the push of the end, or a fault.
+    fn pushed_end(&self, alloc: Global, whole: Record) -> Result<Ask<FoldLocal>, NoMemory>
+        ensures { IfOk result (λ asked. asked ≡ pushed_end (R.end_of self.now.reducer (as_part R.Reducer self.now.reducer whole))) }
+    {
+        let part = self.as_part(alloc, whole)?;
+        match self.reducer.end(alloc, &part) {
+            Ok(end) => Ok(Ask::Push(1, Value::Bytes(end))),
+            Err(EndAnswer::Trouble(trouble)) => Ok(Ask::Fail(trouble)),
+            Err(EndAnswer::NoMemory) => Err(NoMemory),
+        }
+    }
+
+    /// The join of what the collector has so far with one more item.
+    fn joined(&self, alloc: Global, whole: Record, item: Value) -> Result<Record, NoMemory>
+        ensures { IfOk result (λ part. part ≡ R.joined self.now.reducer (as_part R.Reducer self.now.reducer whole) (item_part R.Reducer self.now.reducer item)) }
+    {
+        let left = self.as_part(alloc, whole)?;
+        let right = self.item_part(alloc, item)?;
+        self.reducer.join(alloc, &left, &right)
+    }
+
+    /// The collector's step: it joins parts, and pushes the end once it has them all.
+    fn collects(&self, alloc: Global, step: ReaderStep<Record>) -> Result<Step, NoMemory>
+        ensures { IfOk result (λ next. next ≡ collects R.Reducer self.now.reducer step) }
+    {
+        match step {
+            ReaderStep::Tests(whole) => Ok((
+                FoldLocal::Collects(QueueReader::Tested(whole)),
+                Ask::Empty(0),
+            )),
+            ReaderStep::Pops(whole) => Ok((
+                FoldLocal::Collects(QueueReader::Popped(whole)),
+                Ask::Pop(0),
+            )),
+            ReaderStep::Takes(whole, item) => Ok((
+                FoldLocal::Collects(QueueReader::Tested(self.joined(alloc, whole, item)?)),
+                Ask::Empty(0),
+            )),
+            ReaderStep::Ends(whole) => Ok((FoldLocal::Ends, self.pushed_end(alloc, whole)?)),
+        }
+    }
+
+    /// The collector: it reads the parts of all blocks, and pushes the end of their join.
+    fn collector(&self, alloc: Global) -> Result<Child<FoldLocal>, NoMemory>
+        ensures { IfOk result (λ child. child ≡ collector R.Reducer self.now) }
+    {
+        let parts = Give {
+            place: PARTS,
+            mode: Mode::Pop,
+        };
+        let output = Give {
+            place: OUTPUT,
+            mode: Mode::Push,
+        };
+        Ok(Child {
+            local: FoldLocal::Collects(QueueReader::Looks(self.reducer.zero(alloc)?)),
+            gives: gives_of(alloc, &[parts, output])?,
+            fuel: self.collector_fuel,
+        })
+    }
+
+    /// What the root does once the input is empty: lines that are held are a last block.
+    fn handed_last(&self, alloc: Global, block: LineBlock) -> Result<Step, NoMemory>
+        ensures { IfOk result (λ step. step ≡ handed_last R.Reducer self.now block.number block.lines) }
+    {
+        if block.is_empty() {
+            return Ok((FoldLocal::Ends, Ask::Spawn(self.collector(alloc)?)));
+        }
+        Ok((FoldLocal::Gathers, Ask::Spawn(block_task(alloc, block)?)))
+    }
+
+    /// The root's step as it reads.
+    fn reads(&self, alloc: Global, step: ReaderStep<HeldLines>) -> Result<Step, NoMemory>
+        ensures { IfOk result (λ next. next ≡ reads R.Reducer self.now step) }
+    {
+        match step {
+            ReaderStep::Tests(lines) => Ok((
+                FoldLocal::Reads(QueueReader::Tested(lines)),
+                Ask::Empty(INPUT),
+            )),
+            ReaderStep::Pops(lines) => Ok((
+                FoldLocal::Reads(QueueReader::Popped(lines)),
+                Ask::Pop(INPUT),
+            )),
+            ReaderStep::Takes(lines, line) => handed(alloc, lines.hold(alloc, line)?),
+            ReaderStep::Ends(lines) => self.handed_last(alloc, lines.into_block()),
+        }
+    }
+}
+
+impl<R: Reducer + Send + Sync> Body for FoldBody<R> {
+    ghost use Rattle.swan_reducers.specs.Steps.{next, place_of};
+
+    type Local = FoldLocal;
+
+    ghost next = { next R.Reducer };
+
+    ghost place_of = { place_of R.Reducer };
+
+    fn advance(
+        &self,
+        alloc: Global,
+        local: FoldLocal,
+        answer: Answer,
+        _fuel: u64,
+    ) -> Result<(FoldLocal, Ask<FoldLocal>), NoMemory> {
+        match local {
+            FoldLocal::Begins => Ok((
+                FoldLocal::Reads(QueueReader::Looks(HeldLines::new(alloc))),
+                Ask::NewQueue,
+            )),
+            FoldLocal::Reads(reader) => self.reads(alloc, reader.step(answer)),
+            FoldLocal::Gathers => Ok((FoldLocal::Ends, Ask::Spawn(self.collector(alloc)?))),
+            FoldLocal::Lines(block) => self.pushes_part(alloc, block),
+            FoldLocal::Told(bad) => Ok(told(bad)),
+            FoldLocal::Collects(reader) => self.collects(alloc, reader.step(answer)),
+            FoldLocal::Ends => Ok((FoldLocal::Ends, Ask::Finish)),
+        }
+    }
+
+    fn place(&self, local: &FoldLocal) -> u64 {
+        match local {
+            FoldLocal::Told(Some(number)) => *number,
+            _ => 0,
+        }
+    }
+}

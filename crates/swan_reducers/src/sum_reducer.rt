@@ -1,0 +1,129 @@
+// The reducer of sums.
+ghost use Rattle.std.specs.Prelude.{◌≡◌, ◌≤◌, ◌+ℤ◌, length, IfOk};
+ghost use Rattle.std.specs.Fmt.{signed_decimal};
+ghost use Rattle.std.specs.Int.{int_wrap, w128};
+ghost use Rattle.swan_reducers.specs.Sums.{is_sum_part, narrowed, sum_of, sum_part};
+
+use crate::{EndAnswer, LineAnswer, Reducer};
+use job_reader::read_number;
+use std::alloc::Global;
+use swan_model::{NoMemory, Record, Trouble};
+
+/// How many bytes a part has.
+const PART_BYTES: usize = 16;
+
+/// Adds the numbers that lines are, as a job writes numbers; any other line is a bad one. The end is the decimal text
+/// of the sum, or Overflow exactly where the sum doesn't fit 64 bits with its sign.
+///
+/// A part is the 16 bytes of a sum of 128 bits, the highest first, so that the sum of all lines of a text is exact,
+/// however far it is from 64 bits on the way. Each call is `O(length)`.
+#[derive(Drop)]
+pub struct SumReducer;
+
+/// Whether bytes are as many as a part has.
+fn is_sum_part(bytes: &[u8]) -> bool
+    ensures { result ≡ is_sum_part bytes.now }
+{
+    bytes.len() == PART_BYTES
+}
+
+/// The sum that a part stands for.
+fn sum_of(part: &[u8]) -> i128
+    requires { length part.now ≡ 16 }
+    ensures { result ≡ sum_of part.now }
+{
+    match <[u8; PART_BYTES]>::try_from(part) {
+        Ok(bytes) => i128::from_be_bytes(bytes),
+        Err(_) => unreachable!(),
+    }
+}
+
+/// A record of so few bytes.
+fn record_of(alloc: Global, bytes: &[u8]) -> Result<Record, NoMemory>
+    requires { length bytes.now ≤ 64 }
+    ensures { IfOk result (λ it. it ≡ bytes.now) }
+{
+    match Record::of(alloc, bytes) {
+        Ok(record) => Ok(record),
+        Err(_) => Err(NoMemory),
+    }
+}
+
+/// The part of a sum.
+fn sum_part(alloc: Global, sum: i128) -> Result<Record, NoMemory>
+    ensures { IfOk result (λ part. part ≡ sum_part sum) }
+{
+    record_of(alloc, &sum.to_be_bytes())
+}
+
+/// The sum of two sums, which wraps at 128 bits.
+fn added(left: i128, right: i128) -> i128
+    ensures { result ≡ int_wrap w128 (left +ℤ right) }
+{
+    left.wrapping_add(right)
+}
+
+/// A sum as a number of 64 bits, where it fits them.
+#[tactic(auto, using(crate::proofs::Narrowing::narrowed_fits, crate::proofs::Narrowing::narrowed_not))]
+fn narrowed(sum: i128) -> Option<i64>
+    ensures { result ≡ narrowed sum }
+{
+    i64::try_from(sum).ok()
+}
+
+/// The decimal text of a number.
+fn decimal(alloc: Global, number: i64) -> Result<Record, NoMemory>
+    ensures { IfOk result (λ it. it ≡ signed_decimal number) }
+{
+    let text = format!(in alloc; "{number}")?;
+    match Record::of(alloc, text.as_bytes()) {
+        Ok(record) => Ok(record),
+        Err(_) => Err(NoMemory),
+    }
+}
+
+impl Reducer for SumReducer {
+    ghost use Rattle.std.specs.Prelude.{pos};
+    ghost use Rattle.swan_reducers.specs.SumLaws.{sums_are_lawful};
+    ghost use Rattle.swan_reducers.specs.Sums.{number_part, sum_end, summed};
+
+    ghost is_part = { λ _. is_sum_part };
+
+    ghost zero_part = { λ _. sum_part (pos 0) };
+
+    ghost part_of = { λ _. number_part };
+
+    ghost joined = { λ _. summed };
+
+    ghost end_of = { λ _. sum_end };
+
+    ghost laws = { λ _. sums_are_lawful };
+
+    fn is_part(&self, record: &Record) -> bool {
+        is_sum_part(record.as_slice())
+    }
+
+    fn zero(&self, alloc: Global) -> Result<Record, NoMemory> {
+        sum_part(alloc, 0)
+    }
+
+    fn of_line(&self, alloc: Global, line: &Record) -> Result<Record, LineAnswer> {
+        match read_number(line.as_slice()) {
+            Some(number) => Ok(sum_part(alloc, i128::from(number))?),
+            None => Err(LineAnswer::BadNumber),
+        }
+    }
+
+    fn join(&self, alloc: Global, left: &Record, right: &Record) -> Result<Record, NoMemory> {
+        let left = sum_of(left.as_slice());
+        let right = sum_of(right.as_slice());
+        sum_part(alloc, added(left, right))
+    }
+
+    fn end(&self, alloc: Global, whole: &Record) -> Result<Record, EndAnswer> {
+        match narrowed(sum_of(whole.as_slice())) {
+            Some(sum) => Ok(decimal(alloc, sum)?),
+            None => Err(EndAnswer::Trouble(Trouble::Overflow)),
+        }
+    }
+}
