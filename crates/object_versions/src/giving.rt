@@ -74,6 +74,7 @@ impl Store {
         ensures shares { OnOk result ((has : Held) → place_at self.new.places.entries gift.child gift.child_place ≡ Some has → has.present ≡ object.now.present) }
     {
         let shared = object.present;
+        // By the clause of `len` there are fewer than 2 ^ 63 places, so the count has room.
         let _few = self.places.len();
         share(&mut self.nodes, shared, 2);
         let read = PlacedObject {
@@ -137,6 +138,7 @@ impl Store {
         ensures keeps { OnOk result ((has : Held) → place_at self.new.places.entries gift.parent gift.parent_place ≡ Some has → has.given ≡ object.now.given) }
         ensures shares { OnOk result ((has : Held) → place_at self.new.places.entries gift.child gift.child_place ≡ Some has → has.present ≡ object.now.present) }
     {
+        // By the clause of `len` there are fewer than 2 ^ 63 places, so the count has room.
         let _few = self.places.len();
         share(&mut self.nodes, object.present, 2);
         let next = make(&mut self.nodes, object.object, State::Owed(gift.child), 2)?;

@@ -1,5 +1,5 @@
 -- What lent ends push and pop, and what they show of it in numbers.
-use Rattle.std.specs.Prelude.{◌≡◌, ◌≢◌, ℕ, ◌+◌, ◌<◌, ◌⊎◌, true, false, Some, slice_get, Bool}
+use Rattle.std.specs.Prelude.{◌≡◌, ◌≢◌, ℕ, ◌+◌, ◌<◌, ◌≤◌, ◌⊎◌, true, false, Some, slice_get, Bool}
 use Rattle.swan_model.specs.declared.origin.Origin.{Origin}
 use Rattle.swan_model.specs.declared.script.Deed.TheVariants as deed
 use Rattle.swan_model.specs.declared.script.Script.{Script}
@@ -51,10 +51,11 @@ pub record EndCounts : Type 0 where
   -- and how many it found at its last look
   pub found : ℕ
 
--- it has looked once, at the same ring
+-- it has looked once, at the same ring, and found no less than before
 pub record HasLooked (before after : EndCounts) : Type 0 where
   pub size : after.size ≡ before.size
   pub looks : after.looks ≡ before.looks + 1
+  pub risen : before.found ≤ after.found
 
 -- A push: the look found that the ring had room.
 pub record HasPushed (before after : EndCounts) : Type 0 where

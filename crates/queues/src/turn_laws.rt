@@ -40,8 +40,8 @@ pub fn turns_stay()
 
 /// The law that turns which are those of a state tell what its frames are. Where no frame keeps another one from starting,
 /// that one has its turn; and who does is active, and comes first in serial order. Who comes first by the turns comes
-/// first by its path, and, of two frames that may use one queue, the other way round. So the answer of `certain` is the
-/// cause of a wait that hyperqueues name, or says that there is none.
+/// first by its path, and, of two frames that may use one queue, the other way round. So `certain` answers whom a wait
+/// would name, or that there is none to wait for; whether the next item is ripe all the same, turns don't tell.
 pub fn turns_tell_who_may_pop()
     ensures start { (state : QueueState) (turns : Frames) (n : ℕ) (frame : ActiveFrame) → IsTree state → AreTurns state turns → active state n ≡ Some frame
         → ((older : ℕ) → ¬ Blocks turns n older) → HasTurn state frame }
