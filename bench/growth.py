@@ -1,4 +1,4 @@
-"""How time and memory grow with inputs, with tasks, with the lines of a job and with its names."""
+"""How time and memory grow with inputs, with texts, with tasks, with the lines of a job and with its names."""
 from itertools import repeat
 
 from common import folder, growth, least, written
@@ -74,6 +74,8 @@ with folder() as here:
     copy = written(here, "copy", [COPY])
     inputs = {times: written(here, f"in{times}", repeat("some text of a line\n", 250_000 * times)) for times in (1, 2, 4)}
     series("elide over n lines", lambda times: ["elide", 10_000_000, copy, inputs[times]])
+    series("index of n lines", lambda times: ["index", 1, inputs[times]])
+    series("convert of n lines", lambda times: ["convert", 1, inputs[times]])
 
     jobs = {times: written(here, f"tasks{times}", [TASKS.format(n=200_000 * times)]) for times in (1, 2, 4)}
     series("elide of n spawned tasks", lambda times: ["elide", 10_000_000, jobs[times]])

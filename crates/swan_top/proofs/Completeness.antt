@@ -1,22 +1,28 @@
 -- What is in order is settled so, and without a count that rises nothing stands in its way.
 use Rattle.std.proofs.Common.{◌≡◌, ℕ, ◌<◌, List, [], ◌∷◌, length, Option, Some, None, Result, Ok, Err, Bool, true, false, refl, sym, ap, subst, arith, ◌∙◌, inl, inr}
 use Rattle.std.specs.Prelude.{◌⊎◌, codes, if◌then◌else◌}
+use Rattle.index_pipeline.specs.Plans.{index_plan}
 use Rattle.job_body.specs.NamesOfJob.{names_of_job}
 use Rattle.job_body.specs.PlanOfJob.{plan_of_job, refusal_of_plan}
 use Rattle.job_body.specs.Standing.{Standing}
 use Rattle.job_body.specs.declared.answer.PlanAnswer.{PlanAnswer}
 use Rattle.job_reader.specs.declared.fault.JobFault.{JobFault}
 use Rattle.job_reader.specs.declared.line.Line.{Line}
+use Rattle.line_blocks.specs.TextRoots.{text_names}
+use Rattle.record_pipeline.specs.Plans.{record_plan}
+use Rattle.swan_model.specs.Lines.{refusal_of}
 use Rattle.swan_model.specs.Texts.{has_fault}
+use Rattle.swan_model.specs.declared.lines.LinesAnswer.{LinesAnswer}
 use Rattle.swan_model.specs.declared.outcome.Outcome.{Outcome}
 use Rattle.swan_model.specs.declared.plan.Plan.{Plan}
 use Rattle.swan_outside.specs.Counts.{Rose}
 use Rattle.swan_outside.specs.Reads.{IsTooLong}
 use Rattle.swan_outside.specs.Told.{Tells}
 use Rattle.swan_outside.specs.declared.files.TheConstants.{FILE_MOST}
-use Rattle.swan_top.specs.Command.{Command, help, version, check, elide, run}
-use Rattle.swan_top.specs.Completeness.{IsTold, AreTold, NothingFailed, RunsInOrder, ChecksInOrder, InOrder, Completes, CompletesWell, EndsWell}
-use Rattle.swan_top.specs.Decision.{Verdict, prints, refuses, Next, reads, settled, next, files_of, unread, unless_unread, accepted, checked, ran, printed, unless_refused, next_of_check, next_of_job, next_of_run}
+use Rattle.swan_top.specs.Command.{Command, help, version, check, elide, run, index, convert}
+use Rattle.swan_top.specs.Completeness.{IsTold, AreTold, NothingFailed, RunsInOrder, ChecksInOrder, TextInOrder, InOrder, Completes, CompletesWell, EndsWell}
+use Rattle.swan_top.specs.Decision.{Verdict, prints, refuses, Next, reads, settled, next, files_of, unread, unless_unread, accepted, checked, ran, printed, unless_refused, unless_unfit, next_of_check, next_of_job, next_of_run, next_of_text}
+use Rattle.swan_top.specs.Elisions.{Elisions}
 use Rattle.swan_top.specs.Headline.{FilesSeen, SinkSeen, Answers, AreRead, IsRead, Ends, FailedToWrite, Follows, ReadRefused, Settles, Wrote, ends_of, usage}
 use Rattle.swan_top.specs.declared.status.Status.{Status}
 use Rattle.swan_top.specs.declared.status.Status.TheVariants as status
@@ -70,6 +76,13 @@ module _ (files : FilesSeen) (well : ¬ Rose files.faults_before files.faults_af
       let same : x ≡ text = told_text (files.content job) text x told is.0 in
       follows.0 ∙ ap (λ t. checked (accepted t)) same ∙ ap checked order.is_accepted ∙ sym order.prints_text
 
+  text_settles : (outcome_over : List ℕ → Outcome) (input text : List ℕ) (read : List (List ℕ)) → IsTold (files.content input) text → TextInOrder outcome_over text verdict → AreRead files.content (input ∷ []) read → Follows files (next_of_text outcome_over input read) verdict' → verdict' ≡ verdict
+  text_settles outcome_over input text [] told order is follows = absurd (not_refused files input text verdict' told well follows)
+  text_settles outcome_over input text (x ∷ xs) told order is follows =
+      let same : x ≡ text = told_text (files.content input) text x told is.0 in
+      follows.0 ∙ ap (λ t. unless_unfit (refusal_of t) (printed text_names (outcome_over t))) same
+      ∙ ap (λ why. unless_unfit why (printed text_names (outcome_over text))) order.none_refused ∙ sym order.prints_outcome
+
   module _ (outcome_of : Plan (List Line) Standing → Outcome) where
     run_settles : (fuel : ℕ) (job text : List ℕ) (names inputs read : List (List ℕ)) → IsTold (files.content job) text → AreTold files.content names inputs → RunsInOrder outcome_of fuel text inputs verdict → AreRead files.content (job ∷ names) read → Follows files (next_of_run outcome_of fuel job names read) verdict' → verdict' ≡ verdict
     run_settles fuel job text names inputs [] told all order is follows = absurd (not_refused files job text verdict' told well follows)
@@ -91,17 +104,24 @@ module _ (files : FilesSeen) (well : ¬ Rose files.faults_before files.faults_af
               absurd (not_refused files u.0 t.0 verdict' t.1 well refused))
         ]
 
-    leads_in_order : (command : Command) (texts : List (List ℕ)) → AreTold files.content (files_of command) texts → InOrder outcome_of command texts verdict → Settles outcome_of files command verdict' → verdict' ≡ verdict
+  module _ (elisions : Elisions) where
+    leads_in_order : (command : Command) (texts : List (List ℕ)) → AreTold files.content (files_of command) texts → InOrder elisions command texts verdict → Settles elisions files command verdict' → verdict' ≡ verdict
     leads_in_order (help) texts told order leads = leads.follows.0 ∙ sym order
     leads_in_order (version) texts told order leads = leads.follows.0 ∙ sym order
     leads_in_order (check job) [] told order leads = absurd order
     leads_in_order (check job) (text ∷ texts) told order leads = check_settles job text leads.texts told.0 order leads.are_read leads.follows
     leads_in_order (elide fuel job names) [] told order leads = absurd order
     leads_in_order (elide fuel job names) (text ∷ inputs) told order leads =
-        run_settles fuel job text names inputs leads.texts told.0 told.1 order leads.are_read leads.follows
+        run_settles elisions.of_job fuel job text names inputs leads.texts told.0 told.1 order leads.are_read leads.follows
     leads_in_order (run workers fuel job names) [] told order leads = absurd order
     leads_in_order (run workers fuel job names) (text ∷ inputs) told order leads =
-        run_settles fuel job text names inputs leads.texts told.0 told.1 order leads.are_read leads.follows
+        run_settles elisions.of_job fuel job text names inputs leads.texts told.0 told.1 order leads.are_read leads.follows
+    leads_in_order (index workers input) [] told order leads = absurd order
+    leads_in_order (index workers input) (text ∷ texts) told order leads =
+        text_settles (λ t. elisions.of_index (index_plan t)) input text leads.texts told.0 order leads.are_read leads.follows
+    leads_in_order (convert workers input) [] told order leads = absurd order
+    leads_in_order (convert workers input) (text ∷ texts) told order leads =
+        text_settles (λ t. elisions.of_conversion (record_plan t)) input text leads.texts told.0 order leads.are_read leads.follows
 
 -- where no count of a sink rose, no write failed
 no_failed_write : (out report : SinkSeen) (verdict : Verdict) → ¬ Rose out.faults_before out.faults_after → ¬ Rose report.faults_before report.faults_after → FailedToWrite out report verdict → ⊥
@@ -109,15 +129,15 @@ no_failed_write out report (prints a b ends) out_well report_well (inl failed) =
 no_failed_write out report (prints a b ends) out_well report_well (inr failed) = report_well failed.1.0
 no_failed_write out report (refuses line ends) out_well report_well failed = report_well failed.1.0
 
-module _ (outcome_of : Plan (List Line) Standing → Outcome) (files : FilesSeen) (out report : SinkSeen) where
-  written : (command : Command) (verdict : Verdict) (ends : Status) → Settles outcome_of files command verdict → (ends ≡ ends_of verdict) × Wrote out report verdict → Completes outcome_of files out report (Some command) ends
+module _ (elisions : Elisions) (files : FilesSeen) (out report : SinkSeen) where
+  written : (command : Command) (verdict : Verdict) (ends : Status) → Settles elisions files command verdict → (ends ≡ ends_of verdict) × Wrote out report verdict → Completes elisions files out report (Some command) ends
   written command verdict ends settles is =
       λ texts verdict' told order well.
       let P : Verdict → Type 0 = λ v. (ends ≡ ends_of v) × Wrote out report v in
-      let same : verdict ≡ verdict' = leads_in_order files well.files_well verdict' verdict outcome_of command texts told order settles in
+      let same : verdict ≡ verdict' = leads_in_order files well.files_well verdict' verdict elisions command texts told order settles in
       inr (subst P same is)
 
-  pub completes : (asked : Option Command) (ends : Status) → Answers outcome_of files out report asked ends → Completes outcome_of files out report asked ends
+  pub completes : (asked : Option Command) (ends : Status) → Answers elisions files out report asked ends → Completes elisions files out report asked ends
   completes None ends is = tt
   completes (Some command) status.NoMemory is = λ texts verdict told order well. inl refl
   completes (Some command) status.WriteFailed is =
@@ -156,14 +176,27 @@ module _ (outcome_of : Plan (List Line) Standing → Outcome) where
   run_ends fuel job names [] v is ends = cc
   run_ends fuel job names (text ∷ inputs) v is ends = job_ends fuel names (accepted text) inputs v is ends
 
-  next_ends : (command : Command) (texts : List (List ℕ)) (v : Verdict) → next outcome_of command texts ≡ settled v → ends_of v ≡ status.ReadFailed → ⊥
+unfit_ends : (why : Option LinesAnswer) (outcome : Outcome) → ends_of (unless_unfit why (printed text_names outcome)) ≡ status.ReadFailed → ⊥
+unfit_ends None outcome is = status_ends (has_fault outcome) is
+unfit_ends (Some why) outcome is = cc
+
+text_ends : (outcome_over : List ℕ → Outcome) (input : List ℕ) (texts : List (List ℕ)) (v : Verdict) → next_of_text outcome_over input texts ≡ settled v → ends_of v ≡ status.ReadFailed → ⊥
+text_ends outcome_over input [] v is ends = cc
+text_ends outcome_over input (text ∷ texts) v is ends =
+    let same : unless_unfit (refusal_of text) (printed text_names (outcome_over text)) ≡ v = cc in
+    unfit_ends (refusal_of text) (outcome_over text) (ap ends_of same ∙ ends)
+
+module _ (elisions : Elisions) where
+  next_ends : (command : Command) (texts : List (List ℕ)) (v : Verdict) → next elisions command texts ≡ settled v → ends_of v ≡ status.ReadFailed → ⊥
   next_ends (help) texts v is ends = cc
   next_ends (version) texts v is ends = cc
   next_ends (check job) [] v is ends = cc
   next_ends (check job) (text ∷ texts) v is ends =
       let same : checked (accepted text) ≡ v = cc in checked_ends (accepted text) (ap ends_of same ∙ ends)
-  next_ends (elide fuel job names) texts v is ends = run_ends fuel job names texts v is ends
-  next_ends (run workers fuel job names) texts v is ends = run_ends fuel job names texts v is ends
+  next_ends (elide fuel job names) texts v is ends = run_ends elisions.of_job fuel job names texts v is ends
+  next_ends (run workers fuel job names) texts v is ends = run_ends elisions.of_job fuel job names texts v is ends
+  next_ends (index workers input) texts v is ends = text_ends (λ t. elisions.of_index (index_plan t)) input texts v is ends
+  next_ends (convert workers input) texts v is ends = text_ends (λ t. elisions.of_conversion (record_plan t)) input texts v is ends
 
   module _ (files : FilesSeen) (out report : SinkSeen) (well : NothingFailed files out report) where
     read_refused : (n : Next) (verdict : Verdict) → ((v : Verdict) → n ≡ settled v → ends_of v ≡ status.ReadFailed → ⊥) → Follows files n verdict → status.ReadFailed ≡ ends_of verdict → Wrote out report verdict → EndsWell files report status.ReadFailed
@@ -173,12 +206,12 @@ module _ (outcome_of : Plan (List Line) Standing → Outcome) where
         let P : Verdict → Type 0 = λ v. Wrote out report v in
         (file, longer.3, (subst P longer.0 wrote).1)
 
-    pub ends_well : (asked : Option Command) (ends : Status) → Answers outcome_of files out report asked ends → EndsWell files report ends
+    pub ends_well : (asked : Option Command) (ends : Status) → Answers elisions files out report asked ends → EndsWell files report ends
     ends_well None status.WriteFailed is = absurd (no_failed_write out report usage well.out_well well.report_well is.0)
     ends_well None status.ReadFailed is = let bad : status.ReadFailed ≡ status.Usage = is.0.0 in absurd (cc)
     ends_well (Some command) status.WriteFailed is = absurd (no_failed_write out report is.0 well.out_well well.report_well is.2)
     ends_well (Some command) status.ReadFailed is =
-        read_refused (next outcome_of command is.1.texts) is.0 (next_ends command is.1.texts) is.1.follows is.2.0 is.2.1
+        read_refused (next elisions command is.1.texts) is.0 (next_ends command is.1.texts) is.1.follows is.2.0 is.2.1
     ends_well asked status.Done is = tt
     ends_well asked status.Faulted is = tt
     ends_well asked status.Usage is = tt
@@ -196,7 +229,7 @@ module _ (outcome_of : Plan (List Line) Standing → Outcome) where
     usage_ends status.NoMemory is = is
     usage_ends status.InputRefused is = is
 
-    pub completes_well : (asked : Option Command) (ends : Status) → Answers outcome_of files out report asked ends → CompletesWell outcome_of files out report asked ends
+    pub completes_well : (asked : Option Command) (ends : Status) → Answers elisions files out report asked ends → CompletesWell elisions files out report asked ends
     completes_well None ends is = usage_ends ends is.0
     completes_well (Some command) ends is =
-        λ texts verdict told order. completes outcome_of files out report (Some command) ends is texts verdict told order well
+        λ texts verdict told order. completes elisions files out report (Some command) ends is texts verdict told order well

@@ -1,12 +1,18 @@
 -- What reading, accepting and running lead to.
-use Rattle.std.proofs.Common.{◌≡◌, ℕ, List, [], ◌∷◌, Option, None, Result, Ok, sym, ap, subst, ◌∙◌}
+use Rattle.std.proofs.Common.{◌≡◌, ℕ, List, [], ◌∷◌, Option, Some, None, Result, Ok, Err, IfErr, inl, inr, sym, ap, subst, ◌∙◌}
+use Rattle.std.specs.Prelude.{◌⊎◌, IfOk}
 use Rattle.job_body.specs.Standing.{Standing}
 use Rattle.job_reader.specs.declared.line.Line.{Line}
+use Rattle.line_blocks.specs.TextRoots.{text_names}
+use Rattle.swan_model.specs.Lines.{refusal_of}
+use Rattle.swan_model.specs.declared.lines.LinesAnswer.{LinesAnswer}
+use Rattle.swan_model.specs.declared.lines.LinesAnswer.TheVariants as answer
+use Rattle.swan_model.specs.declared.outcome.Names.{Names}
 use Rattle.swan_model.specs.declared.outcome.Outcome.{Outcome}
 use Rattle.swan_model.specs.declared.plan.Plan.{Plan}
-use Rattle.swan_top.specs.Decision.{Verdict, accepted, checked, unread, unless_unread, next_of_check, next_of_job, next_of_run, ran}
+use Rattle.swan_top.specs.Decision.{Verdict, accepted, checked, printed, unread, unless_unfit, unless_unread, next_of_check, next_of_job, next_of_run, next_of_text, ran}
 use Rattle.swan_top.specs.Headline.{AreRead, IsRead, FilesSeen, Follows, Leads, NoReadFailed, NoneTooLong, ReadRefused, files_seen}
-use Rattle.swan_top.specs.Settled.{Stops, StopsOver, IsRefused, InputRefused}
+use Rattle.swan_top.specs.Settled.{Ran, Stops, StopsOver, IsRefused, InputRefused}
 use Rattle.swan_top.specs.declared.verdict.Stop.{Stop}
 use Rattle.swan_top.proofs.TextsRead.{Stops-map, ReadRefused-since, Unrefused, unrefused_since}
 
@@ -74,3 +80,31 @@ module _ (files : FilesSeen) (job : List ℕ) where
   pub unread_job : (outcome_of : Plan (List Line) Standing → Outcome) (fuel : ℕ) (names : List (List ℕ)) (why : Stop) → StopsOver files (ReadRefused files job) why → StopsOver files (Leads files (job ∷ names) (next_of_run outcome_of fuel job names)) why
   unread_job outcome_of fuel names = Stops-map (Unrefused files) (Unrefused files) (ReadRefused files job) (Leads files (job ∷ names) (next_of_run outcome_of fuel job names)) (λ kept. kept)
       (λ verdict refused. record { texts = []; are_read = tt; follows = refused })
+
+-- the plan of a text, run or refused
+module _ {B L : Type 0} (outcome_of : Plan B L → Outcome) (plan_of : List ℕ → Plan B L) (text : List ℕ) where
+  abbrev pub settled_text : Verdict
+  settled_text = unless_unfit (refusal_of text) (printed text_names (outcome_of (plan_of text)))
+
+  ran_is : (made : Result (Plan B L) LinesAnswer) (verdict : Verdict) → IfOk made (λ plan. plan ≡ plan_of text) → IfOk made (λ plan. refusal_of text ≡ None)
+      → IfErr made (λ why. (why ≡ answer.NoMemory) ⊎ (refusal_of text ≡ Some why)) → Ran outcome_of text_names made verdict → verdict ≡ settled_text
+  ran_is (Ok plan) verdict is accepted refused ran =
+      ran ∙ ap (λ p. printed text_names (outcome_of p)) is ∙ ap (λ why. unless_unfit why (printed text_names (outcome_of (plan_of text)))) (sym accepted)
+  ran_is (Err why) verdict is accepted (inl memory) ran = absurd (ran.0 memory)
+  ran_is (Err why) verdict is accepted (inr refused) ran =
+      ran.1 ∙ ap (λ w. unless_unfit w (printed text_names (outcome_of (plan_of text)))) (sym refused)
+
+  module _ (seen : List ℕ) (same : seen ≡ text) (files : FilesSeen) (input : List ℕ) (told : IsRead (files.content input) text) (read : NoReadFailed files) (short : NoneTooLong files) where
+    pub ran_text : (made : Result (Plan B L) LinesAnswer) (names : Names) → names ≡ text_names → IfOk made (λ plan. plan ≡ plan_of seen) → IfOk made (λ plan. refusal_of seen ≡ None)
+        → IfErr made (λ why. (why ≡ answer.NoMemory) ⊎ (refusal_of seen ≡ Some why)) → (verdict : Verdict) → Ran outcome_of names made verdict
+        → Leads files (input ∷ []) (next_of_text (λ t. outcome_of (plan_of t)) input) verdict
+    ran_text made names named is accepted refused verdict ran =
+        let P : Names → Type 0 = λ ns. Ran outcome_of ns made verdict in
+        let A : List ℕ → Type 0 = λ t. IfOk made (λ plan. plan ≡ plan_of t) in
+        let B : List ℕ → Type 0 = λ t. IfOk made (λ plan. refusal_of t ≡ None) in
+        let C : List ℕ → Type 0 = λ t. IfErr made (λ why. (why ≡ answer.NoMemory) ⊎ (refusal_of t ≡ Some why)) in
+        record {
+          texts = text ∷ [];
+          are_read = (told, tt);
+          follows = (ran_is made verdict (subst A same is) (subst B same accepted) (subst C same refused) (subst P named ran), read, short);
+        }

@@ -3,8 +3,8 @@ use Rattle.std.proofs.Common.{◌≡◌, ℕ, ◌≤◌, Bool, true, false, cond
 use Rattle.std.specs.Prelude.{◌&&◌, nat_le, ℤ, pos, negsuc}
 use Rattle.std.specs.List.{list_all}
 use Rattle.job_reader.specs.Atoms.{number as job_number}
-use Rattle.swan_top.specs.Command.{Command, number, within, is_file, job_and_inputs, fueled}
-use Rattle.swan_top.specs.declared.command.TheConstants.{FUEL_WORD_MOST}
+use Rattle.swan_top.specs.Command.{Command, number, within, is_file, job_and_inputs, fueled, manned, one_input, over_input, run, with_workers}
+use Rattle.swan_top.specs.declared.command.TheConstants.{FUEL_WORD_MOST, WORKERS_MOST}
 
 chosen : (a b : Bool) (n m : ℕ) → cond (a && b) (Some n) None ≡ Some m → (b ≡ true) × (n ≡ m)
 chosen true true n m is = (refl, cc)
@@ -12,7 +12,7 @@ chosen true false n m is = cc
 chosen false _ n m is = cc
 
 -- a number is in its range
-within_le : (low high : ℕ) (z : Option ℤ) (n : ℕ) → within low high z ≡ Some n → n ≤ high
+pub within_le : (low high : ℕ) (z : Option ℤ) (n : ℕ) → within low high z ≡ Some n → n ≤ high
 within_le low high None n is = cc
 within_le low high (Some (negsuc k)) n is = cc
 within_le low high (Some (pos k)) n is =
@@ -21,8 +21,24 @@ within_le low high (Some (pos k)) n is =
 with_files : (command : ℕ → List ℕ → List (List ℕ) → Command) (fuel : ℕ) (job : List ℕ) (inputs : List (List ℕ)) → is_file job ≡ true → list_all is_file inputs ≡ true → job_and_inputs command (Some fuel) (job ∷ inputs) ≡ Some (command fuel job inputs)
 with_files command fuel job inputs a b = rw (a, b) refl
 
-pub fueled_is : (command : ℕ → List ℕ → List (List ℕ) → Command) (words files : List (List ℕ)) (word job : List ℕ) (inputs : List (List ℕ)) (fuel : ℕ) → words ≡ word ∷ files → number 1 FUEL_WORD_MOST word ≡ Some fuel → files ≡ job ∷ inputs → is_file job ≡ true → list_all is_file inputs ≡ true → (fueled command words ≡ Some (command fuel job inputs)) × (fuel ≤ FUEL_WORD_MOST)
-fueled_is command words files word job inputs fuel split is files_are a b = (
-  ap (fueled command) split ∙ ap (λ n. job_and_inputs command n files) is ∙ ap (job_and_inputs command (Some fuel)) files_are ∙ with_files command fuel job inputs a b,
+pub fueled_is : (words files : List (List ℕ)) (word job : List ℕ) (inputs : List (List ℕ)) (fuel : ℕ) → words ≡ word ∷ files → number 1 FUEL_WORD_MOST word ≡ Some fuel → files ≡ job ∷ inputs → is_file job ≡ true → list_all is_file inputs ≡ true
+    → (fuel ≤ FUEL_WORD_MOST) × ((command : ℕ → List ℕ → List (List ℕ) → Command) → fueled command words ≡ Some (command fuel job inputs))
+fueled_is words files word job inputs fuel split is files_are a b = (
   within_le 1 FUEL_WORD_MOST (job_number word) fuel is,
+  λ command. ap (fueled command) split ∙ ap (λ n. job_and_inputs command n files) is ∙ ap (job_and_inputs command (Some fuel)) files_are ∙ with_files command fuel job inputs a b,
+)
+
+-- the words after WORKERS
+pub workers_are : (words rest : List (List ℕ)) (word : List ℕ) (workers : ℕ) → words ≡ word ∷ rest → number 1 WORKERS_MOST word ≡ Some workers
+    → (manned words ≡ fueled (run workers) rest) × ((command : ℕ → List ℕ → Command) → over_input command words ≡ one_input command (Some workers) rest)
+workers_are words rest word workers split is = (
+  ap manned split ∙ ap (λ n. with_workers n rest) is,
+  λ command. ap (over_input command) split ∙ ap (λ n. one_input command n rest) is,
+)
+
+pub no_workers : (words rest : List (List ℕ)) (word : List ℕ) → words ≡ word ∷ rest → number 1 WORKERS_MOST word ≡ None
+    → (manned words ≡ None) × ((command : ℕ → List ℕ → Command) → over_input command words ≡ None)
+no_workers words rest word split is = (
+  ap manned split ∙ ap (λ n. with_workers n rest) is,
+  λ command. ap (over_input command) split ∙ ap (λ n. one_input command n rest) is,
 )

@@ -13,6 +13,8 @@ pub data Command : Type 0 where
   check : (job : List ℕ) → Command
   elide : (fuel : ℕ) (job : List ℕ) (inputs : List (List ℕ)) → Command
   run : (workers : ℕ) (fuel : ℕ) (job : List ℕ) (inputs : List (List ℕ)) → Command
+  index : (workers : ℕ) (input : List ℕ) → Command
+  convert : (workers : ℕ) (input : List ℕ) → Command
 
 -- the number from low to high that a word is
 abbrev pub within : ℕ → ℕ → Option ℤ → Option ℕ
@@ -55,12 +57,24 @@ abbrev pub manned : List (List ℕ) → Option Command
 manned [] = None
 manned (workers ∷ words) = with_workers (number 1 WORKERS_MOST workers) words
 
+-- INPUT, after workers
+abbrev pub one_input : (ℕ → List ℕ → Command) → Option ℕ → List (List ℕ) → Option Command
+one_input command (Some workers) (input ∷ []) = if is_file input then Some (command workers input) else None
+one_input command _ _ = None
+
+-- WORKERS INPUT
+abbrev pub over_input : (ℕ → List ℕ → Command) → List (List ℕ) → Option Command
+over_input command [] = None
+over_input command (workers ∷ words) = one_input command (number 1 WORKERS_MOST workers) words
+
 abbrev pub command : List (List ℕ) → Option Command
 command [] = None
 command (word ∷ words) =
     if bytes_eq word (codes "check") then job_alone words
     else if bytes_eq word (codes "elide") then fueled elide words
     else if bytes_eq word (codes "run") then manned words
+    else if bytes_eq word (codes "index") then over_input index words
+    else if bytes_eq word (codes "convert") then over_input convert words
     else if bytes_eq word (codes "--help") then alone help words
     else if bytes_eq word (codes "--version") then alone version words
     else None
@@ -72,8 +86,10 @@ asked code.Version = version
 asked (code.Check job) = check job.now
 asked (code.Elide fuel job inputs) = elide fuel job.now inputs.now
 asked (code.Run workers fuel job inputs) = run workers fuel job.now inputs.now
+asked (code.Index workers input) = index workers input.now
+asked (code.Convert workers input) = convert workers input.now
 
--- no command asks for more fuel than words can
+-- no command asks for more than words can
 abbrev pub IsFueled : Command → Type 0
 IsFueled (elide fuel job inputs) = fuel ≤ FUEL_WORD_MOST
 IsFueled (run workers fuel job inputs) = fuel ≤ FUEL_WORD_MOST

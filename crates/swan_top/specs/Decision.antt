@@ -2,8 +2,9 @@
 -- the order of refusals is the order in which this definition asks.
 use Rattle.std.specs.Prelude.{ℕ, if◌then◌else◌, Option, Some, None, Result, Ok, Err, List, [], ◌∷◌, ◌++◌, codes}
 use Rattle.std.specs.Fmt.{decimal}
+use Rattle.index_pipeline.specs.Plans.{index_plan}
 use Rattle.job_body.specs.NamesOfJob.{names_of_job}
-use Rattle.job_body.specs.PlanOfJob.{plan_of_job, refusal_of_plan}
+use Rattle.job_body.specs.PlanOfJob.{of_input, plan_of_job, refusal_of_plan}
 use Rattle.job_body.specs.Standing.{Standing}
 use Rattle.job_body.specs.declared.answer.PlanAnswer.{PlanAnswer}
 use Rattle.job_body.specs.declared.answer.PlanAnswer.TheVariants as plan
@@ -13,12 +14,17 @@ use Rattle.job_reader.specs.declared.fault.JobFault.{JobFault}
 use Rattle.job_reader.specs.declared.fault.JobKind.{JobKind}
 use Rattle.job_reader.specs.declared.fault.JobKind.TheVariants as kind
 use Rattle.job_reader.specs.declared.line.Line.{Line}
+use Rattle.line_blocks.specs.TextRoots.{text_names}
 use Rattle.privilege_check.specs.FirstFault.{first_fault}
+use Rattle.record_pipeline.specs.Plans.{record_plan}
+use Rattle.swan_model.specs.Lines.{refusal_of}
 use Rattle.swan_model.specs.Texts.{out_bytes, report_bytes, has_fault}
+use Rattle.swan_model.specs.declared.lines.LinesAnswer.{LinesAnswer}
 use Rattle.swan_model.specs.declared.outcome.Names.{Names}
 use Rattle.swan_model.specs.declared.outcome.Outcome.{Outcome}
 use Rattle.swan_model.specs.declared.plan.Plan.{Plan}
-use Rattle.swan_top.specs.Command.{Command, help, version, check, elide, run}
+use Rattle.swan_top.specs.Command.{Command, help, version, check, elide, run, index, convert}
+use Rattle.swan_top.specs.Elisions.{Elisions}
 use Rattle.swan_top.specs.declared.help.TheConstants.{HELP, VERSION}
 use Rattle.swan_top.specs.declared.status.Status.{Status}
 use Rattle.swan_top.specs.declared.status.Status.TheVariants as status
@@ -99,6 +105,16 @@ abbrev pub next_of_check : List ℕ → (texts : List (List ℕ)) → Next
 next_of_check job [] = reads job
 next_of_check job (text ∷ texts) = settled (checked (accepted text))
 
+-- A text that a pipeline runs over is refused as an input is, or this is settled.
+abbrev pub unless_unfit : Option LinesAnswer → Verdict → Verdict
+unless_unfit None verdict = verdict
+unless_unfit (Some why) verdict = refuses (input_line (of_input 1 why)) status.InputRefused
+
+-- a pipeline over a file: what is settled once its text was read
+abbrev pub next_of_text : (List ℕ → Outcome) → List ℕ → (texts : List (List ℕ)) → Next
+next_of_text outcome_over input [] = reads input
+next_of_text outcome_over input (text ∷ texts) = settled (unless_unfit (refusal_of text) (printed text_names (outcome_over text)))
+
 -- What the elision of a plan leaves is an argument: `outcome_of`.
 module _ (outcome_of : Plan (List Line) Standing → Outcome) where
   -- the run of an accepted job over all its inputs
@@ -118,12 +134,14 @@ module _ (outcome_of : Plan (List Line) Standing → Outcome) where
   next_of_run fuel job files [] = reads job
   next_of_run fuel job files (text ∷ inputs) = next_of_job fuel files (accepted text) inputs
 
-  abbrev pub next : Command → (texts : List (List ℕ)) → Next
-  next help texts = settled (prints HELP.now [] status.Done)
-  next version texts = settled (prints VERSION.now [] status.Done)
-  next (check job) texts = next_of_check job texts
-  next (elide fuel job inputs) texts = next_of_run fuel job inputs texts
-  next (run workers fuel job inputs) texts = next_of_run fuel job inputs texts
+abbrev pub next : Elisions → Command → (texts : List (List ℕ)) → Next
+next elisions help texts = settled (prints HELP.now [] status.Done)
+next elisions version texts = settled (prints VERSION.now [] status.Done)
+next elisions (check job) texts = next_of_check job texts
+next elisions (elide fuel job inputs) texts = next_of_run elisions.of_job fuel job inputs texts
+next elisions (run workers fuel job inputs) texts = next_of_run elisions.of_job fuel job inputs texts
+next elisions (index workers input) texts = next_of_text (λ text. elisions.of_index (index_plan text)) input texts
+next elisions (convert workers input) texts = next_of_text (λ text. elisions.of_conversion (record_plan text)) input texts
 
 -- the files of a command, in the order in which they are read
 abbrev pub files_of : Command → List (List ℕ)
@@ -132,3 +150,5 @@ files_of version = []
 files_of (check job) = job ∷ []
 files_of (elide fuel job inputs) = job ∷ inputs
 files_of (run workers fuel job inputs) = job ∷ inputs
+files_of (index workers input) = input ∷ []
+files_of (convert workers input) = input ∷ []

@@ -1,9 +1,11 @@
 -- What the code's own functions on words answer.
-use Rattle.std.specs.Prelude.{◌≡◌, ℕ, true, false, ◌&&◌, Option, Some, None, Result, Ok, Err, List, [], ◌∷◌}
+use Rattle.std.specs.Prelude.{◌≡◌, ℕ, ◌≤◌, true, false, ◌&&◌, Option, Some, None, Result, Ok, Err, List, [], ◌∷◌}
 use Rattle.std.specs.List.{list_all}
 use Rattle.std.specs.Borrow.{Bor}
-use Rattle.swan_top.specs.Command.{Command, asked, is_file, IsFueled}
+use Rattle.swan_top.specs.Command.{Command, asked, fueled, is_file, manned, one_input, over_input, run, IsFueled}
 use Rattle.swan_top.specs.declared.command.Command.{Command as Asked}
+use Rattle.swan_top.specs.declared.command.JobWords.{JobWords}
+use Rattle.swan_top.specs.declared.command.TheConstants.{FUEL_WORD_MOST}
 use Rattle.swan_top.specs.declared.command.Usage.{Usage}
 
 -- what the words are was answered
@@ -16,3 +18,18 @@ abbrev pub FilesOf : Option (Bor (List ℕ) × Bor (List (List ℕ))) → List (
 FilesOf (Some (job, inputs)) words = (words ≡ job.now ∷ inputs.now) × (is_file job.now ≡ true) × (list_all is_file inputs.now ≡ true)
 FilesOf None [] = Unit {0}
 FilesOf None (job ∷ inputs) = (is_file job && list_all is_file inputs) ≡ false
+
+-- FUEL JOB INPUT*, whatever command they are for
+abbrev pub JobOf : Option JobWords → List (List ℕ) → Type 0
+JobOf (Some given) words = (given.fuel ≤ FUEL_WORD_MOST) × ((command : ℕ → List ℕ → List (List ℕ) → Command) → fueled command words ≡ Some (command given.fuel given.job.now given.inputs.now))
+JobOf None words = (command : ℕ → List ℕ → List (List ℕ) → Command) → fueled command words ≡ None
+
+-- WORKERS, and the words after it, whatever they are for
+abbrev pub WorkersOf : Option (ℕ × Bor (List (List ℕ))) → List (List ℕ) → Type 0
+WorkersOf (Some (workers, rest)) words = (manned words ≡ fueled (run workers) rest.now) × ((command : ℕ → List ℕ → Command) → over_input command words ≡ one_input command (Some workers) rest.now)
+WorkersOf None words = (manned words ≡ None) × ((command : ℕ → List ℕ → Command) → over_input command words ≡ None)
+
+-- WORKERS INPUT, whatever command they are for
+abbrev pub InputOf : Option (ℕ × Bor (List ℕ)) → List (List ℕ) → Type 0
+InputOf (Some (workers, input)) words = (command : ℕ → List ℕ → Command) → over_input command words ≡ Some (command workers input.now)
+InputOf None words = (command : ℕ → List ℕ → Command) → over_input command words ≡ None

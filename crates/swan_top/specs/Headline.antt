@@ -1,15 +1,12 @@
 -- The headline: what a call answers, and what is then in the sinks.
 use Rattle.std.specs.Prelude.{◌≡◌, ℕ, ◌≤◌, ◌⊎◌, length, Option, Some, None, List, [], ◌∷◌, codes}
-use Rattle.job_body.specs.Standing.{Standing}
-use Rattle.job_reader.specs.declared.line.Line.{Line}
-use Rattle.swan_model.specs.declared.outcome.Outcome.{Outcome}
-use Rattle.swan_model.specs.declared.plan.Plan.{Plan}
 use Rattle.swan_outside.specs.Counts.{Rose}
 use Rattle.swan_outside.specs.Reads.{IsTooLong}
 use Rattle.swan_outside.specs.Told.{Appends, AppendsFront, Tells}
 use Rattle.swan_outside.specs.declared.files.TheConstants.{FILE_MOST}
 use Rattle.swan_top.specs.Command.{Command}
 use Rattle.swan_top.specs.Decision.{Verdict, prints, refuses, Next, reads, settled, next, files_of}
+use Rattle.swan_top.specs.Elisions.{Elisions}
 use Rattle.swan_top.specs.Refusals.{file_line}
 use Rattle.swan_top.specs.declared.status.Status.{Status}
 use Rattle.swan_top.specs.declared.status.Status.TheVariants as status
@@ -107,8 +104,8 @@ pub record Leads (files : FilesSeen) (names : List (List ℕ)) (next_of : List (
   pub follows : Follows files (next_of texts) verdict
 
 -- the verdict is what comes of a command
-abbrev pub Settles : (Plan (List Line) Standing → Outcome) → FilesSeen → Command → Verdict → Type 0
-Settles outcome_of files command = Leads files (files_of command) (next outcome_of command)
+abbrev pub Settles : Elisions → FilesSeen → Command → Verdict → Type 0
+Settles elisions files command = Leads files (files_of command) (next elisions command)
 
 -- What a call answers. Words that are no command are refused without memory, and no read was refused. Else the
 -- call ends as the verdict says that its command leads to; or memory ran out, where no read was refused, and
@@ -116,8 +113,8 @@ Settles outcome_of files command = Leads files (files_of command) (next outcome_
 abbrev pub usage : Verdict
 usage = refuses (codes "usage\n") status.Usage
 
-abbrev pub Answers : (Plan (List Line) Standing → Outcome) → FilesSeen → (out report : SinkSeen) → Option Command → Status → Type 0
-Answers outcome_of files out report None ends = Ends out report usage ends × NoReadFailed files × NoneTooLong files
-Answers outcome_of files out report (Some command) status.NoMemory = WroteNothing out report × NoReadFailed files × NoneTooLong files
-Answers outcome_of files out report (Some command) ends =
-    (verdict : Verdict) × Settles outcome_of files command verdict × Ends out report verdict ends
+abbrev pub Answers : Elisions → FilesSeen → (out report : SinkSeen) → Option Command → Status → Type 0
+Answers elisions files out report None ends = Ends out report usage ends × NoReadFailed files × NoneTooLong files
+Answers elisions files out report (Some command) status.NoMemory = WroteNothing out report × NoReadFailed files × NoneTooLong files
+Answers elisions files out report (Some command) ends =
+    (verdict : Verdict) × Settles elisions files command verdict × Ends out report verdict ends

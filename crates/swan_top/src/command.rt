@@ -1,7 +1,7 @@
 // The command that words are.
 ghost use Rattle.std.specs.Prelude.{◌≡◌, ◌^◌, ◌<◌, bytes_eq, IfOk, OnErr, Some, None};
-ghost use Rattle.swan_top.specs.Command.{command, number, is_file, alone, asked, job_alone, fueled, manned, elide, run, IsFueled};
-ghost use Rattle.swan_top.specs.Forms.{Reads, FilesOf};
+ghost use Rattle.swan_top.specs.Command.{command, number, is_file, alone, asked, job_alone, fueled, manned, over_input, elide, run, index, convert, IsFueled};
+ghost use Rattle.swan_top.specs.Forms.{Reads, FilesOf, JobOf, WorkersOf, InputOf};
 ghost use Rattle.std.specs.List.{list_all};
 
 use job_reader::read_number;
@@ -44,6 +44,20 @@ pub enum Command<'a> {
         job: &'a Word,
         /// The files of its inputs, in order.
         inputs: &'a [Word],
+    },
+    /// Write the index of a text.
+    Index {
+        /// How many workers make it.
+        workers: u32,
+        /// The text's file.
+        input: &'a Word,
+    },
+    /// Convert the lines of a text to netstrings.
+    Convert {
+        /// How many workers convert them.
+        workers: u32,
+        /// The text's file.
+        input: &'a Word,
     },
 }
 
@@ -117,46 +131,97 @@ fn job_and_inputs(words: &[Word]) -> Option<(&Word, &[Word])>
     }
 }
 
+// FUEL JOB INPUT*, as words give them.
+#[derive(Clone, Copy)]
+struct JobWords<'a> {
+    fuel: u64,
+    job: &'a Word,
+    inputs: &'a [Word],
+}
+
 // FUEL JOB INPUT*.
-fn elide_command(words: &[Word]) -> Result<Command<'_>, Usage>
-    ensures { Reads (fueled elide words.now) result }
+fn fueled(words: &[Word]) -> Option<JobWords<'_>>
+    ensures { JobOf result words.now }
 {
     let Some((fuel, files)) = words.split_first() else {
-        return Err(Usage);
+        return None;
     };
     match (number(1, FUEL_WORD_MOST, fuel), job_and_inputs(files)) {
-        (Some(fuel), Some((job, inputs))) => Ok(Command::Elide { fuel, job, inputs }),
-        _ => Err(Usage),
+        (Some(fuel), Some((job, inputs))) => Some(JobWords { fuel, job, inputs }),
+        _ => None,
     }
 }
 
-// FUEL JOB INPUT*, after so many workers.
-fn run_command(workers: u32, words: &[Word]) -> Result<Command<'_>, Usage>
-    ensures { Reads (fueled (run workers) words.now) result }
+// FUEL JOB INPUT*, for the elision.
+fn elide_command(words: &[Word]) -> Result<Command<'_>, Usage>
+    ensures { Reads (fueled elide words.now) result }
 {
-    let Some((fuel, files)) = words.split_first() else {
+    match fueled(words) {
+        Some(JobWords { fuel, job, inputs }) => Ok(Command::Elide { fuel, job, inputs }),
+        None => Err(Usage),
+    }
+}
+
+// WORKERS, and the words after it.
+fn manned(words: &[Word]) -> Option<(u32, &[Word])>
+    ensures { WorkersOf result words.now }
+{
+    let Some((workers, words)) = words.split_first() else {
+        return None;
+    };
+    match number(1, WORKERS_MOST, workers) {
+        Some(workers) => Some((workers as u32, words)),
+        None => None,
+    }
+}
+
+// WORKERS FUEL JOB INPUT*.
+fn run_command(words: &[Word]) -> Result<Command<'_>, Usage>
+    ensures { Reads (manned words.now) result }
+{
+    let Some((workers, words)) = manned(words) else {
         return Err(Usage);
     };
-    match (number(1, FUEL_WORD_MOST, fuel), job_and_inputs(files)) {
-        (Some(fuel), Some((job, inputs))) => Ok(Command::Run {
+    match fueled(words) {
+        Some(JobWords { fuel, job, inputs }) => Ok(Command::Run {
             workers,
             fuel,
             job,
             inputs,
         }),
-        _ => Err(Usage),
+        None => Err(Usage),
     }
 }
 
-// WORKERS FUEL JOB INPUT*.
-fn manned(words: &[Word]) -> Result<Command<'_>, Usage>
-    ensures { Reads (manned words.now) result }
+// WORKERS INPUT.
+fn over_input(words: &[Word]) -> Option<(u32, &Word)>
+    ensures { InputOf result words.now }
 {
-    let Some((workers, words)) = words.split_first() else {
-        return Err(Usage);
+    let Some((workers, words)) = manned(words) else {
+        return None;
     };
-    match number(1, WORKERS_MOST, workers) {
-        Some(workers) => run_command(workers as u32, words),
+    match words {
+        [input] if is_file(input) => Some((workers, input)),
+        _ => None,
+    }
+}
+
+// WORKERS INPUT, for the index.
+fn index_command(words: &[Word]) -> Result<Command<'_>, Usage>
+    ensures { Reads (over_input index words.now) result }
+{
+    match over_input(words) {
+        Some((workers, input)) => Ok(Command::Index { workers, input }),
+        None => Err(Usage),
+    }
+}
+
+// WORKERS INPUT, for the conversion.
+fn convert_command(words: &[Word]) -> Result<Command<'_>, Usage>
+    ensures { Reads (over_input convert words.now) result }
+{
+    match over_input(words) {
+        Some((workers, input)) => Ok(Command::Convert { workers, input }),
         None => Err(Usage),
     }
 }
@@ -176,7 +241,11 @@ pub fn read_words(words: &[Word]) -> Result<Command<'_>, Usage>
     } else if is_word(word, "elide") {
         elide_command(words)
     } else if is_word(word, "run") {
-        manned(words)
+        run_command(words)
+    } else if is_word(word, "index") {
+        index_command(words)
+    } else if is_word(word, "convert") {
+        convert_command(words)
     } else if is_word(word, "--help") {
         alone(Command::Help, words)
     } else if is_word(word, "--version") {

@@ -13,13 +13,18 @@ elision of the job writes, in which each spawn is an ordinary call.
   swan elide FUEL JOB INPUT*
       runs the job's serial elision, with FUEL units of fuel
   swan run WORKERS FUEL JOB INPUT*
-      runs the job with WORKERS workers, which is 1 in this version, and FUEL units of fuel
+      runs the job with WORKERS workers and FUEL units of fuel
+  swan index WORKERS INPUT
+      writes the index of a text: each word with the number of each line on which it stands
+  swan convert WORKERS INPUT
+      writes the fields of each line, which TAB bytes part, as netstrings
   swan --help
       writes this text
   swan --version
       writes the version
 
-FUEL is 1 to 10000000. Numbers have no sign and no leading zero. JOB and each INPUT name a file.
+FUEL is 1 to 10000000, and WORKERS is 1 in this version. Numbers have no sign and no leading zero.
+JOB and each INPUT name a file.
 The items that are left in the job's outputs go to standard output. A report goes to standard error:
 the job's objects, how many items are left in its inputs, and the faults.
 

@@ -1,13 +1,15 @@
 // A law over files and sinks that never fail.
 ghost use Rattle.std.specs.Prelude.{Option};
-ghost use Rattle.swan_model.specs.Elision.{outcome};
 ghost use Rattle.swan_outside.specs.Honest.{HonestFilesState, HonestSinkState};
 ghost use Rattle.swan_top.specs.Command.{Command};
 ghost use Rattle.swan_top.specs.Completeness.{CompletesWell, EndsWell, NothingFailed};
+ghost use Rattle.swan_top.specs.Elisions.{elisions};
 ghost use Rattle.swan_top.specs.Headline.{Answers, files_seen, seen_of};
 ghost use Rattle.swan_top.specs.declared.status.Status.{Status};
 
+use index_pipeline::IndexBody;
 use job_body::JobBody;
+use record_pipeline::RecordBody;
 use swan_model::Body;
 use swan_outside::{Files, HonestFiles, HonestSink, Sink};
 
@@ -29,7 +31,7 @@ pub fn honest_calls_end_well()
         let F = ⟦<HonestFiles as Files>⟧ in let S = ⟦<HonestSink as Sink>⟧ in
         let seen = files_seen (F.content files) (F.faults files) (F.faults files') (F.long_reads files) (F.long_reads files') in
         let written = seen_of (S.written report) (S.written report') (S.faults report) (S.faults report') in
-        Answers (outcome ⟦<JobBody as Body>⟧) seen
+        Answers (elisions ⟦<JobBody as Body>⟧ ⟦<IndexBody as Body>⟧ ⟦<RecordBody as Body>⟧) seen
         (seen_of (S.written out) (S.written out') (S.faults out) (S.faults out')) written asked ends
         → EndsWell seen written ends }
     ensures completes { (files files' : HonestFilesState) (out out' report report' : HonestSinkState)
@@ -38,6 +40,6 @@ pub fn honest_calls_end_well()
         let seen = files_seen (F.content files) (F.faults files) (F.faults files') (F.long_reads files) (F.long_reads files') in
         let printed = seen_of (S.written out) (S.written out') (S.faults out) (S.faults out') in
         let written = seen_of (S.written report) (S.written report') (S.faults report) (S.faults report') in
-        Answers (outcome ⟦<JobBody as Body>⟧) seen printed written asked ends
-        → CompletesWell (outcome ⟦<JobBody as Body>⟧) seen printed written asked ends }
+        Answers (elisions ⟦<JobBody as Body>⟧ ⟦<IndexBody as Body>⟧ ⟦<RecordBody as Body>⟧) seen printed written asked ends
+        → CompletesWell (elisions ⟦<JobBody as Body>⟧ ⟦<IndexBody as Body>⟧ ⟦<RecordBody as Body>⟧) seen printed written asked ends }
 {}

@@ -1,9 +1,11 @@
-// Running an accepted job.
+// Running plans.
 ghost use Rattle.std.specs.Prelude.{◌≡◌, ◌≤◌, IfOk, IfErr};
+ghost use Rattle.job_body.specs.NamesOfJob.{IsNaming};
+ghost use Rattle.job_body.specs.PlanOfJob.{of_input};
 ghost use Rattle.swan_model.specs.Elision.{outcome};
-ghost use Rattle.swan_top.specs.Decision.{input_line, ran, refuses, status_of};
+ghost use Rattle.swan_top.specs.Decision.{input_line, printed, ran, refuses, status_of};
 ghost use Rattle.swan_top.specs.declared.status.Status.TheVariants as status;
-ghost use Rattle.swan_top.specs.Settled.{Is, Stops};
+ghost use Rattle.swan_top.specs.Settled.{Is, Ran, Stops};
 ghost use Rattle.swan_model.specs.declared.plan.TheConstants.{FUEL_MOST};
 ghost use Rattle.job_body.specs.declared.answer.PlanAnswer.TheVariants as plan;
 
@@ -13,7 +15,7 @@ use job_body::{JobBody, PlanAnswer, names_of, plan_of};
 use privilege_check::CheckedJob;
 use serial_elision::{Printed, elide, print};
 use std::alloc::{AllocError, Global};
-use swan_model::{Blob, Body, Outcome};
+use swan_model::{Blob, Body, LinesAnswer, Names, NoMemory, Outcome, Plan};
 
 // The line of a refusal of inputs.
 fn input_line(alloc: Global, why: PlanAnswer) -> Result<Blob, AllocError>
@@ -41,6 +43,45 @@ fn status_of(outcome: &Outcome) -> Status
     }
 }
 
+// Runs a plan, and settles its two texts. This is the one way in which a command runs anything.
+fn run_plan<B: Body>(alloc: Global, plan: Plan<B>, names: &Names) -> Result<Settled, NoMemory>
+    requires { IsNaming names.now plan.roots }
+    ensures { IfOk result (Is (λ verdict. verdict ≡ printed names.now (outcome B.Body plan))) }
+{
+    let outcome = elide(alloc, plan)?;
+    let Printed { out, report } = print(alloc, names, &outcome)?;
+    let ends = status_of(&outcome);
+    Ok(Settled::Prints { out, report, ends })
+}
+
+// Why a text that is the one input is refused.
+fn unfit(why: LinesAnswer) -> PlanAnswer
+    ensures { result ≡ of_input 1 why }
+{
+    match why {
+        LinesAnswer::TooLong { line } => PlanAnswer::RecordTooLong { input: 1, line },
+        LinesAnswer::TooMany => PlanAnswer::TooManyRecords { input: 1 },
+        LinesAnswer::NoMemory => PlanAnswer::NoMemory,
+    }
+}
+
+// Runs the plan of a text, or refuses the text as an input.
+pub(crate) fn run_text<B: Body>(
+    alloc: Global,
+    plan: Result<Plan<B>, LinesAnswer>,
+    names: &Names,
+) -> Result<Settled, Stop>
+    requires { IfOk plan (λ plan'. IsNaming names.now plan'.roots) }
+    ensures ran { IfOk result (Is (Ran (outcome B.Body) names.now plan)) }
+    ensures refused { IfErr result (Stops (Ran (outcome B.Body) names.now plan)) }
+{
+    match plan {
+        Ok(plan) => Ok(run_plan(alloc, plan, names)?),
+        Err(LinesAnswer::NoMemory) => Err(Stop::NoMemory),
+        Err(why) => Err(refuse_inputs(alloc, unfit(why))),
+    }
+}
+
 // Runs an accepted job over its inputs.
 pub(crate) fn run_job(
     alloc: Global,
@@ -58,10 +99,7 @@ pub(crate) fn run_job(
         Err(PlanAnswer::NoMemory) => return Err(Stop::NoMemory),
         Err(why) => return Err(refuse_inputs(alloc, why)),
     };
-    let outcome = elide(alloc, plan)?;
-    let Printed { out, report } = print(alloc, &names, &outcome)?;
-    let ends = status_of(&outcome);
-    Ok(Settled::Prints { out, report, ends })
+    Ok(run_plan(alloc, plan, &names)?)
 }
 
 // A refusal of inputs.

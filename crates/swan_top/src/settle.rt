@@ -1,9 +1,12 @@
 // What a command leads to.
 ghost use Rattle.std.specs.Prelude.{◌≡◌, ◌≤◌, ◌∷◌, [], IfOk, IfErr, Ok, Some};
+ghost use Rattle.index_pipeline.specs.Plans.{index_plan};
+ghost use Rattle.record_pipeline.specs.Plans.{record_plan};
 ghost use Rattle.swan_model.specs.Elision.{outcome};
 ghost use Rattle.swan_model.specs.declared.plan.TheConstants.{FUEL_MOST};
 ghost use Rattle.swan_top.specs.Command.{asked, IsFueled};
-ghost use Rattle.swan_top.specs.Decision.{checked, next_of_check, next_of_run, prints};
+ghost use Rattle.swan_top.specs.Decision.{checked, next_of_check, next_of_run, next_of_text, prints};
+ghost use Rattle.swan_top.specs.Elisions.{elisions};
 ghost use Rattle.swan_top.specs.Headline.{Leads, Settles, files_seen};
 ghost use Rattle.swan_top.specs.Settled.{Is, Stops, StopsOver, verdict_of};
 ghost use Rattle.swan_top.specs.declared.status.Status.TheVariants as status;
@@ -11,12 +14,14 @@ ghost use Rattle.swan_top.specs.declared.status.Status.TheVariants as status;
 use crate::accept::accept;
 use crate::inputs::read_inputs;
 use crate::read::read_file;
-use crate::run::run_job;
+use crate::run::{run_job, run_text};
 use crate::verdict::{Settled, Stop};
 use crate::{Command, HELP, Status, VERSION};
+use index_pipeline::{IndexBody, index_names, index_plan};
 use job_body::JobBody;
 use job_reader::write_job;
 use privilege_check::CheckedJob;
+use record_pipeline::{RecordBody, record_names, record_plan};
 use std::alloc::{AllocError, Global};
 use swan_model::{Blob, Body, Word};
 use swan_outside::Files;
@@ -81,6 +86,40 @@ fn settle_run<F: Files>(
     run_job(alloc, fuel, job, inputs)
 }
 
+// What the index of a file leads to.
+fn settle_index<F: Files>(alloc: Global, files: &mut F, input: &Word) -> Result<Settled, Stop>
+    ensures ok { IfOk result (Is (Leads (files_seen (F.content files.old)
+        (F.faults files.old) (F.faults files.new) (F.long_reads files.old) (F.long_reads files.new))
+        (input.now ∷ []) (next_of_text (λ text. outcome ⟦<IndexBody as Body>⟧ (index_plan text)) input.now))) }
+    ensures err { let seen = files_seen (F.content files.old) (F.faults files.old) (F.faults files.new)
+        (F.long_reads files.old) (F.long_reads files.new) in
+        IfErr result (StopsOver seen (Leads seen (input.now ∷ [])
+        (next_of_text (λ text. outcome ⟦<IndexBody as Body>⟧ (index_plan text)) input.now))) }
+{
+    let text = read_file(alloc, files, input)?;
+    let names = index_names(alloc)?;
+    let plan = index_plan(alloc, text.as_slice());
+    drop(text);
+    run_text(alloc, plan, &names)
+}
+
+// What the conversion of a file leads to.
+fn settle_convert<F: Files>(alloc: Global, files: &mut F, input: &Word) -> Result<Settled, Stop>
+    ensures ok { IfOk result (Is (Leads (files_seen (F.content files.old)
+        (F.faults files.old) (F.faults files.new) (F.long_reads files.old) (F.long_reads files.new))
+        (input.now ∷ []) (next_of_text (λ text. outcome ⟦<RecordBody as Body>⟧ (record_plan text)) input.now))) }
+    ensures err { let seen = files_seen (F.content files.old) (F.faults files.old) (F.faults files.new)
+        (F.long_reads files.old) (F.long_reads files.new) in
+        IfErr result (StopsOver seen (Leads seen (input.now ∷ [])
+        (next_of_text (λ text. outcome ⟦<RecordBody as Body>⟧ (record_plan text)) input.now))) }
+{
+    let text = read_file(alloc, files, input)?;
+    let names = record_names(alloc)?;
+    let plan = record_plan(alloc, text.as_slice());
+    drop(text);
+    run_text(alloc, plan, &names)
+}
+
 // What a command leads to.
 pub(crate) fn settle<F: Files>(
     alloc: Global,
@@ -88,11 +127,11 @@ pub(crate) fn settle<F: Files>(
     command: Command<'_>,
 ) -> Result<Settled, Stop>
     requires { IsFueled (asked command) }
-    ensures ok { IfOk result (Is (Settles (outcome ⟦<JobBody as Body>⟧) (files_seen (F.content files.old)
+    ensures ok { IfOk result (Is (Settles (elisions ⟦<JobBody as Body>⟧ ⟦<IndexBody as Body>⟧ ⟦<RecordBody as Body>⟧) (files_seen (F.content files.old)
         (F.faults files.old) (F.faults files.new) (F.long_reads files.old) (F.long_reads files.new)) (asked command.entry))) }
     ensures err { let seen = files_seen (F.content files.old) (F.faults files.old) (F.faults files.new)
         (F.long_reads files.old) (F.long_reads files.new) in
-        IfErr result (StopsOver seen (Settles (outcome ⟦<JobBody as Body>⟧) seen (asked command.entry))) }
+        IfErr result (StopsOver seen (Settles (elisions ⟦<JobBody as Body>⟧ ⟦<IndexBody as Body>⟧ ⟦<RecordBody as Body>⟧) seen (asked command.entry))) }
 {
     match command {
         Command::Help => Ok(settle_text(alloc, HELP)?),
@@ -105,5 +144,7 @@ pub(crate) fn settle<F: Files>(
             inputs,
             ..
         } => settle_run(alloc, files, fuel, job, inputs),
+        Command::Index { input, .. } => settle_index(alloc, files, input),
+        Command::Convert { input, .. } => settle_convert(alloc, files, input),
     }
 }

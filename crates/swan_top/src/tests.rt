@@ -9,6 +9,7 @@ use swan_outside::{FileBlob, MemoryFiles, MemorySink};
 mod honest;
 mod jobs;
 mod limits;
+mod pipelines;
 mod rows;
 mod scripts;
 

@@ -1,15 +1,18 @@
 // The top call.
 ghost use Rattle.std.specs.Prelude.{◌≡◌};
-ghost use Rattle.swan_model.specs.Elision.{outcome};
 ghost use Rattle.swan_top.specs.Command.{command};
 ghost use Rattle.swan_top.specs.Completeness.{Completes};
+ghost use Rattle.swan_top.specs.Elisions.{elisions};
 ghost use Rattle.swan_top.specs.Headline.{Answers, files_seen, seen_of};
+ghost use Rattle.swan_top.specs.Pipelines.{WroteOfText};
 
 use crate::settle::settle;
 use crate::verdict::Stop;
 use crate::write::{write_line, write_settled};
 use crate::{Status, Usage, read_words};
+use index_pipeline::{IndexBody, the_outcome_is_the_index};
 use job_body::JobBody;
+use record_pipeline::{RecordBody, the_outcome_is_the_conversion};
 use std::alloc::Global;
 use swan_model::{Body, Word};
 use swan_outside::{Files, Sink};
@@ -27,6 +30,10 @@ use swan_outside::{Files, Sink};
 /// refused, for which a count of `files` rose. WriteFailed comes only where a sink's count of faults rose,
 /// and leaves in that sink a front of its text; where that was `out`, nothing was written to `report`.
 ///
+/// For an index and a conversion the order is: the words (Usage), the read of the text (ReadFailed), its lines
+/// (InputRefused), the run, the writes. An index that is Done has written the index of the text that was read, and is
+/// never Faulted; a conversion has written its conversion, and the faults of the lines that are left out.
+///
 /// Where the words are a command, the texts that `files` tells are in order for it, and no count of faults
 /// rises, the call ends Done or Faulted as the elision says, or NoMemory.
 ///
@@ -40,17 +47,25 @@ pub fn swan<F: Files, O: Sink, R: Sink>(
     out: &mut O,
     report: &mut R,
 ) -> Status
-    ensures answered { Answers (outcome ⟦<JobBody as Body>⟧)
+    ensures answered { Answers (elisions ⟦<JobBody as Body>⟧ ⟦<IndexBody as Body>⟧ ⟦<RecordBody as Body>⟧)
         (files_seen (F.content files.old) (F.faults files.old) (F.faults files.new) (F.long_reads files.old) (F.long_reads files.new))
         (seen_of (O.written out.old) (O.written out.new) (O.faults out.old) (O.faults out.new))
         (seen_of (R.written report.old) (R.written report.new) (R.faults report.old) (R.faults report.new))
         (command words.now) result }
-    ensures complete { Completes (outcome ⟦<JobBody as Body>⟧)
+    ensures complete { Completes (elisions ⟦<JobBody as Body>⟧ ⟦<IndexBody as Body>⟧ ⟦<RecordBody as Body>⟧)
+        (files_seen (F.content files.old) (F.faults files.old) (F.faults files.new) (F.long_reads files.old) (F.long_reads files.new))
+        (seen_of (O.written out.old) (O.written out.new) (O.faults out.old) (O.faults out.new))
+        (seen_of (R.written report.old) (R.written report.new) (R.faults report.old) (R.faults report.new))
+        (command words.now) result }
+    ensures written_of_text { WroteOfText
         (files_seen (F.content files.old) (F.faults files.old) (F.faults files.new) (F.long_reads files.old) (F.long_reads files.new))
         (seen_of (O.written out.old) (O.written out.new) (O.faults out.old) (O.faults out.new))
         (seen_of (R.written report.old) (R.written report.new) (R.faults report.old) (R.faults report.new))
         (command words.now) result }
 {
+    // what the pipelines leave is what they are for
+    the_outcome_is_the_index();
+    the_outcome_is_the_conversion();
     follow(alloc, words, files, out, report)
 }
 
@@ -62,7 +77,7 @@ fn follow<F: Files, O: Sink, R: Sink>(
     out: &mut O,
     report: &mut R,
 ) -> Status
-    ensures { Answers (outcome ⟦<JobBody as Body>⟧)
+    ensures { Answers (elisions ⟦<JobBody as Body>⟧ ⟦<IndexBody as Body>⟧ ⟦<RecordBody as Body>⟧)
         (files_seen (F.content files.old) (F.faults files.old) (F.faults files.new) (F.long_reads files.old) (F.long_reads files.new))
         (seen_of (O.written out.old) (O.written out.new) (O.faults out.old) (O.faults out.new))
         (seen_of (R.written report.old) (R.written report.new) (R.faults report.old) (R.faults report.new))

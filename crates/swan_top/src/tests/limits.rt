@@ -180,7 +180,12 @@ fn with_input(alloc: Global, words: &str, text: String) -> Result<Ended, AllocEr
 }
 
 // Asserts a row of the inputs.
-fn hold_input(rt: &impl Abort, alloc: Global, words: &str, row: &str) -> Result<(), Fail> {
+pub(super) fn hold_input(
+    rt: &impl Abort,
+    alloc: Global,
+    words: &str,
+    row: &str,
+) -> Result<(), Fail> {
     let mut parts = row.split('|');
     let first = parts.next().ok_or("no first bytes")?;
     let part = parts.next().ok_or("no part")?;

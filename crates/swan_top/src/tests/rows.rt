@@ -92,10 +92,11 @@ const HELP_SAYS: &str = "\
 check JOB
 elide FUEL JOB INPUT*
 run WORKERS FUEL JOB INPUT*
+index WORKERS INPUT
+convert WORKERS INPUT
 --help
 --version
-WORKERS workers, which is 1 in this version
-FUEL is 1 to 10000000.
+FUEL is 1 to 10000000, and WORKERS is 1 in this version.
 0 where the run has no fault
 1 where it has one
 2 where the words are no

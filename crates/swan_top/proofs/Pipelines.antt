@@ -1,0 +1,137 @@
+-- What an index and a conversion write.
+use Rattle.std.proofs.Common.{◌≡◌, ℕ, ◌≤◌, Bool, true, false, List, [], ◌∷◌, ◌++◌, length, arith, Option, Some, None, refl, sym, ap, subst, ◌∙◌, inl, inr}
+use Rattle.std.specs.Prelude.{if◌then◌else◌, codes, flat_map, map}
+use Rattle.std.specs.Fmt.{decimal}
+use Rattle.std.proofs.lemmas.Fmt.{decimal_digit}
+use Rattle.index_pipeline.specs.Index.{index_of, index_records}
+use Rattle.index_pipeline.specs.Plans.{index_plan}
+use Rattle.index_pipeline.specs.Indexed.{IsIndexed}
+use Rattle.index_pipeline.specs.declared.body.IndexBody.{IndexBody}
+use Rattle.index_pipeline.specs.declared.local.IndexLocal.{IndexLocal}
+use Rattle.job_body.specs.Standing.{Standing}
+use Rattle.job_reader.specs.declared.line.Line.{Line}
+use Rattle.line_blocks.specs.TextRoots.{text_names}
+use Rattle.record_pipeline.specs.Conversion.{convert_of, records_of, width_of}
+use Rattle.record_pipeline.specs.Plans.{record_plan}
+use Rattle.record_pipeline.specs.Converted.{IsConverted}
+use Rattle.record_pipeline.specs.declared.body.RecordBody.{RecordBody}
+use Rattle.record_pipeline.specs.declared.local.RecordLocal.{RecordLocal}
+use Rattle.swan_model.specs.Elision.{outcome}
+use Rattle.swan_model.specs.Lines.{lines, refusal_of}
+use Rattle.swan_model.specs.Texts.{fault_line, is_some_fault, line, out_bytes, report_bytes}
+use Rattle.swan_model.specs.declared.body.Body.{Ghosts}
+use Rattle.swan_model.specs.declared.fault.Fault.{Fault}
+use Rattle.swan_model.specs.declared.lines.LinesAnswer.{LinesAnswer}
+use Rattle.swan_model.specs.declared.outcome.Outcome.{Outcome}
+use Rattle.swan_model.specs.declared.value.Value.{Value}
+use Rattle.swan_model.specs.declared.value.Value.TheVariants.{Bytes}
+use Rattle.swan_top.specs.Command.{Command, help, version, check, elide, run, index, convert}
+use Rattle.swan_top.specs.Decision.{Verdict, prints, next_of_text, printed, status_of, unless_unfit}
+use Rattle.swan_top.specs.Elisions.{elisions}
+use Rattle.swan_top.specs.Headline.{Answers, AreRead, FilesSeen, Follows, IsRead, Leads, SinkSeen, Took, Wrote, ends_of}
+use Rattle.swan_top.specs.Pipelines.{WrittenOf, WroteOfText, conversion_faults, pipeline_report}
+use Rattle.swan_top.specs.declared.status.Status.{Status}
+use Rattle.swan_top.specs.declared.status.Status.TheVariants as status
+
+-- whether texts were printed
+abbrev is_run : Status → Bool
+is_run status.Done = true
+is_run status.Faulted = true
+is_run _ = false
+
+abbrev ends_by : Bool → Status
+ends_by faulted = if faulted then status.Faulted else status.Done
+
+is_done : (faulted : Bool) → status.Done ≡ ends_by faulted → faulted ≡ false
+is_done true is = cc
+is_done false is = refl
+
+is_faulted : (faulted : Bool) → status.Faulted ≡ ends_by faulted → faulted ≡ true
+is_faulted true is = refl
+is_faulted false is = cc
+
+-- what was printed is no refusal
+fit : (why : Option LinesAnswer) (verdict v : Verdict) → verdict ≡ unless_unfit why v → is_run (ends_of verdict) ≡ true → verdict ≡ v
+fit None verdict v is runs = is
+fit (Some why) verdict v is runs = let bad : is_run (ends_of verdict) ≡ false = ap (λ w. is_run (ends_of w)) is in absurd (cc)
+
+-- the laws of the pipelines
+abbrev pub IndexLaw : Ghosts IndexBody IndexLocal → Type 0
+IndexLaw index_ghosts = (text : List ℕ) → length text ≤ 67108864 → IsIndexed text (outcome index_ghosts (index_plan text))
+
+abbrev pub ConversionLaw : Ghosts RecordBody RecordLocal → Type 0
+ConversionLaw record_ghosts = (text : List ℕ) → length text ≤ 67108864 → IsConverted text (outcome record_ghosts (record_plan text))
+
+module _ (files : FilesSeen) (out report : SinkSeen) (input : List ℕ) where
+  read_of : (outcome_over : List ℕ → Outcome) (verdict : Verdict) (texts : List (List ℕ)) → is_run (ends_of verdict) ≡ true → AreRead files.content (input ∷ []) texts → Follows files (next_of_text outcome_over input texts) verdict
+      → (text : List ℕ) × IsRead (files.content input) text × (verdict ≡ printed text_names (outcome_over text))
+  read_of outcome_over verdict [] runs read (inl failed) = let bad : is_run (ends_of verdict) ≡ false = ap (λ w. is_run (ends_of w)) failed.0 in absurd (cc)
+  read_of outcome_over verdict [] runs read (inr longer) = let bad : is_run (ends_of verdict) ≡ false = ap (λ w. is_run (ends_of w)) longer.0 in absurd (cc)
+  read_of outcome_over verdict (text ∷ texts) runs read follows = (text, read.0, fit (refusal_of text) verdict (printed text_names (outcome_over text)) follows.0 runs)
+
+  report_is : (items : List Value) (faults : List Fault) → report_bytes text_names (record { objects = []; queues = [] ∷ items ∷ []; faults = faults }) ≡ pipeline_report faults
+  report_is items faults =
+      ap (λ none. ((line (codes "left " ++ codes "input" ++ codes " " ++ none) ++ []) ++ line (codes "faults " ++ decimal (length faults))) ++ flat_map fault_line faults) (decimal_digit 0 (omega arith))
+
+  -- what an outcome of this form writes
+  told_of : (left : Outcome) (items : List Value) (faults : List Fault) (text : List ℕ) (verdict : Verdict) (ends : Status)
+      → left ≡ record { objects = []; queues = [] ∷ items ∷ []; faults = faults } → out_bytes text_names left ≡ text → verdict ≡ printed text_names left → ends ≡ ends_of verdict → Wrote out report verdict
+      → (ends ≡ ends_by (is_some_fault faults)) × Took out text × Took report (pipeline_report faults)
+  told_of left items faults text verdict ends is output prints_it same wrote =
+      let settled : verdict ≡ prints text (pipeline_report faults) (ends_by (is_some_fault faults)) =
+      prints_it ∙ ap (λ t. prints t (report_bytes text_names left) (status_of left)) output
+      ∙ ap {A = Outcome} (λ o. prints text (report_bytes text_names o) (status_of o)) is
+      ∙ ap (λ t. prints text t (ends_by (is_some_fault faults))) (report_is items faults) in
+      let P : Verdict → Type 0 = λ v. (ends ≡ ends_of v) × Wrote out report v in
+      let w = subst P settled (same, wrote) in
+      (w.0, w.1.0, w.1.1)
+
+  module _ (verdict : Verdict) (ends : Status) (runs : is_run (ends_of verdict) ≡ true) (same : ends ≡ ends_of verdict) (wrote : Wrote out report verdict) where
+    indexed : (index_ghosts : Ghosts IndexBody IndexLocal) → IndexLaw index_ghosts → Leads files (input ∷ []) (next_of_text (λ t. outcome index_ghosts (index_plan t)) input) verdict
+        → (text : List ℕ) × IsRead (files.content input) text × (ends ≡ status.Done) × Took out (index_of text) × Took report (pipeline_report [])
+    indexed index_ghosts index_law leads =
+        let r = read_of (λ t. outcome index_ghosts (index_plan t)) verdict leads.texts runs leads.are_read leads.follows in
+        let law = index_law r.0 r.1.most in
+        let t = told_of (outcome index_ghosts (index_plan r.0)) (map Bytes (index_records (lines r.0))) [] (index_of r.0) verdict ends law.outcome_is law.output r.2 same wrote in
+        (r.0, r.1, t.0, t.1, t.2)
+
+    converted : (record_ghosts : Ghosts RecordBody RecordLocal) → ConversionLaw record_ghosts → Leads files (input ∷ []) (next_of_text (λ t. outcome record_ghosts (record_plan t)) input) verdict
+        → (text : List ℕ) × IsRead (files.content input) text × (ends ≡ ends_by (is_some_fault (conversion_faults text))) × Took out (convert_of text) × Took report (pipeline_report (conversion_faults text))
+    converted record_ghosts conversion_law leads =
+        let r = read_of (λ t. outcome record_ghosts (record_plan t)) verdict leads.texts runs leads.are_read leads.follows in
+        let law = conversion_law r.0 r.1.most in
+        let t = told_of (outcome record_ghosts (record_plan r.0)) (map Bytes (records_of (width_of (lines r.0)) (lines r.0))) (conversion_faults r.0) (convert_of r.0) verdict ends law.outcome_is law.output r.2 same wrote in
+        (r.0, r.1, t.0, t.1, t.2)
+
+module _ (job_ghosts : Ghosts (List Line) Standing) (index_ghosts : Ghosts IndexBody IndexLocal) (record_ghosts : Ghosts RecordBody RecordLocal) (index_law : IndexLaw index_ghosts) (conversion_law : ConversionLaw record_ghosts) (files : FilesSeen) (out report : SinkSeen) where
+  pub wrote_of_text : (asked : Option Command) (ends : Status) → Answers (elisions job_ghosts index_ghosts record_ghosts) files out report asked ends → WroteOfText files out report asked ends
+  wrote_of_text None ends is = tt
+  wrote_of_text (Some (help)) ends is = tt
+  wrote_of_text (Some (version)) ends is = tt
+  wrote_of_text (Some (check job)) ends is = tt
+  wrote_of_text (Some (elide fuel job inputs)) ends is = tt
+  wrote_of_text (Some (run workers fuel job inputs)) ends is = tt
+  wrote_of_text (Some (index workers input)) status.Done is =
+      let told = indexed files out report input is.0 status.Done (ap is_run (sym is.2.0)) is.2.0 is.2.1 index_ghosts index_law is.1 in
+      record { text = told.0; is_read = told.1; faulted = refl; wrote_out = told.3; wrote_report = told.4 }
+  wrote_of_text (Some (index workers input)) status.Faulted is =
+      let told = indexed files out report input is.0 status.Faulted (ap is_run (sym is.2.0)) is.2.0 is.2.1 index_ghosts index_law is.1 in
+      let bad : status.Faulted ≡ status.Done = told.2 in absurd (cc)
+  wrote_of_text (Some (convert workers input)) status.Done is =
+      let told = converted files out report input is.0 status.Done (ap is_run (sym is.2.0)) is.2.0 is.2.1 record_ghosts conversion_law is.1 in
+      record { text = told.0; is_read = told.1; faulted = is_done (is_some_fault (conversion_faults told.0)) told.2; wrote_out = told.3; wrote_report = told.4 }
+  wrote_of_text (Some (convert workers input)) status.Faulted is =
+      let told = converted files out report input is.0 status.Faulted (ap is_run (sym is.2.0)) is.2.0 is.2.1 record_ghosts conversion_law is.1 in
+      record { text = told.0; is_read = told.1; faulted = is_faulted (is_some_fault (conversion_faults told.0)) told.2; wrote_out = told.3; wrote_report = told.4 }
+  wrote_of_text (Some (index workers input)) status.Usage is = tt
+  wrote_of_text (Some (index workers input)) status.JobRefused is = tt
+  wrote_of_text (Some (index workers input)) status.ReadFailed is = tt
+  wrote_of_text (Some (index workers input)) status.WriteFailed is = tt
+  wrote_of_text (Some (index workers input)) status.NoMemory is = tt
+  wrote_of_text (Some (index workers input)) status.InputRefused is = tt
+  wrote_of_text (Some (convert workers input)) status.Usage is = tt
+  wrote_of_text (Some (convert workers input)) status.JobRefused is = tt
+  wrote_of_text (Some (convert workers input)) status.ReadFailed is = tt
+  wrote_of_text (Some (convert workers input)) status.WriteFailed is = tt
+  wrote_of_text (Some (convert workers input)) status.NoMemory is = tt
+  wrote_of_text (Some (convert workers input)) status.InputRefused is = tt

@@ -1,0 +1,84 @@
+// What `index` and `convert` write.
+use super::limits::hold_input;
+use super::*;
+
+/// The names of the files, in order.
+const NAMES: &str = "cats tabs empty words wide";
+
+/// Their contents.
+const TEXTS: [&str; 5] = [
+    "The cat\na dog, the CAT!\ncat cat 7up\n",
+    "ab\tc\nx\ty\tz\n\t\nw\n",
+    "",
+    "z\nb a\nb",
+    "a\nb\tb\nc\n",
+];
+
+/// Whole command lines; then the output, the report and the code.
+const CALLS: &str = "\
+index 1 cats|7up 3~a 2~cat 1~cat 2~cat 3~dog 2~the 1~the 2~|left input 0~faults 0~|0
+index 1 empty||left input 0~faults 0~|0
+index 1 words|a 2~b 2~b 3~z 1~|left input 0~faults 0~|0
+index 1 tabs|ab 1~c 1~w 4~x 2~y 2~z 2~|left input 0~faults 0~|0
+convert 1 tabs|2:ab,1:c,~0:,0:,~|left input 0~faults 2~fault /0/1 2 User 1~fault /0/3 4 User 1~|1
+convert 1 empty||left input 0~faults 0~|0
+convert 1 words|1:z,~3:b a,~1:b,~|left input 0~faults 0~|0
+convert 1 wide|1:a,~1:c,~|left input 0~faults 1~fault /0/1 2 User 1~|1
+index 1 missing||read failed missing~|4
+convert 1 missing||read failed missing~|4
+index||usage~|2
+index 1||usage~|2
+index 1 -||usage~|2
+index 1 cats words||usage~|2
+index 0 cats||usage~|2
+index 2 cats||usage~|2
+index 01 cats||usage~|2
+index cats||usage~|2
+Index 1 cats||usage~|2
+convert||usage~|2
+convert 1||usage~|2
+convert 1 -||usage~|2
+convert 1 tabs tabs||usage~|2
+convert 0 tabs||usage~|2
+convert 2 tabs||usage~|2";
+
+#[test]
+fn an_index_and_a_conversion_write_what_they_are(rt: HostRuntime) -> Result<(), Fail> {
+    hold(&rt, rt.alloc(), NAMES, &TEXTS, "", CALLS)
+}
+
+/// A text as its first bytes, then so many copies of some, and its last bytes; then the report and the code of its
+/// index, with ~ for each line feed.
+const UNFIT: &str = "\
+|,|65535|~|left input 0~faults 0~|0
+|,|65536|~|long line 1 1~|7
+~|,|65536|~,|long line 1 2~|7
+|~|1000000||left input 0~faults 0~|0
+|~|1000000|~|too many lines 1~|7";
+
+#[test]
+fn a_text_is_refused_as_an_input_is(rt: HostRuntime) -> Result<(), Fail> {
+    for row in UNFIT.lines() {
+        hold_input(&rt, rt.alloc(), "index 1 x", row)?;
+    }
+    for row in [
+        "|x|65536|~|long line 1 1~|7",
+        "|~|1000000|~|too many lines 1~|7",
+    ] {
+        hold_input(&rt, rt.alloc(), "convert 1 x", row)?;
+    }
+    Ok(())
+}
+
+#[test]
+fn a_text_past_the_limit_of_files_is_too_long(rt: HostRuntime) -> Result<(), Fail> {
+    for words in ["index 1 x", "convert 1 x"] {
+        let mut files = Vec::new(rt.alloc());
+        let name = word(rt.alloc(), "x")?;
+        let content = Blob::new(vec![in rt.alloc(); b'\n'; 67_108_865]?);
+        files.push(FileBlob { name, content })?;
+        let got = called(rt.alloc(), files, words, 0)?;
+        assert_ended(&rt, &got, words, "", "too long x\n", "4");
+    }
+    Ok(())
+}
