@@ -41,8 +41,6 @@ mod scope;
 mod source;
 mod take;
 mod tasks;
-#[cfg(test)]
-mod tests;
 
 pub use answer::PlanAnswer;
 pub use body::JobBody;

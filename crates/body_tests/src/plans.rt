@@ -1,6 +1,6 @@
 // Plans and names.
-use super::jobs::job_of;
-use crate::{PlanAnswer, names_of, plan_of};
+use crate::jobs::job_of;
+use job_body::{PlanAnswer, names_of, plan_of};
 use std::alloc::Global;
 use std::test::Fail;
 use swan_model::{Blob, Body, Names, NoMemory, Shown};

@@ -1,5 +1,5 @@
 // Jobs of tests, and what their first task does.
-use crate::{JobBody, JobLocal, plan_of};
+use job_body::{JobBody, JobLocal, plan_of};
 use job_reader::read_job;
 use privilege_check::{CheckedJob, check};
 use std::alloc::Global;

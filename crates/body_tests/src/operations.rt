@@ -1,5 +1,5 @@
 // Each operation, at its edges too.
-use super::jobs::first_wrong;
+use crate::jobs::first_wrong;
 use std::test::Fail;
 
 /// Operations on numbers, and what each gives.

@@ -1,8 +1,8 @@
 // Steps of work in a row.
 ghost use Rattle.std.specs.Prelude.{◌<◌};
 
-use super::jobs::{answer_to, plan_of_text, text_of};
-use crate::{JobBody, JobLocal};
+use crate::jobs::{answer_to, plan_of_text, text_of};
+use job_body::{JobBody, JobLocal};
 use std::alloc::Global;
 use std::test::Fail;
 use swan_model::{Answer, Ask, Body, NoMemory, Plan, Stop, Value, Worked};
@@ -29,7 +29,7 @@ const LOOPS: &str = "\
 n = set 3; while n; n = sub n 1; v = add v 2; end => 6
 n = set 3; while n; n = sub n 1; b = cat b \"x\"; end; v = len b => 3
 n = set 3; while n; n = sub n 1; if n; v = add v 1; else; v = add v 10; end; end => 12
-n = set 3; while n; n = sub n 1; # a note; v = or v 0; end => 0
+n = set 3; while n; n = sub n 1; # a note; v = or v n; end => 1
 n = set 3; while n; n = sub n 1; fuel v; end => 187
 n = set 3; while n; n = sub n 1; read v x; end => 7
 n = set 3; while n; n = sub n 1; write x n; v = add v 1; end => 3
@@ -46,6 +46,16 @@ n = set 3; while n; n = sub n 1; end; spawn -1 idle => Range at 17";
 /// A loop of 14 steps of work.
 const COUNT: &str = "n = set 3; while n; n = sub n 1; v = add v 1; end";
 
+/// The like loop with a push in it.
+const PUSHES: &str = "n = set 3; while n; n = sub n 1; push q \"ab\"; end";
+
+/// What is told of a run of a task, and after how many steps.
+#[derive(Drop)]
+struct Run {
+    what: String,
+    steps: u64,
+}
+
 /// What a task pushes first that takes its steps in rows by this budget; or the trouble by which it ends; or
 /// `Fuel` where the fuel ends. With the last two the line of the step is told.
 fn told_of(
@@ -54,7 +64,7 @@ fn told_of(
     root: JobLocal,
     fuel: u64,
     budget: u64,
-) -> Result<String, NoMemory>
+) -> Result<Run, NoMemory>
     requires { 0 < budget }
 {
     let mut local = root;
@@ -71,10 +81,17 @@ fn told_of(
         answer = Answer::Nothing;
         if let Some(Stop { ask, place }) = stop {
             left = left.saturating_sub(1);
-            answer = answer_to(alloc, &ask, 200u64.saturating_sub(left))?;
+            let steps = fuel.saturating_sub(left);
+            answer = answer_to(alloc, &ask, steps)?;
             match ask {
-                Ask::Push(_, Value::Int(number)) => return Ok(format!(in alloc; "{number}")?),
-                Ask::Fail(trouble) => return Ok(format!(in alloc; "{trouble:?} at {place}")?),
+                Ask::Push(_, Value::Int(number)) => {
+                    let what = format!(in alloc; "{number}")?;
+                    return Ok(Run { what, steps });
+                }
+                Ask::Fail(trouble) => {
+                    let what = format!(in alloc; "{trouble:?} at {place}")?;
+                    return Ok(Run { what, steps });
+                }
                 _ => {}
             }
         }
@@ -83,11 +100,12 @@ fn told_of(
         }
     }
     let line = body.place(&local);
-    Ok(format!(in alloc; "Fuel at {line}")?)
+    let what = format!(in alloc; "Fuel at {line}")?;
+    Ok(Run { what, steps: fuel })
 }
 
 /// What `main` tells with these statements.
-fn told(alloc: Global, statements: &str, fuel: u64, budget: u64) -> Result<String, NoMemory>
+fn told(alloc: Global, statements: &str, fuel: u64, budget: u64) -> Result<Run, NoMemory>
     requires { 0 < budget }
 {
     let text = text_of(alloc, HEAD, statements)?;
@@ -100,7 +118,7 @@ fn told(alloc: Global, statements: &str, fuel: u64, budget: u64) -> Result<Strin
     told_of(alloc, &body, root_local, fuel, budget)
 }
 
-/// The first loop of the table that tells something else, if there is one.
+/// The first loop of the table that tells something else by this budget, if there is one.
 fn first_wrong(alloc: Global, budget: u64) -> Result<Option<&'static str>, NoMemory>
     requires { 0 < budget }
 {
@@ -109,7 +127,23 @@ fn first_wrong(alloc: Global, budget: u64) -> Result<Option<&'static str>, NoMem
             return Ok(Some(row));
         };
         let told = told(alloc, statements, 200, budget)?;
-        if told.as_str() != want {
+        if told.what.as_str() != want {
+            return Ok(Some(row));
+        }
+    }
+    Ok(None)
+}
+
+/// The first loop of the table that tells something else by a budget of one more than there are steps, or after
+/// another number of them, if there is one.
+fn first_wrong_past_its_steps(alloc: Global) -> Result<Option<&'static str>, NoMemory> {
+    for row in LOOPS.lines() {
+        let Some((statements, want)) = row.split_once(" => ") else {
+            return Ok(Some(row));
+        };
+        let one = told(alloc, statements, 200, 1)?;
+        let all = told(alloc, statements, 200, one.steps.saturating_add(1))?;
+        if all.what.as_str() != want || all.steps != one.steps {
             return Ok(Some(row));
         }
     }
@@ -124,14 +158,20 @@ fn rows_of_one_two_and_a_million_steps_tell_the_same(rt: HostRuntime) -> Result<
     Ok(())
 }
 
+#[test]
+fn a_row_of_one_more_than_there_are_steps_tells_the_same(rt: HostRuntime) -> Result<(), Fail> {
+    assert_eq!(rt; first_wrong_past_its_steps(rt.alloc())?, None);
+    Ok(())
+}
+
 /// The lines at which a loop stands when its fuel ends, with 0 units and more.
-fn ends(alloc: Global, budget: u64) -> Result<String, NoMemory>
+fn ends(alloc: Global, statements: &str, budget: u64) -> Result<String, NoMemory>
     requires { 0 < budget }
 {
     let mut all = String::new(alloc);
     for fuel in 0..16u64 {
-        let told = told(alloc, COUNT, fuel, budget)?;
-        all.push_str(told.as_str())?;
+        let told = told(alloc, statements, fuel, budget)?;
+        all.push_str(told.what.as_str())?;
         all.push_str("; ")?;
     }
     Ok(all)
@@ -144,9 +184,11 @@ Fuel at 16; Fuel at 17; Fuel at 14; Fuel at 15; Fuel at 16; Fuel at 17; Fuel at 
 
 #[test]
 fn fuel_ends_at_each_line_of_a_loop(rt: HostRuntime) -> Result<(), Fail> {
-    assert_eq!(rt; ends(rt.alloc(), 1)?.as_str(), ENDS);
-    assert_eq!(rt; ends(rt.alloc(), 2)?.as_str(), ENDS);
-    assert_eq!(rt; ends(rt.alloc(), 1_000_000)?.as_str(), ENDS);
+    for statements in [COUNT, PUSHES] {
+        assert_eq!(rt; ends(rt.alloc(), statements, 1)?.as_str(), ENDS);
+        assert_eq!(rt; ends(rt.alloc(), statements, 2)?.as_str(), ENDS);
+        assert_eq!(rt; ends(rt.alloc(), statements, 1_000_000)?.as_str(), ENDS);
+    }
     Ok(())
 }
 

@@ -1,6 +1,6 @@
 // Each line, in one task and in a child.
-use super::jobs::{first_wrong, plan_of_text, told};
-use crate::{JobBody, JobLocal};
+use crate::jobs::{first_wrong, plan_of_text, told};
+use job_body::{JobBody, JobLocal};
 use std::alloc::Global;
 use std::test::Fail;
 use swan_model::{Answer, Ask, Body, Child, NoMemory, Plan, Value};

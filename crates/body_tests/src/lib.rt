@@ -1,0 +1,16 @@
+//! Tests of the bodies of jobs (crate `job_body`): small jobs, and what their tasks do.
+//!
+//! A row of a table has statements and what is told of them, which was worked out by hand. All rows of a table go through
+//! one function, so a row costs nothing to prove.
+#![tactic(auto)]
+
+#[cfg(test)]
+mod jobs;
+#[cfg(test)]
+mod lines;
+#[cfg(test)]
+mod operations;
+#[cfg(test)]
+mod plans;
+#[cfg(test)]
+mod rows;
