@@ -36,6 +36,9 @@ fn each_fault_ends_its_task(rt: HostRuntime) -> Result<(), Fail> {
             ("push:0:1 work", 9, "faults 1\nfault / 0 Privilege\n"),
             ("work read:9", 9, "faults 1\nfault / 1 Privilege\n"),
             ("fail:-5", 9, "faults 1\nfault / 0 User -5\n"),
+            ("range work", 9, "faults 1\nfault / 0 Range\n"),
+            ("long work", 9, "faults 1\nfault / 0 TooLong\n"),
+            ("number work", 9, "faults 1\nfault / 0 BadNumber\n"),
         ],
     )
 }

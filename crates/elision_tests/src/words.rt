@@ -37,6 +37,9 @@ fn plain_ask_of(word: &str) -> Result<Ask<usize>, Fail> {
         "finish" => Ok(Ask::Finish),
         "overflow" => Ok(Ask::Fail(Trouble::Overflow)),
         "divide" => Ok(Ask::Fail(Trouble::DivideByZero)),
+        "range" => Ok(Ask::Fail(Trouble::Range)),
+        "long" => Ok(Ask::Fail(Trouble::TooLong)),
+        "number" => Ok(Ask::Fail(Trouble::BadNumber)),
         _ => Err("no such ask".into()),
     }
 }
