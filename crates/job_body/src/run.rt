@@ -70,7 +70,8 @@ fn copy_of(alloc: Global, gives: &Gives) -> Result<Gives, NoMemory>
     Ok(all)
 }
 
-/// A spawn, by its fuel. It is seldom, so the loop of `work` has no room for what it makes.
+/// A spawn, by its fuel. It is taken seldom, so it is kept out of the loop of `work`, whose frame then needs no room for
+/// a child.
 #[inline(never)]
 fn spawn(
     alloc: Global,
