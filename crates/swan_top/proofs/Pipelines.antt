@@ -51,8 +51,8 @@ is_faulted true is = refl
 is_faulted false is = cc
 
 -- what was printed is no refusal
-fit : (why : Option LinesAnswer) (verdict v : Verdict) → verdict ≡ unless_unfit why v → is_run (ends_of verdict) ≡ true → verdict ≡ v
-fit None verdict v is runs = is
+fit : (why : Option LinesAnswer) (verdict v : Verdict) → verdict ≡ unless_unfit why v → is_run (ends_of verdict) ≡ true → (why ≡ None) × (verdict ≡ v)
+fit None verdict v is runs = (refl, is)
 fit (Some why) verdict v is runs = let bad : is_run (ends_of verdict) ≡ false = ap (λ w. is_run (ends_of w)) is in absurd (cc)
 
 -- the laws of the pipelines
@@ -64,7 +64,7 @@ ConversionLaw record_ghosts = (text : List ℕ) → length text ≤ 67108864 →
 
 module _ (files : FilesSeen) (out report : SinkSeen) (input : List ℕ) where
   read_of : (outcome_over : List ℕ → Outcome) (verdict : Verdict) (texts : List (List ℕ)) → is_run (ends_of verdict) ≡ true → AreRead files.content (input ∷ []) texts → Follows files (next_of_text outcome_over input texts) verdict
-      → (text : List ℕ) × IsRead (files.content input) text × (verdict ≡ printed text_names (outcome_over text))
+      → (text : List ℕ) × IsRead (files.content input) text × (refusal_of text ≡ None) × (verdict ≡ printed text_names (outcome_over text))
   read_of outcome_over verdict [] runs read (inl failed) = let bad : is_run (ends_of verdict) ≡ false = ap (λ w. is_run (ends_of w)) failed.0 in absurd (cc)
   read_of outcome_over verdict [] runs read (inr longer) = let bad : is_run (ends_of verdict) ≡ false = ap (λ w. is_run (ends_of w)) longer.0 in absurd (cc)
   read_of outcome_over verdict (text ∷ texts) runs read follows = (text, read.0, fit (refusal_of text) verdict (printed text_names (outcome_over text)) follows.0 runs)
@@ -88,20 +88,20 @@ module _ (files : FilesSeen) (out report : SinkSeen) (input : List ℕ) where
 
   module _ (verdict : Verdict) (ends : Status) (runs : is_run (ends_of verdict) ≡ true) (same : ends ≡ ends_of verdict) (wrote : Wrote out report verdict) where
     indexed : (index_ghosts : Ghosts IndexBody IndexLocal) → IndexLaw index_ghosts → Leads files (input ∷ []) (next_of_text (λ t. outcome index_ghosts (index_plan t)) input) verdict
-        → (text : List ℕ) × IsRead (files.content input) text × (ends ≡ status.Done) × Took out (index_of text) × Took report (pipeline_report [])
+        → (text : List ℕ) × IsRead (files.content input) text × (refusal_of text ≡ None) × (ends ≡ status.Done) × Took out (index_of text) × Took report (pipeline_report [])
     indexed index_ghosts index_law leads =
         let r = read_of (λ t. outcome index_ghosts (index_plan t)) verdict leads.texts runs leads.are_read leads.follows in
         let law = index_law r.0 r.1.most in
-        let t = told_of (outcome index_ghosts (index_plan r.0)) (map Bytes (index_records (lines r.0))) [] (index_of r.0) verdict ends law.outcome_is law.output r.2 same wrote in
-        (r.0, r.1, t.0, t.1, t.2)
+        let t = told_of (outcome index_ghosts (index_plan r.0)) (map Bytes (index_records (lines r.0))) [] (index_of r.0) verdict ends law.outcome_is law.output r.3 same wrote in
+        (r.0, r.1, r.2, t.0, t.1, t.2)
 
     converted : (record_ghosts : Ghosts RecordBody RecordLocal) → ConversionLaw record_ghosts → Leads files (input ∷ []) (next_of_text (λ t. outcome record_ghosts (record_plan t)) input) verdict
-        → (text : List ℕ) × IsRead (files.content input) text × (ends ≡ ends_by (is_some_fault (conversion_faults text))) × Took out (convert_of text) × Took report (pipeline_report (conversion_faults text))
+        → (text : List ℕ) × IsRead (files.content input) text × (refusal_of text ≡ None) × (ends ≡ ends_by (is_some_fault (conversion_faults text))) × Took out (convert_of text) × Took report (pipeline_report (conversion_faults text))
     converted record_ghosts conversion_law leads =
         let r = read_of (λ t. outcome record_ghosts (record_plan t)) verdict leads.texts runs leads.are_read leads.follows in
         let law = conversion_law r.0 r.1.most in
-        let t = told_of (outcome record_ghosts (record_plan r.0)) (map Bytes (records_of (width_of (lines r.0)) (lines r.0))) (conversion_faults r.0) (convert_of r.0) verdict ends law.outcome_is law.output r.2 same wrote in
-        (r.0, r.1, t.0, t.1, t.2)
+        let t = told_of (outcome record_ghosts (record_plan r.0)) (map Bytes (records_of (width_of (lines r.0)) (lines r.0))) (conversion_faults r.0) (convert_of r.0) verdict ends law.outcome_is law.output r.3 same wrote in
+        (r.0, r.1, r.2, t.0, t.1, t.2)
 
 module _ (job_ghosts : Ghosts (List Line) Standing) (index_ghosts : Ghosts IndexBody IndexLocal) (record_ghosts : Ghosts RecordBody RecordLocal) (index_law : IndexLaw index_ghosts) (conversion_law : ConversionLaw record_ghosts) (files : FilesSeen) (out report : SinkSeen) where
   pub wrote_of_text : (asked : Option Command) (ends : Status) → Answers (elisions job_ghosts index_ghosts record_ghosts) files out report asked ends → WroteOfText files out report asked ends
@@ -113,16 +113,16 @@ module _ (job_ghosts : Ghosts (List Line) Standing) (index_ghosts : Ghosts Index
   wrote_of_text (Some (run workers fuel job inputs)) ends is = tt
   wrote_of_text (Some (index workers input)) status.Done is =
       let told = indexed files out report input is.0 status.Done (ap is_run (sym is.2.0)) is.2.0 is.2.1 index_ghosts index_law is.1 in
-      record { text = told.0; is_read = told.1; faulted = refl; wrote_out = told.3; wrote_report = told.4 }
+      record { text = told.0; is_read = told.1; none_refused = told.2; faulted = refl; wrote_out = told.4; wrote_report = told.5 }
   wrote_of_text (Some (index workers input)) status.Faulted is =
       let told = indexed files out report input is.0 status.Faulted (ap is_run (sym is.2.0)) is.2.0 is.2.1 index_ghosts index_law is.1 in
-      let bad : status.Faulted ≡ status.Done = told.2 in absurd (cc)
+      let bad : status.Faulted ≡ status.Done = told.3 in absurd (cc)
   wrote_of_text (Some (convert workers input)) status.Done is =
       let told = converted files out report input is.0 status.Done (ap is_run (sym is.2.0)) is.2.0 is.2.1 record_ghosts conversion_law is.1 in
-      record { text = told.0; is_read = told.1; faulted = is_done (is_some_fault (conversion_faults told.0)) told.2; wrote_out = told.3; wrote_report = told.4 }
+      record { text = told.0; is_read = told.1; none_refused = told.2; faulted = is_done (is_some_fault (conversion_faults told.0)) told.3; wrote_out = told.4; wrote_report = told.5 }
   wrote_of_text (Some (convert workers input)) status.Faulted is =
       let told = converted files out report input is.0 status.Faulted (ap is_run (sym is.2.0)) is.2.0 is.2.1 record_ghosts conversion_law is.1 in
-      record { text = told.0; is_read = told.1; faulted = is_faulted (is_some_fault (conversion_faults told.0)) told.2; wrote_out = told.3; wrote_report = told.4 }
+      record { text = told.0; is_read = told.1; none_refused = told.2; faulted = is_faulted (is_some_fault (conversion_faults told.0)) told.3; wrote_out = told.4; wrote_report = told.5 }
   wrote_of_text (Some (index workers input)) status.Usage is = tt
   wrote_of_text (Some (index workers input)) status.JobRefused is = tt
   wrote_of_text (Some (index workers input)) status.ReadFailed is = tt

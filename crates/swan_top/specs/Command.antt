@@ -89,7 +89,7 @@ asked (code.Run workers fuel job inputs) = run workers fuel job.now inputs.now
 asked (code.Index workers input) = index workers input.now
 asked (code.Convert workers input) = convert workers input.now
 
--- no command asks for more than words can
+-- no command asks for more fuel than words can
 abbrev pub IsFueled : Command → Type 0
 IsFueled (elide fuel job inputs) = fuel ≤ FUEL_WORD_MOST
 IsFueled (run workers fuel job inputs) = fuel ≤ FUEL_WORD_MOST

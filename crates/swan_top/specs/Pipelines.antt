@@ -3,7 +3,7 @@ use Rattle.std.specs.Prelude.{◌≡◌, ℕ, Bool, true, false, Option, Some, N
 use Rattle.std.specs.Fmt.{decimal}
 use Rattle.index_pipeline.specs.Index.{index_of}
 use Rattle.record_pipeline.specs.Conversion.{convert_of, faults_from, width_of}
-use Rattle.swan_model.specs.Lines.{lines}
+use Rattle.swan_model.specs.Lines.{lines, refusal_of}
 use Rattle.swan_model.specs.Texts.{fault_line, is_some_fault, line}
 use Rattle.swan_model.specs.declared.fault.Fault.{Fault}
 use Rattle.swan_top.specs.Command.{Command, index, convert}
@@ -19,10 +19,11 @@ conversion_faults text = faults_from 0 (width_of (lines text)) (lines text)
 abbrev pub pipeline_report : List Fault → List ℕ
 pipeline_report faults = codes "left input 0\n" ++ (line (codes "faults " ++ decimal (length faults)) ++ flat_map fault_line faults)
 
--- A text was read of a file, and the sinks took what is said of it.
+-- A text was read of a file, its lines are within their limits, and the sinks took what is said of it.
 pub record WrittenOf (files : FilesSeen) (out report : SinkSeen) (input : List ℕ) (out_of : List ℕ → List ℕ) (faults_of : List ℕ → List Fault) (is_faulted : Bool) : Type 0 where
   pub text : List ℕ
   pub is_read : IsRead (files.content input) text
+  pub none_refused : refusal_of text ≡ None
   pub faulted : is_some_fault (faults_of text) ≡ is_faulted
   pub wrote_out : Took out (out_of text)
   pub wrote_report : Took report (pipeline_report (faults_of text))

@@ -1,8 +1,8 @@
 //! The top call: what the program does with its words.
 //!
 //! `swan` reads the words, reads and checks the job, reads the inputs, runs the job and writes the
-//! output and the report, in this order; for a pipeline that is written in code, it reads the text and runs its plan. Its clause `answered` is the headline of the project: it says
-//! of every status what was read, what was decided of it, and what is then in the sinks. The
+//! output and the report, in this order; for a pipeline that is written in code, it reads the text and runs its
+//! plan. Its clause `answered` is the headline of the project: it says of every status what was read, what was decided of it, and what is then in the sinks. The
 //! definitions that it cites stand in `specs/Headline.antt`, which is meant to be read from top to
 //! bottom, with `specs/Command.antt` and `specs/Decision.antt` before it. Its clause `complete` says when a
 //! call ends as its command says (`specs/Completeness.antt`), and the law `honest_calls_end_well` says both of

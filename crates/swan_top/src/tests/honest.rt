@@ -12,6 +12,8 @@ run 1 5 b missing||left text 0~faults 0~|0
 elide 5 b long||too long long~|4
 check long||too long long~|4
 run 1 5 b three three||inputs 1 2~|7
+index 1 missing||left input 0~faults 0~|0
+convert 1 long||too long long~|4
 frob||usage~|2";
 
 // What a sink tells.

@@ -19,6 +19,10 @@ const FAILING_READS: &str = "\
 3 elide 5 b x||left text 1~faults 0~|0
 1 check b||read failed b~|4
 2 check b|swan 1~input text~task main~  do~end~|checked~|0
+1 index 1 x||read failed x~|4
+2 index 1 x|1 1~|left input 0~faults 0~|0
+1 convert 1 y||read failed y~|4
+2 convert 1 y|1:2,~|left input 0~faults 0~|0
 1 --version|swan 0.1.0~||0
 1 frob||usage~|2";
 
@@ -79,6 +83,15 @@ fn a_failing_write_leaves_a_front(rt: HostRuntime) -> Result<(), Fail> {
         ("run 1 100 a", 0, 1, "hi\n", "", "5"),
         ("run 1 100 a", 3, 2, "hi\n", "faults 0\n", "0"),
         ("elide 100 a", 2, 0, "hi", "", "5"),
+        ("index 1 a", 2, 0, "1 ", "", "5"),
+        (
+            "convert 1 a",
+            0,
+            1,
+            "6:swan 1,\n16:output out bytes,\n9:task main,\n4:  do,\n15:  push out \"hi\",\n3:end,\n",
+            "",
+            "5",
+        ),
         ("", 0, 1, "", "", "5"),
         ("", 1, 2, "", "usage\n", "2"),
         ("check x", 0, 1, "", "", "5"),
