@@ -2,10 +2,10 @@
 ghost use Rattle.std.specs.Prelude.{◌≡◌, true, map, None, IfOk};
 ghost use Rattle.line_blocks.specs.LineBlocks.{bytes_of};
 ghost use Rattle.swan_reducers.specs.Fold.{fold_of, unless_part, with_part};
-ghost use Rattle.swan_reducers.specs.Steps.{as_part, bad_number, block_task, collector, collects, handed, handed_last, item_part, or_first, pushed_end, pushes_part, reads, told};
+ghost use Rattle.swan_reducers.specs.Steps.{as_part, bad_number, block_task, collector, collects, item_part, or_first, pushed_end, pushes_part, reads, told};
 
 use crate::{EndAnswer, FoldLocal, LineAnswer, Reducer};
-use line_blocks::{Held, HeldLines, LineBlock, QueueReader, ReaderStep, gives_of};
+use line_blocks::{HeldLines, LineBlock, LineStep, QueueReader, ReaderStep, gives_of, read_lines};
 use std::alloc::Global;
 use std::marker::{Send, Sync};
 use swan_model::{Answer, Ask, Body, Child, Give, Mode, NoMemory, Record, Trouble, Value};
@@ -51,22 +51,6 @@ fn block_task(alloc: Global, block: LineBlock) -> Result<Child<FoldLocal>, NoMem
         gives: gives_of(alloc, &[parts])?,
         fuel: 2,
     })
-}
-
-/// What the root does with held lines: it gives a block to a task, or reads on.
-fn handed(alloc: Global, held: Held) -> Result<Step, NoMemory>
-    ensures { IfOk result (λ step. step ≡ handed held) }
-{
-    match held {
-        Held::Fewer(lines) => Ok((
-            FoldLocal::Reads(QueueReader::Tested(lines)),
-            Ask::Empty(INPUT),
-        )),
-        Held::Block(block, lines) => Ok((
-            FoldLocal::Reads(QueueReader::Looks(lines)),
-            Ask::Spawn(block_task(alloc, block)?),
-        )),
-    }
 }
 
 /// What a block task does once it has pushed its part.
@@ -241,32 +225,28 @@ impl<R: Reducer> FoldBody<R> {
         })
     }
 
-    /// What the root does once the input is empty: lines that are held are a last block.
-    fn handed_last(&self, alloc: Global, block: LineBlock) -> Result<Step, NoMemory>
-        ensures { IfOk result (λ step. step ≡ handed_last R.Reducer self.now block.number block.lines) }
-    {
-        if block.is_empty() {
-            return Ok((FoldLocal::Ends, Ask::Spawn(self.collector(alloc)?)));
-        }
-        Ok((FoldLocal::Gathers, Ask::Spawn(block_task(alloc, block)?)))
-    }
-
-    /// The root's step as it reads.
-    fn reads(&self, alloc: Global, step: ReaderStep<HeldLines>) -> Result<Step, NoMemory>
+    /// The root's step as it reads: each block is given to a task, and then the collector begins.
+    fn reads(&self, alloc: Global, step: LineStep) -> Result<Step, NoMemory>
         ensures { IfOk result (λ next. next ≡ reads R.Reducer self.now step) }
     {
-        match step {
-            ReaderStep::Tests(lines) => Ok((
-                FoldLocal::Reads(QueueReader::Tested(lines)),
-                Ask::Empty(INPUT),
-            )),
-            ReaderStep::Pops(lines) => Ok((
-                FoldLocal::Reads(QueueReader::Popped(lines)),
-                Ask::Pop(INPUT),
-            )),
-            ReaderStep::Takes(lines, line) => handed(alloc, lines.hold(alloc, line)?),
-            ReaderStep::Ends(lines) => self.handed_last(alloc, lines.into_block()),
-        }
+        let next = match step {
+            LineStep::Tests(reader) => (FoldLocal::Reads(reader), Ask::Empty(INPUT)),
+            LineStep::Pops(reader) => (FoldLocal::Reads(reader), Ask::Pop(INPUT)),
+            LineStep::Hands(block, reader) => {
+                (
+                    FoldLocal::Reads(reader),
+                    Ask::Spawn(block_task(alloc, block)?),
+                )
+            }
+            LineStep::HandsLast(block) => {
+                (
+                    FoldLocal::SpawnsCollector,
+                    Ask::Spawn(block_task(alloc, block)?),
+                )
+            }
+            LineStep::Ends => (FoldLocal::Ends, Ask::Spawn(self.collector(alloc)?)),
+        };
+        Ok(next)
     }
 }
 
@@ -291,8 +271,8 @@ impl<R: Reducer + Send + Sync> Body for FoldBody<R> {
                 FoldLocal::Reads(QueueReader::Looks(HeldLines::new(alloc))),
                 Ask::NewQueue,
             )),
-            FoldLocal::Reads(reader) => self.reads(alloc, reader.step(answer)),
-            FoldLocal::Gathers => Ok((FoldLocal::Ends, Ask::Spawn(self.collector(alloc)?))),
+            FoldLocal::Reads(reader) => self.reads(alloc, read_lines(alloc, reader, answer)?),
+            FoldLocal::SpawnsCollector => Ok((FoldLocal::Ends, Ask::Spawn(self.collector(alloc)?))),
             FoldLocal::Lines(block) => self.pushes_part(alloc, block),
             FoldLocal::Told(bad) => Ok(told(bad)),
             FoldLocal::Collects(reader) => self.collects(alloc, reader.step(answer)),
