@@ -29,10 +29,11 @@ use Rattle.swan_reducers.specs.declared.body.FoldBody.{FoldBody}
 use Rattle.swan_reducers.specs.declared.local.FoldLocal.{FoldLocal}
 use Rattle.swan_reducers.specs.declared.local.FoldLocal.TheVariants as local
 use Rattle.swan_reducers.specs.declared.reducer.Reducer.{Ghosts}
-use Rattle.swan_reducers.specs.Fold.{bad_blocks, bad_line, first_bad, fold_of, in_blocks, joined_from, unless_part}
+use Rattle.swan_reducers.specs.Fold.{bad_blocks, bad_line, first_bad, fold_of, in_blocks, joined_from}
+use Rattle.swan_reducers.specs.LineFolds.{bad_number, unless_part}
 use Rattle.swan_reducers.specs.Folded.{end_faults, end_records, folded}
 use Rattle.swan_reducers.specs.Plans.{fold_plan}
-use Rattle.swan_reducers.specs.Steps.{as_part, bad_number, block_task, collector, item_part, next, place_of, pushed_end, reads}
+use Rattle.swan_reducers.specs.Steps.{as_part, block_task, collector, item_part, next, place_of, pushed_end, reads}
 use Rattle.swan_reducers.proofs.Joining.{as_part-is, items_are_parts, joined_is_part, join_joined, joined_from-append, parts_are_parts}
 
 -- the input and the parts
@@ -93,7 +94,7 @@ module _ {R : Type 0} (g : Ghosts R) where
     part block = fold_of g body.reducer (map bytes_of block.lines)
 
     abbrev bad : Lines → Option ℕ
-    bad block = bad_number g body.reducer block.number (map bytes_of block.lines)
+    bad block = bad_number (g.part_of body.reducer) block.number (map bytes_of block.lines)
 
     abbrev adds : List Value → Child FoldLocal → List Value
     adds parts child = parts ++ pushed_by child.local
@@ -193,17 +194,17 @@ module _ {R : Type 0} (g : Ghosts R) where
 
     -- ---- which faults they book
 
-    numbers_are : (ls : List (List ℕ)) (n : ℕ) → n + length ls < 2 ^ 64 → bad_number g body.reducer n ls ≡ first_bad g body.reducer n ls
+    numbers_are : (ls : List (List ℕ)) (n : ℕ) → n + length ls < 2 ^ 64 → bad_number (g.part_of body.reducer) n ls ≡ first_bad g body.reducer n ls
     numbers_are [] n few = refl
     numbers_are (line ∷ ls) n few =
-        ap (λ m. unless_part (g.part_of body.reducer line) n (bad_number g body.reducer m ls)) (let e : later n 1 ≡ n + 1 = omega arith in e)
+        ap (λ m. unless_part (g.part_of body.reducer line) n (bad_number (g.part_of body.reducer) m ls)) (let e : later n 1 ≡ n + 1 = omega arith in e)
         ∙ ap (unless_part (g.part_of body.reducer line) n) (numbers_are ls (n + 1) (omega arith))
 
     booked_is : (before items : List Value) (child : ℕ) → length before + length items + 1 < 2 ^ 64
         → books (child ∷ []) (block_task (lines_after before items)) ≡ bad_line (child ∷ []) (first_bad g body.reducer (length before + 1) (map bytes_of items))
     booked_is before items child few =
         let ls = map bytes_of items in
-        ap (λ n. bad_line (child ∷ []) (bad_number g body.reducer n ls)) (let e : later 1 (length before) ≡ length before + 1 = omega arith in e)
+        ap (λ n. bad_line (child ∷ []) (bad_number (g.part_of body.reducer) n ls)) (let e : later 1 (length before) ≡ length before + 1 = omega arith in e)
         ∙ ap (bad_line (child ∷ [])) (numbers_are ls (length before + 1) (omega (arith, length-map items bytes_of)))
 
     booked_are : (xs : List Value) (k : Held) (child : ℕ) → length k.before + length k.held + length xs + 1 < 2 ^ 64

@@ -14,14 +14,15 @@ use Rattle.line_blocks.specs.declared.line_reader.LineStep.TheVariants as readin
 use Rattle.line_blocks.specs.declared.queue_reader.QueueReader.TheVariants as reader
 use Rattle.line_blocks.specs.declared.queue_reader.ReaderStep.{ReaderStep}
 use Rattle.line_blocks.specs.declared.queue_reader.ReaderStep.TheVariants as step
-use Rattle.line_blocks.specs.LineBlocks.{Lines, bytes_of, later, no_lines}
+use Rattle.line_blocks.specs.LineBlocks.{Lines, bytes_of, no_lines}
 use Rattle.line_blocks.specs.LineReading.{line_step}
 use Rattle.line_blocks.specs.Readers.{step_of}
 use Rattle.swan_reducers.specs.declared.body.FoldBody.{FoldBody}
 use Rattle.swan_reducers.specs.declared.local.FoldLocal.{FoldLocal}
 use Rattle.swan_reducers.specs.declared.local.FoldLocal.TheVariants as local
 use Rattle.swan_reducers.specs.declared.reducer.Reducer.{Ghosts}
-use Rattle.swan_reducers.specs.Fold.{fold_of, unless_part}
+use Rattle.swan_reducers.specs.Fold.{fold_of}
+use Rattle.swan_reducers.specs.LineFolds.{bad_number}
 
 -- the root's places: the input, the output, and the queue of parts that it makes
 abbrev pub INPUT : ℕ
@@ -42,26 +43,16 @@ abbrev pub told : Option ℕ → FoldLocal × Ask FoldLocal
 told None = (local.Ends, ask.Finish)
 told (Some number) = (local.Ends, ask.Fail BadNumber)
 
--- the first bad line that is known, or else another
-abbrev pub or_first : Option ℕ → Option ℕ → Option ℕ
-or_first None other = other
-or_first (Some number) other = Some number
-
 -- the end is pushed, or is a fault
 abbrev pub pushed_end : Result (List ℕ) Trouble → Ask FoldLocal
 pushed_end (Ok item) = ask.Push 1 (Bytes item)
 pushed_end (Err trouble) = ask.Fail trouble
 
 module _ {R : Type 0} (G : Ghosts R) where
-  -- the number of the first bad line of a block, the first line of which has this number
-  abbrev pub bad_number : R → ℕ → List (List ℕ) → Option ℕ
-  bad_number reducer number [] = None
-  bad_number reducer number (line ∷ lines) = unless_part (G.part_of reducer line) number (bad_number reducer (later number 1) lines)
-
   -- a block task pushes the fold of its lines
   abbrev pub pushes_part : R → Lines → FoldLocal × Ask FoldLocal
   pushes_part reducer block =
-      (local.Told (bad_number reducer block.number (map bytes_of block.lines)), ask.Push 0 (Bytes (fold_of G reducer (map bytes_of block.lines))))
+      (local.Told (bad_number (G.part_of reducer) block.number (map bytes_of block.lines)), ask.Push 0 (Bytes (fold_of G reducer (map bytes_of block.lines))))
 
   -- a record as a part: the zero stands for one that is none
   abbrev pub as_part : R → List ℕ → List ℕ

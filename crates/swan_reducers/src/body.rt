@@ -1,10 +1,8 @@
 // The body of a fold.
-ghost use Rattle.std.specs.Prelude.{◌≡◌, true, map, None, IfOk};
-ghost use Rattle.line_blocks.specs.LineBlocks.{bytes_of};
-ghost use Rattle.swan_reducers.specs.Fold.{fold_of, unless_part, with_part};
-ghost use Rattle.swan_reducers.specs.Steps.{as_part, bad_number, block_task, collector, collects, item_part, or_first, pushed_end, pushes_part, reads, told};
+ghost use Rattle.std.specs.Prelude.{◌≡◌, true, IfOk};
+ghost use Rattle.swan_reducers.specs.Steps.{as_part, block_task, collector, collects, item_part, pushed_end, pushes_part, reads, told};
 
-use crate::{EndAnswer, FoldLocal, LineAnswer, Reducer};
+use crate::{EndAnswer, FoldLocal, Reducer};
 use line_blocks::{HeldLines, LineBlock, LineStep, QueueReader, ReaderStep, gives_of, read_lines};
 use std::alloc::Global;
 use std::marker::{Send, Sync};
@@ -28,15 +26,6 @@ pub struct FoldBody<R> {
 
 /// What a step leaves as the local, and what it asks for.
 type Step = (FoldLocal, Ask<FoldLocal>);
-
-/// What the lines of a block give.
-#[derive(Drop)]
-struct BlockFold {
-    // the join of their parts
-    part: Record,
-    // the number of the first one without a part
-    bad: Option<u64>,
-}
 
 /// A block task: it pushes the part of its lines.
 fn block_task(alloc: Global, block: LineBlock) -> Result<Child<FoldLocal>, NoMemory>
@@ -63,19 +52,6 @@ fn told(bad: Option<u64>) -> Step
     }
 }
 
-/// The record of a line, which is empty for a number. `O(1)`.
-fn record_of(alloc: Global, line: Value) -> Result<Record, NoMemory>
-    ensures { IfOk result (λ it. it ≡ bytes_of line) }
-{
-    match line {
-        Value::Bytes(record) => Ok(record),
-        Value::Int(_) => match Record::of(alloc, &[]) {
-            Ok(empty) => Ok(empty),
-            Err(_) => Err(NoMemory),
-        },
-    }
-}
-
 impl<R: Reducer> FoldBody<R> {
     // The program, whose collector gets this fuel.
     pub(crate) fn new(reducer: R, collector_fuel: u64) -> FoldBody<R>
@@ -87,54 +63,11 @@ impl<R: Reducer> FoldBody<R> {
         }
     }
 
-    /// The join with the part of one more line, which may be a bad one.
-    fn with_line(
-        &self,
-        alloc: Global,
-        fold: BlockFold,
-        number: u64,
-        line: &Record,
-    ) -> Result<BlockFold, NoMemory>
-        requires { R.is_part self.now.reducer fold.part ≡ true }
-        ensures part { IfOk result (λ next. next.part ≡ with_part R.Reducer self.now.reducer fold.part (R.part_of self.now.reducer line.now)) }
-        ensures is_part { IfOk result (λ next. R.is_part self.now.reducer next.part ≡ true) }
-        ensures bad { IfOk result (λ next. next.bad ≡ or_first fold.bad (unless_part (R.part_of self.now.reducer line.now) number None)) }
-    {
-        match self.reducer.of_line(alloc, line) {
-            Ok(part) => Ok(BlockFold {
-                part: self.reducer.join(alloc, &fold.part, &part)?,
-                bad: fold.bad,
-            }),
-            Err(LineAnswer::BadNumber) => Ok(BlockFold {
-                part: fold.part,
-                bad: fold.bad.or(Some(number)),
-            }),
-            Err(LineAnswer::NoMemory) => Err(NoMemory),
-        }
-    }
-
-    /// The fold of a block's lines, and its first bad line.
-    fn fold_block(&self, alloc: Global, mut block: LineBlock) -> Result<BlockFold, NoMemory>
-        ensures part { IfOk result (λ fold. fold.part ≡ fold_of R.Reducer self.now.reducer (map bytes_of block.lines)) }
-        ensures bad { IfOk result (λ fold. fold.bad ≡ bad_number R.Reducer self.now.reducer block.number (map bytes_of block.lines)) }
-    {
-        let mut fold = BlockFold {
-            part: self.reducer.zero(alloc)?,
-            bad: None,
-        };
-        let mut number = block.number();
-        while let Some(line) = block.take() {
-            fold = self.with_line(alloc, fold, number, &record_of(alloc, line)?)?;
-            number = block.number();
-        }
-        Ok(fold)
-    }
-
     /// A block task's step: it pushes the fold of its lines.
     fn pushes_part(&self, alloc: Global, block: LineBlock) -> Result<Step, NoMemory>
         ensures { IfOk result (λ step. step ≡ pushes_part R.Reducer self.now.reducer block) }
     {
-        let fold = self.fold_block(alloc, block)?;
+        let fold = self.reducer.fold_block(alloc, block)?;
         Ok((
             FoldLocal::Told(fold.bad),
             Ask::Push(0, Value::Bytes(fold.part)),
