@@ -16,11 +16,10 @@ use Rattle.swan_model.specs.declared.value.Value.TheVariants.{Bytes}
 use Rattle.swan_model.specs.Elision.{outcome}
 use Rattle.swan_model.specs.Lines.{lines, refusal_of}
 use Rattle.swan_model.specs.SerialState.{Holding}
-use Rattle.line_blocks.specs.declared.held_lines.Held.TheVariants as held
 use Rattle.line_blocks.specs.declared.queue_reader.QueueReader.TheVariants as reader
-use Rattle.line_blocks.specs.Holding.{held_with}
-use Rattle.line_blocks.specs.LineBlocks.{Lines, after_lines, bytes_of, later, with_line}
+use Rattle.line_blocks.specs.LineBlocks.{Lines, bytes_of, later}
 use Rattle.line_blocks.proofs.FewLines.{few_lines}
+use Rattle.line_blocks.proofs.Reading.{hands_block, holds_line, lines_after}
 use Rattle.whole_runs.specs.Whole.{Contents, RunsWhole}
 use Rattle.whole_runs.proofs.BlockReaders.{Reader, IsGiven, begun, last, reading, reads_alone}
 use Rattle.whole_runs.proofs.Blocks.{Held, BlockTask, all_book, all_cost, all_do, blocks, cost_of_blocks, given_if, kept_if, runs_blocks, seen_of_blocks, with_block}
@@ -30,10 +29,11 @@ use Rattle.swan_reducers.specs.declared.body.FoldBody.{FoldBody}
 use Rattle.swan_reducers.specs.declared.local.FoldLocal.{FoldLocal}
 use Rattle.swan_reducers.specs.declared.local.FoldLocal.TheVariants as local
 use Rattle.swan_reducers.specs.declared.reducer.Reducer.{Ghosts}
-use Rattle.swan_reducers.specs.Fold.{bad_blocks, bad_line, first_bad, fold_of, in_blocks, joined_from, unless_part}
+use Rattle.swan_reducers.specs.Fold.{bad_blocks, bad_line, first_bad, fold_of, in_blocks, joined_from}
+use Rattle.swan_reducers.specs.LineFolds.{bad_number, unless_part}
 use Rattle.swan_reducers.specs.Folded.{end_faults, end_records, folded}
 use Rattle.swan_reducers.specs.Plans.{fold_plan}
-use Rattle.swan_reducers.specs.Steps.{as_part, bad_number, block_task, collector, handed, item_part, next, place_of, pushed_end}
+use Rattle.swan_reducers.specs.Steps.{as_part, block_task, collector, item_part, next, place_of, pushed_end, reads}
 use Rattle.swan_reducers.proofs.Joining.{as_part-is, items_are_parts, joined_is_part, join_joined, joined_from-append, parts_are_parts}
 
 -- the input and the parts
@@ -52,26 +52,7 @@ abbrev pushing : List Holding
 pushing = (record { mode = Push; number = 2 }) ∷ []
 
 abbrev kept : Held → Lines
-kept k = record { number = later 1 (length k.before); lines = k.held }
-
-abbrev block_at : List Value → List Value → Lines
-block_at before items = record { number = later 1 (length before); lines = items }
-
-line_is : (before items : List Value) → later (later 1 (length before)) (length items) ≡ later 1 (length (before ++ items))
-line_is before items = omega (arith, length-append before items)
-
-handed_full : (k : Held) (x : Value) → nat_eq (length k.held + 1) 64 ≡ true
-    → handed (held_with (kept k) x) ≡ (local.Reads (reader.Looks (kept (record { before = k.before ++ (k.held ++ x ∷ []); held = [] }))), ask.Spawn (block_task (block_at k.before (k.held ++ x ∷ []))))
-handed_full k x is =
-    let now = with_line (kept k) x in
-    ap (λ full. handed (cond full (held.Block now (after_lines now)) (held.Fewer now))) is
-    ∙ ap {B = FoldLocal × Ask FoldLocal} (λ n. (local.Reads (reader.Looks (record { number = n; lines = [] })), ask.Spawn (block_task now))) (line_is k.before (k.held ++ x ∷ []))
-
-handed_more : (k : Held) (x : Value) → nat_eq (length k.held + 1) 64 ≡ false
-    → handed (held_with (kept k) x) ≡ (local.Reads (reader.Tested (kept (record { before = k.before; held = k.held ++ x ∷ [] }))), ask.Empty 0)
-handed_more k x is =
-    let now = with_line (kept k) x in
-    ap (λ full. handed (cond full (held.Block now (after_lines now)) (held.Fewer now))) is
+kept k = lines_after k.before k.held
 
 abbrev first : Held
 first = record { before = []; held = [] }
@@ -113,7 +94,7 @@ module _ {R : Type 0} (g : Ghosts R) where
     part block = fold_of g body.reducer (map bytes_of block.lines)
 
     abbrev bad : Lines → Option ℕ
-    bad block = bad_number g body.reducer block.number (map bytes_of block.lines)
+    bad block = bad_number (g.part_of body.reducer) block.number (map bytes_of block.lines)
 
     abbrev adds : List Value → Child FoldLocal → List Value
     adds parts child = parts ++ pushed_by child.local
@@ -147,14 +128,14 @@ module _ {R : Type 0} (g : Ghosts R) where
       test = λ k. local.Reads (reader.Tested (kept k));
       take = λ k. local.Reads (reader.Popped (kept k));
       look = λ k. local.Reads (reader.Looks (kept k));
-      rest = λ all. local.Gathers;
+      rest = λ all. local.SpawnsCollector;
       finale = λ all. (local.Ends, ask.Spawn (collector g body));
       path = [];
       holdings = holds;
       place = 0;
       number = 0;
       size = 64;
-      block = λ before items. block_task (block_at before items);
+      block = λ before items. block_task (lines_after before items);
       shape = shape;
       does = adds;
       books = books;
@@ -163,13 +144,13 @@ module _ {R : Type 0} (g : Ghosts R) where
       stands = λ xs w. refl;
       without = λ x xs w. refl;
       takes = λ k fuel. refl;
-      holds = λ k x fuel is. handed_more k x is;
-      hands = λ k x fuel is. handed_full k x is;
+      holds = λ k x fuel is. ap (reads g body) (holds_line k.before k.held x is);
+      hands = λ k x fuel is. ap (reads g body) (hands_block k.before k.held x is);
       looks = λ k fuel. refl;
       ends = λ before fuel. refl;
       hands_rest = λ before x xs fuel. refl;
       rests = λ all fuel. refl;
-      each = λ before items. block_given (block_at before items);
+      each = λ before items. block_given (lines_after before items);
     }
 
     -- ---- what all blocks push
@@ -213,17 +194,17 @@ module _ {R : Type 0} (g : Ghosts R) where
 
     -- ---- which faults they book
 
-    numbers_are : (ls : List (List ℕ)) (n : ℕ) → n + length ls < 2 ^ 64 → bad_number g body.reducer n ls ≡ first_bad g body.reducer n ls
+    numbers_are : (ls : List (List ℕ)) (n : ℕ) → n + length ls < 2 ^ 64 → bad_number (g.part_of body.reducer) n ls ≡ first_bad g body.reducer n ls
     numbers_are [] n few = refl
     numbers_are (line ∷ ls) n few =
-        ap (λ m. unless_part (g.part_of body.reducer line) n (bad_number g body.reducer m ls)) (let e : later n 1 ≡ n + 1 = omega arith in e)
+        ap (λ m. unless_part (g.part_of body.reducer line) n (bad_number (g.part_of body.reducer) m ls)) (let e : later n 1 ≡ n + 1 = omega arith in e)
         ∙ ap (unless_part (g.part_of body.reducer line) n) (numbers_are ls (n + 1) (omega arith))
 
     booked_is : (before items : List Value) (child : ℕ) → length before + length items + 1 < 2 ^ 64
-        → books (child ∷ []) (block_task (block_at before items)) ≡ bad_line (child ∷ []) (first_bad g body.reducer (length before + 1) (map bytes_of items))
+        → books (child ∷ []) (block_task (lines_after before items)) ≡ bad_line (child ∷ []) (first_bad g body.reducer (length before + 1) (map bytes_of items))
     booked_is before items child few =
         let ls = map bytes_of items in
-        ap (λ n. bad_line (child ∷ []) (bad_number g body.reducer n ls)) (let e : later 1 (length before) ≡ length before + 1 = omega arith in e)
+        ap (λ n. bad_line (child ∷ []) (bad_number (g.part_of body.reducer) n ls)) (let e : later 1 (length before) ≡ length before + 1 = omega arith in e)
         ∙ ap (bad_line (child ∷ [])) (numbers_are ls (length before + 1) (omega (arith, length-map items bytes_of)))
 
     booked_are : (xs : List Value) (k : Held) (child : ℕ) → length k.before + length k.held + length xs + 1 < 2 ^ 64
@@ -331,7 +312,7 @@ module _ {R : Type 0} (g : Ghosts R) where
         at_most_one (local.Lines block) = omega (arith, length-append parts (Bytes (part block) ∷ []))
         at_most_one local.Begins = omega (arith, length-append parts [])
         at_most_one (local.Reads k) = omega (arith, length-append parts [])
-        at_most_one local.Gathers = omega (arith, length-append parts [])
+        at_most_one local.SpawnsCollector = omega (arith, length-append parts [])
         at_most_one (local.Told n) = omega (arith, length-append parts [])
         at_most_one (local.Collects k) = omega (arith, length-append parts [])
         at_most_one local.Ends = omega (arith, length-append parts [])

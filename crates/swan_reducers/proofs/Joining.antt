@@ -3,8 +3,9 @@ use Rattle.std.proofs.Common.{◌≡◌, ℕ, Bool, true, false, cond, Option, S
 use Rattle.swan_model.specs.declared.value.Value.{Value}
 use Rattle.swan_model.specs.declared.value.Value.TheVariants.{Int, Bytes}
 use Rattle.swan_reducers.specs.declared.reducer.Reducer.{Ghosts}
-use Rattle.swan_reducers.specs.Fold.{joined_from, unless_part, with_part}
-use Rattle.swan_reducers.specs.Steps.{as_part, item_part, or_first}
+use Rattle.swan_reducers.specs.Fold.{joined_from}
+use Rattle.swan_reducers.specs.LineFolds.{or_first, unless_part, with_part}
+use Rattle.swan_reducers.specs.Steps.{as_part, item_part}
 
 -- a bad line that is known stays the first one
 pub bad_step : (at : Option (List ℕ)) (bad : Option ℕ) (number : ℕ) (others : Option ℕ) → or_first (or_first bad (unless_part at number None)) others ≡ or_first bad (unless_part at number others)
@@ -34,21 +35,21 @@ module _ {R : Type 0} (g : Ghosts R) (reducer : R) where
   items_are_parts (Int number) = (g.laws reducer).zero_is_part
 
   -- with the part of a line that may have none, a part is one still
-  pub with_is_part : (whole line : List ℕ) (at : Option (List ℕ)) → g.part_of reducer line ≡ at → g.is_part reducer whole ≡ true → g.is_part reducer (with_part g reducer whole at) ≡ true
+  pub with_is_part : (whole line : List ℕ) (at : Option (List ℕ)) → g.part_of reducer line ≡ at → g.is_part reducer whole ≡ true → g.is_part reducer (with_part (g.joined reducer) whole at) ≡ true
   with_is_part whole line None is part = part
   with_is_part whole line (Some more) is part = (g.laws reducer).joins_are_parts whole more part ((g.laws reducer).lines_give_parts line more is)
 
   pub joined_is_part : (whole : List ℕ) (lines : List (List ℕ)) → g.is_part reducer whole ≡ true → g.is_part reducer (joined_from g reducer whole lines) ≡ true
   joined_is_part whole [] is = is
   joined_is_part whole (line ∷ lines) is =
-      joined_is_part (with_part g reducer whole (g.part_of reducer line)) lines (with_is_part whole line (g.part_of reducer line) refl is)
+      joined_is_part (with_part (g.joined reducer) whole (g.part_of reducer line)) lines (with_is_part whole line (g.part_of reducer line) refl is)
 
   pub joined_from-append : (whole : List ℕ) (xs ys : List (List ℕ)) → joined_from g reducer (joined_from g reducer whole xs) ys ≡ joined_from g reducer whole (xs ++ ys)
   joined_from-append whole [] ys = refl
-  joined_from-append whole (x ∷ xs) ys = joined_from-append (with_part g reducer whole (g.part_of reducer x)) xs ys
+  joined_from-append whole (x ∷ xs) ys = joined_from-append (with_part (g.joined reducer) whole (g.part_of reducer x)) xs ys
 
   join_with : (left right line : List ℕ) (at : Option (List ℕ)) → g.part_of reducer line ≡ at → g.is_part reducer left ≡ true → g.is_part reducer right ≡ true
-      → g.joined reducer left (with_part g reducer right at) ≡ with_part g reducer (g.joined reducer left right) at
+      → g.joined reducer left (with_part (g.joined reducer) right at) ≡ with_part (g.joined reducer) (g.joined reducer left right) at
   join_with left right line None is l r = refl
   join_with left right line (Some more) is l r = sym ((g.laws reducer).joins_regroup left right more l r ((g.laws reducer).lines_give_parts line more is))
 
@@ -58,5 +59,5 @@ module _ {R : Type 0} (g : Ghosts R) (reducer : R) where
   join_joined left right [] l r = refl
   join_joined left right (line ∷ lines) l r =
       let at = g.part_of reducer line in
-      join_joined left (with_part g reducer right at) lines l (with_is_part right line at refl r)
+      join_joined left (with_part (g.joined reducer) right at) lines l (with_is_part right line at refl r)
       ∙ ap (λ v. joined_from g reducer v lines) (join_with left right line at refl l r)

@@ -1,4 +1,5 @@
 pub mod Folding
+pub mod JoinBlocks
 pub mod JoinTotals
 mod Joining
 pub mod Narrowing

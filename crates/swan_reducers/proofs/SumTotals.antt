@@ -7,7 +7,8 @@ use Rattle.std.specs.Str.Parse.{digits_value}
 use Rattle.job_reader.specs.Atoms.{is_natural, negative_number, number, plain_number}
 use Rattle.swan_reducers.specs.contracts.sum_reducer.SumReducerReducer.TheImpl.{ghosts}
 use Rattle.swan_reducers.specs.declared.sum_reducer.SumReducer.{SumReducer}
-use Rattle.swan_reducers.specs.Fold.{fold_of, joined_from, with_part}
+use Rattle.swan_reducers.specs.Fold.{fold_of, joined_from}
+use Rattle.swan_reducers.specs.LineFolds.{with_part}
 use Rattle.swan_reducers.specs.SumLaws.{sum_back, summed-is}
 use Rattle.swan_reducers.specs.Sums.{decimal_text, or_zero, sum_end, sum_part, total}
 
@@ -74,14 +75,14 @@ sums_all reducer z (line ∷ ls) small = by_case (number line) refl (λ v. sums_
     by_case : (at : Option ℤ) → number line ≡ at → ((v : ℤ) → unsigned_abs v + length ls * 2 ^ 63 < 2 ^ 127 → joined_from ghosts reducer (sum_part v) ls ≡ sum_part (v +ℤ total ls))
         → joined_from ghosts reducer (sum_part z) (line ∷ ls) ≡ sum_part (z +ℤ total (line ∷ ls))
     by_case None is rest =
-        ap (λ o. joined_from ghosts reducer (with_part ghosts reducer (sum_part z) (option_map sum_part o)) ls) is
+        ap (λ o. joined_from ghosts reducer (with_part (ghosts.joined reducer) (sum_part z) (option_map sum_part o)) ls) is
         ∙ rest z (omega (arith, small))
         ∙ ap (λ t. sum_part (z +ℤ t)) (sym (ap (λ o. or_zero o +ℤ total ls) is ∙ zero_add (total ls)))
     by_case (Some n) is rest =
         let most = number_most line n is in
         let sum_most = abs_add z n in
         let wraps_not = int_wrap_fits w128 (z +ℤ n) (fits (z +ℤ n) (omega (arith, sum_most, most, small))) in
-        ap (λ o. joined_from ghosts reducer (with_part ghosts reducer (sum_part z) (option_map sum_part o)) ls) is
+        ap (λ o. joined_from ghosts reducer (with_part (ghosts.joined reducer) (sum_part z) (option_map sum_part o)) ls) is
         ∙ ap (λ v. joined_from ghosts reducer v ls) (summed-is z n (fits z (omega (arith, small))) (fits n (omega (arith, most))) ∙ ap sum_part wraps_not)
         ∙ rest (z +ℤ n) (omega (arith, sum_most, most, small))
         ∙ ap sum_part (regroup z n (total ls))

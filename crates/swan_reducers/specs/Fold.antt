@@ -5,6 +5,7 @@ use Rattle.swan_model.specs.declared.fault.FaultKind.TheVariants as kind
 use Rattle.swan_model.specs.declared.fault.Trouble.TheVariants.{BadNumber}
 use Rattle.line_blocks.specs.declared.line_block.TheConstants.{BLOCK_LINES}
 use Rattle.swan_reducers.specs.declared.reducer.Reducer.{Ghosts}
+use Rattle.swan_reducers.specs.LineFolds.{joined_lines, unless_part}
 
 -- the lines in blocks, where these are held already: each has BLOCK_LINES lines, and the last one what is left
 abbrev pub last_block : {X : Type 0} → List X → List (List X)
@@ -21,21 +22,10 @@ abbrev pub bad_line : List ℕ → Option ℕ → List Fault
 bad_line path None = []
 bad_line path (Some number) = (record { path = path; place = number; kind = kind.Trouble BadNumber }) ∷ []
 
--- the number of a line without a part, and else that of a later line
-abbrev pub unless_part : Option (List ℕ) → ℕ → Option ℕ → Option ℕ
-unless_part None number others = Some number
-unless_part (Some part) number others = others
-
 module _ {R : Type 0} (G : Ghosts R) (reducer : R) where
-  -- with one more part, where there is one
-  abbrev pub with_part : List ℕ → Option (List ℕ) → List ℕ
-  with_part whole None = whole
-  with_part whole (Some part) = G.joined reducer whole part
-
   -- the join, from the left, of a part and the parts of lines
   abbrev pub joined_from : List ℕ → List (List ℕ) → List ℕ
-  joined_from whole [] = whole
-  joined_from whole (line ∷ lines) = joined_from (with_part whole (G.part_of reducer line)) lines
+  joined_from = joined_lines (G.part_of reducer) (G.joined reducer)
 
   -- the fold of lines
   abbrev pub fold_of : List (List ℕ) → List ℕ

@@ -11,7 +11,7 @@ joined_not_long (x ∷ []) [] l r = l
 joined_not_long (x ∷ []) (y ∷ ys) l r = refl
 joined_not_long (x ∷ y ∷ xs) right l r = refl
 
-long_is : (part : List ℕ) → is_too_long part ≡ true → part ≡ too_long
+pub long_is : (part : List ℕ) → is_too_long part ≡ true → part ≡ too_long
 long_is [] is = absurd (cc)
 long_is (x ∷ []) is = let e : x ≡ 10 = search (rules, tests) in ap (λ n. n ∷ []) e
 long_is (x ∷ y ∷ xs) is = absurd (cc)
@@ -29,7 +29,7 @@ or_right false = refl
 long_left : (left right : List ℕ) → is_too_long left ≡ true → bytes_joined left right ≡ too_long
 long_left left right is = ap (λ b. cond (b || is_too_long right) too_long (fitting (left ++ right))) is
 
-long_right : (left right : List ℕ) → is_too_long right ≡ true → bytes_joined left right ≡ too_long
+pub long_right : (left right : List ℕ) → is_too_long right ≡ true → bytes_joined left right ≡ too_long
 long_right left right is =
     ap (λ b. cond (is_too_long left || b) too_long (fitting (left ++ right))) is ∙ ap (λ b. cond b too_long (fitting (left ++ right))) (or_right (is_too_long left))
 

@@ -1,6 +1,6 @@
 -- The reducer of joins. A part is at most JOIN_MOST bytes, which stand for themselves. The line feed alone stands for
 -- more bytes than that: no line of a text is it, nor is a join of lines.
-use Rattle.std.specs.Prelude.{ℕ, ◌==◌, nat_lt, nat_le, Bool, false, ◌||◌, Option, Some, Result, Ok, Err, if◌then◌else◌, List, [], ◌∷◌, ◌++◌, length}
+use Rattle.std.specs.Prelude.{ℕ, ◌+◌, ◌==◌, nat_lt, nat_le, Bool, false, ◌||◌, Option, Some, Result, Ok, Err, if◌then◌else◌, List, [], ◌∷◌, ◌++◌, length}
 use Rattle.swan_model.specs.declared.fault.Trouble.{Trouble}
 use Rattle.swan_model.specs.declared.fault.Trouble.TheVariants.{TooLong}
 use Rattle.swan_reducers.specs.declared.join_reducer.TheConstants.{JOIN_MOST}
@@ -25,6 +25,10 @@ line_part line = Some (fitting line)
 
 abbrev pub bytes_joined : List ℕ → List ℕ → List ℕ
 bytes_joined left right = if is_too_long left || is_too_long right then too_long else fitting (left ++ right)
+
+-- whether a line makes joined bytes too many
+abbrev pub passes : List ℕ → List ℕ → Bool
+passes whole line = is_too_long line || nat_lt JOIN_MOST (length whole + length line)
 
 abbrev pub join_end : List ℕ → Result (List ℕ) Trouble
 join_end part = if is_too_long part then Err TooLong else Ok part

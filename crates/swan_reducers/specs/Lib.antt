@@ -1,4 +1,5 @@
 pub mod Lawful
+pub mod LineFolds
 pub mod Fold
 pub mod Sums
 pub mod Joins

@@ -9,19 +9,20 @@ use Rattle.swan_model.specs.declared.fault.Trouble.TheVariants.{BadNumber}
 use Rattle.swan_model.specs.declared.rights.Mode.TheVariants.{Push, Pop}
 use Rattle.swan_model.specs.declared.value.Value.{Value}
 use Rattle.swan_model.specs.declared.value.Value.TheVariants.{Int, Bytes}
-use Rattle.line_blocks.specs.declared.held_lines.Held.{Held}
-use Rattle.line_blocks.specs.declared.held_lines.Held.TheVariants as held
+use Rattle.line_blocks.specs.declared.line_reader.LineStep.{LineStep}
+use Rattle.line_blocks.specs.declared.line_reader.LineStep.TheVariants as reading
 use Rattle.line_blocks.specs.declared.queue_reader.QueueReader.TheVariants as reader
 use Rattle.line_blocks.specs.declared.queue_reader.ReaderStep.{ReaderStep}
 use Rattle.line_blocks.specs.declared.queue_reader.ReaderStep.TheVariants as step
-use Rattle.line_blocks.specs.Holding.{held_with}
-use Rattle.line_blocks.specs.LineBlocks.{Lines, bytes_of, later, no_lines}
+use Rattle.line_blocks.specs.LineBlocks.{Lines, bytes_of, no_lines}
+use Rattle.line_blocks.specs.LineReading.{line_step}
 use Rattle.line_blocks.specs.Readers.{step_of}
 use Rattle.swan_reducers.specs.declared.body.FoldBody.{FoldBody}
 use Rattle.swan_reducers.specs.declared.local.FoldLocal.{FoldLocal}
 use Rattle.swan_reducers.specs.declared.local.FoldLocal.TheVariants as local
 use Rattle.swan_reducers.specs.declared.reducer.Reducer.{Ghosts}
-use Rattle.swan_reducers.specs.Fold.{fold_of, unless_part}
+use Rattle.swan_reducers.specs.Fold.{fold_of}
+use Rattle.swan_reducers.specs.LineFolds.{bad_number}
 
 -- the root's places: the input, the output, and the queue of parts that it makes
 abbrev pub INPUT : ℕ
@@ -37,20 +38,10 @@ PARTS = 2
 abbrev pub block_task : Lines → Child FoldLocal
 block_task block = record { local = local.Lines block; gives = (record { place = PARTS; mode = Push }) ∷ []; fuel = 2 }
 
--- a block is given to a task
-abbrev pub handed : Held → FoldLocal × Ask FoldLocal
-handed (held.Fewer lines) = (local.Reads (reader.Tested lines), ask.Empty INPUT)
-handed (held.Block block lines) = (local.Reads (reader.Looks lines), ask.Spawn (block_task block))
-
 -- a block task that has pushed its part ends by the fault of its first bad line, where it has one
 abbrev pub told : Option ℕ → FoldLocal × Ask FoldLocal
 told None = (local.Ends, ask.Finish)
 told (Some number) = (local.Ends, ask.Fail BadNumber)
-
--- the first bad line that is known, or else another
-abbrev pub or_first : Option ℕ → Option ℕ → Option ℕ
-or_first None other = other
-or_first (Some number) other = Some number
 
 -- the end is pushed, or is a fault
 abbrev pub pushed_end : Result (List ℕ) Trouble → Ask FoldLocal
@@ -58,15 +49,10 @@ pushed_end (Ok item) = ask.Push 1 (Bytes item)
 pushed_end (Err trouble) = ask.Fail trouble
 
 module _ {R : Type 0} (G : Ghosts R) where
-  -- the number of the first bad line of a block, the first line of which has this number
-  abbrev pub bad_number : R → ℕ → List (List ℕ) → Option ℕ
-  bad_number reducer number [] = None
-  bad_number reducer number (line ∷ lines) = unless_part (G.part_of reducer line) number (bad_number reducer (later number 1) lines)
-
   -- a block task pushes the fold of its lines
   abbrev pub pushes_part : R → Lines → FoldLocal × Ask FoldLocal
   pushes_part reducer block =
-      (local.Told (bad_number reducer block.number (map bytes_of block.lines)), ask.Push 0 (Bytes (fold_of G reducer (map bytes_of block.lines))))
+      (local.Told (bad_number (G.part_of reducer) block.number (map bytes_of block.lines)), ask.Push 0 (Bytes (fold_of G reducer (map bytes_of block.lines))))
 
   -- a record as a part: the zero stands for one that is none
   abbrev pub as_part : R → List ℕ → List ℕ
@@ -91,21 +77,18 @@ module _ {R : Type 0} (G : Ghosts R) where
     fuel = body.collector_fuel;
   }
 
-  -- once the input is empty, lines that are held are a last block
-  abbrev pub handed_last : FoldBody R → ℕ → List Value → FoldLocal × Ask FoldLocal
-  handed_last body number [] = (local.Ends, ask.Spawn (collector body))
-  handed_last body number (line ∷ lines) = (local.Gathers, ask.Spawn (block_task (record { number = number; lines = line ∷ lines })))
-
-  abbrev pub reads : FoldBody R → ReaderStep Lines → FoldLocal × Ask FoldLocal
-  reads body (step.Tests lines) = (local.Reads (reader.Tested lines), ask.Empty INPUT)
-  reads body (step.Pops lines) = (local.Reads (reader.Popped lines), ask.Pop INPUT)
-  reads body (step.Takes lines line) = handed (held_with lines line)
-  reads body (step.Ends lines) = handed_last body lines.number lines.lines
+  -- the root's step as it reads: each block is given to a task, and then the collector begins
+  abbrev pub reads : FoldBody R → LineStep → FoldLocal × Ask FoldLocal
+  reads body (reading.Tests at) = (local.Reads at, ask.Empty INPUT)
+  reads body (reading.Pops at) = (local.Reads at, ask.Pop INPUT)
+  reads body (reading.Hands block at) = (local.Reads at, ask.Spawn (block_task block))
+  reads body (reading.HandsLast block) = (local.SpawnsCollector, ask.Spawn (block_task block))
+  reads body reading.Ends = (local.Ends, ask.Spawn (collector body))
 
   abbrev pub next : FoldBody R → FoldLocal → Answer → ℕ → FoldLocal × Ask FoldLocal
   next body local.Begins answer fuel = (local.Reads (reader.Looks no_lines), ask.NewQueue)
-  next body (local.Reads at) answer fuel = reads body (step_of at answer)
-  next body local.Gathers answer fuel = (local.Ends, ask.Spawn (collector body))
+  next body (local.Reads at) answer fuel = reads body (line_step (step_of at answer))
+  next body local.SpawnsCollector answer fuel = (local.Ends, ask.Spawn (collector body))
   next body (local.Lines block) answer fuel = pushes_part body.reducer block
   next body (local.Told bad) answer fuel = told bad
   next body (local.Collects at) answer fuel = collects body.reducer (step_of at answer)

@@ -1,11 +1,9 @@
 // The body of a fold.
-ghost use Rattle.std.specs.Prelude.{◌≡◌, true, map, None, IfOk};
-ghost use Rattle.line_blocks.specs.LineBlocks.{bytes_of};
-ghost use Rattle.swan_reducers.specs.Fold.{fold_of, unless_part, with_part};
-ghost use Rattle.swan_reducers.specs.Steps.{as_part, bad_number, block_task, collector, collects, handed, handed_last, item_part, or_first, pushed_end, pushes_part, reads, told};
+ghost use Rattle.std.specs.Prelude.{◌≡◌, true, IfOk};
+ghost use Rattle.swan_reducers.specs.Steps.{as_part, block_task, collector, collects, item_part, pushed_end, pushes_part, reads, told};
 
-use crate::{EndAnswer, FoldLocal, LineAnswer, Reducer};
-use line_blocks::{Held, HeldLines, LineBlock, QueueReader, ReaderStep, gives_of};
+use crate::{EndAnswer, FoldLocal, Reducer};
+use line_blocks::{HeldLines, LineBlock, LineStep, QueueReader, ReaderStep, gives_of, read_lines};
 use std::alloc::Global;
 use std::marker::{Send, Sync};
 use swan_model::{Answer, Ask, Body, Child, Give, Mode, NoMemory, Record, Trouble, Value};
@@ -29,15 +27,6 @@ pub struct FoldBody<R> {
 /// What a step leaves as the local, and what it asks for.
 type Step = (FoldLocal, Ask<FoldLocal>);
 
-/// What the lines of a block give.
-#[derive(Drop)]
-struct BlockFold {
-    // the join of their parts
-    part: Record,
-    // the number of the first one without a part
-    bad: Option<u64>,
-}
-
 /// A block task: it pushes the part of its lines.
 fn block_task(alloc: Global, block: LineBlock) -> Result<Child<FoldLocal>, NoMemory>
     ensures { IfOk result (λ child. child ≡ block_task block) }
@@ -53,22 +42,6 @@ fn block_task(alloc: Global, block: LineBlock) -> Result<Child<FoldLocal>, NoMem
     })
 }
 
-/// What the root does with held lines: it gives a block to a task, or reads on.
-fn handed(alloc: Global, held: Held) -> Result<Step, NoMemory>
-    ensures { IfOk result (λ step. step ≡ handed held) }
-{
-    match held {
-        Held::Fewer(lines) => Ok((
-            FoldLocal::Reads(QueueReader::Tested(lines)),
-            Ask::Empty(INPUT),
-        )),
-        Held::Block(block, lines) => Ok((
-            FoldLocal::Reads(QueueReader::Looks(lines)),
-            Ask::Spawn(block_task(alloc, block)?),
-        )),
-    }
-}
-
 /// What a block task does once it has pushed its part.
 fn told(bad: Option<u64>) -> Step
     ensures { result ≡ told bad }
@@ -76,19 +49,6 @@ fn told(bad: Option<u64>) -> Step
     match bad {
         Some(_) => (FoldLocal::Ends, Ask::Fail(Trouble::BadNumber)),
         None => (FoldLocal::Ends, Ask::Finish),
-    }
-}
-
-/// The record of a line, which is empty for a number. `O(1)`.
-fn record_of(alloc: Global, line: Value) -> Result<Record, NoMemory>
-    ensures { IfOk result (λ it. it ≡ bytes_of line) }
-{
-    match line {
-        Value::Bytes(record) => Ok(record),
-        Value::Int(_) => match Record::of(alloc, &[]) {
-            Ok(empty) => Ok(empty),
-            Err(_) => Err(NoMemory),
-        },
     }
 }
 
@@ -103,54 +63,11 @@ impl<R: Reducer> FoldBody<R> {
         }
     }
 
-    /// The join with the part of one more line, which may be a bad one.
-    fn with_line(
-        &self,
-        alloc: Global,
-        fold: BlockFold,
-        number: u64,
-        line: &Record,
-    ) -> Result<BlockFold, NoMemory>
-        requires { R.is_part self.now.reducer fold.part ≡ true }
-        ensures part { IfOk result (λ next. next.part ≡ with_part R.Reducer self.now.reducer fold.part (R.part_of self.now.reducer line.now)) }
-        ensures is_part { IfOk result (λ next. R.is_part self.now.reducer next.part ≡ true) }
-        ensures bad { IfOk result (λ next. next.bad ≡ or_first fold.bad (unless_part (R.part_of self.now.reducer line.now) number None)) }
-    {
-        match self.reducer.of_line(alloc, line) {
-            Ok(part) => Ok(BlockFold {
-                part: self.reducer.join(alloc, &fold.part, &part)?,
-                bad: fold.bad,
-            }),
-            Err(LineAnswer::BadNumber) => Ok(BlockFold {
-                part: fold.part,
-                bad: fold.bad.or(Some(number)),
-            }),
-            Err(LineAnswer::NoMemory) => Err(NoMemory),
-        }
-    }
-
-    /// The fold of a block's lines, and its first bad line.
-    fn fold_block(&self, alloc: Global, mut block: LineBlock) -> Result<BlockFold, NoMemory>
-        ensures part { IfOk result (λ fold. fold.part ≡ fold_of R.Reducer self.now.reducer (map bytes_of block.lines)) }
-        ensures bad { IfOk result (λ fold. fold.bad ≡ bad_number R.Reducer self.now.reducer block.number (map bytes_of block.lines)) }
-    {
-        let mut fold = BlockFold {
-            part: self.reducer.zero(alloc)?,
-            bad: None,
-        };
-        let mut number = block.number();
-        while let Some(line) = block.take() {
-            fold = self.with_line(alloc, fold, number, &record_of(alloc, line)?)?;
-            number = block.number();
-        }
-        Ok(fold)
-    }
-
     /// A block task's step: it pushes the fold of its lines.
     fn pushes_part(&self, alloc: Global, block: LineBlock) -> Result<Step, NoMemory>
         ensures { IfOk result (λ step. step ≡ pushes_part R.Reducer self.now.reducer block) }
     {
-        let fold = self.fold_block(alloc, block)?;
+        let fold = self.reducer.fold_block(alloc, block)?;
         Ok((
             FoldLocal::Told(fold.bad),
             Ask::Push(0, Value::Bytes(fold.part)),
@@ -241,32 +158,28 @@ impl<R: Reducer> FoldBody<R> {
         })
     }
 
-    /// What the root does once the input is empty: lines that are held are a last block.
-    fn handed_last(&self, alloc: Global, block: LineBlock) -> Result<Step, NoMemory>
-        ensures { IfOk result (λ step. step ≡ handed_last R.Reducer self.now block.number block.lines) }
-    {
-        if block.is_empty() {
-            return Ok((FoldLocal::Ends, Ask::Spawn(self.collector(alloc)?)));
-        }
-        Ok((FoldLocal::Gathers, Ask::Spawn(block_task(alloc, block)?)))
-    }
-
-    /// The root's step as it reads.
-    fn reads(&self, alloc: Global, step: ReaderStep<HeldLines>) -> Result<Step, NoMemory>
+    /// The root's step as it reads: each block is given to a task, and then the collector begins.
+    fn reads(&self, alloc: Global, step: LineStep) -> Result<Step, NoMemory>
         ensures { IfOk result (λ next. next ≡ reads R.Reducer self.now step) }
     {
-        match step {
-            ReaderStep::Tests(lines) => Ok((
-                FoldLocal::Reads(QueueReader::Tested(lines)),
-                Ask::Empty(INPUT),
-            )),
-            ReaderStep::Pops(lines) => Ok((
-                FoldLocal::Reads(QueueReader::Popped(lines)),
-                Ask::Pop(INPUT),
-            )),
-            ReaderStep::Takes(lines, line) => handed(alloc, lines.hold(alloc, line)?),
-            ReaderStep::Ends(lines) => self.handed_last(alloc, lines.into_block()),
-        }
+        let next = match step {
+            LineStep::Tests(reader) => (FoldLocal::Reads(reader), Ask::Empty(INPUT)),
+            LineStep::Pops(reader) => (FoldLocal::Reads(reader), Ask::Pop(INPUT)),
+            LineStep::Hands(block, reader) => {
+                (
+                    FoldLocal::Reads(reader),
+                    Ask::Spawn(block_task(alloc, block)?),
+                )
+            }
+            LineStep::HandsLast(block) => {
+                (
+                    FoldLocal::SpawnsCollector,
+                    Ask::Spawn(block_task(alloc, block)?),
+                )
+            }
+            LineStep::Ends => (FoldLocal::Ends, Ask::Spawn(self.collector(alloc)?)),
+        };
+        Ok(next)
     }
 }
 
@@ -291,8 +204,8 @@ impl<R: Reducer + Send + Sync> Body for FoldBody<R> {
                 FoldLocal::Reads(QueueReader::Looks(HeldLines::new(alloc))),
                 Ask::NewQueue,
             )),
-            FoldLocal::Reads(reader) => self.reads(alloc, reader.step(answer)),
-            FoldLocal::Gathers => Ok((FoldLocal::Ends, Ask::Spawn(self.collector(alloc)?))),
+            FoldLocal::Reads(reader) => self.reads(alloc, read_lines(alloc, reader, answer)?),
+            FoldLocal::SpawnsCollector => Ok((FoldLocal::Ends, Ask::Spawn(self.collector(alloc)?))),
             FoldLocal::Lines(block) => self.pushes_part(alloc, block),
             FoldLocal::Told(bad) => Ok(told(bad)),
             FoldLocal::Collects(reader) => self.collects(alloc, reader.step(answer)),

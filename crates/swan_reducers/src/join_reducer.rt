@@ -1,8 +1,11 @@
 // The reducer of joins.
-ghost use Rattle.std.specs.Prelude.{◌≡◌, ◌≤◌, ◌++◌, true, length, IfOk};
-ghost use Rattle.swan_reducers.specs.Joins.{fitting, is_too_long, too_long};
+ghost use Rattle.std.specs.Prelude.{◌≡◌, ◌≤◌, [], ◌++◌, true, length, map, IfOk};
+ghost use Rattle.line_blocks.specs.LineBlocks.{bytes_of};
+ghost use Rattle.swan_reducers.specs.Joins.{bytes_joined, fitting, is_too_long, line_part, passes, too_long};
+ghost use Rattle.swan_reducers.specs.LineFolds.{joined_lines};
 
-use crate::{EndAnswer, LineAnswer, Reducer};
+use crate::{BlockFold, EndAnswer, LineAnswer, Reducer};
+use line_blocks::{LineBlock, bytes_of};
 use std::alloc::Global;
 use swan_model::{NoMemory, Record, RecordAnswer, Trouble};
 
@@ -13,7 +16,7 @@ pub const JOIN_MOST: usize = 65_535;
 /// `JOIN_MOST`.
 ///
 /// A part is the bytes that are joined. The line feed alone means that they are too many: no line of a text is one.
-/// Each call is `O(1)`, but `join`, which copies both sides once where neither is empty.
+/// Each call is `O(1)` but `join` and `fold_block`, which are `O(length)` of what they join.
 #[derive(Drop)]
 pub struct JoinReducer;
 
@@ -45,7 +48,7 @@ fn too_long(alloc: Global) -> Result<Record, NoMemory>
     record_of(alloc, b"\n")
 }
 
-/// Both sides joined, unless there are too many bytes. `O(length)`, one copy.
+/// Both sides joined, unless there are too many bytes. `O(length)`.
 fn joined(alloc: Global, left: &[u8], right: &[u8]) -> Result<Record, NoMemory>
     requires left { length left.now ≤ JOIN_MOST }
     requires right { length right.now ≤ JOIN_MOST }
@@ -57,6 +60,31 @@ fn joined(alloc: Global, left: &[u8], right: &[u8]) -> Result<Record, NoMemory>
     let mut bytes = Vec::with_capacity(alloc, left.len() + right.len())?;
     bytes.extend_from_slice(left)?;
     bytes.extend_from_slice(right)?;
+    record_of(alloc, bytes.as_slice())
+}
+
+/// Whether a line makes joined bytes too many. `O(1)`.
+fn passes(bytes: &[u8], line: &[u8]) -> bool
+    requires { length bytes.now ≤ JOIN_MOST }
+    ensures { result ≡ passes bytes.now line.now }
+{
+    is_too_long(line) || JOIN_MOST - bytes.len() < line.len()
+}
+
+/// The join of a block's lines, each of which is copied once into one buffer, as long as they fit. `O(length)`.
+#[tactic(auto, using(crate::proofs::JoinBlocks::ends_long, crate::proofs::JoinBlocks::goes_on, crate::proofs::JoinBlocks::keeps_short, crate::proofs::JoinBlocks::keeps_few))]
+fn lines_joined(alloc: Global, mut block: LineBlock) -> Result<Record, NoMemory>
+    ensures { IfOk result (λ part. part ≡ joined_lines line_part bytes_joined [] (map bytes_of block.lines)) }
+{
+    let room = block.byte_count().min(JOIN_MOST as u64) as usize;
+    let mut bytes = Vec::with_capacity(alloc, room)?;
+    while let Some(line) = block.take() {
+        let line = bytes_of(&line);
+        if passes(bytes.as_slice(), line) {
+            return too_long(alloc);
+        }
+        bytes.extend_from_slice(line)?;
+    }
     record_of(alloc, bytes.as_slice())
 }
 
@@ -105,5 +133,13 @@ impl Reducer for JoinReducer {
             return Err(EndAnswer::Trouble(Trouble::TooLong));
         }
         Ok(whole.copy()?)
+    }
+
+    #[tactic(auto, using(crate::proofs::JoinBlocks::none_is_bad))]
+    fn fold_block(&self, alloc: Global, block: LineBlock) -> Result<BlockFold, NoMemory> {
+        Ok(BlockFold {
+            part: lines_joined(alloc, block)?,
+            bad: None,
+        })
     }
 }

@@ -25,14 +25,12 @@ pub fn the_outcome_is_the_fold<R: Reducer + Send + Sync>()
 
 /// The law that the fold of lines by the reducer of sums ends with the decimal text of the sum of those that are
 /// numbers, and by Overflow exactly where this sum doesn't fit 64 bits with its sign: what is kept on the way is exact.
-#[tactic(auto, using(crate::proofs::SumTotals::sums_are_exact))]
 pub fn sums_are_exact()
     ensures { (reducer : SumReducer) (ls : List (List ℕ)) → length ls ≤ LINES_MOST → sum_end (fold_of ⟦<SumReducer as Reducer>⟧ reducer ls) ≡ decimal_text (total ls) }
 {}
 
 /// The law that the fold of a text by the reducer of joins ends with the bytes of its lines, and by TooLong exactly where
 /// they are more than `JOIN_MOST`, which is 65,535.
-#[tactic(auto, using(crate::proofs::JoinTotals::joins_are_whole))]
 pub fn joins_are_whole()
     ensures whole { (reducer : JoinReducer) (text : List ℕ) → join_end (fold_of ⟦<JoinReducer as Reducer>⟧ reducer (lines text)) ≡ whole_text (all_bytes (lines text)) }
     ensures most { JOIN_MOST ≡ 65535 }

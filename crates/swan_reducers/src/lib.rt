@@ -33,5 +33,5 @@ pub use join_reducer::{JOIN_MOST, JoinReducer};
 pub use laws::{joins_are_whole, sums_are_exact, the_outcome_is_the_fold};
 pub use local::FoldLocal;
 pub use plan::{fold_names, fold_plan};
-pub use reducer::{EndAnswer, LineAnswer, Reducer};
+pub use reducer::{BlockFold, EndAnswer, LineAnswer, Reducer};
 pub use sum_reducer::SumReducer;

@@ -1,5 +1,5 @@
 // What the tasks of a fold keep.
-use line_blocks::{HeldLines, LineBlock, QueueReader};
+use line_blocks::{LineBlock, LineReader, QueueReader};
 use swan_model::Record;
 
 /// What a task of a fold keeps between its steps: where it stands, and what it holds.
@@ -8,9 +8,9 @@ pub enum FoldLocal {
     /// The root, before it makes the queue of parts.
     Begins,
     /// The root as it reads lines.
-    Reads(QueueReader<HeldLines>),
+    Reads(LineReader),
     /// The root, once all lines are with block tasks.
-    Gathers,
+    SpawnsCollector,
     /// A block task, before it folds its lines.
     Lines(LineBlock),
     /// A block task that has pushed its part, with the number of its first bad line.

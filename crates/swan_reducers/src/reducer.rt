@@ -1,12 +1,15 @@
 // Reducers: what a fold joins.
-ghost use Rattle.std.specs.Prelude.{◌≡◌, ℕ, Bool, true, List, Option, Some, None, Result, Ok, Err, IfOk};
+ghost use Rattle.std.specs.Prelude.{◌≡◌, ℕ, Bool, true, List, Option, Some, None, Result, Ok, Err, IfOk, map};
+ghost use Rattle.line_blocks.specs.LineBlocks.{bytes_of};
 ghost use Rattle.swan_model.specs.declared.fault.Trouble.{Trouble};
 ghost use Rattle.swan_reducers.specs.Lawful.{IsLawful};
+ghost use Rattle.swan_reducers.specs.LineFolds.{bad_number, joined_lines, or_first, unless_part, with_part};
 ghost use Rattle.swan_reducers.specs.declared.reducer.EndAnswer.TheVariants as end_answer;
 ghost use Rattle.swan_reducers.specs.declared.reducer.LineAnswer.TheVariants as line_answer;
 
+use line_blocks::LineBlock;
 use std::alloc::Global;
-use swan_model::{NoMemory, Record, Trouble};
+use swan_model::{NoMemory, Record, Trouble, Value};
 
 /// Why a line gives no part.
 #[derive(Clone, Copy, Debug, PartialEq, Eq)]
@@ -39,6 +42,28 @@ impl From<NoMemory> for EndAnswer {
 
     fn from(_want: NoMemory) -> EndAnswer {
         EndAnswer::NoMemory
+    }
+}
+
+/// What the lines of a block give.
+#[derive(Drop)]
+pub struct BlockFold {
+    /// The join of their parts, in order.
+    pub part: Record,
+    /// The number of the first one without a part.
+    pub bad: Option<u64>,
+}
+
+/// The record of a line, which is empty for a number. `O(1)`.
+fn record_of(alloc: Global, line: Value) -> Result<Record, NoMemory>
+    ensures { IfOk result (λ it. it ≡ bytes_of line) }
+{
+    match line {
+        Value::Bytes(record) => Ok(record),
+        Value::Int(_) => match Record::of(alloc, &[]) {
+            Ok(empty) => Ok(empty),
+            Err(_) => Err(NoMemory),
+        },
     }
 }
 
@@ -90,4 +115,50 @@ pub trait Reducer: Drop {
         requires { is_part self.now whole.now ≡ true }
         ensures end { IfOk result (λ end. end_of self.now whole.now ≡ Ok end) }
         ensures trouble { (trouble : Trouble) → result ≡ Err (end_answer.Trouble trouble) → end_of self.now whole.now ≡ Err trouble };
+
+    /// What the lines so far give, with one more line, which may be a bad one. Err is want of memory.
+    fn with_line(
+        &self,
+        alloc: Global,
+        fold: BlockFold,
+        number: u64,
+        line: &Record,
+    ) -> Result<BlockFold, NoMemory>
+        requires { is_part self.now fold.part ≡ true }
+        ensures part { IfOk result (λ next. next.part ≡ with_part (joined self.now) fold.part (part_of self.now line.now)) }
+        ensures is_part { IfOk result (λ next. is_part self.now next.part ≡ true) }
+        ensures bad { IfOk result (λ next. next.bad ≡ or_first fold.bad (unless_part (part_of self.now line.now) number None)) }
+    {
+        match self.of_line(alloc, line) {
+            Ok(part) => Ok(BlockFold {
+                part: self.join(alloc, &fold.part, &part)?,
+                bad: fold.bad,
+            }),
+            Err(LineAnswer::BadNumber) => Ok(BlockFold {
+                part: fold.part,
+                bad: fold.bad.or(Some(number)),
+            }),
+            Err(LineAnswer::NoMemory) => Err(NoMemory),
+        }
+    }
+
+    /// The fold of a block's lines, and its first bad line. Err is want of memory.
+    ///
+    /// Where a reducer has none of its own, this is one call of `of_line` and one of `join` for each line, in order. A
+    /// reducer whose join copies what is joined already has a cheaper one.
+    fn fold_block(&self, alloc: Global, mut block: LineBlock) -> Result<BlockFold, NoMemory>
+        ensures part { IfOk result (λ fold. fold.part ≡ joined_lines (part_of self.now) (joined self.now) (zero_part self.now) (map bytes_of block.lines)) }
+        ensures bad { IfOk result (λ fold. fold.bad ≡ bad_number (part_of self.now) block.number (map bytes_of block.lines)) }
+    {
+        let mut fold = BlockFold {
+            part: self.zero(alloc)?,
+            bad: None,
+        };
+        let mut number = block.number();
+        while let Some(line) = block.take() {
+            fold = self.with_line(alloc, fold, number, &record_of(alloc, line)?)?;
+            number = block.number();
+        }
+        Ok(fold)
+    }
 }

@@ -57,6 +57,7 @@ fn sum_part(alloc: Global, sum: i128) -> Result<Record, NoMemory>
 }
 
 /// The sum of two sums, which wraps at 128 bits.
+#[tactic(auto, using(std::proofs::lemmas::Int::wrapping_add_is))]
 fn added(left: i128, right: i128) -> i128
     ensures { result ≡ int_wrap w128 (left +ℤ right) }
 {

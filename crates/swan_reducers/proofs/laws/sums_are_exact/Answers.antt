@@ -1,0 +1,6 @@
+-- The sum of lines.
+use Rattle.swan_reducers.proofs.SumTotals.{sums_are_exact}
+use Rattle.swan_reducers.proofs.laws.sums_are_exact.Goals as goal
+
+pub returns : goal.returns
+returns c = sums_are_exact
