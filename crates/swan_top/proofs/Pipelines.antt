@@ -67,7 +67,9 @@ module _ (files : FilesSeen) (out report : SinkSeen) (input : List ℕ) where
       → (text : List ℕ) × IsRead (files.content input) text × (refusal_of text ≡ None) × (verdict ≡ printed text_names (outcome_over text))
   read_of outcome_over verdict [] runs read (inl failed) = let bad : is_run (ends_of verdict) ≡ false = ap (λ w. is_run (ends_of w)) failed.0 in absurd (cc)
   read_of outcome_over verdict [] runs read (inr longer) = let bad : is_run (ends_of verdict) ≡ false = ap (λ w. is_run (ends_of w)) longer.0 in absurd (cc)
-  read_of outcome_over verdict (text ∷ texts) runs read follows = (text, read.0, fit (refusal_of text) verdict (printed text_names (outcome_over text)) follows.0 runs)
+  read_of outcome_over verdict (text ∷ texts) runs read follows =
+      let fits = fit (refusal_of text) verdict (printed text_names (outcome_over text)) follows.0 runs in
+      (text, read.0, fits.0, fits.1)
 
   report_is : (items : List Value) (faults : List Fault) → report_bytes text_names (record { objects = []; queues = [] ∷ items ∷ []; faults = faults }) ≡ pipeline_report faults
   report_is items faults =
