@@ -1,0 +1,5 @@
+pub mod BulkLines
+pub mod Digits
+pub mod Inputs
+pub mod Orders
+pub mod Parts

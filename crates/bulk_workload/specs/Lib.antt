@@ -1,0 +1,3 @@
+-- The generated workload: its texts, and that it is in order.
+pub mod Bulk
+pub mod NeverRefused
