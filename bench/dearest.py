@@ -1,13 +1,12 @@
-"""Which functions, tests and wrong bodies of a crate take longest to check.
+"""Which functions and tests of a crate take longest to check.
 
-    python3 bench/dearest.py CRATE [NUMBER]      runs the check of the crate with its tests and then its wrong bodies, one job each
-    rt .. | python3 bench/dearest.py - [NUMBER]  reads what one such command writes
+    python3 bench/dearest.py CRATE [NUMBER]      runs the check of the crate with its tests, one job
+    rt .. | python3 bench/dearest.py - [NUMBER]  reads what such a command writes
 
 Prints the NUMBER longest, ten where none is said: seconds by the clock from one line of the log to the next. On a machine that does
 other work too only their order means something. What an earlier check kept isn't checked again, so begin with an empty `out/` where all is
-to be measured.
+to be measured. Wrong bodies aren't timed: `rt must-fail` tells of all of them at its end.
 """
-import os
 import pathlib
 import re
 import subprocess
@@ -17,15 +16,14 @@ import time
 ROOT = pathlib.Path(__file__).resolve().parent.parent
 CHECKED = re.compile(r"checked (\S+), \d+ of \d+")
 STARTS = re.compile(r"(?:library|statements|crate) ")
-EDIT = re.compile(r"(\S*must-fail/\S+\.edit|\S+\.edit): (?:refused|NOT REFUSED|BAD EDIT|NOT TRIED)")
 
 
 def timed(lines):
-    """The seconds that each function, test and wrong body took, by name."""
+    """The seconds that each function and test took, by name."""
     last = time.monotonic()
     for line in lines:
         now = time.monotonic()
-        found = CHECKED.search(line) or EDIT.search(line)
+        found = CHECKED.search(line)
         if found:
             yield now - last, found[1]
         if found or STARTS.match(line):
@@ -33,17 +31,10 @@ def timed(lines):
 
 
 def of_crate(crate):
-    """What the check of a crate and of its wrong bodies write, line by line."""
-    for command in (["rt", "check", "--test", "--jobs", "1"], ["rt", "must-fail"]):
-        with subprocess.Popen(
-            command,
-            cwd=ROOT / "crates" / crate,
-            env={**os.environ, "RT_JOBS": "1"},
-            stdout=subprocess.PIPE,
-            stderr=subprocess.STDOUT,
-            text=True,
-        ) as child:
-            yield from child.stdout
+    """What the check of a crate and its tests writes, line by line."""
+    command = ["rt", "check", "--test", "--jobs", "1"]
+    with subprocess.Popen(command, cwd=ROOT / "crates" / crate, stdout=subprocess.PIPE, stderr=subprocess.STDOUT, text=True) as child:
+        yield from child.stdout
 
 
 def main(words):
