@@ -34,6 +34,7 @@ pub mod RipeSpawns
 pub mod RipeStays
 pub mod Rights
 pub mod RootLists
+pub mod Room
 pub mod RootNames
 pub mod Runs
 pub mod Scripts

@@ -16,7 +16,8 @@
 //! - A task goes on by its own steps, whatever the tasks beside it do, and what it holds keeps its name, by the laws
 //!   `tasks_go_on` and `names_stay`. What each step makes of its task, and which deed of the script it is, is said by
 //!   the ask, by the laws `asks_are_answered`, `some_steps_end_their_task` and `a_spawn_makes_its_child`. Nothing is
-//!   made that the plan's fuel doesn't pay for, by the law `a_plan_makes_what_its_fuel_pays`.
+//!   made that the plan's fuel doesn't pay for, by the law `a_plan_makes_what_its_fuel_pays`; so whatever follows the
+//!   plan's script has room for what it makes next, by the law `runs_have_room`.
 //! - `script_of` answers the script of a plan, which says what each step does without the body. A script has
 //!   one entry for each step, tells what stood in each queue and object, and the times of a task rise in it, by
 //!   the laws `each_step_has_its_entry`, `a_script_tells_queues_and_objects` and `times_of_a_task_rise`.
@@ -52,6 +53,7 @@ mod queue;
 mod recorded;
 mod reply;
 mod report;
+mod room_laws;
 mod roots;
 mod script_laws;
 mod spawn;
@@ -71,6 +73,7 @@ pub use printed::{Printed, print};
 use queue::Queue;
 pub use recorded::script_of;
 use reply::{OwnAsk, Reply};
+pub use room_laws::runs_have_room;
 pub use script_laws::{
     a_ripe_item_stays, a_script_tells_queues_and_objects, a_spawn_names_each_give,
     deeds_are_within_rights, each_step_has_its_entry, each_task_ends_once,

@@ -18,19 +18,19 @@ ghost use Rattle.swan_model.specs.declared.script.Deed.TheVariants as deed;
 ghost use Rattle.swan_model.specs.declared.value.Value.{Value};
 ghost use Rattle.swan_model.specs.Elision.{most_steps, outcome, root, serial};
 ghost use Rattle.swan_model.specs.Rights.{allows, is_aliased};
-ghost use Rattle.swan_model.specs.Roots.{IsWithinBounds};
 ghost use Rattle.swan_model.specs.Script.{give_of, is_end, script};
 ghost use Rattle.swan_model.specs.SerialState.{Activation, Holding, Store};
 ghost use Rattle.swan_model.specs.SerialStep.{given, goes_on, spawns};
 ghost use Rattle.swan_model.specs.SerialTime.{is_queue_deed, time, times};
-ghost use Rattle.swan_model.specs.Told.{cell, count, deed_at, pushes, taken};
+ghost use Rattle.swan_model.specs.Told.{cell, deed_at, pushes, taken};
 ghost use Rattle.swan_model.specs.TrueFrames.{StandsAt, effect_at, gives_at};
 ghost use Rattle.swan_model.specs.QueueFollows.{queue_times};
 ghost use Rattle.swan_model.specs.declared.plan.TheConstants.{FUEL_MOST, ROOTS_MOST};
 ghost use Rattle.swan_model.specs.declared.rights.TheConstants.{GIVES_MOST};
 ghost use Rattle.swan_model.specs.declared.rights.Give.{Give};
 ghost use Rattle.serial_elision.specs.Laws.{AreEachOnce, AreInOrder, IsObjectOf, IsQueueOf};
-ghost use Rattle.serial_elision.specs.TaskSteps.{Ends, Faults, GetsPlace, GoesOn, IsAsking, IsFaultOf, IsRefused, MayUseAt, Spawns};
+ghost use Rattle.serial_elision.specs.OnSteps.{Answers, EndsBy, IsBounded, IsItemLeft, IsNoneLeft, MakesPlace, OnAsk, OnBoundedAsk, OnBoundedStep, OnSpawn, OnStep, OnUse, names_at};
+ghost use Rattle.serial_elision.specs.TaskSteps.{Ends, IsFaultOf, IsRefused, MayUseAt, Spawns};
 
 use swan_model::Body;
 
@@ -67,27 +67,17 @@ pub fn tasks_go_on<B: Body>()
 /// for it. The root begins with the plan's queues and then its objects, by their names. The plan's lists are
 /// within their bounds, as those of each plan that is made are.
 pub fn names_stay<B: Body>()
-    ensures named { (plan : Plan B B.Local) → IsWithinBounds plan.roots.queues plan.roots.objects
-        → (path : List ℕ) (k : ℕ) (top : Activation B.Local) (place : ℕ) (holding : Holding) → StandsAt B.Body plan path k top
-        → slice_get top.holdings place ≡ Some holding
-        → (origin : Origin) × (slice_get (gives_at B.Body plan path k top) place ≡ Some (Some (record { origin = origin; mode = holding.mode }))) }
-    ensures later { (plan : Plan B B.Local) → IsWithinBounds plan.roots.queues plan.roots.objects
-        → (path : List ℕ) (k n : ℕ) (top : Activation B.Local) → StandsAt B.Body plan path k top
-        → time (script B.Body plan) path k ≤ n
-        → map (give_of (serial B.Body plan n).store) top.holdings ≡ gives_at B.Body plan path k top }
-    ensures next { (plan : Plan B B.Local) → IsWithinBounds plan.roots.queues plan.roots.objects
-        → (path : List ℕ) (k : ℕ) (top next : Activation B.Local) → StandsAt B.Body plan path k top
-        → StandsAt B.Body plan path (k + 1) next → next.holdings ≡ top.holdings
-        → gives_at B.Body plan path (k + 1) next ≡ gives_at B.Body plan path k top }
-    ensures usable { (plan : Plan B B.Local) → IsWithinBounds plan.roots.queues plan.roots.objects
-        → (path : List ℕ) (k : ℕ) (top : Activation B.Local) (place : ℕ) (holding : Holding) (mode : Mode) → StandsAt B.Body plan path k top
-        → slice_get top.holdings place ≡ Some holding → allows holding.mode mode ≡ true
-        → (origin : Origin) × MayUseAt B.Body plan path k top place mode origin }
-    ensures root_queues { (plan : Plan B B.Local) → IsWithinBounds plan.roots.queues plan.roots.objects
-        → (i : ℕ) (queue : RootQueue) → slice_get plan.roots.queues i ≡ Some queue
+    ensures named { OnBoundedStep B.Body (λ at. (place : ℕ) (holding : Holding) → slice_get at.top.holdings place ≡ Some holding
+        → (origin : Origin) × (slice_get (names_at B.Body at) place ≡ Some (Some (record { origin = origin; mode = holding.mode })))) }
+    ensures later { OnBoundedStep B.Body (λ at. (n : ℕ) → time (script B.Body at.plan) at.path at.k ≤ n
+        → map (give_of (serial B.Body at.plan n).store) at.top.holdings ≡ names_at B.Body at) }
+    ensures next { OnBoundedStep B.Body (λ at. (next : Activation B.Local) → StandsAt B.Body at.plan at.path (at.k + 1) next
+        → next.holdings ≡ at.top.holdings → gives_at B.Body at.plan at.path (at.k + 1) next ≡ names_at B.Body at) }
+    ensures usable { OnBoundedStep B.Body (λ at. (place : ℕ) (holding : Holding) (mode : Mode) → slice_get at.top.holdings place ≡ Some holding
+        → allows holding.mode mode ≡ true → (origin : Origin) × MayUseAt B.Body at.plan at.path at.k at.top place mode origin) }
+    ensures root_queues { (plan : Plan B B.Local) → IsBounded plan → (i : ℕ) (queue : RootQueue) → slice_get plan.roots.queues i ≡ Some queue
         → slice_get (gives_at B.Body plan [] 0 (root plan)) i ≡ Some (Some (record { origin = Root i; mode = queue.mode })) }
-    ensures root_objects { (plan : Plan B B.Local) → IsWithinBounds plan.roots.queues plan.roots.objects
-        → (i : ℕ) (first : Value) → slice_get plan.roots.objects i ≡ Some first
+    ensures root_objects { (plan : Plan B B.Local) → IsBounded plan → (i : ℕ) (first : Value) → slice_get plan.roots.objects i ≡ Some first
         → slice_get (gives_at B.Body plan [] 0 (root plan)) (length plan.roots.queues + i) ≡ Some (Some (record { origin = Root i; mode = InOut })) }
 {}
 
@@ -98,47 +88,29 @@ pub fn names_stay<B: Body>()
 /// same as before, by the same names, and a maker one place more, which has the name of this step. The plan's
 /// lists are within their bounds, as those of each plan that is made are.
 pub fn asks_are_answered<B: Body>()
-    ensures work { (plan : Plan B B.Local) → IsWithinBounds plan.roots.queues plan.roots.objects
-        → (path : List ℕ) (k : ℕ) (top : Activation B.Local) (local : B.Local)
-        → IsAsking B.Body plan path k top local ask.Work → GoesOn B.Body plan path k top local answer.Nothing deed.Quiet }
-    ensures sync { (plan : Plan B B.Local) → IsWithinBounds plan.roots.queues plan.roots.objects
-        → (path : List ℕ) (k : ℕ) (top : Activation B.Local) (local : B.Local)
-        → IsAsking B.Body plan path k top local ask.Sync → GoesOn B.Body plan path k top local answer.Nothing deed.Sync }
-    ensures read { (plan : Plan B B.Local) → IsWithinBounds plan.roots.queues plan.roots.objects
-        → (path : List ℕ) (k : ℕ) (top : Activation B.Local) (local : B.Local) (place : ℕ) (object : Origin)
-        → IsAsking B.Body plan path k top local (ask.Read place) → MayUseAt B.Body plan path k top place In object
-        → let s = script B.Body plan in IsSomeAnd (cell s object (time s path k))
-        (λ value. GoesOn B.Body plan path k top local (answer.Item value) (deed.Read object)) }
-    ensures write { (plan : Plan B B.Local) → IsWithinBounds plan.roots.queues plan.roots.objects
-        → (path : List ℕ) (k : ℕ) (top : Activation B.Local) (local : B.Local) (place : ℕ) (value : Value) (object : Origin)
-        → IsAsking B.Body plan path k top local (ask.Write place value) → MayUseAt B.Body plan path k top place Out object
-        → GoesOn B.Body plan path k top local answer.Nothing (deed.Write object value) }
-    ensures push { (plan : Plan B B.Local) → IsWithinBounds plan.roots.queues plan.roots.objects
-        → (path : List ℕ) (k : ℕ) (top : Activation B.Local) (local : B.Local) (place : ℕ) (value : Value) (queue : Origin)
-        → IsAsking B.Body plan path k top local (ask.Push place value) → MayUseAt B.Body plan path k top place Push queue
-        → GoesOn B.Body plan path k top local answer.Nothing (deed.Push queue value) }
-    ensures pop { (plan : Plan B B.Local) → IsWithinBounds plan.roots.queues plan.roots.objects
-        → (path : List ℕ) (k : ℕ) (top : Activation B.Local) (local : B.Local) (place : ℕ) (queue : Origin)
-        → IsAsking B.Body plan path k top local (ask.Pop place) → MayUseAt B.Body plan path k top place Pop queue
-        → let s = script B.Body plan in let t = time s path k in taken s queue t < count s queue t
-        → IsSomeAnd (slice_get (pushes s queue) (taken s queue t))
-        (λ item. GoesOn B.Body plan path k top local (answer.Item item) (deed.Pop queue)) }
-    ensures test_of_some { (plan : Plan B B.Local) → IsWithinBounds plan.roots.queues plan.roots.objects
-        → (path : List ℕ) (k : ℕ) (top : Activation B.Local) (local : B.Local) (place : ℕ) (queue : Origin)
-        → IsAsking B.Body plan path k top local (ask.Empty place) → MayUseAt B.Body plan path k top place Pop queue
-        → let s = script B.Body plan in let t = time s path k in taken s queue t < count s queue t
-        → GoesOn B.Body plan path k top local (answer.Flag false) (deed.Test queue) }
-    ensures test_of_none { (plan : Plan B B.Local) → IsWithinBounds plan.roots.queues plan.roots.objects
-        → (path : List ℕ) (k : ℕ) (top : Activation B.Local) (local : B.Local) (place : ℕ) (queue : Origin)
-        → IsAsking B.Body plan path k top local (ask.Empty place) → MayUseAt B.Body plan path k top place Pop queue
-        → let s = script B.Body plan in let t = time s path k in count s queue t ≤ taken s queue t
-        → GoesOn B.Body plan path k top local (answer.Flag true) (deed.Test queue) }
-    ensures new_queue { (plan : Plan B B.Local) → IsWithinBounds plan.roots.queues plan.roots.objects
-        → (path : List ℕ) (k : ℕ) (top : Activation B.Local) (local : B.Local)
-        → IsAsking B.Body plan path k top local ask.NewQueue → GetsPlace B.Body plan path k top local PushPop deed.MakeQueue }
-    ensures new_object { (plan : Plan B B.Local) → IsWithinBounds plan.roots.queues plan.roots.objects
-        → (path : List ℕ) (k : ℕ) (top : Activation B.Local) (local : B.Local) (first : Value)
-        → IsAsking B.Body plan path k top local (ask.NewObject first) → GetsPlace B.Body plan path k top local InOut (deed.MakeObject first) }
+    // what changes nothing for others
+    ensures work { OnBoundedAsk B.Body ask.Work (λ at. Answers B.Body at answer.Nothing deed.Quiet) }
+    ensures sync { OnBoundedAsk B.Body ask.Sync (λ at. Answers B.Body at answer.Nothing deed.Sync) }
+
+    // objects
+    ensures read { (place : ℕ) → OnUse B.Body (ask.Read place) place In (λ at object. let s = script B.Body at.of.plan in
+        IsSomeAnd (cell s object (time s at.of.path at.of.k)) (λ value. Answers B.Body at (answer.Item value) (deed.Read object))) }
+    ensures write { (place : ℕ) (value : Value) → OnUse B.Body (ask.Write place value) place Out (λ at object.
+        Answers B.Body at answer.Nothing (deed.Write object value)) }
+
+    // queues
+    ensures push { (place : ℕ) (value : Value) → OnUse B.Body (ask.Push place value) place Push (λ at queue.
+        Answers B.Body at answer.Nothing (deed.Push queue value)) }
+    ensures pop { (place : ℕ) → OnUse B.Body (ask.Pop place) place Pop (λ at queue. IsItemLeft B.Body at.of queue → let s = script B.Body at.of.plan in
+        IsSomeAnd (slice_get (pushes s queue) (taken s queue (time s at.of.path at.of.k))) (λ item. Answers B.Body at (answer.Item item) (deed.Pop queue))) }
+    ensures test_of_some { (place : ℕ) → OnUse B.Body (ask.Empty place) place Pop (λ at queue. IsItemLeft B.Body at.of queue
+        → Answers B.Body at (answer.Flag false) (deed.Test queue)) }
+    ensures test_of_none { (place : ℕ) → OnUse B.Body (ask.Empty place) place Pop (λ at queue. IsNoneLeft B.Body at.of queue
+        → Answers B.Body at (answer.Flag true) (deed.Test queue)) }
+
+    // what makes a place
+    ensures new_queue { OnBoundedAsk B.Body ask.NewQueue (λ at. MakesPlace B.Body at PushPop deed.MakeQueue) }
+    ensures new_object { (first : Value) → OnBoundedAsk B.Body (ask.NewObject first) (λ at. MakesPlace B.Body at InOut (deed.MakeObject first)) }
 {}
 
 /// The law of the steps that end their task. A task without fuel ends by the fault Fuel, one that may not use a
@@ -147,29 +119,26 @@ pub fn asks_are_answered<B: Body>()
 /// place is given twice, else where the path is too deep, else where the fuel doesn't last, by Alias, Depth and
 /// Fuel. In the script none of these steps does anything, but the pop of an empty queue is a pop.
 pub fn some_steps_end_their_task<B: Body>()
-    ensures dry { (plan : Plan B B.Local) (path : List ℕ) (k : ℕ) (top : Activation B.Local)
-        → StandsAt B.Body plan path k top → top.fuel ≡ 0 → Faults B.Body plan path k top kind.Fuel deed.Quiet }
-    ensures finish { (plan : Plan B B.Local) (path : List ℕ) (k : ℕ) (top : Activation B.Local) (local : B.Local)
-        → IsAsking B.Body plan path k top local ask.Finish → Ends B.Body plan path k top }
-    ensures fail { (plan : Plan B B.Local) (path : List ℕ) (k : ℕ) (top : Activation B.Local) (local : B.Local) (trouble : Trouble)
-        → IsAsking B.Body plan path k top local (ask.Fail trouble) → Faults B.Body plan path k top (kind.Trouble trouble) deed.Quiet }
-    ensures refused { (plan : Plan B B.Local) (path : List ℕ) (k : ℕ) (top : Activation B.Local) (local : B.Local) (asks : Ask B.Local)
-        → IsAsking B.Body plan path k top local asks → IsRefused B.Body plan path k top asks → Faults B.Body plan path k top kind.Privilege deed.Quiet }
-    ensures pop_of_none { (plan : Plan B B.Local) → IsWithinBounds plan.roots.queues plan.roots.objects
-        → (path : List ℕ) (k : ℕ) (top : Activation B.Local) (local : B.Local) (place : ℕ) (queue : Origin)
-        → IsAsking B.Body plan path k top local (ask.Pop place) → MayUseAt B.Body plan path k top place Pop queue
-        → let s = script B.Body plan in let t = time s path k in count s queue t ≤ taken s queue t
-        → Faults B.Body plan path k top kind.PopEmpty (deed.Pop queue) }
-    ensures alias { (plan : Plan B B.Local) (path : List ℕ) (k : ℕ) (top : Activation B.Local) (local : B.Local) (child : Child B.Local) (holdings : List Holding)
-        → IsAsking B.Body plan path k top local (ask.Spawn child) → given top.holdings child.gives ≡ Some holdings
-        → is_aliased child.gives ≡ true → Faults B.Body plan path k top kind.Alias deed.Quiet }
-    ensures depth { (plan : Plan B B.Local) (path : List ℕ) (k : ℕ) (top : Activation B.Local) (local : B.Local) (child : Child B.Local) (holdings : List Holding)
-        → IsAsking B.Body plan path k top local (ask.Spawn child) → given top.holdings child.gives ≡ Some holdings
-        → is_aliased child.gives ≡ false → PATH_MOST ≤ length top.path → Faults B.Body plan path k top kind.Depth deed.Quiet }
-    ensures fuel { (plan : Plan B B.Local) (path : List ℕ) (k : ℕ) (top : Activation B.Local) (local : B.Local) (child : Child B.Local) (holdings : List Holding)
-        → IsAsking B.Body plan path k top local (ask.Spawn child) → given top.holdings child.gives ≡ Some holdings
-        → is_aliased child.gives ≡ false → length top.path < PATH_MOST → top.fuel - 1 < child.fuel
-        → Faults B.Body plan path k top kind.Fuel deed.Quiet }
+    // whatever is asked for
+    ensures dry { OnStep B.Body (λ at. at.top.fuel ≡ 0 → EndsBy B.Body at kind.Fuel deed.Quiet) }
+    ensures refused { (asks : Ask B.Local) → OnAsk B.Body asks (λ at. IsRefused B.Body at.of.plan at.of.path at.of.k at.of.top asks
+        → EndsBy B.Body at.of kind.Privilege deed.Quiet) }
+
+    // the end that a task asks for
+    ensures finish { OnAsk B.Body ask.Finish (λ at. Ends B.Body at.of.plan at.of.path at.of.k at.of.top) }
+    ensures fail { (trouble : Trouble) → OnAsk B.Body (ask.Fail trouble) (λ at. EndsBy B.Body at.of (kind.Trouble trouble) deed.Quiet) }
+
+    // an empty queue
+    ensures pop_of_none { (place : ℕ) → OnUse B.Body (ask.Pop place) place Pop (λ at queue. IsNoneLeft B.Body at.of queue
+        → EndsBy B.Body at.of kind.PopEmpty (deed.Pop queue)) }
+
+    // a child that is refused
+    ensures alias { (child : Child B.Local) → OnSpawn B.Body child (λ at holdings. is_aliased child.gives ≡ true
+        → EndsBy B.Body at.of kind.Alias deed.Quiet) }
+    ensures depth { (child : Child B.Local) → OnSpawn B.Body child (λ at holdings. is_aliased child.gives ≡ false → PATH_MOST ≤ length at.of.top.path
+        → EndsBy B.Body at.of kind.Depth deed.Quiet) }
+    ensures fuel { (child : Child B.Local) → OnSpawn B.Body child (λ at holdings. is_aliased child.gives ≡ false → length at.of.top.path < PATH_MOST
+        → at.of.top.fuel - 1 < child.fuel → EndsBy B.Body at.of kind.Fuel deed.Quiet) }
 {}
 
 /// The law that a spawn which is no fault makes the child that was asked for. The child holds the gives, each by
@@ -177,17 +146,16 @@ pub fn some_steps_end_their_task<B: Body>()
 /// parent holds the same as before, by the same names. The plan's lists are within their bounds, as those of each
 /// plan that is made are.
 pub fn a_spawn_makes_its_child<B: Body>()
-    ensures spawns { (plan : Plan B B.Local) → IsWithinBounds plan.roots.queues plan.roots.objects
-        → (path : List ℕ) (k : ℕ) (top : Activation B.Local) (local : B.Local) (child : Child B.Local) (holdings : List Holding)
-        → IsAsking B.Body plan path k top local (ask.Spawn child) → given top.holdings child.gives ≡ Some holdings
-        → is_aliased child.gives ≡ false → length top.path < PATH_MOST → child.fuel ≤ top.fuel - 1
-        → Spawns B.Body plan path k top local child }
+    ensures spawns { (child : Child B.Local) → OnSpawn B.Body child (λ at holdings. IsBounded at.of.plan
+        → is_aliased child.gives ≡ false → length at.of.top.path < PATH_MOST → child.fuel ≤ at.of.top.fuel - 1
+        → Spawns B.Body at.of.plan at.of.path at.of.k at.of.top at.local child) }
 {}
 
-/// The law that the faults which are left are those of tasks' last steps: each is that of a task at its last
-/// step, which is this fault, at the place where the task stood before it; and each such step has booked one.
-/// They stand in the order of their paths, a child's before its parent's. So a list of faults in this order that
-/// are those of last steps, all of them, is the list that is left.
+/// The law of the faults that are left. A fault is of a last step where it has the path of a task whose last step
+/// ends the task by a fault of this kind, and the place at which the task stood before that step. Each fault that is
+/// left is of a last step, and each fault of a last step is left. They are in the order of their paths: a task's
+/// fault comes after those of the tasks below it, and before those of its younger siblings. So they are one list
+/// alone: any list in this order that has all faults of last steps, and no others, is the one that is left.
 pub fn faults_are_those_of_last_steps<B: Body>()
     ensures each { (plan : Plan B B.Local) (j : ℕ) (fault : Fault) → slice_get (outcome B.Body plan).faults j ≡ Some fault → IsFaultOf B.Body plan fault }
     ensures all { (plan : Plan B B.Local) (fault : Fault) → IsFaultOf B.Body plan fault → (j : ℕ) × (slice_get (outcome B.Body plan).faults j ≡ Some fault) }
@@ -217,9 +185,9 @@ pub fn a_plan_makes_what_its_fuel_pays<B: Body>()
         → length top.holdings + top.fuel ≤ length first.holdings + first.fuel }
     ensures root_places { (plan : Plan B B.Local) → length (root plan).holdings ≡ length plan.roots.queues + length plan.roots.objects }
     ensures child_places { (holdings given_so : List Holding) (gives : List Give) → given holdings gives ≡ Some given_so → length given_so ≡ length gives }
-    ensures few_queues { (plan : Plan B B.Local) (queues : List Origin) → IsWithinBounds plan.roots.queues plan.roots.objects → plan.fuel ≤ FUEL_MOST
+    ensures few_queues { (plan : Plan B B.Local) (queues : List Origin) → IsBounded plan → plan.fuel ≤ FUEL_MOST
         → AreEachOnce (IsQueueOf (script B.Body plan)) queues → length queues < 4294967295 }
-    ensures few_objects { (plan : Plan B B.Local) (objects : List Origin) → IsWithinBounds plan.roots.queues plan.roots.objects → plan.fuel ≤ FUEL_MOST
+    ensures few_objects { (plan : Plan B B.Local) (objects : List Origin) → IsBounded plan → plan.fuel ≤ FUEL_MOST
         → AreEachOnce (IsObjectOf (script B.Body plan)) objects → length objects < 4294967295 }
     ensures few_children { (plan : Plan B B.Local) (path : List ℕ) (k : ℕ) (top : Activation B.Local) → plan.fuel ≤ FUEL_MOST
         → StandsAt B.Body plan path k top → top.children < 4294967295 }

@@ -3,5 +3,5 @@ use Rattle.serial_elision.proofs.task_laws.a_spawn_makes_its_child.Goals as goal
 
 pub returns : goal.returns
 returns g c = record {
-  spawns = λ plan bounds path k top local child holdings is held once shallow enough. spawns-child g.B.Body plan path k top local child is holdings held once shallow enough bounds;
+  spawns = λ child plan path k top local is holdings held bounds once shallow enough. spawns-child g.B.Body plan path k top local child is holdings held once shallow enough bounds;
 }
