@@ -1,11 +1,11 @@
 -- No task takes more than a job has lines.
-use Rattle.std.proofs.Common.{◌≡◌, ◌+◌, ◌≤◌, ◌++◌, ℕ, zero, suc, List, [], ◌∷◌, Option, Some, None, length, flat_map, slice_get, ap, arith, length-append}
+use Rattle.std.proofs.Common.{◌≡◌, ◌+◌, ◌≤◌, ℕ, zero, suc, List, [], ◌∷◌, Option, Some, None, length, slice_get, ap, arith, length-append}
 use Rattle.std.proofs.lemmas.Option.{same_Some}
 use Rattle.job_reader.specs.declared.line.Line.{Line}
 use Rattle.job_reader.specs.declared.line.Line.TheVariants as line
 use Rattle.swan_model.specs.declared.rights.TheConstants.{GIVES_MOST}
 use Rattle.job_body.specs.declared.tasks.Task.{Task}
-use Rattle.job_body.specs.Compiled.{TakeFew, task_at, task_named, tasks_from, tasks_of}
+use Rattle.job_body.specs.Compiled.{TakeFew, task_at, tasks_from, tasks_of}
 use Rattle.job_body.specs.Names.{slot}
 use Rattle.job_body.specs.Tasks.{before_task, take_of, takes}
 

@@ -20,4 +20,5 @@ pub mod Namings
 pub mod FewLines
 pub mod Firsts
 pub mod Rows
+pub mod FewNames
 pub mod FewTakes

@@ -1,9 +1,11 @@
 -- Steps of work in a row: by the instructions of a program, and so by the lines of its job.
-use Rattle.std.proofs.Common.{◌≡◌, ℕ, zero, suc, ◌<◌, ◌+◌, ◌-◌, ◌∙◌, List, Option, Some, None, slice_get, ap, sym, subst, refl, arith}
+use Rattle.std.proofs.Common.{◌≡◌, ℕ, zero, suc, ◌<◌, ◌+◌, ◌-◌, ◌∙◌, List, Option, Some, None, IfSome, IfNone, slice_get, ap, sym, subst, refl, arith}
 use Rattle.swan_model.specs.declared.body.Answer.{Answer}
 use Rattle.swan_model.specs.declared.body.Answer.TheVariants as answer
 use Rattle.swan_model.specs.declared.body.Ask.{Ask}
 use Rattle.swan_model.specs.declared.body.Ask.TheVariants as ask
+use Rattle.swan_model.specs.declared.body.Stop.{Stop}
+use Rattle.swan_model.specs.declared.body.Worked.{Worked}
 use Rattle.swan_model.specs.declared.fault.Trouble.{Trouble}
 use Rattle.swan_model.specs.declared.value.Value.{Value}
 use Rattle.swan_model.specs.Work.{ask_after, AreWork, local_after, told_after}
@@ -13,7 +15,7 @@ use Rattle.job_body.specs.declared.instruction.Action.TheVariants as action
 use Rattle.job_body.specs.declared.instruction.Instruction.{Instruction}
 use Rattle.job_body.specs.declared.instruction.Work.{Work}
 use Rattle.job_body.specs.Compiled.{program_of}
-use Rattle.job_body.specs.Runs.{answered, answered_by, ask_by, done, next_by, run, told_by, worked}
+use Rattle.job_body.specs.Runs.{answered, answered_by, ask_by, done, last_ask, last_of, next_by, run, told_by, worked}
 use Rattle.job_body.specs.Standing.{Standing}
 use Rattle.job_body.specs.Steps.{next}
 use Rattle.job_body.proofs.Steps.{next-program}
@@ -55,17 +57,40 @@ one-more program s first fuel n now moved so is =
     subst (λ k. HasWorked program s first fuel k moved) e more
 
 -- the same, by the line of work at which it stands
-pub did-work : (program : List Instruction) (s : Standing) (first : Answer) (fuel n : ℕ) (now moved : Standing) (i : Instruction) (w : Work) (met : Option Trouble) → HasWorked program s first fuel n now → slice_get program now.at ≡ Some i → i.action ≡ action.Work w → (moved, ask_by met) ≡ worked now i.next (fuel - n - 1) w → met ≡ None → HasWorked program s first fuel (n + 1) moved
-did-work program s first fuel n now moved i w met so line is did none =
+pub did-work : (program : List Instruction) (s : Standing) (first : Answer) (fuel n rest : ℕ) (now moved : Standing) (i : Instruction) (w : Work) (met : Option Trouble) → HasWorked program s first fuel n now → rest ≡ fuel - n - 1 → slice_get program now.at ≡ Some i → i.action ≡ action.Work w → (moved, ask_by met) ≡ worked now i.next rest w → met ≡ None → HasWorked program s first fuel (n + 1) moved
+did-work program s first fuel n rest now moved i w met so left line is did none =
     let works : ◌≡◌ {A = Standing × Ask Standing} (moved, ask.Work) (moved, ask_by met) = ap {B = Standing × Ask Standing} (λ t. (moved, ask_by t)) (sym none) in
     let does : ◌≡◌ {A = Standing × Ask Standing} (worked now i.next (fuel - n - 1) w) (run program now (fuel - n - 1) (slice_get program now.at)) =
     ap (done program now i.next (fuel - n - 1)) (sym is) ∙ ap (run program now (fuel - n - 1)) (sym line) in
-    one-more program s first fuel n now moved so (works ∙ did ∙ does)
+    one-more program s first fuel n now moved so (works ∙ did ∙ ap (λ k. worked now i.next k w) left ∙ does)
 
 -- where it is after a row that isn't empty
 pub at-end : (program : List Instruction) (s : Standing) (first : Answer) (fuel n : ℕ) (now : Standing) → HasWorked program s first fuel n now → 0 < n → now ≡ local_after (next_by program) s first fuel n
 at-end program s first fuel zero now so more = absurd (omega (arith, more))
 at-end program s first fuel (suc n) now so more = so.is_now ∙ told-nothing program (local_after (next_by program) s first fuel (suc n))
+
+-- a row of one step
+pub one-step : (program : List Instruction) (s : Standing) (first : Answer) (left : ℕ) (row : Worked Standing) → AreWork (next_by program) s first (suc left) row.works → IfNone row.stop (row.works ≡ 1) → IfNone row.stop (row.local ≡ local_after (next_by program) s first (suc left) row.works) → IfSome row.stop (λ stop. row.works < 1) → IfSome row.stop (λ stop. row.local ≡ local_after (next_by program) s first (suc left) (suc row.works)) → IfSome row.stop (λ stop. stop.ask ≡ ask_after (next_by program) s first (suc left) row.works) → last_of row ≡ next_by program s first left
+one-step program s first left row = at row.local row.works row.stop where
+  paid : suc left - 0 - 1 ≡ left
+  paid = omega arith
+
+  step : ℕ → Standing × Ask Standing
+  step fuel = next_by program s first fuel
+
+  at : (local : Standing) (works : ℕ) (stop : Option (Stop Standing)) → AreWork (next_by program) s first (suc left) works → IfNone stop (works ≡ 1) → IfNone stop (local ≡ local_after (next_by program) s first (suc left) works) → IfSome stop (λ stop. works < 1) → IfSome stop (λ stop. local ≡ local_after (next_by program) s first (suc left) (suc works)) → IfSome stop (λ stop. stop.ask ≡ ask_after (next_by program) s first (suc left) works)
+      → ◌≡◌ {A = Standing × Ask Standing} (local, last_ask stop) (step left)
+  at local zero None are one moved few gone asked = absurd (omega (arith, one))
+  at local (suc zero) None are one moved few gone asked =
+      ap {B = Standing × Ask Standing} (λ l. (l, ask.Work)) moved
+      ∙ ap {B = Standing × Ask Standing} (λ a. ((step (suc left - 0 - 1)).0, a)) (sym are.1)
+      ∙ ap step paid
+  at local (suc (suc n)) None are one moved few gone asked = absurd (omega (arith, one))
+  at local zero (Some stop) are one moved few gone asked =
+      ap {B = Standing × Ask Standing} (λ l. (l, stop.ask)) gone
+      ∙ ap {B = Standing × Ask Standing} (λ a. ((step (suc left - 0 - 1)).0, a)) asked
+      ∙ ap step paid
+  at local (suc n) (Some stop) are one moved few gone asked = absurd (omega (arith, few))
 
 -- where its next step stands, whatever that is told
 pub stands-at : (program : List Instruction) (s : Standing) (first : Answer) (fuel n : ℕ) (now : Standing) → HasWorked program s first fuel n now → now.at ≡ (local_after (next_by program) s first fuel n).at

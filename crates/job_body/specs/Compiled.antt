@@ -87,6 +87,13 @@ entered i s (line.While a) = record s { blocks = opened.While i ∷ s.blocks }
 entered i s line.End = record s { blocks = after_end s.blocks }
 entered i s _ = s
 
+-- no more names of one sort than this are known of a task
+pub record KnowsFew (s : Scope) (most : ℕ) : Type 0 where
+  pub params : length s.params ≤ most
+  pub vars : length s.vars ≤ most
+  pub accesses : length s.accesses ≤ most
+  pub made : length s.made ≤ most
+
 -- what is known at the line with an index
 abbrev pub seen_at : List Line → ℕ → Scope
 seen_at lines i = record {

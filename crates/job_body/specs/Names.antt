@@ -1,6 +1,6 @@
 -- The places of names in a list, by a map from names to them. The code alone is stated by this, and no
 -- public clause.
-use Rattle.std.specs.Prelude.{String, ◌≡◌, ℕ, ◌+◌, ◌≤◌, ◌^◌, ◌-◌, suc, Option, Some, None, List, [], ◌∷◌, length, bytes_eq, option_map, is_some, if◌then◌else◌}
+use Rattle.std.specs.Prelude.{String, ◌≡◌, ℕ, ◌+◌, ◌≤◌, suc, Option, Some, None, List, [], ◌∷◌, length, bytes_eq, option_map, is_some, if◌then◌else◌}
 use Rattle.std.specs.BTreeMap.{BTreeMap, get_by_text}
 
 -- the first place at which a name stands
@@ -21,5 +21,5 @@ with_place places name place other =
 
 -- a map that has the first place of each name
 pub record IsNameTable {A : Type 0} (names : List (List ℕ)) (places : BTreeMap (String A) ℕ) : Type 0 where
-  pub few : length names ≤ 2 ^ 32 - 1
+  pub few : length names ≤ 1000000000
   pub finds : (name : List ℕ) → get_by_text places name ≡ slot names name

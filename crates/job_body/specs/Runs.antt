@@ -22,6 +22,8 @@ use Rattle.swan_model.specs.declared.body.Answer.{Answer}
 use Rattle.swan_model.specs.declared.body.Answer.TheVariants as answer
 use Rattle.swan_model.specs.declared.body.Ask.{Ask}
 use Rattle.swan_model.specs.declared.body.Ask.TheVariants as ask
+use Rattle.swan_model.specs.declared.body.Stop.{Stop}
+use Rattle.swan_model.specs.declared.body.Worked.{Worked}
 use Rattle.swan_model.specs.declared.fault.Trouble.{Trouble}
 use Rattle.swan_model.specs.declared.fault.Trouble.TheVariants as trouble
 use Rattle.swan_model.specs.declared.rights.Give.{Give}
@@ -164,3 +166,11 @@ told_by program s answer = record s { values = answered_by s.values (slice_get p
 -- the step of a program
 abbrev pub next_by : List Instruction → Standing → Answer → ℕ → Standing × Ask Standing
 next_by program s answer fuel = run program (told_by program s answer) fuel (slice_get program s.at)
+
+-- what the last step of a row of some leaves and asks for
+abbrev pub last_ask : Option (Stop Standing) → Ask Standing
+last_ask None = ask.Work
+last_ask (Some stop) = stop.ask
+
+abbrev pub last_of : Worked Standing → Standing × Ask Standing
+last_of row = (row.local, last_ask row.stop)

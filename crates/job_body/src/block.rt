@@ -12,7 +12,7 @@ pub enum Block {
     /// An `if`.
     If,
     /// A `while` at the line with this index.
-    While(usize),
+    While(u32),
 }
 
 /// The open blocks. Contracts see them as a list, the innermost first.

@@ -1,13 +1,13 @@
 // The body of a job.
-ghost use Rattle.std.specs.Prelude.{◌≡◌, codes};
+ghost use Rattle.std.specs.Prelude.{◌≡◌, ◌≤◌, codes, length};
 ghost use Rattle.job_body.specs.Tasks.{task_index};
 
 use crate::JobLocal;
 use crate::compile::program_of;
 use crate::instruction::Instruction;
 use crate::lines::lines;
-use crate::narrow::narrow;
 use crate::run::{begin, step, work};
+use crate::task_index::TaskIndex;
 use job_reader::Line;
 use privilege_check::CheckedJob;
 use std::alloc::Global;
@@ -36,7 +36,8 @@ impl Model for JobBody {
 
 /// The index of the `task` line of `main`, or the number of lines where there is none.
 fn main_index(lines: &[Line]) -> usize
-    ensures { result ≡ task_index lines.now (codes "main") }
+    ensures index { result ≡ task_index lines.now (codes "main") }
+    ensures within { result ≤ length lines.now }
 {
     let mut index = 0;
     for line in lines {
@@ -67,8 +68,8 @@ impl JobBody {
     pub(crate) fn main(&self, alloc: Global) -> Result<JobLocal, NoMemory>
         ensures { IfOk result (λ local. local ≡ begun self.now (task_index self.now (codes "main")) []) }
     {
-        let index = narrow(main_index(lines(&self.job)))?;
-        begin(alloc, &self.program, index, Vec::new(alloc))
+        let main = TaskIndex::new(main_index(lines(&self.job)) as u32);
+        begin(alloc, &self.program, &main, Vec::new(alloc))
     }
 }
 

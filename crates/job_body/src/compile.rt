@@ -8,11 +8,11 @@ use crate::block::Block;
 use crate::exit::Exit;
 use crate::exits::exits_of;
 use crate::instruction::{Action, Demand, Instruction, IntOp, Num, Operand, Work};
-use crate::narrow::narrow;
 use crate::roots::roots_of;
 use crate::scope::Scope;
 use crate::source::{Source, firsts_of};
 use crate::take::Take;
+use crate::task_index::TaskIndex;
 use crate::tasks::Tasks;
 use job_reader::{Atom, Atoms, Line, Op};
 use std::alloc::Global;
@@ -73,7 +73,7 @@ fn gives_of(alloc: Global, scope: &Scope, takes: &[Take], args: &[Atom]) -> Resu
         }
         let arg = &args[index];
         if let Take::Access(mode) = take {
-            let place = scope.place_of(arg)?;
+            let place = scope.place_of(arg);
             if all.push(Give { place, mode: *mode }).is_err() {
                 return Err(NoMemory);
             }
@@ -92,12 +92,13 @@ fn spawn_of(
     name: &Word,
     args: &Atoms,
 ) -> Result<Action, NoMemory>
+    requires short { length lines.now ≤ GIVES_MOST }
     requires few { TakeFew tasks.now }
     ensures { IfOk result (λ action. action ≡ spawn_of lines.now scope.now fuel.now (task_named tasks.now name.now) args.now) }
 {
     let fuel = scope.operand(fuel)?;
     let Some(task) = tasks.find(name) else {
-        let index = narrow(lines.len())?;
+        let index = TaskIndex::new(lines.len() as u32);
         return Ok(Action::Demand(Demand::Spawn(
             fuel,
             index,
@@ -105,7 +106,7 @@ fn spawn_of(
             Gives::new(alloc),
         )));
     };
-    let index = narrow(task.index)?;
+    let index = TaskIndex::new(task.index.line());
     let params = params_of(alloc, scope, task.takes.as_slice(), args.as_slice())?;
     let gives = gives_of(alloc, scope, task.takes.as_slice(), args.as_slice())?;
     Ok(Action::Demand(Demand::Spawn(fuel, index, params, gives)))
@@ -162,11 +163,11 @@ fn assign_of(op: Op, slot: Option<u32>, a: Operand, b: Operand, c: Operand) -> W
 }
 
 /// A branch: where an atom is false, the task goes on from the line at an index.
-fn branch_of(job: &Source, scope: &Scope, a: &Atom, otherwise: usize) -> Result<Action, NoMemory>
+fn branch_of(job: &Source, scope: &Scope, a: &Atom, otherwise: u32) -> Result<Action, NoMemory>
     ensures { IfOk result (λ action. action ≡ branch_of job.now scope.now a.now otherwise) }
 {
     let condition = num_of(&scope.operand(a)?);
-    Ok(Action::Work(Work::Branch(condition, job.step_from(otherwise)?)))
+    Ok(Action::Work(Work::Branch(condition, job.step_from(otherwise))))
 }
 
 /// What the `end` of the innermost block does, or that of the task.
@@ -186,9 +187,10 @@ fn action_of(
     tasks: &Tasks,
     scope: &Scope,
     exit: Exit,
-    index: usize,
+    index: u32,
     line: &Line,
 ) -> Result<Action, NoMemory>
+    requires short { length job.now ≤ GIVES_MOST }
     requires within { index < length job.now }
     requires few { TakeFew tasks.now }
     ensures { IfOk result (λ action. action ≡ action_of job.now tasks.now scope.now exit index line.now) }
@@ -196,22 +198,22 @@ fn action_of(
     match line {
         Line::Task(_) => Ok(Action::Demand(Demand::Begin(kinds_of(
             alloc,
-            &job.lines()[index + 1..],
+            &job.lines()[index as usize + 1..],
         )?))),
         Line::Queue(_, _) => Ok(Action::Demand(Demand::NewQueue)),
         Line::Object(_, kind) => Ok(Action::Demand(Demand::NewObject(*kind))),
         Line::Assign(v, op, args) => Ok(Action::Work(assign_of(
             *op,
-            scope.slot(v)?,
+            scope.slot(v),
             argument(scope, args, 0)?,
             argument(scope, args, 1)?,
             argument(scope, args, 2)?,
         ))),
-        Line::Read(v, o) => Ok(Action::Demand(Demand::Read(scope.slot(v)?, scope.place(o)?))),
-        Line::Write(o, a) => Ok(Action::Demand(Demand::Write(scope.place(o)?, scope.operand(a)?))),
-        Line::Push(q, a) => Ok(Action::Demand(Demand::Push(scope.place(q)?, scope.operand(a)?))),
-        Line::Pop(v, q) => Ok(Action::Demand(Demand::Pop(scope.slot(v)?, scope.place(q)?))),
-        Line::Empty(v, q) => Ok(Action::Demand(Demand::Empty(scope.slot(v)?, scope.place(q)?))),
+        Line::Read(v, o) => Ok(Action::Demand(Demand::Read(scope.slot(v), scope.place(o)))),
+        Line::Write(o, a) => Ok(Action::Demand(Demand::Write(scope.place(o), scope.operand(a)?))),
+        Line::Push(q, a) => Ok(Action::Demand(Demand::Push(scope.place(q), scope.operand(a)?))),
+        Line::Pop(v, q) => Ok(Action::Demand(Demand::Pop(scope.slot(v), scope.place(q)))),
+        Line::Empty(v, q) => Ok(Action::Demand(Demand::Empty(scope.slot(v), scope.place(q)))),
         Line::Spawn(fuel, task, args) => spawn_of(
             alloc,
             job.lines(),
@@ -222,7 +224,7 @@ fn action_of(
             args,
         ),
         Line::Sync => Ok(Action::Demand(Demand::Sync)),
-        Line::Fuel(v) => Ok(Action::Work(Work::Fuel(scope.slot(v)?))),
+        Line::Fuel(v) => Ok(Action::Work(Work::Fuel(scope.slot(v)))),
         Line::Fail(a) => Ok(Action::Demand(Demand::Fail(scope.operand(a)?))),
         Line::If(a) => branch_of(job, scope, a, exit.otherwise),
         Line::Else => Ok(Action::Work(Work::Go)),
@@ -233,9 +235,9 @@ fn action_of(
 }
 
 /// Where the task goes on after an `end`.
-fn after_end_of(job: &Source, index: usize, block: Option<Block>) -> Result<u32, NoMemory>
-    requires { index < usize.MAX }
-    ensures { IfOk result (λ next. next ≡ after_end_of job.now index block) }
+fn after_end_of(job: &Source, index: u32, block: Option<Block>) -> u32
+    requires { index < u32.MAX }
+    ensures { result ≡ after_end_of job.now index block }
 {
     match block {
         Some(Block::While(opener)) => job.step_from(opener),
@@ -244,15 +246,9 @@ fn after_end_of(job: &Source, index: usize, block: Option<Block>) -> Result<u32,
 }
 
 /// Where the task goes on after a line.
-fn next_of(
-    job: &Source,
-    scope: &Scope,
-    exit: Exit,
-    index: usize,
-    line: &Line,
-) -> Result<u32, NoMemory>
-    requires { index < usize.MAX }
-    ensures { IfOk result (λ next. next ≡ next_of job.now scope.now exit index line.now) }
+fn next_of(job: &Source, scope: &Scope, exit: Exit, index: u32, line: &Line) -> u32
+    requires { index < u32.MAX }
+    ensures { result ≡ next_of job.now scope.now exit index line.now }
 {
     match line {
         Line::Else => job.step_from(exit.after),
@@ -268,16 +264,16 @@ fn instruction_of(
     tasks: &Tasks,
     scope: &Scope,
     exit: Exit,
-    index: usize,
+    index: u32,
     line: &Line,
 ) -> Result<Instruction, NoMemory>
+    requires short { length job.now ≤ GIVES_MOST }
     requires within { index < length job.now }
-    requires fits { index < usize.MAX }
     requires few { TakeFew tasks.now }
     ensures { IfOk result (λ it. it ≡ instruction_of job.now tasks.now scope.now exit index line.now) }
 {
     let action = action_of(alloc, job, tasks, scope, exit, index, line)?;
-    let next = next_of(job, scope, exit, index, line)?;
+    let next = next_of(job, scope, exit, index, line);
     Ok(Instruction { action, next })
 }
 
@@ -293,11 +289,13 @@ pub fn program_of(alloc: Global, lines: &[Line]) -> Result<Listed<Instruction>, 
     let mut scope = Scope::new(alloc, roots_of(alloc, lines)?);
     let mut program = Listed::new(alloc);
     for (index, line) in lines.iter().enumerate() {
-        let instruction = instruction_of(alloc, &job, &tasks, &scope, exits[index], index, line)?;
+        let exit = exits[index];
+        let at = index as u32;
+        let instruction = instruction_of(alloc, &job, &tasks, &scope, exit, at, line)?;
         if program.push(instruction).is_err() {
             return Err(NoMemory);
         }
-        scope = scope.enter(alloc, index, line)?;
+        scope = scope.enter(alloc, at, line)?;
     }
     Ok(program)
 }

@@ -1,5 +1,5 @@
 // How the blocks of a job go on.
-ghost use Rattle.std.specs.Prelude.{◌≡◌, ◌<◌, ◌∷◌, [], IfOk, OnOk};
+ghost use Rattle.std.specs.Prelude.{◌≡◌, ◌<◌, ◌≤◌, ◌∷◌, [], length, IfOk, OnOk};
 ghost use Rattle.job_body.specs.Blocks.{exits_with, first_exit, with_else, without_first};
 ghost use Rattle.job_body.specs.Compiled.{exits_of};
 
@@ -7,7 +7,7 @@ use crate::exit::Exit;
 use job_reader::Line;
 use std::alloc::Global;
 use std::marker::Model;
-use swan_model::NoMemory;
+use swan_model::{GIVES_MOST, NoMemory};
 
 /// How the blocks go on that are open before some lines and are closed by them. Contracts see it as a
 /// list, the block that is closed first standing first.
@@ -35,7 +35,7 @@ impl Open {
     }
 
     /// How the block goes on that is closed first; past all lines where there is none.
-    fn first(&self, end: usize) -> Exit
+    fn first(&self, end: u32) -> Exit
         ensures { result ≡ first_exit end self.now }
     {
         match self.from_outside.last() {
@@ -48,7 +48,7 @@ impl Open {
     }
 
     /// Sets where the block goes on that is closed first.
-    fn set_otherwise(&mut self, index: usize) -> Result<(), NoMemory>
+    fn set_otherwise(&mut self, index: u32) -> Result<(), NoMemory>
         ensures { OnOk result (self.new ≡ with_else index self.old) }
     {
         if let Some(exit) = self.from_outside.pop() {
@@ -75,7 +75,7 @@ impl Open {
     }
 
     /// Adds the block that ends before this line.
-    fn add(&mut self, index: usize) -> Result<(), NoMemory>
+    fn add(&mut self, index: u32) -> Result<(), NoMemory>
         ensures { OnOk result (self.new ≡ record { otherwise = index; after = index } ∷ self.old) }
     {
         self.from_outside.push(Exit {
@@ -86,8 +86,8 @@ impl Open {
     }
 
     /// The same once the line with this index stands before the lines.
-    fn enter(&mut self, index: usize, line: &Line) -> Result<(), NoMemory>
-        requires { index < usize.MAX }
+    fn enter(&mut self, index: u32, line: &Line) -> Result<(), NoMemory>
+        requires { index < u32.MAX }
         ensures { OnOk result (self.new ≡ exits_with index line.now self.old) }
     {
         match line {
@@ -103,15 +103,17 @@ impl Open {
 
 /// How the block goes on that each line opens. `O(lines)`.
 pub fn exits_of(alloc: Global, lines: &[Line]) -> Result<Vec<Exit>, NoMemory>
+    requires few { length lines.now ≤ GIVES_MOST }
     ensures { IfOk result (λ all. all.items ≡ exits_of lines.now) }
 {
     let mut open = Open::new(alloc);
     let mut all = Vec::new(alloc);
-    let mut index = lines.len();
+    let end = lines.len() as u32;
+    let mut index = end;
     while index > 0 {
         index -= 1;
-        all.push(open.first(lines.len()))?;
-        open.enter(index, &lines[index])?;
+        all.push(open.first(end))?;
+        open.enter(index, &lines[index as usize])?;
     }
     all.as_mut_slice().reverse();
     Ok(all)

@@ -1,4 +1,5 @@
 // Instructions.
+use crate::task_index::TaskIndex;
 use job_reader::Op;
 use swan_model::{Gives, Kind, Listed, Record};
 
@@ -83,7 +84,7 @@ pub enum Demand {
     /// It tests whether the queue at a place is empty, into a slot.
     Empty(Option<u32>, u32),
     /// It spawns, with this fuel, the task at this line, with these values and gives.
-    Spawn(Operand, u32, Listed<Operand>, Gives),
+    Spawn(Operand, TaskIndex, Listed<Operand>, Gives),
     /// It waits for all children.
     Sync,
     /// It ends the task with a fault.

@@ -20,5 +20,5 @@ pub fn rights_are_kept()
 
 /// The law that says which number the limit of names of a job is.
 pub fn limit_of_names()
-    ensures { NAMES_MOST ≡ 4294967295 }
+    ensures { NAMES_MOST ≡ 1000000000 }
 {}

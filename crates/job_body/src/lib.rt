@@ -31,7 +31,6 @@ mod lines;
 mod local;
 mod name_table;
 mod names;
-mod narrow;
 mod operation;
 mod outcome;
 mod plan;
@@ -40,6 +39,7 @@ mod run;
 mod scope;
 mod source;
 mod take;
+mod task_index;
 mod tasks;
 
 pub use answer::PlanAnswer;

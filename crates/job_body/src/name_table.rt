@@ -1,5 +1,5 @@
 // Names in order.
-ghost use Rattle.std.specs.Prelude.{◌≡◌, ◌∷◌, ◌++◌, ◌≤◌, [], length, ℕ, List, IfOk};
+ghost use Rattle.std.specs.Prelude.{◌≡◌, ◌∷◌, ◌++◌, ◌<◌, ◌≤◌, [], length, ℕ, List, IfOk, IfSome};
 ghost use Rattle.job_body.specs.Names.{slot, with_place};
 ghost use Rattle.std.specs.BTreeMap.{get_by_text};
 
@@ -8,8 +8,8 @@ use std::collections::BTreeMap;
 use std::marker::Model;
 use swan_model::{NoMemory, Word, Words};
 
-/// The largest number of names.
-pub const NAMES_MOST: u32 = 4_294_967_295;
+/// The largest number of names, far more than a job has lines. Three such tables have fewer than 2^32 names together.
+pub const NAMES_MOST: u32 = 1_000_000_000;
 
 /// Names in the order in which they were added, and the first place of each. Contracts see it as the
 /// list of the names.
@@ -60,27 +60,27 @@ impl NameTable {
 
     /// How many names there are. `O(1)`.
     pub fn len(&self) -> u32
-        ensures { result ≡ length self.now }
+        ensures len { result ≡ length self.now }
+        ensures most { result ≤ NAMES_MOST }
     {
         self.names.len() as u32
     }
 
     /// The first place at which a name stands. `O(log names)`.
     pub fn place(&self, name: &Word) -> Option<u32>
-        ensures { result ≡ slot self.now name.now }
+        ensures place { result ≡ slot self.now name.now }
+        ensures few { IfSome result (λ place. place < NAMES_MOST) }
     {
         self.places.get(name.as_str()).copied()
     }
 
     /// The table with one more name after the others. `O(log names)`, and a few allocations.
     pub fn with(self, alloc: Global, name: &Word) -> Result<NameTable, NoMemory>
+        requires { length self < NAMES_MOST }
         ensures { IfOk result (λ table. table ≡ self ++ name.now ∷ []) }
     {
         let NameTable { mut names, places } = self;
         let place = names.len();
-        if place >= NAMES_MOST as usize {
-            return Err(NoMemory);
-        }
         let text = name.as_str();
         let places = places_with(alloc, places, text, place as u32)?;
         if names.push(Word::of(alloc, text)?).is_err() {

@@ -1,6 +1,6 @@
 // Running instructions.
-ghost use Rattle.std.specs.Prelude.{◌≡◌, ◌++◌, ◌+◌, ◌-◌, ◌^◌, ◌<◌, suc, min, map, pos, Some, None, IfOk, IfSome, IfNone};
-ghost use Rattle.job_body.specs.Runs.{ask_by, begun_in, demanded, gone, next_by, spawned, told_by, value_of, worked};
+ghost use Rattle.std.specs.Prelude.{◌≡◌, ◌++◌, ◌+◌, ◌-◌, ◌^◌, ◌<◌, ◌≤◌, suc, min, map, pos, Some, None, IfOk, IfSome, IfNone};
+ghost use Rattle.job_body.specs.Runs.{ask_by, begun_in, demanded, gone, last_of, next_by, spawned, told_by, value_of, worked};
 ghost use Rattle.swan_model.specs.Work.{ask_after, AreWork, local_after};
 ghost use Rattle.swan_model.specs.declared.body.Ask.TheVariants as ask;
 ghost use Rattle.swan_model.specs.declared.value.Value.TheVariants as value;
@@ -10,6 +10,7 @@ use crate::JobLocal;
 use crate::instruction::{Action, Demand, Instruction, Operand, Work};
 use crate::operation::{is_true, reckoned};
 use crate::outcome::outcome_of;
+use crate::task_index::TaskIndex;
 use std::alloc::Global;
 use swan_model::{Answer, Ask, Child, Gives, Kind, Listed, NoMemory, Stop, Trouble, Value, Worked};
 
@@ -27,21 +28,19 @@ fn with_zeros(alloc: Global, mut values: Vec<Value>, kinds: &[Kind]) -> Result<V
 pub fn begin(
     alloc: Global,
     program: &Listed<Instruction>,
-    index: u32,
+    task: &TaskIndex,
     values: Vec<Value>,
 ) -> Result<JobLocal, NoMemory>
-    ensures { IfOk result (λ local. local ≡ begun_in program.now index values.items) }
+    ensures { IfOk result (λ local. local ≡ begun_in program.now task.now values.items) }
 {
+    let index = task.line();
     if let Some(instruction) = program.get(index as usize) {
         if let Action::Demand(Demand::Begin(kinds)) = &instruction.action {
             let values = with_zeros(alloc, values, kinds.as_slice())?;
             return Ok(JobLocal::new(index, instruction.next, values));
         }
     }
-    match index.checked_add(1) {
-        Some(at) => Ok(JobLocal::new(index, at, values)),
-        None => Err(NoMemory),
-    }
+    Ok(JobLocal::new(index, index + 1, values))
 }
 
 /// The values of operands.
@@ -79,11 +78,11 @@ fn spawn(
     local: &mut JobLocal,
     to: u32,
     fuel: i64,
-    index: u32,
+    task: &TaskIndex,
     params: &Listed<Operand>,
     gives: &Gives,
 ) -> Result<Ask<JobLocal>, NoMemory>
-    ensures does { IfOk result (λ ask. (local.new, ask) ≡ spawned program.now local.old to fuel index params.now gives.now) }
+    ensures does { IfOk result (λ ask. (local.new, ask) ≡ spawned program.now local.old to fuel task.now params.now gives.now) }
     ensures other { IfOk result (λ it. it ≡ ask.Work → ⊥) }
 {
     let Ok(fuel) = u64::try_from(fuel) else {
@@ -91,7 +90,7 @@ fn spawn(
     };
     let values = values_of(alloc, local, params.as_slice())?;
     let child = Child {
-        local: begin(alloc, program, index, values)?,
+        local: begin(alloc, program, task, values)?,
         gives: copy_of(alloc, gives)?,
         fuel,
     };
@@ -135,9 +134,9 @@ fn do_demand(
         }
         Demand::Pop(_, place) => Ok(gone(local, to, Ask::Pop(*place))),
         Demand::Empty(_, place) => Ok(gone(local, to, Ask::Empty(*place))),
-        Demand::Spawn(a, index, params, gives) => {
+        Demand::Spawn(a, task, params, gives) => {
             let fuel = local.number(a);
-            spawn(alloc, program, local, to, fuel, *index, params, gives)
+            spawn(alloc, program, local, to, fuel, task, params, gives)
         }
         Demand::Sync => Ok(gone(local, to, Ask::Sync)),
         Demand::Fail(a) => Ok(Ask::Fail(Trouble::User(local.number(a)))),
@@ -148,7 +147,7 @@ fn do_demand(
 fn fuel_value(fuel: u64) -> Value
     ensures { result ≡ value.Int (pos (min fuel (2 ^ 63 - 1))) }
 {
-    Value::Int(fuel.min(9_223_372_036_854_775_807) as i64)
+    Value::Int(fuel.min(i64::MAX as u64) as i64)
 }
 
 /// Does work that goes on at a line. It answers the trouble that it met, and has then done nothing.
@@ -205,31 +204,6 @@ fn tell(program: &Listed<Instruction>, local: &mut JobLocal, answer: Answer)
     }
 }
 
-/// Takes the step of the line at which an activation stands.
-pub fn step(
-    alloc: Global,
-    program: &Listed<Instruction>,
-    mut local: JobLocal,
-    answer: Answer,
-    fuel: u64,
-) -> Result<(JobLocal, Ask<JobLocal>), NoMemory>
-    ensures { IfOk result (λ r. (r.0, r.1) ≡ next_by program.now local answer fuel) }
-{
-    tell(program, &mut local, answer);
-    let Some(instruction) = program.get(local.at() as usize) else {
-        return Ok((local, Ask::Finish));
-    };
-    let to = instruction.next;
-    let ask = match &instruction.action {
-        Action::Work(work) => match do_work(alloc, &mut local, to, fuel, work)? {
-            None => Ask::Work,
-            Some(trouble) => Ask::Fail(trouble),
-        },
-        Action::Demand(demand) => do_demand(alloc, program, &mut local, to, demand)?,
-    };
-    Ok((local, ask))
-}
-
 /// The most steps of work in a row.
 fn most_steps(fuel: u64, budget: u64) -> u64
     ensures { result ≡ min budget fuel }
@@ -254,6 +228,74 @@ fn stopped(local: JobLocal, works: u64, place: u64, ask: Ask<JobLocal>) -> Worke
     Worked { local, works, stop }
 }
 
+/// Takes steps in a row, one at least and at most so many, as long as each asks for work. It is told the fuel that is
+/// left once the first step has paid.
+#[inline(always)]
+fn steps(
+    alloc: Global,
+    program: &Listed<Instruction>,
+    mut local: JobLocal,
+    answer: Answer,
+    left: u64,
+    most: u64,
+) -> Result<Worked<JobLocal>, NoMemory>
+    requires some { 0 < most }
+    requires paid { most ≤ suc left }
+    ensures works { IfOk result (λ w. AreWork (next_by program.now) local answer (suc left) w.works) }
+    ensures all { IfOk result (λ w. IfNone w.stop (w.works ≡ most)) }
+    ensures last { IfOk result (λ w. IfNone w.stop (w.local ≡ local_after (next_by program.now) local answer (suc left) w.works)) }
+    ensures stopped { IfOk result (λ w. IfSome w.stop (λ stop. w.works < most)) }
+    ensures moved { IfOk result (λ w. IfSome w.stop (λ stop. w.local ≡ local_after (next_by program.now) local answer (suc left) (suc w.works))) }
+    ensures ask { IfOk result (λ w. IfSome w.stop (λ stop. stop.ask ≡ ask_after (next_by program.now) local answer (suc left) w.works)) }
+    ensures other { IfOk result (λ w. IfSome w.stop (λ stop. stop.ask ≡ ask.Work → ⊥)) }
+    ensures place { IfOk result (λ w. IfSome w.stop (λ stop. stop.place ≡ (local_after (next_by program.now) local answer (suc left) w.works).at + 1)) }
+{
+    tell(program, &mut local, answer);
+    for works in 0..most {
+        let place = local.line();
+        let fuel = left - works;
+        let Some(instruction) = program.get(local.at() as usize) else {
+            return Ok(stopped(local, works, place, Ask::Finish));
+        };
+        let to = instruction.next;
+        match &instruction.action {
+            Action::Work(work) => match do_work(alloc, &mut local, to, fuel, work)? {
+                None => {}
+                Some(trouble) => return Ok(stopped(local, works, place, Ask::Fail(trouble))),
+            },
+            Action::Demand(demand) => {
+                let ask = do_demand(alloc, program, &mut local, to, demand)?;
+                return Ok(stopped(local, works, place, ask));
+            }
+        }
+    }
+    Ok(row(local, most))
+}
+
+/// What the last step of a row leaves and asks for.
+fn last_of(row: Worked<JobLocal>) -> (JobLocal, Ask<JobLocal>)
+    ensures { (result.0, result.1) ≡ last_of row }
+{
+    let Worked { local, stop, .. } = row;
+    match stop {
+        None => (local, Ask::Work),
+        Some(stop) => (local, stop.ask),
+    }
+}
+
+/// Takes the step of the line at which an activation stands: a row of one.
+pub fn step(
+    alloc: Global,
+    program: &Listed<Instruction>,
+    local: JobLocal,
+    answer: Answer,
+    fuel: u64,
+) -> Result<(JobLocal, Ask<JobLocal>), NoMemory>
+    ensures { IfOk result (λ r. (r.0, r.1) ≡ next_by program.now local answer fuel) }
+{
+    Ok(last_of(steps(alloc, program, local, answer, fuel, 1)?))
+}
+
 /// Takes steps in a row, as long as each asks for work and the budget and the fuel last.
 pub fn work(
     alloc: Global,
@@ -273,30 +315,10 @@ pub fn work(
     ensures other { IfOk result (λ w. IfSome w.stop (λ stop. stop.ask ≡ ask.Work → ⊥)) }
     ensures place { IfOk result (λ w. IfSome w.stop (λ stop. stop.place ≡ (local_after (next_by program.now) local answer fuel w.works).at + 1)) }
 {
-    let mut local = local;
     let most = most_steps(fuel, budget);
     if most == 0 {
         // The answer isn't told: there is no step that it could be told.
         return Ok(row(local, 0));
     }
-    tell(program, &mut local, answer);
-    for works in 0..most {
-        let place = local.line();
-        let left = fuel - works - 1;
-        let Some(instruction) = program.get(local.at() as usize) else {
-            return Ok(stopped(local, works, place, Ask::Finish));
-        };
-        let to = instruction.next;
-        match &instruction.action {
-            Action::Work(work) => match do_work(alloc, &mut local, to, left, work)? {
-                None => {}
-                Some(trouble) => return Ok(stopped(local, works, place, Ask::Fail(trouble))),
-            },
-            Action::Demand(demand) => {
-                let ask = do_demand(alloc, program, &mut local, to, demand)?;
-                return Ok(stopped(local, works, place, ask));
-            }
-        }
-    }
-    Ok(row(local, most))
+    steps(alloc, program, local, answer, fuel - 1, most)
 }

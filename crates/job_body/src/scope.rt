@@ -1,11 +1,10 @@
 // What is known in tasks.
-ghost use Rattle.std.specs.Prelude.{◌≡◌, IfOk};
+ghost use Rattle.std.specs.Prelude.{◌≡◌, ◌+◌, ◌<◌, ◌≤◌, ℕ, IfOk, IfSome};
 ghost use Rattle.job_body.specs.Names.{joined_slot};
 
 use crate::block::{Block, Blocks};
 use crate::instruction::Operand;
-use crate::name_table::NameTable;
-use crate::narrow::narrow;
+use crate::name_table::{NAMES_MOST, NameTable};
 use job_reader::{Atom, Line};
 use std::alloc::Global;
 use swan_model::{NoMemory, Word};
@@ -31,19 +30,21 @@ pub struct Scope {
 
 // The place in two lists of names, one after the other, by the place in each and the number of names in
 // the first.
-fn joined(first: Option<u32>, count: u32, second: Option<u32>) -> Result<Option<u32>, NoMemory>
-    ensures { IfOk result (λ place. place ≡ joined_slot first count second) }
+fn joined(first: Option<u32>, count: u32, second: Option<u32>) -> Option<u32>
+    requires { IfSome second (λ place. count + place ≤ u32.MAX) }
+    ensures place { result ≡ joined_slot first count second }
+    ensures few { (most : ℕ) → IfSome first (λ place. place < most) → IfSome second (λ place. count + place < most) → IfSome result (λ place. place < most) }
 {
     match (first, second) {
-        (Some(place), _) => Ok(Some(place)),
-        (None, Some(place)) => Ok(Some(narrow(count as usize + place as usize)?)),
-        (None, None) => Ok(None),
+        (Some(place), _) => Some(place),
+        (None, Some(place)) => Some(count + place),
+        (None, None) => None,
     }
 }
 
 impl Scope {
-    ghost use Rattle.std.specs.Prelude.{◌≡◌, length, IfOk};
-    ghost use Rattle.job_body.specs.Compiled.{entered, entered_task, operand_of, place_in, place_of_atom, places_in, roots_in, scope_before, slot_in};
+    ghost use Rattle.std.specs.Prelude.{◌≡◌, ◌<◌, ◌≤◌, ◌+◌, ◌++◌, length, IfOk, IfSome};
+    ghost use Rattle.job_body.specs.Compiled.{KnowsFew, entered, entered_task, operand_of, place_in, place_of_atom, places_in, roots_in, scope_before, slot_in};
     ghost use Rattle.job_body.specs.Names.{slot};
     ghost use Rattle.job_body.specs.Tasks.{is_main};
 
@@ -72,7 +73,9 @@ impl Scope {
     }
 
     /// What is known after a line with this index. `O(log names)`.
-    pub fn enter(mut self, alloc: Global, index: usize, line: &Line) -> Result<Scope, NoMemory>
+    pub fn enter(mut self, alloc: Global, index: u32, line: &Line) -> Result<Scope, NoMemory>
+        requires few { KnowsFew self index }
+        requires within { index < NAMES_MOST }
         ensures { IfOk result (λ scope. scope ≡ entered index self line.now) }
     {
         match line {
@@ -93,8 +96,8 @@ impl Scope {
 
     /// The slot of a variable, and None where the name isn't known. `O(log names)`.
     #[tactic(auto, using(crate::proofs::NameLemmas::slot_joined))]
-    pub fn slot(&self, name: &Word) -> Result<Option<u32>, NoMemory>
-        ensures { IfOk result (λ slot. slot ≡ slot_in self.now name.now) }
+    pub fn slot(&self, name: &Word) -> Option<u32>
+        ensures { result ≡ slot_in self.now name.now }
     {
         joined(
             self.params.place(name),
@@ -105,7 +108,8 @@ impl Scope {
 
     /// How many root places there are.
     fn root_count(&self) -> u32
-        ensures { result ≡ length (roots_in self.now) }
+        ensures count { result ≡ length (roots_in self.now) }
+        ensures most { result ≤ NAMES_MOST }
     {
         if self.is_main { self.roots.len() } else { 0 }
     }
@@ -121,42 +125,53 @@ impl Scope {
         }
     }
 
-    /// The place of an object or a queue among those that are known.
+    /// The place of a name among those that the task takes and makes.
     #[tactic(auto, using(crate::proofs::NameLemmas::slot_joined))]
-    fn known_place(&self, name: &Word) -> Result<Option<u32>, NoMemory>
-        ensures { IfOk result (λ place. place ≡ slot (places_in self.now) name.now) }
+    fn own_place(&self, name: &Word) -> Option<u32>
+        ensures place { result ≡ slot (self.now.accesses ++ self.now.made) name.now }
+        ensures few { IfSome result (λ place. place < NAMES_MOST + NAMES_MOST) }
     {
-        let own = joined(
+        joined(
             self.accesses.place(name),
             self.accesses.len(),
             self.made.place(name),
-        )?;
-        joined(self.root_place(name), self.root_count(), own)
+        )
+    }
+
+    /// The place of an object or a queue among those that are known.
+    #[tactic(auto, using(crate::proofs::NameLemmas::slot_joined))]
+    fn known_place(&self, name: &Word) -> Option<u32>
+        ensures { result ≡ slot (places_in self.now) name.now }
+    {
+        joined(
+            self.root_place(name),
+            self.root_count(),
+            self.own_place(name),
+        )
     }
 
     /// The number of places, which is the place of what isn't there.
     #[tactic(auto, using(crate::proofs::NameLemmas::length_places))]
-    fn no_place(&self) -> Result<u32, NoMemory>
-        ensures { IfOk result (λ place. place ≡ length (places_in self.now)) }
+    fn no_place(&self) -> u32
+        ensures { result ≡ length (places_in self.now) }
     {
-        let roots = self.root_count() as usize;
-        narrow(roots + self.accesses.len() as usize + self.made.len() as usize)
+        self.root_count() + self.accesses.len() + self.made.len()
     }
 
     /// The place of an object or a queue; the number of places where the name isn't known.
     /// `O(log names)`.
-    pub fn place(&self, name: &Word) -> Result<u32, NoMemory>
-        ensures { IfOk result (λ place. place ≡ place_in self.now name.now) }
+    pub fn place(&self, name: &Word) -> u32
+        ensures { result ≡ place_in self.now name.now }
     {
-        match self.known_place(name)? {
-            Some(place) => Ok(place),
+        match self.known_place(name) {
+            Some(place) => place,
             None => self.no_place(),
         }
     }
 
     /// The place that an atom names. `O(log names)`.
-    pub fn place_of(&self, atom: &Atom) -> Result<u32, NoMemory>
-        ensures { IfOk result (λ place. place ≡ place_of_atom self.now atom.now) }
+    pub fn place_of(&self, atom: &Atom) -> u32
+        ensures { result ≡ place_of_atom self.now atom.now }
     {
         match atom {
             Atom::Name(name) => self.place(name),
@@ -171,7 +186,7 @@ impl Scope {
         match atom {
             Atom::Int(number) => Ok(Operand::Int(*number)),
             Atom::Bytes(record) => Ok(Operand::Bytes(record.copy()?)),
-            Atom::Name(name) => match self.slot(name)? {
+            Atom::Name(name) => match self.slot(name) {
                 Some(slot) => Ok(Operand::Variable(slot)),
                 None => Ok(Operand::Int(0)),
             },

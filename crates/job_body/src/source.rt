@@ -1,13 +1,12 @@
 // The lines of a job, with the steps among them.
-ghost use Rattle.std.specs.Prelude.{◌≡◌, IfOk};
+ghost use Rattle.std.specs.Prelude.{◌≡◌, ◌≤◌, length, IfOk};
 ghost use Rattle.job_body.specs.Firsts.{firsts_of};
 ghost use Rattle.job_body.specs.Tasks.{is_executed};
 
-use crate::narrow::narrow;
 use job_reader::Line;
 use std::alloc::Global;
 use std::marker::Model;
-use swan_model::NoMemory;
+use swan_model::{GIVES_MOST, NoMemory};
 
 /// Whether a line is a step.
 #[tactic(auto, unfolding(crate::specs::Tasks::is_executed))]
@@ -23,15 +22,16 @@ fn is_executed(line: &Line) -> bool
 
 /// The index of the first step from each line on. `O(lines)`.
 pub fn firsts_of(alloc: Global, lines: &[Line]) -> Result<Vec<u32>, NoMemory>
+    requires few { length lines.now ≤ GIVES_MOST }
     ensures { IfOk result (λ all. all.items ≡ firsts_of lines.now) }
 {
     let mut all = Vec::new(alloc);
-    let mut index = lines.len();
-    let mut first = narrow(index)?;
+    let mut index = lines.len() as u32;
+    let mut first = index;
     while index > 0 {
         index -= 1;
-        if is_executed(&lines[index]) {
-            first = narrow(index)?;
+        if is_executed(&lines[index as usize]) {
+            first = index;
         }
         all.push(first)?;
     }
@@ -60,7 +60,7 @@ impl<'a> Model for Source<'a> {
 }
 
 impl<'a> Source<'a> {
-    ghost use Rattle.std.specs.Prelude.{◌≡◌, IfOk};
+    ghost use Rattle.std.specs.Prelude.{◌≡◌};
     ghost use Rattle.job_body.specs.Firsts.{firsts_of};
     ghost use Rattle.job_body.specs.Tasks.{executed_from};
 
@@ -80,12 +80,13 @@ impl<'a> Source<'a> {
     }
 
     /// The index of the first step from this index on. `O(1)`.
-    pub fn step_from(&self, from: usize) -> Result<u32, NoMemory>
-        ensures { IfOk result (λ index. index ≡ executed_from self.now from) }
+    pub fn step_from(&self, from: u32) -> u32
+        ensures { result ≡ executed_from self.now from }
     {
-        if from >= self.firsts.len() {
-            return narrow(from);
+        let at = from as usize;
+        if at >= self.firsts.len() {
+            return from;
         }
-        Ok(self.firsts[from])
+        self.firsts[at]
     }
 }

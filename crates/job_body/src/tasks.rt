@@ -1,15 +1,16 @@
 // The tasks of a job.
 use crate::name_table::NameTable;
 use crate::take::Take;
+use crate::task_index::TaskIndex;
 use job_reader::Line;
 use std::alloc::Global;
-use swan_model::{Listed, NoMemory, Word};
+use swan_model::{GIVES_MOST, Listed, NoMemory, Word};
 
 /// A task: the index of its `task` line, and what it takes, in order.
 #[derive(Drop)]
 pub struct Task {
     /// The index.
-    pub index: usize,
+    pub index: TaskIndex,
     /// What it takes.
     pub takes: Listed<Take>,
 }
@@ -48,12 +49,13 @@ impl Task {
 }
 
 impl Tasks {
-    ghost use Rattle.std.specs.Prelude.{◌≡◌, IfOk};
+    ghost use Rattle.std.specs.Prelude.{◌≡◌, ◌≤◌, length, IfOk};
     ghost use Rattle.std.specs.Option.{option_copied};
     ghost use Rattle.job_body.specs.Compiled.{task_named, tasks_of};
 
     /// The tasks of a job. `O(lines log tasks)`.
     pub fn of(alloc: Global, lines: &[Line]) -> Result<Tasks, NoMemory>
+        requires few { length lines.now ≤ GIVES_MOST }
         ensures { IfOk result (λ tasks. tasks ≡ tasks_of lines.now) }
     {
         let mut names = NameTable::new(alloc);
@@ -62,7 +64,11 @@ impl Tasks {
             if let Line::Task(name) = line {
                 let takes = Task::takes_of(alloc, &lines[index + 1..])?;
                 names = names.with(alloc, name)?;
-                if tasks.push(Task { index, takes }).is_err() {
+                let task = Task {
+                    index: TaskIndex::new(index as u32),
+                    takes,
+                };
+                if tasks.push(task).is_err() {
                     return Err(NoMemory);
                 }
             }

@@ -1,30 +1,32 @@
 use Rattle.std.proofs.Common.{◌≡◌, ◌+◌, ◌++◌, ◌∷◌, [], Some, length, drop, get_or, slice_get, arith, rules, subst, sym, ap, ◌∙◌, append_assoc}
 use Rattle.job_body.specs.Blocks.{exit_at}
-use Rattle.job_body.specs.Compiled.{TakeFew, entered, instruction_of, instructions_from, seen_at, tasks_of}
+use Rattle.job_body.specs.Compiled.{KnowsFew, TakeFew, entered, instruction_of, instructions_from, seen_at, tasks_of}
+use Rattle.job_body.proofs.FewNames.{knows_more}
 use Rattle.job_body.proofs.FewTakes.{few_takes}
 use Rattle.job_body.proofs.Known.{seen-next}
 use Rattle.job_body.proofs.Suffixes.{drop_item, exit_is, item_at, length_exits}
 use Rattle.job_body.proofs.compile.program_of.Goals as goal
 
-pub index-requires : goal.index-requires
-index-requires c = omega (arith, c.in_ok-exits.exits.ok.0, ap length c.in_ok-exits.ensures, length_exits (length c.args.lines.now) 0 c.args.lines.now)
+pub index-exit-requires : goal.index-exit-requires
+index-exit-requires c = omega (arith, c.in_ok-exits.exits.ok.0, ap length c.in_ok-exits.ensures, length_exits (length c.args.lines.now) 0 c.args.lines.now)
 
 pub loop-index-preserved : goal.loop-index-preserved
 loop-index-preserved c =
     let line : slice_get c.args.lines.now c.loop-index.index ≡ Some c.index-lines-index.result =
     item_at c.args.lines.now c.loop-index.index c.index-lines-index.result c.loop-index-test.true c.index-lines-index.is in
-    let exit : c.index.result.now ≡ exit_at c.args.lines.now c.loop-index.index =
-    c.index.ensures
-    ∙ ap (λ exits. get_or exits c.loop-index.index c.index.result.now) c.in_ok-exits.ensures
-    ∙ exit_is c.args.lines.now c.loop-index.index c.index.result.now c.loop-index-test.true in
+    let exit : c.index-exit.result.now ≡ exit_at c.args.lines.now c.loop-index.index =
+    c.index-exit.ensures
+    ∙ ap (λ exits. get_or exits c.loop-index.index c.index-exit.result.now) c.in_ok-exits.ensures
+    ∙ exit_is c.args.lines.now c.loop-index.index c.index-exit.result.now c.loop-index-test.true in
     let made : c.in_ok-instruction.instruction ≡ instruction_of c.args.lines.now (tasks_of c.args.lines.now) (seen_at c.args.lines.now c.loop-index.index) (exit_at c.args.lines.now c.loop-index.index) c.loop-index.index c.index-lines-index.result =
     c.in_ok-instruction.ensures
-    ∙ ap (λ job. instruction_of job c.in_ok-tasks.tasks c.loop-index.scope c.index.result.now c.loop-index.index c.index-lines-index.result) c.new-job.ensures
-    ∙ ap (λ tasks. instruction_of c.args.lines.now tasks c.loop-index.scope c.index.result.now c.loop-index.index c.index-lines-index.result) c.in_ok-tasks.ensures
-    ∙ ap (λ scope. instruction_of c.args.lines.now (tasks_of c.args.lines.now) scope c.index.result.now c.loop-index.index c.index-lines-index.result) c.loop-index.invariant.known
+    ∙ ap (λ job. instruction_of job c.in_ok-tasks.tasks c.loop-index.scope c.index-exit.result.now c.loop-index.index c.index-lines-index.result) c.new-job.ensures
+    ∙ ap (λ tasks. instruction_of c.args.lines.now tasks c.loop-index.scope c.index-exit.result.now c.loop-index.index c.index-lines-index.result) c.in_ok-tasks.ensures
+    ∙ ap (λ scope. instruction_of c.args.lines.now (tasks_of c.args.lines.now) scope c.index-exit.result.now c.loop-index.index c.index-lines-index.result) c.loop-index.invariant.known
     ∙ ap (λ exit. instruction_of c.args.lines.now (tasks_of c.args.lines.now) (seen_at c.args.lines.now c.loop-index.index) exit c.loop-index.index c.index-lines-index.result) exit in
     let pushed : c.push.new.self ≡ c.loop-index.program ++ c.in_ok-instruction.instruction ∷ [] = search rules in
     record {
+      few = subst (λ scope. KnowsFew scope (c.loop-index.index + 1)) (sym c.in_ok-scope.ensures) (knows_more _ c.loop-index.scope c.index-lines-index.result c.loop-index.index c.loop-index.invariant.few);
       known =
           c.in_ok-scope.ensures
           ∙ ap (λ scope. entered c.loop-index.index scope c.index-lines-index.result) c.loop-index.invariant.known

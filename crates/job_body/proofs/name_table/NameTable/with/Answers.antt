@@ -9,7 +9,7 @@ invariant_of-result c =
     let pushed : c.push.new.self ≡ c.self.inside.names ++ c.args.name.now ∷ [] = search rules in
     let longer : length c.push.new.self ≡ length (c.self.inside.names ++ c.args.name.now ∷ []) = ap length pushed in
     record {
-      few = omega (arith, longer, length-append {A = List ℕ});
+      few = omega (arith, longer, length-append {A = List ℕ}, c.requires, ap length c.self.view_is);
       finds = λ other.
           places-with c.self.inside.names (get_by_text c.self.inside.places) (get_by_text c.in_ok-places.places) c.as_str-text.result.now c.len-place.result c.len-place.ensures
           c.self.invariant.finds c.in_ok-places.ensures other

@@ -1,0 +1,39 @@
+// Where tasks begin.
+use std::marker::Model;
+
+/// The index of the line at which a task begins. No line of a job has a greater one than 2^32 - 2. Contracts see it as the
+/// number.
+#[derive(Drop)]
+pub struct TaskIndex {
+    index: u32,
+}
+
+impl Model for TaskIndex {
+    ghost use Rattle.std.specs.Prelude.{◌<◌, ◌-◌, ◌^◌, ℕ};
+
+    ghost Value = { ℕ };
+
+    ghost view = { λ it. it.index };
+
+    ghost invariant = { λ it. it.index < 2 ^ 32 - 1 };
+}
+
+impl TaskIndex {
+    ghost use Rattle.std.specs.Prelude.{◌≡◌, ◌<◌};
+
+    /// The index. `O(1)`.
+    pub fn new(index: u32) -> TaskIndex
+        requires { index < u32.MAX }
+        ensures { result ≡ index }
+    {
+        TaskIndex { index }
+    }
+
+    /// The number. `O(1)`.
+    pub fn line(&self) -> u32
+        ensures line { result ≡ self.now }
+        ensures few { result < u32.MAX }
+    {
+        self.index
+    }
+}
