@@ -46,7 +46,7 @@ module _ (name : Option Script) (state : QueueState) (lines : ℕ → Chunks) (i
         owners = owners_kept_spawn state p child gives q (lines q) is.tree may lacks was.owners;
         matches = λ left in_use s named lawful.
             matches_spawn_other s lawful state (is.follows s named lawful) is.tree q (origin_in s maker) (origin_of s state q maker made) p child may.act.frame gives may.act.may.live free may.lawful
-            (spawn_of s named) (end_time s (maker_path maker)) (lines q) was.owners (was.matches left (in_use_before q maker in_use) s named lawful) lacks;
+            (spawn_of s named) (end_time s (maker_path maker)) (lines q) was.owners lacks (was.matches left (in_use_before q maker in_use) s named lawful);
         emptied = was.emptied;
       }
 

@@ -11,9 +11,9 @@ use Rattle.swan_model.specs.QueueState.{ActiveFrame, QueueState, active, holds_q
 use Rattle.swan_model.specs.Ripe.{is_push_to}
 use Rattle.swan_model.specs.Told.{count, deed_at, is_pop_of, taken}
 use Rattle.swan_model.proofs.ScriptCounts.{count_kept, taken_kept, taken_none}
-use Rattle.queues.specs.Chunks.{Chunks, IsOwner, Matches}
+use Rattle.queues.specs.Chunks.{Chunks, HasTaken, IsOwner, Matches}
 use Rattle.queues.proofs.MatchOwners.{AreOtherOwners, none_changed, own_same}
-use Rattle.queues.proofs.MatchSame.{CountsSame, PopsSame, counts_itself, matches_same, pops_itself}
+use Rattle.queues.proofs.MatchSame.{CountsSame, PopsSame, counts_itself, matches_same, pops_itself, taken_same}
 use Rattle.queues.proofs.QueuePoints.{moved_counts, next_is}
 
 -- a deed that isn't a spawn, and leaves what stands in this queue
@@ -57,6 +57,17 @@ module _ (s : Script) (lawful : IsLawful s) (number : ℕ) (queue : Origin) (fra
         by : (b : Bool) → is_pop_of queue d ≡ b → taken s queue (queue_point s frame.path frame.deeds + 1) ≡ taken_at s frame queue
         by true pops = let all = none pops in taken_none s queue (queue_point s frame.path frame.deeds) (omega arith)
         by false other = taken_kept s queue (queue_point s frame.path frame.deeds) (ap (is_pop_of queue) does ∙ other)
+
+-- Apart from items: where a frame has no chunk of a queue, its deeds leave what is taken.
+module _ (s : Script) (state after : QueueState) (number : ℕ) (queue : Origin) (end n : ℕ) (chunks : Chunks) (at : ℕ) (has : HasTaken s state number queue end chunks at)
+    (others : AreOtherOwners state after n chunks) where
+  pub taken_unowned : ((index : ℕ) → IsOwner state chunks index n → ⊥) → HasTaken s after number queue end chunks at
+  taken_unowned not = taken_same s number queue state after end chunks at has (none_changed state after n chunks others (PopsSame s number queue) (pops_itself s number queue) not)
+
+  -- and so it is where the frame tells the same as before
+  pub taken_told : (frame later : ActiveFrame) → active state n ≡ Some frame → active after n ≡ Some later → PopsSame s number queue frame later → HasTaken s after number queue end chunks at
+  taken_told frame later live now same =
+      taken_same s number queue state after end chunks at has (own_same state after n chunks others (PopsSame s number queue) (pops_itself s number queue) frame later live now same)
 
 -- Where a frame has no chunk of a queue, its deeds leave the queue.
 pub matches_unowned : (s : Script) (state after : QueueState) (number : ℕ) (queue : Origin) (end n : ℕ) (chunks : Chunks) → Matches s state number queue end chunks → AreOtherOwners state after n chunks

@@ -23,14 +23,14 @@ use Rattle.queues.proofs.MatchParts.{NonePops, first_pops_none, items_from, owne
 use Rattle.queues.proofs.MatchSame.{CountsSame, counts_itself, items_same, pops_itself, PopsSame, taken_same}
 use Rattle.queues.proofs.Segments.{segment_first, segment_rest}
 
-module _ (s : Script) (lawful : IsLawful s) (state after : QueueState) (number : ℕ) (queue : Origin) (end n : ℕ)
-    (frame later : ActiveFrame) (live : active state n ≡ Some frame) (now : active after n ≡ Some later) (done : HasDone number frame later)
-    (pops : holds_queue frame number Pop ≡ true) (next : next_queue_deed s frame.path frame.deeds ≡ Some (deed.Pop queue)) where
-  -- Behind the chunk of the frame that pops as much was popped as before, and up to it one more.
-  pub taken_more : (chunks : Chunks) (at index : ℕ) → HasTaken s state number queue end chunks at → AreOtherOwners state after n chunks → IsOnce n chunks → IsOwner state chunks index n → NonePops state number chunks index
-      → taken_at s later queue ≡ at + 1 → HasTaken s after number queue end chunks (at + 1)
-  taken_more [] at index has others once own none more = absurd (cc (own.stands))
-  taken_more (first ∷ chunks) at zero has others once own none more =
+module _ (s : Script) (state after : QueueState) (number : ℕ) (queue : Origin) (end n : ℕ) (frame later : ActiveFrame) (live : active state n ≡ Some frame) (now : active after n ≡ Some later)
+    (path : later.path ≡ frame.path) (may : holds_queue later number Pop ≡ holds_queue frame number Pop) (pops : holds_queue frame number Pop ≡ true) where
+  -- Where the first owner that may pop goes on, behind its chunk as much was popped as before, and up to it as much as by
+  -- its point then.
+  pub taken_moved : (chunks : Chunks) (at to index : ℕ) → HasTaken s state number queue end chunks at → AreOtherOwners state after n chunks → IsOnce n chunks → IsOwner state chunks index n → NonePops state number chunks index
+      → taken_at s later queue ≡ to → HasTaken s after number queue end chunks to
+  taken_moved [] at to index has others once own none is_at = absurd (cc (own.stands))
+  taken_moved (first ∷ chunks) at to zero has others once own none is_at =
       let parts = taken_from s state number queue end first chunks at has in
       let owns : first.owner ≡ Some n = ap (λ (c : Chunk). c.owner) (some_same first own.chunk own.stands) ∙ own.owns in
       let was = owner_at state first n frame owns live in
@@ -38,31 +38,34 @@ module _ (s : Script) (lawful : IsLawful s) (state after : QueueState) (number :
       let behind = none_changed state after n chunks (λ index chunk stands not. others (suc index) chunk stands not) (PopsSame s number queue) (pops_itself s number queue)
       (λ index too. let same = once 0 (suc index) first too.chunk refl too.stands owns too.owns in absurd (omega arith)) in
       let rest = taken_same s number queue state after end chunks (goes_on_popping s number queue (owner_of state first) at) parts.rest behind in
-      let goes : goes_on_popping s number queue (owner_of state first) at ≡ goes_on_popping s number queue (owner_of after first) (at + 1) =
+      let goes : goes_on_popping s number queue (owner_of state first) at ≡ goes_on_popping s number queue (owner_of after first) to =
       ap (λ o. goes_on_popping s number queue o at) was
       ∙ ap (λ b. cond b (taken s queue (end_time s frame.path)) at) pops
-      ∙ ap (λ p. taken s queue (end_time s p)) (sym done.path)
-      ∙ sym (ap (λ b. cond b (taken s queue (end_time s later.path)) (at + 1)) (done.pops ∙ pops))
-      ∙ sym (ap (λ o. goes_on_popping s number queue o (at + 1)) is) in
-      taken_chunk first chunks (at + 1) (subst (λ o. pops_at s number queue o (at + 1)) (sym is) (λ may. sym more))
+      ∙ ap (λ p. taken s queue (end_time s p)) (sym path)
+      ∙ sym (ap (λ b. cond b (taken s queue (end_time s later.path)) to) (may ∙ pops))
+      ∙ sym (ap (λ o. goes_on_popping s number queue o to) is) in
+      taken_chunk first chunks to (subst (λ o. pops_at s number queue o to) (sym is) (λ is_popper. sym is_at))
       (subst (HasTaken s after number queue end chunks) goes rest)
-  taken_more (first ∷ chunks) at (suc index) has others once own none more =
+  taken_moved (first ∷ chunks) at to (suc index) has others once own none is_at =
       let parts = taken_from s state number queue end first chunks at has in
       let same : owner_of after first ≡ owner_of state first = others 0 first refl (λ owns. let here = once 0 (suc index) first own.chunk refl own.stands owns own.owns in absurd (omega arith)) in
       let never = first_pops_none s state number queue end first chunks index none in
       let on = pops_on s state number queue end (owner_of state first) at never in
       let rest : HasTaken s state number queue end chunks at = subst (HasTaken s state number queue end chunks) on parts.rest in
-      let further = taken_more chunks at index rest (λ i chunk stands not. others (suc i) chunk stands not)
+      let further = taken_moved chunks at to index rest (λ i chunk stands not. others (suc i) chunk stands not)
       (λ i j a b one two mine too. let here = once (suc i) (suc j) a b one two mine too in omega arith)
-      (record { chunk = own.chunk; stands = own.stands; owns = own.owns }) (rest_pops_none s state number queue end first chunks index none) more in
-      let goes = pops_on s state number queue end (owner_of after first) (at + 1) (λ f is. never f (sym same ∙ is)) in
-      taken_chunk first chunks (at + 1) (subst (λ o. pops_at s number queue o (at + 1)) (sym same) (none_there (owner_of state first) never))
+      (record { chunk = own.chunk; stands = own.stands; owns = own.owns }) (rest_pops_none s state number queue end first chunks index none) is_at in
+      let goes = pops_on s state number queue end (owner_of after first) to (λ f is. never f (sym same ∙ is)) in
+      taken_chunk first chunks to (subst (λ o. pops_at s number queue o to) (sym same) (none_there (owner_of state first) never))
       (subst (HasTaken s after number queue end chunks) (sym goes) further)
     where
-      none_there : (owner : Option ActiveFrame) → ((f : ActiveFrame) → owner ≡ Some f → holds_queue f number Pop ≡ false) → pops_at s number queue owner (at + 1)
+      none_there : (owner : Option ActiveFrame) → ((f : ActiveFrame) → owner ≡ Some f → holds_queue f number Pop ≡ false) → pops_at s number queue owner to
       none_there None never = tt
-      none_there (Some f) never = λ may. let both : true ≡ false = sym may ∙ never f refl in absurd (cc)
+      none_there (Some f) never = λ is_popper. let both : true ≡ false = sym is_popper ∙ never f refl in absurd (cc)
 
+module _ (s : Script) (lawful : IsLawful s) (state after : QueueState) (number : ℕ) (queue : Origin) (end n : ℕ)
+    (frame later : ActiveFrame) (live : active state n ≡ Some frame) (now : active after n ≡ Some later) (done : HasDone number frame later)
+    (pops : holds_queue frame number Pop ≡ true) (next : next_queue_deed s frame.path frame.deeds ≡ Some (deed.Pop queue)) where
   module _ (first : Chunk) (chunks : Chunks) (matches : Matches s state number queue end (first ∷ chunks)) (others : AreOtherOwners state after n (first ∷ chunks)) (once : IsOnce n (first ∷ chunks)) (index : ℕ)
       (owner : IsOwner state (first ∷ chunks) index n) (none : NonePops state number (first ∷ chunks) index) (value : Value) (is : slice_get first.items 0 ≡ Some value) where
     more_taken : taken_at s later queue ≡ matches.left + 1
@@ -85,5 +88,5 @@ module _ (s : Script) (lawful : IsLawful s) (state after : QueueState) (number :
     -- So the chunks match without that item.
     pub matches_popped : Matches s after number queue end (without_first (first ∷ chunks))
     matches_popped =
-        let parts = taken_from s after number queue end first chunks (matches.left + 1) (taken_more (first ∷ chunks) matches.left index matches.taken others once owner none more_taken) in
+        let parts = taken_from s after number queue end first chunks (matches.left + 1) (taken_moved s state after number queue end n frame later live now done.path done.pops pops (first ∷ chunks) matches.left (matches.left + 1) index matches.taken others once owner none more_taken) in
         record { left = matches.left + 1; items = fewer; taken = taken_chunk (record { owner = first.owner; items = drop 1 first.items }) chunks (matches.left + 1) parts.pops parts.rest }

@@ -20,7 +20,7 @@ use Rattle.swan_model.specs.SerialTime.{point}
 use Rattle.swan_model.specs.Told.{count, is_pop_of, pushes, taken}
 use Rattle.swan_model.proofs.ScriptCounts.{count_kept, count_le, count_through, taken_kept, taken_through}
 use Rattle.swan_model.proofs.ScriptRights.{held_older, is_older}
-use Rattle.queues.specs.Chunks.{Chunk, Chunks, HasItems, HasOwners, HasTaken, Matches, ends_at, goes_on_at, goes_on_popping, after_hand_on, own, owner_of, pops_at}
+use Rattle.queues.specs.Chunks.{Chunk, Chunks, HasItems, HasOwners, HasTaken, IsOwner, Matches, ends_at, goes_on_at, goes_on_popping, after_hand_on, own, owner_of, pops_at}
 use Rattle.queues.specs.Chunks.HasItems.{chunk as items_chunk}
 use Rattle.queues.specs.Chunks.HasTaken.{chunk as taken_chunk}
 use Rattle.queues.specs.Tree.{IsTree, has_queue}
@@ -32,7 +32,8 @@ use Rattle.queues.proofs.Gives.{gives_held}
 use Rattle.queues.proofs.Lineage.{spawns_by}
 use Rattle.queues.proofs.MatchOwners.{Alters, AreOtherOwners, items_altered, owns_once, taken_altered}
 use Rattle.queues.proofs.MatchParts.{ItemsFrom, TakenFrom, owner_at, upto_is}
-use Rattle.queues.proofs.MatchDeed.{matches_told, matches_unowned}
+use Rattle.queues.proofs.MatchDeed.{matches_told, matches_unowned, taken_told, taken_unowned}
+use Rattle.queues.proofs.MatchSame.{PopsSame}
 use Rattle.queues.proofs.QueuePoints.{IsNextDeed, coming, coming_deed, coming_point, next_is, spawned_counts}
 use Rattle.queues.proofs.Segments.{segment_none}
 
@@ -194,19 +195,29 @@ module _ (s : Script) (lawful : IsLawful s) (state : QueueState) (follows : Queu
         }
 
     -- Where it isn't given the queue, the chunks stay.
-    pub matches_spawn_other : Matches s state number queue end chunks → list_any (λ (right : QueueRight). right.queue == number) gives ≡ false → Matches s (after_spawn state frame c gives) number queue end chunks
-    matches_spawn_other matches lacks = elim (cases_Bool (has_queue frame number)) [
-      | inl has ↦
-          let not : (mode : Mode) → holds_queue child number mode ≡ false = λ mode. false_from_ne_true (holds_queue child number mode) (λ held. both_ways (has_queue child number) lacks (has_held child number mode held)) in
-          matches_told s lawful state after number queue end n chunks matches others frame later live (parent_spawned state n c frame gives live new)
-          (record { path = refl; counts = counts_parent ∙ counts_through has (not Push) })
-          (record { path = refl; takes = takes_parent ∙ takes_through has (not Pop); pops = refl })
-      | inr none ↦
-          matches_unowned s state after number queue end n chunks matches others (λ index is.
+    module _ (lacks : list_any (λ (right : QueueRight). right.queue == number) gives ≡ false) where
+      lacks_all : (mode : Mode) → holds_queue child number mode ≡ false
+      lacks_all mode = false_from_ne_true (holds_queue child number mode) (λ held. both_ways (has_queue child number) lacks (has_held child number mode held))
+
+      same_takes : has_queue frame number ≡ true → PopsSame s number queue frame later
+      same_takes has = record { path = refl; takes = takes_parent ∙ takes_through has (lacks_all Pop); pops = refl }
+
+      has_chunk : has_queue frame number ≡ false → (index : ℕ) → IsOwner state chunks index n → ⊥
+      has_chunk none index is =
           let owner = owners.owners index n is in
           let same : owner.0 ≡ frame = some_same owner.0 frame (sym owner.1 ∙ live) in
-          both_ways (has_queue frame number) none (ap (λ f. has_queue f number) (sym same) ∙ owner.2))
-    ]
-      where
-        after : QueueState
-        after = after_spawn state frame c gives
+          both_ways (has_queue frame number) none (ap (λ f. has_queue f number) (sym same) ∙ owner.2)
+
+      pub taken_spawn_other : (at : ℕ) → HasTaken s state number queue end chunks at → HasTaken s (after_spawn state frame c gives) number queue end chunks at
+      taken_spawn_other at taken = elim (cases_Bool (has_queue frame number)) [
+        | inl has ↦ taken_told s state (after_spawn state frame c gives) number queue end n chunks at taken others frame later live (parent_spawned state n c frame gives live new) (same_takes has)
+        | inr none ↦ taken_unowned s state (after_spawn state frame c gives) number queue end n chunks at taken others (has_chunk none)
+      ]
+
+      pub matches_spawn_other : Matches s state number queue end chunks → Matches s (after_spawn state frame c gives) number queue end chunks
+      matches_spawn_other matches = elim (cases_Bool (has_queue frame number)) [
+        | inl has ↦
+            matches_told s lawful state (after_spawn state frame c gives) number queue end n chunks matches others frame later live (parent_spawned state n c frame gives live new)
+            (record { path = refl; counts = counts_parent ∙ counts_through has (lacks_all Push) }) (same_takes has)
+        | inr none ↦ matches_unowned s state (after_spawn state frame c gives) number queue end n chunks matches others (has_chunk none)
+      ]

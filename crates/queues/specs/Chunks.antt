@@ -12,7 +12,7 @@ use Rattle.swan_model.specs.QueueFollows.{count_at, taken_at}
 use Rattle.swan_model.specs.QueueState.{ActiveFrame, QueueState, active, holds_queue}
 use Rattle.swan_model.specs.Readings.{end_time}
 use Rattle.swan_model.specs.Told.{count, pushes, taken}
-use Rattle.queues.specs.Tree.{has_queue}
+use Rattle.queues.specs.Tree.{IsTree, has_queue}
 
 pub record Chunk : Type 0 where
   -- the active frame that pushes to it now
@@ -130,3 +130,28 @@ pub record Matches (s : Script) (state : QueueState) (number : ℕ) (queue : Ori
   pub left : ℕ
   pub items : HasItems s state queue end chunks left
   pub taken : HasTaken s state number queue end chunks left
+
+-- ---- what the laws of chunks say
+
+-- The frame owns the chunk at this index and may pop the queue, and no owner of a chunk before it may.
+pub record IsFirstPopper (state : QueueState) (queue : ℕ) (chunks : Chunks) (index number : ℕ) (frame : ActiveFrame) : Type 0 where
+  pub owns : IsOwner state chunks index number
+  pub pops : holds_queue frame queue Pop ≡ true
+  pub first : (before other : ℕ) (earlier : ActiveFrame) → before < index → IsOwner state chunks before other → active state other ≡ Some earlier
+      → holds_queue earlier queue Pop ≡ false
+
+-- what holds of the chunks of a queue, whose owners are exactly those that have it
+abbrev pub OnOwners : (QueueState → ℕ → Chunks → Type 0) → Type 0
+OnOwners Holds = (state : QueueState) (queue : ℕ) (chunks : Chunks) → IsTree state → HasOwners state queue chunks → Holds state queue chunks
+
+-- what holds of them where so many items have left the queue
+abbrev pub OnTaken : (Script → QueueState → (number : ℕ) → (queue : Origin) → (end : ℕ) → Chunks → (at : ℕ) → Type 0) → Type 0
+OnTaken Holds =
+    (s : Script) (state : QueueState) (number : ℕ) (queue : Origin) (end : ℕ) (chunks : Chunks) (at : ℕ)
+    → HasTaken s state number queue end chunks at → Holds s state number queue end chunks at
+
+-- and of an active frame
+abbrev pub OnTakenBy : (Script → QueueState → (number : ℕ) → (queue : Origin) → (end : ℕ) → Chunks → (at n : ℕ) → ActiveFrame → Type 0) → Type 0
+OnTakenBy Holds =
+    OnTaken (λ s state number queue end chunks at. (n : ℕ) (frame : ActiveFrame) → active state n ≡ Some frame
+    → Holds s state number queue end chunks at n frame)

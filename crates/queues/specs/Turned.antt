@@ -1,5 +1,5 @@
 -- What the turns of poppers say of a state.
-use Rattle.std.specs.Prelude.{◌≡◌, ◌≢◌, ℕ, ◌≤◌, true, Some, None, [], ◌∷◌, slice_get, ◌==◌, Bool, false, Option, List, map}
+use Rattle.std.specs.Prelude.{◌≡◌, ◌≢◌, ℕ, ◌<◌, ◌≤◌, true, Some, None, [], ◌∷◌, slice_get, ◌==◌, Bool, false, Option, List, map}
 use Rattle.std.specs.List.{list_any}
 use Rattle.swan_model.specs.declared.rights.Mode.{Mode}
 use Rattle.swan_model.specs.QueueState.{ActiveFrame, QueueMaker, QueueState, active, holds_queue, QueueRight, IsEarlierPusher, IsPoppingChild}
@@ -8,7 +8,7 @@ use Rattle.pop_order.specs.Frames.{Frame, Frames, frame_at, holds}
 use Rattle.pop_order.specs.declared.certain.Certain.{Certain}
 use Rattle.pop_order.specs.declared.certain.Certain.TheVariants.{Yes, EarlierPusher, PoppingChild}
 use Rattle.queues.specs.Tells.{IsFirstPusher}
-use Rattle.queues.specs.Tree.{maker_path}
+use Rattle.queues.specs.Tree.{IsTree, maker_path}
 
 -- no number stands twice
 abbrev pub AreApart : Frames → Type 0
@@ -53,3 +53,17 @@ IsToldBy state frame queue (EarlierPusher n) =
     ((other : ℕ) → ¬ IsPoppingChild state frame.number queue other) × IsFirstPusher state frame queue n
 IsToldBy state frame queue Yes =
     ((other : ℕ) → ¬ IsPoppingChild state frame.number queue other) × ((other : ℕ) → ¬ IsEarlierPusher state frame queue other)
+
+-- ---- what the laws of turns say
+
+-- what holds of turns that are those of a state
+abbrev pub OnTurns : (QueueState → Frames → Type 0) → Type 0
+OnTurns Holds = (state : QueueState) (turns : Frames) → AreTurns state turns → Holds state turns
+
+-- and where its frames are a tree
+abbrev pub OnTreeTurns : (QueueState → Frames → Type 0) → Type 0
+OnTreeTurns Holds = (state : QueueState) (turns : Frames) → IsTree state → AreTurns state turns → Holds state turns
+
+-- each frame that has a turn is older than this number
+abbrev pub AreOlder : Frames → ℕ → Type 0
+AreOlder turns child = (number : ℕ) (turn : Frame) → frame_at turns number ≡ Some turn → number < child

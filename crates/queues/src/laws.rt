@@ -5,7 +5,7 @@ ghost use Rattle.swan_model.specs.declared.script.Deed.{Deed};
 ghost use Rattle.swan_model.specs.declared.script.Deed.TheVariants.{MakeQueue};
 ghost use Rattle.swan_model.specs.declared.script.Script.{Script};
 ghost use Rattle.swan_model.specs.declared.value.Value.{Value};
-ghost use Rattle.swan_model.specs.Granted.{is_spawn};
+ghost use Rattle.swan_model.specs.Granted.{children_before, is_spawn};
 ghost use Rattle.swan_model.specs.Lawful.{IsLawful};
 ghost use Rattle.swan_model.specs.PathOrder.{comes_before};
 ghost use Rattle.swan_model.specs.QueueFollows.{AreActive, AreByEnds, Fits, NextSpawnGivesQueues, QueuesFollow, count_at, is_done_among, is_ripe_among, next_queue_deed, queue_origin, queue_point, taken_at};
@@ -18,12 +18,15 @@ ghost use Rattle.queues.specs.Reads.{OnRead, OnTwoRead};
 /// The law that hyperqueues, which count the deeds of queues alone, say of the queues what each full reading says
 /// that fits. By a frame's point as many items left a queue, and as many were pushed, as by the frame's point among
 /// queues; frames stand in the same order, which is the serial order of their tasks; the same deeds of queues are
-/// done; and the next item of a queue is ripe for a frame in both or in neither.
+/// done; and the next item of a queue is ripe for a frame in both or in neither. And an active frame has spawned as many
+/// children as the script has spawns of its task before its point, so the next one has the path that the script says.
 pub fn points_of_queues_agree()
     ensures taken { (s : Script) (state : QueueState) (r : Reading) → OnRead s state r (λ frame a.
         (queue : Origin) → taken_at s frame queue ≡ taken s queue (point s a)) }
     ensures count { (s : Script) (state : QueueState) (r : Reading) → OnRead s state r (λ frame a.
         (queue : Origin) → count_at s frame queue ≡ count s queue (point s a)) }
+    ensures children { (s : Script) (state : QueueState) (r : Reading) → OnRead s state r (λ frame a.
+        frame.children ≡ children_before s frame.path (point s a)) }
     ensures earlier { (s : Script) (state : QueueState) (r : Reading) → OnTwoRead s state r (λ frame a other b.
         nat_lt (queue_point s frame.path frame.deeds) (queue_point s other.path other.deeds) ≡ is_earlier s a b) }
     ensures serial { (s : Script) (state : QueueState) (r : Reading) → OnTwoRead s state r (λ frame a other b. frame.number ≢ other.number

@@ -1,6 +1,7 @@
 // Laws of whose the chunks of a queue are, and of what is taken of it.
-ghost use Rattle.std.specs.Prelude.{◌≡◌, ◌≢◌, ℕ, ◌+◌, ◌<◌, List, [], ◌∷◌, None, Some, false, length, slice_get, true};
+ghost use Rattle.std.specs.Prelude.{◌≡◌, ◌≢◌, ℕ, ◌+◌, ◌<◌, ◌≤◌, List, [], ◌∷◌, None, Some, false, length, slice_get, true};
 ghost use Rattle.swan_model.specs.declared.origin.Origin.{Origin};
+ghost use Rattle.swan_model.specs.declared.origin.Origin.TheVariants.{Root, Step};
 ghost use Rattle.swan_model.specs.declared.rights.Mode.TheVariants.{Pop, Push};
 ghost use Rattle.swan_model.specs.declared.script.Deed.{Deed};
 ghost use Rattle.swan_model.specs.declared.script.Deed.TheVariants as deed;
@@ -8,14 +9,14 @@ ghost use Rattle.swan_model.specs.declared.script.Script.{Script};
 ghost use Rattle.swan_model.specs.declared.value.Value.{Value};
 ghost use Rattle.swan_model.specs.Granted.{is_spawn};
 ghost use Rattle.swan_model.specs.Lawful.{IsLawful};
-ghost use Rattle.swan_model.specs.QueueFollows.{NextSpawnGivesQueues, QueuesFollow, count_at, next_queue_deed, queue_origin, queue_point, taken_at};
-ghost use Rattle.swan_model.specs.QueueState.{ActiveFrame, IsUntouched, LentEnd, MayGive, QueueMaker, QueueRight, QueueState, active, after_back, after_create, after_create_root, after_deed, after_finish, after_lend, after_spawn, after_take_rest, child_of, holds_queue, with_deed};
+ghost use Rattle.swan_model.specs.QueueFollows.{AreByEnds, NextSpawnGivesQueues, QueuesFollow, count_at, next_queue_deed, queue_origin, queue_point, queue_time, taken_at};
+ghost use Rattle.swan_model.specs.QueueState.{ActiveFrame, IsUntouched, LentEnd, MayGive, QueueMaker, QueueRight, QueueState, active, after_back, after_create, after_create_root, after_deed, after_finish, after_lend, after_spawn, after_take_rest, holds_queue, with_deed};
 ghost use Rattle.swan_model.specs.Readings.{end_time};
 ghost use Rattle.swan_model.specs.SerialTime.{times};
 ghost use Rattle.swan_model.specs.Told.{count, taken};
 ghost use Rattle.queues.specs.Asks.{MayDo, MayJoin, MaySpawn};
-ghost use Rattle.queues.specs.Chunks.{Chunks, HasOwners, HasTaken, IsOwner, after_close, after_hand_on, own};
-ghost use Rattle.queues.specs.Tells.{FindsItem};
+ghost use Rattle.queues.specs.Chunks.{Chunks, HasOwners, HasTaken, IsFirstPopper, OnOwners, OnTaken, OnTakenBy, after_close, after_hand_on, own};
+ghost use Rattle.queues.specs.Tells.{FindsItem, FindsNone};
 ghost use Rattle.queues.specs.Tree.{IsTree, OnSpawn, has_queue, maker_path};
 ghost use Rattle.queues.specs.Turned.{gives_queue};
 
@@ -24,47 +25,82 @@ ghost use Rattle.queues.specs.Turned.{gives_queue};
 /// Where a frame ends, its chunk has no owner any more; and once the queue's maker has ended nobody has it. All other
 /// calls leave the owners. Nothing is said of items, so it is so for chunks without items too.
 pub fn owners_stay()
-    ensures create_root { (state : QueueState) (first : List Value) → IsTree state → IsUntouched state → HasOwners (after_create_root state) (length state.makers) (own 0 first ∷ []) }
-    ensures create { (state : QueueState) (n : ℕ) (first : List Value) → IsTree state → (act : MayDo state n) → HasOwners (after_create state act.frame) (length state.makers) (own n first ∷ []) }
-    ensures root_aside { (state : QueueState) (queue : ℕ) (chunks : Chunks) → IsTree state → queue < length state.makers → HasOwners state queue chunks → HasOwners (after_create_root state) queue chunks }
-    ensures made_aside { (state : QueueState) (n queue : ℕ) (chunks : Chunks) → IsTree state → (act : MayDo state n) → queue < length state.makers → HasOwners state queue chunks
-        → HasOwners (after_create state act.frame) queue chunks }
-    ensures spawn { (state : QueueState) (n child queue : ℕ) (gives : List QueueRight) (chunks : Chunks) → IsTree state → (may : MaySpawn state n child gives) → gives_queue gives queue ≡ true
-        → HasOwners state queue chunks → HasOwners (after_spawn state may.act.frame child gives) queue (after_hand_on n child chunks) }
-    ensures spawn_aside { (state : QueueState) (n child queue : ℕ) (gives : List QueueRight) (chunks : Chunks) → IsTree state → (may : MaySpawn state n child gives) → gives_queue gives queue ≡ false
-        → HasOwners state queue chunks → HasOwners (after_spawn state may.act.frame child gives) queue chunks }
-    ensures deed { (state : QueueState) (n queue : ℕ) (chunks : Chunks) → IsTree state → MayDo state n → HasOwners state queue chunks → HasOwners (after_deed state n) queue chunks }
-    ensures lend { (state : QueueState) (frame : ActiveFrame) (ends : List LentEnd) (queue : ℕ) (chunks : Chunks) → IsTree state → HasOwners state queue chunks
-        → HasOwners (after_lend state frame ends) queue chunks }
-    ensures back { (state : QueueState) (n deeds queue : ℕ) (chunks : Chunks) → IsTree state → HasOwners state queue chunks → HasOwners (after_back state n deeds) queue chunks }
-    ensures finish { (state : QueueState) (n queue : ℕ) (chunks : Chunks) → HasOwners state queue chunks → HasOwners (after_finish state n) queue (after_close n chunks) }
-    ensures finish_aside { (state : QueueState) (n queue : ℕ) (frame : ActiveFrame) (chunks : Chunks) → active state n ≡ Some frame → has_queue frame queue ≡ false → HasOwners state queue chunks
-        → HasOwners (after_finish state n) queue chunks }
-    ensures given_up { (state : QueueState) (n queue : ℕ) (maker : QueueMaker) → IsTree state → (may : MayJoin state n) → slice_get state.makers queue ≡ Some maker → may.frame.path ≡ maker_path maker
-        → HasOwners (after_finish state n) queue [] }
-    ensures take_rest { (state : QueueState) (emptied queue : ℕ) (chunks : Chunks) → IsTree state → HasOwners state queue chunks → HasOwners (after_take_rest state emptied) queue chunks }
+    // a new queue, and the others beside it
+    ensures create_root { (state : QueueState) (first : List Value) → IsTree state → IsUntouched state
+        → HasOwners (after_create_root state) (length state.makers) (own 0 first ∷ []) }
+    ensures create { (state : QueueState) (n : ℕ) (first : List Value) → IsTree state → (act : MayDo state n)
+        → HasOwners (after_create state act.frame) (length state.makers) (own n first ∷ []) }
+    ensures root_aside { OnOwners (λ state queue chunks. queue < length state.makers → HasOwners (after_create_root state) queue chunks) }
+    ensures made_aside { OnOwners (λ state queue chunks. (n : ℕ) (act : MayDo state n) → queue < length state.makers
+        → HasOwners (after_create state act.frame) queue chunks) }
+
+    // a spawn with the queue, and one without it
+    ensures spawn { OnOwners (λ state queue chunks. (n child : ℕ) (gives : List QueueRight) (may : MaySpawn state n child gives) → gives_queue gives queue ≡ true
+        → HasOwners (after_spawn state may.act.frame child gives) queue (after_hand_on n child chunks)) }
+    ensures spawn_aside { OnOwners (λ state queue chunks. (n child : ℕ) (gives : List QueueRight) (may : MaySpawn state n child gives) → gives_queue gives queue ≡ false
+        → HasOwners (after_spawn state may.act.frame child gives) queue chunks) }
+
+    // deeds of frames, and ends that are lent and come back
+    ensures deed { OnOwners (λ state queue chunks. (n : ℕ) → MayDo state n → HasOwners (after_deed state n) queue chunks) }
+    ensures lend { OnOwners (λ state queue chunks. (frame : ActiveFrame) (ends : List LentEnd) → HasOwners (after_lend state frame ends) queue chunks) }
+    ensures back { OnOwners (λ state queue chunks. (n deeds : ℕ) → HasOwners (after_back state n deeds) queue chunks) }
+
+    // the end of a frame that has the queue, of one that has it not, and of the queue's maker
+    ensures finish { (state : QueueState) (n queue : ℕ) (chunks : Chunks) → HasOwners state queue chunks
+        → HasOwners (after_finish state n) queue (after_close n chunks) }
+    ensures finish_aside { (state : QueueState) (n queue : ℕ) (frame : ActiveFrame) (chunks : Chunks) → active state n ≡ Some frame → has_queue frame queue ≡ false
+        → HasOwners state queue chunks → HasOwners (after_finish state n) queue chunks }
+    ensures given_up { (state : QueueState) (n queue : ℕ) (maker : QueueMaker) → IsTree state → (may : MayJoin state n)
+        → slice_get state.makers queue ≡ Some maker → may.frame.path ≡ maker_path maker → HasOwners (after_finish state n) queue [] }
+    ensures take_rest { OnOwners (λ state queue chunks. (emptied : ℕ) → HasOwners (after_take_rest state emptied) queue chunks) }
 {}
 
 /// The law that what has left a queue by the points of those who may pop it goes on with the calls, apart from items.
-/// At a spawn with the queue, and at the end of a frame, it is as before, by the chunks then. A pop that finds an item
-/// takes one more, where no owner before the frame may pop. Where none may, as much has left it as by the frame's point.
+/// Nothing has left a new queue. A pop that finds an item takes one more, where no owner before the frame may pop; where
+/// none may, as much has left the queue as by the frame's point, and once its ends have come back, as much as by its
+/// point then. All other calls leave it as it is: by the chunks of then at a spawn with the queue and at the end of a
+/// frame that has it, and else by the same ones.
 pub fn what_is_taken_goes_on()
-    ensures point { (s : Script) (state : QueueState) (number end at index n : ℕ) (queue : Origin) (frame : ActiveFrame) (chunks : Chunks) → HasTaken s state number queue end chunks at
-        → IsOwner state chunks index n → active state n ≡ Some frame → holds_queue frame number Pop ≡ true
-        → ((before m : ℕ) (other : ActiveFrame) → before < index → IsOwner state chunks before m → active state m ≡ Some other → holds_queue other number Pop ≡ false)
-        → at ≡ taken_at s frame queue }
-    ensures spawn { (s : Script) (state : QueueState) (number end at n child : ℕ) (queue : Origin) (frame : ActiveFrame) (gives : List QueueRight) (chunks : Chunks)
-        → IsLawful s → QueuesFollow s state → IsTree state → queue_origin s state number ≡ Some queue → active state n ≡ Some frame → active state child ≡ None → MayGive frame gives
-        → NextSpawnGivesQueues s state frame gives → has_queue frame number ≡ true → HasOwners state number chunks → HasTaken s state number queue end chunks at
-        → HasTaken s (after_spawn state frame child gives) number queue end (after_hand_on n child chunks) at }
-    ensures pop { (s : Script) (state : QueueState) (number end at index n : ℕ) (queue : Origin) (frame : ActiveFrame) (chunks : Chunks) → IsLawful s → active state n ≡ Some frame
-        → holds_queue frame number Pop ≡ true → next_queue_deed s frame.path frame.deeds ≡ Some (deed.Pop queue) → FindsItem frame s queue
-        → HasOwners state number chunks → HasTaken s state number queue end chunks at → IsOwner state chunks index n
-        → ((before m : ℕ) (other : ActiveFrame) → before < index → IsOwner state chunks before m → active state m ≡ Some other → holds_queue other number Pop ≡ false)
-        → HasTaken s (after_deed state n) number queue end chunks (at + 1) }
-    ensures finish { (s : Script) (state : QueueState) (number end at n : ℕ) (queue : Origin) (frame : ActiveFrame) (chunks : Chunks) → IsLawful s → active state n ≡ Some frame
-        → next_queue_deed s frame.path frame.deeds ≡ None → 0 < length (times s frame.path) → HasOwners state number chunks → HasTaken s state number queue end chunks at
-        → HasTaken s (after_finish state n) number queue end (after_close n chunks) at }
+    // where none before it may pop, the frame's point tells
+    ensures point { OnTakenBy (λ s state number queue end chunks at n frame. (index : ℕ) → IsFirstPopper state number chunks index n frame → at ≡ taken_at s frame queue) }
+
+    // a new queue, and the others beside it
+    ensures create_root { (s : Script) (state : QueueState) (items : List Value) → IsLawful s → IsTree state → IsUntouched state
+        → HasTaken s (after_create_root state) (length state.makers) (Root (length state.makers)) (end_time s []) (own 0 items ∷ []) 0 }
+    ensures create { (s : Script) (state : QueueState) (n : ℕ) (frame : ActiveFrame) (items : List Value) → IsLawful s → active state n ≡ Some frame
+        → next_queue_deed s frame.path frame.deeds ≡ Some deed.MakeQueue
+        → HasTaken s (after_create state frame) (length state.makers) (Step (queue_time s frame.path frame.deeds)) (end_time s frame.path) (own n items ∷ []) 0 }
+    ensures root_aside { OnTaken (λ s state number queue end chunks at. IsUntouched state → number < length state.makers
+        → HasTaken s (after_create_root state) number queue end chunks at) }
+    ensures made_aside { OnTakenBy (λ s state number queue end chunks at n frame. IsLawful s → next_queue_deed s frame.path frame.deeds ≡ Some deed.MakeQueue → number < length state.makers
+        → HasTaken s (after_create state frame) number queue end chunks at) }
+
+    // a spawn by a frame that has the queue, and one without the queue
+    ensures spawn { OnTakenBy (λ s state number queue end chunks at n frame. (child : ℕ) (gives : List QueueRight) → IsLawful s → HasOwners state number chunks → QueuesFollow s state → IsTree state → queue_origin s state number ≡ Some queue
+        → active state child ≡ None → MayGive frame gives → NextSpawnGivesQueues s state frame gives → has_queue frame number ≡ true
+        → HasTaken s (after_spawn state frame child gives) number queue end (after_hand_on n child chunks) at) }
+    ensures spawn_aside { OnTakenBy (λ s state number queue end chunks at n frame. (child : ℕ) (gives : List QueueRight) → IsLawful s → HasOwners state number chunks → QueuesFollow s state → IsTree state → queue_origin s state number ≡ Some queue
+        → active state child ≡ None → MayGive frame gives → NextSpawnGivesQueues s state frame gives → gives_queue gives number ≡ false
+        → HasTaken s (after_spawn state frame child gives) number queue end chunks at) }
+
+    // deeds: a pop that finds an item, and each other one
+    ensures pop { OnTakenBy (λ s state number queue end chunks at n frame. (index : ℕ) → IsLawful s → HasOwners state number chunks → IsFirstPopper state number chunks index n frame
+        → next_queue_deed s frame.path frame.deeds ≡ Some (deed.Pop queue) → FindsItem frame s queue → HasTaken s (after_deed state n) number queue end chunks (at + 1)) }
+    ensures deed { OnTakenBy (λ s state number queue end chunks at n frame. (does : Deed) → IsLawful s → next_queue_deed s frame.path frame.deeds ≡ Some does → is_spawn does ≡ false
+        → (does ≡ deed.Pop queue → FindsNone frame s queue) → HasTaken s (after_deed state n) number queue end chunks at) }
+
+    // ends: those of a frame before which none may pop, and those by which it pops nothing of the queue
+    ensures lend { OnTakenBy (λ s state number queue end chunks at n frame. (ends : List LentEnd) → HasTaken s (after_lend state frame ends) number queue end chunks at) }
+    ensures back { OnTakenBy (λ s state number queue end chunks at n frame. (index deeds : ℕ) → HasOwners state number chunks → IsFirstPopper state number chunks index n frame
+        → HasTaken s (after_back state n deeds) number queue end chunks (taken s queue (queue_point s frame.path deeds))) }
+    ensures back_aside { OnTakenBy (λ s state number queue end chunks at n frame. (deeds : ℕ) → IsLawful s → AreByEnds s frame.path frame.deeds deeds
+        → ((k : ℕ) → frame.deeds ≤ k → k < deeds → next_queue_deed s frame.path k ≢ Some (deed.Pop queue)) → HasTaken s (after_back state n deeds) number queue end chunks at) }
+
+    // the end of a frame that has the queue, and of one that has it not
+    ensures finish { OnTakenBy (λ s state number queue end chunks at n frame. IsLawful s → HasOwners state number chunks → next_queue_deed s frame.path frame.deeds ≡ None → 0 < length (times s frame.path)
+        → HasTaken s (after_finish state n) number queue end (after_close n chunks) at) }
+    ensures finish_aside { OnTakenBy (λ s state number queue end chunks at n frame. HasOwners state number chunks → has_queue frame number ≡ false → HasTaken s (after_finish state n) number queue end chunks at) }
+    ensures take_rest { OnTaken (λ s state number queue end chunks at. (emptied : ℕ) → HasTaken s (after_take_rest state emptied) number queue end chunks at) }
 {}
 
 /// The law of how much was pushed to a queue, and popped of it, by the points of frames. By a child's first point it is as
@@ -73,16 +109,22 @@ pub fn what_is_taken_goes_on()
 /// the next point after another deed it is as much as right after that deed; and where no deed is left, as much as when
 /// the frame ends.
 pub fn counts_go_on()
+    // a spawn: the child's first point, and the parent's next one
     ensures child { (s : Script) (state : QueueState) → OnSpawn s state (λ frame child number queue.
         (count_at s child queue ≡ count_at s frame queue) × (taken_at s child queue ≡ taken_at s frame queue)) }
     ensures parent { (s : Script) (state : QueueState) → OnSpawn s state (λ frame child number queue.
         (count_at s (with_deed frame) queue ≡ count s queue (end_time s child.path)) × (taken_at s (with_deed frame) queue ≡ taken s queue (end_time s child.path))) }
+
+    // a child that may not push, or not pop
     ensures no_push { (s : Script) (state : QueueState) → OnSpawn s state (λ frame child number queue. has_queue frame number ≡ true → holds_queue child number Push ≡ false
         → count s queue (end_time s child.path) ≡ count_at s frame queue) }
     ensures no_pop { (s : Script) (state : QueueState) → OnSpawn s state (λ frame child number queue. has_queue frame number ≡ true → holds_queue child number Pop ≡ false
         → taken s queue (end_time s child.path) ≡ taken_at s frame queue) }
+
+    // another deed, and the end
     ensures deed { (s : Script) (frame : ActiveFrame) (does : Deed) (queue : Origin) → IsLawful s → next_queue_deed s frame.path frame.deeds ≡ Some does → is_spawn does ≡ false
-        → (count_at s (with_deed frame) queue ≡ count s queue (queue_point s frame.path frame.deeds + 1)) × (taken_at s (with_deed frame) queue ≡ taken s queue (queue_point s frame.path frame.deeds + 1)) }
+        → let point = queue_point s frame.path frame.deeds in
+        (count_at s (with_deed frame) queue ≡ count s queue (point + 1)) × (taken_at s (with_deed frame) queue ≡ taken s queue (point + 1)) }
     ensures end { (s : Script) (frame : ActiveFrame) (queue : Origin) → IsLawful s → next_queue_deed s frame.path frame.deeds ≡ None → 0 < length (times s frame.path)
         → (count_at s frame queue ≡ count s queue (end_time s frame.path)) × (taken_at s frame queue ≡ taken s queue (end_time s frame.path)) }
 {}

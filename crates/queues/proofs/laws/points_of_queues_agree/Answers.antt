@@ -1,8 +1,11 @@
 use Rattle.std.proofs.Common.{sym, ◌∙◌}
 use Rattle.queues.proofs.Done.{done_same}
+use Rattle.queues.proofs.Fitting.{fits_comes}
+use Rattle.queues.proofs.Lineage.{spawns_by}
 use Rattle.queues.proofs.QueuePoints.{still_same}
 use Rattle.queues.proofs.Ripening.{ripe_same}
 use Rattle.queues.proofs.Frames.{active_number}
+use Rattle.queues.proofs.Rereading.{fit_of}
 use Rattle.queues.proofs.SerialPoints.{earlier_same, is_read, serial_same}
 use Rattle.swan_model.specs.QueueFollows.{queue_point}
 use Rattle.swan_model.specs.SerialTime.{point}
@@ -15,6 +18,10 @@ returns-clause-taken c s state r lawful follows fits number frame a live known q
 pub returns-clause-count : goal.returns-clause-count
 returns-clause-count c s state r lawful follows fits number frame a live known queue =
     (still_same s queue frame.path (point s a) (queue_point s frame.path frame.deeds) (is_read s lawful state r fits number frame a live known).still).counts
+
+pub returns-clause-children : goal.returns-clause-children
+returns-clause-children c s state r lawful follows fits number frame a live known =
+    (follows.tasks number frame live).children ∙ spawns_by s frame.path frame.deeds (point s a) (fits_comes s frame a (fit_of s lawful state r fits number a known frame live)).before
 
 pub returns-clause-earlier : goal.returns-clause-earlier
 returns-clause-earlier c s state r lawful follows fits number frame a live known other also b there told =

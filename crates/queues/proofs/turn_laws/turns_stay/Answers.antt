@@ -16,10 +16,10 @@ pub returns-clause-create_root : goal.returns-clause-create_root
 returns-clause-create_root c state turns tree is untouched = turns_root state tree turns is untouched
 
 pub returns-clause-create : goal.returns-clause-create
-returns-clause-create c state turns n tree is act = turns_create state tree turns is n act
+returns-clause-create c state turns tree is n act = turns_create state tree turns is n act
 
 pub returns-clause-older : goal.returns-clause-older
-returns-clause-older c state turns n child gives tree is may number turn found = turns_older state tree turns is n child gives may number turn found
+returns-clause-older c state turns tree is n child gives may number turn found = turns_older state tree turns is n child gives may number turn found
 
 pub returns-clause-first : goal.returns-clause-first
 returns-clause-first c turns parent child newest = turns_given_none turns parent child newest
@@ -34,25 +34,25 @@ pub returns-clause-more : goal.returns-clause-more
 returns-clause-more c before now parent child gives give is = turns_given_more before now parent child gives is give
 
 pub returns-clause-spawn : goal.returns-clause-spawn
-returns-clause-spawn c state turns now n child gives tree is may given = turns_spawned state tree turns is n child gives may now given
+returns-clause-spawn c state turns tree is now n child gives may given = turns_spawned state tree turns is n child gives may now given
 
 pub returns-clause-deed : goal.returns-clause-deed
-returns-clause-deed c state turns n is act = turns_deed state turns is n act
+returns-clause-deed c state turns is n act = turns_deed state turns is n act
 
 pub returns-clause-lend : goal.returns-clause-lend
-returns-clause-lend c state turns n frame ends is live = turns_lend state turns is n frame ends live
+returns-clause-lend c state turns is n frame ends live = turns_lend state turns is n frame ends live
 
 pub returns-clause-back : goal.returns-clause-back
-returns-clause-back c state turns n deeds frame is live = turns_back state turns is n deeds frame live
+returns-clause-back c state turns is n deeds frame live = turns_back state turns is n deeds frame live
 
 pub returns-clause-moved : goal.returns-clause-moved
-returns-clause-moved c state turns child is = turns_moved state turns is child
+returns-clause-moved c state turns is child = turns_moved state turns is child
 
 pub returns-clause-childless : goal.returns-clause-childless
-returns-clause-childless c state turns n is may = turns_childless state turns n is may.alone
+returns-clause-childless c state turns is n may = turns_childless state turns n is may.alone
 
 pub returns-clause-finish : goal.returns-clause-finish
-returns-clause-finish c state turns n is = turns_finish state turns is n
+returns-clause-finish c state turns is n = turns_finish state turns is n
 
 pub returns-clause-take_rest : goal.returns-clause-take_rest
-returns-clause-take_rest c state turns queue is = turns_rest state turns is queue
+returns-clause-take_rest c state turns is queue = turns_rest state turns is queue
