@@ -242,8 +242,12 @@ fn steps(
     requires some { 0 < most }
     requires paid { most ≤ suc left }
     ensures works { IfOk result (λ w. AreWork (next_by program.now) local answer (suc left) w.works) }
+
+    // a row that no other step ended
     ensures all { IfOk result (λ w. IfNone w.stop (w.works ≡ most)) }
     ensures last { IfOk result (λ w. IfNone w.stop (w.local ≡ local_after (next_by program.now) local answer (suc left) w.works)) }
+
+    // one that another step ended, which takes its unit of fuel too
     ensures stopped { IfOk result (λ w. IfSome w.stop (λ stop. w.works < most)) }
     ensures moved { IfOk result (λ w. IfSome w.stop (λ stop. w.local ≡ local_after (next_by program.now) local answer (suc left) (suc w.works))) }
     ensures ask { IfOk result (λ w. IfSome w.stop (λ stop. stop.ask ≡ ask_after (next_by program.now) local answer (suc left) w.works)) }
@@ -307,8 +311,12 @@ pub fn work(
 ) -> Result<Worked<JobLocal>, NoMemory>
     requires { 0 < budget }
     ensures works { IfOk result (λ w. AreWork (next_by program.now) local answer fuel w.works) }
+
+    // a row that no other step ended
     ensures all { IfOk result (λ w. IfNone w.stop (w.works ≡ min budget fuel)) }
     ensures last { IfOk result (λ w. IfNone w.stop (w.local ≡ local_after (next_by program.now) local answer fuel w.works)) }
+
+    // one that another step ended, which takes its unit of fuel too
     ensures stopped { IfOk result (λ w. IfSome w.stop (λ stop. w.works < min budget fuel)) }
     ensures moved { IfOk result (λ w. IfSome w.stop (λ stop. w.local ≡ local_after (next_by program.now) local answer fuel (suc w.works))) }
     ensures ask { IfOk result (λ w. IfSome w.stop (λ stop. stop.ask ≡ ask_after (next_by program.now) local answer fuel w.works)) }
