@@ -45,9 +45,10 @@ impl Store {
         ensures shares { OnOk result (allows mode In ≡ true → (object has : Held) → place_at self.old.places.entries gift.parent gift.parent_place ≡ Some object
             → place_at self.new.places.entries gift.child gift.child_place ≡ Some has → has.present ≡ object.present) }
     {
-        let Some(&found) = self.places.get(&(gift.parent, gift.parent_place)) else {
+        let Some(found) = self.places.get(&(gift.parent, gift.parent_place)) else {
             unreachable!()
         };
+        let found = found.again();
         let object = self.release_given(gift.parent, gift.parent_place, found);
         match mode {
             Mode::In => self.give_to_read(&object, gift),
@@ -78,7 +79,7 @@ impl Store {
         let _few = self.places.len();
         share(&mut self.nodes, shared, 2);
         let read = PlacedObject {
-            object: object.object,
+            object: object.object.again(),
             kind: object.kind,
             mode: Mode::In,
             given: Some(shared),
@@ -105,10 +106,10 @@ impl Store {
         ensures keeps { OnOk result ((has : Held) → place_at self.new.places.entries gift.parent gift.parent_place ≡ Some has → has.given ≡ object.now.given) }
     {
         let zero = Value::zero(self.alloc, object.kind)?;
-        let owed = make(&mut self.nodes, object.object, State::Owed(gift.child), 2)?;
-        let own = make(&mut self.nodes, object.object, State::Settled(zero), 1)?;
+        let owed = make(&mut self.nodes, &object.object, State::Owed(gift.child), 2)?;
+        let own = make(&mut self.nodes, &object.object, State::Settled(zero), 1)?;
         let written = PlacedObject {
-            object: object.object,
+            object: object.object.again(),
             kind: object.kind,
             mode: Mode::Out,
             given: None,
@@ -141,9 +142,9 @@ impl Store {
         // By the clause of `len` there are fewer than 2 ^ 63 places, so the count has room.
         let _few = self.places.len();
         share(&mut self.nodes, object.present, 2);
-        let next = make(&mut self.nodes, object.object, State::Owed(gift.child), 2)?;
+        let next = make(&mut self.nodes, &object.object, State::Owed(gift.child), 2)?;
         let changed = PlacedObject {
-            object: object.object,
+            object: object.object.again(),
             kind: object.kind,
             mode: Mode::InOut,
             given: Some(object.present),

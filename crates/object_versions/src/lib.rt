@@ -31,6 +31,7 @@ mod giving;
 mod laws;
 mod node;
 mod nodes;
+mod object_number;
 mod placed_object;
 mod places;
 mod store;
@@ -42,5 +43,6 @@ pub use laws::{
     places_stay, who_is_awaited_comes_first,
 };
 use node::{Node, State};
+use object_number::ObjectNumber;
 use placed_object::PlacedObject;
 pub use versions::Versions;

@@ -1,4 +1,5 @@
 // A version, and what it is.
+use crate::ObjectNumber;
 use swan_model::Value;
 
 /// What a version is.
@@ -14,7 +15,7 @@ pub enum State {
 #[derive(Drop)]
 pub struct Node {
     /// Which object it is a version of. Contracts speak of it; no code asks for it.
-    pub object: u64,
+    pub object: ObjectNumber,
     /// Its value, or who owes it.
     pub state: State,
     /// How often places refer to it, each three times at most. It is given up when none does.

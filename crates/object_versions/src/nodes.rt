@@ -6,22 +6,22 @@ ghost use Rattle.object_versions.specs.Store.{version_at, uses_in, released, sta
 ghost use Rattle.object_versions.specs.declared.node.Node.{Node as Version};
 ghost use Rattle.object_versions.specs.declared.node.State.TheVariants.{Settled};
 
-use crate::{Node, State};
+use crate::{Node, ObjectNumber, State};
 use slab::Slab;
 use swan_model::{NoMemory, Value};
 
 /// Makes a version to which places will refer so often, and answers its key. `O(1)` amortised.
 pub fn make(
     nodes: &mut Slab<Node>,
-    object: u64,
+    object: &ObjectNumber,
     state: State,
     uses: u128,
 ) -> Result<usize, NoMemory>
     ensures vacant { IfOk result (λ key. get nodes.old key ≡ None) }
-    ensures made { IfOk result (λ key. Updates nodes.old nodes.new key (Some (record { object = object; state = state; uses = uses }))) }
+    ensures made { IfOk result (λ key. Updates nodes.old nodes.new key (Some (record { object = object.now; state = state; uses = uses }))) }
 {
     let node = Node {
-        object,
+        object: object.again(),
         state,
         uses,
     };

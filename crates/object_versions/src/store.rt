@@ -6,7 +6,7 @@ ghost use Rattle.object_versions.specs.Whole.{IsWhole, HasOwn};
 
 use crate::nodes::{is_alone, make, overwrite, release, value_at};
 use crate::places::{forget_given, put, set_present};
-use crate::{Node, PlacedObject, State};
+use crate::{Node, ObjectNumber, PlacedObject, State};
 use slab::Slab;
 use std::alloc::Global;
 use std::collections::BTreeMap;
@@ -48,25 +48,24 @@ impl Store {
         self.nodes.clear();
     }
 
-    /// Puts in an object with its first value, at a place of a frame. `made` counts the objects that were made
-    /// before. `O(log n)`, amortised.
+    /// Puts in an object of this number with its first value, at a place of a frame. `O(log n)`, amortised.
     pub fn create(
         &mut self,
-        made: u64,
+        made: &ObjectNumber,
         frame: u64,
         place: u32,
         first: Value,
     ) -> Result<(), NoMemory>
-        requires whole { IsWhole self.old.places.entries self.old.nodes made (λ _. 0) }
+        requires whole { IsWhole self.old.places.entries self.old.nodes made.now (λ _. 0) }
         requires free { place_at self.old.places.entries frame place ≡ None }
-        ensures whole { OnOk result (IsWhole self.new.places.entries self.new.nodes (made + 1) (λ _. 0)) }
-        ensures created { OnOk result (versions_of self.new.places.entries self.new.nodes (made + 1)
-            ≡ after_create (versions_of self.old.places.entries self.old.nodes made) frame place first) }
+        ensures whole { OnOk result (IsWhole self.new.places.entries self.new.nodes (made.now + 1) (λ _. 0)) }
+        ensures created { OnOk result (versions_of self.new.places.entries self.new.nodes (made.now + 1)
+            ≡ after_create (versions_of self.old.places.entries self.old.nodes made.now) frame place first) }
     {
         let kind = first.kind();
         let present = make(&mut self.nodes, made, State::Settled(first), 1)?;
         let object = PlacedObject {
-            object: made,
+            object: made.again(),
             kind,
             mode: Mode::InOut,
             given: None,
@@ -130,7 +129,7 @@ impl Store {
             overwrite(&mut self.nodes, own.present, value);
             return Ok(());
         }
-        let next = make(&mut self.nodes, own.object, State::Settled(value), 1)?;
+        let next = make(&mut self.nodes, &own.object, State::Settled(value), 1)?;
         set_present(&mut self.places, frame, place, next);
         release(&mut self.nodes, own.present);
         Ok(())

@@ -12,6 +12,7 @@ ghost use Rattle.swan_model.specs.declared.rights.Mode.TheVariants.{In, Out};
 ghost use Rattle.swan_model.specs.Rights.{allows, is_queue_mode};
 ghost use Rattle.swan_model.specs.Versions.{Placed, VersionState, new_versions, placed_at, settled, owed, after_create, after_access, after_write, after_finish, Holds, MayGet, IsSettled, Awaits};
 
+use crate::ObjectNumber;
 use crate::ending::{forget_all, settle_all};
 use crate::giving::Gift;
 use crate::nodes::value_at;
@@ -27,9 +28,8 @@ use swan_model::{Mode, NoMemory, Value};
 #[derive(Drop)]
 pub struct Versions {
     store: Store,
-    // How many objects were made. Contracts number objects by it; no answer but want of memory
-    // rests on it.
-    made: u64,
+    // The number of the object that is made next.
+    made: ObjectNumber,
 }
 
 impl Model for Versions {
@@ -53,13 +53,12 @@ impl Versions {
     {
         Versions {
             store: Store::new(alloc),
-            made: 0,
+            made: ObjectNumber::first(),
         }
     }
 
     /// Makes an object: the frame then has a version with its first value at the place, and may read and
-    /// write it. Err is want of memory, and also where the count of objects that were made would pass 64 bits.
-    /// `O(log n)`, amortised.
+    /// write it. Err is want of memory. `O(log n)`, amortised.
     pub fn create(&mut self, frame: u64, place: u32, first: Value) -> Result<(), NoMemory>
         requires free { placed_at self.old frame place ≡ None }
         ensures ok { OnOk result (self.new ≡ after_create self.old frame place first) }
@@ -74,12 +73,9 @@ impl Versions {
             → frame_of r frame ≡ Some maker → next_deed s maker ≡ Some (deed.MakeObject first)
             → IsGiving s (with_object (gone_on r frame) (Step (point s maker))) self.new giver child made left) }
     {
-        let Some(made) = self.made.checked_add(1) else {
-            return Err(NoMemory);
-        };
-        match self.store.create(self.made, frame, place, first) {
+        match self.store.create(&self.made, frame, place, first) {
             Ok(()) => {
-                self.made = made;
+                self.made = self.made.next();
                 Ok(())
             }
             Err(NoMemory) => {
@@ -194,9 +190,10 @@ impl Versions {
             → slice_get r.objects object.object ≡ Some origin → next_deed s writer ≡ Some (deed.Write origin value)
             → IsGiving s (gone_on r frame) self.new giver child made left) }
     {
-        let Some(&object) = self.store.places.get(&(frame, place)) else {
+        let Some(object) = self.store.places.get(&(frame, place)) else {
             unreachable!()
         };
+        let object = object.again();
         match self.store.write(frame, place, object, value) {
             Ok(()) => Ok(()),
             Err(NoMemory) => {

@@ -1,16 +1,16 @@
 -- The order of a tree of frames is the serial order.
-use Rattle.std.proofs.Common.{inl, inr, ◌≡◌, ◌≢◌, ℕ, suc, zero, ◌+◌, ◌-◌, ◌<◌, Bool, true, false, ◌&&◌, cond, Some, None, List, [], ◌∷◌, ◌++◌, length, refl, sym, ap, subst, ◌∙◌, append_assoc, arith, nat_eq, nat_lt}
-use Rattle.std.proofs.lemmas.Bool.{cases_eq, false≢true}
+use Rattle.std.proofs.Common.{inl, inr, ◌≡◌, ◌≢◌, ℕ, suc, zero, ◌+◌, ◌-◌, ◌<◌, Bool, true, false, ◌&&◌, cond, Some, None, List, [], ◌∷◌, ◌++◌, length, refl, sym, ap, subst, ◌∙◌, append_assoc, arith, nat_lt}
+use Rattle.std.proofs.lemmas.Bool.{and_parts, cases_eq}
 use Rattle.std.proofs.lemmas.Bool.Decides.{nat_tests}
 use Rattle.std.proofs.lemmas.List.{append-nil}
 use Rattle.std.proofs.lemmas.Option.{slice_get-get_or}
 use Rattle.std.specs.Prelude.{slice_get}
-use Rattle.std.specs.Cmp.Lexicographic.{pointwise}
 use Rattle.swan_model.specs.declared.script.Entry.{Entry}
 use Rattle.swan_model.specs.declared.script.Script.{Script}
 use Rattle.swan_model.specs.Granted.{is_spawn}
 use Rattle.swan_model.specs.Nested.{spawn_time, IsEntryUnder, IsEntryOf, IsNested}
 use Rattle.swan_model.specs.SerialTime.{Progress, Reading, is_of, times, time, places_from, frame_of, point, is_earlier}
+use Rattle.swan_model.proofs.Paths.{same_path}
 use Rattle.pop_order.specs.Frames.{Frames}
 use Rattle.pop_order.specs.Order.{IsChild, IsAtOrBelow, at, below, ComesBefore, inside, aside}
 use Rattle.pop_order.specs.Readings.{IsAt, IsRead}
@@ -18,13 +18,6 @@ use Rattle.pop_order.proofs.Before.{one_is_before}
 use Rattle.pop_order.proofs.Lineage.{through}
 
 -- ---- tests and places
-
-both_true : (a b : Bool) → (a && b) ≡ true → (a ≡ true) × (b ≡ true)
-both_true true b h = (refl, h)
-both_true false b h = absurd (false≢true h)
-
-same_number : (x y : ℕ) → nat_eq x y ≡ true → x ≡ y
-same_number x y h = grind (arith, nat_tests)
 
 is_below : (x y : ℕ) → x < y → nat_lt x y ≡ true
 is_below x y h = grind (arith, nat_tests)
@@ -34,16 +27,6 @@ below_is x y h = grind (arith, nat_tests)
 
 below_itself : (x : ℕ) → x < x → ⊥
 below_itself x h = omega arith
-
-same_path : (xs ys : List ℕ) → pointwise nat_eq xs ys ≡ true → xs ≡ ys
-same_path [] [] h = refl
-same_path [] (y ∷ ys) h = absurd (false≢true h)
-same_path (x ∷ xs) [] h = absurd (false≢true h)
-same_path (x ∷ xs) (y ∷ ys) h =
-    let parts = both_true (nat_eq x y) (pointwise nat_eq xs ys) h in
-    let head = same_number x y parts.0 in
-    let tail = same_path xs ys parts.1 in
-    λ i. head i ∷ tail i
 
 one_some : (a b : ℕ) → Some a ≡ Some b → a ≡ b
 one_some a b e = cc
@@ -100,7 +83,7 @@ module _ (s : Script) where
   -- the spawn of a child is an entry of its parent
   spawn_is_own : (path : List ℕ) (child spawn : ℕ) → spawn_time s path child ≡ Some spawn → IsEntryOf s path spawn
   spawn_is_own path child spawn h =
-      stands_here path (λ e. is_of path e && is_spawn e.deed) spawn (λ e passes. (both_true (is_of path e) (is_spawn e.deed) passes).0)
+      stands_here path (λ e. is_of path e && is_spawn e.deed) spawn (λ e passes. (and_parts (is_of path e) (is_spawn e.deed) passes).0)
       (at_place (λ e. is_of path e && is_spawn e.deed) 0 s.entries child spawn h)
 
   spawns_rise : (path : List ℕ) (i j a b : ℕ) → i < j → spawn_time s path i ≡ Some a → spawn_time s path j ≡ Some b → a < b

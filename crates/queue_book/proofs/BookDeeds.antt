@@ -15,11 +15,12 @@ use Rattle.queues.specs.Chunks.{Chunks, without_spent, with_item, without_first}
 use Rattle.queue_book.specs.Chains.{Link, AreChained, in_line}
 use Rattle.queue_book.specs.Fronts.{IsFrontTold, IsTurnTold}
 use Rattle.queue_book.specs.KeptFrames.{KeptFrame}
-use Rattle.queue_book.specs.Live.{kept_of, key_at, lent_of, IsFrame, IsOnlyChange}
+use Rattle.queue_book.specs.Live.{kept_of, key_at, lent_of, IsFrame}
+use Rattle.queues.specs.OneChange.{IsOnlyChange}
 use Rattle.queue_book.specs.Whole.{IsBook, IsPlain}
 use Rattle.queues.specs.declared.answers.Tested.TheVariants as tested
 use Rattle.queue_book.specs.declared.live_frames.LiveFrames.{LiveFrames}
-use Rattle.queues.proofs.ActiveAfter.{others_changed, own_changed}
+use Rattle.queues.proofs.ActiveAfter.{one_changed}
 use Rattle.queue_book.proofs.ChainChanges.{chained_same}
 use Rattle.queues.proofs.Above.{maker_of}
 use Rattle.queue_book.proofs.BookFronts.{alone_by, found_item, look_of, looked, trim}
@@ -48,15 +49,15 @@ lent_none kept e = ap (λ b. if b then Some (record { deeds = kept.deeds; ends =
 
 module _ (name : Option Script) (state : QueueState) (frames : LiveFrames) (heads : List (Option ℕ)) (nodes : Slab Link) (turns : Frames) (is : IsBook name state frames heads nodes turns)
     (n : ℕ) (act : MayDo state n) where
-  pub book_deed : (after_frames : LiveFrames) → IsOnlyChange frames after_frames n (option_map (λ (kept : KeptFrame). record kept { deeds = kept.deeds + 1 }) (kept_of frames n))
+  pub book_deed : (after_frames : LiveFrames) → IsOnlyChange (kept_of frames) (kept_of after_frames) n (option_map (λ (kept : KeptFrame). record kept { deeds = kept.deeds + 1 }) (kept_of frames n))
       → (after_heads : List (Option ℕ)) (after_nodes : Slab Link) (lines : ℕ → Chunks) → length after_heads ≡ length heads → IsPlain name (after_deed state n) lines
       → AreChained (key_at frames) after_heads after_nodes lines → IsBook name (after_deed state n) after_frames after_heads after_nodes turns
   book_deed after_frames one after_heads after_nodes lines same plain chained =
       let was = kept_live state frames is.live n act.frame act.may.live in
       let kept = was.0 in
       let free = not_lent kept act.frame.lent was.2.lent act.may.back in
-      let P : Option KeptFrame → Type 0 = λ o. IsOnlyChange frames after_frames n o in
-      let counted_one : IsOnlyChange frames after_frames n (Some (counted kept)) = subst P (ap (option_map counted) was.1) one in
+      let P : Option KeptFrame → Type 0 = λ o. IsOnlyChange (kept_of frames) (kept_of after_frames) n o in
+      let counted_one : IsOnlyChange (kept_of frames) (kept_of after_frames) n (Some (counted kept)) = subst P (ap (option_map counted) was.1) one in
       let frame : IsFrame (after_deed state n) (counted kept) (with_deed act.frame) = record {
         deeds = ap (λ k. k + 1) was.2.deeds;
         lent = act.may.back ∙ sym (lent_none (counted kept) free);
@@ -68,8 +69,8 @@ module _ (name : Option Script) (state : QueueState) (frames : LiveFrames) (head
       record {
         lines = lines;
         plain = plain;
-        live = live_one state (after_deed state n) is.plain.tree frames after_frames is.live n (others_changed state n with_deed (λ f. refl)) (λ q maker less made. made)
-            (counted kept) (with_deed act.frame) counted_one (own_changed state n with_deed (λ f. refl) act.frame act.may.live) frame;
+        live = live_one state (after_deed state n) is.plain.tree frames after_frames is.live n (λ q maker less made. made)
+            (counted kept) (with_deed act.frame) counted_one (one_changed state n with_deed (λ f. refl) act.frame act.may.live) frame;
         count = same ∙ is.count;
         chained = chained_same (key_at frames) (key_at after_frames) after_heads after_nodes lines lines
             (keys_same frames after_frames n kept (counted kept) was.1 counted_one refl) (λ q. refl) chained;
@@ -81,7 +82,7 @@ module _ (name : Option Script) (state : QueueState) (frames : LiveFrames) (head
   -- a push to the frame's own chunk
   pub book_push : (may : MayUse state n q Push) (value : Value) → OnNext name state n (λ s f. IsNextAbout (λ origin. deed.Push origin value) s state f q) → IsOnTurn name state n
       → (after_heads : List (Option ℕ)) (after_nodes : Slab Link) → after_heads ≡ heads → AreChained (key_at frames) after_heads after_nodes (in_line q (with_item n value) is.lines)
-      → (after_frames : LiveFrames) → IsOnlyChange frames after_frames n (option_map (λ (kept : KeptFrame). record kept { deeds = kept.deeds + 1 }) (kept_of frames n))
+      → (after_frames : LiveFrames) → IsOnlyChange (kept_of frames) (kept_of after_frames) n (option_map (λ (kept : KeptFrame). record kept { deeds = kept.deeds + 1 }) (kept_of frames n))
       → IsBook name (after_deed state n) after_frames after_heads after_nodes turns
   book_push may value next turn after_heads after_nodes same chained after_frames one =
       let has = has_held may.act.frame q Push may.held in
@@ -90,7 +91,7 @@ module _ (name : Option Script) (state : QueueState) (frames : LiveFrames) (head
       (plain_push name state is.lines is.plain n may.act turn q maker.0 maker.1 value next) chained
 
   module _ (may : MayUse state n q Pop) (after_heads : List (Option ℕ)) (after_nodes : Slab Link) (same : length after_heads ≡ length heads)
-      (after_frames : LiveFrames) (one : IsOnlyChange frames after_frames n (option_map (λ (kept : KeptFrame). record kept { deeds = kept.deeds + 1 }) (kept_of frames n)))
+      (after_frames : LiveFrames) (one : IsOnlyChange (kept_of frames) (kept_of after_frames) n (option_map (λ (kept : KeptFrame). record kept { deeds = kept.deeds + 1 }) (kept_of frames n)))
       (turn : IsOnTurn name state n) where
     lines : ℕ → Chunks
     lines = in_line q without_spent is.lines

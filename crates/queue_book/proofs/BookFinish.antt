@@ -16,12 +16,13 @@ use Rattle.queues.specs.Chunks.{Chunks, after_close}
 use Rattle.queue_book.specs.Chains.{Link, AreChained}
 use Rattle.queue_book.specs.Ended.{line_after_end, lines_after_end, own_keys, IsAlone}
 use Rattle.queue_book.specs.KeptFrames.{KeptFrame, own_chunk_in}
-use Rattle.queue_book.specs.Live.{kept_of, key_at, key_in, IsFrame, IsOnlyChange}
+use Rattle.queue_book.specs.Live.{kept_of, key_at, key_in, IsFrame}
+use Rattle.queues.specs.OneChange.{IsOnlyChange}
 use Rattle.queues.specs.Tree.{IsTree, has_queue, maker_path, IsInUse}
 use Rattle.queue_book.specs.Whole.{IsBook, IsLine, IsPlain}
 use Rattle.queue_book.specs.declared.live_frame.OwnChunk.{OwnChunk}
 use Rattle.queue_book.specs.declared.live_frames.LiveFrames.{LiveFrames}
-use Rattle.queues.proofs.ActiveAfter.{others_finished, gone_now}
+use Rattle.queues.proofs.ActiveAfter.{one_gone}
 use Rattle.queue_book.proofs.ChainChanges.{chained_same}
 use Rattle.queues.proofs.Finishing.{finished_follows}
 use Rattle.queues.proofs.Frames.{same_frame}
@@ -36,8 +37,8 @@ use Rattle.queues.proofs.TurnsCalls.{turns_finish}
 in_use_before : (state : QueueState) (n q : ℕ) (maker : QueueMaker) → IsInUse (after_finish state n) q maker → IsInUse state q maker
 in_use_before state n q maker (inl of_root) = inl of_root
 in_use_before state n q maker (inr (m, frame, live, has)) = elim (cases_eq m n) [
-  | inl here ↦ let never : None ≡ Some frame = sym (gone_now state n) ∙ ap (active (after_finish state n)) (sym here) ∙ live in absurd (cc)
-  | inr other ↦ inr (m, frame, sym (others_finished state n m other) ∙ live, has)
+  | inl here ↦ let never : None ≡ Some frame = sym (one_gone state n).changed ∙ ap (active (after_finish state n)) (sym here) ∙ live in absurd (cc)
+  | inr other ↦ inr (m, frame, sym ((one_gone state n).others m other) ∙ live, has)
 ]
 
 root_path : (maker : QueueMaker) → IsOfRoot (Some maker) → maker_path maker ≡ []
@@ -136,19 +137,19 @@ module _ (name : Option Script) (state : QueueState) (frames : LiveFrames) (head
       let less = (is.plain.tree.held n q may.frame may.may.live (place_has state kept may.frame q place kept_frame found)).0 in
       let maker = some_within state.makers q less in
       key_none state frames is.live other q (λ frame live has.
-      none_has state n q maker.0 is.plain.tree may maker.1 (kept_frame.made q place maker.0 found maker.1 made) other frame (others_finished state n other apart ∙ live) has)
+      none_has state n q maker.0 is.plain.tree may maker.1 (kept_frame.made q place maker.0 found maker.1 made) other frame ((one_gone state n).others other apart ∙ live) has)
 
   pub chained_before : AreChained (own_keys n kept.places (key_at frames)) heads nodes is.lines
   chained_before = chained_same (key_at frames) (own_keys n kept.places (key_at frames)) heads nodes is.lines is.lines keys_own (λ q. refl) is.chained
 
-  pub book_finish : OnNext name state n (λ s f. next_queue_deed s f.path f.deeds ≡ None) → (after_frames : LiveFrames) → IsOnlyChange frames after_frames n None
+  pub book_finish : OnNext name state n (λ s f. next_queue_deed s f.path f.deeds ≡ None) → (after_frames : LiveFrames) → IsOnlyChange (kept_of frames) (kept_of after_frames) n None
       → (after_heads : List (Option ℕ)) (after_nodes : Slab Link) → length after_heads ≡ length heads
       → AreChained (own_keys n [] (key_at frames)) after_heads after_nodes (lines_after_end n kept.places is.lines)
       → IsBook name (after_finish state n) after_frames after_heads after_nodes (without turns n)
   book_finish over after_frames one after_heads after_nodes same chained = record {
     lines = lines_after_end n kept.places is.lines;
     plain = plain_finish name state is.lines is.plain n may over kept kept_frame;
-    live = live_gone state (after_finish state n) is.plain.tree frames after_frames is.live n (others_finished state n) (λ q maker less made. made) one (gone_now state n);
+    live = live_gone state (after_finish state n) is.plain.tree frames after_frames is.live n (λ q maker less made. made) one (one_gone state n);
     count = same ∙ is.count;
     chained = chained_same (own_keys n [] (key_at frames)) (key_at after_frames) after_heads after_nodes (lines_after_end n kept.places is.lines) (lines_after_end n kept.places is.lines)
         keys_after (λ q. refl) chained;

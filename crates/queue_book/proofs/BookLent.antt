@@ -12,13 +12,13 @@ use Rattle.queues.specs.Asks.{IsRecorded}
 use Rattle.queues.specs.Tells.{with_active}
 use Rattle.queue_book.specs.Chains.{Link}
 use Rattle.queue_book.specs.KeptFrames.{KeptFrame}
-use Rattle.queue_book.specs.Live.{is_lent_with, kept_of, key_at, AreLive, IsFrame, IsOnlyChange}
+use Rattle.queue_book.specs.Live.{is_lent_with, kept_of, key_at, AreLive, IsFrame}
+use Rattle.queues.specs.OneChange.{IsOnlyChange}
 use Rattle.queue_book.specs.NoEnds.{no_ends}
 use Rattle.queue_book.specs.Whole.{IsBook}
 use Rattle.queue_book.specs.declared.live_frames.LiveFrames.{LiveFrames}
-use Rattle.queues.proofs.ActiveAfter.{others_changed, own_changed}
+use Rattle.queues.proofs.ActiveAfter.{one_changed, one_goes_on}
 use Rattle.queue_book.proofs.ChainChanges.{chained_same}
-use Rattle.queues.proofs.Frames.{active_number}
 use Rattle.queue_book.proofs.LiveKept.{kept_live, keys_same, live_kept, live_one}
 use Rattle.queue_book.proofs.PlainLent.{plain_back, plain_lend}
 use Rattle.queues.proofs.TurnsCalls.{turns_back, turns_lend}
@@ -32,17 +32,14 @@ called state n f change live = ap (with_active change state) live
 
 module _ (name : Option Script) (state : QueueState) (frames : LiveFrames) (heads : List (Option ℕ)) (nodes : Slab Link) (turns : Frames) (is : IsBook name state frames heads nodes turns)
     (n : ℕ) (frame : ActiveFrame) (live : active state n ≡ Some frame) where
-  pub book_lend : (after_frames : LiveFrames) → IsOnlyChange frames after_frames n (option_map (λ (kept : KeptFrame). record kept { is_lent = true }) (kept_of frames n))
+  pub book_lend : (after_frames : LiveFrames) → IsOnlyChange (kept_of frames) (kept_of after_frames) n (option_map (λ (kept : KeptFrame). record kept { is_lent = true }) (kept_of frames n))
       → IsBook name (after_lend state frame []) after_frames heads nodes turns
   book_lend after_frames one =
-      let number = active_number state n frame live in
       let change : ActiveFrame → ActiveFrame = λ f. record f { lent = Some (record { deeds = frame.deeds; ends = [] }) } in
       let was = kept_live state frames is.live n frame live in
       let kept = was.0 in
-      let P : Option KeptFrame → Type 0 = λ o. IsOnlyChange frames after_frames n o in
-      let lent_one : IsOnlyChange frames after_frames n (Some (with_lent true kept)) = subst P (ap (option_map (with_lent true)) was.1) one in
-      let Q : ℕ → Type 0 = λ k. IsOnlyChange frames after_frames k (Some (with_lent true kept)) in
-      let own : active state frame.number ≡ Some frame = ap (active state) number ∙ live in
+      let P : Option KeptFrame → Type 0 = λ o. IsOnlyChange (kept_of frames) (kept_of after_frames) n o in
+      let lent_one : IsOnlyChange (kept_of frames) (kept_of after_frames) n (Some (with_lent true kept)) = subst P (ap (option_map (with_lent true)) was.1) one in
       let now : IsFrame (after_lend state frame []) (with_lent true kept) (change frame) = record {
         deeds = was.2.deeds;
         lent = ap (λ k. Some (record { deeds = k; ends = [] })) (sym was.2.deeds);
@@ -54,22 +51,22 @@ module _ (name : Option Script) (state : QueueState) (frames : LiveFrames) (head
       record {
         lines = is.lines;
         plain = plain_lend name state is.lines is.plain n frame live [];
-        live = live_one state (after_lend state frame []) is.plain.tree frames after_frames is.live frame.number (others_changed state frame.number change (λ f. refl)) (λ q maker less made. made)
-            (with_lent true kept) (change frame) (subst Q (sym number) lent_one) (own_changed state frame.number change (λ f. refl) frame own) now;
+        live = live_one state (after_lend state frame []) is.plain.tree frames after_frames is.live n (λ q maker less made. made)
+            (with_lent true kept) (change frame) lent_one (one_goes_on state n frame change (λ f. refl) live) now;
         count = is.count;
         chained = chained_same (key_at frames) (key_at after_frames) heads nodes is.lines is.lines
             (keys_same frames after_frames n kept (with_lent true kept) was.1 lent_one refl) (λ q. refl) is.chained;
         turned = turns_lend state turns is.turned n frame [] live;
       }
 
-  pub book_back : (after_frames : LiveFrames) → IsOnlyChange frames after_frames n (option_map (λ (kept : KeptFrame). record kept { is_lent = false }) (kept_of frames n))
+  pub book_back : (after_frames : LiveFrames) → IsOnlyChange (kept_of frames) (kept_of after_frames) n (option_map (λ (kept : KeptFrame). record kept { is_lent = false }) (kept_of frames n))
       → IsBook name (after_back state n frame.deeds) after_frames heads nodes turns
   book_back after_frames one =
       let change : ActiveFrame → ActiveFrame = λ f. record f { deeds = frame.deeds; lent = None } in
       let was = kept_live state frames is.live n frame live in
       let kept = was.0 in
-      let P : Option KeptFrame → Type 0 = λ o. IsOnlyChange frames after_frames n o in
-      let back_one : IsOnlyChange frames after_frames n (Some (with_lent false kept)) = subst P (ap (option_map (with_lent false)) was.1) one in
+      let P : Option KeptFrame → Type 0 = λ o. IsOnlyChange (kept_of frames) (kept_of after_frames) n o in
+      let back_one : IsOnlyChange (kept_of frames) (kept_of after_frames) n (Some (with_lent false kept)) = subst P (ap (option_map (with_lent false)) was.1) one in
       let now : IsFrame (after_back state n frame.deeds) (with_lent false kept) (change frame) = record {
         deeds = was.2.deeds;
         lent = refl;
@@ -81,8 +78,8 @@ module _ (name : Option Script) (state : QueueState) (frames : LiveFrames) (head
       record {
         lines = is.lines;
         plain = plain_back name state is.lines is.plain n frame live;
-        live = live_one state (after_back state n frame.deeds) is.plain.tree frames after_frames is.live n (others_changed state n change (λ f. refl)) (λ q maker less made. made)
-            (with_lent false kept) (change frame) back_one (own_changed state n change (λ f. refl) frame live) now;
+        live = live_one state (after_back state n frame.deeds) is.plain.tree frames after_frames is.live n (λ q maker less made. made)
+            (with_lent false kept) (change frame) back_one (one_changed state n change (λ f. refl) frame live) now;
         count = is.count;
         chained = chained_same (key_at frames) (key_at after_frames) heads nodes is.lines is.lines
             (keys_same frames after_frames n kept (with_lent false kept) was.1 back_one refl) (λ q. refl) is.chained;

@@ -16,16 +16,16 @@ use Rattle.queues.specs.Asks.{DEEDS_MOST, MayDo, OnNext}
 use Rattle.queues.specs.Chunks.{own}
 use Rattle.queue_book.specs.Chains.{Link, AreChained, in_line, put_at}
 use Rattle.queue_book.specs.KeptFrames.{KeptFrame, own_chunk_in}
-use Rattle.queue_book.specs.Live.{kept_of, key_at, lent_of, with_own_chunk, IsFrame, IsOnlyChange}
+use Rattle.queue_book.specs.Live.{kept_of, key_at, lent_of, with_own_chunk, IsFrame}
+use Rattle.queues.specs.OneChange.{IsOnlyChange}
 use Rattle.queue_book.specs.Made.{IsMadeIn}
 use Rattle.queues.specs.Tree.{has_queue, maker_path}
 use Rattle.queue_book.specs.Whole.{IsBook, IsPlain}
 use Rattle.queue_book.specs.declared.live_frame.OwnChunk.{OwnChunk}
 use Rattle.queue_book.specs.declared.live_frames.LiveFrames.{LiveFrames}
-use Rattle.queues.proofs.ActiveAfter.{AreOthers, others_changed, own_changed}
+use Rattle.queues.proofs.ActiveAfter.{one_changed, one_goes_on}
 use Rattle.queue_book.proofs.BookDeeds.{counted, lent_none, not_lent}
 use Rattle.queue_book.proofs.ChainChanges.{chained_same}
-use Rattle.queues.proofs.Frames.{active_number}
 use Rattle.swan_model.proofs.Elements.{more_cases, last_more}
 use Rattle.queue_book.proofs.LiveKept.{kept_live, key_none, keys_same, live_one, place_has}
 use Rattle.queue_book.proofs.LivePut.{keys_put, place_elsewhere, place_here, places_made}
@@ -38,7 +38,7 @@ pub one_place : (o : Option OwnChunk) (a b : OwnChunk) → o ≡ Some a → o �
 one_place o a b one two = let both : Some a ≡ Some b = sym one ∙ two in cc
 
 module _ (name : Option Script) (state after : QueueState) (frames : LiveFrames) (heads : List (Option ℕ)) (nodes : Slab Link) (turns : Frames) (is : IsBook name state frames heads nodes turns)
-    (n : ℕ) (frame later : ActiveFrame) (maker : QueueMaker) (live : active state n ≡ Some frame) (now : active after n ≡ Some later) (others : AreOthers state after n)
+    (n : ℕ) (frame later : ActiveFrame) (maker : QueueMaker) (live : active state n ≡ Some frame) (only : IsOnlyChange (active state) (active after) n (Some later))
     (makers : after.makers ≡ state.makers ++ maker ∷ []) (parent : later.parent ≡ frame.parent) (path : later.path ≡ frame.path) (rights : later.rights ≡ (with_made (length state.makers) frame).rights)
     (own_maker : frame.path ≡ maker_path maker) where
   i : ℕ
@@ -57,7 +57,7 @@ module _ (name : Option Script) (state after : QueueState) (frames : LiveFrames)
   later_holds q mode = ap (λ rs. holds_queue (record later { rights = rs }) q mode) rights
 
   module _ (after_frames : LiveFrames) (key : ℕ) (kept now_kept : KeptFrame) (was : kept_of frames n ≡ Some kept) (agrees : IsFrame state kept frame)
-      (one : IsOnlyChange frames after_frames n (Some now_kept)) (deeds : now_kept.deeds ≡ later.deeds) (lent : later.lent ≡ lent_of now_kept)
+      (one : IsOnlyChange (kept_of frames) (kept_of after_frames) n (Some now_kept)) (deeds : now_kept.deeds ≡ later.deeds) (lent : later.lent ≡ lent_of now_kept)
       (places : now_kept.places ≡ (with_own_chunk (length state.makers) (record { key = key; is_maker = true; pushes = true }) kept).places) where
     abbrev place_now : OwnChunk
     place_now = record { key = key; is_maker = true; pushes = true }
@@ -111,17 +111,17 @@ module _ (name : Option Script) (state after : QueueState) (frames : LiveFrames)
     book_made first after_heads after_nodes more plain keys chained = record {
       lines = in_line (length state.makers) (λ old. own n first ∷ []) is.lines;
       plain = plain;
-      live = live_one state after is.plain.tree frames after_frames is.live n others old_maker now_kept later one now is_frame;
+      live = live_one state after is.plain.tree frames after_frames is.live n old_maker now_kept later one only is_frame;
       count =
           let long : length after.makers ≡ length state.makers + 1 = ap length makers ∙ length-append state.makers (maker ∷ []) in
           omega (arith, more, is.count, long);
       chained = chained_same (put_at n (length state.makers) (Some key) (key_at frames)) (key_at after_frames) after_heads after_nodes
           (in_line (length state.makers) (λ old. own n first ∷ []) is.lines) (in_line (length state.makers) (λ old. own n first ∷ []) is.lines) keys (λ q. refl) chained;
-      turned = turns_made state is.plain.tree turns is.turned after n frame later maker live now others makers parent path rights own_maker;
+      turned = turns_made state is.plain.tree turns is.turned after n frame later maker live only makers parent path rights own_maker;
     }
 
 -- one change after another
-pub one_then : (a b c : LiveFrames) (n : ℕ) (kept : KeptFrame) (change : KeptFrame → KeptFrame) → IsOnlyChange a b n (Some kept) → IsOnlyChange b c n (option_map change (kept_of b n)) → IsOnlyChange a c n (Some (change kept))
+pub one_then : (a b c : LiveFrames) (n : ℕ) (kept : KeptFrame) (change : KeptFrame → KeptFrame) → IsOnlyChange (kept_of a) (kept_of b) n (Some kept) → IsOnlyChange (kept_of b) (kept_of c) n (option_map change (kept_of b n)) → IsOnlyChange (kept_of a) (kept_of c) n (Some (change kept))
 one_then a b c n kept change first second = record {
   changed = second.changed ∙ ap (option_map change) first.changed;
   others = λ m other. second.others m other ∙ first.others m other;
@@ -143,13 +143,13 @@ module _ (name : Option Script) (state : QueueState) (frames : LiveFrames) (head
       let was = kept_live state frames is.live 0 root untouched.live in
       let kept = was.0 in
       let place : OwnChunk = record { key = made.key; is_maker = true; pushes = true } in
-      let P : Option KeptFrame → Type 0 = λ o. IsOnlyChange frames after_frames 0 o in
-      let Q : ℕ → Type 0 = λ k. IsOnlyChange frames after_frames 0 (Some (with_own_chunk k place kept)) in
-      let one : IsOnlyChange frames after_frames 0 (Some (with_own_chunk i place kept)) = subst Q at (subst P (ap (option_map (with_own_chunk q place)) was.1) made.place) in
+      let P : Option KeptFrame → Type 0 = λ o. IsOnlyChange (kept_of frames) (kept_of after_frames) 0 o in
+      let Q : ℕ → Type 0 = λ k. IsOnlyChange (kept_of frames) (kept_of after_frames) 0 (Some (with_own_chunk k place kept)) in
+      let one : IsOnlyChange (kept_of frames) (kept_of after_frames) 0 (Some (with_own_chunk i place kept)) = subst Q at (subst P (ap (option_map (with_own_chunk q place)) was.1) made.place) in
       let R : ℕ → Type 0 = λ k. AreChained (put_at 0 k (Some made.key) (key_at frames)) after_heads after_nodes (in_line k (λ old. own 0 first ∷ []) is.lines) in
       let path = (is.plain.tree.root root untouched.live).0 in
       book_made name state (after_create_root state) frames heads nodes turns is 0 root (with_made i root) (planned i) untouched.live
-      (own_changed state 0 (with_made i) (λ f. refl) root untouched.live) (others_changed state 0 (with_made i) (λ f. refl)) refl refl refl refl path
+      (one_changed state 0 (with_made i) (λ f. refl) root untouched.live) refl refl refl refl path
       after_frames made.key kept (with_own_chunk i place kept) was.1 was.2 one was.2.deeds was.2.lent refl
       first after_heads after_nodes more (plain_create_root name state is.lines is.plain untouched first next)
       (keys_put frames after_frames 0 i place kept was.1 one)
@@ -157,9 +157,9 @@ module _ (name : Option Script) (state : QueueState) (frames : LiveFrames) (head
 
   module _ (n : ℕ) (act : MayDo state n) (q : ℕ) (new : q ≡ length heads) (mid_frames : LiveFrames) (after_heads : List (Option ℕ)) (after_nodes : Slab Link)
       (made : IsMadeIn frames mid_frames n q [] heads nodes after_heads after_nodes) where
-    mid_one : (kept : KeptFrame) → kept_of frames n ≡ Some kept → IsOnlyChange frames mid_frames n (Some (with_own_chunk q (record { key = made.key; is_maker = true; pushes = true }) kept))
+    mid_one : (kept : KeptFrame) → kept_of frames n ≡ Some kept → IsOnlyChange (kept_of frames) (kept_of mid_frames) n (Some (with_own_chunk q (record { key = made.key; is_maker = true; pushes = true }) kept))
     mid_one kept was =
-        let P : Option KeptFrame → Type 0 = λ o. IsOnlyChange frames mid_frames n o in
+        let P : Option KeptFrame → Type 0 = λ o. IsOnlyChange (kept_of frames) (kept_of mid_frames) n o in
         subst P (ap (option_map (with_own_chunk q (record { key = made.key; is_maker = true; pushes = true }))) was) made.place
 
     pub create_room : (kept : KeptFrame) → kept_of mid_frames n ≡ Some kept → kept.deeds < DEEDS_MOST
@@ -172,28 +172,24 @@ module _ (name : Option Script) (state : QueueState) (frames : LiveFrames) (head
         omega (arith, room, deeds)
 
     pub book_create : OnNext name state n (λ s f. next_queue_deed s f.path f.deeds ≡ Some deed.MakeQueue) → length after_heads ≡ length heads + 1
-        → (after_frames : LiveFrames) → IsOnlyChange mid_frames after_frames n (option_map (λ (kept : KeptFrame). record kept { deeds = kept.deeds + 1 }) (kept_of mid_frames n))
+        → (after_frames : LiveFrames) → IsOnlyChange (kept_of mid_frames) (kept_of after_frames) n (option_map (λ (kept : KeptFrame). record kept { deeds = kept.deeds + 1 }) (kept_of mid_frames n))
         → IsBook name (after_create state act.frame) after_frames after_heads after_nodes turns
     book_create next more after_frames counted_one =
         let frame = act.frame in
         let i = length state.makers in
         let at : q ≡ i = new ∙ is.count in
         let change : ActiveFrame → ActiveFrame = λ f. with_deed (with_made i f) in
-        let number = active_number state n frame act.may.live in
-        let own_live : active state frame.number ≡ Some frame = ap (active state) number ∙ act.may.live in
         let was = kept_live state frames is.live n frame act.may.live in
         let kept = was.0 in
         let place : OwnChunk = record { key = made.key; is_maker = true; pushes = true } in
         let free = not_lent kept frame.lent was.2.lent act.may.back in
-        let S : ℕ → Type 0 = λ k. IsOnlyChange frames mid_frames n (Some (with_own_chunk k place kept)) in
-        let mid : IsOnlyChange frames mid_frames n (Some (with_own_chunk i place kept)) = subst S at (mid_one kept was.1) in
+        let S : ℕ → Type 0 = λ k. IsOnlyChange (kept_of frames) (kept_of mid_frames) n (Some (with_own_chunk k place kept)) in
+        let mid : IsOnlyChange (kept_of frames) (kept_of mid_frames) n (Some (with_own_chunk i place kept)) = subst S at (mid_one kept was.1) in
         let now_kept : KeptFrame = counted (with_own_chunk i place kept) in
-        let one : IsOnlyChange frames after_frames n (Some now_kept) = one_then frames mid_frames after_frames n (with_own_chunk i place kept) counted mid counted_one in
+        let one : IsOnlyChange (kept_of frames) (kept_of after_frames) n (Some now_kept) = one_then frames mid_frames after_frames n (with_own_chunk i place kept) counted mid counted_one in
         let R : ℕ → Type 0 = λ k. AreChained (put_at n k (Some made.key) (key_at frames)) after_heads after_nodes (in_line k (λ old. own n [] ∷ []) is.lines) in
-        let P : ℕ → Type 0 = λ k. AreOthers state (after_create state frame) k in
         book_made name state (after_create state frame) frames heads nodes turns is n frame (change frame) (made_by frame.path frame.deeds) act.may.live
-        (ap (active (after_create state frame)) (sym number) ∙ own_changed state frame.number change (λ f. refl) frame own_live)
-        (subst P number (others_changed state frame.number change (λ f. refl))) refl refl refl refl refl
+        (one_goes_on state n frame change (λ f. refl) act.may.live) refl refl refl refl refl
         after_frames made.key kept now_kept was.1 was.2 one (ap (λ k. k + 1) was.2.deeds) (act.may.back ∙ sym (lent_none now_kept free)) refl
         [] after_heads after_nodes more (plain_create name state is.lines is.plain n act next)
         (λ m p. keys_same mid_frames after_frames n (with_own_chunk i place kept) now_kept mid.changed (record { changed = one.changed; others = counted_one.others }) refl m p

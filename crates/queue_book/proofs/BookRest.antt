@@ -20,7 +20,7 @@ use Rattle.queues.specs.Tells.{OnQueue, rest_of}
 use Rattle.queues.specs.Tree.{IsTree, maker_path}
 use Rattle.queue_book.specs.Whole.{IsBook, IsLine}
 use Rattle.queue_book.specs.declared.live_frames.LiveFrames.{LiveFrames}
-use Rattle.queues.proofs.Alike.{AreAlike, alike_itself, in_use_back}
+use Rattle.queues.proofs.SameHolders.{holders_rest, in_use_back}
 use Rattle.queues.proofs.Calls.{rest_follows}
 use Rattle.queues.proofs.Frames.{active_number}
 use Rattle.queue_book.proofs.LiveKept.{agrees_on, key_none}
@@ -98,9 +98,6 @@ module _ (name : Option Script) (state : QueueState) (frames : LiveFrames) (head
       are ∙ rest_told s lawful state q (origin_in s maker.0) (is.lines q) (subst P (of_root maker.0 is_root) matches)
       (λ index number own. let frame = line.owners.owners index number own in none_active state is.plain.tree left.over number frame.0 frame.1))
 
-  alike : AreAlike state (after_take_rest state q)
-  alike m = alike_itself (active state m)
-
   pub book_rest : (after_heads : List (Option ℕ)) (after_nodes : Slab Link) → length after_heads ≡ length heads
       → AreChained (key_at frames) after_heads after_nodes (in_line q (λ chunks. []) is.lines) → IsBook name (after_take_rest state q) frames after_heads after_nodes turns
   book_rest after_heads after_nodes same chained = record {
@@ -125,7 +122,7 @@ module _ (name : Option Script) (state : QueueState) (frames : LiveFrames) (head
             owners = owners_kept_rest state q p (is.lines p) is.plain.tree line.owners;
             matches = λ full in_use s named lawful.
                 matches_rest s lawful state p (origin_in s one) (end_time s (maker_path one)) (is.lines p)
-                (line.matches (sym (emptied_other state q p other) ∙ full) (in_use_back state (after_take_rest state q) p one alike in_use) s named lawful) q;
+                (line.matches (sym (emptied_other state q p other) ∙ full) (in_use_back state (after_take_rest state q) p one (holders_rest state q) in_use) s named lawful) q;
             emptied = λ over. line.emptied (sym (emptied_other state q p other) ∙ over);
           });
     };

@@ -16,7 +16,8 @@ use Rattle.queue_book.specs.Ended.{own_keys}
 use Rattle.queue_book.specs.Handed.{gives_push, lines_after_gives, AreGiven, IsHandedIn, IsMoved}
 use Rattle.queues.specs.Turned.{gives_queue}
 use Rattle.queue_book.specs.KeptFrames.{KeptFrame, OwnChunks, own_chunk_in}
-use Rattle.queue_book.specs.Live.{kept_of, key_at, key_in, own_chunk_of, with_own_chunk, IsOnlyChange}
+use Rattle.queue_book.specs.Live.{kept_of, key_at, key_in, own_chunk_of, with_own_chunk}
+use Rattle.queues.specs.OneChange.{IsOnlyChange}
 use Rattle.queue_book.specs.declared.live_frame.OwnChunk.{OwnChunk}
 use Rattle.queue_book.specs.declared.live_frames.LiveFrames.{LiveFrames}
 use Rattle.queue_book.proofs.ChainChanges.{chained_same, put_other, put_same}
@@ -143,8 +144,8 @@ module _ (before now after : LiveFrames) (parent child : ℕ) (gives : List Queu
     parent_step k =
         let was = is.moved kept at_first in
         let place : OwnChunk = record { key = handed.new; is_maker = handed.place.is_maker; pushes = handed.place.pushes } in
-        let P : Option KeptFrame → Type 0 = λ o. IsOnlyChange now after parent o in
-        let one : IsOnlyChange now after parent (Some (with_own_chunk give.queue place was.0)) = subst P (ap (option_map (with_own_chunk give.queue place)) was.1) handed.parent_now in
+        let P : Option KeptFrame → Type 0 = λ o. IsOnlyChange (kept_of now) (kept_of after) parent o in
+        let one : IsOnlyChange (kept_of now) (kept_of after) parent (Some (with_own_chunk give.queue place was.0)) = subst P (ap (option_map (with_own_chunk give.queue place)) was.1) handed.parent_now in
         keys_put now after parent give.queue place was.0 was.1 one parent k ∙ (elim (cases_eq k give.queue) [
           | inl here ↦
               ap (λ j. put_at parent give.queue (Some handed.new) (key_at now) parent j) here ∙ put_same parent give.queue (Some handed.new) (key_at now)

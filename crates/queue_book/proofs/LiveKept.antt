@@ -8,8 +8,8 @@ use Rattle.queues.specs.Tree.{IsTree, has_queue}
 use Rattle.queue_book.specs.declared.live_frame.OwnChunk.{OwnChunk}
 use Rattle.queue_book.specs.declared.live_frames.LiveFrames.{LiveFrames}
 use Rattle.queue_book.specs.KeptFrames.{KeptFrame, own_chunk_in}
-use Rattle.queue_book.specs.Live.{kept_of, key_in, key_at, own_chunk_at, own_chunk_of, Agrees, AreLive, IsFrame, IsOnlyChange}
-use Rattle.queues.proofs.ActiveAfter.{AreOthers}
+use Rattle.queue_book.specs.Live.{kept_of, key_in, key_at, own_chunk_at, own_chunk_of, Agrees, AreLive, IsFrame}
+use Rattle.queues.specs.OneChange.{IsOnlyChange}
 
 -- the makers of older queues are the same
 abbrev pub SameMakers : QueueState → QueueState → Type 0
@@ -109,32 +109,32 @@ agrees_on state after (Some one) (Some frame) same known is = frame_on state aft
 agrees_on state after None (Some frame) same known is = absurd is
 agrees_on state after (Some one) None same known is = absurd is
 
-module _ (state after : QueueState) (tree : IsTree state) (frames then_frames : LiveFrames) (live : AreLive state frames) (n : ℕ) (others : AreOthers state after n) (same : SameMakers state after) where
-  pub live_other : (kept : Option KeptFrame) → IsOnlyChange frames then_frames n kept → (m : ℕ) → m ≢ n → Agrees after (kept_of then_frames m) (active after m)
-  live_other kept one m other =
+module _ (state after : QueueState) (tree : IsTree state) (frames then_frames : LiveFrames) (live : AreLive state frames) (n : ℕ) (same : SameMakers state after) where
+  live_other : (kept : Option KeptFrame) (found : Option ActiveFrame) → IsOnlyChange (kept_of frames) (kept_of then_frames) n kept → IsOnlyChange (active state) (active after) n found → (m : ℕ) → m ≢ n → Agrees after (kept_of then_frames m) (active after m)
+  live_other kept found one only m other =
       let P : Option KeptFrame → Type 0 = λ o. Agrees after o (active after m) in
       let Q : Option ActiveFrame → Type 0 = λ o. Agrees after (kept_of frames m) o in
-      subst P (sym (one.others m other)) (subst Q (sym (others m other)) (agrees_on state after (kept_of frames m) (active state m) same
+      subst P (sym (one.others m other)) (subst Q (sym (only.others m other)) (agrees_on state after (kept_of frames m) (active state m) same
       (λ frame is queue has. (tree.held m queue frame is has).0) (live m)))
 
-  pub live_one : (kept : KeptFrame) (frame : ActiveFrame) → IsOnlyChange frames then_frames n (Some kept) → active after n ≡ Some frame → IsFrame after kept frame → AreLive after then_frames
-  live_one kept frame one now is m = elim (cases_eq m n) [
+  pub live_one : (kept : KeptFrame) (frame : ActiveFrame) → IsOnlyChange (kept_of frames) (kept_of then_frames) n (Some kept) → IsOnlyChange (active state) (active after) n (Some frame) → IsFrame after kept frame → AreLive after then_frames
+  live_one kept frame one only is m = elim (cases_eq m n) [
     | inl here ↦
         let P : ℕ → Type 0 = λ k. Agrees after (kept_of then_frames k) (active after k) in
         let Q : Option KeptFrame → Type 0 = λ o. Agrees after o (active after n) in
         let R : Option ActiveFrame → Type 0 = λ o. Agrees after (Some kept) o in
-        subst P (sym here) (subst Q (sym one.changed) (subst R (sym now) is))
-    | inr other ↦ live_other (Some kept) one m other
+        subst P (sym here) (subst Q (sym one.changed) (subst R (sym only.changed) is))
+    | inr other ↦ live_other (Some kept) (Some frame) one only m other
   ]
 
-  pub live_gone : IsOnlyChange frames then_frames n None → active after n ≡ None → AreLive after then_frames
-  live_gone one gone m = elim (cases_eq m n) [
+  pub live_gone : IsOnlyChange (kept_of frames) (kept_of then_frames) n None → IsOnlyChange (active state) (active after) n None → AreLive after then_frames
+  live_gone one only m = elim (cases_eq m n) [
     | inl here ↦
         let P : ℕ → Type 0 = λ k. Agrees after (kept_of then_frames k) (active after k) in
         let Q : Option KeptFrame → Type 0 = λ o. Agrees after o (active after n) in
         let R : Option ActiveFrame → Type 0 = λ o. Agrees after None o in
-        subst P (sym here) (subst Q (sym one.changed) (subst R (sym gone) tt))
-    | inr other ↦ live_other None one m other
+        subst P (sym here) (subst Q (sym one.changed) (subst R (sym only.changed) tt))
+    | inr other ↦ live_other None None one only m other
   ]
 
 pub live_new : (frames : LiveFrames) → kept_of frames 0 ≡ Some (record { deeds = 0; is_lent = false; places = [] }) → ((n : ℕ) → n ≢ 0 → kept_of frames n ≡ None) → AreLive new_state frames
@@ -158,7 +158,7 @@ live_new frames root others m = elim (cases_eq m 0) [
 ]
 
 -- the places of a frame stay, and so do all keys
-pub keys_same : (frames then_frames : LiveFrames) (n : ℕ) (was now : KeptFrame) → kept_of frames n ≡ Some was → IsOnlyChange frames then_frames n (Some now) → now.places ≡ was.places
+pub keys_same : (frames then_frames : LiveFrames) (n : ℕ) (was now : KeptFrame) → kept_of frames n ≡ Some was → IsOnlyChange (kept_of frames) (kept_of then_frames) n (Some now) → now.places ≡ was.places
     → (m queue : ℕ) → key_at then_frames m queue ≡ key_at frames m queue
 keys_same frames then_frames n was now is one places m queue = elim (cases_eq m n) [
   | inl here ↦

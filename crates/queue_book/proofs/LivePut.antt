@@ -8,7 +8,8 @@ use Rattle.pop_order.proofs.Flags.{eq_same, or_left, or_right}
 use Rattle.swan_model.specs.QueueState.{ActiveFrame, QueueRight, with_made}
 use Rattle.queue_book.specs.Chains.{put_at}
 use Rattle.queue_book.specs.KeptFrames.{KeptFrame, own_chunk_in}
-use Rattle.queue_book.specs.Live.{kept_of, key_at, key_in, with_own_chunk, IsOnlyChange}
+use Rattle.queue_book.specs.Live.{kept_of, key_at, key_in, with_own_chunk}
+use Rattle.queues.specs.OneChange.{IsOnlyChange}
 use Rattle.queues.specs.Tree.{has_queue}
 use Rattle.queue_book.specs.declared.live_frame.OwnChunk.{OwnChunk}
 use Rattle.queue_book.specs.declared.live_frames.LiveFrames.{LiveFrames}
@@ -22,7 +23,7 @@ pub place_elsewhere : (kept : KeptFrame) (queue : ℕ) (place : OwnChunk) (q : �
 place_elsewhere kept queue place q other = by_inserted kept.places queue place q other
 
 -- the keys after that
-pub keys_put : (frames after : LiveFrames) (n queue : ℕ) (place : OwnChunk) (kept : KeptFrame) → kept_of frames n ≡ Some kept → IsOnlyChange frames after n (Some (with_own_chunk queue place kept))
+pub keys_put : (frames after : LiveFrames) (n queue : ℕ) (place : OwnChunk) (kept : KeptFrame) → kept_of frames n ≡ Some kept → IsOnlyChange (kept_of frames) (kept_of after) n (Some (with_own_chunk queue place kept))
     → (m q : ℕ) → key_at after m q ≡ put_at n queue (Some place.key) (key_at frames) m q
 keys_put frames after n queue place kept was one m q = by (cases_eq m n) (cases_eq q queue) where
   own : (p : ℕ) → key_at after n p ≡ option_map (λ (pl : OwnChunk). pl.key) (own_chunk_in (with_own_chunk queue place kept).places p)

@@ -11,7 +11,7 @@ use Rattle.swan_model.specs.declared.script.Script.{Script}
 use Rattle.swan_model.specs.declared.value.Value.{Value}
 use Rattle.swan_model.specs.Lawful.{IsLawful}
 use Rattle.swan_model.specs.QueueFollows.{next_queue_deed, origin_in, IsNextAbout}
-use Rattle.swan_model.specs.QueueState.{QueueMaker, QueueState, after_deed, holds_queue, with_deed, HasTurn, IsPoppingChild}
+use Rattle.swan_model.specs.QueueState.{QueueMaker, QueueState, after_deed, holds_queue, HasTurn, IsPoppingChild}
 use Rattle.swan_model.specs.Readings.{end_time}
 use Rattle.swan_model.specs.Told.{is_same}
 use Rattle.queues.specs.Asks.{MayDo, IsOnTurn, OnNext}
@@ -20,7 +20,7 @@ use Rattle.queue_book.specs.Chains.{in_line}
 use Rattle.queues.specs.Tells.{FindsNone}
 use Rattle.queues.specs.Tree.{maker_path}
 use Rattle.queue_book.specs.Whole.{IsLine, IsPlain}
-use Rattle.queues.proofs.Alike.{AreAlike, alike_changing, in_use_back}
+use Rattle.queues.proofs.SameHolders.{holders_deed, in_use_back}
 use Rattle.queues.proofs.Calls.{used_follows}
 use Rattle.queues.proofs.Match.{leaves_empty, leaves_pop, leaves_push, leaves_test, matches_deed, matches_pop, matches_push, matches_trimmed, none_pops, other_origin}
 use Rattle.queues.proofs.Frames.{has_held}
@@ -31,10 +31,6 @@ use Rattle.queue_book.proofs.PlainSaid.{in_each, on_next, origin_of, turn_on}
 use Rattle.queues.proofs.TreeSpawners.{spawners_deed}
 use Rattle.queues.proofs.TreeKept.{tree_deed}
 use Rattle.queues.proofs.TreeOwners.{owners_kept_deed, owners_push, owners_trimmed, owners_without_first}
-
-module _ (name : Option Script) (state : QueueState) (lines : ℕ → Chunks) (is : IsPlain name state lines) (n : ℕ) (act : MayDo state n) where
-  pub deed_alike : AreAlike state (after_deed state n)
-  deed_alike = alike_changing state n act.frame with_deed (λ f. refl) act.may.live (record { parent = refl; path = refl; rights = refl })
 
 module _ (name : Option Script) (state : QueueState) (lines : ℕ → Chunks) (is : IsPlain name state lines) (n : ℕ) (act : MayDo state n) (turn : IsOnTurn name state n) where
   had_turn : (s : Script) → name ≡ Some s → HasTurn state act.frame
@@ -61,7 +57,7 @@ module _ (name : Option Script) (state : QueueState) (lines : ℕ → Chunks) (i
         record {
           owners = owners q maker made line.owners;
           matches = λ left in_use s named lawful.
-              matches s named lawful q maker made (line.matches left (in_use_back state (after_deed state n) q maker (deed_alike name state lines is n act) in_use) s named lawful);
+              matches s named lawful q maker made (line.matches left (in_use_back state (after_deed state n) q maker (holders_deed state n act.frame act.may.live) in_use) s named lawful);
           emptied = λ over. empty q (line.emptied over);
         };
   }

@@ -1,5 +1,5 @@
 -- New hyperqueues, ends that are lent, and ends that come back.
-use Rattle.std.proofs.Common.{◌≡◌, ℕ, Option, Some, None, List, [], refl, ap, ◌∙◌, arith}
+use Rattle.std.proofs.Common.{◌≡◌, ℕ, Option, Some, None, List, [], refl, arith}
 use Rattle.std.proofs.lemmas.Bool.{false≢true}
 use Rattle.swan_model.specs.declared.script.Script.{Script}
 use Rattle.swan_model.specs.QueueFollows.{QueuesFollow, origin_in}
@@ -9,9 +9,8 @@ use Rattle.queues.specs.Chunks.{Chunks}
 use Rattle.queue_book.specs.Calls.{no_state}
 use Rattle.queues.specs.Tree.{IsTree, maker_path}
 use Rattle.queue_book.specs.Whole.{IsPlain}
-use Rattle.queues.proofs.Alike.{AreAlike, alike_changing, in_use_back}
+use Rattle.queues.proofs.SameHolders.{holders_back, holders_lend, in_use_back}
 use Rattle.queues.proofs.Calls.{back_follows, lent_follows, new_follows}
-use Rattle.queues.proofs.Frames.{active_number}
 use Rattle.queues.proofs.Match.{matches_back, matches_lend}
 use Rattle.queues.proofs.TreeSpawners.{spawners_back, spawners_lend, spawners_new}
 use Rattle.queues.proofs.TreeKept.{tree_back, tree_lend, tree_new}
@@ -65,16 +64,6 @@ plain_none name = record {
 }
 
 module _ (name : Option Script) (state : QueueState) (lines : ℕ → Chunks) (is : IsPlain name state lines) (n : ℕ) (frame : ActiveFrame) (live : active state n ≡ Some frame) where
-  own_live : active state frame.number ≡ Some frame
-  own_live = ap (active state) (active_number state n frame live) ∙ live
-
-  pub lend_alike : (ends : List LentEnd) → AreAlike state (after_lend state frame ends)
-  lend_alike ends = alike_changing state frame.number frame (λ f. record f { lent = Some (record { deeds = frame.deeds; ends = ends }) }) (λ f. refl) own_live
-      (record { parent = refl; path = refl; rights = refl })
-
-  pub back_alike : (deeds : ℕ) → AreAlike state (after_back state n deeds)
-  back_alike deeds = alike_changing state n frame (λ f. record f { deeds = deeds; lent = None }) (λ f. refl) live (record { parent = refl; path = refl; rights = refl })
-
   pub plain_lend : (ends : List LentEnd) → IsPlain name (after_lend state frame ends) lines
   plain_lend ends = record {
     rests = is.rests;
@@ -87,7 +76,7 @@ module _ (name : Option Script) (state : QueueState) (lines : ℕ → Chunks) (i
           owners = owners_kept_lend state frame ends q (lines q) is.tree line.owners;
           matches = λ left in_use s named lawful.
               matches_lend s lawful state q (origin_in s maker) (end_time s (maker_path maker)) (lines q)
-              (line.matches left (in_use_back state (after_lend state frame ends) q maker (lend_alike ends) in_use) s named lawful) n frame live ends;
+              (line.matches left (in_use_back state (after_lend state frame ends) q maker (holders_lend state n frame live ends) in_use) s named lawful) n frame live ends;
           emptied = line.emptied;
         };
   }
@@ -105,7 +94,7 @@ module _ (name : Option Script) (state : QueueState) (lines : ℕ → Chunks) (i
           owners = owners_kept_back state n frame.deeds q (lines q) is.tree line.owners;
           matches = λ left in_use s named lawful.
               matches_back s lawful state q (origin_in s maker) (end_time s (maker_path maker)) (lines q)
-              (line.matches left (in_use_back state (after_back state n frame.deeds) q maker (back_alike frame.deeds) in_use) s named lawful) n frame live frame.deeds refl;
+              (line.matches left (in_use_back state (after_back state n frame.deeds) q maker (holders_back state n frame live frame.deeds) in_use) s named lawful) n frame live frame.deeds refl;
           emptied = line.emptied;
         };
   }

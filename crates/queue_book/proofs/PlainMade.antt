@@ -15,9 +15,10 @@ use Rattle.queues.specs.Chunks.{Chunks, own, HasOwners, Matches}
 use Rattle.queue_book.specs.Chains.{in_line}
 use Rattle.queues.specs.Tree.{SpawnersHaveTurns, IsTree, has_queue, maker_path, IsInUse}
 use Rattle.queue_book.specs.Whole.{IsLine, IsPlain}
-use Rattle.queues.proofs.ActiveAfter.{AreOthers, others_changed, own_changed}
+use Rattle.queues.specs.OneChange.{IsOnlyChange}
+use Rattle.queues.proofs.ActiveAfter.{one_changed, one_goes_on}
 use Rattle.queues.proofs.Creating.{created_follows, root_created_follows}
-use Rattle.queues.proofs.Frames.{active_number, same_frame}
+use Rattle.queues.proofs.Frames.{same_frame}
 use Rattle.swan_model.proofs.Elements.{more_cases}
 use Rattle.queue_book.proofs.LivePut.{has_not_made}
 use Rattle.queues.proofs.Match.{matches_create, matches_create_other, matches_root, matches_root_other}
@@ -27,18 +28,18 @@ use Rattle.queues.proofs.TreeKept.{tree_create, tree_root}
 use Rattle.queues.proofs.TreeOwners.{owners_create, owners_kept_create, owners_kept_root, owners_root}
 
 -- Who has an older queue after a frame made one had it before.
-pub made_in_use : (state after : QueueState) (n : ℕ) (frame later : ActiveFrame) → active state n ≡ Some frame → active after n ≡ Some later → AreOthers state after n
+pub made_in_use : (state after : QueueState) (n : ℕ) (frame later : ActiveFrame) → active state n ≡ Some frame → IsOnlyChange (active state) (active after) n (Some later)
     → (q : ℕ) (maker : QueueMaker) → (has_queue later q ≡ has_queue frame q) → IsInUse after q maker → IsInUse state q maker
-made_in_use state after n frame later live now others q maker same (inl of_root) = inl of_root
-made_in_use state after n frame later live now others q maker same (inr (number, one, live_one, has)) = elim (cases_eq number n) [
+made_in_use state after n frame later live one q maker same (inl of_root) = inl of_root
+made_in_use state after n frame later live one q maker same (inr (number, found, live_found, has)) = elim (cases_eq number n) [
   | inl here ↦
-      let is : one ≡ later = same_frame (active after n) one later (ap (active after) (sym here) ∙ live_one) now in
+      let is : found ≡ later = same_frame (active after n) found later (ap (active after) (sym here) ∙ live_found) one.changed in
       inr (n, frame, live, sym same ∙ ap (λ (f : ActiveFrame). has_queue f q) (sym is) ∙ has)
-  | inr other ↦ inr (number, one, sym (others number other) ∙ live_one, has)
+  | inr other ↦ inr (number, found, sym (one.others number other) ∙ live_found, has)
 ]
 
 module _ (name : Option Script) (state after : QueueState) (lines : ℕ → Chunks) (is : IsPlain name state lines) (n : ℕ) (frame later : ActiveFrame) (maker : QueueMaker) (first : List Value)
-    (live : active state n ≡ Some frame) (now : active after n ≡ Some later) (others : AreOthers state after n) (makers : after.makers ≡ state.makers ++ maker ∷ [])
+    (live : active state n ≡ Some frame) (only : IsOnlyChange (active state) (active after) n (Some later)) (makers : after.makers ≡ state.makers ++ maker ∷ [])
     (emptied : after.emptied ≡ state.emptied) (same : (q : ℕ) → q < length state.makers → has_queue later q ≡ has_queue frame q) where
   full : is_emptied state (length state.makers) ≡ false
   full = elim (cases_Bool (is_emptied state (length state.makers))) [
@@ -73,7 +74,7 @@ module _ (name : Option Script) (state after : QueueState) (lines : ℕ → Chun
               (λ other. record {
                 owners = owners q less line.owners;
                 matches = λ free in_use s named lawful.
-                    matches s named lawful q one less (line.matches (sym left ∙ free) (made_in_use state after n frame later live now others q one (same q less) in_use) s named lawful);
+                    matches s named lawful q one less (line.matches (sym left ∙ free) (made_in_use state after n frame later live only q one (same q less) in_use) s named lawful);
                 emptied = λ over. line.emptied (sym left ∙ over);
               })
           | inr new ↦
@@ -99,14 +100,10 @@ module _ (name : Option Script) (state : QueueState) (lines : ℕ → Chunks) (i
       let frame = act.frame in
       let i = length state.makers in
       let change : ActiveFrame → ActiveFrame = λ f. with_deed (with_made i f) in
-      let number = active_number state n frame act.may.live in
-      let own_live : active state frame.number ≡ Some frame = ap (active state) number ∙ act.may.live in
-      let P : ℕ → Type 0 = λ k. AreOthers state (after_create state frame) k in
       let told : (s : Script) → name ≡ Some s → next_queue_deed s frame.path frame.deeds ≡ Some deed.MakeQueue = λ s named.
       on_next name state n (λ t f. next_queue_deed t f.path f.deeds ≡ Some deed.MakeQueue) s frame next named act.may.live in
       plain_made name state (after_create state frame) lines is n frame (change frame) (made_by frame.path frame.deeds) [] act.may.live
-      (ap (active (after_create state frame)) (sym number) ∙ own_changed state frame.number change (λ f. refl) frame own_live)
-      (subst P number (others_changed state frame.number change (λ f. refl))) refl refl
+      (one_goes_on state n frame change (λ f. refl) act.may.live) refl refl
       (λ q less. has_not_made frame i q (λ same. omega arith))
       (tree_create state n is.tree act)
       (λ s named lawful. created_follows s lawful state (is.follows s named lawful) n frame act.may.live (told s named))
@@ -123,7 +120,7 @@ module _ (name : Option Script) (state : QueueState) (lines : ℕ → Chunks) (i
       let root = untouched.root in
       let i = length state.makers in
       plain_made name state (after_create_root state) lines is 0 root (with_made i root) (planned i) first untouched.live
-      (own_changed state 0 (with_made i) (λ f. refl) root untouched.live) (others_changed state 0 (with_made i) (λ f. refl)) refl refl
+      (one_changed state 0 (with_made i) (λ f. refl) root untouched.live) refl refl
       (λ q less. has_not_made root i q (λ same. omega arith))
       (tree_root state is.tree untouched)
       (λ s named lawful. root_created_follows s lawful state (is.follows s named lawful) first untouched (next s named))

@@ -13,7 +13,8 @@ use Rattle.queues.specs.Chunks.{Chunks, after_hand_on}
 use Rattle.queue_book.specs.Chains.{Link, AreChained, in_line, put_at}
 use Rattle.queue_book.specs.Ended.{own_keys}
 use Rattle.queue_book.specs.KeptFrames.{KeptFrame, OwnChunks, own_chunk_in}
-use Rattle.queue_book.specs.Live.{kept_of, key_at, own_chunk_at, with_own_chunk, IsOnlyChange}
+use Rattle.queue_book.specs.Live.{kept_of, key_at, own_chunk_at, with_own_chunk}
+use Rattle.queues.specs.OneChange.{IsOnlyChange}
 use Rattle.queues.specs.Turned.{gives_queue, AreGivenTurns}
 use Rattle.queue_book.specs.declared.live_frame.OwnChunk.{OwnChunk}
 use Rattle.queue_book.specs.declared.live_frames.LiveFrames.{LiveFrames}
@@ -23,7 +24,7 @@ pub record IsHandedIn (before after : LiveFrames) (parent child queue : ℕ) (pu
   pub new : ℕ
   pub place : OwnChunk
   pub was : own_chunk_at before parent queue ≡ Some place
-  pub parent_now : IsOnlyChange before after parent (option_map (with_own_chunk queue (record { key = new; is_maker = place.is_maker; pushes = place.pushes })) (kept_of before parent))
+  pub parent_now : IsOnlyChange (kept_of before) (kept_of after) parent (option_map (with_own_chunk queue (record { key = new; is_maker = place.is_maker; pushes = place.pushes })) (kept_of before parent))
   pub child_now : then_places ≡ insert_entry nat_cmp places queue (record { key = place.key; is_maker = false; pushes = pushes })
   pub chained : (at : ℕ → ℕ → Option ℕ) (lines : ℕ → Chunks) → AreChained at heads nodes lines → at parent queue ≡ Some place.key → at child queue ≡ None
       → AreChained (put_at parent queue (Some new) (put_at child queue (Some place.key) at)) heads then_nodes (in_line queue (after_hand_on parent child) lines)

@@ -35,11 +35,6 @@ key_at frames number queue = key_in (kept_of frames number) queue
 abbrev pub is_pusher : LiveFrames → (number queue : ℕ) → Bool
 is_pusher frames number queue = option_map_or (λ (place : OwnChunk). place.pushes) (own_chunk_at frames number queue) false
 
--- one frame was changed, and no other
-pub record IsOnlyChange (before after : LiveFrames) (number : ℕ) (then_kept : Option KeptFrame) : Type 0 where
-  pub changed : kept_of after number ≡ then_kept
-  pub others : (other : ℕ) → other ≢ number → kept_of after other ≡ kept_of before other
-
 -- a frame with one place more, or another place for a queue
 abbrev pub with_own_chunk : ℕ → OwnChunk → KeptFrame → KeptFrame
 with_own_chunk queue place kept = record kept { places = insert_entry nat_cmp kept.places queue place }

@@ -9,7 +9,8 @@ use Rattle.queue_book.specs.Chains.{Link}
 use Rattle.queue_book.specs.Handed.{AreGiven}
 use Rattle.queues.specs.Turned.{gives_queue, AreApart}
 use Rattle.queue_book.specs.KeptFrames.{KeptFrame, OwnChunks, own_chunk_in}
-use Rattle.queue_book.specs.Live.{kept_of, IsOnlyChange}
+use Rattle.queue_book.specs.Live.{kept_of}
+use Rattle.queues.specs.OneChange.{IsOnlyChange}
 use Rattle.queue_book.specs.declared.live_frames.LiveFrames.{LiveFrames}
 
 -- The parent is kept and has a place for each queue that it gives; each is given once, by a mode of queues; and the child is
@@ -32,5 +33,5 @@ pub record IsSpawnedIn (before after : LiveFrames) (parent child : ℕ) (gives :
   pub places : OwnChunks
   pub given : AreGiven before middle parent child gives places heads nodes then_nodes turns then_turns
   pub added : LiveFrames
-  pub child_now : IsOnlyChange middle added child (Some (record { deeds = 0; is_lent = false; places = places }))
-  pub parent_now : IsOnlyChange added after parent (option_map (λ (kept : KeptFrame). record kept { deeds = kept.deeds + 1 }) (kept_of added parent))
+  pub child_now : IsOnlyChange (kept_of middle) (kept_of added) child (Some (record { deeds = 0; is_lent = false; places = places }))
+  pub parent_now : IsOnlyChange (kept_of added) (kept_of after) parent (option_map (λ (kept : KeptFrame). record kept { deeds = kept.deeds + 1 }) (kept_of added parent))

@@ -5,7 +5,8 @@ ghost use Rattle.queues.specs.Chunks.{Chunks};
 ghost use Rattle.queue_book.specs.Chains.{in_line, put_at, AreChained};
 ghost use Rattle.queue_book.specs.Ended.{line_after_end, lines_after_end, own_keys, IsAlone};
 ghost use Rattle.queue_book.specs.KeptFrames.{KeptFrame, own_chunk_in};
-ghost use Rattle.queue_book.specs.Live.{kept_of, IsOnlyChange};
+ghost use Rattle.queue_book.specs.Live.{kept_of};
+ghost use Rattle.queues.specs.OneChange.{IsOnlyChange};
 ghost use Rattle.queue_book.specs.declared.live_frame.OwnChunk.{OwnChunk as Held};
 
 use crate::OwnChunk;
@@ -20,7 +21,7 @@ impl Store {
     pub fn end(&mut self, number: u64)
         requires known { (kept : KeptFrame) (queue : ℕ) (place : Held) → kept_of self.old.frames number ≡ Some kept → own_chunk_in kept.places queue ≡ Some place → queue < length self.old.chains.heads.items }
         requires childless { HasNoChild self.old.turns number }
-        ensures gone { IsOnlyChange self.old.frames self.new.frames number None }
+        ensures gone { IsOnlyChange (kept_of self.old.frames) (kept_of self.new.frames) number None }
         ensures same { length self.new.chains.heads.items ≡ length self.old.chains.heads.items }
         ensures ended { (kept : KeptFrame) (at : ℕ → ℕ → Option ℕ) (lines : ℕ → Chunks) → kept_of self.old.frames number ≡ Some kept
             → AreChained (own_keys number kept.places at) self.old.chains.heads.items self.old.chains.nodes lines → IsAlone number kept.places at

@@ -2,7 +2,8 @@
 ghost use Rattle.std.specs.Prelude.{◌≡◌, ◌≢◌, ℕ, ◌+◌, ◌<◌, Some, None, [], OnOk, false};
 ghost use Rattle.std.specs.Option.{option_copied, option_map};
 ghost use Rattle.queues.specs.Asks.{DEEDS_MOST};
-ghost use Rattle.queue_book.specs.Live.{is_lent_with, kept_of, own_chunk_at, with_own_chunk, IsOnlyChange};
+ghost use Rattle.queue_book.specs.Live.{is_lent_with, kept_of, own_chunk_at, with_own_chunk};
+ghost use Rattle.queues.specs.OneChange.{IsOnlyChange};
 ghost use Rattle.queue_book.specs.KeptFrames.{KeptFrame};
 
 use crate::{LiveFrame, OwnChunk};
@@ -75,7 +76,7 @@ impl LiveFrames {
     /// Counts one more queue deed of a frame. `O(log n)`.
     pub fn count_deed(&mut self, number: u64)
         requires room { (kept : KeptFrame) → kept_of self.old number ≡ Some kept → kept.deeds < DEEDS_MOST }
-        ensures { IsOnlyChange self.old self.new number (option_map (λ (kept : KeptFrame). record kept { deeds = kept.deeds + 1 }) (kept_of self.old number)) }
+        ensures { IsOnlyChange (kept_of self.old) (kept_of self.new) number (option_map (λ (kept : KeptFrame). record kept { deeds = kept.deeds + 1 }) (kept_of self.old number)) }
     {
         if number == 0 {
             if let Some(frame) = &mut self.root {
@@ -88,7 +89,7 @@ impl LiveFrames {
 
     /// Notes whether the ends of a frame are lent. `O(log n)`.
     pub fn set_lent(&mut self, number: u64, is_lent: bool)
-        ensures { IsOnlyChange self.old self.new number (option_map (λ (kept : KeptFrame). record kept { is_lent = is_lent }) (kept_of self.old number)) }
+        ensures { IsOnlyChange (kept_of self.old) (kept_of self.new) number (option_map (λ (kept : KeptFrame). record kept { is_lent = is_lent }) (kept_of self.old number)) }
     {
         if number == 0 {
             if let Some(frame) = &mut self.root {
@@ -101,7 +102,7 @@ impl LiveFrames {
 
     /// Notes where a frame's own chunk of a queue stands. `O(log n)`. Err is want of memory.
     pub fn put(&mut self, number: u64, queue: u32, place: OwnChunk) -> Result<(), NoMemory>
-        ensures { OnOk result (IsOnlyChange self.old self.new number (option_map (with_own_chunk queue place) (kept_of self.old number))) }
+        ensures { OnOk result (IsOnlyChange (kept_of self.old) (kept_of self.new) number (option_map (with_own_chunk queue place) (kept_of self.old number))) }
     {
         if number == 0 {
             if let Some(frame) = &mut self.root {
@@ -118,7 +119,7 @@ impl LiveFrames {
     /// Adds a frame. `O(log n)`. Err is want of memory.
     pub fn add(&mut self, number: u64, frame: LiveFrame) -> Result<(), NoMemory>
         requires other { number ≢ 0 }
-        ensures { OnOk result (IsOnlyChange self.old self.new number (Some frame)) }
+        ensures { OnOk result (IsOnlyChange (kept_of self.old) (kept_of self.new) number (Some frame)) }
     {
         self.others.insert(number, frame)?;
         Ok(())
@@ -127,7 +128,7 @@ impl LiveFrames {
     /// Takes a frame out. `O(log n)`; it takes no memory.
     pub fn remove(&mut self, number: u64) -> Option<LiveFrame>
         ensures frame { result ≡ kept_of self.old number }
-        ensures gone { IsOnlyChange self.old self.new number None }
+        ensures gone { IsOnlyChange (kept_of self.old) (kept_of self.new) number None }
     {
         if number == 0 {
             self.root.take()

@@ -1,10 +1,11 @@
 -- The active frames after a call: the frame that made it is changed, and all others are as they were.
-use Rattle.std.proofs.Common.{◌≡◌, ◌≢◌, ℕ, ◌+◌, Bool, true, false, cond, not, nat_eq, List, [], ◌∷◌, ◌++◌, map, Option, Some, None, refl, sym, ap, ◌∙◌, ◌≤◌}
+use Rattle.std.proofs.Common.{◌≡◌, ◌≢◌, ℕ, ◌+◌, Bool, true, false, cond, not, nat_eq, List, [], ◌∷◌, ◌++◌, map, Option, Some, None, refl, sym, ap, subst, ◌∙◌, ◌≤◌}
 use Rattle.std.proofs.lemmas.Bool.{eq-eqb, ne_eqb}
 use Rattle.std.specs.List.{find}
 use Rattle.std.specs.Option.{option_map}
 use Rattle.swan_model.specs.QueueState.{ActiveFrame, QueueRight, QueueState, active, after_finish, after_spawn, changed, changing, child_of, with_deed}
 use Rattle.swan_model.proofs.Elements.{find_map}
+use Rattle.queues.specs.OneChange.{IsOnlyChange}
 use Rattle.queues.proofs.FramesChanged.{find_last, find_others, find_gone}
 use Rattle.queues.proofs.Frames.{active_number}
 
@@ -19,10 +20,6 @@ pub record KeepsTask (change : ActiveFrame → ActiveFrame) : Type 0 where
   pub path : (frame : ActiveFrame) → (change frame).path ≡ frame.path
   pub children : (frame : ActiveFrame) → frame.children ≤ (change frame).children
 
--- all active frames but that of one number are the same
-abbrev pub AreOthers : QueueState → QueueState → ℕ → Type 0
-AreOthers state after n = (m : ℕ) → m ≢ n → active after m ≡ active state m
-
 module _ (state : QueueState) (n : ℕ) (change : ActiveFrame → ActiveFrame) (keeps : KeepsNumber change) where
   same_number : (frame : ActiveFrame) → (changed n change frame).number ≡ frame.number
   same_number frame = by (nat_eq frame.number n) where
@@ -34,7 +31,7 @@ module _ (state : QueueState) (n : ℕ) (change : ActiveFrame → ActiveFrame) (
   active_changed m =
       find_map (λ (frame : ActiveFrame). nat_eq frame.number m) (changed n change) (λ frame. ap (λ k. nat_eq k m) (same_number frame)) state.frames
 
-  pub others_changed : AreOthers state (changing state n change) n
+  others_changed : (m : ℕ) → m ≢ n → active (changing state n change) m ≡ active state m
   others_changed m differ = active_changed m ∙ by (active state m) refl where
     by : (found : Option ActiveFrame) → active state m ≡ found → option_map (changed n change) found ≡ found
     by None is = refl
@@ -47,12 +44,18 @@ module _ (state : QueueState) (n : ℕ) (change : ActiveFrame → ActiveFrame) (
       active_changed n ∙ ap (option_map (changed n change)) live
       ∙ ap (λ b. Some (cond b (change frame) frame)) (eq-eqb frame.number n (active_number state n frame live))
 
--- without the frame of one number
-pub others_finished : (state : QueueState) (n : ℕ) → AreOthers state (after_finish state n) n
-others_finished state n m differ = find_others state.frames n m differ
+  pub one_changed : (frame : ActiveFrame) → active state n ≡ Some frame → IsOnlyChange (active state) (active (changing state n change)) n (Some (change frame))
+  one_changed frame live = record { changed = own_changed frame live; others = others_changed }
 
-pub gone_now : (state : QueueState) (n : ℕ) → active (after_finish state n) n ≡ None
-gone_now state n = by (active (after_finish state n) n) refl where
+-- a frame that is changed by its own number
+pub one_goes_on : (state : QueueState) (n : ℕ) (frame : ActiveFrame) (change : ActiveFrame → ActiveFrame) → KeepsNumber change → active state n ≡ Some frame
+    → IsOnlyChange (active state) (active (changing state frame.number change)) n (Some (change frame))
+one_goes_on state n frame change keeps live =
+    subst (λ k. IsOnlyChange (active state) (active (changing state k change)) n (Some (change frame))) (sym (active_number state n frame live)) (one_changed state n change keeps frame live)
+
+-- without the frame of one number
+pub one_gone : (state : QueueState) (n : ℕ) → IsOnlyChange (active state) (active (after_finish state n)) n None
+one_gone state n = record { changed = by (active (after_finish state n) n) refl; others = λ m differ. find_others state.frames n m differ } where
   by : (o : Option ActiveFrame) → active (after_finish state n) n ≡ o → o ≡ None
   by None e = refl
   by (Some frame) e = absurd (find_gone state.frames n frame e)
@@ -68,22 +71,18 @@ module _ (state : QueueState) (n child : ℕ) (frame : ActiveFrame) (gives : Lis
   abbrev one_more : ActiveFrame → ActiveFrame
   one_more f = with_deed (record f { children = f.children + 1 })
 
-  own_number : frame.number ≡ n
-  own_number = active_number state n frame live
-
   apart : n ≢ child
   apart same = let none : Some frame ≡ None = sym live ∙ ap (active state) same ∙ new in absurd (cc)
 
   pub others_spawned : (m : ℕ) → m ≢ n → m ≢ child → active (after_spawn state frame child gives) m ≡ active state m
   others_spawned m differ not =
       found_more m (map (changed frame.number one_more) state.frames) (child_of frame child gives) (λ same. not (sym same))
-      ∙ others_changed state frame.number one_more (λ f. refl) m (λ same. differ (same ∙ own_number))
+      ∙ (one_goes_on state n frame one_more (λ f. refl) live).others m differ
 
   pub parent_spawned : active (after_spawn state frame child gives) n ≡ Some (with_deed (record frame { children = frame.children + 1 }))
   parent_spawned =
       found_more n (map (changed frame.number one_more) state.frames) (child_of frame child gives) (λ same. apart (sym same))
-      ∙ ap (active (changing state frame.number one_more)) (sym own_number)
-      ∙ own_changed state frame.number one_more (λ f. refl) frame (ap (active state) own_number ∙ live)
+      ∙ (one_goes_on state n frame one_more (λ f. refl) live).changed
 
   pub child_spawned : active (after_spawn state frame child gives) child ≡ Some (child_of frame child gives)
   child_spawned =

@@ -1,5 +1,5 @@
 -- The active frame of a number, and what its rights let it do.
-use Rattle.std.proofs.Common.{◌≡◌, ◌⊎◌, inl, inr, ℕ, Bool, true, nat_eq, Option, Some, List, [], ◌∷◌, refl, sym, ◌∙◌}
+use Rattle.std.proofs.Common.{◌≡◌, ◌⊎◌, inl, inr, ℕ, Bool, true, nat_eq, Option, Some, List, [], ◌∷◌, refl, sym, ◌∙◌, arith}
 use Rattle.std.proofs.lemmas.Bool.{and_from, and_parts, eqb-true, false≢true, or_cases, or_left, or_right}
 use Rattle.std.proofs.lemmas.Option.{same_Some}
 use Rattle.std.specs.List.{list_any}
@@ -36,35 +36,9 @@ allows_own Push = refl
 allows_own Pop = refl
 allows_own PushPop = refl
 
-in_through : (mode : Mode) → allows In mode ≡ true → allows InOut mode ≡ true
-in_through In is = refl
-in_through mode is = absurd (false≢true is)
-
-out_through : (mode : Mode) → allows Out mode ≡ true → allows InOut mode ≡ true
-out_through Out is = refl
-out_through mode is = absurd (false≢true is)
-
-push_through : (mode : Mode) → allows Push mode ≡ true → allows PushPop mode ≡ true
-push_through Push is = refl
-push_through mode is = absurd (false≢true is)
-
-pop_through : (mode : Mode) → allows Pop mode ≡ true → allows PushPop mode ≡ true
-pop_through Pop is = refl
-pop_through mode is = absurd (false≢true is)
-
 -- the rights of a mode that another one has among its rights are among those too
 pub allows_through : (own between mode : Mode) → allows own between ≡ true → allows between mode ≡ true → allows own mode ≡ true
-allows_through In In mode first second = second
-allows_through Out Out mode first second = second
-allows_through InOut In mode first second = in_through mode second
-allows_through InOut Out mode first second = out_through mode second
-allows_through InOut InOut mode first second = second
-allows_through Push Push mode first second = second
-allows_through Pop Pop mode first second = second
-allows_through PushPop Push mode first second = push_through mode second
-allows_through PushPop Pop mode first second = pop_through mode second
-allows_through PushPop PushPop mode first second = second
-allows_through own between mode first second = absurd (false≢true first)
+allows_through own between mode first second = grind arith
 
 -- who may use a queue has it
 pub has_held : (frame : ActiveFrame) (queue : ℕ) (mode : Mode) → holds_queue frame queue mode ≡ true → has_queue frame queue ≡ true

@@ -13,6 +13,7 @@ pub mod SerialPoints
 pub mod Frames
 pub mod FramesChanged
 pub mod ActiveAfter
+pub mod SameHolders
 pub mod Lineage
 pub mod Above
 pub mod Changing
@@ -37,7 +38,6 @@ pub mod ReadingSpawns
 pub mod NextDeeds
 pub mod ReadingsAgree
 -- what the frames of a state keep of each other
-pub mod Alike
 pub mod OneChanged
 pub mod TreeChanged
 pub mod Gives

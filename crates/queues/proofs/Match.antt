@@ -19,7 +19,7 @@ use Rattle.swan_model.proofs.Origins.{is_same-equal}
 use Rattle.queues.specs.Chunks.{Chunk, Chunks, HasOwners, IsOwner, Matches, after_close, with_item, without_first}
 use Rattle.queues.specs.Tells.{FindsNone}
 use Rattle.queues.specs.Tree.{SpawnersHaveTurns, IsTree}
-use Rattle.queues.proofs.ActiveAfter.{KeepsNumber, others_changed, others_finished, own_changed}
+use Rattle.queues.proofs.ActiveAfter.{KeepsNumber, one_changed, one_goes_on, one_gone}
 use Rattle.queues.proofs.Making.{holds_before}
 use Rattle.queues.proofs.MatchDeed.{HasDone, LeavesQueue, done_deed, matches_stay, matches_told}
 use Rattle.queues.proofs.MatchFinish.{matches_closed}
@@ -88,40 +88,37 @@ module _ (s : Script) (lawful : IsLawful s) (state : QueueState) (number : ℕ) 
   pub matches_root_other : (root : ActiveFrame) → active state 0 ≡ Some root → number < length state.makers → Matches s (after_create_root state) number queue end chunks
   matches_root_other root live old =
       let made = length state.makers in
-      let change : ActiveFrame → ActiveFrame = with_made made in
+      let one = one_changed state 0 (with_made made) (λ f. refl) root live in
       matches_told s lawful state (after_create_root state) number queue end 0 chunks matches
-      (other_owners state (after_create_root state) 0 chunks (others_changed state 0 change (λ f. refl)))
-      root (change root) live (own_changed state 0 change (λ f. refl) root live)
+      (other_owners state (after_create_root state) 0 (Some (with_made made root)) chunks one) root (with_made made root) live one.changed
       (record { path = refl; counts = refl }) (record { path = refl; takes = refl; pops = holds_before root made number Pop old })
 
   module _ (n : ℕ) (frame : ActiveFrame) (live : active state n ≡ Some frame) where
     -- A deed that leaves the queue leaves its chunks.
     pub matches_deed : (d : Deed) → next_queue_deed s frame.path frame.deeds ≡ Some d → LeavesQueue s frame queue d → Matches s (after_deed state n) number queue end chunks
     matches_deed d next leaves =
+        let one = one_changed state n with_deed (λ f. refl) frame live in
         matches_stay s lawful state (after_deed state n) number queue end n chunks matches
-        (other_owners state (after_deed state n) n chunks (others_changed state n with_deed (λ f. refl)))
-        frame (with_deed frame) live (own_changed state n with_deed (λ f. refl) frame live) (done_deed number frame) d next leaves
+        (other_owners state (after_deed state n) n (Some (with_deed frame)) chunks one) frame (with_deed frame) live one.changed (done_deed number frame) d next leaves
 
     -- A queue that is made leaves the chunks of the others.
     pub matches_create_other : next_queue_deed s frame.path frame.deeds ≡ Some deed.MakeQueue → number < length state.makers → Matches s (after_create state frame) number queue end chunks
     matches_create_other next old =
         let made = length state.makers in
-        let mine = active_number state n frame live in
         let change : ActiveFrame → ActiveFrame = λ f. with_deed (with_made made f) in
+        let one = one_goes_on state n frame change (λ f. refl) live in
         let done : HasDone number frame (change frame) = record { path = refl; deeds = refl; pops = holds_before frame made number Pop old } in
-        matches_stay s lawful state (after_create state frame) number queue end frame.number chunks matches
-        (other_owners state (after_create state frame) frame.number chunks (others_changed state frame.number change (λ f. refl)))
-        frame (change frame) (ap (active state) mine ∙ live) (own_changed state frame.number change (λ f. refl) frame (ap (active state) mine ∙ live)) done
-        deed.MakeQueue next (leaves_make s frame queue)
+        matches_stay s lawful state (after_create state frame) number queue end n chunks matches
+        (other_owners state (after_create state frame) n (Some (change frame)) chunks one) frame (change frame) live one.changed done deed.MakeQueue next (leaves_make s frame queue)
 
     -- What leaves a frame's path, its deeds and its rights leaves the chunks.
     pub matches_lent : (change : ActiveFrame → ActiveFrame) → KeepsNumber change → (change frame).path ≡ frame.path → (change frame).deeds ≡ frame.deeds → (change frame).rights ≡ frame.rights
         → Matches s (changing state n change) number queue end chunks
     matches_lent change keeps path deeds rights =
         let point : queue_point s (change frame).path (change frame).deeds ≡ queue_point s frame.path frame.deeds = ap (λ p. queue_point s p (change frame).deeds) path ∙ ap (queue_point s frame.path) deeds in
+        let one = one_changed state n change keeps frame live in
         matches_told s lawful state (changing state n change) number queue end n chunks matches
-        (other_owners state (changing state n change) n chunks (others_changed state n change keeps))
-        frame (change frame) live (own_changed state n change keeps frame live)
+        (other_owners state (changing state n change) n (Some (change frame)) chunks one) frame (change frame) live one.changed
         (record { path = path; counts = ap (count s queue) point })
         (record { path = path; takes = ap (taken s queue) point; pops = ap (list_any (λ (right : QueueRight). (right.queue == number) && allows right.mode Pop)) rights })
 
@@ -138,22 +135,22 @@ module _ (s : Script) (lawful : IsLawful s) (state : QueueState) (number : ℕ) 
     -- The end of a frame that has no chunk leaves the chunks.
     pub matches_finish_other : ((index : ℕ) → IsOwner state chunks index n → ⊥) → Matches s (after_finish state n) number queue end chunks
     matches_finish_other not =
-        matches_unowned s state (after_finish state n) number queue end n chunks matches (other_owners state (after_finish state n) n chunks (others_finished state n)) not
+        matches_unowned s state (after_finish state n) number queue end n chunks matches (other_owners state (after_finish state n) n None chunks (one_gone state n)) not
 
     module _ (owners : HasOwners state number chunks) where
       -- A push adds its item to the chunk of the frame that pushes.
       pub matches_push : (value : Value) → next_queue_deed s frame.path frame.deeds ≡ Some (deed.Push queue value) → Matches s (after_deed state n) number queue end (with_item n value chunks)
       matches_push value next =
+          let one = one_changed state n with_deed (λ f. refl) frame live in
           matches_pushed s lawful state (after_deed state n) number queue end n chunks matches
-          (other_owners state (after_deed state n) n chunks (others_changed state n with_deed (λ f. refl)))
-          frame (with_deed frame) live (own_changed state n with_deed (λ f. refl) frame live) (done_deed number frame)
+          (other_owners state (after_deed state n) n (Some (with_deed frame)) chunks one) frame (with_deed frame) live one.changed (done_deed number frame)
           (owns_once state number chunks n owners) value next
 
       -- The end of a frame closes its chunk.
       pub matches_finish : next_queue_deed s frame.path frame.deeds ≡ None → 0 < length (times s frame.path) → Matches s (after_finish state n) number queue end (after_close n chunks)
       matches_finish over some =
           matches_closed s lawful state (after_finish state n) number queue end n frame live over some chunks
-          (other_owners state (after_finish state n) n chunks (others_finished state n)) (owns_once state number chunks n owners) matches
+          (other_owners state (after_finish state n) n None chunks (one_gone state n)) (owns_once state number chunks n owners) matches
 
 -- A pop takes the first item of the first chunk, where no owner before the frame's chunk may pop.
 pub matches_pop : (s : Script) → IsLawful s → (state : QueueState) (number : ℕ) (queue : Origin) (end : ℕ) (first : Chunk) (chunks : Chunks) → Matches s state number queue end (first ∷ chunks)
@@ -161,6 +158,7 @@ pub matches_pop : (s : Script) → IsLawful s → (state : QueueState) (number :
     → NonePops state number (first ∷ chunks) index → next_queue_deed s frame.path frame.deeds ≡ Some (deed.Pop queue) → (value : Value) → slice_get first.items 0 ≡ Some value
     → Matches s (after_deed state n) number queue end (without_first (first ∷ chunks))
 matches_pop s lawful state number queue end first chunks matches owners index n frame owner live pops none next value is =
-    matches_popped s lawful state (after_deed state n) number queue end n frame (with_deed frame) live (own_changed state n with_deed (λ f. refl) frame live) (done_deed number frame) pops next
-    first chunks matches (other_owners state (after_deed state n) n (first ∷ chunks) (others_changed state n with_deed (λ f. refl)))
+    let one = one_changed state n with_deed (λ f. refl) frame live in
+    matches_popped s lawful state (after_deed state n) number queue end n frame (with_deed frame) live one.changed (done_deed number frame) pops next
+    first chunks matches (other_owners state (after_deed state n) n (Some (with_deed frame)) (first ∷ chunks) one)
     (owns_once state number (first ∷ chunks) n owners) index owner none value is

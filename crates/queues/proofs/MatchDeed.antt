@@ -12,7 +12,7 @@ use Rattle.swan_model.specs.Ripe.{is_push_to}
 use Rattle.swan_model.specs.Told.{count, deed_at, is_pop_of, taken}
 use Rattle.swan_model.proofs.ScriptCounts.{count_kept, taken_kept, taken_none}
 use Rattle.queues.specs.Chunks.{Chunks, HasTaken, IsOwner, Matches}
-use Rattle.queues.proofs.MatchOwners.{AreOtherOwners, none_changed, own_same}
+use Rattle.queues.proofs.MatchOwners.{OtherOwnersStay, none_changed, own_same}
 use Rattle.queues.proofs.MatchSame.{CountsSame, PopsSame, counts_itself, matches_same, pops_itself, taken_same}
 use Rattle.queues.proofs.QueuePoints.{moved_counts, next_is}
 
@@ -60,7 +60,7 @@ module _ (s : Script) (lawful : IsLawful s) (number : ℕ) (queue : Origin) (fra
 
 -- Apart from items: where a frame has no chunk of a queue, its deeds leave what is taken.
 module _ (s : Script) (state after : QueueState) (number : ℕ) (queue : Origin) (end n : ℕ) (chunks : Chunks) (at : ℕ) (has : HasTaken s state number queue end chunks at)
-    (others : AreOtherOwners state after n chunks) where
+    (others : OtherOwnersStay state after n chunks) where
   pub taken_unowned : ((index : ℕ) → IsOwner state chunks index n → ⊥) → HasTaken s after number queue end chunks at
   taken_unowned not = taken_same s number queue state after end chunks at has (none_changed state after n chunks others (PopsSame s number queue) (pops_itself s number queue) not)
 
@@ -70,7 +70,7 @@ module _ (s : Script) (state after : QueueState) (number : ℕ) (queue : Origin)
       taken_same s number queue state after end chunks at has (own_same state after n chunks others (PopsSame s number queue) (pops_itself s number queue) frame later live now same)
 
 -- Where a frame has no chunk of a queue, its deeds leave the queue.
-pub matches_unowned : (s : Script) (state after : QueueState) (number : ℕ) (queue : Origin) (end n : ℕ) (chunks : Chunks) → Matches s state number queue end chunks → AreOtherOwners state after n chunks
+pub matches_unowned : (s : Script) (state after : QueueState) (number : ℕ) (queue : Origin) (end n : ℕ) (chunks : Chunks) → Matches s state number queue end chunks → OtherOwnersStay state after n chunks
     → ((index : ℕ) → IsOwner state chunks index n → ⊥) → Matches s after number queue end chunks
 matches_unowned s state after number queue end n chunks matches others not =
     matches_same s number queue state after end chunks matches
@@ -78,7 +78,7 @@ matches_unowned s state after number queue end n chunks matches others not =
     (none_changed state after n chunks others (PopsSame s number queue) (pops_itself s number queue) not)
 
 module _ (s : Script) (lawful : IsLawful s) (state after : QueueState) (number : ℕ) (queue : Origin) (end n : ℕ) (chunks : Chunks) (matches : Matches s state number queue end chunks)
-    (others : AreOtherOwners state after n chunks) (frame later : ActiveFrame) (live : active state n ≡ Some frame) (now : active after n ≡ Some later) where
+    (others : OtherOwnersStay state after n chunks) (frame later : ActiveFrame) (live : active state n ≡ Some frame) (now : active after n ≡ Some later) where
   -- where the frame tells the same as before
   pub matches_told : CountsSame s queue frame later → PopsSame s number queue frame later → Matches s after number queue end chunks
   matches_told counts pops =

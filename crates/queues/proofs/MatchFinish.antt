@@ -12,7 +12,7 @@ use Rattle.swan_model.specs.Told.{taken}
 use Rattle.queues.specs.Chunks.{Chunk, Chunks, HasItems, HasTaken, Matches, after_close, goes_on_at, goes_on_popping, owner_of, pops_at}
 use Rattle.queues.specs.Chunks.HasItems.{chunk as items_chunk}
 use Rattle.queues.specs.Chunks.HasTaken.{chunk as taken_chunk}
-use Rattle.queues.proofs.MatchOwners.{Alters, AreOtherOwners, IsOnce, items_altered, taken_altered}
+use Rattle.queues.proofs.MatchOwners.{Alters, OtherOwnersStay, IsOnce, items_altered, taken_altered}
 use Rattle.queues.proofs.MatchParts.{ItemsFrom, TakenFrom, owner_at, upto_is}
 use Rattle.queues.proofs.QueuePoints.{ended_counts}
 
@@ -53,7 +53,7 @@ module _ (s : Script) (lawful : IsLawful s) (state after : QueueState) (number :
       by true mine = sym (ended_counts s lawful queue frame.path frame.deeds over some).takes ∙ sym (mine refl)
       by false mine = refl
 
-  module _ (chunks : Chunks) (others : AreOtherOwners state after n chunks) (once : IsOnce n chunks) where
+  module _ (chunks : Chunks) (others : OtherOwnersStay state after n chunks) (once : IsOnce n chunks) where
     -- what is taken, apart from items
     pub taken_finish : (at : ℕ) → HasTaken s state number queue end chunks at → HasTaken s after number queue end (after_close n chunks) at
     taken_finish at has = taken_altered s state after number queue end n (after_close n) left_by (closes n) chunks at has others once taken_closed

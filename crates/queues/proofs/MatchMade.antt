@@ -19,12 +19,11 @@ use Rattle.swan_model.proofs.ScriptCounts.{count_le, count_made}
 use Rattle.queues.specs.Chunks.{HasTaken, Matches, goes_on_at, goes_on_popping, ends_at, own, owner_of, pops_at}
 use Rattle.queues.specs.Chunks.HasItems.{over as items_over, chunk as items_chunk}
 use Rattle.queues.specs.Chunks.HasTaken.{over as taken_over, chunk as taken_chunk}
-use Rattle.queues.proofs.ActiveAfter.{own_changed}
+use Rattle.queues.proofs.ActiveAfter.{one_changed, one_goes_on}
 use Rattle.queues.proofs.Between.{Comes, is_queue_deed_of, point_left, to_queue_point}
 use Rattle.queues.proofs.Making.{holds_made}
 use Rattle.queues.proofs.QueuePoints.{IsSame, moved_counts, next_is, still_same}
 use Rattle.queues.proofs.Segments.{segment, segment_front, segment_none, take_none}
-use Rattle.queues.proofs.Frames.{active_number}
 
 module _ (s : Script) (state : QueueState) (number : ℕ) (queue : Origin) (n : ℕ) (frame : ActiveFrame) (first : List Value) (live : active state n ≡ Some frame) where
   -- the only chunk of a queue, of its maker, from which nothing was popped yet
@@ -74,7 +73,7 @@ module _ (s : Script) (lawful : IsLawful s) where
       let later = with_made i root in
       let none : taken_at s later (Root i) ≡ 0 = ap (taken s (Root i)) (root_point root i path deeds) ∙ (root_still (Root i)).takes in
       subst (λ p. HasTaken s (after_create_root state) i (Root i) (end_time s p) (own 0 items ∷ []) 0) path
-      (first_taken s (after_create_root state) i (Root i) 0 later items (own_changed state 0 (with_made i) (λ f. refl) root live) (sym none) (holds_made root i Pop refl))
+      (first_taken s (after_create_root state) i (Root i) 0 later items (one_changed state 0 (with_made i) (λ f. refl) root live).changed (sym none) (holds_made root i Pop refl))
 
   -- A root queue begins with its first items, in a chunk of the root.
   pub matches_root : (state : QueueState) (root : ActiveFrame) (first : List Value) → active state 0 ≡ Some root → root.path ≡ [] → root.deeds ≡ 0 → slice_get s.queues (length state.makers) ≡ Some first
@@ -83,7 +82,7 @@ module _ (s : Script) (lawful : IsLawful s) where
       let i = length state.makers in
       let queue = Root i in
       let later = with_made i root in
-      let now : active (after_create_root state) 0 ≡ Some later = own_changed state 0 (with_made i) (λ f. refl) root live in
+      let now : active (after_create_root state) 0 ≡ Some later = (one_changed state 0 (with_made i) (λ f. refl) root live).changed in
       let items : first_items s queue ≡ first = ap (λ o. unwrap_or o []) plan in
       let point = root_point root i path deeds in
       let still = root_still queue in
@@ -104,16 +103,12 @@ module _ (s : Script) (lawful : IsLawful s) where
       let i = length state.makers in
       let t = queue_time s frame.path frame.deeds in
       let queue = Step t in
-      let after = after_create state frame in
-      let later = with_deed (with_made i frame) in
-      let mine = active_number state n frame live in
-      let there : active after frame.number ≡ Some later = own_changed state frame.number (λ f. with_deed (with_made i f)) (λ f. refl) frame (ap (active state) mine ∙ live) in
       let is = next_is s frame.path frame.deeds deed.MakeQueue next in
       let here : queue_point s frame.path frame.deeds ≡ t = point_left s frame.path frame.deeds is.left in
       let made = count_made s lawful t (ap (deed_at s) (sym here) ∙ is.does) in
       let moved = moved_counts s lawful queue frame.path frame.deeds deed.MakeQueue next refl in
       record {
-        now = ap (active after) (sym mine) ∙ there;
+        now = (one_goes_on state n frame (λ f. with_deed (with_made i f)) (λ f. refl) live).changed;
         counts = moved.counts ∙ ap (λ k. count s queue (k + 1)) here ∙ made.0;
         takes = moved.takes ∙ ap (λ k. taken s queue (k + 1)) here ∙ made.1;
       }

@@ -10,7 +10,7 @@ use Rattle.swan_model.specs.QueueState.{ActiveFrame, QueueState, active}
 use Rattle.queues.specs.Chunks.{Chunk, Chunks, HasItems, HasOwners, HasTaken, IsOwner, ends_at, goes_on_at, goes_on_popping, is_owned, owner_of, pops_at}
 use Rattle.queues.specs.Chunks.HasItems.{over as items_over, chunk as items_chunk}
 use Rattle.queues.specs.Chunks.HasTaken.{over as taken_over, chunk as taken_chunk}
-use Rattle.queues.proofs.ActiveAfter.{AreOthers}
+use Rattle.queues.specs.OneChange.{IsOnlyChange}
 use Rattle.queues.proofs.MatchParts.{ItemsFrom, TakenFrom, owner_at}
 use Rattle.queues.proofs.MatchSame.{AreSame, Tell, counts_itself, items_same, pops_itself, taken_same, tell_equal}
 
@@ -31,14 +31,14 @@ abbrev pub IsOnce : ℕ → Chunks → Type 0
 IsOnce n chunks = (i j : ℕ) (a b : Chunk) → slice_get chunks i ≡ Some a → slice_get chunks j ≡ Some b → a.owner ≡ Some n → b.owner ≡ Some n → i ≡ j
 
 -- the owners of the chunks that aren't this frame's are as they were
-abbrev pub AreOtherOwners : QueueState → QueueState → ℕ → Chunks → Type 0
-AreOtherOwners state after n chunks = (index : ℕ) (chunk : Chunk) → slice_get chunks index ≡ Some chunk → (chunk.owner ≡ Some n → ⊥) → owner_of after chunk ≡ owner_of state chunk
+abbrev pub OtherOwnersStay : QueueState → QueueState → ℕ → Chunks → Type 0
+OtherOwnersStay state after n chunks = (index : ℕ) (chunk : Chunk) → slice_get chunks index ≡ Some chunk → (chunk.owner ≡ Some n → ⊥) → owner_of after chunk ≡ owner_of state chunk
 
-pub other_owners : (state after : QueueState) (n : ℕ) (chunks : Chunks) → AreOthers state after n → AreOtherOwners state after n chunks
-other_owners state after n chunks others index chunk stands not = by chunk.owner (owner_cases n chunk.owner not) where
+pub other_owners : (state after : QueueState) (n : ℕ) (now : Option ActiveFrame) (chunks : Chunks) → IsOnlyChange (active state) (active after) n now → OtherOwnersStay state after n chunks
+other_owners state after n now chunks one index chunk stands not = by chunk.owner (owner_cases n chunk.owner not) where
   by : (owner : Option ℕ) → ((m : ℕ) → owner ≡ Some m → m ≡ n → ⊥) → option_and_then (active after) owner ≡ option_and_then (active state) owner
   by None differ = refl
-  by (Some m) differ = others m (differ m refl)
+  by (Some m) differ = one.others m (differ m refl)
 
 not_itself : (path : List ℕ) → comes_before path path ≡ false
 not_itself [] = refl
@@ -60,7 +60,7 @@ owns_once state queue chunks n has i j a b first second owns too =
     ]
 
 -- Where the frame's own chunk is as it was too, each owner tells the same.
-module _ (state after : QueueState) (n : ℕ) (chunks : Chunks) (others : AreOtherOwners state after n chunks) (Same : ActiveFrame → ActiveFrame → Type 0) (itself : (a : ActiveFrame) → Same a a) where
+module _ (state after : QueueState) (n : ℕ) (chunks : Chunks) (others : OtherOwnersStay state after n chunks) (Same : ActiveFrame → ActiveFrame → Type 0) (itself : (a : ActiveFrame) → Same a a) where
   pub none_changed : ((index : ℕ) → IsOwner state chunks index n → ⊥) → AreSame state after Same chunks
   none_changed not index chunk stands =
       tell_equal Same itself (owner_of state chunk) (owner_of after chunk) (others index chunk stands (λ owns. not index (record { chunk = chunk; stands = stands; owns = owns })))
@@ -81,22 +81,22 @@ pub record Alters (n : ℕ) (alter : Chunks → Chunks) (make : Chunk → Chunks
   pub other : (first : Chunk) (chunks : Chunks) → is_owned n first ≡ false → alter (first ∷ chunks) ≡ first ∷ alter chunks
 
 module _ (s : Script) (state after : QueueState) (number : ℕ) (queue : Origin) (end n : ℕ) (alter : Chunks → Chunks) (make : Chunk → Chunks → Chunks) (alters : Alters n alter make) where
-  rest_others : (first : Chunk) (chunks : Chunks) → AreOtherOwners state after n (first ∷ chunks) → AreOtherOwners state after n chunks
+  rest_others : (first : Chunk) (chunks : Chunks) → OtherOwnersStay state after n (first ∷ chunks) → OtherOwnersStay state after n chunks
   rest_others first chunks others index chunk stands not = others (suc index) chunk stands not
 
   rest_once : (first : Chunk) (chunks : Chunks) → IsOnce n (first ∷ chunks) → IsOnce n chunks
   rest_once first chunks once i j a b one two owns too = let same = once (suc i) (suc j) a b one two owns too in omega arith
 
   -- behind the frame's chunk stand those of others
-  behind : (Same : ActiveFrame → ActiveFrame → Type 0) → ((a : ActiveFrame) → Same a a) → (first : Chunk) (chunks : Chunks) → AreOtherOwners state after n (first ∷ chunks) → IsOnce n (first ∷ chunks) → first.owner ≡ Some n
+  behind : (Same : ActiveFrame → ActiveFrame → Type 0) → ((a : ActiveFrame) → Same a a) → (first : Chunk) (chunks : Chunks) → OtherOwnersStay state after n (first ∷ chunks) → IsOnce n (first ∷ chunks) → first.owner ≡ Some n
       → AreSame state after Same chunks
   behind Same itself first chunks others once owns =
       none_changed state after n chunks (rest_others first chunks others) Same itself (λ index is. let same = once 0 (suc index) first is.chunk refl is.stands owns is.owns in absurd (omega arith))
 
-  not_mine : (first : Chunk) (chunks : Chunks) → AreOtherOwners state after n (first ∷ chunks) → is_owned n first ≡ false → owner_of after first ≡ owner_of state first
+  not_mine : (first : Chunk) (chunks : Chunks) → OtherOwnersStay state after n (first ∷ chunks) → is_owned n first ≡ false → owner_of after first ≡ owner_of state first
   not_mine first chunks others other = others 0 first refl (λ owns. both_ways (is_owned n first) other (is_owner n first owns))
 
-  pub items_altered : (chunks : Chunks) (at : ℕ) → HasItems s state queue end chunks at → AreOtherOwners state after n chunks → IsOnce n chunks
+  pub items_altered : (chunks : Chunks) (at : ℕ) → HasItems s state queue end chunks at → OtherOwnersStay state after n chunks → IsOnce n chunks
       → ((first : Chunk) (rest : Chunks) (at : ℕ) → first.owner ≡ Some n → (parts : ItemsFrom s state number queue end first rest at)
       → HasItems s after queue end rest (goes_on_at s queue (owner_of state first) parts.upto) → HasItems s after queue end (make first rest) at)
       → HasItems s after queue end (alter chunks) at
@@ -117,7 +117,7 @@ module _ (s : Script) (state after : QueueState) (number : ℕ) (queue : Origin)
         (items_chunk first (alter chunks) at upto order within content (subst (λ o. ends_at s queue o upto) (sym same) ends) on)
   ]
 
-  pub taken_altered : (chunks : Chunks) (at : ℕ) → HasTaken s state number queue end chunks at → AreOtherOwners state after n chunks → IsOnce n chunks
+  pub taken_altered : (chunks : Chunks) (at : ℕ) → HasTaken s state number queue end chunks at → OtherOwnersStay state after n chunks → IsOnce n chunks
       → ((first : Chunk) (rest : Chunks) (at : ℕ) → first.owner ≡ Some n → (parts : TakenFrom s state number queue end first rest at)
       → HasTaken s after number queue end rest (goes_on_popping s number queue (owner_of state first) at) → HasTaken s after number queue end (make first rest) at)
       → HasTaken s after number queue end (alter chunks) at

@@ -18,7 +18,7 @@ use Rattle.queues.specs.Chunks.HasTaken.{chunk as taken_chunk}
 use Rattle.swan_model.proofs.Elements.{some_same}
 use Rattle.queues.proofs.MatchDeed.{HasDone, counts_stay, does, takes_later}
 use Rattle.queues.proofs.MatchFront.{as_left, holds_now}
-use Rattle.queues.proofs.MatchOwners.{AreOtherOwners, IsOnce, none_changed, own_same}
+use Rattle.queues.proofs.MatchOwners.{OtherOwnersStay, IsOnce, none_changed, own_same}
 use Rattle.queues.proofs.MatchParts.{NonePops, first_pops_none, items_from, owner_at, pops_on, rest_pops_none, taken_from}
 use Rattle.queues.proofs.MatchSame.{CountsSame, counts_itself, items_same, pops_itself, PopsSame, taken_same}
 use Rattle.queues.proofs.Segments.{segment_first, segment_rest}
@@ -27,7 +27,7 @@ module _ (s : Script) (state after : QueueState) (number : ℕ) (queue : Origin)
     (path : later.path ≡ frame.path) (may : holds_queue later number Pop ≡ holds_queue frame number Pop) (pops : holds_queue frame number Pop ≡ true) where
   -- Where the first owner that may pop goes on, behind its chunk as much was popped as before, and up to it as much as by
   -- its point then.
-  pub taken_moved : (chunks : Chunks) (at to index : ℕ) → HasTaken s state number queue end chunks at → AreOtherOwners state after n chunks → IsOnce n chunks → IsOwner state chunks index n → NonePops state number chunks index
+  pub taken_moved : (chunks : Chunks) (at to index : ℕ) → HasTaken s state number queue end chunks at → OtherOwnersStay state after n chunks → IsOnce n chunks → IsOwner state chunks index n → NonePops state number chunks index
       → taken_at s later queue ≡ to → HasTaken s after number queue end chunks to
   taken_moved [] at to index has others once own none is_at = absurd (cc (own.stands))
   taken_moved (first ∷ chunks) at to zero has others once own none is_at =
@@ -66,7 +66,7 @@ module _ (s : Script) (state after : QueueState) (number : ℕ) (queue : Origin)
 module _ (s : Script) (lawful : IsLawful s) (state after : QueueState) (number : ℕ) (queue : Origin) (end n : ℕ)
     (frame later : ActiveFrame) (live : active state n ≡ Some frame) (now : active after n ≡ Some later) (done : HasDone number frame later)
     (pops : holds_queue frame number Pop ≡ true) (next : next_queue_deed s frame.path frame.deeds ≡ Some (deed.Pop queue)) where
-  module _ (first : Chunk) (chunks : Chunks) (matches : Matches s state number queue end (first ∷ chunks)) (others : AreOtherOwners state after n (first ∷ chunks)) (once : IsOnce n (first ∷ chunks)) (index : ℕ)
+  module _ (first : Chunk) (chunks : Chunks) (matches : Matches s state number queue end (first ∷ chunks)) (others : OtherOwnersStay state after n (first ∷ chunks)) (once : IsOnce n (first ∷ chunks)) (index : ℕ)
       (owner : IsOwner state (first ∷ chunks) index n) (none : NonePops state number (first ∷ chunks) index) (value : Value) (is : slice_get first.items 0 ≡ Some value) where
     more_taken : taken_at s later queue ≡ matches.left + 1
     more_taken =

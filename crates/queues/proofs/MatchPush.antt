@@ -15,7 +15,7 @@ use Rattle.swan_model.proofs.ScriptCounts.{count_le, count_rises}
 use Rattle.queues.specs.Chunks.{Chunk, Chunks, HasItems, HasTaken, Matches, ends_at, goes_on_at, goes_on_popping, owner_of, pops_at, with_item}
 use Rattle.queues.specs.Chunks.HasItems.{chunk as items_chunk}
 use Rattle.queues.specs.Chunks.HasTaken.{chunk as taken_chunk}
-use Rattle.queues.proofs.MatchOwners.{Alters, AreOtherOwners, IsOnce, items_altered, taken_altered}
+use Rattle.queues.proofs.MatchOwners.{Alters, OtherOwnersStay, IsOnce, items_altered, taken_altered}
 use Rattle.queues.proofs.MatchParts.{ItemsFrom, TakenFrom, owner_at, upto_is}
 use Rattle.queues.proofs.MatchSame.{PopsSame}
 use Rattle.queues.proofs.Segments.{segment_more}
@@ -25,7 +25,7 @@ abbrev pushed_to : Value → Chunk → Chunks → Chunks
 pushed_to value first rest = record { owner = first.owner; items = first.items ++ value ∷ [] } ∷ rest
 
 module _ (s : Script) (lawful : IsLawful s) (state after : QueueState) (number : ℕ) (queue : Origin) (end n : ℕ) (chunks : Chunks) (matches : Matches s state number queue end chunks)
-    (others : AreOtherOwners state after n chunks) (frame later : ActiveFrame) (live : active state n ≡ Some frame) (now : active after n ≡ Some later) (done : HasDone number frame later) where
+    (others : OtherOwnersStay state after n chunks) (frame later : ActiveFrame) (live : active state n ≡ Some frame) (now : active after n ≡ Some later) (done : HasDone number frame later) where
   module _ (once : IsOnce n chunks) (value : Value) (next : next_queue_deed s frame.path frame.deeds ≡ Some (deed.Push queue value)) where
     pushes_there : Alters n (with_item n value) (pushed_to value)
     pushes_there =

@@ -30,7 +30,7 @@ use Rattle.queues.proofs.Frames.{has_held, some_mode}
 use Rattle.queues.proofs.Given.{child_rights}
 use Rattle.queues.proofs.Gives.{gives_held}
 use Rattle.queues.proofs.Lineage.{spawns_by}
-use Rattle.queues.proofs.MatchOwners.{Alters, AreOtherOwners, items_altered, owns_once, taken_altered}
+use Rattle.queues.proofs.MatchOwners.{Alters, OtherOwnersStay, items_altered, owns_once, taken_altered}
 use Rattle.queues.proofs.MatchParts.{ItemsFrom, TakenFrom, owner_at, upto_is}
 use Rattle.queues.proofs.MatchDeed.{matches_told, matches_unowned, taken_told, taken_unowned}
 use Rattle.queues.proofs.MatchSame.{PopsSame}
@@ -169,7 +169,7 @@ module _ (s : Script) (lawful : IsLawful s) (state : QueueState) (follows : Queu
           (subst (λ o. HasTaken s after number queue end (own n [] ∷ rest) (goes_on_popping s number queue o at)) (sym its) behind)
 
   module _ (end : ℕ) (chunks : Chunks) (owners : HasOwners state number chunks) where
-    others : AreOtherOwners state (after_spawn state frame c gives) n chunks
+    others : OtherOwnersStay state (after_spawn state frame c gives) n chunks
     others index chunk stands not = by chunk.owner refl where
       by : (owner : Option ℕ) → chunk.owner ≡ owner → owner_of (after_spawn state frame c gives) (record { owner = owner; items = chunk.items }) ≡ owner_of state (record { owner = owner; items = chunk.items })
       by None is = refl

@@ -1,5 +1,5 @@
 -- What has left a queue goes on with the calls, apart from its items.
-use Rattle.std.proofs.Common.{◌≡◌, ◌≢◌, inl, inr, ℕ, zero, suc, ◌+◌, ◌-◌, ◌<◌, ◌≤◌, true, false, None, Some, List, length, refl, sym, ap, subst, ◌∙◌, arith}
+use Rattle.std.proofs.Common.{◌≡◌, ◌≢◌, ℕ, zero, suc, ◌+◌, ◌-◌, ◌<◌, ◌≤◌, true, false, None, Some, List, length, refl, sym, ap, ◌∙◌, arith}
 use Rattle.std.proofs.lemmas.Bool.{false_from_ne_true}
 use Rattle.swan_model.specs.declared.origin.Origin.{Origin}
 use Rattle.swan_model.specs.declared.rights.Mode.TheVariants.{Pop}
@@ -18,8 +18,7 @@ use Rattle.swan_model.proofs.ScriptCounts.{taken_kept, taken_rises}
 use Rattle.queues.specs.Chunks.{Chunks, HasOwners, HasTaken, IsOwner, after_close}
 use Rattle.queues.specs.Tells.{FindsItem, FindsNone}
 use Rattle.queues.specs.Tree.{has_queue}
-use Rattle.queues.proofs.ActiveAfter.{others_changed, others_finished, own_changed}
-use Rattle.queues.proofs.Frames.{active_number}
+use Rattle.queues.proofs.ActiveAfter.{one_changed, one_goes_on, one_gone}
 use Rattle.queues.proofs.Making.{holds_before}
 use Rattle.queues.proofs.MatchDeed.{HasDone, does, done_deed, pops_stay, taken_told, taken_unowned, takes_later}
 use Rattle.queues.proofs.MatchFinish.{taken_finish}
@@ -89,8 +88,8 @@ module _ (s : Script) (state : QueueState) (number : ℕ) (queue : Origin) (end 
   taken_root_aside root live old =
       let made = length state.makers in
       let after = after_create_root state in
-      taken_told s state after number queue end 0 chunks at has (other_owners state after 0 chunks (others_changed state 0 (with_made made) (λ f. refl))) root (with_made made root) live
-      (own_changed state 0 (with_made made) (λ f. refl) root live) (record { path = refl; takes = refl; pops = holds_before root made number Pop old })
+      let one = one_changed state 0 (with_made made) (λ f. refl) root live in
+      taken_told s state after number queue end 0 chunks at has (other_owners state after 0 (Some (with_made made root)) chunks one) root (with_made made root) live one.changed (record { path = refl; takes = refl; pops = holds_before root made number Pop old })
 
 module _ (s : Script) (state : QueueState) (number : ℕ) (queue : Origin) (end at n : ℕ) (frame : ActiveFrame) (live : active state n ≡ Some frame) (chunks : Chunks)
     (has : HasTaken s state number queue end chunks at) where
@@ -99,10 +98,9 @@ module _ (s : Script) (state : QueueState) (number : ℕ) (queue : Origin) (end 
       let made = length state.makers in
       let after = after_create state frame in
       let change : ActiveFrame → ActiveFrame = λ f. with_deed (with_made made f) in
-      let mine = ap (active state) (active_number state n frame live) ∙ live in
+      let one = one_goes_on state n frame change (λ f. refl) live in
       let done : HasDone number frame (change frame) = record { path = refl; deeds = refl; pops = holds_before frame made number Pop old } in
-      taken_told s state after number queue end frame.number chunks at has (other_owners state after frame.number chunks (others_changed state frame.number change (λ f. refl)))
-      frame (change frame) mine (own_changed state frame.number change (λ f. refl) frame mine)
+      taken_told s state after number queue end n chunks at has (other_owners state after n (Some (change frame)) chunks one) frame (change frame) live one.changed
       (pops_stay s lawful number queue frame (change frame) done deed.MakeQueue next refl (λ pops. absurd (cc)))
 
   -- a deed by which nothing leaves the queue
@@ -110,17 +108,16 @@ module _ (s : Script) (state : QueueState) (number : ℕ) (queue : Origin) (end 
       → HasTaken s (after_deed state n) number queue end chunks at
   taken_deed lawful d next quiet none =
       let after = after_deed state n in
-      taken_told s state after number queue end n chunks at has (other_owners state after n chunks (others_changed state n with_deed (λ f. refl)))
-      frame (with_deed frame) live (own_changed state n with_deed (λ f. refl) frame live)
+      let one = one_changed state n with_deed (λ f. refl) frame live in
+      taken_told s state after number queue end n chunks at has (other_owners state after n (Some (with_deed frame)) chunks one) frame (with_deed frame) live one.changed
       (pops_stay s lawful number queue frame (with_deed frame) (done_deed number frame) d next quiet (λ pops. none (pop_is queue d pops)))
 
   pub taken_lend : (ends : List LentEnd) → HasTaken s (after_lend state frame ends) number queue end chunks at
   taken_lend ends =
       let change : ActiveFrame → ActiveFrame = λ f. record f { lent = Some (record { deeds = frame.deeds; ends = ends }) } in
       let after = after_lend state frame ends in
-      let mine = ap (active state) (active_number state n frame live) ∙ live in
-      taken_told s state after number queue end frame.number chunks at has (other_owners state after frame.number chunks (others_changed state frame.number change (λ f. refl)))
-      frame (change frame) mine (own_changed state frame.number change (λ f. refl) frame mine) (record { path = refl; takes = refl; pops = refl })
+      let one = one_goes_on state n frame change (λ f. refl) live in
+      taken_told s state after number queue end n chunks at has (other_owners state after n (Some (change frame)) chunks one) frame (change frame) live one.changed (record { path = refl; takes = refl; pops = refl })
 
   -- ends that come back, by which nothing left the queue
   pub taken_back_aside : IsLawful s → (deeds : ℕ) → AreByEnds s frame.path frame.deeds deeds → ((k : ℕ) → frame.deeds ≤ k → k < deeds → next_queue_deed s frame.path k ≢ Some (deed.Pop queue))
@@ -128,14 +125,14 @@ module _ (s : Script) (state : QueueState) (number : ℕ) (queue : Origin) (end 
   taken_back_aside lawful deeds are none =
       let change : ActiveFrame → ActiveFrame = λ f. record f { deeds = deeds; lent = None } in
       let after = after_back state n deeds in
-      taken_told s state after number queue end n chunks at has (other_owners state after n chunks (others_changed state n change (λ f. refl)))
-      frame (change frame) live (own_changed state n change (λ f. refl) frame live)
+      let one = one_changed state n change (λ f. refl) frame live in
+      taken_told s state after number queue end n chunks at has (other_owners state after n (Some (change frame)) chunks one) frame (change frame) live one.changed
       (record { path = refl; takes = taken_by_ends s lawful queue frame.path frame.deeds deeds are none; pops = refl })
 
   pub taken_end_aside : HasOwners state number chunks → has_queue frame number ≡ false → HasTaken s (after_finish state n) number queue end chunks at
   taken_end_aside owners lacks =
       let after = after_finish state n in
-      taken_unowned s state after number queue end n chunks at has (other_owners state after n chunks (others_finished state n)) (λ index is.
+      taken_unowned s state after number queue end n chunks at has (other_owners state after n None chunks (one_gone state n)) (λ index is.
       let owner = owners.owners index n is in
       let same : owner.0 ≡ frame = some_same owner.0 frame (sym owner.1 ∙ live) in
       let both : true ≡ false = sym owner.2 ∙ ap (λ f. has_queue f number) same ∙ lacks in
@@ -154,8 +151,9 @@ module _ (s : Script) (state : QueueState) (number : ℕ) (queue : Origin) (end 
         let rises = taken_rises s queue (queue_point s frame.path frame.deeds) (does s lawful number queue frame later done (deed.Pop queue) next refl) finds in
         let takes = takes_later s lawful number queue frame later done (deed.Pop queue) next refl in
         let here = taken_at_point in
-        taken_moved s state after number queue end n frame later live (own_changed state n with_deed (λ f. refl) frame live) refl refl pops chunks at (at + 1) index has
-        (other_owners state after n chunks (others_changed state n with_deed (λ f. refl))) (owns_once state number chunks n owners) own none
+        let one = one_changed state n with_deed (λ f. refl) frame live in
+        taken_moved s state after number queue end n frame later live one.changed refl refl pops chunks at (at + 1) index has
+        (other_owners state after n (Some later) chunks one) (owns_once state number chunks n owners) own none
         (omega (arith, here, rises, takes))
 
     -- ends that come back, by which the frame may have popped
@@ -163,11 +161,12 @@ module _ (s : Script) (state : QueueState) (number : ℕ) (queue : Origin) (end 
     taken_back owners deeds =
         let change : ActiveFrame → ActiveFrame = λ f. record f { deeds = deeds; lent = None } in
         let after = after_back state n deeds in
-        taken_moved s state after number queue end n frame (change frame) live (own_changed state n change (λ f. refl) frame live) refl refl pops chunks at (taken s queue (queue_point s frame.path deeds)) index has
-        (other_owners state after n chunks (others_changed state n change (λ f. refl))) (owns_once state number chunks n owners) own none refl
+        let one = one_changed state n change (λ f. refl) frame live in
+        taken_moved s state after number queue end n frame (change frame) live one.changed refl refl pops chunks at (taken s queue (queue_point s frame.path deeds)) index has
+        (other_owners state after n (Some (change frame)) chunks one) (owns_once state number chunks n owners) own none refl
 
   pub taken_end : IsLawful s → HasOwners state number chunks → next_queue_deed s frame.path frame.deeds ≡ None → 0 < length (times s frame.path)
       → HasTaken s (after_finish state n) number queue end (after_close n chunks) at
   taken_end lawful owners over some =
       taken_finish s lawful state (after_finish state n) number queue end n frame live over some chunks
-      (other_owners state (after_finish state n) n chunks (others_finished state n)) (owns_once state number chunks n owners) at has
+      (other_owners state (after_finish state n) n None chunks (one_gone state n)) (owns_once state number chunks n owners) at has

@@ -9,7 +9,7 @@ use Rattle.pop_order.proofs.Flags.{and_both}
 use Rattle.pop_order.specs.Frames.{Frame, Frames, frame_at, without, HasNoChild}
 use Rattle.swan_model.specs.QueueState.{QueueMaker, QueueState, active, IsActiveChild}
 use Rattle.queues.specs.Turned.{AreApart, AreTurns}
-use Rattle.queues.proofs.ActiveAfter.{AreOthers}
+use Rattle.queues.specs.OneChange.{IsOnlyChange}
 use Rattle.swan_model.proofs.Lookups.{tied, untied, equal_at}
 
 gone_at : (es : Frames) (k : ℕ) → AreApart es → frame_at (without es k) k ≡ None
@@ -63,18 +63,18 @@ pub turns_childless : (state : QueueState) (turns : Frames) (n : ℕ) → AreTur
 turns_childless state turns n is alone = no_child turns n is.apart (λ m turn at of.
     let was = is.known m turn at in alone m (record { frame = was.0; live = was.1; of = was.2 ∙ ap Some of }))
 
-pub turns_gone : (state after : QueueState) (turns : Frames) (n : ℕ) → AreOthers state after n → active after n ≡ None → after.makers ≡ state.makers → AreTurns state turns
+pub turns_gone : (state after : QueueState) (turns : Frames) (n : ℕ) → IsOnlyChange (active state) (active after) n None → after.makers ≡ state.makers → AreTurns state turns
     → AreTurns after (without turns n)
-turns_gone state after turns n others gone makers is = record {
+turns_gone state after turns n one makers is = record {
   apart = apart_gone turns n is.apart;
   known = λ m turn at. elim (cases_eq m n) [
     | inl here ↦ let never : None ≡ Some turn = sym (gone_at turns n is.apart) ∙ ap (λ k. frame_at (without turns n) k) (sym here) ∙ at in absurd (cc)
-    | inr other ↦ let was = is.known m turn (sym (gone_by turns n m other) ∙ at) in (was.0, others m other ∙ was.1, was.2, was.3)
+    | inr other ↦ let was = is.known m turn (sym (gone_by turns n m other) ∙ at) in (was.0, one.others m other ∙ was.1, was.2, was.3)
   ];
   all = λ m parent queue mode frame live of held apart. elim (cases_eq m n) [
-    | inl here ↦ let never : None ≡ Some frame = sym gone ∙ ap (active after) (sym here) ∙ live in absurd (cc)
+    | inl here ↦ let never : None ≡ Some frame = sym one.changed ∙ ap (active after) (sym here) ∙ live in absurd (cc)
     | inr other ↦
-        let turn = is.all m parent queue mode frame (sym (others m other) ∙ live) of held
+        let turn = is.all m parent queue mode frame (sym (one.others m other) ∙ live) of held
         (λ maker made. apart maker (ap (λ (ms : List QueueMaker). slice_get ms queue) makers ∙ made)) in
         (turn.0, gone_by turns n m other ∙ turn.1, turn.2, turn.3)
   ];

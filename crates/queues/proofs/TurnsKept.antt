@@ -9,21 +9,21 @@ use Rattle.swan_model.specs.QueueState.{ActiveFrame, QueueMaker, QueueRight, Que
 use Rattle.queues.specs.Tree.{IsTree, has_queue, maker_path}
 use Rattle.queues.specs.Turned.{AreTurns}
 use Rattle.queues.proofs.Above.{under_maker}
-use Rattle.queues.proofs.Alike.{AreAlike, alike_back, alike_on}
+use Rattle.queues.proofs.SameHolders.{AreSameHolders, holder_after, holder_before}
 use Rattle.queues.proofs.Frames.{same_frame}
 
 rights_hold : (frame now : ActiveFrame) (queue : ℕ) (mode : Mode) → now.rights ≡ frame.rights → holds_queue now queue mode ≡ holds_queue frame queue mode
 rights_hold frame now queue mode same = ap (λ (rights : List QueueRight). holds_queue (record frame { rights = rights }) queue mode) same
 
-pub turns_alike : (state after : QueueState) (turns : Frames) → AreAlike state after → after.makers ≡ state.makers → AreTurns state turns → AreTurns after turns
-turns_alike state after turns alike makers is = record {
+pub turns_held : (state after : QueueState) (turns : Frames) → AreSameHolders state after → after.makers ≡ state.makers → AreTurns state turns → AreTurns after turns
+turns_held state after turns holders makers is = record {
   apart = is.apart;
   known = λ n turn at.
       let was = is.known n turn at in
-      let now = alike_on (active state n) (active after n) was.0 (alike n) was.1 in
+      let now = holder_after (active state n) (active after n) was.0 (holders n) was.1 in
       (now.0, now.1, now.2.parent ∙ was.2, λ queue mode held. rights_hold was.0 now.0 queue mode now.2.rights ∙ was.3 queue mode held);
   all = λ n parent queue mode now live of held apart.
-      let was = alike_back (active state n) (active after n) now (alike n) live in
+      let was = holder_before (active state n) (active after n) now (holders n) live in
       is.all n parent queue mode was.0 was.1 (sym was.2.parent ∙ of) (sym (rights_hold was.0 now queue mode was.2.rights) ∙ held)
       (λ maker made same. apart maker (ap (λ (ms : List QueueMaker). slice_get ms queue) makers ∙ made) (was.2.path ∙ same));
 }

@@ -1,5 +1,5 @@
 -- The turns of poppers say the same of the state once a frame has made a queue.
-use Rattle.std.proofs.Common.{◌≡◌, ℕ, true, Some, List, [], ◌∷◌, ◌++◌, length, refl, sym, ap, subst, ◌∙◌, inl, inr}
+use Rattle.std.proofs.Common.{◌≡◌, ℕ, true, Some, List, [], ◌∷◌, ◌++◌, length, refl, sym, ap, ◌∙◌, inl, inr}
 use Rattle.std.proofs.lemmas.Bool.{cases_eq}
 use Rattle.std.specs.Prelude.{slice_get}
 use Rattle.pop_order.specs.Frames.{Frames}
@@ -9,13 +9,14 @@ use Rattle.swan_model.proofs.Elements.{last_more}
 use Rattle.queues.specs.Asks.{MayDo}
 use Rattle.queues.specs.Tree.{IsTree, maker_path}
 use Rattle.queues.specs.Turned.{AreTurns}
-use Rattle.queues.proofs.ActiveAfter.{AreOthers, others_changed, own_changed}
-use Rattle.queues.proofs.Frames.{active_number, has_held, same_frame}
+use Rattle.queues.specs.OneChange.{IsOnlyChange}
+use Rattle.queues.proofs.ActiveAfter.{one_changed, one_goes_on}
+use Rattle.queues.proofs.Frames.{has_held, same_frame}
 use Rattle.queues.proofs.FramesChanged.{get_front}
 use Rattle.queues.proofs.Making.{holds_before, holds_cases}
 
 module _ (state : QueueState) (tree : IsTree state) (turns : Frames) (is : AreTurns state turns) where
-  module _ (after : QueueState) (n : ℕ) (frame later : ActiveFrame) (maker : QueueMaker) (live : active state n ≡ Some frame) (now : active after n ≡ Some later) (others : AreOthers state after n)
+  module _ (after : QueueState) (n : ℕ) (frame later : ActiveFrame) (maker : QueueMaker) (live : active state n ≡ Some frame) (one : IsOnlyChange (active state) (active after) n (Some later))
       (makers : after.makers ≡ state.makers ++ maker ∷ []) (parent : later.parent ≡ frame.parent) (path : later.path ≡ frame.path) (rights : later.rights ≡ (with_made (length state.makers) frame).rights)
       (own_maker : frame.path ≡ maker_path maker) where
     later_holds : (q : ℕ) (mode : Mode) → holds_queue later q mode ≡ holds_queue (with_made (length state.makers) frame) q mode
@@ -30,19 +31,19 @@ module _ (state : QueueState) (tree : IsTree state) (turns : Frames) (is : AreTu
             | inl here ↦
                 let same : was.0 ≡ frame = same_frame (active state n) was.0 frame (ap (active state) (sym here) ∙ was.1) live in (
                   later,
-                  ap (active after) here ∙ now,
+                  ap (active after) here ∙ one.changed,
                   parent ∙ ap (λ (f : ActiveFrame). f.parent) (sym same) ∙ was.2,
                   λ q mode held.
                       let old : holds_queue frame q mode ≡ true = ap (λ (f : ActiveFrame). holds_queue f q mode) (sym same) ∙ was.3 q mode held in
                       let less = (tree.held n q frame live (has_held frame q mode old)).0 in
                       later_holds q mode ∙ holds_before frame (length state.makers) q mode less ∙ old,
                 )
-            | inr other ↦ (was.0, others m other ∙ was.1, was.2, was.3)
+            | inr other ↦ (was.0, one.others m other ∙ was.1, was.2, was.3)
           ];
-      all = λ m above q mode one live_one of held apart.
+      all = λ m above q mode found live_found of held apart.
           elim (cases_eq m n) [
             | inl here ↦
-                let same : one ≡ later = same_frame (active after n) one later (ap (active after) (sym here) ∙ live_one) now in
+                let same : found ≡ later = same_frame (active after n) found later (ap (active after) (sym here) ∙ live_found) one.changed in
                 let held_later : holds_queue (with_made (length state.makers) frame) q mode ≡ true =
                 sym (later_holds q mode) ∙ ap (λ (f : ActiveFrame). holds_queue f q mode) (sym same) ∙ held in
                 elim (holds_cases frame (length state.makers) q mode held_later) [
@@ -55,7 +56,7 @@ module _ (state : QueueState) (tree : IsTree state) (turns : Frames) (is : AreTu
                       (ap (λ (f : ActiveFrame). f.path) same ∙ path ∙ own_maker))
                 ]
             | inr other ↦
-                is.all m above q mode one (sym (others m other) ∙ live_one) of held
+                is.all m above q mode found (sym (one.others m other) ∙ live_found) of held
                 (λ old_one made is_own. apart old_one (ap (λ (ms : List QueueMaker). slice_get ms q) makers ∙ get_front state.makers (maker ∷ []) q old_one made) is_own)
           ];
     }
@@ -65,15 +66,12 @@ module _ (state : QueueState) (tree : IsTree state) (turns : Frames) (is : AreTu
       let made = length state.makers in
       let root = untouched.root in
       turns_made (after_create_root state) 0 root (with_made made root) (planned made) untouched.live
-      (own_changed state 0 (with_made made) (λ f. refl) root untouched.live) (others_changed state 0 (with_made made) (λ f. refl)) refl refl refl refl (tree.root root untouched.live).0
+      (one_changed state 0 (with_made made) (λ f. refl) root untouched.live) refl refl refl refl (tree.root root untouched.live).0
 
   pub turns_create : (n : ℕ) (act : MayDo state n) → AreTurns (after_create state act.frame) turns
   turns_create n act =
       let frame = act.frame in
       let made = length state.makers in
       let change : ActiveFrame → ActiveFrame = λ f. with_deed (with_made made f) in
-      let number = active_number state n frame act.may.live in
-      let P : ℕ → Type 0 = λ k. AreOthers state (after_create state frame) k in
       turns_made (after_create state frame) n frame (change frame) (made_by frame.path frame.deeds) act.may.live
-      (ap (active (after_create state frame)) (sym number) ∙ own_changed state frame.number change (λ f. refl) frame (ap (active state) number ∙ act.may.live))
-      (subst P number (others_changed state frame.number change (λ f. refl))) refl refl refl refl refl
+      (one_goes_on state n frame change (λ f. refl) act.may.live) refl refl refl refl refl

@@ -2,6 +2,7 @@
 -- ask for, what ends are and do, what is answered, and how readings go with it.
 pub mod Asks
 pub mod Ends
+pub mod OneChange
 pub mod Tells
 pub mod Reads
 -- What each form has to show of a state, whatever it is kept in: what the frames keep of each other, their turns, and a queue

@@ -46,21 +46,21 @@ returns-in-In-clause-given_up c =
     let own = c.release_given-object in
     then_given_up c.give_to_read.result c.args.self.now.places.entries own.new.self.places.entries c.give_to_read.new.self.places.entries c.args.self.now.nodes own.new.self.nodes c.give_to_read.new.self.nodes
     c.args.gift.parent c.args.gift.parent_place c.args.gift.child c.args.gift.child_place In own.result c.requires.differ own.ensures.whole own.ensures.stands
-    (left_owed _ c.args.self.now.nodes own.new.self.nodes c.in-Some.field-0.now own.result own.ensures.given_up own.ensures.kept) c.give_to_read.ensures.given c.give_to_read.ensures.keeps
+    (left_owed _ c.args.self.now.nodes own.new.self.nodes c.again-found.result own.result own.ensures.given_up own.ensures.kept) c.give_to_read.ensures.given c.give_to_read.ensures.keeps
 
 pub returns-in-Out-clause-given_up : goal.returns-in-Out-clause-given_up
 returns-in-Out-clause-given_up c =
     let own = c.release_given-object in
     then_given_up c.give_to_write.result c.args.self.now.places.entries own.new.self.places.entries c.give_to_write.new.self.places.entries c.args.self.now.nodes own.new.self.nodes c.give_to_write.new.self.nodes
     c.args.gift.parent c.args.gift.parent_place c.args.gift.child c.args.gift.child_place Out own.result c.requires.differ own.ensures.whole own.ensures.stands
-    (left_owed _ c.args.self.now.nodes own.new.self.nodes c.in-Some.field-0.now own.result own.ensures.given_up own.ensures.kept) c.give_to_write.ensures.given c.give_to_write.ensures.keeps
+    (left_owed _ c.args.self.now.nodes own.new.self.nodes c.again-found.result own.result own.ensures.given_up own.ensures.kept) c.give_to_write.ensures.given c.give_to_write.ensures.keeps
 
 pub returns-in-InOut-clause-given_up : goal.returns-in-InOut-clause-given_up
 returns-in-InOut-clause-given_up c =
     let own = c.release_given-object in
     then_given_up c.give_to_change.result c.args.self.now.places.entries own.new.self.places.entries c.give_to_change.new.self.places.entries c.args.self.now.nodes own.new.self.nodes c.give_to_change.new.self.nodes
     c.args.gift.parent c.args.gift.parent_place c.args.gift.child c.args.gift.child_place InOut own.result c.requires.differ own.ensures.whole own.ensures.stands
-    (left_owed _ c.args.self.now.nodes own.new.self.nodes c.in-Some.field-0.now own.result own.ensures.given_up own.ensures.kept) c.give_to_change.ensures.given c.give_to_change.ensures.keeps
+    (left_owed _ c.args.self.now.nodes own.new.self.nodes c.again-found.result own.result own.ensures.given_up own.ensures.kept) c.give_to_change.ensures.given c.give_to_change.ensures.keeps
 
 pub give_to_read-requires-clause-present : goal.give_to_read-requires-clause-present
 give_to_read-requires-clause-present c =

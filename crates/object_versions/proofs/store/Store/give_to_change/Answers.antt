@@ -12,7 +12,7 @@ returns-clause-whole c = λ made whole.
     c.args.gift.parent c.args.gift.parent_place c.args.gift.child c.args.gift.child_place c.in_ok-next.next c.args.object.now
     c.requires.differ whole c.requires.stands c.requires.free c.requires.alone
     c.share.ensures c.in_ok-next.ensures.vacant c.in_ok-next.ensures.made
-    c.in_ok-put.ensures.put c.put.ensures.sorted
+    (rw c.again.ensures at c.in_ok-put.ensures.put) c.put.ensures.sorted
     (c.set_present.ensures.set c.args.object.now (still_stands c.args.self.now.places.entries c.put.new.places.entries c.args.gift.parent c.args.gift.parent_place c.args.gift.child c.args.gift.child_place
     c.args.object.now _ c.requires.stands c.requires.free c.in_ok-put.ensures.put))
     c.set_present.ensures.sorted c.release.ensures
@@ -23,7 +23,7 @@ returns-clause-given c = λ made whole.
     c.args.gift.parent c.args.gift.parent_place c.args.gift.child c.args.gift.child_place c.in_ok-next.next c.args.object.now
     c.requires.differ whole c.requires.stands c.requires.free c.requires.alone
     c.share.ensures c.in_ok-next.ensures.vacant c.in_ok-next.ensures.made
-    c.in_ok-put.ensures.put c.put.ensures.sorted
+    (rw c.again.ensures at c.in_ok-put.ensures.put) c.put.ensures.sorted
     (c.set_present.ensures.set c.args.object.now (still_stands c.args.self.now.places.entries c.put.new.places.entries c.args.gift.parent c.args.gift.parent_place c.args.gift.child c.args.gift.child_place
     c.args.object.now _ c.requires.stands c.requires.free c.in_ok-put.ensures.put))
     c.set_present.ensures.sorted c.release.ensures

@@ -9,14 +9,14 @@ returns-clause-whole c = λ made whole.
     read_whole c.args.self.now.places.entries c.put.new.places.entries c.args.self.now.nodes c.share.new.nodes made
     c.args.gift.parent c.args.gift.parent_place c.args.gift.child c.args.gift.child_place c.args.object.now
     whole c.requires.stands c.requires.free c.requires.alone c.share.ensures
-    c.in_ok-put.ensures.put c.put.ensures.sorted
+    (rw c.again.ensures at c.in_ok-put.ensures.put) c.put.ensures.sorted
 
 pub returns-clause-given : goal.returns-clause-given
 returns-clause-given c = λ made whole.
     read_seen c.args.self.now.places.entries c.put.new.places.entries c.args.self.now.nodes c.share.new.nodes made
     c.args.gift.parent c.args.gift.parent_place c.args.gift.child c.args.gift.child_place c.args.object.now
     whole c.requires.stands c.requires.free c.requires.alone c.share.ensures
-    c.in_ok-put.ensures.put c.put.ensures.sorted
+    (rw c.again.ensures at c.in_ok-put.ensures.put) c.put.ensures.sorted
 
 pub returns-clause-keeps : goal.returns-clause-keeps
 returns-clause-keeps c =

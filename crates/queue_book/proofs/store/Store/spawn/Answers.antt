@@ -7,7 +7,8 @@ use Rattle.swan_model.specs.QueueState.{QueueRight}
 use Rattle.swan_model.specs.Rights.{allows}
 use Rattle.queue_book.specs.Handed.{AreGiven, IsHandedIn}
 use Rattle.queue_book.specs.KeptFrames.{KeptFrame, OwnChunks}
-use Rattle.queue_book.specs.Live.{IsOnlyChange}
+use Rattle.queue_book.specs.Live.{kept_of}
+use Rattle.queues.specs.OneChange.{IsOnlyChange}
 use Rattle.queue_book.proofs.GivingSteps.{given_more, given_none, has_now, may_get_now, newest_now}
 use Rattle.queues.proofs.GivingTurns.{queue_mode_at}
 use Rattle.queue_book.proofs.store.Store.spawn.Goals as goal
@@ -108,7 +109,7 @@ returns-clause-spawned c =
     let whole : take c.loop-one.one-index all ≡ all = take_all c.loop-one.one-index all (omega arith) in
     let Given : List QueueRight → Type 0 = λ gs. AreGiven c.args.self.now.frames c.loop-one.self.frames c.args.parent c.args.child gs places c.args.self.now.chains.heads.items
     c.args.self.now.chains.nodes c.loop-one.self.chains.nodes c.args.self.now.turns c.loop-one.self.turns in
-    let One : KeptFrame → Type 0 = λ k. IsOnlyChange c.loop-one.self.frames c.add.new.self c.args.child (Some k) in
+    let One : KeptFrame → Type 0 = λ k. IsOnlyChange (kept_of c.loop-one.self.frames) (kept_of c.add.new.self) c.args.child (Some k) in
     let kept : record { deeds = c.loop-one.frame-inside.deeds; is_lent = c.loop-one.frame-inside.is_lent; places = places } ≡ record { deeds = 0; is_lent = false; places = places } =
     ap (λ d. record { deeds = d; is_lent = c.loop-one.frame-inside.is_lent; places = places }) c.loop-one.invariant.deeds
     ∙ ap (λ b. record { deeds = 0; is_lent = b; places = places }) c.loop-one.invariant.lent in
