@@ -25,7 +25,7 @@ use Rattle.queue_book.proofs.ChainChanges.{chained_same}
 use Rattle.queues.proofs.Above.{maker_of}
 use Rattle.queue_book.proofs.BookFronts.{alone_by, found_item, look_of, looked, trim}
 use Rattle.queues.proofs.Frames.{has_held}
-use Rattle.queue_book.proofs.LiveKept.{keys_same, kept_live, live_one}
+use Rattle.queue_book.proofs.LiveKept.{keys_same, kept_changed, kept_live, live_one}
 use Rattle.queue_book.proofs.PlainDeeds.{plain_empty, plain_pop, plain_push, plain_test}
 use Rattle.queue_book.proofs.PlainSaid.{origin_of}
 use Rattle.queues.proofs.TurnsCalls.{turns_deed}
@@ -56,8 +56,7 @@ module _ (name : Option Script) (state : QueueState) (frames : LiveFrames) (head
       let was = kept_live state frames is.live n act.frame act.may.live in
       let kept = was.0 in
       let free = not_lent kept act.frame.lent was.2.lent act.may.back in
-      let P : Option KeptFrame → Type 0 = λ o. IsOnlyChange (kept_of frames) (kept_of after_frames) n o in
-      let counted_one : IsOnlyChange (kept_of frames) (kept_of after_frames) n (Some (counted kept)) = subst P (ap (option_map counted) was.1) one in
+      let counted_one = kept_changed frames after_frames n kept counted was.1 one in
       let frame : IsFrame (after_deed state n) (counted kept) (with_deed act.frame) = record {
         deeds = ap (λ k. k + 1) was.2.deeds;
         lent = act.may.back ∙ sym (lent_none (counted kept) free);

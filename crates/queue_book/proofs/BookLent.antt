@@ -19,7 +19,7 @@ use Rattle.queue_book.specs.Whole.{IsBook}
 use Rattle.queue_book.specs.declared.live_frames.LiveFrames.{LiveFrames}
 use Rattle.queues.proofs.ActiveAfter.{one_changed, one_goes_on}
 use Rattle.queue_book.proofs.ChainChanges.{chained_same}
-use Rattle.queue_book.proofs.LiveKept.{kept_live, keys_same, live_kept, live_one}
+use Rattle.queue_book.proofs.LiveKept.{kept_changed, kept_live, keys_same, live_kept, live_one}
 use Rattle.queue_book.proofs.PlainLent.{plain_back, plain_lend}
 use Rattle.queues.proofs.TurnsCalls.{turns_back, turns_lend}
 
@@ -38,8 +38,7 @@ module _ (name : Option Script) (state : QueueState) (frames : LiveFrames) (head
       let change : ActiveFrame → ActiveFrame = λ f. record f { lent = Some (record { deeds = frame.deeds; ends = [] }) } in
       let was = kept_live state frames is.live n frame live in
       let kept = was.0 in
-      let P : Option KeptFrame → Type 0 = λ o. IsOnlyChange (kept_of frames) (kept_of after_frames) n o in
-      let lent_one : IsOnlyChange (kept_of frames) (kept_of after_frames) n (Some (with_lent true kept)) = subst P (ap (option_map (with_lent true)) was.1) one in
+      let lent_one = kept_changed frames after_frames n kept (with_lent true) was.1 one in
       let now : IsFrame (after_lend state frame []) (with_lent true kept) (change frame) = record {
         deeds = was.2.deeds;
         lent = ap (λ k. Some (record { deeds = k; ends = [] })) (sym was.2.deeds);
@@ -65,8 +64,7 @@ module _ (name : Option Script) (state : QueueState) (frames : LiveFrames) (head
       let change : ActiveFrame → ActiveFrame = λ f. record f { deeds = frame.deeds; lent = None } in
       let was = kept_live state frames is.live n frame live in
       let kept = was.0 in
-      let P : Option KeptFrame → Type 0 = λ o. IsOnlyChange (kept_of frames) (kept_of after_frames) n o in
-      let back_one : IsOnlyChange (kept_of frames) (kept_of after_frames) n (Some (with_lent false kept)) = subst P (ap (option_map (with_lent false)) was.1) one in
+      let back_one = kept_changed frames after_frames n kept (with_lent false) was.1 one in
       let now : IsFrame (after_back state n frame.deeds) (with_lent false kept) (change frame) = record {
         deeds = was.2.deeds;
         lent = refl;

@@ -27,7 +27,7 @@ use Rattle.queues.proofs.ActiveAfter.{one_changed, one_goes_on}
 use Rattle.queue_book.proofs.BookDeeds.{counted, lent_none, not_lent}
 use Rattle.queue_book.proofs.ChainChanges.{chained_same}
 use Rattle.swan_model.proofs.Elements.{more_cases, last_more}
-use Rattle.queue_book.proofs.LiveKept.{kept_live, key_none, keys_same, live_one, place_has}
+use Rattle.queue_book.proofs.LiveKept.{kept_changed, kept_live, key_none, keys_same, live_one, place_has}
 use Rattle.queue_book.proofs.LivePut.{keys_put, place_elsewhere, place_here, places_made}
 use Rattle.queues.proofs.Making.{holds_before}
 use Rattle.queues.proofs.TurnsMade.{turns_made}
@@ -143,9 +143,8 @@ module _ (name : Option Script) (state : QueueState) (frames : LiveFrames) (head
       let was = kept_live state frames is.live 0 root untouched.live in
       let kept = was.0 in
       let place : OwnChunk = record { key = made.key; is_maker = true; pushes = true } in
-      let P : Option KeptFrame → Type 0 = λ o. IsOnlyChange (kept_of frames) (kept_of after_frames) 0 o in
       let Q : ℕ → Type 0 = λ k. IsOnlyChange (kept_of frames) (kept_of after_frames) 0 (Some (with_own_chunk k place kept)) in
-      let one : IsOnlyChange (kept_of frames) (kept_of after_frames) 0 (Some (with_own_chunk i place kept)) = subst Q at (subst P (ap (option_map (with_own_chunk q place)) was.1) made.place) in
+      let one : IsOnlyChange (kept_of frames) (kept_of after_frames) 0 (Some (with_own_chunk i place kept)) = subst Q at (kept_changed frames after_frames 0 kept (with_own_chunk q place) was.1 made.place) in
       let R : ℕ → Type 0 = λ k. AreChained (put_at 0 k (Some made.key) (key_at frames)) after_heads after_nodes (in_line k (λ old. own 0 first ∷ []) is.lines) in
       let path = (is.plain.tree.root root untouched.live).0 in
       book_made name state (after_create_root state) frames heads nodes turns is 0 root (with_made i root) (planned i) untouched.live
@@ -159,8 +158,7 @@ module _ (name : Option Script) (state : QueueState) (frames : LiveFrames) (head
       (made : IsMadeIn frames mid_frames n q [] heads nodes after_heads after_nodes) where
     mid_one : (kept : KeptFrame) → kept_of frames n ≡ Some kept → IsOnlyChange (kept_of frames) (kept_of mid_frames) n (Some (with_own_chunk q (record { key = made.key; is_maker = true; pushes = true }) kept))
     mid_one kept was =
-        let P : Option KeptFrame → Type 0 = λ o. IsOnlyChange (kept_of frames) (kept_of mid_frames) n o in
-        subst P (ap (option_map (with_own_chunk q (record { key = made.key; is_maker = true; pushes = true }))) was) made.place
+        kept_changed frames mid_frames n kept (with_own_chunk q (record { key = made.key; is_maker = true; pushes = true })) was made.place
 
     pub create_room : (kept : KeptFrame) → kept_of mid_frames n ≡ Some kept → kept.deeds < DEEDS_MOST
     create_room kept at =

@@ -24,7 +24,7 @@ use Rattle.queue_book.proofs.ChainChanges.{chained_same, put_other, put_same}
 use Rattle.queue_book.proofs.ChainEnds.{other_placed, own_placed}
 use Rattle.queue_book.proofs.ChainLoops.{line_is}
 use Rattle.queue_book.proofs.GivenPushes.{push_now, push_other}
-use Rattle.queue_book.proofs.LiveKept.{key_of}
+use Rattle.queue_book.proofs.LiveKept.{kept_changed, key_of}
 use Rattle.queue_book.proofs.LivePut.{keys_put, place_elsewhere, place_here}
 use Rattle.queue_book.proofs.Lookups.{at_inserted, by_inserted}
 
@@ -144,8 +144,7 @@ module _ (before now after : LiveFrames) (parent child : ℕ) (gives : List Queu
     parent_step k =
         let was = is.moved kept at_first in
         let place : OwnChunk = record { key = handed.new; is_maker = handed.place.is_maker; pushes = handed.place.pushes } in
-        let P : Option KeptFrame → Type 0 = λ o. IsOnlyChange (kept_of now) (kept_of after) parent o in
-        let one : IsOnlyChange (kept_of now) (kept_of after) parent (Some (with_own_chunk give.queue place was.0)) = subst P (ap (option_map (with_own_chunk give.queue place)) was.1) handed.parent_now in
+        let one = kept_changed now after parent was.0 (with_own_chunk give.queue place) was.1 handed.parent_now in
         keys_put now after parent give.queue place was.0 was.1 one parent k ∙ (elim (cases_eq k give.queue) [
           | inl here ↦
               ap (λ j. put_at parent give.queue (Some handed.new) (key_at now) parent j) here ∙ put_same parent give.queue (Some handed.new) (key_at now)

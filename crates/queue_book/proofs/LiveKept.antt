@@ -90,6 +90,11 @@ place_of_key frames n queue one place is at = ap (λ o. own_chunk_of o queue) is
 
 -- ---- after a call
 
+-- a change of what is kept of one frame, where something is kept of it
+pub kept_changed : (frames after : LiveFrames) (n : ℕ) (kept : KeptFrame) (change : KeptFrame → KeptFrame) → kept_of frames n ≡ Some kept
+    → IsOnlyChange (kept_of frames) (kept_of after) n (option_map change (kept_of frames n)) → IsOnlyChange (kept_of frames) (kept_of after) n (Some (change kept))
+kept_changed frames after n kept change is one = subst (IsOnlyChange (kept_of frames) (kept_of after) n) (ap (option_map change) is) one
+
 pub frame_on : (state after : QueueState) (one : KeptFrame) (frame : ActiveFrame) → SameMakers state after → ((queue : ℕ) → has_queue frame queue ≡ true → queue < length state.makers)
     → IsFrame state one frame → IsFrame after one frame
 frame_on state after one frame same known is = record {

@@ -1,8 +1,7 @@
 -- Which frames may lend their ends.
 use Rattle.std.proofs.Common.{◌≡◌, ◌≢◌, ℕ, true, Some, None, List, refl, sym, subst, ◌∙◌}
 use Rattle.swan_model.specs.QueueState.{ActiveFrame, LentEnd, QueueState, active, after_lend, new_state, root_frame}
-use Rattle.queues.proofs.ActiveAfter.{others_changed}
-use Rattle.queues.proofs.Frames.{active_number}
+use Rattle.queues.proofs.ActiveAfter.{one_goes_on}
 use Rattle.queue_tests.specs.Allowed.{may_make}
 use Rattle.queue_tests.proofs.Allowing.{lent_by_test}
 
@@ -19,5 +18,5 @@ pub lent_beside : (state now : QueueState) (one two : ℕ) (frame : ActiveFrame)
 lent_beside state now one two frame ends live apart may is =
     let found = lent_by_test state two may in
     let lend : ActiveFrame → ActiveFrame = λ f. record f { lent = Some (record { deeds = frame.deeds; ends = ends }) } in
-    let same = others_changed state frame.number lend (λ f. refl) two (λ own. apart (sym (active_number state one frame live) ∙ sym own)) in
+    let same = (one_goes_on state one frame lend (λ f. refl) live).others two (λ own. apart (sym own)) in
     subst (λ s. MayLend s two) (sym is) (found.0, same ∙ found.1, found.2)

@@ -4,7 +4,7 @@ use Rattle.swan_model.specs.declared.rights.Mode.TheVariants.{Push, PushPop}
 use Rattle.swan_model.specs.QueueState.{ActiveFrame, QueueState, active, after_create, after_deed, holds_queue, new_state, root_frame, with_deed}
 use Rattle.queues.specs.Asks.{DEEDS_MOST, MayUse}
 use Rattle.queues.specs.Tells.{with_active}
-use Rattle.queues.proofs.ActiveAfter.{own_changed}
+use Rattle.queues.proofs.ActiveAfter.{one_changed}
 use Rattle.queue_tests.specs.Allowed.{has_space, may_make}
 
 -- frame 0 pushes to queue 0, and has done so many deeds
@@ -24,7 +24,7 @@ may_push state deeds is room = record {
 pub pushed_once : (state : QueueState) (deeds : ℕ) → IsPushing state deeds → IsPushing (after_deed state 0) (deeds + 1)
 pushed_once state deeds is = record {
   frame = with_deed is.frame;
-  live = own_changed state 0 with_deed (λ f. refl) is.frame is.live;
+  live = (one_changed state 0 with_deed (λ f. refl) is.frame is.live).changed;
   back = is.back;
   held = is.held;
   deeds = ap (λ n. n + 1) is.deeds;

@@ -39,7 +39,7 @@ module _ (state : QueueState) (n : ℕ) (change : ActiveFrame → ActiveFrame) (
         let other = ne_eqb frame.number n (λ same. differ (sym (active_number state m frame is) ∙ same)) in
         ap (λ b. Some (cond b (change frame) frame)) other
 
-  pub own_changed : (frame : ActiveFrame) → active state n ≡ Some frame → active (changing state n change) n ≡ Some (change frame)
+  own_changed : (frame : ActiveFrame) → active state n ≡ Some frame → active (changing state n change) n ≡ Some (change frame)
   own_changed frame live =
       active_changed n ∙ ap (option_map (changed n change)) live
       ∙ ap (λ b. Some (cond b (change frame) frame)) (eq-eqb frame.number n (active_number state n frame live))

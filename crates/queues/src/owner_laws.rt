@@ -72,22 +72,25 @@ pub fn what_is_taken_goes_on()
         → HasTaken s (after_create state frame) (length state.makers) (Step (queue_time s frame.path frame.deeds)) (end_time s frame.path) (own n items ∷ []) 0 }
     ensures root_aside { OnTaken (λ s state number queue end chunks at. IsUntouched state → number < length state.makers
         → HasTaken s (after_create_root state) number queue end chunks at) }
-    ensures made_aside { OnTakenBy (λ s state number queue end chunks at n frame. IsLawful s → next_queue_deed s frame.path frame.deeds ≡ Some deed.MakeQueue → number < length state.makers
+    ensures made_aside { OnTakenBy (λ s state number queue end chunks at n frame. IsLawful s
+        → next_queue_deed s frame.path frame.deeds ≡ Some deed.MakeQueue → number < length state.makers
         → HasTaken s (after_create state frame) number queue end chunks at) }
 
     // a spawn by a frame that has the queue, and one without the queue
-    ensures spawn { OnTakenBy (λ s state number queue end chunks at n frame. (child : ℕ) (gives : List QueueRight) → IsLawful s → HasOwners state number chunks → QueuesFollow s state → IsTree state → queue_origin s state number ≡ Some queue
+    ensures spawn { OnTakenBy (λ s state number queue end chunks at n frame. (child : ℕ) (gives : List QueueRight) → IsLawful s → HasOwners state number chunks
+        → QueuesFollow s state → IsTree state → queue_origin s state number ≡ Some queue
         → active state child ≡ None → MayGive frame gives → NextSpawnGivesQueues s state frame gives → has_queue frame number ≡ true
         → HasTaken s (after_spawn state frame child gives) number queue end (after_hand_on n child chunks) at) }
-    ensures spawn_aside { OnTakenBy (λ s state number queue end chunks at n frame. (child : ℕ) (gives : List QueueRight) → IsLawful s → HasOwners state number chunks → QueuesFollow s state → IsTree state → queue_origin s state number ≡ Some queue
+    ensures spawn_aside { OnTakenBy (λ s state number queue end chunks at n frame. (child : ℕ) (gives : List QueueRight) → IsLawful s → HasOwners state number chunks
+        → QueuesFollow s state → IsTree state → queue_origin s state number ≡ Some queue
         → active state child ≡ None → MayGive frame gives → NextSpawnGivesQueues s state frame gives → gives_queue gives number ≡ false
         → HasTaken s (after_spawn state frame child gives) number queue end chunks at) }
 
     // deeds: a pop that finds an item, and each other one
-    ensures pop { OnTakenBy (λ s state number queue end chunks at n frame. (index : ℕ) → IsLawful s → HasOwners state number chunks → IsFirstPopper state number chunks index n frame
-        → next_queue_deed s frame.path frame.deeds ≡ Some (deed.Pop queue) → FindsItem frame s queue → HasTaken s (after_deed state n) number queue end chunks (at + 1)) }
-    ensures deed { OnTakenBy (λ s state number queue end chunks at n frame. (does : Deed) → IsLawful s → next_queue_deed s frame.path frame.deeds ≡ Some does → is_spawn does ≡ false
-        → (does ≡ deed.Pop queue → FindsNone frame s queue) → HasTaken s (after_deed state n) number queue end chunks at) }
+    ensures pop { OnTakenBy (λ s state number queue end chunks at n frame. (index : ℕ) → IsLawful s → HasOwners state number chunks
+        → IsFirstPopper state number chunks index n frame → next_queue_deed s frame.path frame.deeds ≡ Some (deed.Pop queue) → FindsItem frame s queue → HasTaken s (after_deed state n) number queue end chunks (at + 1)) }
+    ensures deed { OnTakenBy (λ s state number queue end chunks at n frame. (does : Deed) → IsLawful s
+        → next_queue_deed s frame.path frame.deeds ≡ Some does → is_spawn does ≡ false → (does ≡ deed.Pop queue → FindsNone frame s queue) → HasTaken s (after_deed state n) number queue end chunks at) }
 
     // ends: those of a frame before which none may pop, and those by which it pops nothing of the queue
     ensures lend { OnTakenBy (λ s state number queue end chunks at n frame. (ends : List LentEnd) → HasTaken s (after_lend state frame ends) number queue end chunks at) }
@@ -97,9 +100,11 @@ pub fn what_is_taken_goes_on()
         → ((k : ℕ) → frame.deeds ≤ k → k < deeds → next_queue_deed s frame.path k ≢ Some (deed.Pop queue)) → HasTaken s (after_back state n deeds) number queue end chunks at) }
 
     // the end of a frame that has the queue, and of one that has it not
-    ensures finish { OnTakenBy (λ s state number queue end chunks at n frame. IsLawful s → HasOwners state number chunks → next_queue_deed s frame.path frame.deeds ≡ None → 0 < length (times s frame.path)
+    ensures finish { OnTakenBy (λ s state number queue end chunks at n frame. IsLawful s → HasOwners state number chunks
+        → next_queue_deed s frame.path frame.deeds ≡ None → 0 < length (times s frame.path)
         → HasTaken s (after_finish state n) number queue end (after_close n chunks) at) }
-    ensures finish_aside { OnTakenBy (λ s state number queue end chunks at n frame. HasOwners state number chunks → has_queue frame number ≡ false → HasTaken s (after_finish state n) number queue end chunks at) }
+    ensures finish_aside { OnTakenBy (λ s state number queue end chunks at n frame. HasOwners state number chunks → has_queue frame number ≡ false
+        → HasTaken s (after_finish state n) number queue end chunks at) }
     ensures take_rest { OnTaken (λ s state number queue end chunks at. (emptied : ℕ) → HasTaken s (after_take_rest state emptied) number queue end chunks at) }
 {}
 
