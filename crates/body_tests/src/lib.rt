@@ -11,6 +11,8 @@ mod lines;
 #[cfg(test)]
 mod operations;
 #[cfg(test)]
+mod outcomes;
+#[cfg(test)]
 mod plans;
 #[cfg(test)]
 mod rows;

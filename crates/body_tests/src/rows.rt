@@ -8,7 +8,7 @@ use std::test::Fail;
 use swan_model::{Answer, Ask, Body, NoMemory, Plan, Stop, Value, Worked};
 
 /// What stands before the statements, which begin at line 13. The first step makes the queue.
-const HEAD: &str = "\
+pub const HEAD: &str = "\
 swan 1
 object x int
 output out int
@@ -25,7 +25,7 @@ do
 
 /// Loops with each kind of line between, and what `v` is after them, of 200 units of fuel. A read is answered
 /// by 7, a pop by `ab`, and a test by no.
-const LOOPS: &str = "\
+pub const LOOPS: &str = "\
 n = set 3; while n; n = sub n 1; v = add v 2; end => 6
 n = set 3; while n; n = sub n 1; b = cat b \"x\"; end; v = len b => 3
 n = set 3; while n; n = sub n 1; if n; v = add v 1; else; v = add v 10; end; end => 12

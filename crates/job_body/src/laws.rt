@@ -5,7 +5,6 @@ ghost use Rattle.job_reader.specs.declared.line.Line.{Line as JobLine};
 ghost use Rattle.privilege_check.specs.FirstFault.{first_fault};
 ghost use Rattle.job_body.specs.PlanOfJob.{plan_of_job};
 ghost use Rattle.job_body.specs.RightsKept.{KeepsRights};
-ghost use Rattle.job_body.specs.declared.name_table.TheConstants.{NAMES_MOST};
 
 use crate::JobBody;
 use swan_model::Body;
@@ -16,9 +15,4 @@ use swan_model::Body;
 pub fn rights_are_kept()
     ensures { (job : List JobLine) (texts : List (List ℕ)) (fuel : ℕ) → IsJob job → first_fault job ≡ None →
         KeepsRights ⟦<JobBody as Body>⟧ (plan_of_job job texts fuel) }
-{}
-
-/// The law that says which number the limit of names of a job is.
-pub fn limit_of_names()
-    ensures { NAMES_MOST ≡ 1000000000 }
 {}

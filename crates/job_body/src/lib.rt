@@ -44,7 +44,7 @@ mod tasks;
 
 pub use answer::PlanAnswer;
 pub use body::JobBody;
-pub use laws::{limit_of_names, rights_are_kept};
+pub use laws::rights_are_kept;
 pub use local::JobLocal;
 pub use names::names_of;
 pub use plan::plan_of;

@@ -8,7 +8,8 @@ use std::collections::BTreeMap;
 use std::marker::Model;
 use swan_model::{NoMemory, Word, Words};
 
-/// The largest number of names, far more than a job has lines. Three such tables have fewer than 2^32 names together.
+/// The largest number of names of a table, far more than a job has lines. So no job reaches it, and three tables have
+/// fewer than 2^32 names together.
 pub const NAMES_MOST: u32 = 1_000_000_000;
 
 /// Names in the order in which they were added, and the first place of each. Contracts see it as the

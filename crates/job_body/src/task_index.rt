@@ -1,8 +1,8 @@
-// Where tasks begin.
+// Where tasks begin, by the index of a line.
 use std::marker::Model;
 
-/// The index of the line at which a task begins. No line of a job has a greater one than 2^32 - 2. Contracts see it as the
-/// number.
+/// The index of the line at which a task begins, or the number of lines where there is no such task. It is at most
+/// 2^32 - 2. Contracts see it as the number.
 #[derive(Drop)]
 pub struct TaskIndex {
     index: u32,

@@ -1,0 +1,164 @@
+// Outcomes of jobs whose steps are taken one by one, beside those of steps in rows.
+ghost use Rattle.std.specs.Prelude.{◌≤◌};
+ghost use Rattle.swan_model.specs.declared.plan.TheConstants.{FUEL_MOST};
+
+use crate::jobs::{plan_of_text, text_of};
+use crate::rows::{HEAD, LOOPS};
+use job_body::{JobBody, JobLocal};
+use serial_elision::elide;
+use std::alloc::Global;
+use std::test::Fail;
+use swan_model::{Answer, Ask, Body, FUEL_MOST, NoMemory, Outcome, Plan, PlanFuel, Value};
+
+/// The body of a job, of which each step is asked for alone.
+#[derive(Drop)]
+struct OneByOne {
+    body: JobBody,
+}
+
+impl Body for OneByOne {
+    ghost use Rattle.job_body.specs.Steps.{next, place_of};
+
+    type Local = JobLocal;
+
+    ghost next = { λ it. next it.body };
+
+    ghost place_of = { λ it. place_of it.body };
+
+    fn advance(
+        &self,
+        alloc: Global,
+        local: JobLocal,
+        answer: Answer,
+        fuel: u64,
+    ) -> Result<(JobLocal, Ask<JobLocal>), NoMemory> {
+        self.body.advance(alloc, local, answer, fuel)
+    }
+
+    fn place(&self, local: &JobLocal) -> u64 {
+        self.body.place(local)
+    }
+}
+
+/// Adds a value's text.
+fn push_value(alloc: Global, all: &mut String, value: &Value) -> Result<(), NoMemory> {
+    let text = match value {
+        Value::Int(number) => format!(in alloc; "{number} ")?,
+        Value::Bytes(record) => {
+            let len = record.as_slice().len();
+            format!(in alloc; "{len} bytes ")?
+        }
+    };
+    all.push_str(text.as_str())?;
+    Ok(())
+}
+
+/// What an outcome tells: the objects, what is left of the queues, and each fault with its line.
+fn told(alloc: Global, outcome: &Outcome) -> Result<String, NoMemory> {
+    let mut all = String::new(alloc);
+    for value in outcome.objects.as_slice() {
+        push_value(alloc, &mut all, value)?;
+    }
+    for queue in outcome.queues.as_slice() {
+        all.push_str("| ")?;
+        for value in queue.as_slice() {
+            push_value(alloc, &mut all, value)?;
+        }
+    }
+    for fault in outcome.faults.as_slice() {
+        let kind = fault.kind;
+        let place = fault.place;
+        let text = format!(in alloc; "{kind:?} at {place} ")?;
+        all.push_str(text.as_str())?;
+    }
+    Ok(all)
+}
+
+/// What a run of a plan leaves.
+fn left<B: Body>(alloc: Global, plan: Plan<B>) -> Result<String, NoMemory> {
+    let outcome = elide(alloc, plan)?;
+    told(alloc, &outcome)
+}
+
+/// What `main` leaves with these statements and this fuel, where it takes its steps in rows.
+fn left_in_rows(alloc: Global, statements: &str, fuel: u64) -> Result<String, NoMemory>
+    requires { fuel ≤ FUEL_MOST }
+{
+    let text = text_of(alloc, HEAD, statements)?;
+    let Plan {
+        body,
+        root_local,
+        roots,
+        fuel: _,
+    } = plan_of_text(alloc, text.as_str())?;
+    let fuel = PlanFuel::new(fuel);
+    left(
+        alloc,
+        Plan {
+            body,
+            root_local,
+            roots,
+            fuel,
+        },
+    )
+}
+
+/// What it leaves where it takes them one by one.
+fn left_one_by_one(alloc: Global, statements: &str, fuel: u64) -> Result<String, NoMemory>
+    requires { fuel ≤ FUEL_MOST }
+{
+    let text = text_of(alloc, HEAD, statements)?;
+    let Plan {
+        body,
+        root_local,
+        roots,
+        fuel: _,
+    } = plan_of_text(alloc, text.as_str())?;
+    let body = OneByOne { body };
+    let fuel = PlanFuel::new(fuel);
+    left(
+        alloc,
+        Plan {
+            body,
+            root_local,
+            roots,
+            fuel,
+        },
+    )
+}
+
+/// The first loop of the table that leaves something else in rows than one by one, with some fuel less than this, if
+/// there is one.
+fn first_other(alloc: Global, most: u64) -> Result<Option<&'static str>, NoMemory>
+    requires { most ≤ FUEL_MOST }
+{
+    for row in LOOPS.lines() {
+        let Some((statements, _)) = row.split_once(" => ") else {
+            return Ok(Some(row));
+        };
+        for fuel in 0..most {
+            let rows = left_in_rows(alloc, statements, fuel)?;
+            let alone = left_one_by_one(alloc, statements, fuel)?;
+            if rows.as_str() != alone.as_str() {
+                return Ok(Some(row));
+            }
+        }
+    }
+    Ok(None)
+}
+
+#[test]
+fn a_job_in_rows_leaves_what_it_leaves_step_by_step(rt: HostRuntime) -> Result<(), Fail> {
+    assert_eq!(rt; first_other(rt.alloc(), 64)?, None);
+    Ok(())
+}
+
+#[test]
+fn a_loop_leaves_its_sum(rt: HostRuntime) -> Result<(), Fail> {
+    let sum = "n = set 3; while n; n = sub n 1; v = add v 2; end";
+    let rows = left_in_rows(rt.alloc(), sum, 200)?;
+    let alone = left_one_by_one(rt.alloc(), sum, 200)?;
+    assert_eq!(rt; rows.as_str(), "0 | 6 ");
+    assert_eq!(rt; alone.as_str(), "0 | 6 ");
+    Ok(())
+}
