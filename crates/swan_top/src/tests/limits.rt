@@ -23,6 +23,7 @@ const FAILING_READS: &str = "\
 2 index 1 x|1 1~|left input 0~faults 0~|0
 1 convert 1 y||read failed y~|4
 2 convert 1 y|1:2,~|left input 0~faults 0~|0
+1 bulk 7 1 1|7~1~|object total int 7~object count int 1~left lines 0~faults 0~|0
 1 --version|swan 0.1.0~||0
 1 frob||usage~|2";
 
@@ -92,6 +93,8 @@ fn a_failing_write_leaves_a_front(rt: HostRuntime) -> Result<(), Fail> {
             "",
             "5",
         ),
+        ("bulk 7 3 1", 2, 0, "40", "", "5"),
+        ("bulk 7 3 1", 0, 1, "402\n3\n", "", "5"),
         ("", 0, 1, "", "", "5"),
         ("", 1, 2, "", "usage\n", "2"),
         ("check x", 0, 1, "", "", "5"),
