@@ -1,15 +1,16 @@
 -- The run of the generated job over its input.
-use Rattle.std.proofs.Common.{◌≡◌, ℕ, ◌≤◌, List, [], ◌∷◌, Option, Some, None, Result, Ok, refl, ap, ◌∙◌, subst, sym}
-use Rattle.std.specs.Prelude.{IfSome}
+use Rattle.std.proofs.Common.{◌≡◌, ℕ, ◌≤◌, Bool, true, false, List, [], ◌∷◌, Option, Some, None, Result, Ok, refl, ap, ◌∙◌, subst, sym}
+use Rattle.std.specs.Prelude.{IfSome, if◌then◌else◌}
 use Rattle.bulk_workload.specs.Bulk.{bulk_fuel, bulk_input, bulk_job}
 use Rattle.bulk_workload.specs.NeverRefused.{IsNeverRefused}
 use Rattle.bulk_workload.specs.declared.texts.TheConstants.{BULK_MOST}
-use Rattle.job_body.specs.PlanOfJob.{refusal_of_plan}
+use Rattle.job_body.specs.PlanOfJob.{plan_of_job, refusal_of_plan}
 use Rattle.job_body.specs.Standing.{Standing}
 use Rattle.job_reader.specs.FirstFault.{job_of}
 use Rattle.job_reader.specs.declared.fault.JobFault.{JobFault}
 use Rattle.job_reader.specs.declared.line.Line.{Line}
 use Rattle.privilege_check.specs.FirstFault.{first_fault}
+use Rattle.swan_model.specs.Texts.{has_fault}
 use Rattle.swan_model.specs.declared.outcome.Outcome.{Outcome}
 use Rattle.swan_model.specs.declared.plan.Plan.{Plan}
 use Rattle.swan_top.specs.Command.{Command, IsWithinLimits, help, version, check, elide, run, index, convert, bulk}
@@ -17,11 +18,12 @@ use Rattle.swan_top.specs.Completeness.{GeneratedInOrder, RunsInOrder}
 use Rattle.swan_top.specs.Decision.{Verdict, Next, settled, accepted, accepted_lines, generated, next_of_job, ran, unless_fault, unless_refused}
 use Rattle.swan_top.specs.Elisions.{Elisions}
 use Rattle.swan_top.specs.Generated.{NeverRefused}
-use Rattle.swan_top.specs.Headline.{Answers, Ends, FilesSeen, Follows, NoReadFailed, NoneTooLong, Settles, SinkSeen}
+use Rattle.swan_top.specs.Headline.{Answers, Ends, FilesSeen, Follows, NoReadFailed, NoneTooLong, Settles, SinkSeen, ends_of}
 use Rattle.swan_top.specs.Settled.{IsRefused, Stops}
 use Rattle.swan_top.specs.declared.status.Status.{Status}
 use Rattle.swan_top.specs.declared.status.Status.TheVariants as status
 use Rattle.swan_top.specs.declared.verdict.Stop.{Stop}
+use Rattle.swan_top.proofs.Pipelines.{is_run}
 use Rattle.swan_top.proofs.TextsRead.{Stops-map}
 
 module _ (outcome_of : Plan (List Line) Standing → Outcome) where
@@ -79,11 +81,26 @@ leads_bulk elisions files number size workers read short verdict is =
     let P : Next → Type 0 = λ n. Follows files n verdict in
     record { texts = []; are_read = tt; follows = subst P (sym is) (refl, read, short) }
 
+-- what is printed in order ends as a run
+status_runs : (b : Bool) → is_run (if b then status.Faulted else status.Done) ≡ true
+status_runs true = refl
+status_runs false = refl
+
+order_runs : (outcome_of : Plan (List Line) Standing → Outcome) (number size : ℕ) (verdict : Verdict) (ends : Status) → GeneratedInOrder outcome_of number size verdict → ends ≡ ends_of verdict → is_run ends ≡ true
+unfolding GeneratedInOrder
+order_runs outcome_of number size verdict ends order same =
+    ap is_run same ∙ ap (λ v. is_run (ends_of v)) order.prints_outcome
+    ∙ status_runs (has_fault (outcome_of (plan_of_job order.lines (bulk_input number size ∷ []) (bulk_fuel size))))
+
 module _ (law : (number size : ℕ) → size ≤ BULK_MOST → IsNeverRefused number size) (elisions : Elisions) (files : FilesSeen) (out report : SinkSeen) where
   bulk_ends : (number size workers : ℕ) (ends : Status) → size ≤ BULK_MOST → (verdict : Verdict) × Settles elisions files (bulk number size workers) verdict × Ends out report verdict ends
       → (verdict : Verdict) × GeneratedInOrder elisions.of_job number size verdict × Ends out report verdict ends
   bulk_ends number size workers ends most is =
       (is.0, generated_in_order elisions.of_job files number size is.0 (law number size most) is.1.follows, is.2)
+
+  bulk_runs : (number size workers : ℕ) (ends : Status) → size ≤ BULK_MOST → (verdict : Verdict) → Settles elisions files (bulk number size workers) verdict → ends ≡ ends_of verdict → is_run ends ≡ true
+  bulk_runs number size workers ends most verdict settles same =
+      order_runs elisions.of_job number size verdict ends (generated_in_order elisions.of_job files number size verdict (law number size most) settles.follows) same
 
   pub never_refused : (asked : Option Command) (ends : Status) → IfSome asked IsWithinLimits → Answers elisions files out report asked ends → NeverRefused elisions out report asked ends
   never_refused None ends most is = tt
@@ -97,8 +114,8 @@ module _ (law : (number size : ℕ) → size ≤ BULK_MOST → IsNeverRefused nu
   never_refused (Some (bulk number size workers)) status.NoMemory most is = tt
   never_refused (Some (bulk number size workers)) status.Done most is = bulk_ends number size workers status.Done most is
   never_refused (Some (bulk number size workers)) status.Faulted most is = bulk_ends number size workers status.Faulted most is
-  never_refused (Some (bulk number size workers)) status.Usage most is = bulk_ends number size workers status.Usage most is
-  never_refused (Some (bulk number size workers)) status.JobRefused most is = bulk_ends number size workers status.JobRefused most is
-  never_refused (Some (bulk number size workers)) status.ReadFailed most is = bulk_ends number size workers status.ReadFailed most is
+  never_refused (Some (bulk number size workers)) status.Usage most is = let runs = bulk_runs number size workers status.Usage most is.0 is.1 is.2.0 in absurd (cc)
+  never_refused (Some (bulk number size workers)) status.JobRefused most is = let runs = bulk_runs number size workers status.JobRefused most is.0 is.1 is.2.0 in absurd (cc)
+  never_refused (Some (bulk number size workers)) status.ReadFailed most is = let runs = bulk_runs number size workers status.ReadFailed most is.0 is.1 is.2.0 in absurd (cc)
   never_refused (Some (bulk number size workers)) status.WriteFailed most is = bulk_ends number size workers status.WriteFailed most is
-  never_refused (Some (bulk number size workers)) status.InputRefused most is = bulk_ends number size workers status.InputRefused most is
+  never_refused (Some (bulk number size workers)) status.InputRefused most is = let runs = bulk_runs number size workers status.InputRefused most is.0 is.1 is.2.0 in absurd (cc)

@@ -34,7 +34,7 @@ use Rattle.swan_top.specs.declared.status.Status.{Status}
 use Rattle.swan_top.specs.declared.status.Status.TheVariants as status
 
 -- whether texts were printed
-abbrev is_run : Status → Bool
+abbrev pub is_run : Status → Bool
 is_run status.Done = true
 is_run status.Faulted = true
 is_run _ = false
