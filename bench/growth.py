@@ -76,6 +76,7 @@ with folder() as here:
     series("elide over n lines", lambda times: ["elide", 10_000_000, copy, inputs[times]])
     series("index of n lines", lambda times: ["index", 1, inputs[times]])
     series("convert of n lines", lambda times: ["convert", 1, inputs[times]])
+    series("bulk of n lines", lambda times: ["bulk", 7, 75_000 * times, 1])
 
     jobs = {times: written(here, f"tasks{times}", [TASKS.format(n=200_000 * times)]) for times in (1, 2, 4)}
     series("elide of n spawned tasks", lambda times: ["elide", 10_000_000, jobs[times]])

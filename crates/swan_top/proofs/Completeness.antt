@@ -1,15 +1,13 @@
 -- What is in order is settled so, and without a count that rises nothing stands in its way.
 use Rattle.std.proofs.Common.{◌≡◌, ℕ, ◌<◌, List, [], ◌∷◌, length, Option, Some, None, Result, Ok, Err, Bool, true, false, refl, sym, ap, subst, arith, ◌∙◌, inl, inr}
-use Rattle.std.specs.Prelude.{◌⊎◌, codes, if◌then◌else◌}
-use Rattle.index_pipeline.specs.Plans.{index_plan}
-use Rattle.job_body.specs.NamesOfJob.{names_of_job}
+use Rattle.std.specs.Prelude.{◌⊎◌, if◌then◌else◌}
+use Rattle.bulk_workload.specs.Bulk.{bulk_fuel, bulk_input, bulk_job}
 use Rattle.job_body.specs.PlanOfJob.{plan_of_job, refusal_of_plan}
 use Rattle.job_body.specs.Standing.{Standing}
 use Rattle.job_body.specs.declared.answer.PlanAnswer.{PlanAnswer}
 use Rattle.job_reader.specs.declared.fault.JobFault.{JobFault}
 use Rattle.job_reader.specs.declared.line.Line.{Line}
 use Rattle.line_blocks.specs.TextRoots.{text_names}
-use Rattle.record_pipeline.specs.Plans.{record_plan}
 use Rattle.swan_model.specs.Lines.{refusal_of}
 use Rattle.swan_model.specs.Texts.{has_fault}
 use Rattle.swan_model.specs.declared.lines.LinesAnswer.{LinesAnswer}
@@ -19,10 +17,10 @@ use Rattle.swan_outside.specs.Counts.{Rose}
 use Rattle.swan_outside.specs.Reads.{IsTooLong}
 use Rattle.swan_outside.specs.Told.{Tells}
 use Rattle.swan_outside.specs.declared.files.TheConstants.{FILE_MOST}
-use Rattle.swan_top.specs.Command.{Command, help, version, check, elide, run, index, convert}
-use Rattle.swan_top.specs.Completeness.{IsTold, AreTold, NothingFailed, RunsInOrder, ChecksInOrder, TextInOrder, InOrder, Completes, CompletesWell, EndsWell}
-use Rattle.swan_top.specs.Decision.{Verdict, prints, refuses, Next, reads, settled, next, files_of, unread, unless_unread, accepted, checked, ran, printed, unless_refused, unless_unfit, next_of_check, next_of_job, next_of_run, next_of_text}
-use Rattle.swan_top.specs.Elisions.{Elisions}
+use Rattle.swan_top.specs.Command.{Command, help, version, check, elide, run, index, convert, bulk}
+use Rattle.swan_top.specs.Completeness.{IsTold, AreTold, NothingFailed, RunsInOrder, ChecksInOrder, TextInOrder, InOrder, GeneratedInOrder, Completes, CompletesWell, EndsWell}
+use Rattle.swan_top.specs.Decision.{Verdict, prints, refuses, Next, reads, settled, next, files_of, unread, unless_unread, accepted, checked, generated, ran, printed, unless_refused, unless_unfit, next_of_check, next_of_job, next_of_run, next_of_text}
+use Rattle.swan_top.specs.Elisions.{Elisions, converted, indexed}
 use Rattle.swan_top.specs.Headline.{FilesSeen, SinkSeen, Answers, AreRead, IsRead, Ends, FailedToWrite, Follows, ReadRefused, Settles, Wrote, ends_of, usage}
 use Rattle.swan_top.specs.declared.status.Status.{Status}
 use Rattle.swan_top.specs.declared.status.Status.TheVariants as status
@@ -84,6 +82,17 @@ module _ (files : FilesSeen) (well : ¬ Rose files.faults_before files.faults_af
       ∙ ap (λ why. unless_unfit why (printed text_names (outcome_over text))) order.none_refused ∙ sym order.prints_outcome
 
   module _ (outcome_of : Plan (List Line) Standing → Outcome) where
+    -- a job and inputs that are at hand
+    at_hand : (fuel : ℕ) (text : List ℕ) (inputs : List (List ℕ)) → RunsInOrder outcome_of fuel text inputs verdict → Follows files (next_of_job outcome_of fuel [] (accepted text) inputs) verdict' → verdict' ≡ verdict
+    at_hand fuel text inputs order follows =
+        let P : Result (List Line) JobFault → Type 0 = λ r. Follows files (next_of_job outcome_of fuel [] r inputs) verdict' in
+        let comes = subst P order.is_accepted follows in
+        comes.0 ∙ ap (λ why. unless_refused outcome_of order.lines inputs fuel why) order.none_refused ∙ sym order.prints_outcome
+
+    generated_settles : (number size : ℕ) → GeneratedInOrder outcome_of number size verdict → Follows files (generated outcome_of number size) verdict' → verdict' ≡ verdict
+    unfolding generated GeneratedInOrder
+    generated_settles number size = at_hand (bulk_fuel size) (bulk_job size) (bulk_input number size ∷ [])
+
     run_settles : (fuel : ℕ) (job text : List ℕ) (names inputs read : List (List ℕ)) → IsTold (files.content job) text → AreTold files.content names inputs → RunsInOrder outcome_of fuel text inputs verdict → AreRead files.content (job ∷ names) read → Follows files (next_of_run outcome_of fuel job names read) verdict' → verdict' ≡ verdict
     run_settles fuel job text names inputs [] told all order is follows = absurd (not_refused files job text verdict' told well follows)
     run_settles fuel job text names inputs (x ∷ xs) told all order is follows =
@@ -118,10 +127,12 @@ module _ (files : FilesSeen) (well : ¬ Rose files.faults_before files.faults_af
         run_settles elisions.of_job fuel job text names inputs leads.texts told.0 told.1 order leads.are_read leads.follows
     leads_in_order (index workers input) [] told order leads = absurd order
     leads_in_order (index workers input) (text ∷ texts) told order leads =
-        text_settles (λ t. elisions.of_index (index_plan t)) input text leads.texts told.0 order leads.are_read leads.follows
+        text_settles (indexed elisions) input text leads.texts told.0 order leads.are_read leads.follows
     leads_in_order (convert workers input) [] told order leads = absurd order
     leads_in_order (convert workers input) (text ∷ texts) told order leads =
-        text_settles (λ t. elisions.of_conversion (record_plan t)) input text leads.texts told.0 order leads.are_read leads.follows
+        text_settles (converted elisions) input text leads.texts told.0 order leads.are_read leads.follows
+    leads_in_order (bulk number size workers) [] told order leads = generated_settles elisions.of_job number size order leads.follows
+    leads_in_order (bulk number size workers) (text ∷ texts) told order leads = absurd order
 
 -- where no count of a sink rose, no write failed
 no_failed_write : (out report : SinkSeen) (verdict : Verdict) → ¬ Rose out.faults_before out.faults_after → ¬ Rose report.faults_before report.faults_after → FailedToWrite out report verdict → ⊥
@@ -176,6 +187,10 @@ module _ (outcome_of : Plan (List Line) Standing → Outcome) where
   run_ends fuel job names [] v is ends = cc
   run_ends fuel job names (text ∷ inputs) v is ends = job_ends fuel names (accepted text) inputs v is ends
 
+  generated_ends : (number size : ℕ) (v : Verdict) → generated outcome_of number size ≡ settled v → ends_of v ≡ status.ReadFailed → ⊥
+  unfolding generated
+  generated_ends number size = job_ends (bulk_fuel size) [] (accepted (bulk_job size)) (bulk_input number size ∷ [])
+
 unfit_ends : (why : Option LinesAnswer) (outcome : Outcome) → ends_of (unless_unfit why (printed text_names outcome)) ≡ status.ReadFailed → ⊥
 unfit_ends None outcome is = status_ends (has_fault outcome) is
 unfit_ends (Some why) outcome is = cc
@@ -195,8 +210,9 @@ module _ (elisions : Elisions) where
       let same : checked (accepted text) ≡ v = cc in checked_ends (accepted text) (ap ends_of same ∙ ends)
   next_ends (elide fuel job names) texts v is ends = run_ends elisions.of_job fuel job names texts v is ends
   next_ends (run workers fuel job names) texts v is ends = run_ends elisions.of_job fuel job names texts v is ends
-  next_ends (index workers input) texts v is ends = text_ends (λ t. elisions.of_index (index_plan t)) input texts v is ends
-  next_ends (convert workers input) texts v is ends = text_ends (λ t. elisions.of_conversion (record_plan t)) input texts v is ends
+  next_ends (index workers input) texts v is ends = text_ends (indexed elisions) input texts v is ends
+  next_ends (convert workers input) texts v is ends = text_ends (converted elisions) input texts v is ends
+  next_ends (bulk number size workers) texts v is ends = generated_ends elisions.of_job number size v is ends
 
   module _ (files : FilesSeen) (out report : SinkSeen) (well : NothingFailed files out report) where
     read_refused : (n : Next) (verdict : Verdict) → ((v : Verdict) → n ≡ settled v → ends_of v ≡ status.ReadFailed → ⊥) → Follows files n verdict → status.ReadFailed ≡ ends_of verdict → Wrote out report verdict → EndsWell files report status.ReadFailed

@@ -1,4 +1,5 @@
 pub mod Completeness
+pub mod Generated
 pub mod Leading
 pub mod Pipelines
 pub mod TextsRead

@@ -6,14 +6,14 @@ use Rattle.std.proofs.lemmas.Fmt.{decimal_digit}
 use Rattle.index_pipeline.specs.Index.{index_of, index_records}
 use Rattle.index_pipeline.specs.Plans.{index_plan}
 use Rattle.index_pipeline.specs.Indexed.{IsIndexed}
+use Rattle.index_pipeline.specs.contracts.body.IndexBodyBody.TheImpl.{ghosts as index_ghosts}
 use Rattle.index_pipeline.specs.declared.body.IndexBody.{IndexBody}
 use Rattle.index_pipeline.specs.declared.local.IndexLocal.{IndexLocal}
-use Rattle.job_body.specs.Standing.{Standing}
-use Rattle.job_reader.specs.declared.line.Line.{Line}
 use Rattle.line_blocks.specs.TextRoots.{text_names}
 use Rattle.record_pipeline.specs.Conversion.{convert_of, records_of, width_of}
 use Rattle.record_pipeline.specs.Plans.{record_plan}
 use Rattle.record_pipeline.specs.Converted.{IsConverted}
+use Rattle.record_pipeline.specs.contracts.body.RecordBodyBody.TheImpl.{ghosts as record_ghosts}
 use Rattle.record_pipeline.specs.declared.body.RecordBody.{RecordBody}
 use Rattle.record_pipeline.specs.declared.local.RecordLocal.{RecordLocal}
 use Rattle.swan_model.specs.Elision.{outcome}
@@ -25,16 +25,16 @@ use Rattle.swan_model.specs.declared.lines.LinesAnswer.{LinesAnswer}
 use Rattle.swan_model.specs.declared.outcome.Outcome.{Outcome}
 use Rattle.swan_model.specs.declared.value.Value.{Value}
 use Rattle.swan_model.specs.declared.value.Value.TheVariants.{Bytes}
-use Rattle.swan_top.specs.Command.{Command, help, version, check, elide, run, index, convert}
+use Rattle.swan_top.specs.Command.{Command, help, version, check, elide, run, index, convert, bulk}
 use Rattle.swan_top.specs.Decision.{Verdict, prints, next_of_text, printed, status_of, unless_unfit}
 use Rattle.swan_top.specs.Elisions.{elisions}
 use Rattle.swan_top.specs.Headline.{Answers, AreRead, FilesSeen, Follows, IsRead, Leads, SinkSeen, Took, Wrote, ends_of}
-use Rattle.swan_top.specs.Pipelines.{WrittenOf, WroteOfText, conversion_faults, pipeline_report}
+use Rattle.swan_top.specs.Pipelines.{WroteOfText, conversion_faults, pipeline_report}
 use Rattle.swan_top.specs.declared.status.Status.{Status}
 use Rattle.swan_top.specs.declared.status.Status.TheVariants as status
 
 -- whether texts were printed
-abbrev is_run : Status → Bool
+abbrev pub is_run : Status → Bool
 is_run status.Done = true
 is_run status.Faulted = true
 is_run _ = false
@@ -105,14 +105,15 @@ module _ (files : FilesSeen) (out report : SinkSeen) (input : List ℕ) where
         let t = told_of (outcome record_ghosts (record_plan r.0)) (map Bytes (records_of (width_of (lines r.0)) (lines r.0))) (conversion_faults r.0) (convert_of r.0) verdict ends law.outcome_is law.output r.3 same wrote in
         (r.0, r.1, r.2, t.0, t.1, t.2)
 
-module _ (job_ghosts : Ghosts (List Line) Standing) (index_ghosts : Ghosts IndexBody IndexLocal) (record_ghosts : Ghosts RecordBody RecordLocal) (index_law : IndexLaw index_ghosts) (conversion_law : ConversionLaw record_ghosts) (files : FilesSeen) (out report : SinkSeen) where
-  pub wrote_of_text : (asked : Option Command) (ends : Status) → Answers (elisions job_ghosts index_ghosts record_ghosts) files out report asked ends → WroteOfText files out report asked ends
+module _ (index_law : IndexLaw index_ghosts) (conversion_law : ConversionLaw record_ghosts) (files : FilesSeen) (out report : SinkSeen) where
+  pub wrote_of_text : (asked : Option Command) (ends : Status) → Answers elisions files out report asked ends → WroteOfText files out report asked ends
   wrote_of_text None ends is = tt
   wrote_of_text (Some (help)) ends is = tt
   wrote_of_text (Some (version)) ends is = tt
   wrote_of_text (Some (check job)) ends is = tt
   wrote_of_text (Some (elide fuel job inputs)) ends is = tt
   wrote_of_text (Some (run workers fuel job inputs)) ends is = tt
+  wrote_of_text (Some (bulk number size workers)) ends is = tt
   wrote_of_text (Some (index workers input)) status.Done is =
       let told = indexed files out report input is.0 status.Done (ap is_run (sym is.2.0)) is.2.0 is.2.1 index_ghosts index_law is.1 in
       record { text = told.0; is_read = told.1; none_refused = told.2; faulted = refl; wrote_out = told.4; wrote_report = told.5 }

@@ -1,10 +1,11 @@
 -- The words of a command with fuel, a job and inputs.
-use Rattle.std.proofs.Common.{◌≡◌, ℕ, ◌≤◌, Bool, true, false, cond, List, ◌∷◌, Option, Some, None, refl, ap, ◌∙◌, subst, leb-true}
+use Rattle.std.proofs.Common.{◌≡◌, ℕ, ◌≤◌, Bool, true, false, cond, List, [], ◌∷◌, Option, Some, None, refl, ap, ◌∙◌, subst, leb-true}
 use Rattle.std.specs.Prelude.{◌&&◌, nat_le, ℤ, pos, negsuc}
 use Rattle.std.specs.List.{list_all}
+use Rattle.bulk_workload.specs.declared.texts.TheConstants.{BULK_MOST}
 use Rattle.job_reader.specs.Atoms.{number as job_number}
-use Rattle.swan_top.specs.Command.{Command, number, within, is_file, job_and_inputs, fueled, manned, one_input, over_input, run, with_workers}
-use Rattle.swan_top.specs.declared.command.TheConstants.{FUEL_WORD_MOST, WORKERS_MOST}
+use Rattle.swan_top.specs.Command.{Command, bulk, number, within, is_file, generated_by, job_and_inputs, fueled, manned, one_input, over_input, run, three_numbers, with_workers}
+use Rattle.swan_top.specs.declared.command.TheConstants.{FUEL_WORD_MOST, NUMBER_WORD_MOST, WORKERS_MOST}
 
 chosen : (a b : Bool) (n m : ℕ) → cond (a && b) (Some n) None ≡ Some m → (b ≡ true) × (n ≡ m)
 chosen true true n m is = (refl, cc)
@@ -26,6 +27,14 @@ pub fueled_is : (words files : List (List ℕ)) (word job : List ℕ) (inputs : 
 fueled_is words files word job inputs fuel split is files_are a b = (
   within_le 1 FUEL_WORD_MOST (job_number word) fuel is,
   λ command. ap (fueled command) split ∙ ap (λ n. job_and_inputs command n files) is ∙ ap (job_and_inputs command (Some fuel)) files_are ∙ with_files command fuel job inputs a b,
+)
+
+-- three numbers in their ranges
+pub generated_is : (number' size workers : List ℕ) (n s w : ℕ) → number 0 NUMBER_WORD_MOST number' ≡ Some n → number 0 BULK_MOST size ≡ Some s → number 1 WORKERS_MOST workers ≡ Some w
+    → (three_numbers (number' ∷ size ∷ workers ∷ []) ≡ Some (bulk n s w)) × (s ≤ BULK_MOST)
+generated_is number' size workers n s w a b c = (
+  ap (λ x. generated_by x (number 0 BULK_MOST size) (number 1 WORKERS_MOST workers)) a ∙ ap (λ x. generated_by (Some n) x (number 1 WORKERS_MOST workers)) b ∙ ap (generated_by (Some n) (Some s)) c,
+  within_le 0 BULK_MOST (job_number size) s b,
 )
 
 -- the words after WORKERS

@@ -2,10 +2,11 @@
 -- no sign. A word that names a file isn't empty.
 use Rattle.std.specs.Prelude.{ℕ, ◌≤◌, ℤ, pos, nat_le, Bool, true, false, ◌&&◌, Option, Some, None, List, [], ◌∷◌, codes, bytes_eq, if◌then◌else◌}
 use Rattle.std.specs.List.{list_all}
+use Rattle.bulk_workload.specs.declared.texts.TheConstants.{BULK_MOST}
 use Rattle.job_reader.specs.Atoms.{number as job_number}
 use Rattle.swan_top.specs.declared.command.Command.{Command as Asked}
 use Rattle.swan_top.specs.declared.command.Command.TheVariants as code
-use Rattle.swan_top.specs.declared.command.TheConstants.{FUEL_WORD_MOST, WORKERS_MOST}
+use Rattle.swan_top.specs.declared.command.TheConstants.{FUEL_WORD_MOST, NUMBER_WORD_MOST, WORKERS_MOST}
 
 pub data Command : Type 0 where
   help : Command
@@ -15,6 +16,7 @@ pub data Command : Type 0 where
   run : (workers : ℕ) (fuel : ℕ) (job : List ℕ) (inputs : List (List ℕ)) → Command
   index : (workers : ℕ) (input : List ℕ) → Command
   convert : (workers : ℕ) (input : List ℕ) → Command
+  bulk : (number : ℕ) (size : ℕ) (workers : ℕ) → Command
 
 -- the number from low to high that a word is
 abbrev pub within : ℕ → ℕ → Option ℤ → Option ℕ
@@ -67,6 +69,16 @@ abbrev pub over_input : (ℕ → List ℕ → Command) → List (List ℕ) → O
 over_input command [] = None
 over_input command (workers ∷ words) = one_input command (number 1 WORKERS_MOST workers) words
 
+-- NUMBER SIZE WORKERS
+abbrev pub generated_by : Option ℕ → Option ℕ → Option ℕ → Option Command
+generated_by (Some number) (Some size) (Some workers) = Some (bulk number size workers)
+generated_by _ _ _ = None
+
+abbrev pub three_numbers : List (List ℕ) → Option Command
+three_numbers (number' ∷ size ∷ workers ∷ []) =
+    generated_by (number 0 NUMBER_WORD_MOST number') (number 0 BULK_MOST size) (number 1 WORKERS_MOST workers)
+three_numbers _ = None
+
 abbrev pub command : List (List ℕ) → Option Command
 command [] = None
 command (word ∷ words) =
@@ -75,6 +87,7 @@ command (word ∷ words) =
     else if bytes_eq word (codes "run") then manned words
     else if bytes_eq word (codes "index") then over_input index words
     else if bytes_eq word (codes "convert") then over_input convert words
+    else if bytes_eq word (codes "bulk") then three_numbers words
     else if bytes_eq word (codes "--help") then alone help words
     else if bytes_eq word (codes "--version") then alone version words
     else None
@@ -88,9 +101,11 @@ asked (code.Elide fuel job inputs) = elide fuel job.now inputs.now
 asked (code.Run workers fuel job inputs) = run workers fuel job.now inputs.now
 asked (code.Index workers input) = index workers input.now
 asked (code.Convert workers input) = convert workers input.now
+asked (code.Bulk number size workers) = bulk number size workers
 
--- no command asks for more fuel than words can
-abbrev pub IsFueled : Command → Type 0
-IsFueled (elide fuel job inputs) = fuel ≤ FUEL_WORD_MOST
-IsFueled (run workers fuel job inputs) = fuel ≤ FUEL_WORD_MOST
-IsFueled _ = Unit {0}
+-- no command asks for more fuel, or for a longer input, than words can
+abbrev pub IsWithinLimits : Command → Type 0
+IsWithinLimits (elide fuel job inputs) = fuel ≤ FUEL_WORD_MOST
+IsWithinLimits (run workers fuel job inputs) = fuel ≤ FUEL_WORD_MOST
+IsWithinLimits (bulk number size workers) = size ≤ BULK_MOST
+IsWithinLimits _ = Unit {0}

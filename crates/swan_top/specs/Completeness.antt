@@ -1,22 +1,21 @@
 -- Completeness: a call ends as its command says where the command is in order and nothing outside fails.
-use Rattle.std.specs.Prelude.{◌≡◌, ℕ, ◌≤◌, ◌⊎◌, length, Option, Some, None, Result, Ok, List, [], ◌∷◌, codes}
-use Rattle.index_pipeline.specs.Plans.{index_plan}
+use Rattle.std.specs.Prelude.{◌≡◌, ℕ, ◌≤◌, ◌⊎◌, length, Option, Some, None, Ok, List, [], ◌∷◌, codes}
+use Rattle.bulk_workload.specs.Bulk.{bulk_fuel, bulk_input, bulk_job}
 use Rattle.job_body.specs.NamesOfJob.{names_of_job}
 use Rattle.job_body.specs.PlanOfJob.{plan_of_job, refusal_of_plan}
 use Rattle.job_body.specs.Standing.{Standing}
 use Rattle.job_reader.specs.CanonicalText.{text_of}
 use Rattle.job_reader.specs.declared.line.Line.{Line}
 use Rattle.line_blocks.specs.TextRoots.{text_names}
-use Rattle.record_pipeline.specs.Plans.{record_plan}
 use Rattle.swan_model.specs.Lines.{refusal_of}
 use Rattle.swan_model.specs.declared.outcome.Outcome.{Outcome}
 use Rattle.swan_model.specs.declared.plan.Plan.{Plan}
 use Rattle.swan_outside.specs.Counts.{Rose}
 use Rattle.swan_outside.specs.Reads.{IsTooLong}
 use Rattle.swan_outside.specs.declared.files.TheConstants.{FILE_MOST}
-use Rattle.swan_top.specs.Command.{Command, help, version, check, elide, run, index, convert}
+use Rattle.swan_top.specs.Command.{Command, help, version, check, elide, run, index, convert, bulk}
 use Rattle.swan_top.specs.Decision.{Verdict, prints, accepted, printed, files_of}
-use Rattle.swan_top.specs.Elisions.{Elisions}
+use Rattle.swan_top.specs.Elisions.{Elisions, converted, indexed}
 use Rattle.swan_top.specs.Headline.{FilesSeen, SinkSeen, Took, Wrote, ends_of, usage}
 use Rattle.swan_top.specs.Refusals.{file_line}
 use Rattle.swan_top.specs.declared.help.TheConstants.{HELP, VERSION}
@@ -56,6 +55,10 @@ module _ (outcome_of : Plan (List Line) Standing → Outcome) where
     pub none_refused : refusal_of_plan lines inputs ≡ None
     pub prints_outcome : verdict ≡ printed (names_of_job lines) (outcome_of (plan_of_job lines inputs fuel))
 
+  -- The run of the generated job over its input is in order.
+  unfoldable pub GeneratedInOrder : (number size : ℕ) → Verdict → Type 0
+  GeneratedInOrder number size verdict = RunsInOrder (bulk_fuel size) (bulk_job size) (bulk_input number size ∷ []) verdict
+
 -- A pipeline over a text is in order: the text is within the limits of lines.
 pub record TextInOrder (outcome_over : List ℕ → Outcome) (text : List ℕ) (verdict : Verdict) : Type 0 where
   pub none_refused : refusal_of text ≡ None
@@ -69,8 +72,10 @@ module _ (elisions : Elisions) where
   InOrder (check job) (text ∷ texts) verdict = ChecksInOrder text verdict
   InOrder (elide fuel job names) (text ∷ inputs) verdict = RunsInOrder elisions.of_job fuel text inputs verdict
   InOrder (run workers fuel job names) (text ∷ inputs) verdict = RunsInOrder elisions.of_job fuel text inputs verdict
-  InOrder (index workers input) (text ∷ texts) verdict = TextInOrder (λ text. elisions.of_index (index_plan text)) text verdict
-  InOrder (convert workers input) (text ∷ texts) verdict = TextInOrder (λ text. elisions.of_conversion (record_plan text)) text verdict
+  InOrder (index workers input) (text ∷ texts) verdict = TextInOrder (indexed elisions) text verdict
+  InOrder (convert workers input) (text ∷ texts) verdict = TextInOrder (converted elisions) text verdict
+  InOrder (bulk number size workers) [] verdict = GeneratedInOrder elisions.of_job number size verdict
+  InOrder (bulk number size workers) (text ∷ texts) verdict = ⊥
   InOrder command [] verdict = ⊥
 
   -- Where the files tell texts over which the command is in order, and no count of faults rises, the call wrote

@@ -2,7 +2,7 @@
 -- the order of refusals is the order in which this definition asks.
 use Rattle.std.specs.Prelude.{ℕ, if◌then◌else◌, Option, Some, None, Result, Ok, Err, List, [], ◌∷◌, ◌++◌, codes}
 use Rattle.std.specs.Fmt.{decimal}
-use Rattle.index_pipeline.specs.Plans.{index_plan}
+use Rattle.bulk_workload.specs.Bulk.{bulk_fuel, bulk_input, bulk_job}
 use Rattle.job_body.specs.NamesOfJob.{names_of_job}
 use Rattle.job_body.specs.PlanOfJob.{of_input, plan_of_job, refusal_of_plan}
 use Rattle.job_body.specs.Standing.{Standing}
@@ -16,15 +16,14 @@ use Rattle.job_reader.specs.declared.fault.JobKind.TheVariants as kind
 use Rattle.job_reader.specs.declared.line.Line.{Line}
 use Rattle.line_blocks.specs.TextRoots.{text_names}
 use Rattle.privilege_check.specs.FirstFault.{first_fault}
-use Rattle.record_pipeline.specs.Plans.{record_plan}
 use Rattle.swan_model.specs.Lines.{refusal_of}
 use Rattle.swan_model.specs.Texts.{out_bytes, report_bytes, has_fault}
 use Rattle.swan_model.specs.declared.lines.LinesAnswer.{LinesAnswer}
 use Rattle.swan_model.specs.declared.outcome.Names.{Names}
 use Rattle.swan_model.specs.declared.outcome.Outcome.{Outcome}
 use Rattle.swan_model.specs.declared.plan.Plan.{Plan}
-use Rattle.swan_top.specs.Command.{Command, help, version, check, elide, run, index, convert}
-use Rattle.swan_top.specs.Elisions.{Elisions}
+use Rattle.swan_top.specs.Command.{Command, help, version, check, elide, run, index, convert, bulk}
+use Rattle.swan_top.specs.Elisions.{Elisions, converted, indexed}
 use Rattle.swan_top.specs.declared.help.TheConstants.{HELP, VERSION}
 use Rattle.swan_top.specs.declared.status.Status.{Status}
 use Rattle.swan_top.specs.declared.status.Status.TheVariants as status
@@ -134,14 +133,19 @@ module _ (outcome_of : Plan (List Line) Standing → Outcome) where
   next_of_run fuel job files [] = reads job
   next_of_run fuel job files (text ∷ inputs) = next_of_job fuel files (accepted text) inputs
 
+  -- the run of the generated job over its input, for which no file is read
+  unfoldable pub generated : (number size : ℕ) → Next
+  generated number size = next_of_job (bulk_fuel size) [] (accepted (bulk_job size)) (bulk_input number size ∷ [])
+
 abbrev pub next : Elisions → Command → (texts : List (List ℕ)) → Next
 next elisions help texts = settled (prints HELP.now [] status.Done)
 next elisions version texts = settled (prints VERSION.now [] status.Done)
 next elisions (check job) texts = next_of_check job texts
 next elisions (elide fuel job inputs) texts = next_of_run elisions.of_job fuel job inputs texts
 next elisions (run workers fuel job inputs) texts = next_of_run elisions.of_job fuel job inputs texts
-next elisions (index workers input) texts = next_of_text (λ text. elisions.of_index (index_plan text)) input texts
-next elisions (convert workers input) texts = next_of_text (λ text. elisions.of_conversion (record_plan text)) input texts
+next elisions (index workers input) texts = next_of_text (indexed elisions) input texts
+next elisions (convert workers input) texts = next_of_text (converted elisions) input texts
+next elisions (bulk number size workers) texts = generated elisions.of_job number size
 
 -- the files of a command, in the order in which they are read
 abbrev pub files_of : Command → List (List ℕ)
@@ -152,3 +156,4 @@ files_of (elide fuel job inputs) = job ∷ inputs
 files_of (run workers fuel job inputs) = job ∷ inputs
 files_of (index workers input) = input ∷ []
 files_of (convert workers input) = input ∷ []
+files_of (bulk number size workers) = []

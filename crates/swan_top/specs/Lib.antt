@@ -1,4 +1,4 @@
--- What the top call does. The first seven files are what a reader of its clauses needs, in this order. The
+-- What the top call does. The first eight files are what a reader of its clauses needs, in this order. The
 -- others are what the code's own functions answer.
 pub mod Command
 pub mod Elisions
@@ -7,6 +7,7 @@ pub mod Decision
 pub mod Headline
 pub mod Completeness
 pub mod Pipelines
+pub mod Generated
 pub mod Codes
 pub mod Settled
 pub mod Forms

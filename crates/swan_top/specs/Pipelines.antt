@@ -1,5 +1,5 @@
 -- What an index and a conversion write, told of the text that was read, and of no plan and no task.
-use Rattle.std.specs.Prelude.{◌≡◌, ℕ, Bool, true, false, Option, Some, None, List, [], ◌∷◌, ◌++◌, length, codes, flat_map}
+use Rattle.std.specs.Prelude.{◌≡◌, ℕ, Bool, true, false, Option, Some, None, List, [], ◌++◌, length, codes, flat_map}
 use Rattle.std.specs.Fmt.{decimal}
 use Rattle.index_pipeline.specs.Index.{index_of}
 use Rattle.record_pipeline.specs.Conversion.{convert_of, faults_from, width_of}

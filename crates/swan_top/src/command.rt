@@ -1,14 +1,18 @@
 // The command that words are.
-ghost use Rattle.std.specs.Prelude.{◌≡◌, ◌^◌, ◌<◌, bytes_eq, IfOk, OnErr, Some, None};
-ghost use Rattle.swan_top.specs.Command.{command, number, is_file, alone, asked, job_alone, fueled, manned, over_input, elide, run, index, convert, IsFueled};
+ghost use Rattle.std.specs.Prelude.{◌≡◌, ◌^◌, ◌<◌, ◌∷◌, [], bytes_eq, IfOk, OnErr, Some, None};
+ghost use Rattle.swan_top.specs.Command.{command, number, is_file, alone, asked, job_alone, fueled, manned, over_input, elide, run, index, convert, three_numbers, IsWithinLimits};
 ghost use Rattle.swan_top.specs.Forms.{Reads, FilesOf, JobOf, WorkersOf, InputOf};
 ghost use Rattle.std.specs.List.{list_all};
 
+use bulk_workload::BULK_MOST;
 use job_reader::read_number;
 use swan_model::Word;
 
 /// The largest fuel that words can ask for.
 pub const FUEL_WORD_MOST: u64 = 10_000_000;
+
+/// The largest number that words can begin a generated input with.
+pub const NUMBER_WORD_MOST: u64 = 1_000_000_000;
 
 /// The largest number of workers that words can ask for.
 pub const WORKERS_MOST: u64 = 1;
@@ -59,6 +63,15 @@ pub enum Command<'a> {
         /// The text's file.
         input: &'a Word,
     },
+    /// Run a generated job over a generated input.
+    Bulk {
+        /// The number that the input begins with.
+        number: u64,
+        /// How many lines the input has.
+        size: u64,
+        /// How many workers run it.
+        workers: u32,
+    },
 }
 
 /// The words are no command.
@@ -93,7 +106,7 @@ fn is_file(word: &Word) -> bool
 
 // A command of no further words.
 fn alone<'a>(command: Command<'a>, words: &[Word]) -> Result<Command<'a>, Usage>
-    requires { IsFueled (asked command) }
+    requires { IsWithinLimits (asked command) }
     ensures { Reads (alone (asked command.entry) words.now) result }
 {
     match words {
@@ -162,6 +175,16 @@ fn elide_command(words: &[Word]) -> Result<Command<'_>, Usage>
     }
 }
 
+// WORKERS.
+fn workers_of(word: &Word) -> Option<u32>
+    ensures { result ≡ number 1 WORKERS_MOST word.now }
+{
+    match number(1, WORKERS_MOST, word) {
+        Some(workers) => Some(workers as u32),
+        None => None,
+    }
+}
+
 // WORKERS, and the words after it.
 fn manned(words: &[Word]) -> Option<(u32, &[Word])>
     ensures { WorkersOf result words.now }
@@ -169,8 +192,8 @@ fn manned(words: &[Word]) -> Option<(u32, &[Word])>
     let Some((workers, words)) = words.split_first() else {
         return None;
     };
-    match number(1, WORKERS_MOST, workers) {
-        Some(workers) => Some((workers as u32, words)),
+    match workers_of(workers) {
+        Some(workers) => Some((workers, words)),
         None => None,
     }
 }
@@ -226,12 +249,44 @@ fn convert_command(words: &[Word]) -> Result<Command<'_>, Usage>
     }
 }
 
+// NUMBER SIZE WORKERS, as three words.
+fn generated_by<'a>(
+    number_word: &Word,
+    size_word: &Word,
+    workers_word: &Word,
+) -> Result<Command<'a>, Usage>
+    ensures { Reads (three_numbers (number_word.now ∷ size_word.now ∷ workers_word.now ∷ [])) result }
+{
+    match (
+        number(0, NUMBER_WORD_MOST, number_word),
+        number(0, BULK_MOST, size_word),
+        workers_of(workers_word),
+    ) {
+        (Some(number), Some(size), Some(workers)) => Ok(Command::Bulk {
+            number,
+            size,
+            workers,
+        }),
+        _ => Err(Usage),
+    }
+}
+
+// NUMBER SIZE WORKERS.
+fn bulk_command(words: &[Word]) -> Result<Command<'_>, Usage>
+    ensures { Reads (three_numbers words.now) result }
+{
+    match words {
+        [number, size, workers] => generated_by(number, size, workers),
+        _ => Err(Usage),
+    }
+}
+
 /// The command that words are. Usage comes exactly where they are none. It takes no memory, and goes
 /// over the words once.
 pub fn read_words(words: &[Word]) -> Result<Command<'_>, Usage>
     ensures command { IfOk result (λ command'. command words.now ≡ Some (asked command')) }
     ensures usage { OnErr result (command words.now ≡ None) }
-    ensures fueled { IfOk result (λ command'. IsFueled (asked command')) }
+    ensures within_limits { IfOk result (λ command'. IsWithinLimits (asked command')) }
 {
     let Some((word, words)) = words.split_first() else {
         return Err(Usage);
@@ -246,6 +301,8 @@ pub fn read_words(words: &[Word]) -> Result<Command<'_>, Usage>
         index_command(words)
     } else if is_word(word, "convert") {
         convert_command(words)
+    } else if is_word(word, "bulk") {
+        bulk_command(words)
     } else if is_word(word, "--help") {
         alone(Command::Help, words)
     } else if is_word(word, "--version") {

@@ -17,13 +17,18 @@ elision of the job writes, in which each spawn is an ordinary call.
   swan index WORKERS INPUT
       writes the index of a text: each word with the number of each line on which it stands
   swan convert WORKERS INPUT
-      writes the fields of each line, which TAB bytes part, as netstrings
+      writes the fields of each line, which TAB bytes part, as netstrings; a line with another number
+      of fields than the first one, or with netstrings of more than 65535 bytes, is a fault
+  swan bulk NUMBER SIZE WORKERS
+      runs a generated job over SIZE generated lines, each a number below 1000, the first of them
+      NUMBER without all but its last three digits; it writes their sum and how many they are
   swan --help
       writes this text
   swan --version
       writes the version
 
-FUEL is 1 to 10000000, and WORKERS is 1 in this version. Numbers have no sign and no leading zero.
+FUEL is 1 to 10000000, and WORKERS is 1 in this version. NUMBER is 0 to 1000000000, and SIZE 0 to
+300000. Numbers have no sign and no leading zero.
 JOB and each INPUT name a file.
 The items that are left in the job's outputs go to standard output. A report goes to standard error:
 the job's objects, how many items are left in its inputs, and the faults.

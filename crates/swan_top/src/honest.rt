@@ -7,10 +7,6 @@ ghost use Rattle.swan_top.specs.Elisions.{elisions};
 ghost use Rattle.swan_top.specs.Headline.{Answers, files_seen, seen_of};
 ghost use Rattle.swan_top.specs.declared.status.Status.{Status};
 
-use index_pipeline::IndexBody;
-use job_body::JobBody;
-use record_pipeline::RecordBody;
-use swan_model::Body;
 use swan_outside::{Files, HonestFiles, HonestSink, Sink};
 
 /// The law that over `HonestFiles` and `HonestSink` no count of faults rises, whatever a call leaves of them
@@ -31,7 +27,7 @@ pub fn honest_calls_end_well()
         let F = ⟦<HonestFiles as Files>⟧ in let S = ⟦<HonestSink as Sink>⟧ in
         let seen = files_seen (F.content files) (F.faults files) (F.faults files') (F.long_reads files) (F.long_reads files') in
         let written = seen_of (S.written report) (S.written report') (S.faults report) (S.faults report') in
-        Answers (elisions ⟦<JobBody as Body>⟧ ⟦<IndexBody as Body>⟧ ⟦<RecordBody as Body>⟧) seen
+        Answers elisions seen
         (seen_of (S.written out) (S.written out') (S.faults out) (S.faults out')) written asked ends
         → EndsWell seen written ends }
     ensures completes { (files files' : HonestFilesState) (out out' report report' : HonestSinkState)
@@ -40,6 +36,6 @@ pub fn honest_calls_end_well()
         let seen = files_seen (F.content files) (F.faults files) (F.faults files') (F.long_reads files) (F.long_reads files') in
         let printed = seen_of (S.written out) (S.written out') (S.faults out) (S.faults out') in
         let written = seen_of (S.written report) (S.written report') (S.faults report) (S.faults report') in
-        Answers (elisions ⟦<JobBody as Body>⟧ ⟦<IndexBody as Body>⟧ ⟦<RecordBody as Body>⟧) seen printed written asked ends
-        → CompletesWell (elisions ⟦<JobBody as Body>⟧ ⟦<IndexBody as Body>⟧ ⟦<RecordBody as Body>⟧) seen printed written asked ends }
+        Answers elisions seen printed written asked ends
+        → CompletesWell elisions seen printed written asked ends }
 {}

@@ -1,15 +1,16 @@
 //! The top call: what the program does with its words.
 //!
-//! `swan` reads the words, reads and checks the job, reads the inputs, runs the job and writes the
-//! output and the report, in this order; for a pipeline that is written in code, it reads the text and runs its
-//! plan. Its clause `answered` is the headline of the project: it says of every status what was read, what was decided of it, and what is then in the sinks. The
-//! definitions that it cites stand in `specs/Headline.antt`, which is meant to be read from top to
-//! bottom, with `specs/Command.antt` and `specs/Decision.antt` before it. Its clause `complete` says when a
-//! call ends as its command says (`specs/Completeness.antt`), and the law `honest_calls_end_well` says both of
-//! files and sinks that never fail.
+//! `swan` reads the words, reads and checks the job, reads the inputs, runs the job and writes the output and the
+//! report, in this order; for a pipeline that is written in code, it reads the text and runs its plan; for a
+//! generated run, it makes the job and the input in the place of reading them. Its clause `answered` is the
+//! headline of the project: it says of every status what was read, what was decided of it, and what is then in the
+//! sinks. The definitions that it cites stand in `specs/Headline.antt`, which is meant to be read from top to
+//! bottom, with `specs/Command.antt` and `specs/Decision.antt` before it. Its clause `complete` says when a call
+//! ends as its command says (`specs/Completeness.antt`), and the law `honest_calls_end_well` says both of files and
+//! sinks that never fail.
 //!
 //! What an index and a conversion write is said by its clause `written_of_text` (`specs/Pipelines.antt`), of the text
-//! alone.
+//! alone. That a generated job is never refused is its clause `never_refused` (`specs/Generated.antt`).
 //!
 //! Not promised: that memory is found, and what real files and streams hold. Over those only the causes
 //! of each status are known.
@@ -31,7 +32,7 @@ mod top_call;
 mod verdict;
 mod write;
 
-pub use command::{Command, FUEL_WORD_MOST, Usage, WORKERS_MOST, read_words};
+pub use command::{Command, FUEL_WORD_MOST, NUMBER_WORD_MOST, Usage, WORKERS_MOST, read_words};
 pub use help::{HELP, VERSION};
 pub use honest::honest_calls_end_well;
 pub use limits::limits_of_words;

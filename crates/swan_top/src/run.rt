@@ -3,6 +3,7 @@ ghost use Rattle.std.specs.Prelude.{◌≡◌, ◌≤◌, IfOk, IfErr};
 ghost use Rattle.job_body.specs.NamesOfJob.{IsNaming};
 ghost use Rattle.job_body.specs.PlanOfJob.{of_input};
 ghost use Rattle.swan_model.specs.Elision.{outcome};
+ghost use Rattle.swan_top.specs.Elisions.{elisions};
 ghost use Rattle.swan_top.specs.Decision.{input_line, printed, ran, refuses, status_of};
 ghost use Rattle.swan_top.specs.declared.status.Status.TheVariants as status;
 ghost use Rattle.swan_top.specs.Settled.{Is, Ran, Stops};
@@ -11,7 +12,7 @@ ghost use Rattle.job_body.specs.declared.answer.PlanAnswer.TheVariants as plan;
 
 use crate::Status;
 use crate::verdict::{Settled, Stop};
-use job_body::{JobBody, PlanAnswer, names_of, plan_of};
+use job_body::{PlanAnswer, names_of, plan_of};
 use privilege_check::CheckedJob;
 use serial_elision::{Printed, elide, print};
 use std::alloc::{AllocError, Global};
@@ -90,8 +91,8 @@ pub(crate) fn run_job(
     inputs: Vec<Blob>,
 ) -> Result<Settled, Stop>
     requires { fuel ≤ FUEL_MOST }
-    ensures ran { IfOk result (Is (λ verdict. verdict ≡ ran (outcome ⟦<JobBody as Body>⟧) job inputs.items fuel)) }
-    ensures refused { IfErr result (Stops (λ verdict. verdict ≡ ran (outcome ⟦<JobBody as Body>⟧) job inputs.items fuel)) }
+    ensures ran { IfOk result (Is (λ verdict. verdict ≡ ran elisions.of_job job inputs.items fuel)) }
+    ensures refused { IfErr result (Stops (λ verdict. verdict ≡ ran elisions.of_job job inputs.items fuel)) }
 {
     let names = names_of(alloc, &job)?;
     let plan = match plan_of(alloc, job, inputs, fuel) {

@@ -1,12 +1,10 @@
 // What a command leads to.
 ghost use Rattle.std.specs.Prelude.{◌≡◌, ◌≤◌, ◌∷◌, [], IfOk, IfErr, Ok, Some};
-ghost use Rattle.index_pipeline.specs.Plans.{index_plan};
-ghost use Rattle.record_pipeline.specs.Plans.{record_plan};
-ghost use Rattle.swan_model.specs.Elision.{outcome};
+ghost use Rattle.bulk_workload.specs.declared.texts.TheConstants.{BULK_MOST};
 ghost use Rattle.swan_model.specs.declared.plan.TheConstants.{FUEL_MOST};
-ghost use Rattle.swan_top.specs.Command.{asked, IsFueled};
-ghost use Rattle.swan_top.specs.Decision.{checked, next_of_check, next_of_run, next_of_text, prints};
-ghost use Rattle.swan_top.specs.Elisions.{elisions};
+ghost use Rattle.swan_top.specs.Command.{asked, IsWithinLimits};
+ghost use Rattle.swan_top.specs.Decision.{checked, generated, settled, next_of_check, next_of_run, next_of_text, prints};
+ghost use Rattle.swan_top.specs.Elisions.{converted, elisions, indexed};
 ghost use Rattle.swan_top.specs.Headline.{Leads, Settles, files_seen};
 ghost use Rattle.swan_top.specs.Settled.{Is, Stops, StopsOver, verdict_of};
 ghost use Rattle.swan_top.specs.declared.status.Status.TheVariants as status;
@@ -17,13 +15,13 @@ use crate::read::read_file;
 use crate::run::{run_job, run_text};
 use crate::verdict::{Settled, Stop};
 use crate::{Command, HELP, Status, VERSION};
-use index_pipeline::{IndexBody, index_names, index_plan};
-use job_body::JobBody;
+use bulk_workload::{bulk_fuel, bulk_input, bulk_job};
+use index_pipeline::{index_names, index_plan};
 use job_reader::write_job;
 use privilege_check::CheckedJob;
-use record_pipeline::{RecordBody, record_names, record_plan};
+use record_pipeline::{record_names, record_plan};
 use std::alloc::{AllocError, Global};
-use swan_model::{Blob, Body, Word};
+use swan_model::{Blob, Word};
 use swan_outside::Files;
 
 // A text for the output, and nothing to report.
@@ -74,11 +72,11 @@ fn settle_run<F: Files>(
     requires { fuel ≤ FUEL_MOST }
     ensures ok { IfOk result (Is (Leads (files_seen (F.content files.old)
         (F.faults files.old) (F.faults files.new) (F.long_reads files.old) (F.long_reads files.new))
-        (job.now ∷ inputs.now) (next_of_run (outcome ⟦<JobBody as Body>⟧) fuel job.now inputs.now))) }
+        (job.now ∷ inputs.now) (next_of_run elisions.of_job fuel job.now inputs.now))) }
     ensures err { let seen = files_seen (F.content files.old) (F.faults files.old) (F.faults files.new)
         (F.long_reads files.old) (F.long_reads files.new) in
         IfErr result (StopsOver seen (Leads seen (job.now ∷ inputs.now)
-        (next_of_run (outcome ⟦<JobBody as Body>⟧) fuel job.now inputs.now))) }
+        (next_of_run elisions.of_job fuel job.now inputs.now))) }
 {
     let text = read_file(alloc, files, job)?;
     let job = accept(alloc, text)?;
@@ -90,11 +88,11 @@ fn settle_run<F: Files>(
 fn settle_index<F: Files>(alloc: Global, files: &mut F, input: &Word) -> Result<Settled, Stop>
     ensures ok { IfOk result (Is (Leads (files_seen (F.content files.old)
         (F.faults files.old) (F.faults files.new) (F.long_reads files.old) (F.long_reads files.new))
-        (input.now ∷ []) (next_of_text (λ text. outcome ⟦<IndexBody as Body>⟧ (index_plan text)) input.now))) }
+        (input.now ∷ []) (next_of_text (indexed elisions) input.now))) }
     ensures err { let seen = files_seen (F.content files.old) (F.faults files.old) (F.faults files.new)
         (F.long_reads files.old) (F.long_reads files.new) in
         IfErr result (StopsOver seen (Leads seen (input.now ∷ [])
-        (next_of_text (λ text. outcome ⟦<IndexBody as Body>⟧ (index_plan text)) input.now))) }
+        (next_of_text (indexed elisions) input.now))) }
 {
     let text = read_file(alloc, files, input)?;
     let names = index_names(alloc)?;
@@ -107,11 +105,11 @@ fn settle_index<F: Files>(alloc: Global, files: &mut F, input: &Word) -> Result<
 fn settle_convert<F: Files>(alloc: Global, files: &mut F, input: &Word) -> Result<Settled, Stop>
     ensures ok { IfOk result (Is (Leads (files_seen (F.content files.old)
         (F.faults files.old) (F.faults files.new) (F.long_reads files.old) (F.long_reads files.new))
-        (input.now ∷ []) (next_of_text (λ text. outcome ⟦<RecordBody as Body>⟧ (record_plan text)) input.now))) }
+        (input.now ∷ []) (next_of_text (converted elisions) input.now))) }
     ensures err { let seen = files_seen (F.content files.old) (F.faults files.old) (F.faults files.new)
         (F.long_reads files.old) (F.long_reads files.new) in
         IfErr result (StopsOver seen (Leads seen (input.now ∷ [])
-        (next_of_text (λ text. outcome ⟦<RecordBody as Body>⟧ (record_plan text)) input.now))) }
+        (next_of_text (converted elisions) input.now))) }
 {
     let text = read_file(alloc, files, input)?;
     let names = record_names(alloc)?;
@@ -120,18 +118,29 @@ fn settle_convert<F: Files>(alloc: Global, files: &mut F, input: &Word) -> Resul
     run_text(alloc, plan, &names)
 }
 
+// What the run of the generated job over its input leads to.
+fn settle_bulk(alloc: Global, number: u64, size: u64) -> Result<Settled, Stop>
+    requires { size ≤ BULK_MOST }
+    ensures ok { IfOk result (Is (λ verdict. generated elisions.of_job number size ≡ settled verdict)) }
+    ensures err { IfErr result (Stops (λ verdict. generated elisions.of_job number size ≡ settled verdict)) }
+{
+    let job = accept(alloc, bulk_job(alloc, size)?)?;
+    let inputs = vec![in alloc; Blob::new(bulk_input(alloc, number, size)?)]?;
+    run_job(alloc, bulk_fuel(size), job, inputs)
+}
+
 // What a command leads to.
 pub(crate) fn settle<F: Files>(
     alloc: Global,
     files: &mut F,
     command: Command<'_>,
 ) -> Result<Settled, Stop>
-    requires { IsFueled (asked command) }
-    ensures ok { IfOk result (Is (Settles (elisions ⟦<JobBody as Body>⟧ ⟦<IndexBody as Body>⟧ ⟦<RecordBody as Body>⟧) (files_seen (F.content files.old)
+    requires { IsWithinLimits (asked command) }
+    ensures ok { IfOk result (Is (Settles elisions (files_seen (F.content files.old)
         (F.faults files.old) (F.faults files.new) (F.long_reads files.old) (F.long_reads files.new)) (asked command.entry))) }
     ensures err { let seen = files_seen (F.content files.old) (F.faults files.old) (F.faults files.new)
         (F.long_reads files.old) (F.long_reads files.new) in
-        IfErr result (StopsOver seen (Settles (elisions ⟦<JobBody as Body>⟧ ⟦<IndexBody as Body>⟧ ⟦<RecordBody as Body>⟧) seen (asked command.entry))) }
+        IfErr result (StopsOver seen (Settles elisions seen (asked command.entry))) }
 {
     match command {
         Command::Help => Ok(settle_text(alloc, HELP)?),
@@ -146,5 +155,6 @@ pub(crate) fn settle<F: Files>(
         } => settle_run(alloc, files, fuel, job, inputs),
         Command::Index { input, .. } => settle_index(alloc, files, input),
         Command::Convert { input, .. } => settle_convert(alloc, files, input),
+        Command::Bulk { number, size, .. } => settle_bulk(alloc, number, size),
     }
 }

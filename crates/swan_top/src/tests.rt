@@ -6,6 +6,7 @@ use std::test::Fail;
 use swan_model::{Blob, Word, Words};
 use swan_outside::{FileBlob, MemoryFiles, MemorySink};
 
+mod generated;
 mod honest;
 mod jobs;
 mod limits;

@@ -1,8 +1,9 @@
 // The top call.
-ghost use Rattle.std.specs.Prelude.{◌≡◌};
-ghost use Rattle.swan_top.specs.Command.{command};
+ghost use Rattle.std.specs.Prelude.{◌≡◌, IfSome};
+ghost use Rattle.swan_top.specs.Command.{command, IsWithinLimits};
 ghost use Rattle.swan_top.specs.Completeness.{Completes};
 ghost use Rattle.swan_top.specs.Elisions.{elisions};
+ghost use Rattle.swan_top.specs.Generated.{NeverRefused};
 ghost use Rattle.swan_top.specs.Headline.{Answers, files_seen, seen_of};
 ghost use Rattle.swan_top.specs.Pipelines.{WroteOfText};
 
@@ -10,11 +11,11 @@ use crate::settle::settle;
 use crate::verdict::Stop;
 use crate::write::{write_line, write_settled};
 use crate::{Status, Usage, read_words};
-use index_pipeline::{IndexBody, the_outcome_is_the_index};
-use job_body::JobBody;
-use record_pipeline::{RecordBody, the_outcome_is_the_conversion};
+use bulk_workload::a_bulk_job_is_never_refused;
+use index_pipeline::the_outcome_is_the_index;
+use record_pipeline::the_outcome_is_the_conversion;
 use std::alloc::Global;
-use swan_model::{Body, Word};
+use swan_model::Word;
 use swan_outside::{Files, Sink};
 
 /// Does what the words ask for, and answers how it ended.
@@ -34,6 +35,8 @@ use swan_outside::{Files, Sink};
 /// (InputRefused), the run, the writes. An index that is Done has written the index of the text that was read, and is
 /// never Faulted; a conversion has written its conversion, and the faults of the lines that are left out.
 ///
+/// A generated run reads no file, and its job is never refused: the call ends as the run does, or WriteFailed or NoMemory.
+///
 /// Where the words are a command, the texts that `files` tells are in order for it, and no count of faults
 /// rises, the call ends Done or Faulted as the elision says, or NoMemory.
 ///
@@ -47,12 +50,12 @@ pub fn swan<F: Files, O: Sink, R: Sink>(
     out: &mut O,
     report: &mut R,
 ) -> Status
-    ensures answered { Answers (elisions ⟦<JobBody as Body>⟧ ⟦<IndexBody as Body>⟧ ⟦<RecordBody as Body>⟧)
+    ensures answered { Answers elisions
         (files_seen (F.content files.old) (F.faults files.old) (F.faults files.new) (F.long_reads files.old) (F.long_reads files.new))
         (seen_of (O.written out.old) (O.written out.new) (O.faults out.old) (O.faults out.new))
         (seen_of (R.written report.old) (R.written report.new) (R.faults report.old) (R.faults report.new))
         (command words.now) result }
-    ensures complete { Completes (elisions ⟦<JobBody as Body>⟧ ⟦<IndexBody as Body>⟧ ⟦<RecordBody as Body>⟧)
+    ensures complete { Completes elisions
         (files_seen (F.content files.old) (F.faults files.old) (F.faults files.new) (F.long_reads files.old) (F.long_reads files.new))
         (seen_of (O.written out.old) (O.written out.new) (O.faults out.old) (O.faults out.new))
         (seen_of (R.written report.old) (R.written report.new) (R.faults report.old) (R.faults report.new))
@@ -62,10 +65,15 @@ pub fn swan<F: Files, O: Sink, R: Sink>(
         (seen_of (O.written out.old) (O.written out.new) (O.faults out.old) (O.faults out.new))
         (seen_of (R.written report.old) (R.written report.new) (R.faults report.old) (R.faults report.new))
         (command words.now) result }
+    ensures never_refused { NeverRefused elisions
+        (seen_of (O.written out.old) (O.written out.new) (O.faults out.old) (O.faults out.new))
+        (seen_of (R.written report.old) (R.written report.new) (R.faults report.old) (R.faults report.new))
+        (command words.now) result }
 {
-    // what the pipelines leave is what they are for
+    // what the pipelines leave is what they are for, and the generated job is in order
     the_outcome_is_the_index();
     the_outcome_is_the_conversion();
+    a_bulk_job_is_never_refused();
     follow(alloc, words, files, out, report)
 }
 
@@ -77,11 +85,12 @@ fn follow<F: Files, O: Sink, R: Sink>(
     out: &mut O,
     report: &mut R,
 ) -> Status
-    ensures { Answers (elisions ⟦<JobBody as Body>⟧ ⟦<IndexBody as Body>⟧ ⟦<RecordBody as Body>⟧)
+    ensures answered { Answers elisions
         (files_seen (F.content files.old) (F.faults files.old) (F.faults files.new) (F.long_reads files.old) (F.long_reads files.new))
         (seen_of (O.written out.old) (O.written out.new) (O.faults out.old) (O.faults out.new))
         (seen_of (R.written report.old) (R.written report.new) (R.faults report.old) (R.faults report.new))
         (command words.now) result }
+    ensures within_limits { IfSome (command words.now) IsWithinLimits }
 {
     let command = match read_words(words) {
         Ok(command) => command,

@@ -14,6 +14,7 @@ check long||too long long~|4
 run 1 5 b three three||inputs 1 2~|7
 index 1 missing||left input 0~faults 0~|0
 convert 1 long||too long long~|4
+bulk 7 3 1|402~3~|object total int 402~object count int 3~left lines 0~faults 0~|0
 frob||usage~|2";
 
 // What a sink tells.

@@ -1,5 +1,5 @@
 // Failing reads and writes, cut jobs, and limits.
-use super::jobs::TEXTS;
+use super::jobs::{HELLO, LEAVES};
 use super::*;
 
 /// The number of the read that fails; then the words, the output, the report and the code. Reads count from 1,
@@ -23,6 +23,7 @@ const FAILING_READS: &str = "\
 2 index 1 x|1 1~|left input 0~faults 0~|0
 1 convert 1 y||read failed y~|4
 2 convert 1 y|1:2,~|left input 0~faults 0~|0
+1 bulk 7 1 1|7~1~|object total int 7~object count int 1~left lines 0~faults 0~|0
 1 --version|swan 0.1.0~||0
 1 frob||usage~|2";
 
@@ -30,7 +31,7 @@ const FAILING_READS: &str = "\
 fn a_failing_read_is_named_and_none_is_made_again(rt: HostRuntime) -> Result<(), Fail> {
     for row in FAILING_READS.lines() {
         let (number, row) = row.split_once(' ').ok_or("no number")?;
-        let files = files_of(rt.alloc(), "b x y", &[TEXTS[1], "1", "2"])?;
+        let files = files_of(rt.alloc(), "b x y", &[LEAVES, "1", "2"])?;
         hold_row(
             &rt,
             rt.alloc(),
@@ -46,7 +47,7 @@ fn a_failing_read_is_named_and_none_is_made_again(rt: HostRuntime) -> Result<(),
 #[test]
 fn an_input_past_the_limit_of_files_is_too_long(rt: HostRuntime) -> Result<(), Fail> {
     for words in ["run 1 5 b x", "elide 5 b x"] {
-        let mut files = files_of(rt.alloc(), "b", &[TEXTS[1]])?;
+        let mut files = files_of(rt.alloc(), "b", &[LEAVES])?;
         let name = word(rt.alloc(), "x")?;
         let content = Blob::new(vec![in rt.alloc(); b'x'; 67_108_865]?);
         files.push(FileBlob { name, content })?;
@@ -65,7 +66,7 @@ fn written(
     report_fails: u64,
 ) -> Result<Ended, AllocError> {
     let words = words_of(alloc, words)?;
-    let files = files_of(alloc, "a", &[TEXTS[0]])?;
+    let files = files_of(alloc, "a", &[HELLO])?;
     let mut files = MemoryFiles::new(files, Vec::new(alloc));
     let mut out = sink(alloc, 2, out_fails)?;
     let mut report = sink(alloc, 4_096, report_fails)?;
@@ -92,6 +93,8 @@ fn a_failing_write_leaves_a_front(rt: HostRuntime) -> Result<(), Fail> {
             "",
             "5",
         ),
+        ("bulk 7 3 1", 2, 0, "40", "", "5"),
+        ("bulk 7 3 1", 0, 1, "402\n3\n", "", "5"),
         ("", 0, 1, "", "", "5"),
         ("", 1, 2, "", "usage\n", "2"),
         ("check x", 0, 1, "", "", "5"),
@@ -136,7 +139,7 @@ fn hold_front(rt: &impl Abort, alloc: Global, row: &str) -> Result<(), Fail> {
     let kind = parts.next().ok_or("no kind")?;
     let report = format!(in alloc; "refused {line} {kind}\n")?;
     for len in from..=to {
-        let front = TEXTS[0].get(..len).ok_or("too long")?;
+        let front = HELLO.get(..len).ok_or("too long")?;
         let got = called(alloc, files_of(alloc, "a", &[front])?, "check a", 0)?;
         assert_ended(rt, &got, row, "", report.as_str(), "3");
     }
@@ -146,14 +149,14 @@ fn hold_front(rt: &impl Abort, alloc: Global, row: &str) -> Result<(), Fail> {
 #[test]
 fn a_whole_job_is_printed_with_and_without_its_last_line_feed(rt: HostRuntime) -> Result<(), Fail> {
     for len in [58, 59] {
-        let front = TEXTS[0].get(..len).ok_or("too long")?;
+        let front = HELLO.get(..len).ok_or("too long")?;
         let got = called(
             rt.alloc(),
             files_of(rt.alloc(), "a", &[front])?,
             "check a",
             0,
         )?;
-        assert_ended(&rt, &got, front, TEXTS[0], "checked\n", "0");
+        assert_ended(&rt, &got, front, HELLO, "checked\n", "0");
     }
     Ok(())
 }
@@ -185,7 +188,7 @@ fn input_of(alloc: Global, first: &str, part: &str, times: usize) -> Result<Stri
 
 // A call with these words over this input.
 fn with_input(alloc: Global, words: &str, text: String) -> Result<Ended, AllocError> {
-    let mut files = files_of(alloc, "b", &[TEXTS[1]])?;
+    let mut files = files_of(alloc, "b", &[LEAVES])?;
     let name = word(alloc, "x")?;
     let content = Blob::new(text.into_bytes());
     files.push(FileBlob { name, content })?;

@@ -76,7 +76,6 @@ run 0 5 a||usage~|2
 run 2 5 a||usage~|2
 run 01 5 a||usage~|2
 run 65 5 a||usage~|2
-bulk 7 300001 1||usage~|2
 --help --help||usage~|2
 --version a||usage~|2
 help||usage~|2
@@ -94,9 +93,13 @@ elide FUEL JOB INPUT*
 run WORKERS FUEL JOB INPUT*
 index WORKERS INPUT
 convert WORKERS INPUT
+of fields than the first one, or with netstrings of more than 65535 bytes, is a fault
+bulk NUMBER SIZE WORKERS
 --help
 --version
 FUEL is 1 to 10000000, and WORKERS is 1 in this version.
+NUMBER is 0 to 1000000000, and SIZE 0 to
+300000.
 0 where the run has no fault
 1 where it has one
 2 where the words are no

@@ -127,12 +127,11 @@ fn text_of(name: &str) -> Result<&'static str, Fail> {
     if name == "short" {
         return Ok(SHORT);
     }
-    for (known, text) in NAMES.split_whitespace().zip(TEXTS) {
-        if known == name {
-            return Ok(text);
-        }
-    }
-    Err("no such file")?
+    let index = NAMES
+        .split_whitespace()
+        .position(|known| known == name)
+        .ok_or("no such file")?;
+    Ok(*TEXTS.get(index).ok_or("no such file")?)
 }
 
 // The job that has this name.

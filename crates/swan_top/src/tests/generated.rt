@@ -1,0 +1,78 @@
+// Runs of the generated job.
+use super::*;
+use bulk_workload::{BULK_MOST, bulk_input, bulk_job};
+
+/// Whole command lines; then the output, the report and the code.
+const CALLS: &str = "\
+bulk 7 3 1|402~3~|object total int 402~object count int 3~left lines 0~faults 0~|0
+bulk 7 0 1|0~0~|object total int 0~object count int 0~left lines 0~faults 0~|0
+bulk 1007 3 1|402~3~|object total int 402~object count int 3~left lines 0~faults 0~|0
+bulk 0 1000 1|499500~1000~|object total int 499500~object count int 1000~left lines 0~faults 0~|0
+bulk 1000000000 1 1|0~1~|object total int 0~object count int 1~left lines 0~faults 0~|0
+bulk 7 200000 1|99900000~200000~|object total int 99900000~object count int 200000~left lines 0~faults 0~|0
+bulk 7 300000 1|149850000~300000~|object total int 149850000~object count int 300000~left lines 0~faults 0~|0
+bulk 7 300001 1||usage~|2
+bulk 1000000001 3 1||usage~|2
+bulk 7 3 0||usage~|2
+bulk 7 3 2||usage~|2
+bulk 7 3 01||usage~|2
+bulk 7 03 1||usage~|2
+bulk 07 3 1||usage~|2
+bulk -7 3 1||usage~|2
+bulk 7 +3 1||usage~|2
+bulk 7 3 -||usage~|2
+bulk 7 3||usage~|2
+bulk 7||usage~|2
+bulk||usage~|2
+bulk 7 3 1 1||usage~|2
+Bulk 7 3 1||usage~|2";
+
+#[test]
+fn a_generated_run_writes_its_sum_and_its_count(rt: HostRuntime) -> Result<(), Fail> {
+    hold(&rt, rt.alloc(), "", &[], "", CALLS)
+}
+
+// The files `job` and `input`: the generated job for so many lines, and its input from 7 on.
+fn generated_files(alloc: Global, size: u64) -> Result<Vec<FileBlob>, Fail> {
+    let size = size.min(BULK_MOST);
+    let mut files = Vec::new(alloc);
+    let job = Blob::new(bulk_job(alloc, size)?);
+    files.push(FileBlob {
+        name: word(alloc, "job")?,
+        content: job,
+    })?;
+    let input = Blob::new(bulk_input(alloc, 7, size)?);
+    files.push(FileBlob {
+        name: word(alloc, "input")?,
+        content: input,
+    })?;
+    Ok(files)
+}
+
+/// The elision of the generated job with so many units: the number of lines, and then a row. So many units are spent or
+/// given away, and with one less the last line of the job has none.
+const UNITS: &str = "\
+0 1015 job input|0~0~|object total int 0~object count int 0~left lines 0~faults 0~|0
+0 1014 job input|0~0~|object total int 0~object count int 0~left lines 0~faults 1~fault / 79 Fuel~|1
+200000 5409015 job input|99900000~200000~|object total int 99900000~object count int 200000~left lines 0~faults 0~|0
+200000 5409014 job input|99900000~200000~|object total int 99900000~object count int 200000~left lines 0~faults 1~fault / 79 Fuel~|1";
+
+#[test]
+fn a_generated_run_takes_so_many_units(rt: HostRuntime) -> Result<(), Fail> {
+    for row in UNITS.lines() {
+        let (size, row) = row.split_once(' ').ok_or("no size")?;
+        let size = size.parse::<u64>().ok().ok_or("no number")?;
+        let files = generated_files(rt.alloc(), size)?;
+        hold_row(&rt, rt.alloc(), files, "elide", 0, row)?;
+    }
+    Ok(())
+}
+
+#[test]
+fn the_generated_job_is_in_the_canonical_form(rt: HostRuntime) -> Result<(), Fail> {
+    let job = bulk_job(rt.alloc(), 3)?;
+    let job = String::from_utf8_lossy(rt.alloc(), job.as_slice())?;
+    let got = called(rt.alloc(), generated_files(rt.alloc(), 3)?, "check job", 0)?;
+    assert_ended(&rt, &got, "check job", job.as_str(), "checked\n", "0");
+    Ok(())
+}
