@@ -16,6 +16,8 @@ pub struct WordsLeft {
     line: LineLeft,
     // the lines after it
     block: LineBlock,
+    // where the next word is written
+    word: Vec<u8>,
 }
 
 impl Model for WordsLeft {
@@ -33,12 +35,13 @@ fn next_word(
     alloc: Global,
     line: &mut LineLeft,
     block: &mut LineBlock,
+    word: &mut Vec<u8>,
 ) -> Result<Option<Value>, NoMemory>
     ensures { IfOk result (λ taken. MatchOption taken (line.old ++ block_records block.old ≡ [])
         (λ item. line.old ++ block_records block.old ≡ item ∷ (line.new ++ block_records block.new))) }
 {
     loop {
-        if let Some(record) = line.take(alloc)? {
+        if let Some(record) = line.take(alloc, word)? {
             return Ok(Some(record));
         }
         let number = block.number();
@@ -51,12 +54,13 @@ fn next_word(
 
 impl WordsLeft {
     /// All words of a block. It takes no memory. `O(1)`.
-    pub fn of(block: LineBlock) -> WordsLeft
+    pub fn of(alloc: Global, block: LineBlock) -> WordsLeft
         ensures { result ≡ block_records block }
     {
         WordsLeft {
             line: LineLeft::none(),
             block,
+            word: Vec::new(alloc),
         }
     }
 
@@ -65,6 +69,6 @@ impl WordsLeft {
     pub fn take(&mut self, alloc: Global) -> Result<Option<Value>, NoMemory>
         ensures { IfOk result (λ taken. MatchOption taken (self.old ≡ []) (λ item. self.old ≡ item ∷ self.new)) }
     {
-        next_word(alloc, &mut self.line, &mut self.block)
+        next_word(alloc, &mut self.line, &mut self.block, &mut self.word)
     }
 }
