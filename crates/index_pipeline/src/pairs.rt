@@ -1,5 +1,5 @@
 // The set of pairs that the collector keeps.
-ghost use Rattle.std.specs.Prelude.{◌≡◌, [], map, OnOk};
+ghost use Rattle.std.specs.Prelude.{◌≡◌, [], map, IfOk, OnOk};
 ghost use Rattle.std.specs.BTreeSet.{insert_key};
 ghost use Rattle.index_pipeline.specs.Pairs.{pair_of, pair_order};
 ghost use Rattle.index_pipeline.specs.Records.{record_of};
@@ -53,9 +53,9 @@ impl Pairs {
         Ok(())
     }
 
-    /// The pairs in order, to push. `O(1)`.
-    pub fn into_left(self, alloc: Global) -> PairsLeft
-        ensures { result ≡ map record_of self }
+    /// The pairs in order, to push. It allocates once. `O(1)`.
+    pub fn into_left(self, alloc: Global) -> Result<PairsLeft, NoMemory>
+        ensures { IfOk result (λ left. left ≡ map record_of self) }
     {
         PairsLeft::of(alloc, self.words)
     }

@@ -9,16 +9,44 @@ use std::collections::{BTreeMap, BTreeSet};
 use std::marker::Model;
 use swan_model::{NoMemory, Value};
 
-/// Pairs in order, of which the first ones are taken already. Contracts see it as the records of the pairs
-/// that are left, in order.
+/// Words in order with their numbers, of which some are taken already.
 #[derive(Drop)]
-pub struct PairsLeft {
+struct NumbersLeft {
     // the word whose numbers are taken
     word: Vec<u8>,
     // those of its numbers that are left
     numbers: BTreeSet<u64>,
     // the words after it
     words: BTreeMap<Vec<u8>, BTreeSet<u64>>,
+}
+
+impl NumbersLeft {
+    /// Takes the next pair's record of the word or of those after it, and None exactly where no pair is left.
+    fn take(&mut self, alloc: Global) -> Result<Option<Value>, NoMemory>
+        ensures { IfOk result (λ taken. MatchOption taken (map record_of (pairs_from_word self.old.word.items self.old.numbers.keys self.old.words.entries) ≡ [])
+            (λ item. map record_of (pairs_from_word self.old.word.items self.old.numbers.keys self.old.words.entries)
+            ≡ item ∷ map record_of (pairs_from_word self.new.word.items self.new.numbers.keys self.new.words.entries))) }
+    {
+        loop {
+            if let Some(line) = self.numbers.pop_first() {
+                return Ok(Some(Value::Bytes(record_of(alloc, &mut self.word, line)?)));
+            }
+            match self.words.pop_first() {
+                Some((word, numbers)) => {
+                    self.word = word;
+                    self.numbers = numbers;
+                }
+                None => return Ok(None),
+            }
+        }
+    }
+}
+
+/// The pairs that are left. Contracts see it as their records, in order. It is small, since what a task keeps is moved
+/// at each of its steps.
+#[derive(Drop)]
+pub struct PairsLeft {
+    words: Box<NumbersLeft>,
 }
 
 impl Model for PairsLeft {
@@ -29,44 +57,22 @@ impl Model for PairsLeft {
 
     ghost Value = { List Item };
 
-    ghost view = { λ left. map record_of (pairs_from_word left.word.items left.numbers.keys left.words.entries) };
-}
-
-/// Takes the next pair's record of a word or of the words after it, and None exactly where no pair is left.
-fn next_pair(
-    alloc: Global,
-    word: &mut Vec<u8>,
-    numbers: &mut BTreeSet<u64>,
-    words: &mut BTreeMap<Vec<u8>, BTreeSet<u64>>,
-) -> Result<Option<Value>, NoMemory>
-    ensures { IfOk result (λ taken. MatchOption taken (map record_of (pairs_from_word word.old.items numbers.old.keys words.old.entries) ≡ [])
-        (λ item. map record_of (pairs_from_word word.old.items numbers.old.keys words.old.entries)
-        ≡ item ∷ map record_of (pairs_from_word word.new.items numbers.new.keys words.new.entries))) }
-{
-    loop {
-        if let Some(line) = numbers.pop_first() {
-            return Ok(Some(Value::Bytes(record_of(alloc, word, line)?)));
-        }
-        match words.pop_first() {
-            Some((next, its_numbers)) => {
-                *word = next;
-                *numbers = its_numbers;
-            }
-            None => return Ok(None),
-        }
-    }
+    ghost view = { λ left. map record_of (pairs_from_word left.words.value.word.items left.words.value.numbers.keys left.words.value.words.entries) };
 }
 
 impl PairsLeft {
-    /// All pairs of these words. It takes no memory. `O(1)`.
-    pub fn of(alloc: Global, words: BTreeMap<Vec<u8>, BTreeSet<u64>>) -> PairsLeft
-        ensures { result ≡ map record_of (kept_pairs words.entries) }
+    /// All pairs of these words. It allocates once. `O(1)`.
+    pub fn of(alloc: Global, words: BTreeMap<Vec<u8>, BTreeSet<u64>>) -> Result<PairsLeft, NoMemory>
+        ensures { IfOk result (λ left. left ≡ map record_of (kept_pairs words.entries)) }
     {
-        PairsLeft {
+        let words = NumbersLeft {
             word: Vec::new(alloc),
             numbers: BTreeSet::new(alloc),
             words,
-        }
+        };
+        Ok(PairsLeft {
+            words: Box::new(alloc, words)?,
+        })
     }
 
     /// Takes the next pair's record, and None exactly where no pair is left. It gives the pair's memory up.
@@ -74,6 +80,6 @@ impl PairsLeft {
     pub fn take(&mut self, alloc: Global) -> Result<Option<Value>, NoMemory>
         ensures { IfOk result (λ taken. MatchOption taken (self.old ≡ []) (λ item. self.old ≡ item ∷ self.new)) }
     {
-        next_pair(alloc, &mut self.word, &mut self.numbers, &mut self.words)
+        self.words.take(alloc)
     }
 }
