@@ -11,7 +11,7 @@ use Rattle.std.specs.Ordering.{match_ordering, nat_cmp, ordering_reverse, orderi
 use Rattle.std.specs.Prelude.{◌⊎◌, ◌↔◌, slice_get}
 use Rattle.std.specs.declared.cmp.Ordering.{Ordering}
 use Rattle.std.specs.declared.cmp.Ordering.TheVariants.{Less, Equal, Greater}
-use Rattle.index_pipeline.specs.Index.{index_pairs, pairs_from, set_of}
+use Rattle.index_pipeline.specs.Index.{index_pairs, pairs_from}
 use Rattle.index_pipeline.specs.Members.{StandsOn}
 use Rattle.index_pipeline.specs.Pairs.{Pair, pair_order}
 use Rattle.index_pipeline.specs.Words.{words}

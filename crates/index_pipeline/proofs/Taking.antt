@@ -1,5 +1,5 @@
 -- What is left of a line once a word is taken.
-use Rattle.std.proofs.Common.{◌≡◌, ℕ, ◌+◌, List, [], ◌∷◌, drop, ◌∙◌, ap, map, sym}
+use Rattle.std.proofs.Common.{◌≡◌, ℕ, ◌+◌, List, [], ◌∷◌, drop, ◌∙◌, ap, map}
 use Rattle.std.proofs.lemmas.List.{drop-drop}
 use Rattle.swan_model.specs.declared.value.Value.{Value}
 use Rattle.index_pipeline.specs.Records.{line_records, record_of}

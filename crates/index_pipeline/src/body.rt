@@ -40,7 +40,7 @@ fn block_task(alloc: Global, block: LineBlock) -> Result<Child<IndexLocal>, NoMe
     };
     let fuel = 2 * block.byte_count() + 2;
     Ok(Child {
-        local: IndexLocal::Words(WordsLeft::of(block)),
+        local: IndexLocal::Words(WordsLeft::of(alloc, block)?),
         gives: gives_of(alloc, &[words])?,
         fuel,
     })
@@ -66,7 +66,7 @@ fn collects(alloc: Global, step: ReaderStep<Pairs>) -> Result<Step, NoMemory>
                 Ask::Empty(0),
             ))
         }
-        ReaderStep::Ends(pairs) => pairs_left(alloc, pairs.into_left()),
+        ReaderStep::Ends(pairs) => pairs_left(alloc, pairs.into_left(alloc)?),
     }
 }
 

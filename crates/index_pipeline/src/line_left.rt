@@ -3,8 +3,8 @@ ghost use Rattle.std.specs.Prelude.{◌≡◌, ◌∷◌, [], IfOk, MatchOption}
 ghost use Rattle.line_blocks.specs.LineBlocks.{bytes_of};
 ghost use Rattle.index_pipeline.specs.Records.{line_records};
 
-use crate::pair::Pair;
-use crate::word::{after, first_run, word_of};
+use crate::pair::record_of;
+use crate::word::{after, first_run, write_word};
 use line_blocks::bytes_of;
 use std::alloc::Global;
 use std::marker::Model;
@@ -52,21 +52,18 @@ impl LineLeft {
         }
     }
 
-    /// Takes the next word's record, and None exactly where no word is left. `O(1)` amortised over the bytes
-    /// of the line.
+    /// Takes the next word's record, and None exactly where no word is left. It leaves the word where it is told to
+    /// write it. `O(1)` amortised over the bytes of the line.
     #[tactic(auto, using(crate::proofs::Taking::line_more, crate::proofs::Taking::line_over))]
-    pub fn take(&mut self, alloc: Global) -> Result<Option<Value>, NoMemory>
+    pub fn take(&mut self, alloc: Global, word: &mut Vec<u8>) -> Result<Option<Value>, NoMemory>
         ensures { IfOk result (λ taken. MatchOption taken (self.old ≡ []) (λ item. self.old ≡ item ∷ self.new)) }
     {
         let left = after(bytes_of(&self.line), self.taken);
         let Some(run) = first_run(left) else {
             return Ok(None);
         };
-        let pair = Pair {
-            word: word_of(alloc, &left[run.from..run.to])?,
-            line: self.number,
-        };
+        write_word(word, &left[run.from..run.to])?;
         self.taken += run.to;
-        Ok(Some(Value::Bytes(pair.into_record(alloc)?)))
+        Ok(Some(Value::Bytes(record_of(alloc, word, self.number)?)))
     }
 }

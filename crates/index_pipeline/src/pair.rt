@@ -1,18 +1,17 @@
-// Pairs of a word and a line's number.
-ghost use Rattle.std.specs.Prelude.{◌≡◌, ◌≤◌, ◌+◌, length, drop, IfOk};
-ghost use Rattle.index_pipeline.specs.KeptPairs.{seen};
-ghost use Rattle.index_pipeline.specs.Pairs.{number_of, pair_of, pair_text, word_len};
+// The texts of pairs of a word and a line's number.
+ghost use Rattle.std.specs.Prelude.{◌≡◌, ◌≤◌, ◌+◌, ◌∷◌, ◌++◌, length, drop, IfOk, OnOk};
+ghost use Rattle.std.specs.Fmt.{decimal};
+ghost use Rattle.index_pipeline.specs.Pairs.{number_of, pair_of, word_len};
 
 use itoa::Buffer;
 use std::alloc::Global;
 use swan_model::{NoMemory, Record};
 
-/// A word and the number of a line on which it stands. Pairs are ordered by the words' bytes, and then by
-/// the numbers.
-#[derive(PartialEq, Eq, PartialOrd, Ord, Drop)]
-pub struct Pair {
+/// A word and the number of a line on which it stands, as a text tells them.
+#[derive(Clone, Copy)]
+pub struct ToldPair<'a> {
     /// The word.
-    pub word: Vec<u8>,
+    pub word: &'a [u8],
     /// The number.
     pub line: u64,
 }
@@ -49,29 +48,31 @@ fn after(text: &[u8], len: usize) -> &[u8]
     &text[len + 1..]
 }
 
-impl Pair {
-    /// The pair that a text tells. `O(length)`.
-    pub fn of(alloc: Global, text: &[u8]) -> Result<Pair, NoMemory>
-        ensures { IfOk result (λ pair. seen pair ≡ pair_of text.now) }
-    {
-        let len = word_len(text);
-        Ok(Pair {
-            word: text[..len].to_vec(alloc)?,
-            line: number_of(after(text, len)),
-        })
+/// The pair that a text tells. It takes no memory. `O(length)`.
+pub fn told(text: &[u8]) -> ToldPair<'_>
+    ensures word { result.word.now ≡ (pair_of text.now).word }
+    ensures line { result.line ≡ (pair_of text.now).line }
+{
+    let len = word_len(text);
+    ToldPair {
+        word: &text[..len],
+        line: number_of(after(text, len)),
     }
+}
 
-    /// The record of the pair. `O(length)`.
-    pub fn into_record(self, alloc: Global) -> Result<Record, NoMemory>
-        ensures { IfOk result (λ it. it ≡ pair_text (seen self)) }
-    {
-        let Pair { word, line } = self;
-        let mut text = word;
-        text.push(b' ')?;
-        text.extend_from_slice(Buffer::new().format(line).as_bytes())?;
-        match Record::of(alloc, &text) {
-            Ok(record) => Ok(record),
-            Err(_) => Err(NoMemory),
-        }
+/// The record of the pair of a word and a number. What is added to the word is taken off again, but its room
+/// stays. `O(length)`.
+pub fn record_of(alloc: Global, word: &mut Vec<u8>, line: u64) -> Result<Record, NoMemory>
+    ensures record { IfOk result (λ it. it ≡ word.old.items ++ 32 ∷ decimal line) }
+    ensures word { OnOk result (word.new.items ≡ word.old.items) }
+{
+    let len = word.len();
+    word.push(b' ')?;
+    word.extend_from_slice(Buffer::new().format(line).as_bytes())?;
+    let record = Record::of(alloc, word.as_slice());
+    word.truncate(len);
+    match record {
+        Ok(record) => Ok(record),
+        Err(_) => Err(NoMemory),
     }
 }

@@ -1,30 +1,30 @@
 // The set of pairs that the collector keeps.
-ghost use Rattle.std.specs.Prelude.{◌≡◌, [], map, OnOk};
+ghost use Rattle.std.specs.Prelude.{◌≡◌, [], map, IfOk, OnOk};
 ghost use Rattle.std.specs.BTreeSet.{insert_key};
 ghost use Rattle.index_pipeline.specs.Pairs.{pair_of, pair_order};
 ghost use Rattle.index_pipeline.specs.Records.{record_of};
 
-use crate::pair::Pair;
+use crate::pair::{ToldPair, told};
 use crate::pairs_left::PairsLeft;
 use std::alloc::Global;
-use std::collections::BTreeSet;
+use std::collections::{BTreeMap, BTreeSet};
 use std::marker::Model;
 use swan_model::NoMemory;
 
-/// A set of pairs. Contracts see it as its pairs in their order.
+/// A set of pairs: the numbers of each word, by the words. Contracts see it as its pairs in their order.
 #[derive(Drop)]
 pub struct Pairs {
-    pairs: BTreeSet<Pair>,
+    words: BTreeMap<Vec<u8>, BTreeSet<u64>>,
 }
 
 impl Model for Pairs {
-    ghost use Rattle.std.specs.Prelude.{List, map};
-    ghost use Rattle.index_pipeline.specs.KeptPairs.{seen};
-    ghost use Rattle.index_pipeline.specs.Pairs.{Pair as Told};
+    ghost use Rattle.std.specs.Prelude.{List};
+    ghost use Rattle.index_pipeline.specs.KeptPairs.{kept_pairs};
+    ghost use Rattle.index_pipeline.specs.Pairs.{Pair};
 
-    ghost Value = { List Told };
+    ghost Value = { List Pair };
 
-    ghost view = { λ pairs. map seen pairs.pairs.keys };
+    ghost view = { λ pairs. kept_pairs pairs.words.entries };
 }
 
 impl Pairs {
@@ -33,23 +33,30 @@ impl Pairs {
         ensures { result ≡ [] }
     {
         Pairs {
-            pairs: BTreeSet::new(alloc),
+            words: BTreeMap::new(alloc),
         }
     }
 
-    /// Adds the pair that this text tells, unless it is there. `O(length + log pairs)`.
+    /// Adds the pair that this text tells, unless it is there. Memory is taken for a word or a number that is new.
+    /// `O(length + log pairs)`.
     pub fn add(&mut self, alloc: Global, text: &[u8]) -> Result<(), NoMemory>
         ensures { OnOk result (self.new ≡ insert_key pair_order self.old (pair_of text.now)) }
     {
-        let pair = Pair::of(alloc, text)?;
-        self.pairs.insert(pair)?;
+        let ToldPair { word, line } = told(text);
+        if let Some(numbers) = self.words.get_mut(word) {
+            numbers.insert(line)?;
+            return Ok(());
+        }
+        let mut numbers = BTreeSet::new(alloc);
+        numbers.insert(line)?;
+        self.words.insert(word.to_vec(alloc)?, numbers)?;
         Ok(())
     }
 
-    /// The pairs in order, to push. `O(1)`.
-    pub fn into_left(self) -> PairsLeft
-        ensures { result ≡ map record_of self }
+    /// The pairs in order, to push. It allocates once. `O(1)`.
+    pub fn into_left(self, alloc: Global) -> Result<PairsLeft, NoMemory>
+        ensures { IfOk result (λ left. left ≡ map record_of self) }
     {
-        PairsLeft::of(self.pairs)
+        PairsLeft::of(alloc, self.words)
     }
 }

@@ -1,16 +1,13 @@
 // Words in bytes.
-ghost use Rattle.std.specs.Prelude.{◌≡◌, ◌<◌, ◌≤◌, ◌∷◌, ◌++◌, [], length, take, drop, slice_range, not, IfOk, IfNone, IfSome};
+ghost use Rattle.std.specs.Prelude.{◌≡◌, ◌<◌, ◌≤◌, ◌∷◌, ◌++◌, [], length, take, drop, slice_range, not, OnOk, IfNone, IfSome};
 ghost use Rattle.std.specs.Char.{is_ascii_alphanumeric};
 ghost use Rattle.std.specs.List.{prefix_len};
 ghost use Rattle.index_pipeline.specs.Words.{runs, word_of};
 
-use std::alloc::{AllocError, Global};
+use std::alloc::AllocError;
 
 /// The largest number of bytes of a word in the index.
 pub const WORD_MOST: usize = 64;
-
-// Room for a space and the digits of a number of 64 bits.
-const NUMBER_ROOM: usize = 21;
 
 /// How many bytes stand before the first one of a word.
 fn gap_len(bytes: &[u8]) -> usize
@@ -70,14 +67,14 @@ pub fn first_run(line: &[u8]) -> Option<Run>
     })
 }
 
-/// The word of a run, with room for a space and a number after it. `O(1)`: a run's first `WORD_MOST` bytes are
-/// taken, in one copy.
-pub fn word_of(alloc: Global, run: &[u8]) -> Result<Vec<u8>, AllocError>
-    ensures { IfOk result (λ word. word.items ≡ word_of run.now) }
+/// Writes the word of a run, in place of what stood there. `O(1)`: a run's first `WORD_MOST` bytes are taken, in one
+/// copy.
+pub fn write_word(word: &mut Vec<u8>, run: &[u8]) -> Result<(), AllocError>
+    ensures { OnOk result (word.new.items ≡ word_of run.now) }
 {
     let len = WORD_MOST.min(run.len());
-    let mut word = Vec::with_capacity(alloc, len + NUMBER_ROOM)?;
+    word.clear();
     word.extend_from_slice(&run[..len])?;
     word.make_ascii_lowercase();
-    Ok(word)
+    Ok(())
 }

@@ -95,10 +95,11 @@ fn converted(alloc: Global, width: u64, line: &[u8]) -> Result<Ask<RecordLocal>,
     requires { length line.now ≤ RECORD_MOST }
     ensures { IfOk result (λ asked. asked ≡ converted (trouble_of width line.now) line.now) }
 {
-    if field_count(line) != width {
+    let count = field_count(line);
+    if count != width {
         return Ok(Ask::Fail(Trouble::User(1)));
     }
-    let text = netstrings(alloc, line)?;
+    let text = netstrings(alloc, line, count)?;
     match Record::of(alloc, &text) {
         Ok(record) => Ok(Ask::Push(0, Value::Bytes(record))),
         Err(RecordAnswer::TooLong) => Ok(Ask::Fail(Trouble::TooLong)),

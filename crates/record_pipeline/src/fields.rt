@@ -1,5 +1,5 @@
 // Fields of lines, and their netstrings.
-ghost use Rattle.std.specs.Prelude.{◌≡◌, ◌≤◌, ◌++◌, ◌==◌, not, length, drop, IfOk, OnOk};
+ghost use Rattle.std.specs.Prelude.{◌≡◌, ◌≤◌, ◌+◌, ◌++◌, ◌==◌, not, length, drop, IfOk, OnOk};
 ghost use Rattle.std.specs.List.{prefix_len};
 ghost use Rattle.record_pipeline.specs.Netstrings.{fields, netstring, netstrings};
 
@@ -7,11 +7,15 @@ use itoa::Buffer;
 use std::alloc::Global;
 use swan_model::{NoMemory, RECORD_MOST};
 
+// How many bytes a netstring has beyond its field, at most: five digits, a colon and a comma.
+const NETSTRING_MORE: usize = 7;
+
 /// How many fields a line has. `O(length)`.
 #[tactic(auto, using(crate::proofs::FieldByField::number_of_fields))]
 pub fn field_count(line: &[u8]) -> u64
     requires { length line.now ≤ RECORD_MOST }
-    ensures { result ≡ length (fields line.now) }
+    ensures count { result ≡ length (fields line.now) }
+    ensures most { result ≤ RECORD_MOST + 1 }
 {
     line.iter().filter(|byte| **byte == b'\t').count() as u64 + 1
 }
@@ -44,11 +48,15 @@ fn after(line: &[u8], len: usize) -> &[u8]
     &line[len..]
 }
 
-/// The netstrings of a line's fields, joined. `O(length)`.
-pub fn netstrings(alloc: Global, line: &[u8]) -> Result<Vec<u8>, NoMemory>
+/// The netstrings of a line's fields, joined. There is room at once for those of so many fields as the count says.
+/// `O(length + count)`.
+pub fn netstrings(alloc: Global, line: &[u8], count: u64) -> Result<Vec<u8>, NoMemory>
+    requires line { length line.now ≤ RECORD_MOST }
+    requires count { count ≤ RECORD_MOST + 1 }
     ensures { IfOk result (λ text. text.items ≡ netstrings line.now) }
 {
-    let mut text = Vec::new(alloc);
+    let room = line.len() + NETSTRING_MORE * count as usize;
+    let mut text = Vec::with_capacity(alloc, room)?;
     let mut rest = line;
     let mut len = field_len(rest);
     while len < rest.len() {
