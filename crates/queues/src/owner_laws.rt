@@ -55,11 +55,14 @@ pub fn owners_stay()
     ensures take_rest { OnOwners (λ state queue chunks. (emptied : ℕ) → HasOwners (after_take_rest state emptied) queue chunks) }
 {}
 
-/// The law that what has left a queue by the points of those who may pop it goes on with the calls, apart from items.
-/// Nothing has left a new queue. A pop that finds an item takes one more, where no owner before the frame may pop; where
-/// none may, as much has left the queue as by the frame's point, and once its ends have come back, as much as by its
-/// point then. All other calls leave it as it is: by the chunks of then at a spawn with the queue and at the end of a
-/// frame that has it, and else by the same ones.
+/// The law of how many items have left a queue, apart from the items themselves: one number, which agrees with the point of
+/// each frame that owns a chunk and may pop (`HasTaken`). Say that a frame is first where it owns a chunk, may pop, and no
+/// owner of an earlier chunk may. For the first frame the number is what the script says is taken by its point. The number
+/// of a new queue is 0. It grows by one with a pop of the first frame that finds an item, and becomes what the script says
+/// is taken by the first frame's new point where that one's ends come back. All other calls leave the number. They leave
+/// the chunks too, but for two: a spawn with the queue gives the parent a chunk behind its child's (`after_hand_on`), and
+/// the end of a frame that has the queue leaves its chunk without an owner (`after_close`); the number then agrees with
+/// the chunks after the call.
 pub fn what_is_taken_goes_on()
     // where none before it may pop, the frame's point tells
     ensures point { OnTakenBy (λ s state number queue end chunks at n frame. (index : ℕ) → IsFirstPopper state number chunks index n frame → at ≡ taken_at s frame queue) }
