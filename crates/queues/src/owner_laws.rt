@@ -55,14 +55,14 @@ pub fn owners_stay()
     ensures take_rest { OnOwners (λ state queue chunks. (emptied : ℕ) → HasOwners (after_take_rest state emptied) queue chunks) }
 {}
 
-/// The law of how many items have left a queue, apart from the items themselves: one number, which agrees with the point of
-/// each frame that owns a chunk and may pop (`HasTaken`). Say that a frame is first where it owns a chunk, may pop, and no
-/// owner of an earlier chunk may. For the first frame the number is what the script says is taken by its point. The number
-/// of a new queue is 0. It grows by one with a pop of the first frame that finds an item, and becomes what the script says
-/// is taken by the first frame's new point where that one's ends come back. All other calls leave the number. They leave
-/// the chunks too, but for two: a spawn with the queue gives the parent a chunk behind its child's (`after_hand_on`), and
-/// the end of a frame that has the queue leaves its chunk without an owner (`after_close`); the number then agrees with
-/// the chunks after the call.
+/// The law of how many items have left a queue, apart from the items themselves. It is one number, from which the script
+/// goes on along the chunks (`HasTaken`): so many are taken by the point of the first owner that may pop, by the point of
+/// the next such owner as many as when the first one has ended, and so on. The number of a new queue is 0. It grows by one
+/// where the first such owner pops and finds an item; where that one's ends come back, it becomes what is taken by its new
+/// point. It stays with a pop that finds none, with ends that come back and popped nothing of the queue, and with each
+/// other call. The chunks stay too but at two calls: a spawn with the queue gives the parent a chunk behind its child's
+/// (`after_hand_on`), and the end of a frame that has the queue leaves its chunk without an owner (`after_close`). There
+/// the same number holds of the new chunks.
 pub fn what_is_taken_goes_on()
     // where none before it may pop, the frame's point tells
     ensures point { OnTakenBy (λ s state number queue end chunks at n frame. (index : ℕ) → IsFirstPopper state number chunks index n frame → at ≡ taken_at s frame queue) }
