@@ -46,6 +46,7 @@ pub mod TreeWithout
 pub mod TreeCalls
 pub mod TreeKept
 pub mod TreeSpawners
+pub mod TurnsGoOn
 pub mod TreeTurns
 -- who owns the chunks of a queue
 pub mod Owners

@@ -1,5 +1,5 @@
 -- What comes next for a frame in a reading that fits is what comes next for it among queues.
-use Rattle.std.proofs.Common.{◌≡◌, inl, inr, ℕ, ◌+◌, ◌-◌, ◌<◌, ◌≤◌, true, false, cond, length, Some, None, sym, ap, ◌∙◌, arith}
+use Rattle.std.proofs.Common.{◌≡◌, inl, inr, ℕ, ◌+◌, ◌-◌, ◌<◌, ◌≤◌, true, false, cond, List, [], length, Some, None, refl, sym, ap, ◌∙◌, arith}
 use Rattle.std.proofs.lemmas.Bool.{both_ways, cases_lt, le-ltb, lt-ltb}
 use Rattle.std.proofs.lemmas.Option.{slice_get_within}
 use Rattle.std.specs.Prelude.{slice_get}
@@ -13,6 +13,8 @@ use Rattle.swan_model.specs.SerialTime.{Progress, is_queue_deed, point, time, ti
 use Rattle.swan_model.specs.Told.{deed_at}
 use Rattle.swan_model.proofs.Places.{passing-rises}
 use Rattle.swan_model.proofs.ScriptSteps.{at_next}
+use Rattle.swan_model.proofs.TaskEntries.{point_is}
+use Rattle.queues.specs.Reads.{deeds_among}
 use Rattle.queues.proofs.Advancing.{does_now}
 use Rattle.queues.proofs.Between.{deed-place, deed_left, is_queue_deed_of, own_last, to_deed}
 use Rattle.queues.proofs.Fitting.{fits_comes}
@@ -71,3 +73,27 @@ module _ (s : Script) (frame : ActiveFrame) (p : Progress) (fit : FitsFrame s fr
           let rise = passing-rises (is_queue_deed_of frame.path) s.entries (queue_time s frame.path (frame.deeds + 1)) (point s p) (none_later (frame.deeds + 1) left) in
           absurd (omega (arith, rise, deed.before, comes.before))
     ]
+
+-- ---- by a task's steps alone
+
+module _ (s : Script) (path : List ℕ) (k : ℕ) (left : k < length (times s path)) (does : Deed) (is : deed_at s (time s path k) ≡ does) where
+  -- a frame of the task after that many steps, of which nothing else matters
+  abbrev stepping : Progress
+  stepping = record { number = 0; path = path; done = k }
+
+  abbrev seen : ActiveFrame
+  seen = record { number = 0; parent = None; path = path; children = 0; deeds = deeds_among s path k; rights = []; lent = None }
+
+  seen_fits : FitsFrame s seen stepping
+  seen_fits = record { path = refl; left = left; deeds = refl }
+
+  pub step_next : is_queue_deed does ≡ true → next_queue_deed s path (deeds_among s path k) ≡ Some does
+  step_next deed =
+      next_same s seen stepping seen_fits does
+      (ap (λ b. cond b (Some (deed_at s (point s stepping))) None) (lt-ltb k (length (times s path)) left) ∙ ap (λ t. Some (deed_at s t)) (point_is s stepping left) ∙ ap Some is)
+      deed
+
+  pub step_time : is_queue_deed does ≡ true → queue_time s path (deeds_among s path k) ≡ time s path k
+  step_time deed =
+      deed_time s seen stepping seen_fits (ap (λ t. is_queue_deed (deed_at s t)) (point_is s stepping left) ∙ ap is_queue_deed is ∙ deed)
+      ∙ point_is s stepping left

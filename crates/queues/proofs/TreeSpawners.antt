@@ -35,7 +35,7 @@ turned_one state spawners n change turned number frame live =
     (λ is. spawners.turns number frame live)
 
 -- the turn of an active frame
-turn_of : (state : QueueState) (n : ℕ) (frame : ActiveFrame) → active state n ≡ Some frame → HasTurn state frame → (f : ActiveFrame) → active state n ≡ Some f → HasTurn state f
+pub turn_of : (state : QueueState) (n : ℕ) (frame : ActiveFrame) → active state n ≡ Some frame → HasTurn state frame → (f : ActiveFrame) → active state n ≡ Some f → HasTurn state f
 turn_of state n frame live turn f there =
     let P : ActiveFrame → Type 0 = λ g. HasTurn state g in
     subst P (same_frame (active state n) frame f live there) turn

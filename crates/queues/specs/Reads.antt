@@ -1,12 +1,13 @@
 -- Active frames, as a full reading has them.
-use Rattle.std.specs.Prelude.{◌≡◌, ℕ, ◌+◌, ◌<◌, ◌==◌, Some, None, length, map, slice_get, if◌then◌else◌}
+use Rattle.std.specs.Prelude.{◌≡◌, ℕ, ◌+◌, ◌<◌, ◌==◌, true, List, Some, None, filter, length, map, slice_get, take, if◌then◌else◌}
 use Rattle.swan_model.specs.declared.script.Deed.{Deed}
 use Rattle.swan_model.specs.declared.script.Script.{Script}
 use Rattle.swan_model.specs.Lawful.{IsLawful}
 use Rattle.swan_model.specs.QueueFollows.{Fits, FitsFrame, QueuesFollow}
 use Rattle.swan_model.specs.QueueState.{ActiveFrame, QueueState, active}
 use Rattle.swan_model.specs.Readings.{next_deed}
-use Rattle.swan_model.specs.SerialTime.{Progress, Reading, frame_of, times}
+use Rattle.swan_model.specs.SerialTime.{Progress, Reading, frame_of, is_queue_deed, time, times}
+use Rattle.swan_model.specs.Told.{deed_at}
 
 -- what holds of each active frame and its progress in a reading, where hyperqueues follow a lawful script and the reading
 -- fits
@@ -28,6 +29,16 @@ OnEntry s state r Holds =
     IsLawful s → QueuesFollow s state → Fits s state r
     → (number : ℕ) (progress : Progress) (does : Deed) → frame_of r number ≡ Some progress → next_deed s progress ≡ Some does
     → Holds number progress does
+
+-- how many queue deeds are among a task's first steps
+abbrev pub deeds_among : Script → List ℕ → ℕ → ℕ
+deeds_among s path k = length (filter (λ t. is_queue_deed (deed_at s t)) (take k (times s path)))
+
+-- what holds of a task and its step after so many others, where that step is a queue deed
+abbrev pub OnQueueStep : (Script → List ℕ → ℕ → Deed → Type 0) → Type 0
+OnQueueStep Holds =
+    (s : Script) (path : List ℕ) (k : ℕ) (does : Deed) → k < length (times s path) → deed_at s (time s path k) ≡ does → is_queue_deed does ≡ true
+    → Holds s path k does
 
 -- a frame has an entry left after its next one
 abbrev pub HasMore : Script → Progress → Type 0

@@ -1,5 +1,5 @@
 -- What the frames of a state keep of each other, whether or not there is a script.
-use Rattle.std.specs.Prelude.{◌≡◌, ◌≢◌, ℕ, ◌<◌, ◌≤◌, ◌==◌, Bool, true, Some, None, List, [], ◌∷◌, ◌++◌, length, slice_get, ◌⊎◌}
+use Rattle.std.specs.Prelude.{◌≡◌, ◌≢◌, ℕ, ◌<◌, ◌≤◌, ◌==◌, Bool, true, Option, Some, None, List, [], ◌∷◌, ◌++◌, length, slice_get, ◌⊎◌}
 use Rattle.std.specs.List.{list_any}
 use Rattle.swan_model.specs.declared.rights.Mode.{Mode}
 use Rattle.swan_model.specs.Rights.{is_queue_mode}
@@ -8,6 +8,7 @@ use Rattle.swan_model.specs.declared.script.Script.{Script}
 use Rattle.swan_model.specs.Lawful.{IsLawful}
 use Rattle.swan_model.specs.QueueFollows.{NextSpawnGivesQueues, QueuesFollow, queue_origin}
 use Rattle.swan_model.specs.QueueState.{ActiveFrame, QueueMaker, planned, made_by, QueueState, active, holds_queue, HasTurn, IsOfRoot, MayGive, QueueRight, child_of}
+use Rattle.queues.specs.OneChange.{IsOnlyChange}
 
 -- the path of the frame that made a queue
 abbrev pub maker_path : QueueMaker → List ℕ
@@ -52,6 +53,26 @@ pub record IsTree (state : QueueState) : Type 0 where
 -- Each active frame that has spawned has its turn to pop. It is so where each spawn is done by a frame that has its turn.
 pub record SpawnersHaveTurns (state : QueueState) : Type 0 where
   pub turns : (number : ℕ) (frame : ActiveFrame) → active state number ≡ Some frame → 0 < frame.children → HasTurn state frame
+
+-- what holds of a state whose frames are a tree
+abbrev pub OnTree : (QueueState → Type 0) → Type 0
+OnTree Holds = (state : QueueState) → IsTree state → Holds state
+
+-- Each active frame that has its turn before a call has it after the call too, where it is active then.
+abbrev pub TurnsGoOn : (before after : QueueState) → Type 0
+TurnsGoOn before after = (number : ℕ) (frame now : ActiveFrame) → active before number ≡ Some frame → active after number ≡ Some now → HasTurn before frame → HasTurn after now
+
+-- what holds of an active frame of a state, by its number
+abbrev pub OnFrames : (QueueState → ℕ → ActiveFrame → Type 0) → Type 0
+OnFrames Holds = (state : QueueState) (number : ℕ) (frame : ActiveFrame) → active state number ≡ Some frame → Holds state number frame
+
+-- the active frame of this number is that one then, or none, and all others are as before
+abbrev pub IsOnlyFrame : (before after : QueueState) → (number : ℕ) → Option ActiveFrame → Type 0
+IsOnlyFrame before after number now = IsOnlyChange (active before) (active after) number now
+
+-- what holds of an active frame, and the child that it spawns by a number of which none is active
+abbrev pub OnSpawnOf : (QueueState → ℕ → ActiveFrame → (child : ℕ) → List QueueRight → Type 0) → Type 0
+OnSpawnOf Holds = OnFrames (λ state number frame. (child : ℕ) (gives : List QueueRight) → active state child ≡ None → Holds state number frame child gives)
 
 -- an active frame has the queue, or the root made it, so that its rest is left
 abbrev pub IsInUse : QueueState → ℕ → QueueMaker → Type 0

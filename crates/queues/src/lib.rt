@@ -16,7 +16,8 @@
 //! (`next_deeds_agree`). With each call such a reading goes on, and all other entries need none (`readings_go_on`).
 //!
 //! Further laws say what each form keeps, whether or not there is a script: that the frames are a tree
-//! (`frames_stay_a_tree`), that those that have spawned have their turns (`spawners_have_their_turns`), that the turns of
+//! (`frames_stay_a_tree`), what each call leaves of the active ones (`active_frames_stay`), that those that have spawned
+//! have their turns (`spawners_have_their_turns`), that no call takes a turn away (`a_turn_stays`), that the turns of
 //! poppers beside the queues are those of the frames (`turns_stay`) and tell who may pop and for whom to wait
 //! (`turns_tell_who_may_pop`), and whose the chunks of a queue are (`owners_stay`). By a script it goes on how much was
 //! pushed and popped by the frames' points (`counts_go_on`, `what_is_taken_goes_on`).
@@ -44,5 +45,7 @@ pub use laws::{calls_follow, points_of_queues_agree};
 pub use owner_laws::{counts_go_on, owners_stay, what_is_taken_goes_on};
 pub use queues::Queues;
 pub use readings::{next_deeds_agree, readings_go_on};
-pub use tree_laws::{frames_stay_a_tree, spawners_have_their_turns};
+pub use tree_laws::{
+    a_turn_stays, active_frames_stay, frames_stay_a_tree, spawners_have_their_turns,
+};
 pub use turn_laws::{turns_stay, turns_tell_who_may_pop};

@@ -55,11 +55,14 @@ pub fn owners_stay()
     ensures take_rest { OnOwners (λ state queue chunks. (emptied : ℕ) → HasOwners (after_take_rest state emptied) queue chunks) }
 {}
 
-/// The law that what has left a queue by the points of those who may pop it goes on with the calls, apart from items.
-/// Nothing has left a new queue. A pop that finds an item takes one more, where no owner before the frame may pop; where
-/// none may, as much has left the queue as by the frame's point, and once its ends have come back, as much as by its
-/// point then. All other calls leave it as it is: by the chunks of then at a spawn with the queue and at the end of a
-/// frame that has it, and else by the same ones.
+/// The law of how many items have left a queue, apart from the items themselves. It is one number, from which the script
+/// goes on along the chunks (`HasTaken`): so many are taken by the point of the first owner that may pop, by the point of
+/// the next such owner as many as when the first one has ended, and so on. The number of a new queue is 0. It grows by one
+/// where the first such owner pops and finds an item; where that one's ends come back, it becomes what is taken by its new
+/// point. It stays with a pop that finds none, with ends that come back and popped nothing of the queue, and with each
+/// other call. The chunks stay too but at two calls: a spawn with the queue gives the parent a chunk behind its child's
+/// (`after_hand_on`), and the end of a frame that has the queue leaves its chunk without an owner (`after_close`). There
+/// the same number holds of the new chunks.
 pub fn what_is_taken_goes_on()
     // where none before it may pop, the frame's point tells
     ensures point { OnTakenBy (λ s state number queue end chunks at n frame. (index : ℕ) → IsFirstPopper state number chunks index n frame → at ≡ taken_at s frame queue) }

@@ -7,11 +7,11 @@ ghost use Rattle.swan_model.specs.declared.script.OriginGive.{OriginGive};
 ghost use Rattle.swan_model.specs.declared.script.Script.{Script};
 ghost use Rattle.swan_model.specs.Granted.{is_spawn};
 ghost use Rattle.swan_model.specs.Lawful.{IsLawful};
-ghost use Rattle.swan_model.specs.QueueFollows.{AreByEnds, Fits, FitsFrame, QueuesFollow, next_queue_deed};
+ghost use Rattle.swan_model.specs.QueueFollows.{AreByEnds, Fits, FitsFrame, QueuesFollow, next_queue_deed, queue_time};
 ghost use Rattle.swan_model.specs.QueueState.{ActiveFrame, LentEnd, QueueRight, QueueState, active, after_back, after_create, after_create_root, after_deed, after_finish, after_lend, after_spawn, after_take_rest, new_state};
 ghost use Rattle.swan_model.specs.Readings.{at_start, gone_on, spawned, with_queue};
-ghost use Rattle.swan_model.specs.SerialTime.{Progress, Reading, frame_of, is_queue_deed, point};
-ghost use Rattle.queues.specs.Reads.{DiffersIdly, HasMore, IsAtLast, OnEntry, gone_on_by};
+ghost use Rattle.swan_model.specs.SerialTime.{Progress, Reading, frame_of, is_queue_deed, point, time};
+ghost use Rattle.queues.specs.Reads.{DiffersIdly, HasMore, IsAtLast, OnEntry, OnQueueStep, deeds_among, gone_on_by};
 
 /// The law that a reading which fits hyperqueues goes on with them. The reading of a run before its first step fits
 /// new ones. A root queue is one queue more. After a deed of queues the reading fits in which the frame has done
@@ -60,8 +60,11 @@ pub fn readings_go_on()
 /// The law that what comes next for a frame in a reading that fits is what comes next for it among queues. Where
 /// its next entry is a deed of queues, that is its next one. Where its next entry is its last and no deed of
 /// queues, none is left, and where its last entry is one, none is left after it: so the frame may finish then. A
-/// frame with an entry left is active.
+/// frame with an entry left is active. A task's own steps tell the same without a state or a reading, as a frame has
+/// it that runs with its ends: where the step after the first k ones is a deed of queues, and d such deeds are among
+/// those k, it is the deed of queues that comes after d others, and that one's time is the step's.
 pub fn next_deeds_agree()
+    // by a state and a reading that fits
     ensures next { (s : Script) (state : QueueState) (r : Reading) → OnEntry s state r (λ number progress does.
         (frame : ActiveFrame) → active state number ≡ Some frame → is_queue_deed does ≡ true
         → next_queue_deed s frame.path frame.deeds ≡ Some does) }
@@ -73,4 +76,8 @@ pub fn next_deeds_agree()
         → next_queue_deed s frame.path (frame.deeds + 1) ≡ None) }
     ensures live { (s : Script) (state : QueueState) (r : Reading) → OnEntry s state r (λ number progress does.
         (frame : ActiveFrame) × (active state number ≡ Some frame)) }
+
+    // by a task's steps alone
+    ensures step { OnQueueStep (λ s path k does. next_queue_deed s path (deeds_among s path k) ≡ Some does) }
+    ensures step_time { OnQueueStep (λ s path k does. queue_time s path (deeds_among s path k) ≡ time s path k) }
 {}

@@ -2,7 +2,7 @@ use Rattle.std.proofs.Common.{inl, inr}
 use Rattle.swan_model.specs.QueueState.{active}
 use Rattle.swan_model.proofs.ScriptSteps.{at_next}
 use Rattle.swan_model.proofs.Elements.{option_cases}
-use Rattle.queues.proofs.NextDeeds.{next_same, none_after, none_then}
+use Rattle.queues.proofs.NextDeeds.{next_same, none_after, none_then, step_next, step_time}
 use Rattle.queues.proofs.Rereading.{fit_of, live_left}
 use Rattle.queues.proofs.readings.next_deeds_agree.Goals as goal
 
@@ -24,3 +24,9 @@ returns-clause-live c s state r lawful follows fits number progress does known n
       | inl none ↦ absurd (live_left s lawful state r fits number progress known (at_next s progress does next).left none)
       | inr found ↦ found
     ]
+
+pub returns-clause-step : goal.returns-clause-step
+returns-clause-step c s path k does left is deed = step_next s path k left does is deed
+
+pub returns-clause-step_time : goal.returns-clause-step_time
+returns-clause-step_time c s path k does left is deed = step_time s path k left does is deed
