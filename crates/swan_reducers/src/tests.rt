@@ -36,6 +36,28 @@ fn leaves<R: Reducer + Send + Sync>(
     Ok(texts.out.as_slice() == out && texts.report.as_slice() == report.as_bytes())
 }
 
+/// The lines of the numbers from 1 to another, each with this end.
+fn counted(alloc: Global, last: usize, end: &str) -> Result<Vec<u8>, Fail> {
+    let mut all = Vec::new(alloc);
+    for number in 1..=last {
+        all.extend_from_slice(format!(in alloc; "{number}{end}")?.as_bytes())?;
+    }
+    Ok(all)
+}
+
+/// A text so many times, and then another so many times.
+fn in_turn(
+    alloc: Global,
+    first: &[u8],
+    first_count: usize,
+    second: &[u8],
+    second_count: usize,
+) -> Result<Vec<u8>, Fail> {
+    let mut all = repeated(alloc, first, first_count)?;
+    all.extend_from_slice(&repeated(alloc, second, second_count)?)?;
+    Ok(all)
+}
+
 /// A text so many times.
 fn repeated(alloc: Global, text: &[u8], count: usize) -> Result<Vec<u8>, Fail> {
     let mut all = Vec::new(alloc);
@@ -150,6 +172,154 @@ fn joins_end_past_their_bound(rt: HostRuntime) -> Result<(), Fail> {
             "faults 1\nfault /1 0 TooLong\n"
         )?
     );
+    Ok(())
+}
+
+#[test]
+fn sums_carry_from_word_to_word_and_come_back(rt: HostRuntime) -> Result<(), Fail> {
+    for (text, out, faults) in [
+        (b"-1\n1\n".as_slice(), b"0\n".as_slice(), "faults 0\n"),
+        (
+            b"9223372036854775807\n9223372036854775807\n2\n".as_slice(),
+            b"".as_slice(),
+            "faults 1\nfault /1 0 Overflow\n",
+        ),
+        (
+            b"9223372036854775807\n9223372036854775807\n2\n-9223372036854775808\n-9223372036854775808\n".as_slice(),
+            b"0\n".as_slice(),
+            "faults 0\n",
+        ),
+        (
+            b"-9223372036854775808\n-9223372036854775808\n".as_slice(),
+            b"".as_slice(),
+            "faults 1\nfault /1 0 Overflow\n",
+        ),
+        (
+            b"-9223372036854775808\n-9223372036854775808\n9223372036854775807\n9223372036854775807\n1\n".as_slice(),
+            b"-1\n".as_slice(),
+            "faults 0\n",
+        ),
+    ] {
+        assert!(rt; leaves(&rt, rt.alloc(), SumReducer, text, out, faults)?);
+    }
+    Ok(())
+}
+
+#[test]
+fn sums_of_blocks_meet_at_the_edges(rt: HostRuntime) -> Result<(), Fail> {
+    let alloc = rt.alloc();
+    for (first, first_count, second, second_count, out, faults) in [
+        (
+            b"9223372036854775807\n".as_slice(),
+            64,
+            b"-9223372036854775807\n".as_slice(),
+            64,
+            b"0\n".as_slice(),
+            "faults 0\n",
+        ),
+        (
+            b"-9223372036854775808\n".as_slice(),
+            128,
+            b"9223372036854775807\n".as_slice(),
+            129,
+            b"9223372036854775679\n".as_slice(),
+            "faults 0\n",
+        ),
+        (
+            b"-9223372036854775808\n".as_slice(),
+            1,
+            b"0\n".as_slice(),
+            64,
+            b"-9223372036854775808\n".as_slice(),
+            "faults 0\n",
+        ),
+        (
+            b"144115188075855872\n".as_slice(),
+            64,
+            b"-1\n".as_slice(),
+            1,
+            b"9223372036854775807\n".as_slice(),
+            "faults 0\n",
+        ),
+        (
+            b"144115188075855872\n".as_slice(),
+            64,
+            b"0\n".as_slice(),
+            1,
+            b"".as_slice(),
+            "faults 1\nfault /2 0 Overflow\n",
+        ),
+        (
+            b"-144115188075855872\n".as_slice(),
+            64,
+            b"0\n".as_slice(),
+            1,
+            b"-9223372036854775808\n".as_slice(),
+            "faults 0\n",
+        ),
+        (
+            b"-144115188075855872\n".as_slice(),
+            64,
+            b"-1\n".as_slice(),
+            1,
+            b"".as_slice(),
+            "faults 1\nfault /2 0 Overflow\n",
+        ),
+    ] {
+        let text = in_turn(alloc, first, first_count, second, second_count)?;
+        assert!(rt; leaves(&rt, alloc, SumReducer, &text, out, faults)?);
+    }
+    Ok(())
+}
+
+#[test]
+fn joins_go_on_over_blocks(rt: HostRuntime) -> Result<(), Fail> {
+    let alloc = rt.alloc();
+    for last in [63, 64, 65, 129] {
+        let text = counted(alloc, last, "\n")?;
+        let mut out = counted(alloc, last, "")?;
+        out.push(b'\n')?;
+        assert!(rt;
+            leaves(&rt, alloc, JoinReducer, &text, &out, "faults 0\n")?,
+            "at {last}"
+        );
+    }
+    Ok(())
+}
+
+/// The line of so many letters, with its line feed.
+fn line_of(alloc: Global, letter: u8, length: usize) -> Result<Vec<u8>, Fail> {
+    let mut line = repeated(alloc, &[letter], length)?;
+    line.push(b'\n')?;
+    Ok(line)
+}
+
+#[test]
+fn joins_of_blocks_end_past_the_bound(rt: HostRuntime) -> Result<(), Fail> {
+    let alloc = rt.alloc();
+    for (length, last, is_whole) in [
+        (1_000, 1_535, true),
+        (1_000, 1_536, false),
+        (1_023, 63, true),
+        (1_023, 64, false),
+        (0, 65_535, true),
+        (1_024, 0, false),
+        (1_024, 1, false),
+    ] {
+        let first = line_of(alloc, b'a', length)?;
+        let text = in_turn(alloc, &first, 64, &line_of(alloc, b'b', last)?, 1)?;
+        let first = repeated(alloc, b"a", length)?;
+        let mut out = in_turn(alloc, &first, 64, b"b", last)?;
+        out.push(b'\n')?;
+        let whole = leaves(&rt, alloc, JoinReducer, &text, &out, "faults 0\n")?;
+        let faults = "faults 1\nfault /2 0 TooLong\n";
+        let too_long = leaves(&rt, alloc, JoinReducer, &text, b"", faults)?;
+        assert_eq!(rt;
+            (whole, too_long),
+            (is_whole, !is_whole),
+            "at {length} and {last}"
+        );
+    }
     Ok(())
 }
 

@@ -1,0 +1,157 @@
+// Answers that no task has asked for are as none.
+use crate::asks::asks;
+use index_pipeline::index_plan;
+use record_pipeline::record_plan;
+use std::alloc::Global;
+use std::process::Abort;
+use std::test::Fail;
+use swan_reducers::{SumReducer, fold_plan};
+
+/// A plan of the text of no line.
+#[derive(Clone, Copy)]
+enum Of {
+    /// Of the index.
+    Index,
+    /// Of the conversion.
+    Conversion,
+    /// Of the fold that adds.
+    Fold,
+}
+
+/// What a plan's root is told, and then the child that it asks for last, and what the two ask for. A star stands for each
+/// of some answers.
+#[derive(Clone, Copy)]
+struct Row {
+    of: Of,
+    told: &'static str,
+    child_told: &'static str,
+    asks: &'static str,
+}
+
+/// What the two tasks of a row ask for, where the star stands for this word.
+fn asked(alloc: Global, row: &Row, other: &str) -> Result<String, Fail> {
+    match row.of {
+        Of::Index => {
+            let plan = index_plan(alloc, b"").ok().ok_or("refused")?;
+            Ok(asks(alloc, plan, row.told, row.child_told, other)?)
+        }
+        Of::Conversion => {
+            let plan = record_plan(alloc, b"").ok().ok_or("refused")?;
+            Ok(asks(alloc, plan, row.told, row.child_told, other)?)
+        }
+        Of::Fold => {
+            let plan = fold_plan(alloc, SumReducer, b"").ok().ok_or("refused")?;
+            Ok(asks(alloc, plan, row.told, row.child_told, other)?)
+        }
+    }
+}
+
+/// All rows hold, whichever of these words the star stands for.
+fn hold(rt: &impl Abort, alloc: Global, rows: &[Row], others: &[&str]) -> Result<(), Fail> {
+    for row in rows {
+        for other in others {
+            let asked = asked(alloc, row, *other)?;
+            assert_eq!(rt; asked.as_str(), row.asks, "told {other}");
+        }
+    }
+    Ok(())
+}
+
+/// A row.
+fn row_of(of: Of, told: &'static str, child_told: &'static str, asks: &'static str) -> Row {
+    Row {
+        of,
+        told,
+        child_told,
+        asks,
+    }
+}
+
+#[test]
+fn an_answer_that_isnt_whether_a_queue_is_empty_ends_a_reader(rt: HostRuntime) -> Result<(), Fail> {
+    let rows = [
+        row_of(
+            Of::Index,
+            "start place *",
+            "start *",
+            "new empty spawn empty finish ",
+        ),
+        row_of(Of::Conversion, "start *", "", "empty finish "),
+        row_of(
+            Of::Conversion,
+            "start false item *",
+            "start start",
+            "empty pop empty spawn spawn finish ",
+        ),
+        row_of(
+            Of::Fold,
+            "start place *",
+            "start * *",
+            "new empty spawn empty push finish ",
+        ),
+    ];
+    hold(
+        &rt,
+        rt.alloc(),
+        &rows,
+        &["nothing", "start", "item", "place", "true"],
+    )
+}
+
+#[test]
+fn an_answer_that_is_no_item_ends_a_reader(rt: HostRuntime) -> Result<(), Fail> {
+    let rows = [
+        row_of(
+            Of::Index,
+            "start place false *",
+            "start false *",
+            "new empty pop spawn empty pop finish ",
+        ),
+        row_of(Of::Conversion, "start false *", "", "empty pop finish "),
+        row_of(
+            Of::Fold,
+            "start place false *",
+            "start false * *",
+            "new empty pop spawn empty pop push finish ",
+        ),
+    ];
+    hold(
+        &rt,
+        rt.alloc(),
+        &rows,
+        &["nothing", "start", "place", "true", "false"],
+    )
+}
+
+#[test]
+fn where_no_answer_is_asked_for_each_will_do(rt: HostRuntime) -> Result<(), Fail> {
+    let rows = [
+        row_of(Of::Index, "* *", "", "new empty "),
+        row_of(Of::Conversion, "*", "", "empty "),
+        row_of(
+            Of::Conversion,
+            "start false item true",
+            "* *",
+            "empty pop empty spawn spawn finish ",
+        ),
+        row_of(Of::Fold, "* *", "", "new empty "),
+        row_of(
+            Of::Index,
+            "start place false item true",
+            "* * *",
+            "new empty pop empty spawn finish finish finish ",
+        ),
+        row_of(
+            Of::Fold,
+            "start place false item true",
+            "* *",
+            "new empty pop empty spawn push fail ",
+        ),
+    ];
+    hold(
+        &rt,
+        rt.alloc(),
+        &rows,
+        &["nothing", "start", "item", "place", "true", "false"],
+    )
+}
