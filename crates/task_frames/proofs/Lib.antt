@@ -1,0 +1,5 @@
+-- what a frame's ends serve, and what they show of it
+pub mod Shown
+-- a frame in the middle of a step, and after steps of its own
+pub mod Amid
+pub mod Served
