@@ -1,5 +1,5 @@
 -- A frame in the middle of its next step, and after steps of its own.
-use Rattle.std.proofs.Common.{◌≡◌, inl, inr, ℕ, zero, suc, ◌+◌, ◌*◌, ◌-◌, ◌<◌, ◌≤◌, true, Option, Some, refl, sym, ap, subst, ◌∙◌, arith}
+use Rattle.std.proofs.Common.{◌≡◌, inl, inr, ℕ, zero, suc, ◌+◌, ◌*◌, ◌-◌, ◌<◌, ◌≤◌, true, Option, Some, refl, sym, ap, subst, ◌∙◌, arith, rules}
 use Rattle.std.proofs.lemmas.Bool.{cases_lt}
 use Rattle.std.proofs.lemmas.Option.{same_Some, slice_get-get_or}
 use Rattle.std.specs.Prelude.{slice_get}
@@ -26,7 +26,10 @@ use Rattle.serial_elision.proofs.AskSteps.{works}
 use Rattle.serial_elision.proofs.FewMade.{few-times}
 use Rattle.serial_elision.proofs.TaskSteps.{goes_on_next, stands-one}
 use Rattle.task_frames.specs.declared.stage.Stage.TheVariants.{Ready, Asking}
+use Rattle.task_frames.specs.declared.row.Row.{Row}
+use Rattle.task_frames.specs.declared.stage.Stage.{Stage}
 use Rattle.task_frames.specs.Frames.{AreEndsOf, IsFrame, Task, deeds_among, is_local}
+use Rattle.task_frames.specs.Going.{IsRow, IsRowTo, is_still}
 
 -- what holds of one stage holds of whatever the option has
 pub for-one : {X : Type 0} (P : X → Type 0) (one : X) → P one → (x : X) → Some one ≡ Some x → P x
@@ -166,12 +169,47 @@ module _ {B L : Type 0} (G : Ghosts B L) (name : Option Script) where
   pub worked-to : (task : Task B L) (ends : LentEnds) (local after : L) (said : Answer) (asked : Ask L) (place n : ℕ) → IsFrame G task name ends (Ready local said) → n < task.fuel
       → AreWork (G.next task.plan.body) local said task.fuel n → after ≡ local_after (G.next task.plan.body) local said task.fuel (suc n)
       → asked ≡ ask_after (G.next task.plan.body) local said task.fuel n → place ≡ G.place_of task.plan.body (local_after (G.next task.plan.body) local said task.fuel n)
-      → IsFrame G (with-steps task (task.done + n) (task.fuel - (n + 1))) name ends (Asking after asked place)
+      → IsFrame G (with-steps task (task.done + n) (task.fuel - n - 1)) name ends (Asking after asked place)
   worked-to task ends local after said asked place n is less are after_is asked_is place_is =
       let now = with-steps task (task.done + n) (task.fuel - n) in
       let here = local_after (G.next task.plan.body) local said task.fuel n in
       let step = G.next task.plan.body here (told_after said n) (task.fuel - n - 1) in
       let both : (after, asked) ≡ step = ap (λ l. (l, asked)) after_is ∙ ap (λ a. (step.0, a)) asked_is in
-      let fuel : task.fuel - n - 1 ≡ task.fuel - (n + 1) = omega arith in
-      subst (λ f. IsFrame G (with-steps task (task.done + n) f) name ends (Asking after asked place)) fuel
-      (asks now ends here after (told_after said n) asked place (worked-on task ends local said n is (omega arith) are) (omega arith) both place_is)
+      asks now ends here after (told_after said n) asked place (worked-on task ends local said n is (omega arith) are) (omega arith) both place_is
+
+  -- a row of steps of work, however it ends
+  rowed-to : (task : Task B L) (ends : LentEnds) (local : L) (said : Answer) (budget works left : ℕ) (stage : Stage L) → IsFrame G task name ends (Ready local said)
+      → 0 < budget → 0 < task.fuel → AreWork (G.next task.plan.body) local said task.fuel works → IsRowTo G task.plan.body local said task.fuel budget works left stage
+      → IsFrame G (with-steps task (task.done + works) left) name ends stage
+  rowed-to task ends local said budget works left (Ready after told_is) is some full are to =
+      subst (λ f. IsFrame G (with-steps task (task.done + works) f) name ends (Ready after told_is)) (sym to.1)
+      (subst (λ a. IsFrame G (with-steps task (task.done + works) (task.fuel - works)) name ends (Ready after a)) (sym to.3)
+      (worked-all task ends local after said works is (omega (arith, to.0)) (omega (arith, to.0)) are to.2))
+  rowed-to task ends local said budget works left (Asking after asked place) is some full are to =
+      subst (λ f. IsFrame G (with-steps task (task.done + works) f) name ends (Asking after asked place)) (sym to.1)
+      (worked-to task ends local after said asked place works is (omega (arith, to.0)) are to.2 to.3 to.4)
+
+  pub rowed : (task : Task B L) (ends : LentEnds) (body : B) (local : L) (said : Answer) (budget : ℕ) (row : Row L) → IsFrame G task name ends (Ready local said)
+      → body ≡ task.plan.body → 0 < budget → 0 < task.fuel → IsRow G body local said task.fuel budget row
+      → IsFrame G (with-steps task (task.done + row.works) row.fuel) name ends row.stage
+  rowed task ends body local said budget row is same some full so =
+      let with_own = subst (λ b. IsRow G b local said task.fuel budget row) same so in
+      rowed-to task ends local said budget row.works row.fuel row.stage is some full with_own.works with_own.stands
+
+-- a row that is shorter than the budget leaves its frame where no step of work is before it
+still-to : {B L : Type 0} (G : Ghosts B L) (body : B) (local : L) (said : Answer) (fuel budget works left : ℕ) (stage : Stage L) → IsRowTo G body local said fuel budget works left stage
+    → works < budget → is_still left (Some stage) ≡ true
+still-to G body local said fuel budget works left (Ready after told_is) to less = let none : left ≡ 0 = omega (arith, to.0, to.1) in search (rules, none)
+still-to G body local said fuel budget works left (Asking after asked place) to less = refl
+
+pub row-still : {B L : Type 0} (G : Ghosts B L) (body : B) (local : L) (said : Answer) (fuel budget : ℕ) (row : Row L) → IsRow G body local said fuel budget row
+    → row.works < budget → is_still row.fuel (Some row.stage) ≡ true
+row-still G body local said fuel budget row so less = still-to G body local said fuel budget row.works row.fuel row.stage so.stands less
+
+few-to : {B L : Type 0} (G : Ghosts B L) (body : B) (local : L) (said : Answer) (fuel budget works left : ℕ) (stage : Stage L) → IsRowTo G body local said fuel budget works left stage
+    → works ≤ budget
+few-to G body local said fuel budget works left (Ready after told_is) to = omega (arith, to.0)
+few-to G body local said fuel budget works left (Asking after asked place) to = omega (arith, to.0)
+
+pub row-most : {B L : Type 0} (G : Ghosts B L) (body : B) (local : L) (said : Answer) (fuel budget : ℕ) (row : Row L) → IsRow G body local said fuel budget row → row.works ≤ budget
+row-most G body local said fuel budget row so = few-to G body local said fuel budget row.works row.fuel row.stage so.stands

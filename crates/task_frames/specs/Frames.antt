@@ -1,5 +1,5 @@
 -- Frames: tasks of a run out of order. What a frame is, wherever it is and whoever has it.
-use Rattle.std.specs.Prelude.{◌≡◌, ℕ, ◌≤◌, ◌<◌, Bool, true, false, Option, Some, List, is_some, filter, length, slice_get, take}
+use Rattle.std.specs.Prelude.{◌≡◌, ℕ, ◌≤◌, ◌<◌, Bool, true, false, Option, Some, List, [], is_some, filter, length, slice_get, take}
 use Rattle.std.specs.Option.{ForSome}
 use Rattle.swan_model.specs.declared.body.Body.{Ghosts}
 use Rattle.swan_model.specs.declared.plan.Plan.{Plan}
@@ -36,6 +36,10 @@ pub record Task (B L : Type 0) : Type 0 where
   pub holdings : List Holding
   -- how many children it has spawned
   pub children : ℕ
+
+-- the root's task before its first step, with what it holds
+abbrev pub root_task : {B L : Type 0} → Plan B L → List Holding → Task B L
+root_task plan holdings = record { plan = plan; number = 0; path = []; done = 0; since = 0; fuel = plan.fuel; holdings = holdings; children = 0 }
 
 -- a frame, as contracts see it
 pub record FrameView (B L E : Type 0) : Type 0 where

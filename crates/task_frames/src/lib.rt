@@ -4,6 +4,7 @@
 mod frame;
 mod holding;
 mod paused;
+mod row;
 mod run;
 mod serving;
 mod stage;
@@ -12,6 +13,7 @@ mod steps;
 pub use frame::Frame;
 pub use holding::Holding;
 pub use paused::Paused;
+use row::Row;
 pub use run::{PlanRun, Run};
 use stage::Stage;
 pub use steps::Steps;
