@@ -5,3 +5,5 @@ pub mod Amid
 pub mod Served
 -- a frame over several steps
 pub mod Same
+-- the root
+pub mod Root

@@ -1,5 +1,6 @@
 -- A frame before and after several of its steps.
 use Rattle.std.proofs.Common.{◌≡◌, inl, inr, ◌⊎◌, ℕ, ◌<◌, ◌≤◌, Bool, true, false, List, Option, Some, None, refl, sym, ap, subst, ◌∙◌, arith}
+use Rattle.std.proofs.lemmas.Option.{same_Some}
 use Rattle.std.specs.Option.{ForSome}
 use Rattle.swan_model.specs.declared.body.Ask.{Ask}
 use Rattle.swan_model.specs.declared.body.Ask.TheVariants as ask
@@ -10,7 +11,7 @@ use Rattle.queues.specs.Ends.{EndCounts}
 use Rattle.task_frames.specs.declared.stage.Stage.{Stage}
 use Rattle.task_frames.specs.declared.stage.Stage.TheVariants.{Ready, Asking}
 use Rattle.task_frames.specs.Frames.{FrameView, Task}
-use Rattle.task_frames.specs.Going.{AreLater, Counts, IsBeyond, IsLater, IsNotServed, IsSameFrame, NeedsCore, WasEmptySince, WasFullSince, full, counted}
+use Rattle.task_frames.specs.Going.{AreLater, Counts, IsBeyond, IsLater, IsNotServed, IsSameFrame, NeedsCore, WasEmptySince, WasFullSince, at_first, beyond, counted, full}
 use Rattle.task_frames.proofs.Shown.{same-later, then-later}
 
 full-earlier : (before between after : EndCounts) → IsLater before between → WasFullSince between after → WasFullSince before after
@@ -23,6 +24,12 @@ empty-earlier before between after later was = record { looked = let l = was.loo
 either : (b : Bool) → (b ≡ false) ⊎ (b ≡ true)
 either true = inr refl
 either false = inl refl
+
+pub not-served-so : {L : Type 0} (holdings hs : List Holding) (ends es : LentEnds) (before after : Counts) (asks again : Ask L) → holdings ≡ hs → es ≡ ends → again ≡ asks
+    → IsNotServed holdings ends before after asks → IsNotServed hs es before after again
+not-served-so holdings hs ends es before after asks again holds same asked not =
+    subst (λ h. IsNotServed h es before after again) holds
+    (subst (λ e. IsNotServed holdings e before after again) (sym same) (subst (IsNotServed holdings ends before after) (sym asked) not))
 
 -- what the ends didn't serve lately they didn't serve since earlier
 not-served-earlier : {L : Type 0} (holdings : List Holding) (ends : LentEnds) (before between after : Counts) (asks : Ask L) → AreLater ends before between
@@ -90,13 +97,37 @@ module _ {B L E : Type 0} (name : E → Option Script) (run : E → List ℕ) (e
   }
 
   beyond-earlier : (before between after : FrameView B L E) (stage : Stage L) → Same before between → Same between after
-      → IsBeyond name run ends counts between after stage → IsBeyond name run ends counts before after stage
-  beyond-earlier before between after (Ready local said) one two beyond = beyond
-  beyond-earlier before between after (Asking local asks place) one two beyond =
+      → IsBeyond ends counts between after stage → IsBeyond ends counts before after stage
+  beyond-earlier before between after (Ready local said) one two is = is
+  beyond-earlier before between after (Asking local asks place) one two is =
       not-served-earlier after.task.holdings (ends after.ends) (counts before.ends) (counts between.ends) (counts after.ends) asks
-      (λ queue is_producer has. one.counts_are queue is_producer (sym (same-has before between one queue is_producer) ∙ sym (same-has between after two queue is_producer) ∙ has)) beyond
+      (λ queue is_producer has. one.counts_are queue is_producer (sym (same-has before between one queue is_producer) ∙ sym (same-has between after two queue is_producer) ∙ has)) is
 
   -- what needs the core by its last steps needs it by all of them
-  pub needs-earlier : (before between after : FrameView B L E) → Same before between → Same between after → NeedsCore name run ends counts between after → NeedsCore name run ends counts before after
-  needs-earlier before between after one two (inl first) = inl first
-  needs-earlier before between after one two (inr beyond) = inr (λ stage is. beyond-earlier before between after stage one two (beyond stage is))
+  pub needs-earlier : (before between after : FrameView B L E) → Same before between → Same between after → NeedsCore ends counts between after → NeedsCore ends counts before after
+  needs-earlier before between after one two (at_first is) = at_first is
+  needs-earlier before between after one two (beyond is) = beyond (λ stage at. beyond-earlier before between after stage one two (is stage at))
+
+module _ {B L E : Type 0} (ends : E → LentEnds) (counts : E → Counts) where
+  -- a frame whose next step is beyond it, from how it was before
+  pub needs-from : (now before after : FrameView B L E) → before ≡ now → (stage : Stage L) → after.stage ≡ Some stage → IsBeyond ends counts before after stage
+      → NeedsCore ends counts now after
+  needs-from now before after same stage is not =
+      subst (λ v. NeedsCore ends counts v after) same
+      (beyond (λ found at. subst (IsBeyond ends counts before after) (same_Some stage found (sym is ∙ at)) not))
+
+  beyond-marked : (before after : FrameView B L E) (from to : Bool) (stage : Stage L) → IsBeyond ends counts (record before { mark = from }) after stage
+      → IsBeyond ends counts before (record after { mark = to }) stage
+  beyond-marked before after from to (Ready local said) is = is
+  beyond-marked before after from to (Asking local asks place) is = is
+
+  -- it is so whatever their marks are
+  marked : (before after : FrameView B L E) (from to : Bool) → NeedsCore ends counts (record before { mark = from }) after → NeedsCore ends counts before (record after { mark = to })
+  marked before after from to (at_first is) = at_first is
+  marked before after from to (beyond is) = beyond (λ stage at. beyond-marked before after from to stage (is stage at))
+
+  pub needs-marked : (now then before after : FrameView B L E) (from to : Bool) → before ≡ now → after ≡ then → NeedsCore ends counts (record before { mark = from }) then
+      → NeedsCore ends counts now (record after { mark = to })
+  needs-marked now then before after from to same again needs =
+      subst (λ v. NeedsCore ends counts v (record after { mark = to })) same
+      (marked before after from to (subst (NeedsCore ends counts (record before { mark = from })) (sym again) needs))

@@ -120,14 +120,18 @@ module _ {B L E : Type 0} (name : E → Option Script) (run : E → List ℕ) (e
     pub ends_are : ends after.ends ≡ with_deeds (ends before.ends) (ends after.ends).deeds
     pub counts_are : AreLater (ends before.ends) (counts before.ends) (counts after.ends)
 
-  -- What is left of a frame's next step needs the core: the frame has taken none yet; or it has no fuel for it; or the step
-  -- asks for what the ends don't serve.
+-- ---- why it stops
+
+module _ {B L E : Type 0} (ends : E → LentEnds) (counts : E → Counts) where
+  -- the frame has no fuel for its next step, or is in the middle of one that asks for what the ends didn't serve
   abbrev pub IsBeyond : (before after : FrameView B L E) → Stage L → Type 0
   IsBeyond before after (Ready local said) = after.task.fuel ≡ 0
   IsBeyond before after (Asking local asks place) = IsNotServed after.task.holdings (ends after.ends) (counts before.ends) (counts after.ends) asks
 
-  abbrev pub NeedsCore : (before after : FrameView B L E) → Type 0
-  NeedsCore before after = (after.task.done ≡ 0) ⊎ ForSome after.stage (IsBeyond before after)
+  -- The frame's next step needs the core: it is the task's first one, or one that the frame can't take by itself.
+  pub data NeedsCore (before after : FrameView B L E) : Type 0 where
+    at_first : after.task.done ≡ 0 → NeedsCore before after
+    beyond : ForSome after.stage (IsBeyond before after) → NeedsCore before after
 
 -- ---- what is answered
 

@@ -164,7 +164,7 @@ impl<B: Body, Q: Queues> Frame<B, Q> {
         ensures mark { self.new.mark ≡ self.old.mark }
         ensures whole { is_whole self.new ≡ true }
         ensures done { self.new.task.done ≡ (if result then self.old.task.done + 1 else self.old.task.done) }
-        ensures cause { result ≡ false → NeedsCore Q.Ends.name Q.Ends.run Q.Ends.ends Q.Ends.counts self.old self.new }
+        ensures cause { result ≡ false → NeedsCore Q.Ends.ends Q.Ends.counts self.old self.new }
     {
         match self.stage.take() {
             Some(Stage::Asking(local, ask, place)) => {
@@ -202,7 +202,7 @@ impl<B: Body, Q: Queues> Frame<B, Q> {
         ensures most { IfOk result (λ turn. turn.taken ≤ budget) }
         ensures some { IfOk result (λ turn. turn.at_core ≡ false → 0 < turn.taken) }
         ensures less { IfOk result (λ turn. turn.at_core ≡ true → turn.taken < budget) }
-        ensures cause { IfOk result (λ turn. turn.at_core ≡ true → NeedsCore Q.Ends.name Q.Ends.run Q.Ends.ends Q.Ends.counts self.old self.new) }
+        ensures cause { IfOk result (λ turn. turn.at_core ≡ true → NeedsCore Q.Ends.ends Q.Ends.counts self.old self.new) }
     {
         let works = self.work(alloc, body, budget)?;
         if works == budget {
@@ -233,7 +233,7 @@ impl<B: Body, Q: Queues> Frame<B, Q> {
         ensures whole { OnSteps result (λ k. is_whole self.new ≡ true) }
         ensures done { OnSteps result (λ k. self.new.task.done ≡ self.old.task.done + k) }
         ensures at_core { OnAtCore result (λ k. k < budget) }
-        ensures cause { OnAtCore result (λ k. NeedsCore Q.Ends.name Q.Ends.run Q.Ends.ends Q.Ends.counts self.old self.new) }
+        ensures cause { OnAtCore result (λ k. NeedsCore Q.Ends.ends Q.Ends.counts self.old self.new) }
         ensures budget { OnBudget result (λ k. k ≡ budget) }
         ensures torn { OnNoMemory result (self.new.stage ≡ None) }
     {
@@ -275,7 +275,7 @@ impl<B: Body, Q: Queues> Frame<B, Q> {
 
         // what is answered
         ensures at_core { OnAtCore result (λ k. k < budget) }
-        ensures cause { OnAtCore result (λ k. NeedsCore Q.Ends.name Q.Ends.run Q.Ends.ends Q.Ends.counts self.old self.new) }
+        ensures cause { OnAtCore result (λ k. NeedsCore Q.Ends.ends Q.Ends.counts self.old self.new) }
         ensures budget { OnBudget result (λ k. k ≡ budget) }
 
         // what it leaves
