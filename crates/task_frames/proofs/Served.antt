@@ -58,6 +58,7 @@ same-mode : (xs ys : List Holding) (place : ℕ) (h : Holding) → map (λ (x : 
 same-mode xs ys place h same is = found (slice_get ys place) refl where
   modes : option_map (λ (x : Holding). x.mode) (slice_get ys place) ≡ Some h.mode
   modes = sym (slice_get-map (λ (x : Holding). x.mode) ys place) ∙ ap (λ ms. slice_get ms place) (sym same) ∙ slice_get-map (λ (x : Holding). x.mode) xs place ∙ ap (option_map (λ (x : Holding). x.mode)) is
+
   found : (o : Option Holding) → slice_get ys place ≡ o → (g : Holding) × (slice_get ys place ≡ Some g) × (g.mode ≡ h.mode)
   found None at = let none : option_map (λ (x : Holding). x.mode) None ≡ Some h.mode = ap (option_map (λ (x : Holding). x.mode)) (sym at) ∙ modes in absurd (cc)
   found (Some g) at = let some : Some g.mode ≡ Some h.mode = ap (option_map (λ (x : Holding). x.mode)) (sym at) ∙ modes in (g, at, same_Some g.mode h.mode some)
@@ -184,7 +185,7 @@ module _ {B L : Type 0} (G : Ghosts B L) (task : Task B L) (name : Option Script
       (IsFrame G (with-steps G name task (task.done + 1) task.fuel) name (with_deeds ends (ends.deeds + 1)) (Ready local (answer.Item item)))
       (pops-on G task.plan task.path task.done top local is.plan.lists place has.origin has.may asking there.1)
       (λ value found goes. goes-on G name task ends local asked before is (answer.Item item) (deed.Pop has.origin) (with_deeds ends (ends.deeds + 1))
-        (subst (λ v. GoesOn G task.plan task.path task.done top local (answer.Item v) (deed.Pop has.origin)) (same_Some value item (sym found ∙ there.0)) goes) refl refl)
+      (subst (λ v. GoesOn G task.plan task.path task.done top local (answer.Item v) (deed.Pop has.origin)) (same_Some value item (sym found ∙ there.0)) goes) refl refl)
 
 -- what the frame asks its ends for is its next queue deed
 pub next-ask : {B L : Type 0} (G : Ghosts B L) (task : Task B L) (name : Option Script) (ends : LentEnds) (local : L) (asked : Ask L) (before : ℕ)

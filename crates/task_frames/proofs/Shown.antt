@@ -73,13 +73,13 @@ module _ (ends : LentEnds) (before after : Counts) (queue : ℕ) where
         → (has_end ends queue true ≡ false) ⊎ WasRefused (before queue true) (after queue true) → IsNotServed holdings ends before after asks
     not-pushed value is number cause =
         subst (IsNotServed holdings ends before after) (sym is) (λ other at.
-          subst (λ q. (has_end ends q true ≡ false) ⊎ WasFullSince (before q true) (after q true)) (same_Some queue other (sym number ∙ at)) (full-since cause))
+        subst (λ q. (has_end ends q true ≡ false) ⊎ WasFullSince (before q true) (after q true)) (same_Some queue other (sym number ∙ at)) (full-since cause))
 
     pub not-popped : asks ≡ ask.Pop place → number_at holdings place Pop ≡ Some queue
         → (has_end ends queue false ≡ false) ⊎ WasEmpty (before queue false) (after queue false) → IsNotServed holdings ends before after asks
     not-popped is number cause =
         subst (IsNotServed holdings ends before after) (sym is) (λ other at.
-          subst (λ q. (has_end ends q false ≡ false) ⊎ WasEmptySince (before q false) (after q false)) (same_Some queue other (sym number ∙ at)) (empty-since cause))
+        subst (λ q. (has_end ends q false ≡ false) ⊎ WasEmptySince (before q false) (after q false)) (same_Some queue other (sym number ∙ at)) (empty-since cause))
 
     pub may-push : (name : Option Script) (value : Value) → asks ≡ ask.Push place value → number_at holdings place Push ≡ Some queue
         → IsNextDeed name holdings ends asks → ForSome name (λ s. IsNextPush s ends queue value)

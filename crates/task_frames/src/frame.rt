@@ -38,35 +38,35 @@ impl<B: Body, Q: Queues> Model for Frame<B, Q> {
     ghost Value = { FrameView B B.Local Q.Ends };
 
     ghost view = { λ f. record {
-        task = record {
-            plan = f.plan.means;
-            number = f.number;
-            path = f.path;
-            done = f.done;
-            since = f.since;
-            fuel = f.fuel;
-            holdings = f.holdings.items;
-            children = f.children;
-        };
-        stage = f.stage;
-        mark = f.mark;
-        ends = f.ends;
+      task = record {
+        plan = f.plan.means;
+        number = f.number;
+        path = f.path;
+        done = f.done;
+        since = f.since;
+        fuel = f.fuel;
+        holdings = f.holdings.items;
+        children = f.children;
+      };
+      stage = f.stage;
+      mark = f.mark;
+      ends = f.ends;
     } };
 
     ghost invariant = { λ f. IsAnyFrame B.Body Q.Ends.name Q.Ends.ends (record {
-        task = record {
-            plan = f.plan.means;
-            number = f.number;
-            path = f.path;
-            done = f.done;
-            since = f.since;
-            fuel = f.fuel;
-            holdings = f.holdings.items;
-            children = f.children;
-        };
-        stage = f.stage;
-        mark = f.mark;
-        ends = f.ends;
+      task = record {
+        plan = f.plan.means;
+        number = f.number;
+        path = f.path;
+        done = f.done;
+        since = f.since;
+        fuel = f.fuel;
+        holdings = f.holdings.items;
+        children = f.children;
+      };
+      stage = f.stage;
+      mark = f.mark;
+      ends = f.ends;
     }) };
 }
 
@@ -123,7 +123,7 @@ impl<B: Body, Q: Queues> Frame<B, Q> {
     /// Takes steps of the frame's own work in a row, where it is at the beginning of a step: up to so many, or up to a
     /// step that asks for something else, of which it is in the middle then, or with all its fuel. The answer is how many
     /// steps were work. Err is want of memory: the frame has no local then. It costs what the steps cost.
-    fn work(&mut self, alloc: Global, body: &B, budget: u64) -> Result<u64, NoMemory>
+    pub(crate) fn work(&mut self, alloc: Global, body: &B, budget: u64) -> Result<u64, NoMemory>
         requires body { body.now ≡ self.old.task.plan.body }
         requires whole { is_whole self.old ≡ true }
         requires budget { 0 < budget }

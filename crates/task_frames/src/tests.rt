@@ -27,6 +27,7 @@ impl Means<Plan<Asks>> for PlanOf<'_> {
 }
 
 /// What a call of `run_local` has to answer.
+#[derive(Drop)]
 enum Stop {
     AtCore(u64),
     Budget(u64),
@@ -34,6 +35,7 @@ enum Stop {
 }
 
 /// A call with this budget, and its answer.
+#[derive(Drop)]
 struct Call {
     budget: u64,
     stop: Stop,
@@ -71,7 +73,12 @@ fn root_of(alloc: Global, plan: &Plan<Asks>) -> Result<Frame<Asks, BookQueues>, 
     let fuel = plan.fuel.units();
     let mut queues = BookQueues::new(alloc, RunName::of(plan));
     let ends = queues.lend(0);
-    let holdings = vec![in alloc; Holding { mode: Mode::PushPop, number: 0 }]?;
+    let holdings = vec![in alloc;
+        Holding {
+            mode: Mode::PushPop,
+            number: 0
+        },
+    ]?;
     Ok(Frame::root(
         Meaning::of(&PlanOf { plan }),
         Path::root(alloc),

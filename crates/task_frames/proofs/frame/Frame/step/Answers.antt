@@ -40,7 +40,7 @@ invariant_of-self-in-Some-Ready g c = for-one _ _ (c.self.invariant _ (sym c.tak
 pub returns-in-Err-clause-cause : goal.returns-in-Err-clause-cause
 returns-in-Err-clause-cause g c =
     λ _. needs-from g.Q.Ends.LocalEnds.ends g.Q.Ends.LocalEnds.counts _ _ _ c.self.view_is
-      (Asking c.in-Some-Asking.local c.in-Err.ask c.in-Some-Asking.place) refl
-      (not-served-so c.as_slice.result.now c.self.inside.holdings.items (g.Q.Ends.LocalEnds.ends c.self.inside.ends) (g.Q.Ends.LocalEnds.ends c.serve.new.ends)
-      (g.Q.Ends.LocalEnds.counts c.self.inside.ends) (g.Q.Ends.LocalEnds.counts c.serve.new.ends) c.in-Some-Asking.ask c.in-Err.ask
-      c.as_slice.ensures.value c.in-Err.ensures.err c.in-Err.ensures.handed_back c.in-Err.ensures.cause)
+    (Asking c.in-Some-Asking.local c.in-Err.ask c.in-Some-Asking.place) refl
+    (not-served-so c.as_slice.result.now c.self.inside.holdings.items (g.Q.Ends.LocalEnds.ends c.self.inside.ends) (g.Q.Ends.LocalEnds.ends c.serve.new.ends)
+    (g.Q.Ends.LocalEnds.counts c.self.inside.ends) (g.Q.Ends.LocalEnds.counts c.serve.new.ends) c.in-Some-Asking.ask c.in-Err.ask
+    c.as_slice.ensures.value c.in-Err.ensures.err c.in-Err.ensures.handed_back c.in-Err.ensures.cause)
