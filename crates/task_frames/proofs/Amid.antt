@@ -17,7 +17,7 @@ use Rattle.swan_model.specs.SerialState.{Activation}
 use Rattle.swan_model.specs.SerialStep.{moved, told}
 use Rattle.swan_model.specs.SerialTime.{is_queue_deed, time, times}
 use Rattle.swan_model.specs.Told.{deed_at}
-use Rattle.swan_model.specs.TrueFrames.{StandsAt, gives_at}
+use Rattle.swan_model.specs.TrueFrames.{gives_at}
 use Rattle.swan_model.specs.Work.{ask_after, AreWork, local_after, told_after}
 use Rattle.swan_model.proofs.Elements.{as_number, filtered_more}
 use Rattle.queues.specs.Asks.{LentEnds, with_deeds}

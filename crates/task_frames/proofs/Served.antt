@@ -1,6 +1,6 @@
 -- Pushes and pops that a frame's ends can serve: they are the frame's next queue deeds, and the frame goes on with what
 -- the ends answer.
-use Rattle.std.proofs.Common.{◌≡◌, inl, inr, ℕ, ◌+◌, ◌*◌, ◌<◌, Bool, true, false, cond, List, Option, Some, None, length, map, refl, sym, ap, subst, ◌∙◌, arith}
+use Rattle.std.proofs.Common.{◌≡◌, inl, inr, ℕ, ◌+◌, ◌<◌, Bool, true, false, cond, List, Option, Some, None, length, map, refl, sym, ap, subst, ◌∙◌, arith}
 use Rattle.std.proofs.lemmas.Bool.{cases_lt, eqb-true, lt-ltb}
 use Rattle.std.proofs.lemmas.Option.{same_Some, slice_get-map}
 use Rattle.std.specs.Option.{ForSome, option_map}
@@ -11,7 +11,6 @@ use Rattle.swan_model.specs.declared.body.Ask.{Ask}
 use Rattle.swan_model.specs.declared.body.Ask.TheVariants as ask
 use Rattle.swan_model.specs.declared.body.Body.{Ghosts}
 use Rattle.swan_model.specs.declared.origin.Origin.{Origin}
-use Rattle.swan_model.specs.declared.plan.TheConstants.{FUEL_MOST}
 use Rattle.swan_model.specs.declared.rights.Mode.{Mode}
 use Rattle.swan_model.specs.declared.rights.Mode.TheVariants.{Push, Pop}
 use Rattle.swan_model.specs.declared.script.Deed.{Deed}

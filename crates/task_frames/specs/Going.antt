@@ -1,5 +1,5 @@
 -- How a frame goes on by itself: what its ends serve, what stays as it was, and why it stops.
-use Rattle.std.specs.Prelude.{◌≡◌, ℕ, suc, ◌==◌, ◌+◌, ◌-◌, min, ◌≤◌, ◌<◌, ◌⊎◌, Bool, true, false, Option, Some, None, List, [], ◌∷◌, Result, IsSomeAnd}
+use Rattle.std.specs.Prelude.{◌≡◌, ℕ, suc, ◌==◌, ◌+◌, ◌-◌, min, ◌≤◌, ◌<◌, ◌⊎◌, Bool, true, false, Option, Some, None, List, IsSomeAnd}
 use Rattle.std.specs.Option.{ForSome}
 use Rattle.swan_model.specs.declared.body.Answer.{Answer}
 use Rattle.swan_model.specs.declared.body.Answer.TheVariants as answer
@@ -20,7 +20,7 @@ use Rattle.task_frames.specs.declared.paused.Paused.TheVariants.{AtCore, Budget,
 use Rattle.task_frames.specs.declared.row.Row.{Row}
 use Rattle.task_frames.specs.declared.stage.Stage.{Stage}
 use Rattle.task_frames.specs.declared.stage.Stage.TheVariants.{Ready, Asking}
-use Rattle.task_frames.specs.Frames.{FrameView, Task}
+use Rattle.task_frames.specs.Frames.{FrameView}
 
 -- ---- what the ends show
 

@@ -3,6 +3,6 @@ use Rattle.swan_model.specs.QueueState.{ActiveFrame, QueueState, active, root_fr
 use Rattle.task_frames.proofs.tests.root_of.Goals as goal
 
 pub lend-ends-requires : goal.lend-ends-requires
-lend-ends-requires g c = record {
+lend-ends-requires c = record {
   may = subst (λ (s : QueueState). (f : ActiveFrame) × (active s 0 ≡ Some f) × (f.lent ≡ None)) (sym (ap (λ queues. queues.state) c.new-queues.ensures)) (root_frame, refl, refl);
 }

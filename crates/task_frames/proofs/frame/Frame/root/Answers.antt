@@ -1,5 +1,4 @@
 use Rattle.std.proofs.Common.{List, ap, ◌∙◌}
-use Rattle.swan_model.specs.SerialState.{Holding}
 use Rattle.task_frames.specs.Frames.{Task}
 use Rattle.task_frames.proofs.Amid.{for-one}
 use Rattle.task_frames.proofs.Root.{root-is}
