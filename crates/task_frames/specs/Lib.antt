@@ -1,0 +1,3 @@
+-- What the contracts of this crate cite: what a frame is, wherever it is, and how it goes on by itself.
+pub mod Frames
+pub mod Going

@@ -1,0 +1,326 @@
+// Frames.
+ghost use Rattle.std.specs.Prelude.{◌≡◌, ◌+◌, ◌<◌, ◌≤◌, true, false, [], map, None, Some, IfOk, OnOk, OnErr, if◌then◌else◌};
+ghost use Rattle.swan_model.specs.Elision.{root};
+ghost use Rattle.swan_model.specs.SerialState.{Holding as Held};
+ghost use Rattle.swan_model.specs.declared.body.Answer.TheVariants.{Start};
+ghost use Rattle.task_frames.specs.declared.stage.Stage.TheVariants.{Ready};
+ghost use Rattle.task_frames.specs.Frames.{AreEndsOf, IsAnyFrame, IsPlan, is_whole, root_task};
+ghost use Rattle.task_frames.specs.Going.{IsSameFrame, NeedsCore, OnAtCore, OnBudget, OnNoMemory, OnSteps, is_at_core, stands_still};
+
+use crate::row::take_row;
+use crate::serving::serve;
+use crate::{Holding, Paused, PlanRun, Stage, Steps};
+use named_lock::Named;
+use queues::Queues;
+use std::alloc::Global;
+use std::marker::Model;
+use swan_model::{Answer, Body, Meaning, NoMemory, Path, Plan};
+
+/// A frame.
+#[derive(Drop)]
+pub struct Frame<B: Body, Q: Queues> {
+    plan: Meaning<Plan<B>>,
+    path: Path,
+    number: u64,
+    done: u64,
+    since: u64,
+    fuel: u64,
+    holdings: Vec<Holding>,
+    children: u32,
+    stage: Option<Stage<B::Local>>,
+    mark: bool,
+    ends: Q::Ends,
+}
+
+impl<B: Body, Q: Queues> Model for Frame<B, Q> {
+    ghost use Rattle.task_frames.specs.Frames.{FrameView, IsAnyFrame};
+
+    ghost Value = { FrameView B B.Local Q.Ends };
+
+    ghost view = { λ f. record {
+      task = record {
+        plan = f.plan.means;
+        number = f.number;
+        path = f.path;
+        done = f.done;
+        since = f.since;
+        fuel = f.fuel;
+        holdings = f.holdings.items;
+        children = f.children;
+      };
+      stage = f.stage;
+      mark = f.mark;
+      ends = f.ends;
+    } };
+
+    ghost invariant = { λ f. IsAnyFrame B.Body Q.Ends.name Q.Ends.ends (record {
+      task = record {
+        plan = f.plan.means;
+        number = f.number;
+        path = f.path;
+        done = f.done;
+        since = f.since;
+        fuel = f.fuel;
+        holdings = f.holdings.items;
+        children = f.children;
+      };
+      stage = f.stage;
+      mark = f.mark;
+      ends = f.ends;
+    }) };
+}
+
+impl<B: Body, Q: Queues> Frame<B, Q> {
+    /// The root of a run of the plan, which has taken no step, with what it holds by the run's numbers, and with its ends.
+    /// It takes no memory. `O(1)`.
+    pub(crate) fn root(
+        plan: Meaning<Plan<B>>,
+        path: Path,
+        local: B::Local,
+        fuel: u64,
+        holdings: Vec<Holding>,
+        ends: Q::Ends,
+    ) -> Frame<B, Q>
+        requires plan { IsPlan plan.means }
+        requires path { path ≡ [] }
+        requires local { local ≡ plan.means.root_local }
+        requires fuel { fuel ≡ plan.means.fuel }
+        requires holdings { map (λ (h : Held). h.mode) holdings.items ≡ map (λ (h : Held). h.mode) (root plan.means).holdings }
+        requires ends { AreEndsOf B.Body (root_task plan.means holdings.items) (Q.Ends.name ends) (Q.Ends.ends ends) }
+        ensures { result ≡ record { task = root_task plan.means holdings.items; stage = Some (Ready local Start); mark = false; ends = ends } }
+    {
+        Frame {
+            plan,
+            path,
+            number: 0,
+            done: 0,
+            since: 0,
+            fuel,
+            holdings,
+            children: 0,
+            stage: Some(Stage::Ready(local, Answer::Start)),
+            mark: false,
+            ends,
+        }
+    }
+
+    /// The task's path. It takes no memory. `O(1)`.
+    pub fn path(&self) -> &Path
+        ensures { result.now ≡ self.now.task.path }
+    {
+        &self.path
+    }
+
+    /// Its number. Whatever frame it is, it is true for its plan where no want of memory was met. It takes no memory.
+    /// `O(1)`.
+    pub fn number(&self) -> u64
+        ensures number { result ≡ self.now.task.number }
+        ensures frame { IsAnyFrame B.Body Q.Ends.name Q.Ends.ends self.now }
+    {
+        self.number
+    }
+
+    /// Takes steps of the frame's own work in a row, where it is at the beginning of a step: up to so many, or up to a
+    /// step that asks for something else, of which it is in the middle then, or with all its fuel. The answer is how many
+    /// steps were work. Err is want of memory: the frame has no local then. It costs what the steps cost.
+    pub(crate) fn work(&mut self, alloc: Global, body: &B, budget: u64) -> Result<u64, NoMemory>
+        requires body { body.now ≡ self.old.task.plan.body }
+        requires whole { is_whole self.old ≡ true }
+        requires budget { 0 < budget }
+        ensures same { IsSameFrame Q.Ends.name Q.Ends.run Q.Ends.ends Q.Ends.counts self.old self.new }
+        ensures mark { self.new.mark ≡ self.old.mark }
+        ensures whole { OnOk result (is_whole self.new ≡ true) }
+        ensures torn { OnErr result (self.new.stage ≡ None) }
+        ensures done { IfOk result (λ works. self.new.task.done ≡ self.old.task.done + works) }
+        ensures most { IfOk result (λ works. works ≤ budget) }
+        ensures amid { IfOk result (λ works. works < budget → stands_still self.new ≡ true) }
+    {
+        match self.stage.take() {
+            Some(Stage::Ready(local, answer)) => {
+                if self.fuel == 0 {
+                    self.stage = Some(Stage::Ready(local, answer));
+                    return Ok(0);
+                }
+                let row = take_row(alloc, body, local, answer, self.fuel, budget)?;
+                self.done += row.works;
+                self.fuel = row.fuel;
+                self.stage = Some(row.stage);
+                Ok(row.works)
+            }
+            Some(Stage::Asking(local, ask, place)) => {
+                self.stage = Some(Stage::Asking(local, ask, place));
+                Ok(0)
+            }
+            None => Err(NoMemory),
+        }
+    }
+
+    /// Takes the step in whose middle the frame is, where its ends serve the ask. Else nothing is done. It takes no
+    /// memory. `O(1)`.
+    fn step(&mut self) -> bool
+        requires whole { is_whole self.old ≡ true }
+        requires amid { stands_still self.old ≡ true }
+        ensures same { IsSameFrame Q.Ends.name Q.Ends.run Q.Ends.ends Q.Ends.counts self.old self.new }
+        ensures mark { self.new.mark ≡ self.old.mark }
+        ensures whole { is_whole self.new ≡ true }
+        ensures done { self.new.task.done ≡ (if result then self.old.task.done + 1 else self.old.task.done) }
+        ensures cause { result ≡ false → NeedsCore Q.Ends.ends Q.Ends.counts self.old self.new }
+    {
+        match self.stage.take() {
+            Some(Stage::Asking(local, ask, place)) => {
+                match serve(&mut self.ends, self.holdings.as_slice(), ask) {
+                    Ok(said) => {
+                        self.done += 1;
+                        self.stage = Some(Stage::Ready(local, said));
+                        true
+                    }
+                    Err(ask) => {
+                        self.stage = Some(Stage::Asking(local, ask, place));
+                        false
+                    }
+                }
+            }
+            Some(Stage::Ready(local, answer)) => {
+                self.stage = Some(Stage::Ready(local, answer));
+                false
+            }
+            None => false,
+        }
+    }
+
+    /// Takes a row of steps of work, at most so many steps together, and after it the step that is asked for, where the
+    /// frame's ends serve it. Err is want of memory: the frame has no local then. It costs what the steps cost.
+    fn turn(&mut self, alloc: Global, body: &B, budget: u64) -> Result<Turn, NoMemory>
+        requires body { body.now ≡ self.old.task.plan.body }
+        requires whole { is_whole self.old ≡ true }
+        requires budget { 0 < budget }
+        ensures same { IsSameFrame Q.Ends.name Q.Ends.run Q.Ends.ends Q.Ends.counts self.old self.new }
+        ensures mark { self.new.mark ≡ self.old.mark }
+        ensures whole { OnOk result (is_whole self.new ≡ true) }
+        ensures torn { OnErr result (self.new.stage ≡ None) }
+        ensures done { IfOk result (λ turn. self.new.task.done ≡ self.old.task.done + turn.taken) }
+        ensures most { IfOk result (λ turn. turn.taken ≤ budget) }
+        ensures some { IfOk result (λ turn. turn.at_core ≡ false → 0 < turn.taken) }
+        ensures less { IfOk result (λ turn. turn.at_core ≡ true → turn.taken < budget) }
+        ensures cause { IfOk result (λ turn. turn.at_core ≡ true → NeedsCore Q.Ends.ends Q.Ends.counts self.old self.new) }
+    {
+        let works = self.work(alloc, body, budget)?;
+        if works == budget {
+            return Ok(Turn {
+                taken: works,
+                at_core: false,
+            });
+        }
+        if self.step() {
+            Ok(Turn {
+                taken: works + 1,
+                at_core: false,
+            })
+        } else {
+            Ok(Turn {
+                taken: works,
+                at_core: true,
+            })
+        }
+    }
+
+    /// Takes steps as `run_local` does, of a frame that has taken some already, and leaves its mark as it is.
+    fn run_on(&mut self, alloc: Global, body: &B, budget: u64) -> Paused
+        requires body { body.now ≡ self.old.task.plan.body }
+        requires whole { is_whole self.old ≡ true }
+        ensures same { IsSameFrame Q.Ends.name Q.Ends.run Q.Ends.ends Q.Ends.counts self.old self.new }
+        ensures mark { self.new.mark ≡ self.old.mark }
+        ensures whole { OnSteps result (λ k. is_whole self.new ≡ true) }
+        ensures done { OnSteps result (λ k. self.new.task.done ≡ self.old.task.done + k) }
+        ensures at_core { OnAtCore result (λ k. k < budget) }
+        ensures cause { OnAtCore result (λ k. NeedsCore Q.Ends.ends Q.Ends.counts self.old self.new) }
+        ensures budget { OnBudget result (λ k. k ≡ budget) }
+        ensures torn { OnNoMemory result (self.new.stage ≡ None) }
+    {
+        let mut left = budget;
+        for _turn in 0..budget {
+            if left == 0 {
+                break;
+            }
+            match self.turn(alloc, body, left) {
+                Ok(turn) => {
+                    left -= turn.taken;
+                    if turn.at_core {
+                        return Paused::AtCore(Steps::of(budget - left));
+                    }
+                }
+                Err(NoMemory) => return Paused::NoMemory,
+            }
+        }
+        Paused::Budget(Steps::of(budget))
+    }
+
+    /// Takes steps of the frame's task without the core: its own work, and pushes and pops that the frame's ends serve.
+    /// The first step of a frame always needs the core.
+    ///
+    /// - AtCore comes before the budget is reached, where the next step needs the core: it is the frame's first one, or
+    ///   the frame has no fuel for it, or it asks for something else than work, a push or a pop, or for a push or a pop
+    ///   that the frame may not do or that its ends didn't serve, as they found in this call. The frame's mark stands
+    ///   then, and after each other answer it doesn't.
+    /// - Budget comes once as many steps as the budget were taken, at budget 0 too.
+    /// - NoMemory is want of memory of the body. The frame has no local then, and only `path`, `number` and `tear` may
+    ///   be called on it.
+    ///
+    /// The body is that of the plan that the frame's name has. It costs what the steps cost, and `O(1)` for each step that
+    /// isn't work.
+    pub fn run_local(&mut self, alloc: Global, body: &B, budget: u64) -> Paused
+        // what the frame may do
+        requires body { body.now ≡ self.old.task.plan.body }
+        requires whole { is_whole self.old ≡ true }
+
+        // what is answered
+        ensures at_core { OnAtCore result (λ k. k < budget) }
+        ensures cause { OnAtCore result (λ k. NeedsCore Q.Ends.ends Q.Ends.counts self.old self.new) }
+        ensures budget { OnBudget result (λ k. k ≡ budget) }
+
+        // what it leaves
+        ensures done { OnSteps result (λ k. self.new.task.done ≡ self.old.task.done + k) }
+        ensures first { self.old.task.done ≡ 0 → self.new ≡ record self.old { mark = is_at_core result } }
+        ensures mark { self.new.mark ≡ is_at_core result }
+        ensures whole { OnSteps result (λ k. is_whole self.new ≡ true) }
+        ensures torn { OnNoMemory result (self.new.stage ≡ None) }
+        ensures same { IsSameFrame Q.Ends.name Q.Ends.run Q.Ends.ends Q.Ends.counts self.old self.new }
+    {
+        self.mark = false;
+        if budget == 0 {
+            return Paused::Budget(Steps::of(0));
+        }
+        if self.done == 0 {
+            self.mark = true;
+            return Paused::AtCore(Steps::of(0));
+        }
+        match self.run_on(alloc, body, budget) {
+            Paused::AtCore(steps) => {
+                self.mark = true;
+                Paused::AtCore(steps)
+            }
+            Paused::Budget(steps) => Paused::Budget(steps),
+            Paused::NoMemory => Paused::NoMemory,
+        }
+    }
+
+    /// Lets the frame go. It takes no memory.
+    pub fn tear(self) {}
+}
+
+/// What came of a turn of steps that a frame takes by itself.
+#[derive(Drop)]
+struct Turn {
+    taken: u64,
+    at_core: bool,
+}
+
+impl<B: Body, Q: Queues> Named for Frame<B, Q> {
+    ghost use Rattle.std.specs.Prelude.{false};
+
+    type Name = PlanRun<B>;
+
+    ghost name = { λ frame. record { plan = frame.task.plan; run = Q.Ends.run frame.ends } };
+
+    ghost done = { λ _. false };
+}
