@@ -28,7 +28,8 @@ use Rattle.serial_elision.proofs.TaskSteps.{goes_on_next, stands-one}
 use Rattle.task_frames.specs.declared.stage.Stage.TheVariants.{Ready, Asking}
 use Rattle.task_frames.specs.declared.row.Row.{Row}
 use Rattle.task_frames.specs.declared.stage.Stage.{Stage}
-use Rattle.task_frames.specs.Frames.{AreEndsOf, IsFrame, Task, deeds_among, is_local}
+use Rattle.queues.specs.Reads.{deeds_among}
+use Rattle.task_frames.specs.Frames.{AreEndsOf, IsFrame, Task, is_local}
 use Rattle.task_frames.specs.Going.{IsRow, IsRowTo, is_still}
 
 -- what holds of one stage holds of whatever the option has

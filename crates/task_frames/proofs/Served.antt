@@ -38,7 +38,8 @@ use Rattle.serial_elision.proofs.FewMade.{few-deeds}
 use Rattle.serial_elision.proofs.Held.{IsUsed, same_kind, used-at}
 use Rattle.serial_elision.proofs.Lawful.{lawful}
 use Rattle.task_frames.specs.declared.stage.Stage.TheVariants.{Asking, Ready}
-use Rattle.task_frames.specs.Frames.{IsFrame, Task, deeds_among}
+use Rattle.queues.specs.Reads.{deeds_among}
+use Rattle.task_frames.specs.Frames.{IsFrame, Task}
 use Rattle.task_frames.specs.Going.{IsAnswerTo, IsNextDeed, deeds_of}
 use Rattle.task_frames.proofs.Amid.{goes-on, is-asking, with-steps, worked}
 

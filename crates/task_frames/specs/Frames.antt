@@ -1,5 +1,5 @@
 -- Frames: tasks of a run out of order. What a frame is, wherever it is and whoever has it.
-use Rattle.std.specs.Prelude.{◌≡◌, ℕ, ◌≤◌, ◌<◌, Bool, true, false, Option, Some, List, [], is_some, filter, length, slice_get, take}
+use Rattle.std.specs.Prelude.{◌≡◌, ℕ, ◌≤◌, ◌<◌, Bool, true, false, Option, Some, List, [], is_some, length, slice_get}
 use Rattle.std.specs.Option.{ForSome}
 use Rattle.swan_model.specs.declared.body.Body.{Ghosts}
 use Rattle.swan_model.specs.declared.plan.Plan.{Plan}
@@ -14,11 +14,12 @@ use Rattle.swan_model.specs.Roots.{IsWithinBounds}
 use Rattle.swan_model.specs.Script.{script}
 use Rattle.swan_model.specs.Segments.{segment_queue}
 use Rattle.swan_model.specs.SerialState.{Activation, Holding}
-use Rattle.swan_model.specs.SerialTime.{is_queue_deed, time, times}
+use Rattle.swan_model.specs.SerialTime.{time}
 use Rattle.swan_model.specs.Told.{deed_at}
 use Rattle.swan_model.specs.TrueFrames.{FrameState, IsTrueAlone, StandsAt, gives_at}
 use Rattle.swan_model.specs.TrueFrames as true_frames
 use Rattle.queues.specs.Asks.{LentEnds}
+use Rattle.queues.specs.Reads.{deeds_among}
 use Rattle.serial_elision.specs.Bounds.{IsWithin}
 use Rattle.task_frames.specs.declared.stage.Stage.{Stage}
 use Rattle.task_frames.specs.declared.stage.Stage.TheVariants.{Ready, Asking}
@@ -66,10 +67,6 @@ state_of task stage = record { path = task.path; done = task.done; fuel = task.f
 pub record IsPlan {B L : Type 0} (plan : Plan B L) : Type 0 where
   pub lists : IsWithinBounds plan.roots.queues plan.roots.objects
   pub fuel : plan.fuel ≤ FUEL_MOST
-
--- how many queue deeds are among the first steps of a task
-abbrev pub deeds_among : Script → List ℕ → ℕ → ℕ
-deeds_among s path k = length (filter (λ t. is_queue_deed (deed_at s t)) (take k (times s path)))
 
 -- a deed that a frame can do without the core
 abbrev pub is_local : Deed → Bool
