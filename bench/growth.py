@@ -45,6 +45,12 @@ end
 """
 
 
+def text(count):
+    """Lines of which each has a word that no other one has, and others that come again."""
+    for i in range(count):
+        yield f"Line{i} {i * 7919 % 30011}, the-{i % 101}TH\n"
+
+
 def lines_job(count):
     body = "".join(f"  v = add v {i % 10}\n" for i in range(count))
     return f"swan 1\ntask main\n  var v int\n  do\n{body}end\n"
@@ -74,7 +80,8 @@ with folder() as here:
     copy = written(here, "copy", [COPY])
     inputs = {times: written(here, f"in{times}", repeat("some text of a line\n", 250_000 * times)) for times in (1, 2, 4)}
     series("elide over n lines", lambda times: ["elide", 10_000_000, copy, inputs[times]])
-    series("index of n lines", lambda times: ["index", 1, inputs[times]])
+    texts = {times: written(here, f"text{times}", text(250_000 * times)) for times in (1, 2, 4)}
+    series("index of n lines", lambda times: ["index", 1, texts[times]])
     series("convert of n lines", lambda times: ["convert", 1, inputs[times]])
     series("bulk of n lines", lambda times: ["bulk", 7, 75_000 * times, 1])
 

@@ -60,9 +60,10 @@ impl<T: Runtime> Files for OsFiles<T> {
     /// pipe or another special file is read to its end, or to one byte past `FILE_MOST`. Failed
     /// comes where the system can't open or read the file: it is missing, or a directory, or its
     /// name is empty or has a NUL byte. TooLong comes where the file has more than `FILE_MOST`
-    /// bytes, of which no more than one past that is read. NoMemory comes only once a file was
-    /// opened, where the buffer can't grow or the system has no memory to read: so a missing file
-    /// is never want of memory.
+    /// bytes, of which no more than one past that is read. NoMemory comes where the buffer can't grow
+    /// or the system has no memory to read, and only where the runtime has a file. That a missing
+    /// file is Failed is so by the body, which asks for no memory before it has opened the file: no
+    /// clause says it, since the kit's `open` has no contract on names.
     ///
     /// Where the runtime tells what its files have left, the bytes are all that one of its files
     /// had, and TooLong comes only where one had more than `FILE_MOST`. `O(bytes that are read)`.
