@@ -111,8 +111,7 @@ pub fn bulk_fuel(size: u64) -> u64
     30 * size + 2_000
 }
 
-/// The input of so many lines: a number below 1000 on each, from `number` on, of which the last three digits
-/// count. `O(size)`.
+/// The input of so many lines: a number below 1000 on each, from `number` mod 1000 on. `O(size)`.
 pub fn bulk_input(alloc: Global, number: u64, size: u64) -> Result<Vec<u8>, NoMemory>
     requires { size ≤ BULK_MOST }
     ensures { IfOk result (λ text. text.items ≡ bulk_input number size) }

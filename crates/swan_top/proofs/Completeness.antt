@@ -1,5 +1,6 @@
 -- What is in order is settled so, and without a count that rises nothing stands in its way.
-use Rattle.std.proofs.Common.{◌≡◌, ℕ, ◌<◌, List, [], ◌∷◌, length, Option, Some, None, Result, Ok, Err, Bool, true, false, refl, sym, ap, subst, arith, ◌∙◌, inl, inr}
+use Rattle.std.proofs.Common.{◌≡◌, ℕ, ◌<◌, List, [], ◌∷◌, length, Option, Some, None, Result, Ok, Err, Bool, true, false, suc, refl, sym, ap, subst, arith, ◌∙◌, inl, inr}
+use Rattle.std.specs.List.{Contains}
 use Rattle.std.specs.Prelude.{◌⊎◌, if◌then◌else◌}
 use Rattle.bulk_workload.specs.Bulk.{bulk_fuel, bulk_input, bulk_job}
 use Rattle.job_body.specs.PlanOfJob.{plan_of_job, refusal_of_plan}
@@ -201,6 +202,34 @@ text_ends outcome_over input (text ∷ texts) v is ends =
     let same : unless_unfit (refusal_of text) (printed text_names (outcome_over text)) ≡ v = cc in
     unfit_ends (refusal_of text) (outcome_over text) (ap ends_of same ∙ ends)
 
+-- What is read next is a file of the command.
+the_file : (file name : List ℕ) (names : List (List ℕ)) → reads name ≡ reads file → Contains (name ∷ names) file
+the_file file name names is = (0, omega arith, cc)
+
+unread_among : (names texts : List (List ℕ)) (file : List ℕ) → unread names texts ≡ Some file → Contains names file
+unread_among [] texts file is = cc
+unread_among (name ∷ names) [] file is = (0, omega arith, cc)
+unread_among (name ∷ names) (text ∷ texts) file is =
+    let rest : Contains names file = unread_among names texts file is in (suc rest.0, omega arith, rest.2)
+
+module _ (outcome_of : Plan (List Line) Standing → Outcome) where
+  unless_unread_among : (names texts : List (List ℕ)) (verdict : Verdict) (file : List ℕ) (next : Option (List ℕ)) → unread names texts ≡ next → unless_unread next verdict ≡ reads file → Contains names file
+  unless_unread_among names texts verdict file None same is = cc
+  unless_unread_among names texts verdict file (Some name) same is = unread_among names texts file (cc)
+
+  job_among : (fuel : ℕ) (names : List (List ℕ)) (accepted : Result (List Line) JobFault) (inputs : List (List ℕ)) (file : List ℕ) → next_of_job outcome_of fuel names accepted inputs ≡ reads file → Contains names file
+  job_among fuel names (Ok lines) inputs file is = unless_unread_among names inputs (ran outcome_of lines inputs fuel) file (unread names inputs) refl is
+  job_among fuel names (Err fault) inputs file is = cc
+
+  run_among : (fuel : ℕ) (job : List ℕ) (names texts : List (List ℕ)) (file : List ℕ) → next_of_run outcome_of fuel job names texts ≡ reads file → Contains (job ∷ names) file
+  run_among fuel job names [] file is = the_file file job names is
+  run_among fuel job names (text ∷ inputs) file is =
+      let rest : Contains names file = job_among fuel names (accepted text) inputs file is in (suc rest.0, omega arith, rest.2)
+
+  generated_among : (number size : ℕ) (file : List ℕ) → generated outcome_of number size ≡ reads file → Contains [] file
+  unfolding generated
+  generated_among number size = job_among (bulk_fuel size) [] (accepted (bulk_job size)) (bulk_input number size ∷ [])
+
 module _ (elisions : Elisions) where
   next_ends : (command : Command) (texts : List (List ℕ)) (v : Verdict) → next elisions command texts ≡ settled v → ends_of v ≡ status.ReadFailed → ⊥
   next_ends (help) texts v is ends = cc
@@ -214,20 +243,34 @@ module _ (elisions : Elisions) where
   next_ends (convert workers input) texts v is ends = text_ends (converted elisions) input texts v is ends
   next_ends (bulk number size workers) texts v is ends = generated_ends elisions.of_job number size v is ends
 
-  module _ (files : FilesSeen) (out report : SinkSeen) (well : NothingFailed files out report) where
-    read_refused : (n : Next) (verdict : Verdict) → ((v : Verdict) → n ≡ settled v → ends_of v ≡ status.ReadFailed → ⊥) → Follows files n verdict → status.ReadFailed ≡ ends_of verdict → Wrote out report verdict → EndsWell files report status.ReadFailed
-    read_refused (settled v) verdict never follows ends wrote = absurd (never v refl (sym (ends ∙ ap ends_of follows.0)))
-    read_refused (reads file) verdict never (inl failed) ends wrote = absurd (well.files_well failed.1)
-    read_refused (reads file) verdict never (inr longer) ends wrote =
-        let P : Verdict → Type 0 = λ v. Wrote out report v in
-        (file, longer.3, (subst P longer.0 wrote).1)
+  next_reads : (command : Command) (texts : List (List ℕ)) (file : List ℕ) → next elisions command texts ≡ reads file → Contains (files_of command) file
+  next_reads (help) texts file is = cc
+  next_reads (version) texts file is = cc
+  next_reads (check job) [] file is = the_file file job [] is
+  next_reads (check job) (text ∷ texts) file is = cc
+  next_reads (elide fuel job names) texts file is = run_among elisions.of_job fuel job names texts file is
+  next_reads (run workers fuel job names) texts file is = run_among elisions.of_job fuel job names texts file is
+  next_reads (index workers input) [] file is = the_file file input [] is
+  next_reads (index workers input) (text ∷ texts) file is = cc
+  next_reads (convert workers input) [] file is = the_file file input [] is
+  next_reads (convert workers input) (text ∷ texts) file is = cc
+  next_reads (bulk number size workers) texts file is = generated_among elisions.of_job number size file is
 
-    pub ends_well : (asked : Option Command) (ends : Status) → Answers elisions files out report asked ends → EndsWell files report ends
+  module _ (files : FilesSeen) (out report : SinkSeen) (well : NothingFailed files out report) where
+    read_refused : (command : Command) (n : Next) (verdict : Verdict) → ((v : Verdict) → n ≡ settled v → ends_of v ≡ status.ReadFailed → ⊥) → ((file : List ℕ) → n ≡ reads file → Contains (files_of command) file) → Follows files n verdict → status.ReadFailed ≡ ends_of verdict → Wrote out report verdict → EndsWell files out report (Some command) status.ReadFailed
+    read_refused command (settled v) verdict never among follows ends wrote = absurd (never v refl (sym (ends ∙ ap ends_of follows.0)))
+    read_refused command (reads file) verdict never among (inl failed) ends wrote = absurd (well.files_well failed.1)
+    read_refused command (reads file) verdict never among (inr longer) ends wrote =
+        let P : Verdict → Type 0 = λ v. Wrote out report v in
+        let line = subst P longer.0 wrote in
+        (file, among file refl, longer.3, line.0, line.1)
+
+    pub ends_well : (asked : Option Command) (ends : Status) → Answers elisions files out report asked ends → EndsWell files out report asked ends
     ends_well None status.WriteFailed is = absurd (no_failed_write out report usage well.out_well well.report_well is.0)
-    ends_well None status.ReadFailed is = let bad : status.ReadFailed ≡ status.Usage = is.0.0 in absurd (cc)
+    ends_well None status.ReadFailed is = let bad : status.ReadFailed ≡ status.Usage = is.0.0 in cc
     ends_well (Some command) status.WriteFailed is = absurd (no_failed_write out report is.0 well.out_well well.report_well is.2)
     ends_well (Some command) status.ReadFailed is =
-        read_refused (next elisions command is.1.texts) is.0 (next_ends command is.1.texts) is.1.follows is.2.0 is.2.1
+        read_refused command (next elisions command is.1.texts) is.0 (next_ends command is.1.texts) (next_reads command is.1.texts) is.1.follows is.2.0 is.2.1
     ends_well asked status.Done is = tt
     ends_well asked status.Faulted is = tt
     ends_well asked status.Usage is = tt

@@ -1,5 +1,6 @@
 -- Completeness: a call ends as its command says where the command is in order and nothing outside fails.
 use Rattle.std.specs.Prelude.{◌≡◌, ℕ, ◌≤◌, ◌⊎◌, length, Option, Some, None, Ok, List, [], ◌∷◌, codes}
+use Rattle.std.specs.List.{Contains}
 use Rattle.bulk_workload.specs.Bulk.{bulk_fuel, bulk_input, bulk_job}
 use Rattle.job_body.specs.NamesOfJob.{names_of_job}
 use Rattle.job_body.specs.PlanOfJob.{plan_of_job, refusal_of_plan}
@@ -97,9 +98,11 @@ module _ (elisions : Elisions) where
       → (ends ≡ status.NoMemory) ⊎ ((ends ≡ ends_of verdict) × Wrote out report verdict)
 
 -- How a call ends over files and sinks that never fail: it writes all that it settles, and a read is refused only
--- where the file is too long.
-abbrev pub EndsWell : FilesSeen → (report : SinkSeen) → Status → Type 0
-EndsWell files report status.WriteFailed = ⊥
-EndsWell files report status.ReadFailed =
-    (file : List ℕ) × IsTooLong (files.content file) × Took report (file_line (codes "too long ") file)
-EndsWell files report ends = Unit {0}
+-- where a file of the command is too long. Then one line names the file, and the output takes nothing.
+abbrev pub EndsWell : FilesSeen → (out report : SinkSeen) → Option Command → Status → Type 0
+EndsWell files out report asked status.WriteFailed = ⊥
+EndsWell files out report None status.ReadFailed = ⊥
+EndsWell files out report (Some command) status.ReadFailed =
+    (file : List ℕ) × Contains (files_of command) file × IsTooLong (files.content file)
+    × Took out [] × Took report (file_line (codes "too long ") file)
+EndsWell files out report asked ends = Unit {0}

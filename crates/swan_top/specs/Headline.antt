@@ -107,12 +107,13 @@ pub record Leads (files : FilesSeen) (names : List (List ℕ)) (next_of : List (
 abbrev pub Settles : Elisions → FilesSeen → Command → Verdict → Type 0
 Settles elisions files command = Leads files (files_of command) (next elisions command)
 
--- What a call answers. Words that are no command are refused without memory, and no read was refused. Else the
--- call ends as the verdict says that its command leads to; or memory ran out, where no read was refused, and
--- nothing was written.
+-- what words that are no command lead to
 abbrev pub usage : Verdict
 usage = refuses (codes "usage\n") status.Usage
 
+-- What a call answers. Words that are no command are refused without memory, and no read was refused. Else the
+-- call ends as the verdict says that its command leads to; or memory ran out, where no read was refused, and
+-- nothing was written.
 abbrev pub Answers : Elisions → FilesSeen → (out report : SinkSeen) → Option Command → Status → Type 0
 Answers elisions files out report None ends = Ends out report usage ends × NoReadFailed files × NoneTooLong files
 Answers elisions files out report (Some command) status.NoMemory = WroteNothing out report × NoReadFailed files × NoneTooLong files

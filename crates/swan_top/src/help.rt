@@ -20,8 +20,8 @@ elision of the job writes, in which each spawn is an ordinary call.
       writes the fields of each line, which TAB bytes part, as netstrings; a line with another number
       of fields than the first one, or with netstrings of more than 65535 bytes, is a fault
   swan bulk NUMBER SIZE WORKERS
-      runs a generated job over SIZE generated lines, each a number below 1000, the first of them
-      NUMBER without all but its last three digits; it writes their sum and how many they are
+      runs a generated job over SIZE generated lines, each a number below 1000, from NUMBER mod 1000
+      on; it writes their sum and how many they are
   swan --help
       writes this text
   swan --version

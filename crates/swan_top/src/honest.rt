@@ -1,18 +1,21 @@
-// A law over files and sinks that never fail.
+// Calls over files and sinks that never fail.
 ghost use Rattle.std.specs.Prelude.{Option};
 ghost use Rattle.swan_outside.specs.Honest.{HonestFilesState, HonestSinkState};
-ghost use Rattle.swan_top.specs.Command.{Command};
+ghost use Rattle.swan_top.specs.Command.{Command, command};
 ghost use Rattle.swan_top.specs.Completeness.{CompletesWell, EndsWell, NothingFailed};
 ghost use Rattle.swan_top.specs.Elisions.{elisions};
 ghost use Rattle.swan_top.specs.Headline.{Answers, files_seen, seen_of};
 ghost use Rattle.swan_top.specs.declared.status.Status.{Status};
 
+use crate::{Status, swan};
+use std::alloc::Global;
+use swan_model::Word;
 use swan_outside::{Files, HonestFiles, HonestSink, Sink};
 
 /// The law that over `HonestFiles` and `HonestSink` no count of faults rises, whatever a call leaves of them
 /// (`nothing_fails`). So by the clause `answered` of `swan` no call ends as WriteFailed, and one ends as ReadFailed
-/// only where a file has more than `FILE_MOST` bytes, with the line `too long NAME` (`ends_well`); and where words,
-/// job and inputs are in order, the call writes what they come to and ends as Done or Faulted by the elision's
+/// only where a file of the command has more than `FILE_MOST` bytes, with the line `too long NAME` and nothing in the
+/// output (`ends_well`); and where words, job and inputs are in order, the call writes what they come to and ends as Done or Faulted by the elision's
 /// outcome, or memory ran out (`completes`).
 #[tactic(auto, using(crate::proofs::Completeness::ends_well, crate::proofs::Completeness::completes_well))]
 pub fn honest_calls_end_well()
@@ -26,10 +29,10 @@ pub fn honest_calls_end_well()
         (asked : Option Command) (ends : Status) →
         let F = ⟦<HonestFiles as Files>⟧ in let S = ⟦<HonestSink as Sink>⟧ in
         let seen = files_seen (F.content files) (F.faults files) (F.faults files') (F.long_reads files) (F.long_reads files') in
+        let printed = seen_of (S.written out) (S.written out') (S.faults out) (S.faults out') in
         let written = seen_of (S.written report) (S.written report') (S.faults report) (S.faults report') in
-        Answers elisions seen
-        (seen_of (S.written out) (S.written out') (S.faults out) (S.faults out')) written asked ends
-        → EndsWell seen written ends }
+        Answers elisions seen printed written asked ends
+        → EndsWell seen printed written asked ends }
     ensures completes { (files files' : HonestFilesState) (out out' report report' : HonestSinkState)
         (asked : Option Command) (ends : Status) →
         let F = ⟦<HonestFiles as Files>⟧ in let S = ⟦<HonestSink as Sink>⟧ in
@@ -39,3 +42,34 @@ pub fn honest_calls_end_well()
         Answers elisions seen printed written asked ends
         → CompletesWell elisions seen printed written asked ends }
 {}
+
+/// A call of `swan` over files and sinks that never fail, for a caller that has all in memory. It never ends as
+/// WriteFailed, and as ReadFailed only where a file of the command has more than `FILE_MOST` bytes, with the line
+/// `too long NAME` in the report and nothing in the output. Where words, job and inputs are in order it writes what they
+/// come to and ends as Done or Faulted, or it ends as NoMemory. Words that are no command end as Usage. It costs what
+/// `swan` does.
+pub fn honest_call(
+    alloc: Global,
+    words: &[Word],
+    files: &mut HonestFiles,
+    out: &mut HonestSink,
+    report: &mut HonestSink,
+) -> Status
+    ensures ends_well {
+        let F = ⟦<HonestFiles as Files>⟧ in let S = ⟦<HonestSink as Sink>⟧ in
+        EndsWell
+        (files_seen (F.content files.old) (F.faults files.old) (F.faults files.new) (F.long_reads files.old) (F.long_reads files.new))
+        (seen_of (S.written out.old) (S.written out.new) (S.faults out.old) (S.faults out.new))
+        (seen_of (S.written report.old) (S.written report.new) (S.faults report.old) (S.faults report.new))
+        (command words.now) result }
+    ensures completes {
+        let F = ⟦<HonestFiles as Files>⟧ in let S = ⟦<HonestSink as Sink>⟧ in
+        CompletesWell elisions
+        (files_seen (F.content files.old) (F.faults files.old) (F.faults files.new) (F.long_reads files.old) (F.long_reads files.new))
+        (seen_of (S.written out.old) (S.written out.new) (S.faults out.old) (S.faults out.new))
+        (seen_of (S.written report.old) (S.written report.new) (S.faults report.old) (S.faults report.new))
+        (command words.now) result }
+{
+    honest_calls_end_well();
+    swan(alloc, words, files, out, report)
+}

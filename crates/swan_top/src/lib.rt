@@ -7,7 +7,7 @@
 //! sinks. The definitions that it cites stand in `specs/Headline.antt`, which is meant to be read from top to
 //! bottom, with `specs/Command.antt` and `specs/Decision.antt` before it. Its clause `complete` says when a call
 //! ends as its command says (`specs/Completeness.antt`), and the law `honest_calls_end_well` says both of files and
-//! sinks that never fail.
+//! sinks that never fail, and `honest_call` is a call over them that has it as its clauses.
 //!
 //! What an index and a conversion write is said by its clause `written_of_text` (`specs/Pipelines.antt`), of the text
 //! alone. That a generated job is never refused is its clause `never_refused` (`specs/Generated.antt`).
@@ -34,7 +34,7 @@ mod write;
 
 pub use command::{Command, FUEL_WORD_MOST, NUMBER_WORD_MOST, Usage, WORKERS_MOST, read_words};
 pub use help::{HELP, VERSION};
-pub use honest::honest_calls_end_well;
+pub use honest::{honest_call, honest_calls_end_well};
 pub use limits::limits_of_words;
 pub use status::Status;
 pub use top_call::swan;

@@ -31,7 +31,7 @@ fn write_texts<O: Sink, R: Sink>(
     ends
 }
 
-// Writes a refusal's line to the report, and nothing to the output.
+// Writes a refusal's line to the report, and nothing to the output, which is handed in only for the clause to say so.
 pub(crate) fn write_line<O: Sink, R: Sink>(
     _out: &mut O,
     report: &mut R,
