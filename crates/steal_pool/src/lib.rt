@@ -28,6 +28,7 @@ mod deque;
 mod dry;
 mod finding;
 mod kept;
+mod limits;
 mod opening;
 mod parcel;
 mod peer;
@@ -38,6 +39,7 @@ mod seat;
 mod tests;
 
 pub use dry::Dry;
-pub use opening::{WORKERS_MOST, pool};
+pub use limits::limit_of_seats;
+pub use opening::{SEATS_MOST, pool};
 pub use rule::PoolView;
 pub use seat::PoolSeat;

@@ -1,22 +1,22 @@
 // Making a pool.
 ghost use Rattle.std.specs.Prelude.{◌≡◌, ◌<◌, ◌≤◌, IfOk, All, vec_len};
 ghost use Rattle.steal_pool.specs.Seats.{IsNewSeat};
-ghost use Rattle.steal_pool.specs.declared.opening.TheConstants.{WORKERS_MOST};
+ghost use Rattle.steal_pool.specs.declared.opening.TheConstants.{SEATS_MOST};
 
 use crate::PoolSeat;
 use named_lock::Named;
 use std::alloc::Global;
 use swan_model::NoMemory;
 
-/// The most workers that a pool may have.
-pub const WORKERS_MOST: u32 = 256;
+/// The most seats that a pool may have.
+pub const SEATS_MOST: u32 = 256;
 
-/// The seats of a new pool, one for each worker, of which there are 1 to `WORKERS_MOST`. The pool's name is that of `like`, each
+/// The seats of a new pool, one for each worker, of which there are 1 to `SEATS_MOST`. The pool's name is that of `like`, each
 /// seat knows it, and its own list is empty.
 ///
 /// It allocates the list of the seats, and for each its deque with a first ring and a list of the others. `O(workers * workers)`.
 pub fn pool<T: Named>(alloc: Global, like: &T, workers: u32) -> Result<Vec<PoolSeat<T>>, NoMemory>
-    requires { (1 ≤ workers) × (workers ≤ WORKERS_MOST) }
+    requires { (1 ≤ workers) × (workers ≤ SEATS_MOST) }
     ensures count { IfOk result (λ seats. vec_len seats ≡ workers) }
     ensures seats { IfOk result (λ seats. All (λ seat. IsNewSeat (T.name like.now) seat) seats.items) }
 {
@@ -51,7 +51,7 @@ fn introduce_all<T: Named>(
     like: &T,
 ) -> Result<(), NoMemory>
     requires seats { All (λ seat. IsNewSeat (T.name like.now) seat) seats.old.items }
-    requires few { (vec_len seats.old ≤ WORKERS_MOST) × (step ≤ WORKERS_MOST) }
+    requires few { (vec_len seats.old ≤ SEATS_MOST) × (step ≤ SEATS_MOST) }
     ensures count { vec_len seats.new ≡ vec_len seats.old }
     ensures seats { All (λ seat. IsNewSeat (T.name like.now) seat) seats.new.items }
 {

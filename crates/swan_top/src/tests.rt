@@ -49,7 +49,7 @@ fn files_of(alloc: Global, names: &str, texts: &[&str]) -> Result<Vec<FileBlob>,
 
 fn sink(alloc: Global, most: usize, failing: u64) -> Result<MemorySink, AllocError> {
     let fail = vec![in alloc; failing]?;
-    MemorySink::new(alloc, most.max(1), 65_536, fail).map_err(|_| AllocError)
+    MemorySink::new(alloc, most.max(1), 131_072, fail).map_err(|_| AllocError)
 }
 
 fn end_of(

@@ -37,7 +37,7 @@ fn called_honestly(alloc: Global, words: &str, room: usize) -> Result<Ended, All
     let mut files = HonestFiles::new(files);
     let mut out = HonestSink::new(alloc, room).map_err(|_| AllocError)?;
     let mut report = HonestSink::new(alloc, room).map_err(|_| AllocError)?;
-    let status = swan(alloc, words.as_slice(), &mut files, &mut out, &mut report);
+    let status = honest_call(alloc, words.as_slice(), &mut files, &mut out, &mut report);
     Ok(Ended {
         out: told(alloc, &out)?,
         report: told(alloc, &report)?,

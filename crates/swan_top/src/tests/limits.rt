@@ -44,20 +44,7 @@ fn a_failing_read_is_named_and_none_is_made_again(rt: HostRuntime) -> Result<(),
     Ok(())
 }
 
-#[test]
-fn an_input_past_the_limit_of_files_is_too_long(rt: HostRuntime) -> Result<(), Fail> {
-    for words in ["run 1 5 b x", "elide 5 b x"] {
-        let mut files = files_of(rt.alloc(), "b", &[LEAVES])?;
-        let name = word(rt.alloc(), "x")?;
-        let content = Blob::new(vec![in rt.alloc(); b'x'; 67_108_865]?);
-        files.push(FileBlob { name, content })?;
-        let got = called(rt.alloc(), files, words, 0)?;
-        assert_ended(&rt, &got, words, "", "too long x\n", "4");
-    }
-    Ok(())
-}
-
-// A call over the first job, where each put to the output takes 2 bytes, and the puts of these numbers
+// A call over the first job, where each put to either sink takes 2 bytes, and the puts of these numbers
 // fail.
 fn written(
     alloc: Global,
@@ -69,7 +56,7 @@ fn written(
     let files = files_of(alloc, "a", &[HELLO])?;
     let mut files = MemoryFiles::new(files, Vec::new(alloc));
     let mut out = sink(alloc, 2, out_fails)?;
-    let mut report = sink(alloc, 4_096, report_fails)?;
+    let mut report = sink(alloc, 2, report_fails)?;
     let status = swan(alloc, words.as_slice(), &mut files, &mut out, &mut report);
     end_of(alloc, &out, &report, status)
 }
@@ -82,7 +69,8 @@ fn a_failing_write_leaves_a_front(rt: HostRuntime) -> Result<(), Fail> {
         ("run 1 100 a", 1u64, 0u64, "", "", "5"),
         ("run 1 100 a", 2, 0, "hi", "", "5"),
         ("run 1 100 a", 0, 1, "hi\n", "", "5"),
-        ("run 1 100 a", 3, 2, "hi\n", "faults 0\n", "0"),
+        ("run 1 100 a", 0, 2, "hi\n", "fa", "5"),
+        ("run 1 100 a", 3, 6, "hi\n", "faults 0\n", "0"),
         ("elide 100 a", 2, 0, "hi", "", "5"),
         ("index 1 a", 2, 0, "1 ", "", "5"),
         (
@@ -96,9 +84,10 @@ fn a_failing_write_leaves_a_front(rt: HostRuntime) -> Result<(), Fail> {
         ("bulk 7 3 1", 2, 0, "40", "", "5"),
         ("bulk 7 3 1", 0, 1, "402\n3\n", "", "5"),
         ("", 0, 1, "", "", "5"),
-        ("", 1, 2, "", "usage\n", "2"),
+        ("", 0, 3, "", "usag", "5"),
+        ("", 1, 4, "", "usage\n", "2"),
         ("check x", 0, 1, "", "", "5"),
-        ("check x", 1, 2, "", "read failed x\n", "4"),
+        ("check x", 1, 8, "", "read failed x\n", "4"),
         ("--version", 6, 1, "swan 0.1.0", "", "5"),
         ("--version", 7, 1, "swan 0.1.0\n", "", "0"),
     ] {
@@ -214,6 +203,85 @@ pub(super) fn hold_input(
     let got = with_input(alloc, words, text)?;
     assert_ended(rt, &got, row, "", report.as_str(), code);
     Ok(())
+}
+
+/// As many lines as a full file has, of as many bytes as a line may have.
+const FULL_LINES: usize = 1_024;
+
+// A file as long as one may be, in lines as long as they may be, and these last bytes.
+fn full_text(alloc: Global, last: &str) -> Result<String, AllocError> {
+    let mut line = "x".repeat(alloc, 65_535)?;
+    line.push_str("\n")?;
+    let mut text = line.repeat(alloc, FULL_LINES)?;
+    text.push_str(last)?;
+    Ok(text)
+}
+
+// Asserts how a call over such a file ends, and that one byte more is too long.
+fn hold_full(
+    rt: &impl Abort,
+    alloc: Global,
+    words: &str,
+    out: &str,
+    report: &str,
+    code: &str,
+) -> Result<(), Fail> {
+    let got = with_input(alloc, words, full_text(alloc, "")?)?;
+    assert_ended(rt, &got, words, out, report, code);
+    let got = with_input(alloc, words, full_text(alloc, "x")?)?;
+    assert_ended(rt, &got, words, "", "too long x\n", "4");
+    Ok(())
+}
+
+#[test]
+fn a_full_input_is_read_and_one_byte_more_is_too_long(rt: HostRuntime) -> Result<(), Fail> {
+    for words in ["elide 5 b x", "run 1 5 b x"] {
+        let report = "left text 1024\nfaults 0\n";
+        hold_full(&rt, rt.alloc(), words, "", report, "0")?;
+    }
+    Ok(())
+}
+
+// The index of a full text: the first 64 bytes of its one word on each line.
+fn full_index(alloc: Global) -> Result<String, AllocError> {
+    let word = "x".repeat(alloc, 64)?;
+    let mut index = String::new(alloc);
+    for number in 0..FULL_LINES {
+        let line = number as u64 + 1;
+        index.push_str(format!(in alloc; "{word} {line}\n")?.as_str())?;
+    }
+    Ok(index)
+}
+
+#[test]
+fn a_full_text_is_indexed_and_one_byte_more_is_too_long(rt: HostRuntime) -> Result<(), Fail> {
+    let index = full_index(rt.alloc())?;
+    hold_full(
+        &rt,
+        rt.alloc(),
+        "index 1 x",
+        index.as_str(),
+        "left input 0\nfaults 0\n",
+        "0",
+    )
+}
+
+// The report of the conversion of a full text: the netstring of each line is too long.
+fn full_faults(alloc: Global) -> Result<String, AllocError> {
+    let mut report = String::from_str(alloc, "left input 0\nfaults 1024\n")?;
+    for number in 0..FULL_LINES {
+        let block = number / 64;
+        let place = number % 64;
+        let line = number as u64 + 1;
+        report.push_str(format!(in alloc; "fault /{block}/{place} {line} TooLong\n")?.as_str())?;
+    }
+    Ok(report)
+}
+
+#[test]
+fn a_full_text_is_converted_and_one_byte_more_is_too_long(rt: HostRuntime) -> Result<(), Fail> {
+    let report = full_faults(rt.alloc())?;
+    hold_full(&rt, rt.alloc(), "convert 1 x", "", report.as_str(), "1")
 }
 
 #[test]

@@ -62,23 +62,11 @@ fn a_text_is_refused_as_an_input_is(rt: HostRuntime) -> Result<(), Fail> {
         hold_input(&rt, rt.alloc(), "index 1 x", row)?;
     }
     for row in [
+        "|x|65535|~|left input 0~faults 1~fault /0/0 1 TooLong~|1",
         "|x|65536|~|long line 1 1~|7",
         "|~|1000000|~|too many lines 1~|7",
     ] {
         hold_input(&rt, rt.alloc(), "convert 1 x", row)?;
-    }
-    Ok(())
-}
-
-#[test]
-fn a_text_past_the_limit_of_files_is_too_long(rt: HostRuntime) -> Result<(), Fail> {
-    for words in ["index 1 x", "convert 1 x"] {
-        let mut files = Vec::new(rt.alloc());
-        let name = word(rt.alloc(), "x")?;
-        let content = Blob::new(vec![in rt.alloc(); b'\n'; 67_108_865]?);
-        files.push(FileBlob { name, content })?;
-        let got = called(rt.alloc(), files, words, 0)?;
-        assert_ended(&rt, &got, words, "", "too long x\n", "4");
     }
     Ok(())
 }
