@@ -14,11 +14,11 @@ use Rattle.task_frames.specs.Going.{AreLater, Counts, IsBeyond, IsLater, IsNotSe
 use Rattle.task_frames.proofs.Shown.{same-later, then-later}
 
 full-earlier : (before between after : EndCounts) → IsLater before between → WasFullSince between after → WasFullSince before after
-full-earlier before between after later (full looked is) = full (omega (arith, later.looks, looked)) is
+full-earlier before between after later (full looked is) = full (let l = later.looks in omega (arith, l, looked)) is
 full-earlier before between after later (counted is) = counted is
 
 empty-earlier : (before between after : EndCounts) → IsLater before between → WasEmptySince between after → WasEmptySince before after
-empty-earlier before between after later was = record { looked = let l = was.looked in omega (arith, later.looks, l); empty = was.empty }
+empty-earlier before between after later was = record { looked = let l = was.looked in let m = later.looks in omega (arith, l, m); empty = was.empty }
 
 either : (b : Bool) → (b ≡ false) ⊎ (b ≡ true)
 either true = inr refl

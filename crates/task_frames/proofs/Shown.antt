@@ -1,5 +1,5 @@
 -- What ends show after a push or a pop of a frame, served or not.
-use Rattle.std.proofs.Common.{◌≡◌, inl, inr, ◌⊎◌, ℕ, ◌≤◌, Bool, true, false, List, Option, Some, refl, sym, ap, subst, ◌∙◌, arith}
+use Rattle.std.proofs.Common.{◌≡◌, inl, inr, ◌⊎◌, ℕ, ◌+◌, ◌≤◌, Bool, true, false, List, Option, Some, refl, sym, ap, subst, ◌∙◌, arith}
 use Rattle.std.proofs.lemmas.Option.{same_Some}
 use Rattle.std.specs.Option.{ForSome}
 use Rattle.swan_model.specs.declared.body.Ask.{Ask}
@@ -18,10 +18,10 @@ same-later shown = record { size = refl; moved = omega arith; looks = omega arit
 
 pub then-later : (before between after : EndCounts) → IsLater before between → IsLater between after → IsLater before after
 then-later before between after one two =
-    record { size = two.size ∙ one.size; moved = omega (arith, one.moved, two.moved); looks = omega (arith, one.looks, two.looks); found = omega (arith, one.found, two.found) }
+    record { size = two.size ∙ one.size; moved = omega (arith, one.moved, two.moved); looks = let a = one.looks in let b = two.looks in omega (arith, a, b); found = omega (arith, one.found, two.found) }
 
-looked-later : (before after : EndCounts) → HasLooked before after → before.moved ≤ after.moved → IsLater before after
-looked-later before after looked more = record { size = looked.size; moved = more; looks = omega (arith, looked.looks); found = looked.risen }
+looked-later : (before after : EndCounts) → HasLooked before after → before.moved ≤ after.moved → after.moved ≤ before.moved + 1 → IsLater before after
+looked-later before after looked more most = record { size = looked.size; moved = more; looks = omega (arith, looked.looks, most); found = looked.risen }
 
 other-or-same : (other queue : ℕ) (side is_producer : Bool) → ((other ≡ queue → ⊥) ⊎ (side ≡ is_producer → ⊥)) ⊎ ((other ≡ queue) × (side ≡ is_producer))
 other-or-same other queue side is_producer = grind arith
@@ -41,31 +41,31 @@ module _ (ends : LentEnds) (before after : Counts) (queue : ℕ) where
   refused-later cause others = all-later ends before after queue true others (λ has. elim cause [
     | inl none ↦ absurd (cc)
     | inr was ↦ elim was [
-      | inl was_full ↦ looked-later (before queue true) (after queue true) was_full.looked (omega (arith, was_full.moved))
+      | inl was_full ↦ looked-later (before queue true) (after queue true) was_full.looked (omega (arith, was_full.moved)) (omega (arith, was_full.moved))
       | inr last ↦ subst (IsLater (before queue true)) (sym last.1) (same-later (before queue true))
     ]
   ])
 
   pub pushed-later : HasPushed (before queue true) (after queue true) → AreOtherCounts before after queue true → AreLater ends before after
-  pushed-later pushed others = all-later ends before after queue true others (λ has. looked-later (before queue true) (after queue true) pushed.looked (omega (arith, pushed.moved)))
+  pushed-later pushed others = all-later ends before after queue true others (λ has. looked-later (before queue true) (after queue true) pushed.looked (omega (arith, pushed.moved)) (omega (arith, pushed.moved)))
 
   pub empty-later : (has_end ends queue false ≡ false) ⊎ WasEmpty (before queue false) (after queue false) → AreOtherCounts before after queue false → AreLater ends before after
   empty-later cause others = all-later ends before after queue false others (λ has. elim cause [
     | inl none ↦ absurd (cc)
-    | inr was ↦ looked-later (before queue false) (after queue false) was.looked (omega (arith, was.moved))
+    | inr was ↦ looked-later (before queue false) (after queue false) was.looked (omega (arith, was.moved)) (omega (arith, was.moved))
   ])
 
   pub popped-later : HasPopped (before queue false) (after queue false) → AreOtherCounts before after queue false → AreLater ends before after
-  popped-later popped others = all-later ends before after queue false others (λ has. looked-later (before queue false) (after queue false) popped.looked (omega (arith, popped.moved)))
+  popped-later popped others = all-later ends before after queue false others (λ has. looked-later (before queue false) (after queue false) popped.looked (omega (arith, popped.moved)) (omega (arith, popped.moved)))
 
   full-since : (has_end ends queue true ≡ false) ⊎ WasRefused (before queue true) (after queue true) → (has_end ends queue true ≡ false) ⊎ WasFullSince (before queue true) (after queue true)
   full-since (inl none) = inl none
-  full-since (inr (inl was)) = inr (full (omega (arith, was.looked.looks)) (was.moved ∙ was.full))
+  full-since (inr (inl was)) = inr (full (omega (arith, was.looked.looks, was.moved)) (was.moved ∙ was.full))
   full-since (inr (inr was)) = inr (counted (ap (λ (shown : EndCounts). shown.moved) was.1 ∙ was.0))
 
   empty-since : (has_end ends queue false ≡ false) ⊎ WasEmpty (before queue false) (after queue false) → (has_end ends queue false ≡ false) ⊎ WasEmptySince (before queue false) (after queue false)
   empty-since (inl none) = inl none
-  empty-since (inr was) = inr (record { looked = omega (arith, was.looked.looks); empty = was.moved ∙ was.none })
+  empty-since (inr was) = inr (record { looked = omega (arith, was.looked.looks, was.moved); empty = was.moved ∙ was.none })
 
   module _ {L : Type 0} (holdings : List Holding) (asks : Ask L) (place : ℕ) where
     -- the ends didn't serve the push, or the pop, of this queue

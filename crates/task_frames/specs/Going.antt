@@ -28,25 +28,30 @@ use Rattle.task_frames.specs.Frames.{FrameView}
 abbrev pub Counts : Type 0
 Counts = ℕ → Bool → EndCounts
 
--- an end later on: what it found has not fallen
+-- An end later on: what it found has not fallen, and each item that it moved cost it a look.
 pub record IsLater (before after : EndCounts) : Type 0 where
   pub size : after.size ≡ before.size
   pub moved : before.moved ≤ after.moved
-  pub looks : before.looks ≤ after.looks
+  pub looks : before.looks + after.moved ≤ after.looks + before.moved
   pub found : before.found ≤ after.found
 
 -- each end that there is, later on
 abbrev pub AreLater : LentEnds → (before after : Counts) → Type 0
 AreLater ends before after = (queue : ℕ) (is_producer : Bool) → has_end ends queue is_producer ≡ true → IsLater (before queue is_producer) (after queue is_producer)
 
--- An end was found to take no more: by a look since then its ring was full, or its count of items has no next number.
+-- It has looked more often since then than it moved items, so a look moved none.
+abbrev pub HasLookedInVain : (before after : EndCounts) → Type 0
+HasLookedInVain before after = before.looks + after.moved < after.looks + before.moved
+
+-- An end was found to take no more: a look since then moved nothing and its ring is full, or its count of items has no
+-- next number.
 pub data WasFullSince (before after : EndCounts) : Type 0 where
-  full : before.looks < after.looks → after.moved ≡ after.found + after.size → WasFullSince before after
+  full : HasLookedInVain before after → after.moved ≡ after.found + after.size → WasFullSince before after
   counted : after.moved ≡ PUSHED_MOST → WasFullSince before after
 
--- An end was found to have nothing by a look since then.
+-- An end was found to have nothing: a look since then moved nothing, and all that was found is popped.
 pub record WasEmptySince (before after : EndCounts) : Type 0 where
-  pub looked : before.looks < after.looks
+  pub looked : HasLookedInVain before after
   pub empty : after.moved ≡ after.found
 
 module _ {L : Type 0} where
