@@ -29,7 +29,7 @@ use Rattle.task_frames.specs.declared.stage.Stage.TheVariants.{Ready, Asking}
 use Rattle.task_frames.specs.declared.row.Row.{Row}
 use Rattle.task_frames.specs.declared.stage.Stage.{Stage}
 use Rattle.queues.specs.Reads.{deeds_among}
-use Rattle.task_frames.specs.Frames.{AreEndsOf, IsFrame, Task, is_local}
+use Rattle.task_frames.specs.Frames.{AreEndsOf, AreLocal, IsFrame, Task, is_local}
 use Rattle.task_frames.specs.Going.{IsRow, IsRowTo, is_still}
 
 -- what holds of one stage holds of whatever the option has
@@ -55,7 +55,7 @@ module _ {B L : Type 0} (G : Ghosts B L) (name : Option Script) where
         ∙ ap (λ n. G.next task.plan.body top.local top.answer (n - 1)) stage.1 in
         record {
           plan = is.plan;
-          within = record { holds = let a = is.within.holds in omega arith; spawned = let a = is.within.spawned in omega arith };
+          within = is.within;
           alone = record {
             top = top;
             stands = is.alone.stands;
@@ -64,6 +64,7 @@ module _ {B L : Type 0} (G : Ghosts B L) (name : Option Script) where
             children = is.alone.children;
           };
           since = is.since;
+          begun = is.begun;
           lent = record { named = is.lent.named; own = is.lent.own; path = is.lent.path; before = is.lent.before; deeds = is.lent.deeds; queues = is.lent.queues };
         }
 
@@ -77,24 +78,25 @@ module _ {B L : Type 0} (G : Ghosts B L) (name : Option Script) where
       pub is-asking : IsAsking G task.plan task.path task.done top local asked
       is-asking = record { stands = is.alone.stands; paid = is.alone.stage.0; said = is.alone.stage.3 }
 
-      one-more-deed : (does : Deed) → deed_at s (time s task.path task.done) ≡ does
+      pub one-more-deed : (does : Deed) → deed_at s (time s task.path task.done) ≡ does
           → deeds_among s task.path (task.done + 1) ≡ deeds_among s task.path task.done + as_number (is_queue_deed does)
       one-more-deed does it =
           filtered_more (λ t. is_queue_deed (deed_at s t)) (times s task.path) task.done (time s task.path task.done) (slice_get-get_or (times s task.path) task.done 0 is.alone.stands.left)
           ∙ ap (λ d. deeds_among s task.path task.done + as_number (is_queue_deed d)) it
 
-      -- a step that the frame takes by itself
-      pub goes-on : (said : Answer) (does : Deed) (then_ends : LentEnds) → GoesOn G task.plan task.path task.done top local said does
-          → is_local does ≡ true → then_ends ≡ with_deeds ends (ends.deeds + as_number (is_queue_deed does))
-          → IsFrame G (with-steps task (task.done + 1) task.fuel) name then_ends (Ready local said)
-      goes-on said does then_ends goes local_deed ends_are =
+      -- the frame after a step, given with so many steps done
+      pub goes-to : (since : ℕ) (said : Answer) (does : Deed) (then_ends : LentEnds) → GoesOn G task.plan task.path task.done top local said does
+          → then_ends ≡ with_deeds ends (ends.deeds + as_number (is_queue_deed does)) → ends.before ≡ deeds_among s task.path since
+          → AreLocal s task.path since (task.done + 1) → 0 < since
+          → IsFrame G (record task { done = task.done + 1; since = since }) name then_ends (Ready local said)
+      goes-to since said does then_ends goes ends_are before_is are_local some =
           let next = told (moved top local) said in
           let stands = goes_on_next G task.plan task.path task.done top is.alone.stands next goes.store goes.effect in
-          let ends_of : AreEndsOf G (with-steps task (task.done + 1) task.fuel) name (with_deeds ends (ends.deeds + as_number (is_queue_deed does))) = record {
+          let ends_of : AreEndsOf G (record task { done = task.done + 1; since = since }) name (with_deeds ends (ends.deeds + as_number (is_queue_deed does))) = record {
             named = is.lent.named;
             own = is.lent.own;
             path = is.lent.path;
-            before = is.lent.before;
+            before = before_is;
             deeds = ap (λ n. n + as_number (is_queue_deed does)) is.lent.deeds ∙ sym (one-more-deed does goes.deed);
             queues = λ there at i p end holding give end_is holding_is queue_mode same given.
                 let one = stands-one G task.plan task.path (task.done + 1) there next at stands in
@@ -103,7 +105,7 @@ module _ {B L : Type 0} (G : Ghosts B L) (name : Option Script) where
           } in
           record {
             plan = is.plan;
-            within = is.within;
+            within = record { holds = let a = is.within.holds in omega arith; spawned = let a = is.within.spawned in omega arith };
             alone = record {
               top = next;
               stands = stands;
@@ -111,24 +113,40 @@ module _ {B L : Type 0} (G : Ghosts B L) (name : Option Script) where
               modes = is.alone.modes;
               children = is.alone.children;
             };
-            since = record {
-              order = let a = is.since.order in omega arith;
-              each = λ k from to. elim (cases_lt k task.done) [
-                | inl before ↦ is.since.each k from before
-                | inr here ↦
-                    let now : k ≡ task.done = omega arith in
-                    ap (λ j. is_local (deed_at s (time s task.path j))) now ∙ ap is_local goes.deed ∙ local_deed
-              ];
-            };
-            lent = subst (AreEndsOf G (with-steps task (task.done + 1) task.fuel) name) (sym ends_are) ends_of;
+            since = are_local;
+            begun = λ none. absurd (omega (arith, none, some));
+            lent = subst (AreEndsOf G (record task { done = task.done + 1; since = since }) name) (sym ends_are) ends_of;
           }
 
+      -- a frame with a step done was given with one
+      given-some : 0 < task.done → 0 < task.since
+      given-some begun = elim (cases_lt 0 task.since) [
+        | inl some ↦ some
+        | inr none ↦ let zero : task.since ≡ 0 = omega arith in let undone = is.begun zero in absurd (omega (arith, undone))
+      ]
+
+      -- a step that the frame takes by itself
+      pub goes-on : 0 < task.done → (said : Answer) (does : Deed) (then_ends : LentEnds) → GoesOn G task.plan task.path task.done top local said does
+          → is_local does ≡ true → then_ends ≡ with_deeds ends (ends.deeds + as_number (is_queue_deed does))
+          → IsFrame G (with-steps task (task.done + 1) task.fuel) name then_ends (Ready local said)
+      goes-on begun said does then_ends goes local_deed ends_are =
+          let are_local : AreLocal s task.path task.since (task.done + 1) = record {
+            order = let a = is.since.order in omega arith;
+            each = λ k from to. elim (cases_lt k task.done) [
+              | inl before ↦ is.since.each k from before
+              | inr here ↦
+                  let now : k ≡ task.done = omega arith in
+                  ap (λ j. is_local (deed_at s (time s task.path j))) now ∙ ap is_local goes.deed ∙ local_deed
+            ];
+          } in
+          goes-to task.since said does then_ends goes ends_are is.lent.before are_local (given-some begun)
+
     -- a step of the frame's own work
-    pub worked : (local : L) (asked : Ask L) (place : ℕ) → IsFrame G task name ends (Asking local asked place) → asked ≡ ask.Work
+    pub worked : (local : L) (asked : Ask L) (place : ℕ) → IsFrame G task name ends (Asking local asked place) → 0 < task.done → asked ≡ ask.Work
         → IsFrame G (with-steps task (task.done + 1) task.fuel) name ends (Ready local answer.Nothing)
-    worked local asked place is work =
+    worked local asked place is begun work =
         let w = subst (λ a. IsFrame G task name ends (Asking local a place)) work is in
-        goes-on local ask.Work place w answer.Nothing deed.Quiet ends
+        goes-on local ask.Work place w begun answer.Nothing deed.Quiet ends
         (works G task.plan task.path task.done w.alone.top local w.plan.lists (is-asking local ask.Work place w))
         refl (let n : ends.deeds ≡ ends.deeds + 0 = omega arith in ap (with_deeds ends) n)
 
@@ -137,65 +155,65 @@ module _ {B L : Type 0} (G : Ghosts B L) (name : Option Script) where
   few task ends stage is = let most = is.plan.fuel in omega (arith, is.alone.stands.left, few-times G task.plan task.path, most)
 
   -- so many steps of work in a row
-  pub worked-on : (task : Task B L) (ends : LentEnds) (local : L) (said : Answer) (n : ℕ) → IsFrame G task name ends (Ready local said) → n ≤ task.fuel
+  pub worked-on : (task : Task B L) (ends : LentEnds) (local : L) (said : Answer) (n : ℕ) → IsFrame G task name ends (Ready local said) → 0 < task.done → n ≤ task.fuel
       → AreWork (G.next task.plan.body) local said task.fuel n
       → IsFrame G (with-steps task (task.done + n) (task.fuel - n)) name ends (Ready (local_after (G.next task.plan.body) local said task.fuel n) (told_after said n))
-  worked-on task ends local said zero is most are =
+  worked-on task ends local said zero is begun most are =
       let done : task.done ≡ task.done + 0 = omega arith in
       let fuel : task.fuel ≡ task.fuel - 0 = omega arith in
       subst (λ d. IsFrame G (with-steps task d (task.fuel - 0)) name ends (Ready local said)) done
       (subst (λ f. IsFrame G (with-steps task task.done f) name ends (Ready local said)) fuel is)
-  worked-on task ends local said (suc n) is most are =
+  worked-on task ends local said (suc n) is begun most are =
       let now = with-steps task (task.done + n) (task.fuel - n) in
       let here = local_after (G.next task.plan.body) local said task.fuel n in
       let step = G.next task.plan.body here (told_after said n) (task.fuel - n - 1) in
       let place = G.place_of task.plan.body here in
-      let amid = asks now ends here step.0 (told_after said n) step.1 place (worked-on task ends local said n is (omega arith) are.0) (omega arith) refl refl in
-      let then = worked (with-steps now now.done (now.fuel - 1)) ends step.0 step.1 place amid are.1 in
+      let amid = asks now ends here step.0 (told_after said n) step.1 place (worked-on task ends local said n is begun (omega arith) are.0) (omega arith) refl refl in
+      let then = worked (with-steps now now.done (now.fuel - 1)) ends step.0 step.1 place amid (omega (arith, begun)) are.1 in
       let done : task.done + n + 1 ≡ task.done + suc n = omega arith in
       let fuel : task.fuel - n - 1 ≡ task.fuel - suc n = omega arith in
       subst (λ d. IsFrame G (with-steps task d (task.fuel - suc n)) name ends (Ready step.0 answer.Nothing)) done
       (subst (λ f. IsFrame G (with-steps task (task.done + n + 1) f) name ends (Ready step.0 answer.Nothing)) fuel then)
 
   -- work up to the budget, or with all the fuel
-  pub worked-all : (task : Task B L) (ends : LentEnds) (local after : L) (said : Answer) (n : ℕ) → IsFrame G task name ends (Ready local said) → n ≤ task.fuel → 0 < n
+  pub worked-all : (task : Task B L) (ends : LentEnds) (local after : L) (said : Answer) (n : ℕ) → IsFrame G task name ends (Ready local said) → 0 < task.done → n ≤ task.fuel → 0 < n
       → AreWork (G.next task.plan.body) local said task.fuel n → after ≡ local_after (G.next task.plan.body) local said task.fuel n
       → IsFrame G (with-steps task (task.done + n) (task.fuel - n)) name ends (Ready after answer.Nothing)
-  worked-all task ends local after said zero is most some are after_is = absurd (omega arith)
-  worked-all task ends local after said (suc n) is most some are after_is =
+  worked-all task ends local after said zero is begun most some are after_is = absurd (omega arith)
+  worked-all task ends local after said (suc n) is begun most some are after_is =
       subst (λ l. IsFrame G (with-steps task (task.done + suc n) (task.fuel - suc n)) name ends (Ready l answer.Nothing)) (sym after_is)
-      (worked-on task ends local said (suc n) is most are)
+      (worked-on task ends local said (suc n) is begun most are)
 
   -- work up to a step that asks for something else
-  pub worked-to : (task : Task B L) (ends : LentEnds) (local after : L) (said : Answer) (asked : Ask L) (place n : ℕ) → IsFrame G task name ends (Ready local said) → n < task.fuel
+  pub worked-to : (task : Task B L) (ends : LentEnds) (local after : L) (said : Answer) (asked : Ask L) (place n : ℕ) → IsFrame G task name ends (Ready local said) → 0 < task.done → n < task.fuel
       → AreWork (G.next task.plan.body) local said task.fuel n → after ≡ local_after (G.next task.plan.body) local said task.fuel (suc n)
       → asked ≡ ask_after (G.next task.plan.body) local said task.fuel n → place ≡ G.place_of task.plan.body (local_after (G.next task.plan.body) local said task.fuel n)
       → IsFrame G (with-steps task (task.done + n) (task.fuel - n - 1)) name ends (Asking after asked place)
-  worked-to task ends local after said asked place n is less are after_is asked_is place_is =
+  worked-to task ends local after said asked place n is begun less are after_is asked_is place_is =
       let now = with-steps task (task.done + n) (task.fuel - n) in
       let here = local_after (G.next task.plan.body) local said task.fuel n in
       let step = G.next task.plan.body here (told_after said n) (task.fuel - n - 1) in
       let both : (after, asked) ≡ step = ap (λ l. (l, asked)) after_is ∙ ap (λ a. (step.0, a)) asked_is in
-      asks now ends here after (told_after said n) asked place (worked-on task ends local said n is (omega arith) are) (omega arith) both place_is
+      asks now ends here after (told_after said n) asked place (worked-on task ends local said n is begun (omega arith) are) (omega arith) both place_is
 
   -- a row of steps of work, however it ends
   rowed-to : (task : Task B L) (ends : LentEnds) (local : L) (said : Answer) (budget works left : ℕ) (stage : Stage L) → IsFrame G task name ends (Ready local said)
-      → 0 < budget → 0 < task.fuel → AreWork (G.next task.plan.body) local said task.fuel works → IsRowTo G task.plan.body local said task.fuel budget works left stage
+      → 0 < task.done → 0 < budget → 0 < task.fuel → AreWork (G.next task.plan.body) local said task.fuel works → IsRowTo G task.plan.body local said task.fuel budget works left stage
       → IsFrame G (with-steps task (task.done + works) left) name ends stage
-  rowed-to task ends local said budget works left (Ready after told_is) is some full are to =
+  rowed-to task ends local said budget works left (Ready after told_is) is begun some full are to =
       subst (λ f. IsFrame G (with-steps task (task.done + works) f) name ends (Ready after told_is)) (sym to.1)
       (subst (λ a. IsFrame G (with-steps task (task.done + works) (task.fuel - works)) name ends (Ready after a)) (sym to.3)
-      (worked-all task ends local after said works is (omega (arith, to.0)) (omega (arith, to.0)) are to.2))
-  rowed-to task ends local said budget works left (Asking after asked place) is some full are to =
+      (worked-all task ends local after said works is begun (omega (arith, to.0)) (omega (arith, to.0)) are to.2))
+  rowed-to task ends local said budget works left (Asking after asked place) is begun some full are to =
       subst (λ f. IsFrame G (with-steps task (task.done + works) f) name ends (Asking after asked place)) (sym to.1)
-      (worked-to task ends local after said asked place works is (omega (arith, to.0)) are to.2 to.3 to.4)
+      (worked-to task ends local after said asked place works is begun (omega (arith, to.0)) are to.2 to.3 to.4)
 
   pub rowed : (task : Task B L) (ends : LentEnds) (body : B) (local : L) (said : Answer) (budget : ℕ) (row : Row L) → IsFrame G task name ends (Ready local said)
-      → body ≡ task.plan.body → 0 < budget → 0 < task.fuel → IsRow G body local said task.fuel budget row
+      → 0 < task.done → body ≡ task.plan.body → 0 < budget → 0 < task.fuel → IsRow G body local said task.fuel budget row
       → IsFrame G (with-steps task (task.done + row.works) row.fuel) name ends row.stage
-  rowed task ends body local said budget row is same some full so =
+  rowed task ends body local said budget row is begun same some full so =
       let with_own = subst (λ b. IsRow G b local said task.fuel budget row) same so in
-      rowed-to task ends local said budget row.works row.fuel row.stage is some full with_own.works with_own.stands
+      rowed-to task ends local said budget row.works row.fuel row.stage is begun some full with_own.works with_own.stands
 
 -- a row that is shorter than the budget leaves its frame where no step of work is before it
 still-to : {B L : Type 0} (G : Ghosts B L) (body : B) (local : L) (said : Answer) (fuel budget works left : ℕ) (stage : Stage L) → IsRowTo G body local said fuel budget works left stage

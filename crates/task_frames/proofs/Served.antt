@@ -167,24 +167,24 @@ module _ {B L : Type 0} (G : Ghosts B L) (task : Task B L) (name : Option Script
       ap (λ p. queue_time s p ends.deeds) is.lent.path ∙ ap (queue_time s task.path) is.lent.deeds ∙ deed_time s seen progress fits deed_here ∙ point_is s progress is.alone.stands.left in
       subst (λ t. (slice_get (pushes s origin) (taken s origin t) ≡ Some item) × (taken s origin t < count s origin t)) time_is (told origin (next-is (deed.Pop origin) it refl))
 
-  then-pushed : (place number : ℕ) (value : Value) → asked ≡ ask.Push place value → number_at task.holdings place Push ≡ Some number
+  then-pushed : 0 < task.done → (place number : ℕ) (value : Value) → asked ≡ ask.Push place value → number_at task.holdings place Push ≡ Some number
       → IsFrame G (with-steps G name task (task.done + 1) task.fuel) name (with_deeds ends (ends.deeds + 1)) (Ready local answer.Nothing)
-  then-pushed place number value asks at =
+  then-pushed begun place number value asks at =
       let has = usable place number Push at in
       let asking = subst (IsAsking G task.plan task.path task.done top local) asks (is-asking G name task ends local asked before is) in
-      goes-on G name task ends local asked before is answer.Nothing (deed.Push has.origin value) (with_deeds ends (ends.deeds + 1))
+      goes-on G name task ends local asked before is begun answer.Nothing (deed.Push has.origin value) (with_deeds ends (ends.deeds + 1))
       (pushes-on G task.plan task.path task.done top local is.plan.lists place value has.origin asking has.may) refl refl
 
-  then-popped : (place number : ℕ) (item : Value) → asked ≡ ask.Pop place → number_at task.holdings place Pop ≡ Some number → ForSome name (λ s. IsLawful s → IsItemNext s ends item)
+  then-popped : 0 < task.done → (place number : ℕ) (item : Value) → asked ≡ ask.Pop place → number_at task.holdings place Pop ≡ Some number → ForSome name (λ s. IsLawful s → IsItemNext s ends item)
       → IsFrame G (with-steps G name task (task.done + 1) task.fuel) name (with_deeds ends (ends.deeds + 1)) (Ready local (answer.Item item))
-  then-popped place number item asks at told =
+  then-popped begun place number item asks at told =
       let has = usable place number Pop at in
       let asking = subst (IsAsking G task.plan task.path task.done top local) asks (is-asking G name task ends local asked before is) in
       let there = item-is has.origin item (pop-deed place has.origin asks has.may) (told s is.lent.named (lawful G task.plan is.plan.lists)) in
       some-and (slice_get (pushes s has.origin) (taken s has.origin now)) (λ value. GoesOn G task.plan task.path task.done top local (answer.Item value) (deed.Pop has.origin))
       (IsFrame G (with-steps G name task (task.done + 1) task.fuel) name (with_deeds ends (ends.deeds + 1)) (Ready local (answer.Item item)))
       (pops-on G task.plan task.path task.done top local is.plan.lists place has.origin has.may asking there.1)
-      (λ value found goes. goes-on G name task ends local asked before is (answer.Item item) (deed.Pop has.origin) (with_deeds ends (ends.deeds + 1))
+      (λ value found goes. goes-on G name task ends local asked before is begun (answer.Item item) (deed.Pop has.origin) (with_deeds ends (ends.deeds + 1))
       (subst (λ v. GoesOn G task.plan task.path task.done top local (answer.Item v) (deed.Pop has.origin)) (same_Some value item (sym found ∙ there.0)) goes) refl refl)
 
 -- what the frame asks its ends for is its next queue deed
@@ -207,38 +207,38 @@ next-ask G task name ends local (ask.Fail trouble) before is = tt
 
 -- and once they have served it, the frame goes on
 served-so : {B L : Type 0} (G : Ghosts B L) (task : Task B L) (name : Option Script) (ends : LentEnds) (local : L) (asked : Ask L) (before : ℕ) (said : Answer)
-    → IsFrame G task name ends (Asking local asked before) → IsAnswerTo name task.holdings ends asked said
+    → IsFrame G task name ends (Asking local asked before) → 0 < task.done → IsAnswerTo name task.holdings ends asked said
     → IsFrame G (with-steps G name task (task.done + 1) task.fuel) name (with_deeds ends (ends.deeds + deeds_of asked)) (Ready local said)
-served-so G task name ends local ask.Work before said is says =
+served-so G task name ends local ask.Work before said is begun says =
     let none : ends.deeds ≡ ends.deeds + 0 = omega arith in
     subst (λ a. IsFrame G (with-steps G name task (task.done + 1) task.fuel) name (with_deeds ends (ends.deeds + 0)) (Ready local a)) (sym says)
-    (subst (λ n. IsFrame G (with-steps G name task (task.done + 1) task.fuel) name (with_deeds ends n) (Ready local answer.Nothing)) none (worked G name task ends local ask.Work before is refl))
-served-so G task name ends local (ask.Push place value) before said is says =
+    (subst (λ n. IsFrame G (with-steps G name task (task.done + 1) task.fuel) name (with_deeds ends n) (Ready local answer.Nothing)) none (worked G name task ends local ask.Work before is begun refl))
+served-so G task name ends local (ask.Push place value) before said is begun says =
     let number = has-some (number_at task.holdings place Push) _ says.1 in
     subst (λ a. IsFrame G (with-steps G name task (task.done + 1) task.fuel) name (with_deeds ends (ends.deeds + 1)) (Ready local a)) (sym says.0)
-    (then-pushed G task name ends local (ask.Push place value) before is place number.0 value refl number.1)
-served-so G task name ends local (ask.Pop place) before said is says =
+    (then-pushed G task name ends local (ask.Push place value) before is begun place number.0 value refl number.1)
+served-so G task name ends local (ask.Pop place) before said is begun says =
     let number = has-some (number_at task.holdings place Pop) _ says.1 in
     subst (λ a. IsFrame G (with-steps G name task (task.done + 1) task.fuel) name (with_deeds ends (ends.deeds + 1)) (Ready local a)) (sym says.0.1)
-    (then-popped G task name ends local (ask.Pop place) before is place number.0 says.0.0 refl number.1 says.0.2)
-served-so G task name ends local (ask.Read place) before said is says = absurd says
-served-so G task name ends local (ask.Write place value) before said is says = absurd says
-served-so G task name ends local (ask.Empty place) before said is says = absurd says
-served-so G task name ends local ask.NewQueue before said is says = absurd says
-served-so G task name ends local (ask.NewObject value) before said is says = absurd says
-served-so G task name ends local (ask.Spawn child) before said is says = absurd says
-served-so G task name ends local ask.Sync before said is says = absurd says
-served-so G task name ends local ask.Finish before said is says = absurd says
-served-so G task name ends local (ask.Fail trouble) before said is says = absurd says
+    (then-popped G task name ends local (ask.Pop place) before is begun place number.0 says.0.0 refl number.1 says.0.2)
+served-so G task name ends local (ask.Read place) before said is begun says = absurd says
+served-so G task name ends local (ask.Write place value) before said is begun says = absurd says
+served-so G task name ends local (ask.Empty place) before said is begun says = absurd says
+served-so G task name ends local ask.NewQueue before said is begun says = absurd says
+served-so G task name ends local (ask.NewObject value) before said is begun says = absurd says
+served-so G task name ends local (ask.Spawn child) before said is begun says = absurd says
+served-so G task name ends local ask.Sync before said is begun says = absurd says
+served-so G task name ends local ask.Finish before said is begun says = absurd says
+served-so G task name ends local (ask.Fail trouble) before said is begun says = absurd says
 
 module _ {B L : Type 0} (G : Ghosts B L) (task : Task B L) (name : Option Script) (ends : LentEnds) (local : L) (asked : Ask L) (before : ℕ) where
   -- whatever ends are the same to contracts
-  pub served : (said : Answer) (then_name : Option Script) (then_ends : LentEnds) → IsFrame G task name ends (Asking local asked before) → IsAnswerTo name task.holdings ends asked said
+  pub served : (said : Answer) (then_name : Option Script) (then_ends : LentEnds) → IsFrame G task name ends (Asking local asked before) → 0 < task.done → IsAnswerTo name task.holdings ends asked said
       → then_name ≡ name → then_ends ≡ with_deeds ends (ends.deeds + deeds_of asked)
       → IsFrame G (with-steps G name task (task.done + 1) task.fuel) then_name then_ends (Ready local said)
-  served said then_name then_ends is says named same =
+  served said then_name then_ends is begun says named same =
       subst (λ n. IsFrame G (with-steps G name task (task.done + 1) task.fuel) n then_ends (Ready local said)) (sym named)
-      (subst (λ e. IsFrame G (with-steps G name task (task.done + 1) task.fuel) name e (Ready local said)) (sym same) (served-so G task name ends local asked before said is says))
+      (subst (λ e. IsFrame G (with-steps G name task (task.done + 1) task.fuel) name e (Ready local said)) (sym same) (served-so G task name ends local asked before said is begun says))
 
   pub same-ends : (asked_then : Ask L) (then_name : Option Script) (then_ends : LentEnds) → IsFrame G task name ends (Asking local asked before) → asked_then ≡ asked → then_name ≡ name → then_ends ≡ ends
       → IsFrame G task then_name then_ends (Asking local asked_then before)

@@ -96,12 +96,15 @@ module _ {B L : Type 0} (G : Ghosts B L) where
         → segment_queue (script G task.plan) end.tag ≡ Some give.origin
 
   -- What holds of each frame that has its local: it is true for its plan, in the middle of a step too; its ends are its own;
-  -- and all that it did since it was given are steps that need no core.
+  -- and all that it did since it was given are steps that need no core. Given with no step taken, it did nothing.
   pub record IsFrame (task : Task B L) (name : Option Script) (ends : LentEnds) (stage : Stage L) : Type 0 where
     pub plan : IsPlan task.plan
-    pub within : IsWithin (length task.holdings) task.children task.fuel
     pub alone : IsTrueAlone G task.plan (state_of task stage)
+    -- by the fuel that it has before its next step
+    pub within : IsWithin (length task.holdings) task.children alone.top.fuel
     pub since : AreLocal (script G task.plan) task.path task.since task.done
+    -- the first step isn't one that it takes by itself
+    pub begun : task.since ≡ 0 → task.done ≡ 0
     pub lent : AreEndsOf task name ends
 
   -- and of each frame, by what its ends mean

@@ -4,7 +4,7 @@ ghost use Rattle.swan_model.specs.Elision.{root};
 ghost use Rattle.swan_model.specs.SerialState.{Holding as Held};
 ghost use Rattle.swan_model.specs.declared.body.Answer.TheVariants.{Start};
 ghost use Rattle.task_frames.specs.declared.stage.Stage.TheVariants.{Ready};
-ghost use Rattle.task_frames.specs.Frames.{AreEndsOf, IsAnyFrame, IsPlan, is_whole, root_task};
+ghost use Rattle.task_frames.specs.Frames.{AreEndsOf, IsAnyFrame, IsFrame, IsPlan, is_whole, root_task};
 ghost use Rattle.task_frames.specs.Going.{IsSameFrame, NeedsCore, OnAtCore, OnBudget, OnNoMemory, OnSteps, is_at_core, stands_still};
 
 use crate::row::take_row;
@@ -104,6 +104,61 @@ impl<B: Body, Q: Queues> Frame<B, Q> {
         }
     }
 
+    /// A frame as the core gives it, with so many steps done: its next step is still to be taken, with this local and this
+    /// answer. It takes no memory. `O(1)`.
+    pub(crate) fn given(
+        plan: Meaning<Plan<B>>,
+        path: Path,
+        number: u64,
+        done: u64,
+        local: B::Local,
+        answer: Answer,
+        fuel: u64,
+        holdings: Vec<Holding>,
+        children: u32,
+        ends: Q::Ends,
+    ) -> Frame<B, Q>
+        requires frame { IsFrame B.Body (record {
+          plan = plan.means;
+          number = number;
+          path = path;
+          done = done;
+          since = done;
+          fuel = fuel;
+          holdings = holdings.items;
+          children = children;
+        }) (Q.Ends.name ends) (Q.Ends.ends ends) (Ready local answer) }
+        ensures { result ≡ record {
+          task = record {
+            plan = plan.means;
+            number = number;
+            path = path;
+            done = done;
+            since = done;
+            fuel = fuel;
+            holdings = holdings.items;
+            children = children;
+          };
+          stage = Some (Ready local answer);
+          mark = false;
+          ends = ends;
+        } }
+    {
+        Frame {
+            plan,
+            path,
+            number,
+            done,
+            since: done,
+            fuel,
+            holdings,
+            children,
+            stage: Some(Stage::Ready(local, answer)),
+            mark: false,
+            ends,
+        }
+    }
+
     /// The task's path. It takes no memory. `O(1)`.
     pub fn path(&self) -> &Path
         ensures { result.now ≡ self.now.task.path }
@@ -123,9 +178,10 @@ impl<B: Body, Q: Queues> Frame<B, Q> {
     /// Takes steps of the frame's own work in a row, where it is at the beginning of a step: up to so many, or up to a
     /// step that asks for something else, of which it is in the middle then, or with all its fuel. The answer is how many
     /// steps were work. Err is want of memory: the frame has no local then. It costs what the steps cost.
-    pub(crate) fn work(&mut self, alloc: Global, body: &B, budget: u64) -> Result<u64, NoMemory>
+    fn work(&mut self, alloc: Global, body: &B, budget: u64) -> Result<u64, NoMemory>
         requires body { body.now ≡ self.old.task.plan.body }
         requires whole { is_whole self.old ≡ true }
+        requires begun { 0 < self.old.task.done }
         requires budget { 0 < budget }
         ensures same { IsSameFrame Q.Ends.name Q.Ends.run Q.Ends.ends Q.Ends.counts self.old self.new }
         ensures mark { self.new.mark ≡ self.old.mark }
@@ -159,6 +215,7 @@ impl<B: Body, Q: Queues> Frame<B, Q> {
     /// memory. `O(1)`.
     fn step(&mut self) -> bool
         requires whole { is_whole self.old ≡ true }
+        requires begun { 0 < self.old.task.done }
         requires amid { stands_still self.old ≡ true }
         ensures same { IsSameFrame Q.Ends.name Q.Ends.run Q.Ends.ends Q.Ends.counts self.old self.new }
         ensures mark { self.new.mark ≡ self.old.mark }
@@ -193,6 +250,7 @@ impl<B: Body, Q: Queues> Frame<B, Q> {
     fn turn(&mut self, alloc: Global, body: &B, budget: u64) -> Result<Turn, NoMemory>
         requires body { body.now ≡ self.old.task.plan.body }
         requires whole { is_whole self.old ≡ true }
+        requires begun { 0 < self.old.task.done }
         requires budget { 0 < budget }
         ensures same { IsSameFrame Q.Ends.name Q.Ends.run Q.Ends.ends Q.Ends.counts self.old self.new }
         ensures mark { self.new.mark ≡ self.old.mark }
@@ -228,6 +286,7 @@ impl<B: Body, Q: Queues> Frame<B, Q> {
     fn run_on(&mut self, alloc: Global, body: &B, budget: u64) -> Paused
         requires body { body.now ≡ self.old.task.plan.body }
         requires whole { is_whole self.old ≡ true }
+        requires begun { 0 < self.old.task.done }
         ensures same { IsSameFrame Q.Ends.name Q.Ends.run Q.Ends.ends Q.Ends.counts self.old self.new }
         ensures mark { self.new.mark ≡ self.old.mark }
         ensures whole { OnSteps result (λ k. is_whole self.new ≡ true) }

@@ -12,8 +12,8 @@ use queues::Queues;
 use std::alloc::Global;
 use std::test::Fail;
 use swan_model::{
-    Ask, Child, FUEL_MOST, Gives, Meaning, Means, Mode, NoMemory, Path, Plan, PlanFuel, RootQueue,
-    Roots, RunName, Trouble, Value, Values,
+    Answer, Ask, Body, Child, FUEL_MOST, Gives, Meaning, Means, Mode, NoMemory, Path, Plan,
+    PlanFuel, RootQueue, Roots, RunName, Trouble, Value, Values,
 };
 
 /// It means the plan.
@@ -89,6 +89,46 @@ fn root_of(alloc: Global, plan: &Plan<Asks>) -> Result<Frame<Asks, BookQueues>, 
     ))
 }
 
+/// The root of a run of the plan, as it is given after its first step, which has to be work.
+fn begun_of(alloc: Global, plan: &Plan<Asks>) -> Result<Frame<Asks, BookQueues>, Fail>
+    requires { map (λ (h : Held). h.mode) (root plan.now).holdings ≡ PushPop ∷ [] }
+    ensures plan { IfOk result (λ frame. frame.task.plan ≡ plan.now) }
+    ensures whole { IfOk result (λ frame. is_whole frame ≡ true) }
+{
+    let _lists = plan.roots.queues();
+    let fuel = plan.fuel.units();
+    if fuel == 0 {
+        return Err("no fuel".into());
+    }
+    let (local, ask) = plan
+        .body
+        .advance(alloc, plan.root_local, Answer::Start, fuel - 1)?;
+    match ask {
+        Ask::Work => {}
+        _ => return Err("the first step is no work".into()),
+    }
+    let mut queues = BookQueues::new(alloc, RunName::of(plan));
+    let ends = queues.lend(0);
+    let holdings = vec![in alloc;
+        Holding {
+            mode: Mode::PushPop,
+            number: 0
+        },
+    ]?;
+    Ok(Frame::given(
+        Meaning::of(&PlanOf { plan }),
+        Path::root(alloc),
+        0,
+        1,
+        local,
+        Answer::Nothing,
+        fuel - 1,
+        holdings,
+        0,
+        ends,
+    ))
+}
+
 /// Whether a call answers so.
 fn answers(paused: &Paused, stop: &Stop) -> bool {
     match (paused, stop) {
@@ -123,7 +163,7 @@ fn calls_answer(
     true
 }
 
-/// The calls on the root of such a plan, which has taken its first step where that is work, as the core does.
+/// The calls on the root of such a plan, before its first step or after that.
 fn row(
     alloc: Global,
     asks: Vec<Ask<usize>>,
@@ -135,10 +175,11 @@ fn row(
     requires { fuel ≤ FUEL_MOST }
 {
     let plan = plan(alloc, asks, fails, fuel)?;
-    let mut frame = root_of(alloc, &plan)?;
-    if begun && frame.work(alloc, &plan.body, 1)? != 1 {
-        return Ok(false);
-    }
+    let frame = if begun {
+        begun_of(alloc, &plan)?
+    } else {
+        root_of(alloc, &plan)?
+    };
     Ok(calls_answer(alloc, &plan.body, frame, calls))
 }
 

@@ -1,4 +1,4 @@
-use Rattle.std.proofs.Common.{Some, refl, sym, ap, subst, ◌∙◌, arith}
+use Rattle.std.proofs.Common.{Some, refl, sym, ap, subst, ◌∙◌, arith, rules}
 use Rattle.task_frames.specs.declared.stage.Stage.TheVariants.{Asking}
 use Rattle.task_frames.specs.Going.{IsAnswerTo, IsNextDeed}
 use Rattle.task_frames.proofs.Amid.{few, for-one}
@@ -27,7 +27,7 @@ pub invariant_of-self : goal.invariant_of-self
 invariant_of-self g c =
     let was = sym c.take.ensures.value ∙ c.in-Some-Asking.is ∙ ap Some c.in-Some-Asking.field-0-is in
     let says = subst (λ hs. IsAnswerTo (g.Q.Ends.LocalEnds.name c.self.inside.ends) hs (g.Q.Ends.LocalEnds.ends c.self.inside.ends) c.in-Some-Asking.ask c.in-Ok.said) c.as_slice.ensures.value c.in-Ok.ensures.answer in
-    for-one _ _ (served g.B.Body _ _ _ c.in-Some-Asking.local c.in-Some-Asking.ask c.in-Some-Asking.place c.in-Ok.said _ _ (c.self.invariant _ was) says c.in-Ok.ensures.same.0 c.in-Ok.ensures.ok)
+    for-one _ _ (served g.B.Body _ _ _ c.in-Some-Asking.local c.in-Some-Asking.ask c.in-Some-Asking.place c.in-Ok.said _ _ (c.self.invariant _ was) (search rules) says c.in-Ok.ensures.same.0 c.in-Ok.ensures.ok)
 
 pub invariant_of-self-in-Err : goal.invariant_of-self-in-Err
 invariant_of-self-in-Err g c =
