@@ -55,15 +55,13 @@ pub fn honest_call(
     out: &mut HonestSink,
     report: &mut HonestSink,
 ) -> Status
-    ensures ends_well {
-        let F = ⟦<HonestFiles as Files>⟧ in let S = ⟦<HonestSink as Sink>⟧ in
+    ensures ends_well { let F = ⟦<HonestFiles as Files>⟧ in let S = ⟦<HonestSink as Sink>⟧ in
         EndsWell
         (files_seen (F.content files.old) (F.faults files.old) (F.faults files.new) (F.long_reads files.old) (F.long_reads files.new))
         (seen_of (S.written out.old) (S.written out.new) (S.faults out.old) (S.faults out.new))
         (seen_of (S.written report.old) (S.written report.new) (S.faults report.old) (S.faults report.new))
         (command words.now) result }
-    ensures completes {
-        let F = ⟦<HonestFiles as Files>⟧ in let S = ⟦<HonestSink as Sink>⟧ in
+    ensures completes { let F = ⟦<HonestFiles as Files>⟧ in let S = ⟦<HonestSink as Sink>⟧ in
         CompletesWell elisions
         (files_seen (F.content files.old) (F.faults files.old) (F.faults files.new) (F.long_reads files.old) (F.long_reads files.new))
         (seen_of (S.written out.old) (S.written out.new) (S.faults out.old) (S.faults out.new))
