@@ -54,21 +54,6 @@ fn values_of(alloc: Global, local: &JobLocal, operands: &[Operand]) -> Result<Ve
     Ok(values)
 }
 
-/// The same gives once more.
-fn copy_of(alloc: Global, gives: &Gives) -> Result<Gives, NoMemory>
-    ensures { IfOk result (λ all. all ≡ gives.now) }
-{
-    // By the clause `most` of `len` there is room for each of them.
-    let _count = gives.len();
-    let mut all = Gives::new(alloc);
-    for give in gives.as_slice() {
-        if all.push(*give).is_err() {
-            return Err(NoMemory);
-        }
-    }
-    Ok(all)
-}
-
 /// A spawn, by its fuel. It is taken seldom, so it is kept out of the loop of `work`, whose frame then needs no room for
 /// a child.
 #[inline(never)]
@@ -91,7 +76,7 @@ fn spawn(
     let values = values_of(alloc, local, params.as_slice())?;
     let child = Child {
         local: begin(alloc, program, task, values)?,
-        gives: copy_of(alloc, gives)?,
+        gives: gives.copy(alloc)?,
         fuel,
     };
     local.go(to);

@@ -7,7 +7,7 @@ use Rattle.swan_model.specs.Readings.{gone_on, next_deed, spawned, with_object}
 use Rattle.swan_model.specs.SerialTime.{Progress, Reading, frame_of, point, times}
 use Rattle.swan_model.specs.Versions.{Holds, IsSettled, MayGet, Placed, VersionState, placed_at, after_access, after_create, after_finish, after_write}
 use Rattle.swan_model.specs.VersionsFollow.{Access, ObjectsFollow, IsGiving}
-use Rattle.object_versions.proofs.Frames.{frame_number}
+use Rattle.swan_model.proofs.MovedFrames.{frame_number}
 use Rattle.object_versions.proofs.GivingAccess.{one_more_given}
 use Rattle.object_versions.proofs.GivingEnds.{ends_given}
 use Rattle.object_versions.proofs.GivingFinish.{finish_giving}

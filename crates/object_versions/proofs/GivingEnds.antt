@@ -22,7 +22,7 @@ use Rattle.swan_model.specs.Values.{kind_of, zero_of}
 use Rattle.swan_model.specs.Versions.{Version, settled, owed, Placed, VersionState, owing, placed_at}
 use Rattle.swan_model.specs.VersionsFollow.{Access, Begins, ObjectsFollow, FollowsAt, IsGiving, IsVersionAt, is_object_give, object_give}
 use Rattle.object_versions.proofs.Differ.{not_true, reads_not-out, settled_not-owed}
-use Rattle.object_versions.proofs.Frames.{IsMoved, child_of, frame_number, own_moves, other_stays, path_kept, spawned_back, spawned_there}
+use Rattle.swan_model.proofs.MovedFrames.{IsMoved, child_of, frame_number, own_moves, other_stays, path_kept, spawned_back, spawned_there}
 use Rattle.object_versions.proofs.GivingAccess.{no_frame}
 use Rattle.object_versions.proofs.GivingPlaces.{owing_owed}
 use Rattle.object_versions.proofs.Moves.{IsSameTask, Owes, at_moves, does_now, held_on, one_object, same_task, version_moves}

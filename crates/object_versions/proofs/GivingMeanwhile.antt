@@ -15,7 +15,7 @@ use Rattle.swan_model.specs.Rights.{allows}
 use Rattle.swan_model.specs.SerialTime.{Progress, Reading, frame_of}
 use Rattle.swan_model.specs.Versions.{Holds, MayGet, owed, Placed, VersionState, placed_at, after_access}
 use Rattle.swan_model.specs.VersionsFollow.{Access, ObjectsFollow, IsGiving, IsNewFrame, NextSpawnGivesObjects, is_object_deed, is_object_give}
-use Rattle.object_versions.proofs.Frames.{frame_number, gone_back, spawned_back}
+use Rattle.swan_model.proofs.MovedFrames.{frame_number, gone_back, spawned_back}
 use Rattle.object_versions.proofs.GivingAccess.{no_frame}
 use Rattle.object_versions.proofs.GivingBegins.{giving_begins}
 use Rattle.std.specs.Prelude.{map, filter}

@@ -11,7 +11,7 @@ use Rattle.swan_model.specs.Values.{kind_of}
 use Rattle.swan_model.specs.Versions.{Version, settled, owed, Placed, VersionState, placed_at, with_placed, with_present, written_at, after_create, after_write}
 use Rattle.swan_model.specs.VersionsFollow.{Access, ObjectsFollow, IsGiving}
 use Rattle.object_versions.proofs.Differ.{settled_not-owed}
-use Rattle.object_versions.proofs.Frames.{gone_back}
+use Rattle.swan_model.proofs.MovedFrames.{gone_back}
 use Rattle.object_versions.proofs.GivingKept.{IsAboveKept, IsBelowKept, IsUngiven, begins_kept, giving_kept}
 use Rattle.object_versions.proofs.Lookups.{found_in, still_set, untied}
 use Rattle.object_versions.proofs.Moves.{IsSameTask, Owes, same_task}

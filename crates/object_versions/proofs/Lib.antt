@@ -25,7 +25,6 @@ pub mod GivingOut
 pub mod GivingInOut
 pub mod GivingIn
 pub mod PlacesAfter
-pub mod Frames
 pub mod Tasks
 pub mod Differ
 pub mod Moves

@@ -25,7 +25,7 @@ use Rattle.swan_model.specs.Told.{cell, cell_from, is_same, made}
 use Rattle.swan_model.specs.Values.{kind_of}
 use Rattle.swan_model.specs.Versions.{settled, Placed, VersionState, placed_at, new_versions, after_create}
 use Rattle.swan_model.specs.VersionsFollow.{ObjectsFollow, FollowsAt}
-use Rattle.object_versions.proofs.Frames.{frame_number, gone_back, gone_there, path_kept}
+use Rattle.swan_model.proofs.MovedFrames.{frame_number, gone_back, gone_there, path_kept}
 use Rattle.object_versions.proofs.PlacesAfter.{after_placed, sorted_in, still_placed}
 use Rattle.object_versions.proofs.Moves.{Owes, acting, at_gone, at_moves, does_now}
 use Rattle.swan_model.proofs.ScriptCells.{cell_made}

@@ -17,7 +17,7 @@ use Rattle.swan_model.specs.SerialTime.{Progress, Reading, frame_of, point, time
 use Rattle.swan_model.specs.Told.{cell, deed_at}
 use Rattle.swan_model.specs.Versions.{Version, settled, owed, Placed, VersionState, placed_at}
 use Rattle.swan_model.specs.VersionsFollow.{ObjectsFollow, FollowsAt, IsVersionAt}
-use Rattle.object_versions.proofs.Frames.{IsMoved, frame_number, other_stays, own_moves, path_kept}
+use Rattle.swan_model.proofs.MovedFrames.{IsMoved, frame_number, other_stays, own_moves, path_kept}
 use Rattle.swan_model.proofs.ScriptCells.{cell_unchanged}
 use Rattle.swan_model.proofs.ScriptDeeds.{is_change_of}
 use Rattle.swan_model.proofs.ScriptRights.{held_later}

@@ -13,7 +13,7 @@ use Rattle.swan_model.proofs.Lists.{some_within}
 use Rattle.swan_model.proofs.Points.{earlier_before}
 use Rattle.swan_model.proofs.TaskEntries.{end_at, own_before, point_is}
 use Rattle.swan_model.proofs.Times.{times_rise}
-use Rattle.object_versions.proofs.Frames.{frame_in}
+use Rattle.swan_model.proofs.MovedFrames.{frame_in}
 
 module _ (s : Script) (lawful : IsLawful s) where
   -- a task's entries don't come before its first one

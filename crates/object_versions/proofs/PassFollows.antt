@@ -10,7 +10,7 @@ use Rattle.swan_model.specs.Readings.{gone_on, next_deed, one_more}
 use Rattle.swan_model.specs.SerialTime.{Progress, Reading, frame_of}
 use Rattle.swan_model.specs.Versions.{VersionState}
 use Rattle.swan_model.specs.VersionsFollow.{ObjectsFollow, is_object_deed}
-use Rattle.object_versions.proofs.Frames.{gone_back, gone_there, path_kept}
+use Rattle.swan_model.proofs.MovedFrames.{gone_back, gone_there, path_kept}
 use Rattle.object_versions.proofs.Moves.{at_gone, at_moves}
 use Rattle.swan_model.proofs.ScriptDeeds.{is_change_of}
 use Rattle.object_versions.proofs.Tasks.{done_gone, tasks_gone}

@@ -17,7 +17,7 @@ use Rattle.swan_model.specs.Lawful.{IsLawful}
 use Rattle.swan_model.specs.Nested.{HasTasks, IsSpawned, spawn_time}
 use Rattle.swan_model.specs.Readings.{gone_on, next_deed, one_more, spawned}
 use Rattle.swan_model.specs.SerialTime.{Progress, Reading, frame_of, is_done, is_of, is_past, point}
-use Rattle.object_versions.proofs.Frames.{IsIn, child_of, frame_in, own_moves, path_kept, point_goes}
+use Rattle.swan_model.proofs.MovedFrames.{IsIn, child_of, frame_in, own_moves, path_kept, point_goes}
 use Rattle.swan_model.proofs.Lists.{last_same}
 use Rattle.swan_model.proofs.Paths.{path_is-itself, same_path}
 use Rattle.swan_model.proofs.ScriptSteps.{at_next, point_rises, spawn_moves}

@@ -13,7 +13,7 @@ use Rattle.swan_model.specs.SerialTime.{Progress, Reading, frame_of, point}
 use Rattle.swan_model.specs.Told.{cell, is_same}
 use Rattle.swan_model.specs.Versions.{settled, Placed, VersionState, placed_at, with_present, written_at, after_write}
 use Rattle.swan_model.specs.VersionsFollow.{ObjectsFollow, FollowsAt}
-use Rattle.object_versions.proofs.Frames.{gone_back, gone_there, path_kept}
+use Rattle.swan_model.proofs.MovedFrames.{gone_back, gone_there, path_kept}
 use Rattle.object_versions.proofs.Differ.{not_true, settled_not-owed, writes_not-in}
 use Rattle.object_versions.proofs.PlacesAfter.{IsThere, after_present, back_present, sorted_set, still_present}
 use Rattle.object_versions.proofs.Moves.{Owes, IsOwedBy, acting, at_gone, does_now, given_stays, held_on, one_object, same_task}

@@ -9,8 +9,8 @@ use Rattle.swan_model.specs.declared.script.Script.{Script}
 use Rattle.swan_model.specs.Nested.{spawn_time}
 use Rattle.swan_model.specs.QueueFollows.{Fits, FitsFrame, queue_origin}
 use Rattle.swan_model.specs.QueueState.{ActiveFrame, QueueState, active, changed}
+use Rattle.swan_model.specs.Readings.{more_by}
 use Rattle.swan_model.specs.SerialTime.{Progress, Reading, frame_of, point, times}
-use Rattle.queues.specs.Reads.{more_by}
 use Rattle.queues.proofs.Advancing.{fits_same}
 use Rattle.swan_model.proofs.Elements.{find_map, mapped_is, some_same}
 use Rattle.queues.proofs.Refitting.{GoesTo, refits}

@@ -10,13 +10,12 @@ use Rattle.swan_model.specs.Lawful.{IsLawful}
 use Rattle.swan_model.specs.Nested.{IsEntryOf, spawn_time}
 use Rattle.swan_model.specs.QueueFollows.{AreByEnds, Fits, FitsFrame, origin_in, queue_time, queue_times}
 use Rattle.swan_model.specs.QueueState.{ActiveFrame, made_by, QueueState, active, after_back, after_create, with_deed, with_made}
-use Rattle.swan_model.specs.Readings.{gone_on, next_deed, with_queue}
+use Rattle.swan_model.specs.Readings.{gone_on, gone_on_by, next_deed, with_queue}
 use Rattle.swan_model.specs.SerialTime.{Progress, Reading, frame_of, is_queue_deed, point, times}
 use Rattle.swan_model.specs.Told.{deed_at}
 use Rattle.swan_model.proofs.Places.{passing-rises}
 use Rattle.swan_model.proofs.ScriptSteps.{point_rises}
 use Rattle.swan_model.proofs.TaskEntries.{spawn_own}
-use Rattle.queues.specs.Reads.{gone_on_by}
 use Rattle.queues.proofs.Advancing.{does_now, fits_next, fits_same, more_left}
 use Rattle.queues.proofs.Between.{deed-more, deed-place, deeds_before, is_queue_deed_of, point_left}
 use Rattle.queues.proofs.Calls.{by_end_makes}

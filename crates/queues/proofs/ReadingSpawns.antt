@@ -15,7 +15,7 @@ use Rattle.swan_model.specs.Lawful.{IsLawful}
 use Rattle.swan_model.specs.Nested.{IsEntryOf, IsSpawned, spawn_time}
 use Rattle.swan_model.specs.QueueFollows.{Fits, FitsFrame, QueuesFollow}
 use Rattle.swan_model.specs.QueueState.{ActiveFrame, QueueRight, QueueState, active, after_spawn, changing, child_of, with_deed}
-use Rattle.swan_model.specs.Readings.{next_deed, spawned}
+use Rattle.swan_model.specs.Readings.{more_by, next_deed, spawned}
 use Rattle.swan_model.specs.SerialTime.{Progress, Reading, frame_of, point, times}
 use Rattle.swan_model.proofs.Lists.{last_same}
 use Rattle.swan_model.proofs.Paths.{not_below-itself}
@@ -23,7 +23,6 @@ use Rattle.swan_model.proofs.Places.{passing, placed}
 use Rattle.swan_model.proofs.Points.{is_past-child, same_frame}
 use Rattle.swan_model.proofs.ScriptSteps.{IsSpawnOf, spawn_moves}
 use Rattle.swan_model.proofs.TaskEntries.{is_spawn_of, spawn_own}
-use Rattle.queues.specs.Reads.{more_by}
 use Rattle.queues.proofs.Advancing.{fits_next, fits_same, more_left, own_now}
 use Rattle.queues.proofs.Continuing.{became, changed_gone, its, more_number, more_path, other_more, others_kept, own_more}
 use Rattle.swan_model.proofs.Elements.{before_more, find_map, last_more, mapped_is, more_cases, some_same}

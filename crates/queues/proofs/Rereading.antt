@@ -13,13 +13,12 @@ use Rattle.swan_model.specs.Lawful.{IsLawful}
 use Rattle.swan_model.specs.Nested.{spawn_time}
 use Rattle.swan_model.specs.QueueFollows.{Fits, FitsFrame, origin_in, queue_origin}
 use Rattle.swan_model.specs.QueueState.{ActiveFrame, LentEnd, QueueMaker, planned, QueueState, active, after_create_root, after_deed, after_finish, after_lend, after_take_rest, with_deed, with_made}
-use Rattle.swan_model.specs.Readings.{gone_on, next_deed, with_queue}
+use Rattle.swan_model.specs.Readings.{gone_on, more_by, next_deed, with_queue}
 use Rattle.swan_model.specs.SerialTime.{Progress, Reading, frame_of, is_of, is_queue_deed, point, times}
 use Rattle.swan_model.specs.Told.{deed_at}
 use Rattle.swan_model.proofs.Places.{placed}
 use Rattle.swan_model.proofs.ScriptSteps.{deed_is, moved}
 use Rattle.swan_model.proofs.TaskEntries.{is_spawn_of}
-use Rattle.queues.specs.Reads.{more_by}
 use Rattle.queues.proofs.Advancing.{does_now, fits_next, fits_same}
 use Rattle.queues.proofs.Between.{no_spawn}
 use Rattle.queues.proofs.Continuing.{KeepsOthers, WasActive, all_kept, became, changed_gone, fits_by, goes_by, others_kept}

@@ -1,5 +1,5 @@
 -- Active frames, as a full reading has them.
-use Rattle.std.specs.Prelude.{◌≡◌, ℕ, ◌+◌, ◌<◌, ◌==◌, true, List, Some, None, filter, length, map, slice_get, take, if◌then◌else◌}
+use Rattle.std.specs.Prelude.{◌≡◌, ℕ, ◌+◌, ◌<◌, true, List, Some, None, filter, length, slice_get, take}
 use Rattle.swan_model.specs.declared.script.Deed.{Deed}
 use Rattle.swan_model.specs.declared.script.Script.{Script}
 use Rattle.swan_model.specs.Lawful.{IsLawful}
@@ -58,11 +58,3 @@ pub record DiffersIdly (s : Script) (state : QueueState) (r other : Reading) : T
       → (b.number ≡ a.number) × (b.path ≡ a.path)
       × ((frame : ActiveFrame) → active state a.number ≡ Some frame → FitsFrame s frame b)
       × (active state a.number ≡ None → b.done ≡ a.done)
-
--- what a frame is once the one of this number has done so many more entries
-abbrev pub more_by : (number many : ℕ) → Progress → Progress
-more_by number many frame = if frame.number == number then record frame { done = frame.done + many } else frame
-
--- the reading once the frame of this number has done so many more entries
-abbrev pub gone_on_by : Reading → (number many : ℕ) → Reading
-gone_on_by r number many = record r { frames = map (more_by number many) r.frames }

@@ -9,9 +9,9 @@ ghost use Rattle.swan_model.specs.Granted.{is_spawn};
 ghost use Rattle.swan_model.specs.Lawful.{IsLawful};
 ghost use Rattle.swan_model.specs.QueueFollows.{AreByEnds, Fits, FitsFrame, QueuesFollow, next_queue_deed, queue_time};
 ghost use Rattle.swan_model.specs.QueueState.{ActiveFrame, LentEnd, QueueRight, QueueState, active, after_back, after_create, after_create_root, after_deed, after_finish, after_lend, after_spawn, after_take_rest, new_state};
-ghost use Rattle.swan_model.specs.Readings.{at_start, gone_on, spawned, with_queue};
+ghost use Rattle.swan_model.specs.Readings.{at_start, gone_on, gone_on_by, spawned, with_queue};
 ghost use Rattle.swan_model.specs.SerialTime.{Progress, Reading, frame_of, is_queue_deed, point, time};
-ghost use Rattle.queues.specs.Reads.{DiffersIdly, HasMore, IsAtLast, OnEntry, OnQueueStep, deeds_among, gone_on_by};
+ghost use Rattle.queues.specs.Reads.{DiffersIdly, HasMore, IsAtLast, OnEntry, OnQueueStep, deeds_among};
 
 /// The law that a reading which fits hyperqueues goes on with them. The reading of a run before its first step fits
 /// new ones. A root queue is one queue more. After a deed of queues the reading fits in which the frame has done

@@ -3,6 +3,7 @@ pub mod FirstLine
 pub mod ScriptLength
 pub mod Lists
 pub mod Lookups
+pub mod MovedFrames
 pub mod Origins
 pub mod PathOrder
 pub mod Paths

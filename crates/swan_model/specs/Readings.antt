@@ -26,6 +26,14 @@ one_more number frame = if frame.number == number then record frame { done = fra
 abbrev pub gone_on : Reading → ℕ → Reading
 gone_on r number = record r { frames = map (one_more number) r.frames }
 
+-- what a frame is once the one of this number has done so many more entries
+abbrev pub more_by : (number many : ℕ) → Progress → Progress
+more_by number many frame = if frame.number == number then record frame { done = frame.done + many } else frame
+
+-- the reading once the frame of this number has done so many more entries
+abbrev pub gone_on_by : Reading → (number many : ℕ) → Reading
+gone_on_by r number many = record r { frames = map (more_by number many) r.frames }
+
 -- the reading once a frame has done a spawn, whose child has this number
 abbrev pub spawned : Script → Reading → Progress → ℕ → Reading
 spawned s r parent child =

@@ -38,7 +38,7 @@ mod value;
 pub use body::{Answer, Ask, Body, Child, Stop, Worked};
 pub use fault::{Fault, FaultKind, Faults, Trouble};
 pub use limits::limits_of_values_and_plans;
-pub use lines::{LINES_MOST, LinesAnswer, lines_of};
+pub use lines::{LINES_MOST, LinesAnswer, first_line_len, lines_of};
 pub use listed::Listed;
 pub use meaning::{Meaning, Means};
 pub use memory::NoMemory;

@@ -42,9 +42,10 @@ fn feed_position(text: &[u8]) -> usize
     text.iter().take_while(|byte| **byte != b'\n').count()
 }
 
-// How many bytes the first line has, without its line feed.
+/// How many bytes the first line of a text has that isn't empty, without its line feed. What follows the line begins after
+/// that feed, where there is one. `O(length of the line)`.
 #[tactic(auto, using(crate::proofs::FirstLine::lines_front))]
-fn first_line_len(text: &[u8]) -> usize
+pub fn first_line_len(text: &[u8]) -> usize
     requires { 0 < length text.now }
     ensures most { result ≤ length text.now }
     ensures first { lines text.now ≡ take result text.now ∷ lines (drop (result + 1) text.now) }

@@ -59,6 +59,22 @@ impl Record {
         Ok(Record { bytes })
     }
 
+    /// A record of these bytes, without a copy. TooLong comes exactly where there are more than `RECORD_MOST` of them. The
+    /// room of the vector stays in memory as long as the record does, what it has to spare too. `O(1)`, and one allocation.
+    pub fn from_vec(bytes: Vec<u8>) -> Result<Record, RecordAnswer>
+        ensures ok { IfOk result (λ it. it ≡ bytes.items) }
+        ensures fits { IfOk result (λ _. length bytes.items ≤ RECORD_MOST) }
+        ensures too_long { result ≡ Err answer.TooLong → RECORD_MOST < length bytes.items }
+    {
+        if RECORD_MOST < bytes.len() {
+            return Err(RecordAnswer::TooLong);
+        }
+        match Bytes::from_vec(bytes) {
+            Ok(bytes) => Ok(Record { bytes }),
+            Err(_) => Err(RecordAnswer::NoMemory),
+        }
+    }
+
     // A record of bytes that are few enough.
     pub(crate) fn of_bytes(bytes: Bytes) -> Record
         requires { length bytes ≤ RECORD_MOST }

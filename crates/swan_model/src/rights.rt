@@ -1,9 +1,9 @@
 // How a task may use an object or a queue, and what it gives to a child.
-ghost use Rattle.std.specs.Prelude.{◌≡◌, ◌<◌, ◌≤◌, ◌++◌, ◌∷◌, [], length, OnOk, OnErr, IfErr, slice_get};
+ghost use Rattle.std.specs.Prelude.{◌≡◌, ◌<◌, ◌≤◌, ◌++◌, ◌∷◌, [], length, OnOk, OnErr, IfOk, IfErr, slice_get};
 ghost use Rattle.std.specs.Option.{option_copied};
 ghost use Rattle.swan_model.specs.Rights.{allows, is_queue_mode};
 
-use crate::Listed;
+use crate::{Listed, NoMemory};
 use std::alloc::Global;
 use std::marker::Model;
 
@@ -113,6 +113,16 @@ impl Gives {
         ensures handed_back { IfErr result (λ back. back ≡ give) }
     {
         self.items.push(give)
+    }
+
+    /// The same gives once more. `O(length)`, and one allocation at most.
+    pub fn copy(&self, alloc: Global) -> Result<Gives, NoMemory>
+        ensures { IfOk result (λ gives. gives ≡ self.now) }
+    {
+        let items = Vec::from_slice(alloc, self.items.as_slice())?;
+        Ok(Gives {
+            items: Listed::from_vec(items),
+        })
     }
 
     /// The gives in order, to go over. `O(1)`.

@@ -54,6 +54,7 @@ fn gives_and_roots_are_listed(rt: HostRuntime) {
     let mut gives = Gives::new(rt.alloc());
     let mode = Mode::In;
     assert!(rt; gives.push(Give { place: 0, mode }).is_ok());
+    assert!(rt; gives.copy(rt.alloc()).is_ok());
     let mut roots = Roots::new(rt.alloc());
     let items = Values::new(rt.alloc());
     let mode = Mode::Pop;
@@ -74,6 +75,7 @@ fn a_record_has_a_largest_length(rt: HostRuntime) -> Result<(), Fail> {
             answer,
             "at {len} bytes"
         );
+        assert_eq!(rt; Record::from_vec(bytes).err(), answer, "of {len} bytes");
     }
     Ok(())
 }
