@@ -1,9 +1,10 @@
 // Why there is no plan.
 ghost use Rattle.std.specs.Prelude.{◌≡◌};
+ghost use Rattle.job_body.specs.PlanOfJob.{of_input};
 ghost use Rattle.job_body.specs.declared.answer.PlanAnswer.TheVariants as answer;
 
 use std::alloc::AllocError;
-use swan_model::NoMemory;
+use swan_model::{LinesAnswer, NoMemory};
 
 /// Why there is no plan.
 #[derive(Clone, Copy, Debug, PartialEq, Eq)]
@@ -29,6 +30,19 @@ pub enum PlanAnswer {
     },
     /// Memory ran out.
     NoMemory,
+}
+
+impl PlanAnswer {
+    /// Why the input of this number, from 1 on, is refused, by what its text has. It takes no memory. `O(1)`.
+    pub fn of_input(input: u64, why: LinesAnswer) -> PlanAnswer
+        ensures { result ≡ of_input input why }
+    {
+        match why {
+            LinesAnswer::TooLong { line } => PlanAnswer::RecordTooLong { input, line },
+            LinesAnswer::TooMany => PlanAnswer::TooManyRecords { input },
+            LinesAnswer::NoMemory => PlanAnswer::NoMemory,
+        }
+    }
 }
 
 impl From<AllocError> for PlanAnswer {

@@ -1,6 +1,6 @@
 // Plans of jobs.
 ghost use Rattle.std.specs.Prelude.{◌≡◌, ◌+◌, ◌<◌, ◌≤◌, ◌⊎◌, IsTrue, ◌++◌, ◌∷◌, [], length, filter, IfOk, IfErr, Some, None, Option};
-ghost use Rattle.job_body.specs.PlanOfJob.{first_refused, input_count, is_input, items_of, of_input, or_refused, plan_of_job, refusal_of_plan, root_objects, root_queues};
+ghost use Rattle.job_body.specs.PlanOfJob.{first_refused, input_count, is_input, items_of, or_refused, plan_of_job, refusal_of_plan, root_objects, root_queues};
 ghost use Rattle.job_body.specs.RightsKept.{KeepsRights};
 ghost use Rattle.job_body.specs.Tasks.{before_task, top_lines};
 ghost use Rattle.job_body.specs.declared.answer.PlanAnswer.{PlanAnswer};
@@ -16,8 +16,8 @@ use job_reader::Line;
 use privilege_check::CheckedJob;
 use std::alloc::Global;
 use swan_model::{
-    Blob, Body, FIRST_ITEMS_MOST, FUEL_MOST, Kind, LinesAnswer, Mode, NoMemory, Plan, PlanFuel,
-    ROOTS_MOST, RootQueue, Roots, Value, Values, lines_of,
+    Blob, Body, FIRST_ITEMS_MOST, FUEL_MOST, Kind, Mode, NoMemory, Plan, PlanFuel, ROOTS_MOST,
+    RootQueue, Roots, Value, Values, lines_of,
 };
 
 /// How many inputs a job has.
@@ -59,20 +59,6 @@ fn with_object(alloc: Global, mut roots: Roots, kind: Kind) -> Result<Roots, NoM
     }
 }
 
-/// Why an input is refused, by its number.
-fn answer_of(number: u64, why: LinesAnswer) -> PlanAnswer
-    ensures { result ≡ of_input number why }
-{
-    match why {
-        LinesAnswer::TooLong { line } => PlanAnswer::RecordTooLong {
-            input: number,
-            line,
-        },
-        LinesAnswer::TooMany => PlanAnswer::TooManyRecords { input: number },
-        LinesAnswer::NoMemory => PlanAnswer::NoMemory,
-    }
-}
-
 /// The items of the input with this number.
 fn items_of(alloc: Global, number: u64, input: &Blob) -> Result<Values, PlanAnswer>
     ensures items { IfOk result (λ items. items ≡ items_of input.now) }
@@ -82,7 +68,7 @@ fn items_of(alloc: Global, number: u64, input: &Blob) -> Result<Values, PlanAnsw
 {
     match lines_of(alloc, input.as_slice()) {
         Ok(items) => Ok(items),
-        Err(why) => Err(answer_of(number, why)),
+        Err(why) => Err(PlanAnswer::of_input(number, why)),
     }
 }
 

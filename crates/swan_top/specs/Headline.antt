@@ -22,6 +22,10 @@ pub record SinkSeen : Type 0 where
 abbrev pub seen_of : Option (List ℕ) → Option (List ℕ) → ℕ → ℕ → SinkSeen
 seen_of before after faults_before faults_after = record { before = before; after = after; faults_before = faults_before; faults_after = faults_after }
 
+-- that of a sink before a call and after it
+abbrev pub sink_over : {S : Type 0} → (S → Option (List ℕ)) → (S → ℕ) → (before after : S) → SinkSeen
+sink_over written faults before after = seen_of (written before) (written after) (faults before) (faults after)
+
 abbrev pub Took : SinkSeen → List ℕ → Type 0
 Took sink text = Appends sink.before text sink.after
 
@@ -65,6 +69,10 @@ pub record FilesSeen : Type 0 where
 abbrev pub files_seen : (List ℕ → Option (List ℕ)) → ℕ → ℕ → ℕ → ℕ → FilesSeen
 files_seen content faults_before faults_after long_before long_after =
     record { content = content; faults_before = faults_before; faults_after = faults_after; long_before = long_before; long_after = long_after }
+
+-- that of files before a call and after it
+abbrev pub files_over : {F : Type 0} → (F → List ℕ → Option (List ℕ)) → (faults long_reads : F → ℕ) → (before after : F) → FilesSeen
+files_over content faults long_reads before after = files_seen (content before) (faults before) (faults after) (long_reads before) (long_reads after)
 
 -- A text was read: it is within the limit of files, and it is the told content, where one is told.
 pub record IsRead (content : Option (List ℕ)) (text : List ℕ) : Type 0 where

@@ -4,7 +4,7 @@ ghost use Rattle.swan_outside.specs.Honest.{HonestFilesState, HonestSinkState};
 ghost use Rattle.swan_top.specs.Command.{Command, command};
 ghost use Rattle.swan_top.specs.Completeness.{CompletesWell, EndsWell, NothingFailed};
 ghost use Rattle.swan_top.specs.Elisions.{elisions};
-ghost use Rattle.swan_top.specs.Headline.{Answers, files_seen, seen_of};
+ghost use Rattle.swan_top.specs.Headline.{Answers, files_over, sink_over};
 ghost use Rattle.swan_top.specs.declared.status.Status.{Status};
 
 use crate::{Status, swan};
@@ -22,23 +22,23 @@ pub fn honest_calls_end_well()
     ensures nothing_fails { (files files' : HonestFilesState) (out out' report report' : HonestSinkState) →
         let F = ⟦<HonestFiles as Files>⟧ in let S = ⟦<HonestSink as Sink>⟧ in
         NothingFailed
-        (files_seen (F.content files) (F.faults files) (F.faults files') (F.long_reads files) (F.long_reads files'))
-        (seen_of (S.written out) (S.written out') (S.faults out) (S.faults out'))
-        (seen_of (S.written report) (S.written report') (S.faults report) (S.faults report')) }
+        (files_over F.content F.faults F.long_reads files files')
+        (sink_over S.written S.faults out out')
+        (sink_over S.written S.faults report report') }
     ensures ends_well { (files files' : HonestFilesState) (out out' report report' : HonestSinkState)
         (asked : Option Command) (ends : Status) →
         let F = ⟦<HonestFiles as Files>⟧ in let S = ⟦<HonestSink as Sink>⟧ in
-        let seen = files_seen (F.content files) (F.faults files) (F.faults files') (F.long_reads files) (F.long_reads files') in
-        let printed = seen_of (S.written out) (S.written out') (S.faults out) (S.faults out') in
-        let written = seen_of (S.written report) (S.written report') (S.faults report) (S.faults report') in
+        let seen = files_over F.content F.faults F.long_reads files files' in
+        let printed = sink_over S.written S.faults out out' in
+        let written = sink_over S.written S.faults report report' in
         Answers elisions seen printed written asked ends
         → EndsWell seen printed written asked ends }
     ensures completes { (files files' : HonestFilesState) (out out' report report' : HonestSinkState)
         (asked : Option Command) (ends : Status) →
         let F = ⟦<HonestFiles as Files>⟧ in let S = ⟦<HonestSink as Sink>⟧ in
-        let seen = files_seen (F.content files) (F.faults files) (F.faults files') (F.long_reads files) (F.long_reads files') in
-        let printed = seen_of (S.written out) (S.written out') (S.faults out) (S.faults out') in
-        let written = seen_of (S.written report) (S.written report') (S.faults report) (S.faults report') in
+        let seen = files_over F.content F.faults F.long_reads files files' in
+        let printed = sink_over S.written S.faults out out' in
+        let written = sink_over S.written S.faults report report' in
         Answers elisions seen printed written asked ends
         → CompletesWell elisions seen printed written asked ends }
 {}
@@ -57,15 +57,15 @@ pub fn honest_call(
 ) -> Status
     ensures ends_well { let F = ⟦<HonestFiles as Files>⟧ in let S = ⟦<HonestSink as Sink>⟧ in
         EndsWell
-        (files_seen (F.content files.old) (F.faults files.old) (F.faults files.new) (F.long_reads files.old) (F.long_reads files.new))
-        (seen_of (S.written out.old) (S.written out.new) (S.faults out.old) (S.faults out.new))
-        (seen_of (S.written report.old) (S.written report.new) (S.faults report.old) (S.faults report.new))
+        (files_over F.content F.faults F.long_reads files.old files.new)
+        (sink_over S.written S.faults out.old out.new)
+        (sink_over S.written S.faults report.old report.new)
         (command words.now) result }
     ensures completes { let F = ⟦<HonestFiles as Files>⟧ in let S = ⟦<HonestSink as Sink>⟧ in
         CompletesWell elisions
-        (files_seen (F.content files.old) (F.faults files.old) (F.faults files.new) (F.long_reads files.old) (F.long_reads files.new))
-        (seen_of (S.written out.old) (S.written out.new) (S.faults out.old) (S.faults out.new))
-        (seen_of (S.written report.old) (S.written report.new) (S.faults report.old) (S.faults report.new))
+        (files_over F.content F.faults F.long_reads files.old files.new)
+        (sink_over S.written S.faults out.old out.new)
+        (sink_over S.written S.faults report.old report.new)
         (command words.now) result }
 {
     honest_calls_end_well();

@@ -1,7 +1,7 @@
 // Reading the inputs of a job.
 ghost use Rattle.std.specs.Prelude.{◌≡◌, ℕ, List, Some, None, IfOk, OnOk, IfErr};
 ghost use Rattle.swan_top.specs.Decision.{unread};
-ghost use Rattle.swan_top.specs.Headline.{AreRead, ReadRefused, files_seen};
+ghost use Rattle.swan_top.specs.Headline.{AreRead, ReadRefused, files_over};
 ghost use Rattle.swan_top.specs.Settled.{StopsOver, InputRefused};
 
 use crate::read::read_file;
@@ -18,8 +18,7 @@ pub(crate) fn read_inputs<F: Files>(
 ) -> Result<Vec<Blob>, Stop>
     ensures read { IfOk result (λ inputs. AreRead (F.content files.old) names.now inputs.items) }
     ensures all { IfOk result (λ inputs. unread names.now inputs.items ≡ None) }
-    ensures refused { let seen = files_seen (F.content files.old) (F.faults files.old) (F.faults files.new)
-        (F.long_reads files.old) (F.long_reads files.new) in
+    ensures refused { let seen = files_over F.content F.faults F.long_reads files.old files.new in
         IfErr result (λ stop. StopsOver seen (InputRefused seen names.now) stop) }
     ensures no_fault { OnOk result (F.faults files.new ≡ F.faults files.old) }
     ensures no_long_read { OnOk result (F.long_reads files.new ≡ F.long_reads files.old) }

@@ -1,7 +1,7 @@
 // Reading files.
 ghost use Rattle.std.specs.Prelude.{◌≡◌, ◌+◌, ◌≤◌, ℕ, List, [], length, vec_capacity, Some, None, IfOk, OnOk, IfErr};
 ghost use Rattle.swan_top.specs.Decision.{refuses};
-ghost use Rattle.swan_top.specs.Headline.{IsRead, ReadRefused, files_seen};
+ghost use Rattle.swan_top.specs.Headline.{IsRead, ReadRefused, files_over};
 ghost use Rattle.swan_top.specs.Refusals.{file_line};
 ghost use Rattle.swan_top.specs.Settled.{StopsOver, StopsWith};
 ghost use Rattle.swan_top.specs.declared.status.Status.TheVariants as status;
@@ -54,8 +54,7 @@ pub(crate) fn read_file<F: Files>(
     file: &Word,
 ) -> Result<Vec<u8>, Stop>
     ensures read { IfOk result (λ text. IsRead (F.content files.old file.now) text.items) }
-    ensures refused { let seen = files_seen (F.content files.old) (F.faults files.old) (F.faults files.new)
-        (F.long_reads files.old) (F.long_reads files.new) in
+    ensures refused { let seen = files_over F.content F.faults F.long_reads files.old files.new in
         IfErr result (λ stop. StopsOver seen (ReadRefused seen file.now) stop) }
     ensures no_fault { OnOk result (F.faults files.new ≡ F.faults files.old) }
     ensures no_long_read { OnOk result (F.long_reads files.new ≡ F.long_reads files.old) }

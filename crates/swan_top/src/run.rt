@@ -55,17 +55,6 @@ fn run_plan<B: Body>(alloc: Global, plan: Plan<B>, names: &Names) -> Result<Sett
     Ok(Settled::Prints { out, report, ends })
 }
 
-// Why a text that is the one input is refused.
-fn unfit(why: LinesAnswer) -> PlanAnswer
-    ensures { result ≡ of_input 1 why }
-{
-    match why {
-        LinesAnswer::TooLong { line } => PlanAnswer::RecordTooLong { input: 1, line },
-        LinesAnswer::TooMany => PlanAnswer::TooManyRecords { input: 1 },
-        LinesAnswer::NoMemory => PlanAnswer::NoMemory,
-    }
-}
-
 // Runs the plan of a text, or refuses the text as an input.
 pub(crate) fn run_text<B: Body>(
     alloc: Global,
@@ -79,7 +68,7 @@ pub(crate) fn run_text<B: Body>(
     match plan {
         Ok(plan) => Ok(run_plan(alloc, plan, names)?),
         Err(LinesAnswer::NoMemory) => Err(Stop::NoMemory),
-        Err(why) => Err(refuse_inputs(alloc, unfit(why))),
+        Err(why) => Err(refuse_inputs(alloc, PlanAnswer::of_input(1, why))),
     }
 }
 

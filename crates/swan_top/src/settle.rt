@@ -5,7 +5,7 @@ ghost use Rattle.swan_model.specs.declared.plan.TheConstants.{FUEL_MOST};
 ghost use Rattle.swan_top.specs.Command.{asked, IsWithinLimits};
 ghost use Rattle.swan_top.specs.Decision.{checked, generated, settled, next_of_check, next_of_run, next_of_text, prints};
 ghost use Rattle.swan_top.specs.Elisions.{converted, elisions, indexed};
-ghost use Rattle.swan_top.specs.Headline.{Leads, Settles, files_seen};
+ghost use Rattle.swan_top.specs.Headline.{Leads, Settles, files_over};
 ghost use Rattle.swan_top.specs.Settled.{Is, Stops, StopsOver, verdict_of};
 ghost use Rattle.swan_top.specs.declared.status.Status.TheVariants as status;
 
@@ -49,11 +49,9 @@ fn settle_checked(alloc: Global, job: &CheckedJob) -> Result<Settled, Stop>
 
 // What the check of a job leads to.
 fn settle_check<F: Files>(alloc: Global, files: &mut F, job: &Word) -> Result<Settled, Stop>
-    ensures ok { IfOk result (Is (Leads (files_seen (F.content files.old)
-        (F.faults files.old) (F.faults files.new) (F.long_reads files.old) (F.long_reads files.new))
+    ensures ok { IfOk result (Is (Leads (files_over F.content F.faults F.long_reads files.old files.new)
         (job.now ∷ []) (next_of_check job.now))) }
-    ensures err { let seen = files_seen (F.content files.old) (F.faults files.old) (F.faults files.new)
-        (F.long_reads files.old) (F.long_reads files.new) in
+    ensures err { let seen = files_over F.content F.faults F.long_reads files.old files.new in
         IfErr result (StopsOver seen (Leads seen (job.now ∷ []) (next_of_check job.now))) }
 {
     let text = read_file(alloc, files, job)?;
@@ -70,11 +68,9 @@ fn settle_run<F: Files>(
     inputs: &[Word],
 ) -> Result<Settled, Stop>
     requires { fuel ≤ FUEL_MOST }
-    ensures ok { IfOk result (Is (Leads (files_seen (F.content files.old)
-        (F.faults files.old) (F.faults files.new) (F.long_reads files.old) (F.long_reads files.new))
+    ensures ok { IfOk result (Is (Leads (files_over F.content F.faults F.long_reads files.old files.new)
         (job.now ∷ inputs.now) (next_of_run elisions.of_job fuel job.now inputs.now))) }
-    ensures err { let seen = files_seen (F.content files.old) (F.faults files.old) (F.faults files.new)
-        (F.long_reads files.old) (F.long_reads files.new) in
+    ensures err { let seen = files_over F.content F.faults F.long_reads files.old files.new in
         IfErr result (StopsOver seen (Leads seen (job.now ∷ inputs.now)
         (next_of_run elisions.of_job fuel job.now inputs.now))) }
 {
@@ -86,11 +82,9 @@ fn settle_run<F: Files>(
 
 // What the index of a file leads to.
 fn settle_index<F: Files>(alloc: Global, files: &mut F, input: &Word) -> Result<Settled, Stop>
-    ensures ok { IfOk result (Is (Leads (files_seen (F.content files.old)
-        (F.faults files.old) (F.faults files.new) (F.long_reads files.old) (F.long_reads files.new))
+    ensures ok { IfOk result (Is (Leads (files_over F.content F.faults F.long_reads files.old files.new)
         (input.now ∷ []) (next_of_text (indexed elisions) input.now))) }
-    ensures err { let seen = files_seen (F.content files.old) (F.faults files.old) (F.faults files.new)
-        (F.long_reads files.old) (F.long_reads files.new) in
+    ensures err { let seen = files_over F.content F.faults F.long_reads files.old files.new in
         IfErr result (StopsOver seen (Leads seen (input.now ∷ [])
         (next_of_text (indexed elisions) input.now))) }
 {
@@ -103,11 +97,9 @@ fn settle_index<F: Files>(alloc: Global, files: &mut F, input: &Word) -> Result<
 
 // What the conversion of a file leads to.
 fn settle_convert<F: Files>(alloc: Global, files: &mut F, input: &Word) -> Result<Settled, Stop>
-    ensures ok { IfOk result (Is (Leads (files_seen (F.content files.old)
-        (F.faults files.old) (F.faults files.new) (F.long_reads files.old) (F.long_reads files.new))
+    ensures ok { IfOk result (Is (Leads (files_over F.content F.faults F.long_reads files.old files.new)
         (input.now ∷ []) (next_of_text (converted elisions) input.now))) }
-    ensures err { let seen = files_seen (F.content files.old) (F.faults files.old) (F.faults files.new)
-        (F.long_reads files.old) (F.long_reads files.new) in
+    ensures err { let seen = files_over F.content F.faults F.long_reads files.old files.new in
         IfErr result (StopsOver seen (Leads seen (input.now ∷ [])
         (next_of_text (converted elisions) input.now))) }
 {
@@ -136,10 +128,8 @@ pub(crate) fn settle<F: Files>(
     command: Command<'_>,
 ) -> Result<Settled, Stop>
     requires { IsWithinLimits (asked command) }
-    ensures ok { IfOk result (Is (Settles elisions (files_seen (F.content files.old)
-        (F.faults files.old) (F.faults files.new) (F.long_reads files.old) (F.long_reads files.new)) (asked command.entry))) }
-    ensures err { let seen = files_seen (F.content files.old) (F.faults files.old) (F.faults files.new)
-        (F.long_reads files.old) (F.long_reads files.new) in
+    ensures ok { IfOk result (Is (Settles elisions (files_over F.content F.faults F.long_reads files.old files.new) (asked command.entry))) }
+    ensures err { let seen = files_over F.content F.faults F.long_reads files.old files.new in
         IfErr result (StopsOver seen (Settles elisions seen (asked command.entry))) }
 {
     match command {

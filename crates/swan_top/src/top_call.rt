@@ -4,7 +4,7 @@ ghost use Rattle.swan_top.specs.Command.{command, IsWithinLimits};
 ghost use Rattle.swan_top.specs.Completeness.{Completes};
 ghost use Rattle.swan_top.specs.Elisions.{elisions};
 ghost use Rattle.swan_top.specs.Generated.{NeverRefused};
-ghost use Rattle.swan_top.specs.Headline.{Answers, files_seen, seen_of};
+ghost use Rattle.swan_top.specs.Headline.{Answers, files_over, sink_over};
 ghost use Rattle.swan_top.specs.Pipelines.{WroteOfText};
 
 use crate::settle::settle;
@@ -51,23 +51,23 @@ pub fn swan<F: Files, O: Sink, R: Sink>(
     report: &mut R,
 ) -> Status
     ensures answered { Answers elisions
-        (files_seen (F.content files.old) (F.faults files.old) (F.faults files.new) (F.long_reads files.old) (F.long_reads files.new))
-        (seen_of (O.written out.old) (O.written out.new) (O.faults out.old) (O.faults out.new))
-        (seen_of (R.written report.old) (R.written report.new) (R.faults report.old) (R.faults report.new))
+        (files_over F.content F.faults F.long_reads files.old files.new)
+        (sink_over O.written O.faults out.old out.new)
+        (sink_over R.written R.faults report.old report.new)
         (command words.now) result }
     ensures complete { Completes elisions
-        (files_seen (F.content files.old) (F.faults files.old) (F.faults files.new) (F.long_reads files.old) (F.long_reads files.new))
-        (seen_of (O.written out.old) (O.written out.new) (O.faults out.old) (O.faults out.new))
-        (seen_of (R.written report.old) (R.written report.new) (R.faults report.old) (R.faults report.new))
+        (files_over F.content F.faults F.long_reads files.old files.new)
+        (sink_over O.written O.faults out.old out.new)
+        (sink_over R.written R.faults report.old report.new)
         (command words.now) result }
     ensures written_of_text { WroteOfText
-        (files_seen (F.content files.old) (F.faults files.old) (F.faults files.new) (F.long_reads files.old) (F.long_reads files.new))
-        (seen_of (O.written out.old) (O.written out.new) (O.faults out.old) (O.faults out.new))
-        (seen_of (R.written report.old) (R.written report.new) (R.faults report.old) (R.faults report.new))
+        (files_over F.content F.faults F.long_reads files.old files.new)
+        (sink_over O.written O.faults out.old out.new)
+        (sink_over R.written R.faults report.old report.new)
         (command words.now) result }
     ensures never_refused { NeverRefused elisions
-        (seen_of (O.written out.old) (O.written out.new) (O.faults out.old) (O.faults out.new))
-        (seen_of (R.written report.old) (R.written report.new) (R.faults report.old) (R.faults report.new))
+        (sink_over O.written O.faults out.old out.new)
+        (sink_over R.written R.faults report.old report.new)
         (command words.now) result }
 {
     // what the pipelines leave is what they are for, and the generated job is in order
@@ -86,9 +86,9 @@ fn follow<F: Files, O: Sink, R: Sink>(
     report: &mut R,
 ) -> Status
     ensures answered { Answers elisions
-        (files_seen (F.content files.old) (F.faults files.old) (F.faults files.new) (F.long_reads files.old) (F.long_reads files.new))
-        (seen_of (O.written out.old) (O.written out.new) (O.faults out.old) (O.faults out.new))
-        (seen_of (R.written report.old) (R.written report.new) (R.faults report.old) (R.faults report.new))
+        (files_over F.content F.faults F.long_reads files.old files.new)
+        (sink_over O.written O.faults out.old out.new)
+        (sink_over R.written R.faults report.old report.new)
         (command words.now) result }
     ensures within_limits { IfSome (command words.now) IsWithinLimits }
 {

@@ -1,7 +1,7 @@
 // Writing what was settled.
 ghost use Rattle.std.specs.Prelude.{◌≡◌};
 ghost use Rattle.swan_top.specs.Decision.{prints, refuses};
-ghost use Rattle.swan_top.specs.Headline.{Ends, seen_of};
+ghost use Rattle.swan_top.specs.Headline.{Ends, sink_over};
 ghost use Rattle.swan_top.specs.Settled.{EndsSo, IsEnd, verdict_of};
 
 use crate::Status;
@@ -18,8 +18,8 @@ fn write_texts<O: Sink, R: Sink>(
 ) -> Status
     requires { IsEnd ends }
     ensures { Ends
-        (seen_of (O.written out.old) (O.written out.new) (O.faults out.old) (O.faults out.new))
-        (seen_of (R.written report.old) (R.written report.new) (R.faults report.old) (R.faults report.new))
+        (sink_over O.written O.faults out.old out.new)
+        (sink_over R.written R.faults report.old report.new)
         (prints out_text.now report_text.now ends) result }
 {
     if put_all(out, out_text).is_err() {
@@ -40,8 +40,8 @@ pub(crate) fn write_line<O: Sink, R: Sink>(
 ) -> Status
     requires { IsEnd ends }
     ensures { Ends
-        (seen_of (O.written _out.old) (O.written _out.new) (O.faults _out.old) (O.faults _out.new))
-        (seen_of (R.written report.old) (R.written report.new) (R.faults report.old) (R.faults report.new))
+        (sink_over O.written O.faults _out.old _out.new)
+        (sink_over R.written R.faults report.old report.new)
         (refuses line.now ends) result }
 {
     if put_all(report, line).is_err() {
@@ -58,8 +58,8 @@ pub(crate) fn write_settled<O: Sink, R: Sink>(
 ) -> Status
     requires { EndsSo settled.now }
     ensures { Ends
-        (seen_of (O.written out.old) (O.written out.new) (O.faults out.old) (O.faults out.new))
-        (seen_of (R.written report.old) (R.written report.new) (R.faults report.old) (R.faults report.new))
+        (sink_over O.written O.faults out.old out.new)
+        (sink_over R.written R.faults report.old report.new)
         (verdict_of settled.now) result }
 {
     match settled {
