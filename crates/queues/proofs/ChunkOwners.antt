@@ -1,11 +1,11 @@
 -- Who owns the chunks after an item came in or went out, after one was closed, and after one was handed on.
-use Rattle.std.proofs.Common.{◌≡◌, ℕ, zero, suc, ◌<◌, ◌≤◌, Bool, true, false, cond, nat_eq, Option, None, Some, List, [], ◌∷◌, ◌++◌, refl, sym, ap, ◌∙◌, arith}
+use Rattle.std.proofs.Common.{◌≡◌, ℕ, zero, suc, ◌<◌, ◌≤◌, Bool, true, false, cond, nat_eq, Option, None, Some, List, [], ◌∷◌, ◌++◌, length, refl, sym, ap, ◌∙◌, arith}
 use Rattle.std.proofs.lemmas.Bool.{eqb-true, eq-eqb, false≢true}
 use Rattle.std.proofs.lemmas.Option.{same_Some}
 use Rattle.std.specs.Option.{option_map_or}
 use Rattle.swan_model.specs.declared.value.Value.{Value}
 use Rattle.queues.specs.Chunks.{Chunk, Chunks, after_close, after_hand_on, is_owned, is_spent, own, without_spent, with_item, without_first}
-use Rattle.queues.proofs.Owners.{AreOrdered, ordered_rest, owner_at}
+use Rattle.queues.proofs.Owners.{AreOrdered, ordered_left_out, owner_at}
 
 pub owned_by : (number : ℕ) (owner : Option ℕ) → option_map_or (λ o. nat_eq o number) owner false ≡ true → owner ≡ Some number
 owned_by number None is = absurd (false≢true is)
@@ -32,6 +32,22 @@ owner_without_first [] index = refl
 owner_without_first (chunk ∷ chunks) zero = refl
 owner_without_first (chunk ∷ chunks) (suc later) = refl
 
+-- ---- a chunk that is left out
+
+pub owner_before : (before after : Chunks) (gone : Chunk) (index : ℕ) → index < length before → owner_at (before ++ after) index ≡ owner_at (before ++ gone ∷ after) index
+owner_before [] after gone index less = absurd (omega arith)
+owner_before (chunk ∷ before) after gone zero less = refl
+owner_before (chunk ∷ before) after gone (suc index) less = owner_before before after gone index (omega arith)
+
+pub owner_behind : (before after : Chunks) (gone : Chunk) (index : ℕ) → length before ≤ index → owner_at (before ++ after) index ≡ owner_at (before ++ gone ∷ after) (suc index)
+owner_behind [] after gone index upto = refl
+owner_behind (chunk ∷ before) after gone zero upto = absurd (omega arith)
+owner_behind (chunk ∷ before) after gone (suc index) upto = owner_behind before after gone index (omega arith)
+
+pub owner_left_out : (before after : Chunks) (gone : Chunk) → owner_at (before ++ gone ∷ after) (length before) ≡ gone.owner
+owner_left_out [] after gone = refl
+owner_left_out (chunk ∷ before) after gone = owner_left_out before after gone
+
 -- ---- spent chunks at the front
 
 spent_parts : (owner : Option ℕ) (items : List Value) → is_spent (record { owner = owner; items = items }) ≡ true → owner ≡ None
@@ -47,7 +63,8 @@ ordered_trimmed Holds [] ordered = ordered
 ordered_trimmed Holds (chunk ∷ chunks) ordered = by (is_spent chunk) refl (ordered_trimmed Holds chunks) where
   by : (b : Bool) → is_spent chunk ≡ b → (AreOrdered Holds (owner_at chunks) → AreOrdered Holds (owner_at (without_spent chunks)))
       → AreOrdered Holds (owner_at (cond b (without_spent chunks) (chunk ∷ chunks)))
-  by true spent rest = rest (ordered_rest Holds (owner_at (chunk ∷ chunks)) ordered (spent_unowned chunk spent))
+  by true spent rest =
+      rest (ordered_left_out Holds (owner_at (chunk ∷ chunks)) ordered 0 (spent_unowned chunk spent) (owner_at chunks) (λ index less. absurd (omega arith)) (λ index upto. refl))
   by false kept rest = ordered
 
 -- ---- a chunk that is closed

@@ -13,10 +13,10 @@ use Rattle.swan_model.specs.QueueState.{ActiveFrame, QueueState, active, holds_q
 use Rattle.swan_model.specs.Ripe.{push_time}
 use Rattle.swan_model.specs.Told.{first_items, pushes}
 use Rattle.swan_model.proofs.ScriptCounts.{push_before}
-use Rattle.queues.specs.Chunks.{Chunk, Chunks, HasItems, HasTaken, IsOwner, Matches, goes_on_at, goes_on_popping, is_spent, owner_of, without_spent}
+use Rattle.queues.specs.Chunks.{Chunk, Chunks, HasItems, HasTaken, IsOwner, Matches, goes_on_at, is_spent, owner_of, without_spent}
 use Rattle.queues.specs.Tells.{FindsItem, FindsNone}
 use Rattle.swan_model.proofs.Elements.{filtered_each, found_is}
-use Rattle.queues.proofs.MatchParts.{NonePops, OwnsAt, ends_before, items_from, left_is, owner_at, owns_at, taken_from, upto_is}
+use Rattle.queues.proofs.MatchParts.{NonePops, OwnsAt, ends_before, items_from, left_is, owner_at, owns_at, taken_left_out, upto_is}
 use Rattle.queues.proofs.Segments.{segment_empty, segment_first}
 use Rattle.queues.proofs.Frames.{active_number}
 
@@ -51,11 +51,7 @@ module _ (s : Script) (state : QueueState) (number : ℕ) (queue : Origin) (end 
   taken_trimmed [] at has = has
   taken_trimmed (first ∷ chunks) at has = elim (cases_Bool (is_spent first)) [
     | inl spent ↦
-        let both = spent_parts first spent in
-        let parts = taken_from s state number queue end first chunks at has in
-        let on : goes_on_popping s number queue (owner_of state first) at ≡ at = ap (λ o. goes_on_popping s number queue (owner_of state (record { owner = o; items = first.items })) at) both.0 in
-        let rest = taken_trimmed chunks (goes_on_popping s number queue (owner_of state first) at) parts.rest in
-        let here : HasTaken s state number queue end (without_spent chunks) at = subst (HasTaken s state number queue end (without_spent chunks)) on rest in
+        let here = taken_trimmed chunks at (taken_left_out s state number queue end [] chunks first at (spent_parts first spent).0 has) in
         subst (λ b. HasTaken s state number queue end (cond b (without_spent chunks) (first ∷ chunks)) at) (sym spent) here
     | inr stays ↦ subst (λ b. HasTaken s state number queue end (cond b (without_spent chunks) (first ∷ chunks)) at) (sym stays) has
   ]

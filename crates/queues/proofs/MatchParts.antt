@@ -1,5 +1,5 @@
 -- What a match says of the first chunk, and of a chunk further on.
-use Rattle.std.proofs.Common.{◌≡◌, ℕ, zero, suc, ◌<◌, ◌≤◌, inl, inr, true, false, cond, List, [], ◌∷◌, length, Option, Some, None, refl, sym, ap, subst, ◌∙◌, arith}
+use Rattle.std.proofs.Common.{◌≡◌, ℕ, zero, suc, ◌<◌, ◌≤◌, inl, inr, true, false, cond, List, [], ◌∷◌, ◌++◌, length, Option, Some, None, refl, sym, ap, subst, ◌∙◌, arith}
 use Rattle.std.proofs.lemmas.Bool.{cases_lt}
 use Rattle.std.specs.Option.{option_and_then}
 use Rattle.std.specs.Prelude.{slice_get}
@@ -87,6 +87,14 @@ module _ (s : Script) (state : QueueState) (number : ℕ) (queue : Origin) (end 
 
   pub taken_from : (first : Chunk) (chunks : Chunks) (at : ℕ) → HasTaken s state number queue end (first ∷ chunks) at → TakenFrom first chunks at
   taken_from _ _ _ (taken_chunk first chunks at pops rest) = record { pops = pops; rest = rest }
+
+  -- a chunk that nobody owns tells nothing of what is taken
+  pub taken_left_out : (before after : Chunks) (gone : Chunk) (at : ℕ) → gone.owner ≡ None → HasTaken s state number queue end (before ++ gone ∷ after) at → HasTaken s state number queue end (before ++ after) at
+  taken_left_out [] after gone at none has =
+      subst (λ (o : Option ℕ). HasTaken s state number queue end after (goes_on_popping s number queue (option_and_then (active state) o) at)) none (taken_from gone after at has).rest
+  taken_left_out (chunk ∷ before) after gone at none has =
+      let parts = taken_from chunk (before ++ gone ∷ after) at has in
+      taken_chunk chunk (before ++ after) at parts.pops (taken_left_out before after gone (goes_on_popping s number queue (owner_of state chunk) at) none parts.rest)
 
   -- a chunk ends where its owner's point is
   pub upto_is : (owner : Option ActiveFrame) (frame : ActiveFrame) (upto : ℕ) → owner ≡ Some frame → ends_at s queue owner upto → upto ≡ count_at s frame queue

@@ -1,6 +1,6 @@
 -- The owners of a queue's chunks by their places, and the holders of the queue by their paths: the owners are the holders, in serial order.
-use Rattle.std.proofs.Common.{◌≡◌, inl, inr, ℕ, zero, suc, ◌<◌, true, Option, None, Some, List, [], refl, sym, ap, subst, ◌∙◌, append-nil, arith}
-use Rattle.std.proofs.lemmas.Bool.{cases_order}
+use Rattle.std.proofs.Common.{◌≡◌, inl, inr, ℕ, suc, ◌-◌, ◌<◌, ◌≤◌, true, cond, nat_lt, Option, None, Some, List, [], refl, sym, ap, subst, ◌∙◌, append-nil, arith}
+use Rattle.std.proofs.lemmas.Bool.{cases_Bool, cases_order, ltb-false, ltb-true}
 use Rattle.std.specs.Option.{option_and_then}
 use Rattle.std.specs.Prelude.{slice_get}
 use Rattle.swan_model.specs.PathOrder.{comes_before}
@@ -103,18 +103,37 @@ module _ (Holds : ℕ → List ℕ → Type 0) (at : ℕ → Option ℕ) (ordere
         ordered.order index later number other a b less (sym (same index) ∙ one) (sym (same later) ∙ two) (was number a first) (was other b second);
   }
 
-  -- without a first chunk that nobody owns
-  pub ordered_rest : at 0 ≡ None → AreOrdered Holds (λ index. at (suc index))
-  ordered_rest none = record {
-    owners = λ index number is. ordered.owners (suc index) number is;
-    all = λ number path holds. let place = ordered.all number path holds in later number place.0 place.1;
+  -- without a chunk that nobody owns
+  pub ordered_left_out : (place : ℕ) → at place ≡ None → (now : ℕ → Option ℕ) → ((index : ℕ) → index < place → now index ≡ at index)
+      → ((index : ℕ) → place ≤ index → now index ≡ at (suc index)) → AreOrdered Holds now
+  ordered_left_out place none now before behind = record {
+    owners = λ index number is. ordered.owners (was index) number (was_at index number is);
+    all = λ number path holds. let own = ordered.all number path holds in there own.0 number own.1;
     order = λ index later number other a b less one two first second.
-        ordered.order (suc index) (suc later) number other a b (omega arith) one two first second;
+        ordered.order (was index) (was later) number other a b (rises index later less) (was_at index number one) (was_at later other two) first second;
   }
     where
-      later : (number index : ℕ) → at index ≡ Some number → (place : ℕ) × (at (suc place) ≡ Some number)
-      later number zero is = let e : None ≡ Some number = sym none ∙ is in absurd (cc)
-      later number (suc index) is = (index, is)
+      -- where a chunk stood that is at this place now
+      was : ℕ → ℕ
+      was index = cond (nat_lt index place) index (suc index)
+
+      rises : (index later : ℕ) → index < later → was index < was later
+      rises index later less = grind arith
+
+      was_at : (index number : ℕ) → now index ≡ Some number → at (was index) ≡ Some number
+      was_at index number is = elim (cases_Bool (nat_lt index place)) [
+        | inl less ↦ ap (λ b. at (cond b index (suc index))) less ∙ sym (before index (ltb-true index place less)) ∙ is
+        | inr not ↦ ap (λ b. at (cond b index (suc index))) not ∙ sym (behind index (ltb-false index place not)) ∙ is
+      ]
+
+      there : (index number : ℕ) → at index ≡ Some number → (later : ℕ) × (now later ≡ Some number)
+      there index number is = elim (cases_order index place) [
+        | inl same ↦ let e : None ≡ Some number = sym none ∙ ap at (sym same) ∙ is in absurd (cc)
+        | inr differ ↦ elim differ [
+          | inl less ↦ (index, before index less ∙ is)
+          | inr more ↦ let one : suc (index - 1) ≡ index = omega arith in (index - 1, behind (index - 1) (omega arith) ∙ ap at one ∙ is)
+        ]
+      ]
 
   -- without one that has ended
   pub ordered_without : (After : ℕ → List ℕ → Type 0) (now : ℕ → Option ℕ) (gone : ℕ)

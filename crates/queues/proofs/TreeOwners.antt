@@ -1,5 +1,5 @@
 -- The chunks of each queue stay owned by those who have it, in serial order, over each call.
-use Rattle.std.proofs.Common.{◌≡◌, ◌⊎◌, inl, ℕ, zero, suc, ◌<◌, ◌≤◌, true, false, cond, Some, List, [], ◌∷◌, length, refl, sym, ap, subst, ◌∙◌, arith}
+use Rattle.std.proofs.Common.{◌≡◌, ◌⊎◌, inl, ℕ, zero, suc, ◌<◌, ◌≤◌, true, false, cond, Some, None, List, [], ◌∷◌, ◌++◌, length, refl, sym, ap, subst, ◌∙◌, arith}
 use Rattle.std.proofs.lemmas.Bool.{cases_lt, eq-eqb, false≢true}
 use Rattle.std.proofs.lemmas.Option.{same_Some}
 use Rattle.std.specs.List.{list_any}
@@ -7,13 +7,13 @@ use Rattle.std.specs.Prelude.{◌==◌, slice_get}
 use Rattle.swan_model.specs.declared.value.Value.{Value}
 use Rattle.swan_model.specs.QueueState.{ActiveFrame, LentEnd, QueueMaker, QueueRight, QueueState, active, after_back, after_create, after_create_root, after_deed, after_finish, after_lend, after_spawn, after_take_rest, changed, IsUntouched, with_deed, with_made}
 use Rattle.queues.specs.Asks.{MayDo, MayJoin, MaySpawn}
-use Rattle.queues.specs.Chunks.{Chunks, after_close, after_hand_on, HasOwners, IsOwner, own, without_spent, with_item, without_first}
+use Rattle.queues.specs.Chunks.{Chunk, Chunks, after_close, after_hand_on, HasOwners, IsOwner, own, without_spent, with_item, without_first}
 use Rattle.queues.specs.Tree.{IsTree, has_queue, maker_path}
 use Rattle.queues.proofs.TreeCalls.{back_changed, back_now, create_changed, deed_changed, lend_changed, lent_now, maker_now, own_live, rest_changed, root_changed}
-use Rattle.queues.proofs.ChunkOwners.{closed_gone, closed_other, closed_was, ordered_trimmed, owner_with_item, owner_without_first}
+use Rattle.queues.proofs.ChunkOwners.{closed_gone, closed_other, closed_was, ordered_trimmed, owner_before, owner_behind, owner_left_out, owner_with_item, owner_without_first}
 use Rattle.queues.proofs.Frames.{active_number, same_frame}
 use Rattle.queues.proofs.QueueHolders.{changed_new, changed_still, changed_was, gone_still, gone_was, has_made, none_after_maker}
-use Rattle.queues.proofs.Owners.{has_owners, IsHolder, ordered_owners, ordered_same, ordered_without, owner_at, owns_at, owns_one}
+use Rattle.queues.proofs.Owners.{has_owners, IsHolder, ordered_left_out, ordered_owners, ordered_same, ordered_without, owner_at, owns_at, owns_one}
 use Rattle.queues.proofs.OwnersSpawned.{spawn_given, spawn_kept}
 use Rattle.queues.proofs.TreeChanged.{IsChanged, still}
 
@@ -75,6 +75,13 @@ pub owners_push : (state : QueueState) (n q : ℕ) (value : Value) (chunks : Chu
     → HasOwners (after_deed state n) q (with_item n value chunks)
 owners_push state n q value chunks tree act owners =
     owners_deed state n q chunks (with_item n value chunks) tree act (owner_with_item n value chunks) owners
+
+pub owners_left_out : (state : QueueState) (q : ℕ) (before after : Chunks) (gone : Chunk) → gone.owner ≡ None → HasOwners state q (before ++ gone ∷ after)
+    → HasOwners state q (before ++ after)
+owners_left_out state q before after gone none owners =
+    has_owners state q (before ++ after)
+    (ordered_left_out (IsHolder state q) (owner_at (before ++ gone ∷ after)) (ordered_owners state q (before ++ gone ∷ after) owners) (length before)
+    (owner_left_out before after gone ∙ none) (owner_at (before ++ after)) (owner_before before after gone) (owner_behind before after gone))
 
 pub owners_trimmed : (state : QueueState) (q : ℕ) (chunks : Chunks) → HasOwners state q chunks → HasOwners state q (without_spent chunks)
 owners_trimmed state q chunks owners =

@@ -1,4 +1,4 @@
--- Active frames, as a full reading has them.
+-- Hyperqueues that follow a script, and their active frames as a full reading has them.
 use Rattle.std.specs.Prelude.{◌≡◌, ℕ, ◌+◌, ◌<◌, true, List, Some, None, filter, length, slice_get, take}
 use Rattle.swan_model.specs.declared.script.Deed.{Deed}
 use Rattle.swan_model.specs.declared.script.Script.{Script}
@@ -9,26 +9,43 @@ use Rattle.swan_model.specs.Readings.{next_deed}
 use Rattle.swan_model.specs.SerialTime.{Progress, Reading, frame_of, is_queue_deed, time, times}
 use Rattle.swan_model.specs.Told.{deed_at}
 
--- what holds of each active frame and its progress in a reading, where hyperqueues follow a lawful script and the reading
--- fits
-abbrev pub OnRead : Script → QueueState → Reading → (ActiveFrame → Progress → Type 0) → Type 0
-OnRead s state r Holds =
-    IsLawful s → QueuesFollow s state → Fits s state r
-    → (number : ℕ) (frame : ActiveFrame) (progress : Progress) → active state number ≡ Some frame → frame_of r number ≡ Some progress
-    → Holds frame progress
+-- ---- which ones
+
+-- what holds where hyperqueues follow a lawful script
+abbrev pub OnFollowed : (Script → QueueState → Type 0) → Type 0
+OnFollowed Holds = (s : Script) (state : QueueState) → IsLawful s → QueuesFollow s state → Holds s state
+
+-- and of each active frame
+abbrev pub OnFollowedBy : (Script → QueueState → (number : ℕ) → ActiveFrame → Type 0) → Type 0
+OnFollowedBy Holds = OnFollowed (λ s state. (number : ℕ) (frame : ActiveFrame) → active state number ≡ Some frame → Holds s state number frame)
+
+-- what holds where a reading fits them
+abbrev pub OnFitting : (Script → QueueState → Reading → Type 0) → Type 0
+OnFitting Holds = (s : Script) (state : QueueState) (r : Reading) → IsLawful s → QueuesFollow s state → Fits s state r → Holds s state r
+
+-- and of each active frame and its progress there
+abbrev pub OnRead : (Script → QueueState → Reading → ActiveFrame → Progress → Type 0) → Type 0
+OnRead Holds =
+    OnFitting (λ s state r. (number : ℕ) (frame : ActiveFrame) (progress : Progress) → active state number ≡ Some frame → frame_of r number ≡ Some progress
+    → Holds s state r frame progress)
 
 -- and of each two
-abbrev pub OnTwoRead : Script → QueueState → Reading → (ActiveFrame → Progress → ActiveFrame → Progress → Type 0) → Type 0
-OnTwoRead s state r Holds =
-    OnRead s state r (λ frame progress.
-    (number : ℕ) (other : ActiveFrame) (also : Progress) → active state number ≡ Some other → frame_of r number ≡ Some also → Holds frame progress other also)
+abbrev pub OnTwoRead : (Script → QueueState → Reading → ActiveFrame → Progress → ActiveFrame → Progress → Type 0) → Type 0
+OnTwoRead Holds =
+    OnRead (λ s state r frame progress.
+    (number : ℕ) (other : ActiveFrame) (also : Progress) → active state number ≡ Some other → frame_of r number ≡ Some also → Holds s state r frame progress other also)
 
 -- what holds where a frame of the reading, of this number, has this deed as its next entry
-abbrev pub OnEntry : Script → QueueState → Reading → (ℕ → Progress → Deed → Type 0) → Type 0
-OnEntry s state r Holds =
-    IsLawful s → QueuesFollow s state → Fits s state r
-    → (number : ℕ) (progress : Progress) (does : Deed) → frame_of r number ≡ Some progress → next_deed s progress ≡ Some does
-    → Holds number progress does
+abbrev pub OnEntry : (Script → QueueState → Reading → ℕ → Progress → Deed → Type 0) → Type 0
+OnEntry Holds =
+    OnFitting (λ s state r. (number : ℕ) (progress : Progress) (does : Deed) → frame_of r number ≡ Some progress → next_deed s progress ≡ Some does
+    → Holds s state r number progress does)
+
+-- and is active, as this
+abbrev pub OnActiveEntry : (Script → QueueState → Reading → ℕ → Progress → Deed → ActiveFrame → Type 0) → Type 0
+OnActiveEntry Holds = OnEntry (λ s state r number progress does. (frame : ActiveFrame) → active state number ≡ Some frame → Holds s state r number progress does frame)
+
+-- ---- entries and readings
 
 -- how many queue deeds are among a task's first steps
 abbrev pub deeds_among : Script → List ℕ → ℕ → ℕ

@@ -58,6 +58,10 @@ pub record SpawnersHaveTurns (state : QueueState) : Type 0 where
 abbrev pub OnTree : (QueueState → Type 0) → Type 0
 OnTree Holds = (state : QueueState) → IsTree state → Holds state
 
+-- and where those that have spawned have their turns
+abbrev pub OnTurnedTree : (QueueState → Type 0) → Type 0
+OnTurnedTree Holds = OnTree (λ state. SpawnersHaveTurns state → Holds state)
+
 -- Each active frame that has its turn before a call has it after the call too, where it is active then.
 abbrev pub TurnsGoOn : (before after : QueueState) → Type 0
 TurnsGoOn before after = (number : ℕ) (frame now : ActiveFrame) → active before number ≡ Some frame → active after number ≡ Some now → HasTurn before frame → HasTurn after now

@@ -1,5 +1,5 @@
 // Laws of whose the chunks of a queue are, and of what is taken of it.
-ghost use Rattle.std.specs.Prelude.{◌≡◌, ◌≢◌, ℕ, ◌+◌, ◌<◌, ◌≤◌, List, [], ◌∷◌, None, Some, false, length, slice_get, true};
+ghost use Rattle.std.specs.Prelude.{◌≡◌, ◌≢◌, ℕ, ◌+◌, ◌<◌, ◌≤◌, List, [], ◌∷◌, ◌++◌, None, Some, false, length, slice_get, true};
 ghost use Rattle.swan_model.specs.declared.origin.Origin.{Origin};
 ghost use Rattle.swan_model.specs.declared.origin.Origin.TheVariants.{Root, Step};
 ghost use Rattle.swan_model.specs.declared.rights.Mode.TheVariants.{Pop, Push};
@@ -15,7 +15,7 @@ ghost use Rattle.swan_model.specs.Readings.{end_time};
 ghost use Rattle.swan_model.specs.SerialTime.{times};
 ghost use Rattle.swan_model.specs.Told.{count, taken};
 ghost use Rattle.queues.specs.Asks.{MayDo, MayJoin, MaySpawn};
-ghost use Rattle.queues.specs.Chunks.{Chunks, HasOwners, HasTaken, IsFirstPopper, OnOwners, OnTaken, OnTakenBy, after_close, after_hand_on, own};
+ghost use Rattle.queues.specs.Chunks.{Chunk, Chunks, HasOwners, HasTaken, IsFirstPopper, OnOwners, OnTaken, OnTakenBy, after_close, after_hand_on, own};
 ghost use Rattle.queues.specs.Tells.{FindsItem, FindsNone};
 ghost use Rattle.queues.specs.Tree.{IsTree, OnSpawn, has_queue, maker_path};
 ghost use Rattle.queues.specs.Turned.{gives_queue};
@@ -23,7 +23,8 @@ ghost use Rattle.queues.specs.Turned.{gives_queue};
 /// The law that the chunks of a queue stay owned by those who have it, in serial order. A new queue has one chunk, its
 /// maker's. At a spawn with the queue the child goes on in its parent's chunk, and the parent gets one right behind it.
 /// Where a frame ends, its chunk has no owner any more; and once the queue's maker has ended nobody has it. All other
-/// calls leave the owners. Nothing is said of items, so it is so for chunks without items too.
+/// calls leave the owners. A chunk that has no owner may be left out. Nothing is said of items, so it is so for chunks
+/// without items too.
 pub fn owners_stay()
     // a new queue, and the others beside it
     ensures create_root { (state : QueueState) (first : List Value) → IsTree state → IsUntouched state
@@ -53,6 +54,10 @@ pub fn owners_stay()
     ensures given_up { (state : QueueState) (n queue : ℕ) (maker : QueueMaker) → IsTree state → (may : MayJoin state n)
         → slice_get state.makers queue ≡ Some maker → may.frame.path ≡ maker_path maker → HasOwners (after_finish state n) queue [] }
     ensures take_rest { OnOwners (λ state queue chunks. (emptied : ℕ) → HasOwners (after_take_rest state emptied) queue chunks) }
+
+    // a chunk without an owner, that is left out
+    ensures unowned { (state : QueueState) (queue : ℕ) (before after : Chunks) (chunk : Chunk) → chunk.owner ≡ None
+        → HasOwners state queue (before ++ chunk ∷ after) → HasOwners state queue (before ++ after) }
 {}
 
 /// The law of how many items have left a queue, apart from the items themselves. It is one number, from which the script
@@ -62,7 +67,7 @@ pub fn owners_stay()
 /// point. It stays with a pop that finds none, with ends that come back and popped nothing of the queue, and with each
 /// other call. The chunks stay too but at two calls: a spawn with the queue gives the parent a chunk behind its child's
 /// (`after_hand_on`), and the end of a frame that has the queue leaves its chunk without an owner (`after_close`). There
-/// the same number holds of the new chunks.
+/// the same number holds of the new chunks. So it does where a chunk without an owner is left out.
 pub fn what_is_taken_goes_on()
     // where none before it may pop, the frame's point tells
     ensures point { OnTakenBy (λ s state number queue end chunks at n frame. (index : ℕ) → IsFirstPopper state number chunks index n frame → at ≡ taken_at s frame queue) }
@@ -109,6 +114,10 @@ pub fn what_is_taken_goes_on()
     ensures finish_aside { OnTakenBy (λ s state number queue end chunks at n frame. HasOwners state number chunks → has_queue frame number ≡ false
         → HasTaken s (after_finish state n) number queue end chunks at) }
     ensures take_rest { OnTaken (λ s state number queue end chunks at. (emptied : ℕ) → HasTaken s (after_take_rest state emptied) number queue end chunks at) }
+
+    // a chunk without an owner, that is left out
+    ensures unowned { (s : Script) (state : QueueState) (number : ℕ) (queue : Origin) (end at : ℕ) (before after : Chunks) (chunk : Chunk) → chunk.owner ≡ None
+        → HasTaken s state number queue end (before ++ chunk ∷ after) at → HasTaken s state number queue end (before ++ after) at }
 {}
 
 /// The law of how much was pushed to a queue, and popped of it, by the points of frames. By a child's first point it is as

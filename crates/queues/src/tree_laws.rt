@@ -2,37 +2,50 @@
 ghost use Rattle.std.specs.Prelude.{◌≡◌, ◌≢◌, ℕ, ◌+◌, List, None, Some, length};
 ghost use Rattle.swan_model.specs.QueueState.{ActiveFrame, HasTurn, IsUntouched, LentEnd, QueueRight, QueueState, active, after_back, after_create, after_create_root, after_deed, after_finish, after_lend, after_spawn, after_take_rest, child_of, new_state, with_deed, with_made};
 ghost use Rattle.queues.specs.Asks.{MayDo, MayJoin, MaySpawn};
-ghost use Rattle.queues.specs.Tree.{IsOnlyFrame, IsTree, OnFrames, OnSpawnOf, OnTree, SpawnersHaveTurns, TurnsGoOn};
+ghost use Rattle.queues.specs.Tree.{IsOnlyFrame, IsTree, OnFrames, OnSpawnOf, OnTree, OnTurnedTree, SpawnersHaveTurns, TurnsGoOn};
 
 /// The law that the frames of hyperqueues are a tree, at the start and after each call, whatever the name: each was
 /// spawned by an active one, whose path its own continues, siblings in the order of their numbers; and each has a
 /// queue since it made it, or since its parent gave it.
 pub fn frames_stay_a_tree()
+    // the start, and a queue that is made
     ensures start { IsTree new_state }
-    ensures create_root { (state : QueueState) → IsTree state → IsUntouched state → IsTree (after_create_root state) }
-    ensures create { (state : QueueState) (n : ℕ) → IsTree state → (act : MayDo state n) → IsTree (after_create state act.frame) }
-    ensures spawn { (state : QueueState) (n child : ℕ) (gives : List QueueRight) → IsTree state → (may : MaySpawn state n child gives)
-        → IsTree (after_spawn state may.act.frame child gives) }
-    ensures deed { (state : QueueState) (n : ℕ) → IsTree state → MayDo state n → IsTree (after_deed state n) }
-    ensures lend { (state : QueueState) (frame : ActiveFrame) (ends : List LentEnd) → IsTree state → IsTree (after_lend state frame ends) }
-    ensures back { (state : QueueState) (n deeds : ℕ) → IsTree state → IsTree (after_back state n deeds) }
-    ensures finish { (state : QueueState) (n : ℕ) → IsTree state → MayJoin state n → IsTree (after_finish state n) }
-    ensures take_rest { (state : QueueState) (queue : ℕ) → IsTree state → IsTree (after_take_rest state queue) }
+    ensures create_root { OnTree (λ state. IsUntouched state → IsTree (after_create_root state)) }
+    ensures create { OnTree (λ state. (n : ℕ) (act : MayDo state n) → IsTree (after_create state act.frame)) }
+
+    // a spawn
+    ensures spawn { OnTree (λ state. (n child : ℕ) (gives : List QueueRight) (may : MaySpawn state n child gives) → IsTree (after_spawn state may.act.frame child gives)) }
+
+    // deeds of frames, and ends that are lent and come back
+    ensures deed { OnTree (λ state. (n : ℕ) → MayDo state n → IsTree (after_deed state n)) }
+    ensures lend { OnTree (λ state. (frame : ActiveFrame) (ends : List LentEnd) → IsTree (after_lend state frame ends)) }
+    ensures back { OnTree (λ state. (n deeds : ℕ) → IsTree (after_back state n deeds)) }
+
+    // the end of a frame, and of all
+    ensures finish { OnTree (λ state. (n : ℕ) → MayJoin state n → IsTree (after_finish state n)) }
+    ensures take_rest { OnTree (λ state. (queue : ℕ) → IsTree (after_take_rest state queue)) }
 {}
 
 /// The law that each active frame that has spawned has its turn to pop, at the start and after each call, where those
 /// that spawn have theirs. What a frame does otherwise needs no turn of it.
 pub fn spawners_have_their_turns()
+    // the start, and a queue that is made
     ensures start { SpawnersHaveTurns new_state }
-    ensures create_root { (state : QueueState) → IsTree state → SpawnersHaveTurns state → SpawnersHaveTurns (after_create_root state) }
-    ensures create { (state : QueueState) (n : ℕ) → IsTree state → (act : MayDo state n) → SpawnersHaveTurns state → SpawnersHaveTurns (after_create state act.frame) }
-    ensures spawn { (state : QueueState) (n child : ℕ) (gives : List QueueRight) → IsTree state → (may : MaySpawn state n child gives) → SpawnersHaveTurns state
-        → HasTurn state may.act.frame → SpawnersHaveTurns (after_spawn state may.act.frame child gives) }
-    ensures deed { (state : QueueState) (n : ℕ) → IsTree state → MayDo state n → SpawnersHaveTurns state → SpawnersHaveTurns (after_deed state n) }
-    ensures lend { (state : QueueState) (frame : ActiveFrame) (ends : List LentEnd) → IsTree state → SpawnersHaveTurns state → SpawnersHaveTurns (after_lend state frame ends) }
-    ensures back { (state : QueueState) (n deeds : ℕ) → IsTree state → SpawnersHaveTurns state → SpawnersHaveTurns (after_back state n deeds) }
-    ensures finish { (state : QueueState) (n : ℕ) → IsTree state → MayJoin state n → SpawnersHaveTurns state → SpawnersHaveTurns (after_finish state n) }
-    ensures take_rest { (state : QueueState) (queue : ℕ) → IsTree state → SpawnersHaveTurns state → SpawnersHaveTurns (after_take_rest state queue) }
+    ensures create_root { OnTurnedTree (λ state. SpawnersHaveTurns (after_create_root state)) }
+    ensures create { OnTurnedTree (λ state. (n : ℕ) (act : MayDo state n) → SpawnersHaveTurns (after_create state act.frame)) }
+
+    // a spawn, by a frame that has its turn
+    ensures spawn { OnTurnedTree (λ state. (n child : ℕ) (gives : List QueueRight) (may : MaySpawn state n child gives) → HasTurn state may.act.frame
+        → SpawnersHaveTurns (after_spawn state may.act.frame child gives)) }
+
+    // deeds of frames, and ends that are lent and come back
+    ensures deed { OnTurnedTree (λ state. (n : ℕ) → MayDo state n → SpawnersHaveTurns (after_deed state n)) }
+    ensures lend { OnTurnedTree (λ state. (frame : ActiveFrame) (ends : List LentEnd) → SpawnersHaveTurns (after_lend state frame ends)) }
+    ensures back { OnTurnedTree (λ state. (n deeds : ℕ) → SpawnersHaveTurns (after_back state n deeds)) }
+
+    // the end of a frame, and of all
+    ensures finish { OnTurnedTree (λ state. (n : ℕ) → MayJoin state n → SpawnersHaveTurns (after_finish state n)) }
+    ensures take_rest { OnTurnedTree (λ state. (queue : ℕ) → SpawnersHaveTurns (after_take_rest state queue)) }
 {}
 
 /// The law that no call takes a turn away: an active frame that has its turn to pop has it after each call for as long

@@ -1,4 +1,4 @@
-use Rattle.queues.proofs.TreeOwners.{owners_create, owners_finish, owners_kept_back, owners_kept_create, owners_kept_deed, owners_kept_finish, owners_kept_lend, owners_kept_rest, owners_kept_root, owners_kept_spawn, owners_none, owners_root, owners_spawn}
+use Rattle.queues.proofs.TreeOwners.{owners_create, owners_finish, owners_kept_back, owners_kept_create, owners_kept_deed, owners_kept_finish, owners_kept_lend, owners_kept_rest, owners_kept_root, owners_kept_spawn, owners_left_out, owners_none, owners_root, owners_spawn}
 use Rattle.queues.proofs.owner_laws.owners_stay.Goals as goal
 
 pub returns-clause-create_root : goal.returns-clause-create_root
@@ -39,3 +39,6 @@ returns-clause-given_up c state n queue maker tree may made own = owners_none st
 
 pub returns-clause-take_rest : goal.returns-clause-take_rest
 returns-clause-take_rest c state queue chunks tree owners emptied = owners_kept_rest state emptied queue chunks tree owners
+
+pub returns-clause-unowned : goal.returns-clause-unowned
+returns-clause-unowned c state queue before after chunk none owners = owners_left_out state queue before after chunk none owners

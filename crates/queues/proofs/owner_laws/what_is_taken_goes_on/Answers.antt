@@ -1,4 +1,5 @@
 use Rattle.queues.proofs.MatchMade.{taken_create, taken_root}
+use Rattle.queues.proofs.MatchParts.{taken_left_out}
 use Rattle.queues.proofs.MatchSpawn.{taken_spawn, taken_spawn_other}
 use Rattle.queues.proofs.TakenOn.{taken_at_point, taken_back, taken_back_aside, taken_deed, taken_end, taken_end_aside, taken_lend, taken_made_aside, taken_pop, taken_rest, taken_root_aside}
 use Rattle.queues.proofs.owner_laws.what_is_taken_goes_on.Goals as goal
@@ -48,3 +49,6 @@ returns-clause-finish_aside c s state number queue end chunks at has n frame liv
 
 pub returns-clause-take_rest : goal.returns-clause-take_rest
 returns-clause-take_rest c s state number queue end chunks at has emptied = taken_rest s state number queue end at chunks has emptied
+
+pub returns-clause-unowned : goal.returns-clause-unowned
+returns-clause-unowned c s state number queue end at before after chunk none has = taken_left_out s state number queue end before after chunk at none has

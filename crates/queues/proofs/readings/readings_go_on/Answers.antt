@@ -17,7 +17,7 @@ returns-clause-create c s state r lawful follows fits number progress does known
     made_fits s lawful state r fits progress frame number live known (next ∙ ap Some is)
 
 pub returns-clause-spawn : goal.returns-clause-spawn
-returns-clause-spawn c s state r lawful follows fits number progress does known next parent child all gives live is free unread =
+returns-clause-spawn c s state r lawful follows fits number progress does known next parent live child all gives is free unread =
     spawned_fits s lawful state follows r fits number child parent progress all gives live known free unread (next ∙ ap Some is)
 
 pub returns-clause-deed : goal.returns-clause-deed
@@ -29,10 +29,10 @@ returns-clause-others c s state r lawful follows fits number progress does known
     others_fit s lawful state r fits number progress known does objects next quiet left
 
 pub returns-clause-objects : goal.returns-clause-objects
-returns-clause-objects c s state r objects lawful follows fits = objects_fit s state r fits objects
+returns-clause-objects c s state r lawful follows fits objects = objects_fit s state r fits objects
 
 pub returns-clause-agree : goal.returns-clause-agree
-returns-clause-agree c s state r other lawful follows fits differs = agree_fits s lawful state r other fits differs
+returns-clause-agree c s state r lawful follows fits other differs = agree_fits s lawful state r other fits differs
 
 pub returns-clause-finish : goal.returns-clause-finish
 returns-clause-finish c s state r lawful follows fits number progress does known next quiet last =
@@ -43,11 +43,11 @@ returns-clause-last_pop c s state r lawful follows fits number progress does kno
     last_pop-fits s lawful state r fits number progress known queue (next ∙ ap Some is) last
 
 pub returns-clause-lend : goal.returns-clause-lend
-returns-clause-lend c s state r frame ends lawful follows fits = lent_fits s state r fits frame ends
+returns-clause-lend c s state r lawful follows fits frame ends = lent_fits s state r fits frame ends
 
 pub returns-clause-back : goal.returns-clause-back
-returns-clause-back c s state r number deeds many frame progress lawful follows fits live known ends fit =
+returns-clause-back c s state r lawful follows fits number deeds many frame progress live known ends fit =
     back_fits s lawful state r fits number deeds many frame progress live known ends fit
 
 pub returns-clause-take_rest : goal.returns-clause-take_rest
-returns-clause-take_rest c s state r queue lawful follows fits = rest_fits s state r fits queue
+returns-clause-take_rest c s state r lawful follows fits queue = rest_fits s state r fits queue
