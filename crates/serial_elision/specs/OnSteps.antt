@@ -1,5 +1,5 @@
 -- What the laws of tasks say: of each step of a task, and of each at which its body asks for something.
-use Rattle.std.specs.Prelude.{◌≡◌, ℕ, ◌<◌, ◌≤◌, Option, Some, List}
+use Rattle.std.specs.Prelude.{◌≡◌, ℕ, ◌+◌, ◌<◌, ◌≤◌, Option, Some, List}
 use Rattle.swan_model.specs.declared.body.Answer.{Answer}
 use Rattle.swan_model.specs.declared.body.Ask.{Ask}
 use Rattle.swan_model.specs.declared.body.Ask.TheVariants.{Spawn}
@@ -14,10 +14,10 @@ use Rattle.swan_model.specs.declared.script.OriginGive.{OriginGive}
 use Rattle.swan_model.specs.Roots.{IsWithinBounds}
 use Rattle.swan_model.specs.Script.{script}
 use Rattle.swan_model.specs.SerialState.{Activation, Holding}
-use Rattle.swan_model.specs.SerialStep.{given}
+use Rattle.swan_model.specs.SerialStep.{Effect, given}
 use Rattle.swan_model.specs.SerialTime.{time}
 use Rattle.swan_model.specs.Told.{count, taken}
-use Rattle.swan_model.specs.TrueFrames.{StandsAt, gives_at}
+use Rattle.swan_model.specs.TrueFrames.{StandsAt, effect_at, gives_at}
 use Rattle.serial_elision.specs.TaskSteps.{Faults, GetsPlace, GoesOn, IsAsking, MayUseAt}
 
 -- the plan's lists are within their bounds, as those of each plan that is made are
@@ -72,6 +72,14 @@ module _ {B L : Type 0} (G : Ghosts B L) where
   OnSpawn child Holds = OnAsk (Spawn child) (λ at. (holdings : List Holding) → given at.of.top.holdings child.gives ≡ Some holdings → Holds at holdings)
 
   -- ---- what they are
+
+  -- what the step does
+  abbrev pub does_at : TaskStep B L → Effect L
+  does_at at = effect_at G at.plan at.path at.k at.top
+
+  -- the task stands so at its next step
+  abbrev pub StandsNext : TaskStep B L → Activation L → Type 0
+  StandsNext at next = StandsAt G at.plan at.path (at.k + 1) next
 
   -- what the task holds, named by what made it
   abbrev pub names_at : TaskStep B L → List (Option OriginGive)

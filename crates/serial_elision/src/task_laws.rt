@@ -29,7 +29,7 @@ ghost use Rattle.swan_model.specs.declared.plan.TheConstants.{FUEL_MOST, ROOTS_M
 ghost use Rattle.swan_model.specs.declared.rights.TheConstants.{GIVES_MOST};
 ghost use Rattle.swan_model.specs.declared.rights.Give.{Give};
 ghost use Rattle.serial_elision.specs.Laws.{AreEachOnce, AreInOrder, IsObjectOf, IsQueueOf};
-ghost use Rattle.serial_elision.specs.OnSteps.{Answers, EndsBy, IsBounded, IsItemLeft, IsNoneLeft, MakesPlace, OnAsk, OnBoundedAsk, OnBoundedStep, OnSpawn, OnStep, OnUse, names_at};
+ghost use Rattle.serial_elision.specs.OnSteps.{Answers, EndsBy, IsBounded, IsItemLeft, IsNoneLeft, MakesPlace, OnAsk, OnBoundedAsk, OnBoundedStep, OnSpawn, OnStep, OnUse, StandsNext, does_at, names_at};
 ghost use Rattle.serial_elision.specs.TaskSteps.{Ends, IsFaultOf, IsRefused, MayUseAt, Spawns};
 
 use swan_model::Body;
@@ -41,16 +41,16 @@ use swan_model::Body;
 /// activation alone, and at a later step as the one before has left it. So what a task is at a step depends on
 /// nothing but its own steps, and on what they were told.
 pub fn tasks_go_on<B: Body>()
+    // where the root begins
     ensures root { (plan : Plan B B.Local) → StandsAt B.Body plan [] 0 (root plan) }
-    ensures goes_on { (plan : Plan B B.Local) (path : List ℕ) (k : ℕ) (top next : Activation B.Local) (store : Store)
-        → StandsAt B.Body plan path k top → effect_at B.Body plan path k top ≡ goes_on next store → StandsAt B.Body plan path (k + 1) next }
-    ensures spawns { (plan : Plan B B.Local) (path : List ℕ) (k : ℕ) (top parent child : Activation B.Local) (store : Store)
-        → StandsAt B.Body plan path k top → effect_at B.Body plan path k top ≡ spawns parent child store → StandsAt B.Body plan path (k + 1) parent }
-    ensures begins { (plan : Plan B B.Local) (path : List ℕ) (k : ℕ) (top parent child : Activation B.Local) (store : Store)
-        → StandsAt B.Body plan path k top → effect_at B.Body plan path k top ≡ spawns parent child store → StandsAt B.Body plan child.path 0 child }
-    ensures ends { (plan : Plan B B.Local) (path : List ℕ) (k : ℕ) (top : Activation B.Local)
-        → StandsAt B.Body plan path k top → is_end (effect_at B.Body plan path k top) ≡ true
-        → k + 1 ≡ length (times (script B.Body plan) path) }
+
+    // what each step leaves
+    ensures goes_on { OnStep B.Body (λ at. (next : Activation B.Local) (store : Store) → does_at B.Body at ≡ goes_on next store → StandsNext B.Body at next) }
+    ensures spawns { OnStep B.Body (λ at. (parent child : Activation B.Local) (store : Store) → does_at B.Body at ≡ spawns parent child store → StandsNext B.Body at parent) }
+    ensures begins { OnStep B.Body (λ at. (parent child : Activation B.Local) (store : Store) → does_at B.Body at ≡ spawns parent child store → StandsAt B.Body at.plan child.path 0 child) }
+    ensures ends { OnStep B.Body (λ at. is_end (does_at B.Body at) ≡ true → at.k + 1 ≡ length (times (script B.Body at.plan) at.path)) }
+
+    // each step that a task has, as one activation alone, and what left it so
     ensures each { (plan : Plan B B.Local) (path : List ℕ) (k : ℕ) → k < length (times (script B.Body plan) path)
         → (top : Activation B.Local) × StandsAt B.Body plan path k top }
     ensures one { (plan : Plan B B.Local) (path : List ℕ) (k : ℕ) (a b : Activation B.Local)
@@ -67,14 +67,19 @@ pub fn tasks_go_on<B: Body>()
 /// for it. The root begins with the plan's queues and then its objects, by their names. The plan's lists are
 /// within their bounds, as those of each plan that is made are.
 pub fn names_stay<B: Body>()
+    // at a step, at each later time, and at the next step
     ensures named { OnBoundedStep B.Body (λ at. (place : ℕ) (holding : Holding) → slice_get at.top.holdings place ≡ Some holding
         → (origin : Origin) × (slice_get (names_at B.Body at) place ≡ Some (Some (record { origin = origin; mode = holding.mode })))) }
     ensures later { OnBoundedStep B.Body (λ at. (n : ℕ) → time (script B.Body at.plan) at.path at.k ≤ n
         → map (give_of (serial B.Body at.plan n).store) at.top.holdings ≡ names_at B.Body at) }
-    ensures next { OnBoundedStep B.Body (λ at. (next : Activation B.Local) → StandsAt B.Body at.plan at.path (at.k + 1) next
+    ensures next { OnBoundedStep B.Body (λ at. (next : Activation B.Local) → StandsNext B.Body at next
         → next.holdings ≡ at.top.holdings → gives_at B.Body at.plan at.path (at.k + 1) next ≡ names_at B.Body at) }
+
+    // what may be used
     ensures usable { OnBoundedStep B.Body (λ at. (place : ℕ) (holding : Holding) (mode : Mode) → slice_get at.top.holdings place ≡ Some holding
         → allows holding.mode mode ≡ true → (origin : Origin) × MayUseAt B.Body at.plan at.path at.k at.top place mode origin) }
+
+    // what the root begins with
     ensures root_queues { (plan : Plan B B.Local) → IsBounded plan → (i : ℕ) (queue : RootQueue) → slice_get plan.roots.queues i ≡ Some queue
         → slice_get (gives_at B.Body plan [] 0 (root plan)) i ≡ Some (Some (record { origin = Root i; mode = queue.mode })) }
     ensures root_objects { (plan : Plan B B.Local) → IsBounded plan → (i : ℕ) (first : Value) → slice_get plan.roots.objects i ≡ Some first
@@ -157,8 +162,11 @@ pub fn a_spawn_makes_its_child<B: Body>()
 /// fault comes after those of the tasks below it, and before those of its younger siblings. So they are one list
 /// alone: any list in this order that has all faults of last steps, and no others, is the one that is left.
 pub fn faults_are_those_of_last_steps<B: Body>()
+    // which they are
     ensures each { (plan : Plan B B.Local) (j : ℕ) (fault : Fault) → slice_get (outcome B.Body plan).faults j ≡ Some fault → IsFaultOf B.Body plan fault }
     ensures all { (plan : Plan B B.Local) (fault : Fault) → IsFaultOf B.Body plan fault → (j : ℕ) × (slice_get (outcome B.Body plan).faults j ≡ Some fault) }
+
+    // their order, and that no other list has them so
     ensures order { (plan : Plan B B.Local) → AreInOrder (outcome B.Body plan).faults }
     ensures alone { (plan : Plan B B.Local) (booked : List Fault) → AreInOrder booked
         → ((j : ℕ) (fault : Fault) → slice_get booked j ≡ Some fault → IsFaultOf B.Body plan fault)
@@ -174,26 +182,29 @@ pub fn faults_are_those_of_last_steps<B: Body>()
 /// has more steps than the elision takes, nor more of them that queues are told of. The plan's lists and its
 /// fuel are within their bounds, as those of each plan that is made are.
 pub fn a_plan_makes_what_its_fuel_pays<B: Body>()
+    // what the whole run makes, and a task
     ensures queues { (plan : Plan B B.Local) (queues : List Origin) → AreEachOnce (IsQueueOf (script B.Body plan)) queues
         → length queues ≤ length plan.roots.queues + plan.fuel }
     ensures objects { (plan : Plan B B.Local) (objects : List Origin) → AreEachOnce (IsObjectOf (script B.Body plan)) objects
         → length objects ≤ length plan.roots.objects + plan.fuel }
-    ensures children { (plan : Plan B B.Local) (path : List ℕ) (k : ℕ) (top : Activation B.Local) → StandsAt B.Body plan path k top
-        → top.children + top.fuel ≤ plan.fuel }
-    ensures places { (plan : Plan B B.Local) (path : List ℕ) (k : ℕ) (first top : Activation B.Local)
-        → StandsAt B.Body plan path 0 first → StandsAt B.Body plan path k top
-        → length top.holdings + top.fuel ≤ length first.holdings + first.fuel }
+    ensures children { OnStep B.Body (λ at. at.top.children + at.top.fuel ≤ at.plan.fuel) }
+    ensures places { OnStep B.Body (λ at. (first : Activation B.Local) → StandsAt B.Body at.plan at.path 0 first
+        → length at.top.holdings + at.top.fuel ≤ length first.holdings + first.fuel) }
+
+    // with how many places a task begins
     ensures root_places { (plan : Plan B B.Local) → length (root plan).holdings ≡ length plan.roots.queues + length plan.roots.objects }
     ensures child_places { (holdings given_so : List Holding) (gives : List Give) → given holdings gives ≡ Some given_so → length given_so ≡ length gives }
+
+    // how few that are
     ensures few_queues { (plan : Plan B B.Local) (queues : List Origin) → IsBounded plan → plan.fuel ≤ FUEL_MOST
         → AreEachOnce (IsQueueOf (script B.Body plan)) queues → length queues < 4294967295 }
     ensures few_objects { (plan : Plan B B.Local) (objects : List Origin) → IsBounded plan → plan.fuel ≤ FUEL_MOST
         → AreEachOnce (IsObjectOf (script B.Body plan)) objects → length objects < 4294967295 }
-    ensures few_children { (plan : Plan B B.Local) (path : List ℕ) (k : ℕ) (top : Activation B.Local) → plan.fuel ≤ FUEL_MOST
-        → StandsAt B.Body plan path k top → top.children < 4294967295 }
-    ensures few_places { (plan : Plan B B.Local) (path : List ℕ) (k : ℕ) (first top : Activation B.Local) → plan.fuel ≤ FUEL_MOST
-        → StandsAt B.Body plan path 0 first → length first.holdings ≤ max ROOTS_MOST GIVES_MOST → StandsAt B.Body plan path k top
-        → length top.holdings < 4294967295 }
+    ensures few_children { OnStep B.Body (λ at. at.plan.fuel ≤ FUEL_MOST → at.top.children < 4294967295) }
+    ensures few_places { OnStep B.Body (λ at. at.plan.fuel ≤ FUEL_MOST → (first : Activation B.Local) → StandsAt B.Body at.plan at.path 0 first
+        → length first.holdings ≤ max ROOTS_MOST GIVES_MOST → length at.top.holdings < 4294967295) }
+
+    // how many steps a task has
     ensures steps { (plan : Plan B B.Local) (path : List ℕ) → length (times (script B.Body plan) path) ≤ most_steps plan }
     ensures queue_deeds { (plan : Plan B B.Local) (path : List ℕ) → length (queue_times (script B.Body plan) path) ≤ most_steps plan }
     ensures deeds_so_far { (plan : Plan B B.Local) (path : List ℕ) (k : ℕ) → let s = script B.Body plan in

@@ -9,13 +9,13 @@ returns g c = record {
   queues = few-queues g.B.Body;
   objects = few-objects g.B.Body;
   children = few-children g.B.Body;
-  places = few-places g.B.Body;
+  places = λ plan path k top at first begins. few-places g.B.Body plan path k first top begins at;
   root_places = λ plan. length-root_holdings plan.roots;
   child_places = λ holdings given_so gives is. given-many holdings gives given_so is;
   few_queues = λ plan queues bounds fuel are. omega (arith, bounds.roots, fuel, few-queues g.B.Body plan queues are);
   few_objects = λ plan objects bounds fuel are. omega (arith, bounds.roots, fuel, few-objects g.B.Body plan objects are);
-  few_children = λ plan path k top fuel at. omega (arith, fuel, few-children g.B.Body plan path k top at);
-  few_places = λ plan path k first top fuel begins most at.
+  few_children = λ plan path k top at fuel. omega (arith, fuel, few-children g.B.Body plan path k top at);
+  few_places = λ plan path k top at fuel first begins most.
       omega (arith, fuel, most, few-places g.B.Body plan path k first top begins at, few-children g.B.Body plan path 0 first begins);
   steps = few-times g.B.Body;
   queue_deeds = few-queue_times g.B.Body;

@@ -4,9 +4,9 @@ use Rattle.serial_elision.proofs.task_laws.tasks_go_on.Goals as goal
 pub returns : goal.returns
 returns g c = record {
   root = root_stands g.B.Body;
-  goes_on = λ plan path k top next store at is. goes_on_next g.B.Body plan path k top at next store is;
-  spawns = λ plan path k top parent child store at is. spawns_next g.B.Body plan path k top at parent child store is;
-  begins = λ plan path k top parent child store at is. spawns_child g.B.Body plan path k top at parent child store is;
+  goes_on = λ plan path k top at next store is. goes_on_next g.B.Body plan path k top at next store is;
+  spawns = λ plan path k top at parent child store is. spawns_next g.B.Body plan path k top at parent child store is;
+  begins = λ plan path k top at parent child store is. spawns_child g.B.Body plan path k top at parent child store is;
   ends = λ plan path k top at is. ends_last g.B.Body plan path k top at is;
   each = stands-each g.B.Body;
   one = stands-one g.B.Body;
