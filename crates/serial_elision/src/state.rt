@@ -139,7 +139,7 @@ impl<L: Drop> State<L> {
     /// Gives an ask about the task itself its effect, and ends its step. Its activation was taken off the
     /// stack, and has paid for the step.
     #[inline(never)]
-    fn finish(
+    fn end_step(
         &mut self,
         alloc: Global,
         mut top: Activation<L>,
@@ -206,7 +206,7 @@ impl<L: Drop> State<L> {
                         holdings,
                         children,
                     };
-                    return self.finish(alloc, top, place, ask);
+                    return self.end_step(alloc, top, place, ask);
                 }
             }
             self.steps += 1;

@@ -4,7 +4,7 @@ use Rattle.swan_model.specs.SerialState.{State}
 use Rattle.swan_model.specs.SerialStep.{after, effect}
 use Rattle.serial_elision.specs.Effects.{as_ask, settled}
 use Rattle.serial_elision.proofs.Steps.{settled-after, with_rest}
-use Rattle.serial_elision.proofs.state.State.finish.Goals as goal
+use Rattle.serial_elision.proofs.state.State.end_step.Goals as goal
 
 pub returns : goal.returns
 returns g c =

@@ -66,7 +66,7 @@ returns-in-Own g c =
     let paid : Activation g.row.L.Denot = record a { local = w.local; answer = answer.Nothing; fuel = a.fuel - w.works - 1 } in
     let reply = subst (λ (r : Reply g.row.L.Denot). IsReply r paid inside.store c.answer.new.self stop.ask (effect (inside.steps + w.works) inside.store paid stop.ask)) c.in-Own.is (c.in_ok-told.ensures (inside.steps + w.works) paid (sym c.as_slice.ensures.value)) in
     let later = own-row g.B.Body body s now a below FUEL_MOST c.loop-row._row c.top.inside.fuel w stop (as_ask c.in-Own.ask) c.answer.new.self so refl row c.in-Some-stop.is reply.0 reply.1 in
-    on_ok_weaker c.finish.result (λ ok. (later.0, ok ∙ later.1)) c.finish.ensures
+    on_ok_weaker c.end_step.result (λ ok. (later.0, ok ∙ later.1)) c.end_step.ensures
 
 pub returns : goal.returns
 returns g c =
