@@ -1,0 +1,68 @@
+"""What the gate costs, by crate.
+
+    python3 bench/gate.py [CRATE..]      runs `rt ci CRATE` for each, the lowest first; all crates where none is named
+
+Prints a line a crate as it ends: the minutes of processors that its run took, those by the clock, and what the run said last. A
+run takes what the gate kept of an earlier one, so the first figures of a text are those from nothing; a crate that is kept
+costs what its tests and programs take. Processor time hardly depends on what else the machine does, unlike the clock.
+"""
+import pathlib
+import resource
+import subprocess
+import sys
+import time
+
+ROOT = pathlib.Path(__file__).resolve().parent.parent
+
+
+def crates():
+    """The libraries that each crate stands on, by its name."""
+    found = {}
+    for line in (ROOT / "crates.txt").read_text().splitlines():
+        head, _, below = line.partition(":")
+        if head and not head.startswith("#"):
+            found[head.split()[0]] = below.split()
+    return found
+
+
+def lowest_first(below):
+    """The names of all crates, each after those that it stands on."""
+    order = []
+
+    def visit(name):
+        if name in below and name not in order:
+            for other in below[name]:
+                visit(other)
+            order.append(name)
+
+    for name in below:
+        visit(name)
+    return order
+
+
+def spent():
+    """The seconds of processors that all ended children took."""
+    usage = resource.getrusage(resource.RUSAGE_CHILDREN)
+    return usage.ru_utime + usage.ru_stime
+
+
+def main(words):
+    order = lowest_first(crates())
+    unknown = [word for word in words if word not in order]
+    if unknown:
+        sys.exit(f"no such crate: {' '.join(unknown)}")
+    failed = False
+    for name in [name for name in order if not words or name in words]:
+        before, began = spent(), time.monotonic()
+        run = subprocess.run(["rt", "ci", name], cwd=ROOT, stdout=subprocess.PIPE, stderr=subprocess.STDOUT, text=True)
+        last = run.stdout.strip().splitlines()[-1:] or [""]
+        minutes, clock = (spent() - before) / 60, (time.monotonic() - began) / 60
+        print(f"{name:18} {minutes:7.1f} {clock:7.1f}  {last[0]}", flush=True)
+        if run.returncode != 0:
+            failed = True
+            print(run.stdout[-4000:], flush=True)
+    sys.exit(1 if failed else 0)
+
+
+if __name__ == "__main__":
+    main(sys.argv[1:])
