@@ -1,15 +1,16 @@
 -- What is true of kept versions at all times.
-use Rattle.std.specs.Prelude.{◌≡◌, ◌≢◌, ℕ, ◌<◌, ◌+◌, true, Some}
+use Rattle.std.specs.Prelude.{◌≡◌, ◌≢◌, ℕ, ◌<◌, ◌+◌, true, Option, Some}
 use Rattle.std.specs.List.Sorted.{IsStrictlySortedBy}
 use Rattle.std.specs.Map.{keys_of}
 use Rattle.slab.specs.Slab.{Slab, get}
 use Rattle.swan_model.specs.declared.rights.Mode.{Mode}
 use Rattle.swan_model.specs.declared.rights.Mode.TheVariants.{In, Out}
 use Rattle.swan_model.specs.Rights.{allows}
-use Rattle.swan_model.specs.Versions.{owed, place_cmp}
+use Rattle.swan_model.specs.Versions.{VersionState, owed, place_cmp}
 use Rattle.object_versions.specs.declared.node.Node.{Node}
 use Rattle.object_versions.specs.declared.placed_object.PlacedObject.{PlacedObject}
-use Rattle.object_versions.specs.Store.{Entries, place_at, version_at, object_at, KeepsOwed, uses, uses_in}
+use Rattle.object_versions.specs.declared.store.Store.{Store}
+use Rattle.object_versions.specs.Store.{Entries, place_at, version_at, object_at, KeepsOwed, uses, uses_in, versions_of}
 
 -- Each version counts exactly those who refer to it, and is there only while someone does.
 pub record IsCounted (nodes : Slab Node) (count : ℕ → ℕ) : Type 0 where
@@ -48,6 +49,30 @@ pub record IsWhole (entries : Entries) (nodes : Slab Node) (made : ℕ) (held : 
   -- an object that stands at two places of a frame may only be read there
   pub alone : (frame place other : ℕ) (a b : PlacedObject) → place_at entries frame place ≡ Some a → place_at entries frame other ≡ Some b
       → place ≢ other → a.object ≡ b.object → (a.mode ≡ In) × (b.mode ≡ In)
+
+-- ---- by the store itself, between two calls
+
+-- nobody but places refers to a version
+abbrev pub IsKept : Store → (made : ℕ) → Type 0
+IsKept store made = IsWhole store.places.entries store.nodes made (λ _. 0)
+
+-- what a frame has at a place
+abbrev pub kept_at : Store → (frame place : ℕ) → Option PlacedObject
+kept_at store frame place = place_at store.places.entries frame place
+
+-- what is seen of it
+abbrev pub seen_of : Store → (made : ℕ) → VersionState
+seen_of store made = versions_of store.places.entries store.nodes made
+
+-- it is kept so, however many objects were made
+abbrev pub StaysKept : (before after : Store) → Type 0
+StaysKept before after = (made : ℕ) → IsKept before made → IsKept after made
+
+-- and this is seen of it then
+abbrev pub Becomes : (before after : Store) → (VersionState → VersionState) → Type 0
+Becomes before after change = (made : ℕ) → IsKept before made → seen_of after made ≡ change (seen_of before made)
+
+-- ---- what a write and a gift ask
 
 -- At this place a frame has a version that nobody else has, and of what it was given it keeps only what is still owed.
 pub record HasOwn (entries : Entries) (nodes : Slab Node) (frame place : ℕ) : Type 0 where

@@ -4,8 +4,8 @@ ghost use Rattle.slab.specs.Slab.{get};
 ghost use Rattle.swan_model.specs.Rights.{allows, is_queue_mode};
 ghost use Rattle.swan_model.specs.declared.rights.Mode.TheVariants.{In, Out, InOut};
 ghost use Rattle.swan_model.specs.Versions.{after_access};
-ghost use Rattle.object_versions.specs.Store.{place_at, KeepsOwed, versions_of};
-ghost use Rattle.object_versions.specs.Whole.{IsWhole, MayGive};
+ghost use Rattle.object_versions.specs.Store.{KeepsOwed};
+ghost use Rattle.object_versions.specs.Whole.{Becomes, IsKept, MayGive, StaysKept, kept_at};
 ghost use Rattle.object_versions.specs.declared.placed_object.PlacedObject.{PlacedObject as Held};
 
 use crate::nodes::{make, release, share};
@@ -30,20 +30,23 @@ pub struct Gift {
 impl Store {
     /// Gives a child the object at a parent's place, by a mode of objects. `O(log n)`, amortised.
     pub fn give(&mut self, gift: Gift, mode: Mode) -> Result<(), NoMemory>
+        // what is given, and where it comes to
         requires differ { gift.parent ≢ gift.child }
-        requires stands { (object : Held) × (place_at self.old.places.entries gift.parent gift.parent_place ≡ Some object)
+        requires stands { (object : Held) × (kept_at self.old gift.parent gift.parent_place ≡ Some object)
             × (allows object.mode mode ≡ true) × MayGive self.old.places.entries gift.child object.object mode }
         requires of_objects { is_queue_mode mode ≡ false }
-        requires free { place_at self.old.places.entries gift.child gift.child_place ≡ None }
-        requires whole { (made : ℕ) × IsWhole self.old.places.entries self.old.nodes made (λ _. 0) }
-        ensures whole { OnOk result ((made : ℕ) → IsWhole self.old.places.entries self.old.nodes made (λ _. 0) → IsWhole self.new.places.entries self.new.nodes made (λ _. 0)) }
-        ensures given { OnOk result ((made : ℕ) → IsWhole self.old.places.entries self.old.nodes made (λ _. 0)
-            → versions_of self.new.places.entries self.new.nodes made
-            ≡ after_access (versions_of self.old.places.entries self.old.nodes made) gift.parent gift.parent_place gift.child gift.child_place mode) }
-        ensures given_up { OnOk result ((made : ℕ) → IsWhole self.old.places.entries self.old.nodes made (λ _. 0)
-            → (has : Held) → place_at self.new.places.entries gift.parent gift.parent_place ≡ Some has → KeepsOwed self.new.nodes has.given) }
-        ensures shares { OnOk result (allows mode In ≡ true → (object has : Held) → place_at self.old.places.entries gift.parent gift.parent_place ≡ Some object
-            → place_at self.new.places.entries gift.child gift.child_place ≡ Some has → has.present ≡ object.present) }
+        requires free { kept_at self.old gift.child gift.child_place ≡ None }
+
+        // what is kept
+        requires whole { (made : ℕ) × IsKept self.old made }
+        ensures whole { OnOk result (StaysKept self.old self.new) }
+
+        // what is seen of it, and which versions the two have
+        ensures given { OnOk result (Becomes self.old self.new (λ state. after_access state gift.parent gift.parent_place gift.child gift.child_place mode)) }
+        ensures given_up { OnOk result ((made : ℕ) → IsKept self.old made
+            → (has : Held) → kept_at self.new gift.parent gift.parent_place ≡ Some has → KeepsOwed self.new.nodes has.given) }
+        ensures shares { OnOk result (allows mode In ≡ true → (object has : Held) → kept_at self.old gift.parent gift.parent_place ≡ Some object
+            → kept_at self.new gift.child gift.child_place ≡ Some has → has.present ≡ object.present) }
     {
         let Some(found) = self.places.get(&(gift.parent, gift.parent_place)) else {
             unreachable!()
@@ -60,19 +63,22 @@ impl Store {
 
     /// Gives a child a parent's object to read: its version is the parent's. `O(log n)`.
     fn give_to_read(&mut self, object: &PlacedObject, gift: Gift) -> Result<(), NoMemory>
+        // what is given, and where it comes to
         requires differ { gift.parent ≢ gift.child }
-        requires stands { place_at self.old.places.entries gift.parent gift.parent_place ≡ Some object.now }
+        requires stands { kept_at self.old gift.parent gift.parent_place ≡ Some object.now }
         requires may { allows object.now.mode In ≡ true }
-        requires free { place_at self.old.places.entries gift.child gift.child_place ≡ None }
+        requires free { kept_at self.old gift.child gift.child_place ≡ None }
         requires alone { MayGive self.old.places.entries gift.child object.now.object In }
-        requires known { (made : ℕ) × IsWhole self.old.places.entries self.old.nodes made (λ _. 0) }
+
+        // what is kept
+        requires known { (made : ℕ) × IsKept self.old made }
         requires present { IsSome (get self.old.nodes object.now.present) }
-        ensures whole { OnOk result ((made : ℕ) → IsWhole self.old.places.entries self.old.nodes made (λ _. 0) → IsWhole self.new.places.entries self.new.nodes made (λ _. 0)) }
-        ensures given { OnOk result ((made : ℕ) → IsWhole self.old.places.entries self.old.nodes made (λ _. 0)
-            → versions_of self.new.places.entries self.new.nodes made
-            ≡ after_access (versions_of self.old.places.entries self.old.nodes made) gift.parent gift.parent_place gift.child gift.child_place In) }
-        ensures keeps { OnOk result ((has : Held) → place_at self.new.places.entries gift.parent gift.parent_place ≡ Some has → has.given ≡ object.now.given) }
-        ensures shares { OnOk result ((has : Held) → place_at self.new.places.entries gift.child gift.child_place ≡ Some has → has.present ≡ object.now.present) }
+        ensures whole { OnOk result (StaysKept self.old self.new) }
+
+        // what is seen of it, and which versions the two have
+        ensures given { OnOk result (Becomes self.old self.new (λ state. after_access state gift.parent gift.parent_place gift.child gift.child_place In)) }
+        ensures keeps { OnOk result ((has : Held) → kept_at self.new gift.parent gift.parent_place ≡ Some has → has.given ≡ object.now.given) }
+        ensures shares { OnOk result ((has : Held) → kept_at self.new gift.child gift.child_place ≡ Some has → has.present ≡ object.now.present) }
     {
         let shared = object.present;
         // By the clause of `len` there are fewer than 2 ^ 63 places, so the count has room.
@@ -93,17 +99,20 @@ impl Store {
     /// Gives a child a parent's object to write: its version has the zero of the object's kind, and the
     /// parent has one that the child owes. `O(log n)`, amortised.
     fn give_to_write(&mut self, object: &PlacedObject, gift: Gift) -> Result<(), NoMemory>
+        // what is given, and where it comes to
         requires differ { gift.parent ≢ gift.child }
-        requires stands { place_at self.old.places.entries gift.parent gift.parent_place ≡ Some object.now }
+        requires stands { kept_at self.old gift.parent gift.parent_place ≡ Some object.now }
         requires may { allows object.now.mode Out ≡ true }
-        requires free { place_at self.old.places.entries gift.child gift.child_place ≡ None }
+        requires free { kept_at self.old gift.child gift.child_place ≡ None }
         requires alone { MayGive self.old.places.entries gift.child object.now.object Out }
+
+        // what is kept
         requires present { IsSome (get self.old.nodes object.now.present) }
-        ensures whole { OnOk result ((made : ℕ) → IsWhole self.old.places.entries self.old.nodes made (λ _. 0) → IsWhole self.new.places.entries self.new.nodes made (λ _. 0)) }
-        ensures given { OnOk result ((made : ℕ) → IsWhole self.old.places.entries self.old.nodes made (λ _. 0)
-            → versions_of self.new.places.entries self.new.nodes made
-            ≡ after_access (versions_of self.old.places.entries self.old.nodes made) gift.parent gift.parent_place gift.child gift.child_place Out) }
-        ensures keeps { OnOk result ((has : Held) → place_at self.new.places.entries gift.parent gift.parent_place ≡ Some has → has.given ≡ object.now.given) }
+        ensures whole { OnOk result (StaysKept self.old self.new) }
+
+        // what is seen of it, and which version the parent was given
+        ensures given { OnOk result (Becomes self.old self.new (λ state. after_access state gift.parent gift.parent_place gift.child gift.child_place Out)) }
+        ensures keeps { OnOk result ((has : Held) → kept_at self.new gift.parent gift.parent_place ≡ Some has → has.given ≡ object.now.given) }
     {
         let zero = Value::zero(self.alloc, object.kind)?;
         let owed = make(&mut self.nodes, &object.object, State::Owed(gift.child), 2)?;
@@ -125,19 +134,22 @@ impl Store {
     /// Gives a child a parent's object to read and write: its version is the parent's, and the parent has one
     /// that the child owes. `O(log n)`, amortised.
     fn give_to_change(&mut self, object: &PlacedObject, gift: Gift) -> Result<(), NoMemory>
+        // what is given, and where it comes to
         requires differ { gift.parent ≢ gift.child }
-        requires stands { place_at self.old.places.entries gift.parent gift.parent_place ≡ Some object.now }
+        requires stands { kept_at self.old gift.parent gift.parent_place ≡ Some object.now }
         requires may { allows object.now.mode InOut ≡ true }
-        requires free { place_at self.old.places.entries gift.child gift.child_place ≡ None }
+        requires free { kept_at self.old gift.child gift.child_place ≡ None }
         requires alone { MayGive self.old.places.entries gift.child object.now.object InOut }
-        requires known { (made : ℕ) × IsWhole self.old.places.entries self.old.nodes made (λ _. 0) }
+
+        // what is kept
+        requires known { (made : ℕ) × IsKept self.old made }
         requires present { IsSome (get self.old.nodes object.now.present) }
-        ensures whole { OnOk result ((made : ℕ) → IsWhole self.old.places.entries self.old.nodes made (λ _. 0) → IsWhole self.new.places.entries self.new.nodes made (λ _. 0)) }
-        ensures given { OnOk result ((made : ℕ) → IsWhole self.old.places.entries self.old.nodes made (λ _. 0)
-            → versions_of self.new.places.entries self.new.nodes made
-            ≡ after_access (versions_of self.old.places.entries self.old.nodes made) gift.parent gift.parent_place gift.child gift.child_place InOut) }
-        ensures keeps { OnOk result ((has : Held) → place_at self.new.places.entries gift.parent gift.parent_place ≡ Some has → has.given ≡ object.now.given) }
-        ensures shares { OnOk result ((has : Held) → place_at self.new.places.entries gift.child gift.child_place ≡ Some has → has.present ≡ object.now.present) }
+        ensures whole { OnOk result (StaysKept self.old self.new) }
+
+        // what is seen of it, and which versions the two have
+        ensures given { OnOk result (Becomes self.old self.new (λ state. after_access state gift.parent gift.parent_place gift.child gift.child_place InOut)) }
+        ensures keeps { OnOk result ((has : Held) → kept_at self.new gift.parent gift.parent_place ≡ Some has → has.given ≡ object.now.given) }
+        ensures shares { OnOk result ((has : Held) → kept_at self.new gift.child gift.child_place ≡ Some has → has.present ≡ object.now.present) }
     {
         // By the clause of `len` there are fewer than 2 ^ 63 places, so the count has room.
         let _few = self.places.len();

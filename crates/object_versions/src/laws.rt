@@ -17,11 +17,13 @@ ghost use Rattle.swan_model.specs.SerialTime.{Progress, Reading, frame_of, is_ea
 ghost use Rattle.swan_model.specs.Values.{kind_of};
 ghost use Rattle.swan_model.specs.Versions.{settled, owed, Awaits, IsSettled, Placed, VersionState, after_access, after_create, after_finish, after_write, got, left_with, placed_at, settle_placed};
 ghost use Rattle.swan_model.specs.VersionsFollow.{Access, ObjectsFollow, IsGiving, IsNewFrame, NextSpawnGivesObjects, is_object_deed, is_object_give};
+ghost use Rattle.object_versions.specs.Following.{ChildrenHaveNone, IsElsewhere, OnAwaited, WaitsForNone};
 
 /// The law that all entries but those that make or write an object, or give one to a child, are done without
 /// a call: renamed objects that follow a reading follow the one in which such an entry is done too, whatever
 /// queues it has then; and what is being given to a child stays so.
 pub fn other_entries_pass()
+    // what is no access, and a spawn that gives no object
     ensures passes { (s : Script) (r : Reading) (state : VersionState) (frame : Progress) (does : Deed)
         → IsLawful s → ObjectsFollow s r state → frame_of r frame.number ≡ Some frame → next_deed s frame ≡ Some does
         → is_object_deed does ≡ false → is_spawn does ≡ false
@@ -30,6 +32,8 @@ pub fn other_entries_pass()
         → IsLawful s → ObjectsFollow s r state → frame_of r parent.number ≡ Some parent → next_deed s parent ≡ Some (deed.Spawn gives)
         → filter is_object_give gives ≡ [] → IsNewFrame r state child
         → (queues : List Origin) → ObjectsFollow s (record (spawned s r parent child) { queues = queues }) state }
+
+    // while a child is being given its objects
     ensures meanwhile { (s : Script) (r : Reading) (state : VersionState) (frame : Progress) (does : Deed) (giver : Progress) (child : ℕ) (made left : List Access)
         → IsLawful s → IsGiving s r state giver child made left → frame_of r frame.number ≡ Some frame → next_deed s frame ≡ Some does
         → is_object_deed does ≡ false → is_spawn does ≡ false
@@ -53,17 +57,13 @@ pub fn giving_begins()
 /// child that is being given its objects, since that owes versions to nobody else.
 pub fn ended_children_leave_all_settled()
     ensures ends { (s : Script) (r : Reading) (state : VersionState) (n : ℕ) (frame : Progress) → ObjectsFollow s r state → frame_of r n ≡ Some frame
-        → ((place owing : ℕ) → ¬ Awaits state n place owing)
-        → ((number index : ℕ) (child : Progress) → frame_of r number ≡ Some child → child.path ≡ frame.path ++ index ∷ []
-        → (place : ℕ) → placed_at state number place ≡ None)
+        → WaitsForNone state n → ChildrenHaveNone state r frame
         → ((place owing : ℕ) (object : Placed) → placed_at state n place ≡ Some object → object.present ≡ owed owing
         → (owner : Progress) × (frame_of r owing ≡ Some owner))
         → IsSettled state n }
     ensures meanwhile { (s : Script) (r : Reading) (state : VersionState) (n : ℕ) (frame giver : Progress) (child : ℕ) (made left : List Access)
         → IsGiving s r state giver child made left → n ≢ giver.number → frame_of r n ≡ Some frame
-        → ((place owing : ℕ) → ¬ Awaits state n place owing)
-        → ((number index : ℕ) (below : Progress) → frame_of r number ≡ Some below → below.path ≡ frame.path ++ index ∷ []
-        → (place : ℕ) → placed_at state number place ≡ None)
+        → WaitsForNone state n → ChildrenHaveNone state r frame
         → ((place owing : ℕ) (object : Placed) → owing ≢ child → placed_at state n place ≡ Some object → object.present ≡ owed owing
         → (owner : Progress) × (frame_of r owing ≡ Some owner))
         → IsSettled state n }
@@ -75,41 +75,48 @@ pub fn ended_children_leave_all_settled()
 /// frame ends, the other frames keep their places, with the versions that the frame owed settled, and its own
 /// are forgotten but for those of frame 0.
 pub fn places_stay()
-    ensures create { (state : VersionState) (frame place : ℕ) (first : Value) (other at : ℕ) → (other ≢ frame) ⊎ (at ≢ place)
-        → placed_at (after_create state frame place first) other at ≡ placed_at state other at }
+    // an object that is made
     ensures created { (state : VersionState) (frame place : ℕ) (first : Value)
         → placed_at (after_create state frame place first) frame place
         ≡ Some (record { object = state.made; kind = kind_of first; mode = InOut; given = None; present = settled first }) }
-    ensures access { (state : VersionState) (parent place child child_place : ℕ) (mode : Mode) (other at : ℕ)
-        → (other ≢ parent) ⊎ (at ≢ place) → (other ≢ child) ⊎ (at ≢ child_place)
-        → placed_at (after_access state parent place child child_place mode) other at ≡ placed_at state other at }
+    ensures create { (state : VersionState) (frame place : ℕ) (first : Value) (other at : ℕ) → IsElsewhere other at frame place
+        → placed_at (after_create state frame place first) other at ≡ placed_at state other at }
+
+    // an object that is given
     ensures left { (state : VersionState) (parent place child child_place : ℕ) (mode : Mode) (object : Placed) → parent ≢ child
         → placed_at state parent place ≡ Some object
         → placed_at (after_access state parent place child child_place mode) parent place ≡ Some (record object { present = left_with object child mode }) }
     ensures got { (state : VersionState) (parent place child child_place : ℕ) (mode : Mode) (object : Placed)
         → placed_at state parent place ≡ Some object
         → placed_at (after_access state parent place child child_place mode) child child_place ≡ Some (got object mode) }
-    ensures write { (state : VersionState) (frame place : ℕ) (value : Value) (other at : ℕ) → (other ≢ frame) ⊎ (at ≢ place)
-        → placed_at (after_write state frame place value) other at ≡ placed_at state other at }
+    ensures access { (state : VersionState) (parent place child child_place : ℕ) (mode : Mode) (other at : ℕ)
+        → IsElsewhere other at parent place → IsElsewhere other at child child_place
+        → placed_at (after_access state parent place child child_place mode) other at ≡ placed_at state other at }
+
+    // a write
     ensures written { (state : VersionState) (frame place : ℕ) (value : Value) (object : Placed) → placed_at state frame place ≡ Some object
         → placed_at (after_write state frame place value) frame place ≡ Some (record object { present = settled value }) }
+    ensures write { (state : VersionState) (frame place : ℕ) (value : Value) (other at : ℕ) → IsElsewhere other at frame place
+        → placed_at (after_write state frame place value) other at ≡ placed_at state other at }
+
+    // the end of a frame
+    ensures forgotten { (state : VersionState) (ended at : ℕ) → ended ≢ 0 → placed_at (after_finish state ended) ended at ≡ None }
     ensures finish { (state : VersionState) (ended other at : ℕ) → (other ≢ ended) ⊎ (ended ≡ 0)
         → placed_at (after_finish state ended) other at ≡ option_map (settle_placed state ended) (placed_at state other at) }
-    ensures forgotten { (state : VersionState) (ended at : ℕ) → ended ≢ 0 → placed_at (after_finish state ended) ended at ≡ None }
 {}
 
 /// The law that nobody waits again: a frame that waits for nothing which it was given to read waits for nothing
 /// later, whatever is made, given, written and ended by whom, as long as it isn't itself the child to which
 /// an object is given.
 pub fn nobody_waits_again()
-    ensures create { (state : VersionState) (frame place : ℕ) (first : Value) (n : ℕ) → ((at owing : ℕ) → ¬ Awaits state n at owing)
-        → (at owing : ℕ) → ¬ Awaits (after_create state frame place first) n at owing }
-    ensures access { (state : VersionState) (parent place child child_place : ℕ) (mode : Mode) (n : ℕ) → n ≢ child → ((at owing : ℕ) → ¬ Awaits state n at owing)
-        → (at owing : ℕ) → ¬ Awaits (after_access state parent place child child_place mode) n at owing }
-    ensures write { (state : VersionState) (frame place : ℕ) (value : Value) (n : ℕ) → ((at owing : ℕ) → ¬ Awaits state n at owing)
-        → (at owing : ℕ) → ¬ Awaits (after_write state frame place value) n at owing }
-    ensures finish { (state : VersionState) (ended n : ℕ) → ((at owing : ℕ) → ¬ Awaits state n at owing)
-        → (at owing : ℕ) → ¬ Awaits (after_finish state ended) n at owing }
+    ensures create { (state : VersionState) (frame place : ℕ) (first : Value) (n : ℕ)
+        → WaitsForNone state n → WaitsForNone (after_create state frame place first) n }
+    ensures access { (state : VersionState) (parent place child child_place : ℕ) (mode : Mode) (n : ℕ) → n ≢ child
+        → WaitsForNone state n → WaitsForNone (after_access state parent place child child_place mode) n }
+    ensures write { (state : VersionState) (frame place : ℕ) (value : Value) (n : ℕ)
+        → WaitsForNone state n → WaitsForNone (after_write state frame place value) n }
+    ensures finish { (state : VersionState) (ended n : ℕ)
+        → WaitsForNone state n → WaitsForNone (after_finish state ended) n }
 {}
 
 /// The law that whoever is awaited comes first. Where renamed objects follow a lawful script and a reading, and a
@@ -117,12 +124,7 @@ pub fn nobody_waits_again()
 /// isn't the root, and while it has an entry left too it is earlier in serial order: its point is, and its path
 /// comes before.
 pub fn who_is_awaited_comes_first()
-    ensures owner { (s : Script) (r : Reading) (state : VersionState) (n place owing : ℕ) (frame owner : Progress) (object : Placed)
-        → IsLawful s → ObjectsFollow s r state → frame_of r n ≡ Some frame → frame.done < length (times s frame.path)
-        → placed_at state n place ≡ Some object → (object.present ≡ owed owing) ⊎ (object.given ≡ Some owing)
-        → frame_of r owing ≡ Some owner → owner.done < length (times s owner.path)
-        → IsTrue (is_earlier s owner frame) × IsTrue (comes_before owner.path frame.path) }
-    ensures no_root { (s : Script) (r : Reading) (state : VersionState) (n place owing : ℕ) (frame : Progress) (object : Placed)
-        → IsLawful s → ObjectsFollow s r state → frame_of r n ≡ Some frame → frame.done < length (times s frame.path)
-        → placed_at state n place ≡ Some object → (object.present ≡ owed owing) ⊎ (object.given ≡ Some owing) → owing ≢ 0 }
+    ensures owner { OnAwaited (λ s r frame owing. (owner : Progress) → frame_of r owing ≡ Some owner → owner.done < length (times s owner.path)
+        → IsTrue (is_earlier s owner frame) × IsTrue (comes_before owner.path frame.path)) }
+    ensures no_root { OnAwaited (λ s r frame owing. owing ≢ 0) }
 {}

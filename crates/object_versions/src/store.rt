@@ -1,8 +1,8 @@
 // What renamed objects are kept in.
 ghost use Rattle.std.specs.Prelude.{◌≡◌, ◌≢◌, ℕ, ◌+◌, Some, None, Ok, [], OnOk};
 ghost use Rattle.swan_model.specs.Versions.{after_create, after_write};
-ghost use Rattle.object_versions.specs.Store.{place_at, given_of, KeepsOwed, versions_of};
-ghost use Rattle.object_versions.specs.Whole.{IsWhole, HasOwn};
+ghost use Rattle.object_versions.specs.Store.{given_of, KeepsOwed};
+ghost use Rattle.object_versions.specs.Whole.{Becomes, HasOwn, IsKept, StaysKept, kept_at, seen_of};
 
 use crate::nodes::{is_alone, make, overwrite, release, value_at};
 use crate::places::{forget_given, put, set_present};
@@ -29,7 +29,7 @@ impl Store {
     /// No places. It takes no memory. `O(1)`.
     pub fn new(alloc: Global) -> Store
         ensures none { result.places.entries ≡ [] }
-        ensures whole { (made : ℕ) → IsWhole result.places.entries result.nodes made (λ _. 0) }
+        ensures whole { (made : ℕ) → IsKept result made }
     {
         Store {
             alloc,
@@ -42,7 +42,7 @@ impl Store {
     /// not fit together. `O(1)` for each place and version that is given up; it takes no memory.
     pub fn clear(&mut self)
         ensures none { self.new.places.entries ≡ [] }
-        ensures whole { (made : ℕ) → IsWhole self.new.places.entries self.new.nodes made (λ _. 0) }
+        ensures whole { (made : ℕ) → IsKept self.new made }
     {
         self.places.clear();
         self.nodes.clear();
@@ -56,11 +56,13 @@ impl Store {
         place: u32,
         first: Value,
     ) -> Result<(), NoMemory>
-        requires whole { IsWhole self.old.places.entries self.old.nodes made.now (λ _. 0) }
-        requires free { place_at self.old.places.entries frame place ≡ None }
-        ensures whole { OnOk result (IsWhole self.new.places.entries self.new.nodes (made.now + 1) (λ _. 0)) }
-        ensures created { OnOk result (versions_of self.new.places.entries self.new.nodes (made.now + 1)
-            ≡ after_create (versions_of self.old.places.entries self.old.nodes made.now) frame place first) }
+        // where it comes to
+        requires free { kept_at self.old frame place ≡ None }
+
+        // what is kept, and what is seen of it
+        requires whole { IsKept self.old made.now }
+        ensures whole { OnOk result (IsKept self.new (made.now + 1)) }
+        ensures created { OnOk result (seen_of self.new (made.now + 1) ≡ after_create (seen_of self.old made.now) frame place first) }
     {
         let kind = first.kind();
         let present = make(&mut self.nodes, made, State::Settled(first), 1)?;
@@ -79,14 +81,20 @@ impl Store {
     /// Gives up the version that a frame was given at a place, where that has its value: nobody waits for it any
     /// more. Answers what is kept at the place then. `O(log n)`; it takes no memory.
     pub fn release_given(&mut self, frame: u64, place: u32, object: PlacedObject) -> PlacedObject
-        requires stands { place_at self.old.places.entries frame place ≡ Some object }
-        requires whole { (made : ℕ) × IsWhole self.old.places.entries self.old.nodes made (λ _. 0) }
-        ensures stands { place_at self.new.places.entries frame place ≡ Some result }
+        // what the frame has, and what is kept
+        requires stands { kept_at self.old frame place ≡ Some object }
+        requires whole { (made : ℕ) × IsKept self.old made }
+
+        // the frame's place, and those of others
+        ensures stands { kept_at self.new frame place ≡ Some result }
         ensures same { result ≡ record object { given = result.given } }
-        ensures others { (other at : ℕ) → other ≢ frame → place_at self.new.places.entries other at ≡ place_at self.old.places.entries other at }
-        ensures whole { (made : ℕ) → IsWhole self.old.places.entries self.old.nodes made (λ _. 0) → IsWhole self.new.places.entries self.new.nodes made (λ _. 0) }
-        ensures seen { (made : ℕ) → IsWhole self.old.places.entries self.old.nodes made (λ _. 0)
-            → versions_of self.new.places.entries self.new.nodes made ≡ versions_of self.old.places.entries self.old.nodes made }
+        ensures others { (other at : ℕ) → other ≢ frame → kept_at self.new other at ≡ kept_at self.old other at }
+
+        // what is kept, and what is seen of it
+        ensures whole { StaysKept self.old self.new }
+        ensures seen { Becomes self.old self.new (λ state. state) }
+
+        // where it is given up, and where not
         ensures given_up { given_of self.old.nodes object.given ≡ None → result.given ≡ None }
         ensures kept { KeepsOwed self.old.nodes object.given
             → (result ≡ object) × (self.new.places.entries ≡ self.old.places.entries) × (self.new.nodes ≡ self.old.nodes) }
@@ -116,12 +124,16 @@ impl Store {
         object: PlacedObject,
         value: Value,
     ) -> Result<(), NoMemory>
-        requires stands { place_at self.old.places.entries frame place ≡ Some object }
-        requires whole { (made : ℕ) × IsWhole self.old.places.entries self.old.nodes made (λ _. 0) }
-        ensures whole { OnOk result ((made : ℕ) → IsWhole self.old.places.entries self.old.nodes made (λ _. 0) → IsWhole self.new.places.entries self.new.nodes made (λ _. 0)) }
-        ensures written { OnOk result ((made : ℕ) → IsWhole self.old.places.entries self.old.nodes made (λ _. 0)
-            → versions_of self.new.places.entries self.new.nodes made ≡ after_write (versions_of self.old.places.entries self.old.nodes made) frame place value) }
-        ensures own { OnOk result ((made : ℕ) → IsWhole self.old.places.entries self.old.nodes made (λ _. 0) → HasOwn self.new.places.entries self.new.nodes frame place) }
+        // where it is written
+        requires stands { kept_at self.old frame place ≡ Some object }
+
+        // what is kept, and what is seen of it
+        requires whole { (made : ℕ) × IsKept self.old made }
+        ensures whole { OnOk result (StaysKept self.old self.new) }
+        ensures written { OnOk result (Becomes self.old self.new (λ state. after_write state frame place value)) }
+
+        // the frame's own version
+        ensures own { OnOk result ((made : ℕ) → IsKept self.old made → HasOwn self.new.places.entries self.new.nodes frame place) }
         ensures in_place { HasOwn self.old.places.entries self.old.nodes frame place → (result ≡ Ok tt) × (self.new.places.entries ≡ self.old.places.entries) }
     {
         let own = self.release_given(frame, place, object);

@@ -8,6 +8,7 @@ ghost use Rattle.swan_model.specs.Lawful.{IsLawful};
 ghost use Rattle.swan_model.specs.Readings.{at_start, gone_on, next_deed, spawned, with_object};
 ghost use Rattle.swan_model.specs.SerialTime.{Progress, Reading, frame_of, point, times, version};
 ghost use Rattle.swan_model.specs.VersionsFollow.{Access, ObjectsFollow, IsGiving};
+ghost use Rattle.object_versions.specs.Following.{IsElsewhere, OnFollowing, OnMeanwhile, WaitsForNone, access_of};
 ghost use Rattle.swan_model.specs.declared.rights.Mode.TheVariants.{In, Out};
 ghost use Rattle.swan_model.specs.Rights.{allows, is_queue_mode};
 ghost use Rattle.swan_model.specs.Versions.{Placed, VersionState, new_versions, placed_at, settled, owed, after_create, after_access, after_write, after_finish, Holds, MayGet, IsSettled, Awaits};
@@ -60,18 +61,20 @@ impl Versions {
     /// Makes an object: the frame then has a version with its first value at the place, and may read and
     /// write it. Err is want of memory. `O(log n)`, amortised.
     pub fn create(&mut self, frame: u64, place: u32, first: Value) -> Result<(), NoMemory>
+        // where it comes to
         requires free { placed_at self.old frame place ≡ None }
+
+        // what it leaves
         ensures ok { OnOk result (self.new ≡ after_create self.old frame place first) }
+
+        // by a script and a reading that they follow
         ensures root { OnOk result ((s : Script) (r : Reading) (root : Progress) → IsLawful s → ObjectsFollow s r self.old → frame ≡ 0
             → frame_of r 0 ≡ Some root → root.done ≡ 0 → slice_get s.objects self.old.made ≡ Some first
             → ObjectsFollow s (with_object r (Root self.old.made)) self.new) }
-        ensures made { OnOk result ((s : Script) (r : Reading) (maker : Progress) → IsLawful s → ObjectsFollow s r self.old
-            → frame_of r frame ≡ Some maker → next_deed s maker ≡ Some (deed.MakeObject first)
-            → ObjectsFollow s (with_object (gone_on r frame) (Step (point s maker))) self.new) }
-        ensures giving { OnOk result ((s : Script) (r : Reading) (maker giver : Progress) (child : ℕ) (made left : List Access) → IsLawful s
-            → frame ≢ giver.number → frame ≢ child → IsGiving s r self.old giver child made left
-            → frame_of r frame ≡ Some maker → next_deed s maker ≡ Some (deed.MakeObject first)
-            → IsGiving s (with_object (gone_on r frame) (Step (point s maker))) self.new giver child made left) }
+        ensures made { OnOk result (OnFollowing self.old frame (λ s r maker. next_deed s maker ≡ Some (deed.MakeObject first)
+            → ObjectsFollow s (with_object (gone_on r frame) (Step (point s maker))) self.new)) }
+        ensures giving { OnOk result (OnMeanwhile self.old frame (λ s r maker giver child made left. next_deed s maker ≡ Some (deed.MakeObject first)
+            → IsGiving s (with_object (gone_on r frame) (Step (point s maker))) self.new giver child made left)) }
     {
         match self.store.create(&self.made, frame, place, first) {
             Ok(()) => {
@@ -97,32 +100,35 @@ impl Versions {
         child_place: u32,
         mode: Mode,
     ) -> Result<(), NoMemory>
+        // what is given, and where it comes to
         requires differ { parent ≢ child }
         requires held { Holds self.old parent parent_place mode }
         requires of_objects { is_queue_mode mode ≡ false }
         requires free { placed_at self.old child child_place ≡ None }
         requires alone { (object : Placed) → placed_at self.old parent parent_place ≡ Some object → MayGet self.old child object.object mode }
+
+        // what it leaves
         ensures ok { OnOk result (self.new ≡ after_access self.old parent parent_place child child_place mode) }
-        ensures others { OnOk result ((frame place : ℕ) → frame ≢ parent → ((frame ≢ child) ⊎ (place ≢ child_place))
+        ensures others { OnOk result ((frame place : ℕ) → frame ≢ parent → IsElsewhere frame place child child_place
             → placed_at self.new frame place ≡ placed_at self.old frame place) }
-        ensures giving { let access : Access = record { place = parent_place; child_place = child_place; mode = mode } in
-            OnOk result ((s : Script) (r : Reading) (giver : Progress) (made left : List Access) → IsLawful s
+
+        // by a script and a reading: the child's accesses, one after the other, and the last of them
+        ensures giving { OnOk result ((s : Script) (r : Reading) (giver : Progress) (made left : List Access) → IsLawful s
             → frame_of r parent ≡ Some giver
-            → IsGiving s r self.old giver child made (access ∷ left)
-            → IsGiving s r self.new giver child (made ++ access ∷ []) left) }
-        ensures last { let access : Access = record { place = parent_place; child_place = child_place; mode = mode } in
-            OnOk result ((s : Script) (r : Reading) (giver : Progress) (made : List Access) → IsLawful s
+            → IsGiving s r self.old giver child made (access_of parent_place child_place mode ∷ left)
+            → IsGiving s r self.new giver child (made ++ access_of parent_place child_place mode ∷ []) left) }
+        ensures last { OnOk result ((s : Script) (r : Reading) (giver : Progress) (made : List Access) → IsLawful s
             → frame_of r parent ≡ Some giver
-            → IsGiving s r self.old giver child made (access ∷ [])
+            → IsGiving s r self.old giver child made (access_of parent_place child_place mode ∷ [])
             → ObjectsFollow s (spawned s r giver child) self.new) }
-        ensures beside { let access : Access = record { place = parent_place; child_place = child_place; mode = mode } in
-            OnOk result ((s : Script) (r : Reading) (own giver : Progress) (other : ℕ) (done rest made left : List Access) → IsLawful s
-            → frame_of r parent ≡ Some own → IsGiving s r self.old own child done (access ∷ rest)
+
+        // while another frame gives another child its objects
+        ensures beside { OnOk result ((s : Script) (r : Reading) (own giver : Progress) (other : ℕ) (done rest made left : List Access) → IsLawful s
+            → frame_of r parent ≡ Some own → IsGiving s r self.old own child done (access_of parent_place child_place mode ∷ rest)
             → frame_of r giver.number ≡ Some giver → parent ≢ giver.number → child ≢ other → IsGiving s r self.old giver other made left
             → IsGiving s r self.new giver other made left) }
-        ensures last_beside { let access : Access = record { place = parent_place; child_place = child_place; mode = mode } in
-            OnOk result ((s : Script) (r : Reading) (own giver : Progress) (other : ℕ) (done made left : List Access) → IsLawful s
-            → frame_of r parent ≡ Some own → IsGiving s r self.old own child done (access ∷ [])
+        ensures last_beside { OnOk result ((s : Script) (r : Reading) (own giver : Progress) (other : ℕ) (done made left : List Access) → IsLawful s
+            → frame_of r parent ≡ Some own → IsGiving s r self.old own child done (access_of parent_place child_place mode ∷ [])
             → frame_of r giver.number ≡ Some giver → parent ≢ giver.number → child ≢ other → IsGiving s r self.old giver other made left
             → IsGiving s (spawned s r own child) self.new giver other made left) }
     {
@@ -145,9 +151,12 @@ impl Versions {
     /// more, and else Err with the frame that owes the one of the lowest place. `O(k + log n)` for k objects
     /// of the frame; it takes no memory.
     pub fn ready(&self, frame: u64) -> Result<(), u64>
-        ensures ok { OnOk result ((place owing : ℕ) → ¬ Awaits self.now frame place owing) }
+        // what it waits for, and where
+        ensures ok { OnOk result (WaitsForNone self.now frame) }
         ensures err { IfErr result (λ owing. (place : ℕ) × (awaits : Awaits self.now frame place owing)
             × (allows awaits.object.mode In ≡ true) × ((other n : ℕ) → Awaits self.now frame other n → place ≤ other)) }
+
+        // that the one who owes it has the object itself, to write
         ensures owes { IfErr result (λ owing. (place : ℕ) (awaits : Awaits self.now frame place owing)
             → (other : ℕ) × (has : Placed) × (placed_at self.now owing other ≡ Some has) × (has.object ≡ awaits.object.object) × (allows has.mode Out ≡ true)) }
     {
@@ -160,11 +169,18 @@ impl Versions {
     /// The value of the version that a frame has at a place, and Err with the frame that owes it exactly
     /// where it has none yet. `O(log n)`; it takes no memory.
     pub fn value(&self, frame: u64, place: u32) -> Result<&Value, u64>
+        // where it stands
         requires placed { (object : Placed) × (placed_at self.now frame place ≡ Some object) }
+
+        // what the frame has there
         ensures ok { IfOk result (λ value. (object : Placed) → placed_at self.now frame place ≡ Some object → object.present ≡ settled value.now) }
         ensures err { IfErr result (λ owing. (object : Placed) → placed_at self.now frame place ≡ Some object → object.present ≡ owed owing) }
+
+        // by a script and a reading
         ensures follows { IfOk result (λ value. (s : Script) (r : Reading) (reader : Progress) (object : Placed) → ObjectsFollow s r self.now
             → frame_of r frame ≡ Some reader → placed_at self.now frame place ≡ Some object → version s r object.object reader ≡ Some value.now) }
+
+        // that the one who owes it has the object itself, to write
         ensures owes { IfErr result (λ owing. (object : Placed) → placed_at self.now frame place ≡ Some object
             → (other : ℕ) × (has : Placed) × (placed_at self.now owing other ≡ Some has) × (has.object ≡ object.object) × (allows has.mode Out ≡ true)) }
     {
@@ -178,8 +194,13 @@ impl Versions {
     /// frame's own where nobody else has that, and else a new one. Err is want of memory. `O(log n)`,
     /// amortised where it is a new one.
     pub fn write(&mut self, frame: u64, place: u32, value: Value) -> Result<(), NoMemory>
+        // where it stands
         requires placed { (object : Placed) × (placed_at self.old frame place ≡ Some object) }
+
+        // what it leaves
         ensures ok { OnOk result (self.new ≡ after_write self.old frame place value) }
+
+        // by a script and a reading, and while another frame gives a child its objects
         ensures follows { OnOk result ((s : Script) (r : Reading) (writer : Progress) (object : Placed) (origin : Origin) → IsLawful s → ObjectsFollow s r self.old
             → frame_of r frame ≡ Some writer → placed_at self.old frame place ≡ Some object → allows object.mode Out ≡ true
             → slice_get r.objects object.object ≡ Some origin → next_deed s writer ≡ Some (deed.Write origin value)
@@ -210,17 +231,21 @@ impl Versions {
     /// settling is `O(k + log n)`, no matter how many others have the frame's versions, and forgetting is k
     /// removals of `O(log n)` each.
     pub fn finish(&mut self, frame: u64) -> Result<(), NoMemory>
+        // what it has
         requires settled { IsSettled self.old frame }
+
+        // what it leaves
         ensures ok { OnOk result (self.new ≡ after_finish self.old frame) }
-        ensures follows { OnOk result ((s : Script) (r : Reading) (ended : Progress) → IsLawful s → ObjectsFollow s r self.old
-            → frame_of r frame ≡ Some ended → ended.done ≡ length (times s ended.path) → ObjectsFollow s r self.new) }
-        ensures giving { OnOk result ((s : Script) (r : Reading) (ended giver : Progress) (child : ℕ) (made left : List Access) → IsLawful s
-            → frame ≢ giver.number → frame ≢ child → IsGiving s r self.old giver child made left
-            → frame_of r frame ≡ Some ended → ended.done ≡ length (times s ended.path) → IsGiving s r self.new giver child made left) }
+
+        // by a script and a reading, and while another frame gives a child its objects
+        ensures follows { OnOk result (OnFollowing self.old frame (λ s r ended. ended.done ≡ length (times s ended.path) → ObjectsFollow s r self.new)) }
+        ensures giving { OnOk result (OnMeanwhile self.old frame (λ s r ended giver child made left. ended.done ≡ length (times s ended.path)
+            → IsGiving s r self.new giver child made left)) }
     {
         match settle_all(&self.store.places, &mut self.store.nodes, frame) {
             Ok(()) => {
-                if frame != 0 {
+                let is_root = frame == 0;
+                if !is_root {
                     forget_all(&mut self.store.places, &mut self.store.nodes, frame);
                 }
                 Ok(())

@@ -26,8 +26,8 @@ invariant_of-self c =
     let paid = c.in-Ok.ensures.paid made begun in
     (c.forget_all.ensures.forgotten made (not_begun entries c.self.inside.store.nodes c.settle_all.new.nodes made c.args.frame settling paid)).whole
 
-pub returns-then-frame-ne0-clause-ok : goal.returns-then-frame-ne0-clause-ok
-returns-then-frame-ne0-clause-ok c =
+pub returns-then-not-is_root-clause-ok : goal.returns-then-not-is_root-clause-ok
+returns-then-not-is_root-clause-ok c =
     let P : VersionState → Type 0 = λ state. IsSettled state c.args.frame in
     let entries = c.self.inside.store.places.entries in
     let made = c.self.inside.made in
@@ -35,30 +35,30 @@ returns-then-frame-ne0-clause-ok c =
     let settling = c.in-Ok.ensures.settling made begun in
     let paid = c.in-Ok.ensures.paid made begun in
     let forgotten = c.forget_all.ensures.forgotten made (not_begun entries c.self.inside.store.nodes c.settle_all.new.nodes made c.args.frame settling paid) in
-    frame_finished entries c.self.inside.store.nodes c.settle_all.new.nodes made c.args.frame settling paid c.if-frame-ne0.true c.forget_all.new.places.entries c.forget_all.new.nodes
+    frame_finished entries c.self.inside.store.nodes c.settle_all.new.nodes made c.args.frame settling paid c.if-not-is_root.true c.forget_all.new.places.entries c.forget_all.new.nodes
     forgotten c.forget_all.ensures.none
     ∙ ap (λ state. after_finish state c.args.frame) c.self.view_is
 
-pub returns-else-frame-ne0-clause-ok : goal.returns-else-frame-ne0-clause-ok
-returns-else-frame-ne0-clause-ok c =
+pub returns-else-not-is_root-clause-ok : goal.returns-else-not-is_root-clause-ok
+returns-else-not-is_root-clause-ok c =
     let P : VersionState → Type 0 = λ state. IsSettled state c.args.frame in
     let entries = c.self.inside.store.places.entries in
     let made = c.self.inside.made in
     let begun = begins entries c.self.inside.store.nodes made c.args.frame c.self.invariant (subst P (sym c.self.view_is) c.requires.settled) in
-    root_finished entries c.self.inside.store.nodes c.settle_all.new.nodes made c.args.frame (c.in-Ok.ensures.settling made begun) (c.in-Ok.ensures.paid made begun) c.if-frame-ne0.false
+    root_finished entries c.self.inside.store.nodes c.settle_all.new.nodes made c.args.frame (c.in-Ok.ensures.settling made begun) (c.in-Ok.ensures.paid made begun) c.if-not-is_root.false
     ∙ ap (λ state. after_finish state c.args.frame) c.self.view_is
 
-pub returns-then-frame-ne0-clause-follows : goal.returns-then-frame-ne0-clause-follows
-returns-then-frame-ne0-clause-follows c = finish_told c.args.self.now _ c.args.frame c.requires.settled (returns-then-frame-ne0-clause-ok c)
+pub returns-then-not-is_root-clause-follows : goal.returns-then-not-is_root-clause-follows
+returns-then-not-is_root-clause-follows c = finish_told c.args.self.now _ c.args.frame c.requires.settled (returns-then-not-is_root-clause-ok c)
 
-pub returns-then-frame-ne0-clause-giving : goal.returns-then-frame-ne0-clause-giving
-returns-then-frame-ne0-clause-giving c = finished_giving c.args.self.now _ c.args.frame c.requires.settled (returns-then-frame-ne0-clause-ok c)
+pub returns-then-not-is_root-clause-giving : goal.returns-then-not-is_root-clause-giving
+returns-then-not-is_root-clause-giving c = finished_giving c.args.self.now _ c.args.frame c.requires.settled (returns-then-not-is_root-clause-ok c)
 
-pub returns-else-frame-ne0-clause-follows : goal.returns-else-frame-ne0-clause-follows
-returns-else-frame-ne0-clause-follows c = finish_told c.args.self.now _ c.args.frame c.requires.settled (returns-else-frame-ne0-clause-ok c)
+pub returns-else-not-is_root-clause-follows : goal.returns-else-not-is_root-clause-follows
+returns-else-not-is_root-clause-follows c = finish_told c.args.self.now _ c.args.frame c.requires.settled (returns-else-not-is_root-clause-ok c)
 
-pub returns-else-frame-ne0-clause-giving : goal.returns-else-frame-ne0-clause-giving
-returns-else-frame-ne0-clause-giving c = finished_giving c.args.self.now _ c.args.frame c.requires.settled (returns-else-frame-ne0-clause-ok c)
+pub returns-else-not-is_root-clause-giving : goal.returns-else-not-is_root-clause-giving
+returns-else-not-is_root-clause-giving c = finished_giving c.args.self.now _ c.args.frame c.requires.settled (returns-else-not-is_root-clause-ok c)
 
 pub forget_all-requires : goal.forget_all-requires
 forget_all-requires c =
