@@ -5,6 +5,7 @@ pub mod BookView
 pub mod Calls
 -- How the plain form is kept, cited by private contracts alone: the chunks in their chains, the frames, and the whole.
 pub mod Chains
+pub mod Lines
 pub mod KeptFrames
 pub mod Live
 pub mod Whole

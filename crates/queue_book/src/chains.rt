@@ -2,7 +2,8 @@
 ghost use Rattle.std.specs.Prelude.{◌≡◌, ◌≢◌, ℕ, ◌+◌, ◌<◌, Option, Some, None, [], ◌∷◌, drop, length, IfOk, IfSome, IfNone, OnOk, true};
 ghost use Rattle.slab.specs.Slab.{ContainsKey, slab_len};
 ghost use Rattle.queues.specs.Chunks.{Chunk, Chunks, own, is_spent, with_item, after_hand_on, after_close, without_spent, without_first, items_in};
-ghost use Rattle.queue_book.specs.Chains.{AreChained, chunk_of, first_item, in_line, put_at, IsFront};
+ghost use Rattle.queue_book.specs.Chains.{IsFront, chunk_of, first_item, in_line, put_at};
+ghost use Rattle.queue_book.specs.Lines.{HaveLines, OnLines, OnOwn, OnUnowned};
 
 use crate::ChunkNode;
 use slab::Slab;
@@ -34,7 +35,7 @@ impl Chains {
     /// No queues. It takes no memory. `O(1)`.
     pub fn new(alloc: Global) -> Chains
         ensures none { length result.heads.items ≡ 0 }
-        ensures kept { (lines : ℕ → Chunks) → AreChained (λ n q. None) result.heads.items result.nodes lines }
+        ensures kept { (lines : ℕ → Chunks) → HaveLines result (λ n q. None) lines }
     {
         Chains {
             heads: Vec::new(alloc),
@@ -46,9 +47,8 @@ impl Chains {
     pub fn make(&mut self, queue: u32, owner: u64, items: Values) -> Result<usize, NoMemory>
         requires number { queue ≡ length self.old.heads.items }
         ensures more { OnOk result (length self.new.heads.items ≡ length self.old.heads.items + 1) }
-        ensures made { IfOk result (λ key. (at : ℕ → ℕ → Option ℕ) (lines : ℕ → Chunks) → AreChained at self.old.heads.items self.old.nodes lines
-            → at owner queue ≡ None
-            → AreChained (put_at owner queue (Some key) at) self.new.heads.items self.new.nodes (in_line queue (λ old. own owner items ∷ []) lines)) }
+        ensures made { IfOk result (λ key. OnLines self.old (λ at lines. at owner queue ≡ None
+            → HaveLines self.new (put_at owner queue (Some key) at) (in_line queue (λ old. own owner items ∷ []) lines))) }
     {
         let key = self.nodes.insert(ChunkNode::first(queue, owner, items))?;
         self.heads.push(Some(key))?;
@@ -59,9 +59,7 @@ impl Chains {
     pub fn push(&mut self, key: usize, value: Value) -> Result<(), NoMemory>
         requires known { ContainsKey self.old.nodes key }
         ensures heads { self.new.heads.items ≡ self.old.heads.items }
-        ensures pushed { OnOk result ((at : ℕ → ℕ → Option ℕ) (lines : ℕ → Chunks) (owner queue : ℕ) → AreChained at self.old.heads.items self.old.nodes lines
-            → at owner queue ≡ Some key
-            → AreChained at self.new.heads.items self.new.nodes (in_line queue (with_item owner value) lines)) }
+        ensures pushed { OnOk result (OnOwn self.old key (λ at lines owner queue. HaveLines self.new at (in_line queue (with_item owner value) lines))) }
     {
         let Some(node) = self.nodes.get_mut(key) else {
             unreachable!()
@@ -81,10 +79,8 @@ impl Chains {
     ) -> Result<usize, NoMemory>
         requires two { parent ≢ child }
         ensures heads { self.new.heads.items ≡ self.old.heads.items }
-        ensures handed { IfOk result (λ new. (at : ℕ → ℕ → Option ℕ) (lines : ℕ → Chunks) (queue : ℕ) → AreChained at self.old.heads.items self.old.nodes lines
-            → at parent queue ≡ Some key → at child queue ≡ None
-            → AreChained (put_at parent queue (Some new) (put_at child queue (Some key) at)) self.new.heads.items self.new.nodes
-            (in_line queue (after_hand_on parent child) lines)) }
+        ensures handed { IfOk result (λ new. OnLines self.old (λ at lines. (queue : ℕ) → at parent queue ≡ Some key → at child queue ≡ None
+            → HaveLines self.new (put_at parent queue (Some new) (put_at child queue (Some key) at)) (in_line queue (after_hand_on parent child) lines))) }
     {
         let behind = match self.nodes.get(key) {
             Some(node) => node.behind(alloc, parent),
@@ -100,9 +96,7 @@ impl Chains {
     /// Nobody pushes to a chunk any more. `O(1)`.
     pub fn close(&mut self, key: usize)
         ensures heads { self.new.heads.items ≡ self.old.heads.items }
-        ensures closed { (at : ℕ → ℕ → Option ℕ) (lines : ℕ → Chunks) (owner queue : ℕ) → AreChained at self.old.heads.items self.old.nodes lines
-            → at owner queue ≡ Some key
-            → AreChained (put_at owner queue None at) self.new.heads.items self.new.nodes (in_line queue (after_close owner) lines) }
+        ensures closed { OnOwn self.old key (λ at lines owner queue. HaveLines self.new (put_at owner queue None at) (in_line queue (after_close owner) lines)) }
     {
         if let Some(node) = self.nodes.get_mut(key) {
             node.close();
@@ -112,10 +106,8 @@ impl Chains {
     /// What stands at the front of a queue, and None where that is a spent chunk. `O(1)`.
     fn front(&self, queue: u32) -> Option<Front>
         requires known { queue < length self.now.heads.items }
-        ensures stands { IfSome result (λ front. (at : ℕ → ℕ → Option ℕ) (lines : ℕ → Chunks) → AreChained at self.now.heads.items self.now.nodes lines
-            → IsFront (lines queue) front × (without_spent (lines queue) ≡ lines queue)) }
-        ensures spent { IfNone result ((at : ℕ → ℕ → Option ℕ) (lines : ℕ → Chunks) → AreChained at self.now.heads.items self.now.nodes lines
-            → (chunk : Chunk) × (rest : Chunks) × (lines queue ≡ chunk ∷ rest) × (is_spent chunk ≡ true)) }
+        ensures stands { IfSome result (λ front. OnLines self.now (λ at lines. IsFront (lines queue) front × (without_spent (lines queue) ≡ lines queue))) }
+        ensures spent { IfNone result (OnLines self.now (λ at lines. (chunk : Chunk) × (rest : Chunks) × (lines queue ≡ chunk ∷ rest) × (is_spent chunk ≡ true))) }
     {
         let Some(key) = self.heads[queue as usize] else {
             return Some(Front::Over);
@@ -136,16 +128,15 @@ impl Chains {
     fn drop_first(&mut self, queue: u32) -> Option<ChunkNode>
         requires known { queue < length self.old.heads.items }
         ensures same { length self.new.heads.items ≡ length self.old.heads.items }
+
+        // the first chunk, where there is one
         ensures fewer { IfSome result (λ node. slab_len self.new.nodes + 1 ≡ slab_len self.old.nodes) }
-        ensures first { IfSome result (λ node. (at : ℕ → ℕ → Option ℕ) (lines : ℕ → Chunks) → AreChained at self.old.heads.items self.old.nodes lines
-            → lines queue ≡ chunk_of node ∷ drop 1 (lines queue)) }
-        ensures dropped { IfSome result (λ node. (at : ℕ → ℕ → Option ℕ) (lines : ℕ → Chunks) → AreChained at self.old.heads.items self.old.nodes lines
-            → node.owner ≡ None
-            → AreChained at self.new.heads.items self.new.nodes (in_line queue (λ chunks. drop 1 chunks) lines)) }
-        ensures unowned { IfSome result (λ node. (at : ℕ → ℕ → Option ℕ) (lines : ℕ → Chunks) → AreChained at self.old.heads.items self.old.nodes lines
-            → ((number : ℕ) → at number queue ≡ None) → node.owner ≡ None) }
-        ensures none { IfNone result ((at : ℕ → ℕ → Option ℕ) (lines : ℕ → Chunks) → AreChained at self.old.heads.items self.old.nodes lines
-            → (lines queue ≡ []) × AreChained at self.new.heads.items self.new.nodes lines) }
+        ensures first { IfSome result (λ node. OnLines self.old (λ at lines. lines queue ≡ chunk_of node ∷ drop 1 (lines queue))) }
+        ensures dropped { IfSome result (λ node. OnLines self.old (λ at lines. node.owner ≡ None → HaveLines self.new at (in_line queue (λ chunks. drop 1 chunks) lines))) }
+        ensures unowned { IfSome result (λ node. OnUnowned self.old queue (λ at lines. node.owner ≡ None)) }
+
+        // and none
+        ensures none { IfNone result (OnLines self.old (λ at lines. (lines queue ≡ []) × HaveLines self.new at lines)) }
         ensures no_fewer { IfNone result (self.new.nodes ≡ self.old.nodes) }
     {
         let Some(key) = self.heads[queue as usize] else {
@@ -163,10 +154,8 @@ impl Chains {
     pub fn trim(&mut self, queue: u32) -> Front
         requires known { queue < length self.old.heads.items }
         ensures same { length self.new.heads.items ≡ length self.old.heads.items }
-        ensures trimmed { (at : ℕ → ℕ → Option ℕ) (lines : ℕ → Chunks) → AreChained at self.old.heads.items self.old.nodes lines
-            → AreChained at self.new.heads.items self.new.nodes (in_line queue without_spent lines) × IsFront (without_spent (lines queue)) result }
-        ensures fewer { (at : ℕ → ℕ → Option ℕ) (lines : ℕ → Chunks) → AreChained at self.old.heads.items self.old.nodes lines
-            → slab_len self.new.nodes + length (lines queue) ≡ slab_len self.old.nodes + length (without_spent (lines queue)) }
+        ensures trimmed { OnLines self.old (λ at lines. HaveLines self.new at (in_line queue without_spent lines) × IsFront (without_spent (lines queue)) result) }
+        ensures fewer { OnLines self.old (λ at lines. slab_len self.new.nodes + length (lines queue) ≡ slab_len self.old.nodes + length (without_spent (lines queue))) }
     {
         loop {
             if let Some(front) = self.front(queue) {
@@ -182,10 +171,8 @@ impl Chains {
     pub fn take_first(&mut self, queue: u32) -> Option<Value>
         requires known { queue < length self.old.heads.items }
         ensures same { length self.new.heads.items ≡ length self.old.heads.items }
-        ensures item { (at : ℕ → ℕ → Option ℕ) (lines : ℕ → Chunks) → AreChained at self.old.heads.items self.old.nodes lines
-            → result ≡ first_item (lines queue) }
-        ensures taken { (at : ℕ → ℕ → Option ℕ) (lines : ℕ → Chunks) → AreChained at self.old.heads.items self.old.nodes lines
-            → AreChained at self.new.heads.items self.new.nodes (in_line queue without_first lines) }
+        ensures item { OnLines self.old (λ at lines. result ≡ first_item (lines queue)) }
+        ensures taken { OnLines self.old (λ at lines. HaveLines self.new at (in_line queue without_first lines)) }
     {
         let Some(key) = self.heads[queue as usize] else {
             return None;
@@ -200,11 +187,8 @@ impl Chains {
     pub fn give_up(&mut self, queue: u32)
         requires known { queue < length self.old.heads.items }
         ensures same { length self.new.heads.items ≡ length self.old.heads.items }
-        ensures given_up { (at : ℕ → ℕ → Option ℕ) (lines : ℕ → Chunks) → AreChained at self.old.heads.items self.old.nodes lines
-            → ((number : ℕ) → at number queue ≡ None)
-            → AreChained at self.new.heads.items self.new.nodes (in_line queue (λ chunks. []) lines) }
-        ensures fewer { (at : ℕ → ℕ → Option ℕ) (lines : ℕ → Chunks) → AreChained at self.old.heads.items self.old.nodes lines
-            → ((number : ℕ) → at number queue ≡ None) → slab_len self.new.nodes + length (lines queue) ≡ slab_len self.old.nodes }
+        ensures given_up { OnUnowned self.old queue (λ at lines. HaveLines self.new at (in_line queue (λ chunks. []) lines)) }
+        ensures fewer { OnUnowned self.old queue (λ at lines. slab_len self.new.nodes + length (lines queue) ≡ slab_len self.old.nodes) }
     {
         while let Some(_node) = self.drop_first(queue) {}
     }
@@ -214,13 +198,9 @@ impl Chains {
     pub fn take_all(&mut self, alloc: Global, queue: u32) -> Result<Values, NoMemory>
         requires known { queue < length self.old.heads.items }
         ensures same { OnOk result (length self.new.heads.items ≡ length self.old.heads.items) }
-        ensures items { IfOk result (λ items. (at : ℕ → ℕ → Option ℕ) (lines : ℕ → Chunks) → AreChained at self.old.heads.items self.old.nodes lines
-            → ((number : ℕ) → at number queue ≡ None) → items ≡ items_in (lines queue)) }
-        ensures taken { OnOk result ((at : ℕ → ℕ → Option ℕ) (lines : ℕ → Chunks) → AreChained at self.old.heads.items self.old.nodes lines
-            → ((number : ℕ) → at number queue ≡ None)
-            → AreChained at self.new.heads.items self.new.nodes (in_line queue (λ chunks. []) lines)) }
-        ensures fewer { OnOk result ((at : ℕ → ℕ → Option ℕ) (lines : ℕ → Chunks) → AreChained at self.old.heads.items self.old.nodes lines
-            → ((number : ℕ) → at number queue ≡ None) → slab_len self.new.nodes + length (lines queue) ≡ slab_len self.old.nodes) }
+        ensures items { IfOk result (λ items. OnUnowned self.old queue (λ at lines. items ≡ items_in (lines queue))) }
+        ensures taken { OnOk result (OnUnowned self.old queue (λ at lines. HaveLines self.new at (in_line queue (λ chunks. []) lines))) }
+        ensures fewer { OnOk result (OnUnowned self.old queue (λ at lines. slab_len self.new.nodes + length (lines queue) ≡ slab_len self.old.nodes)) }
     {
         let mut items = Values::new(alloc);
         while let Some(node) = self.drop_first(queue) {
@@ -232,7 +212,7 @@ impl Chains {
     /// Gives up all queues. `O(1)` for each chunk and item; it takes no memory.
     pub fn clear(&mut self)
         ensures none { length self.new.heads.items ≡ 0 }
-        ensures kept { (lines : ℕ → Chunks) → AreChained (λ n q. None) self.new.heads.items self.new.nodes lines }
+        ensures kept { (lines : ℕ → Chunks) → HaveLines self.new (λ n q. None) lines }
     {
         self.heads.clear();
         self.nodes.clear();

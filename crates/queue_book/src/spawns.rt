@@ -17,7 +17,10 @@ use swan_model::{Mode, NoMemory};
 impl Store {
     /// Makes a child, which is given queues. `O(log n)`, and as much amortised for each give. Err is want of memory.
     pub fn spawn(&mut self, parent: u64, child: u64, gives: &[QueueGive]) -> Result<(), NoMemory>
+        // what is given, and by whom
         requires may { MayHandOn self.old.frames self.old.turns parent child gives.now }
+
+        // what it leaves
         ensures heads { OnOk result (self.new.chains.heads.items ≡ self.old.chains.heads.items) }
         ensures spawned { OnOk result (IsSpawnedIn self.old.frames self.new.frames parent child gives.now self.old.chains.heads.items self.old.chains.nodes self.new.chains.nodes self.old.turns self.new.turns) }
     {
@@ -38,11 +41,16 @@ impl Store {
         one: QueueGive,
         places: &mut BTreeMap<u32, OwnChunk>,
     ) -> Result<(), NoMemory>
+        // what is given
         requires has { (place : Held) × (own_chunk_at self.old.frames parent one.queue ≡ Some place) }
+        requires of_queues { IsTrue (is_queue_mode one.mode) }
+
+        // who gets it
         requires rising { parent < child }
         requires newest { AreUpTo self.old.turns child }
         requires fits { MayGet self.old.turns parent child one.queue }
-        requires of_queues { IsTrue (is_queue_mode one.mode) }
+
+        // what it leaves
         ensures heads { OnOk result (self.new.chains.heads.items ≡ self.old.chains.heads.items) }
         ensures given { OnOk result (IsHandedIn self.old.frames self.new.frames parent child one.queue (allows one.mode Push) places.old.entries places.new.entries self.old.chains.heads.items self.old.chains.nodes self.new.chains.nodes) }
         ensures turns { OnOk result (self.new.turns ≡ enlisted self.old.turns parent child (holding_of one)) }

@@ -9,7 +9,7 @@ returns-then-not-place-clause-ended c at lines is key alone =
     let number = c.args.number in
     let place = c.args.place in
     chained_closed (put_at number c.args.queue None at) c.close.new.self.heads.items c.close.new.self.nodes lines number c.args.queue place
-    (ap (λ b. b && not (number == 0)) (not_so place.is_maker c.if-not-place.true)) (c.close.ensures.closed at lines number c.args.queue is key)
+    (ap (λ b. b && not (number == 0)) (not_so place.is_maker c.if-not-place.true)) (c.close.ensures.closed at lines is number c.args.queue key)
 
 pub returns-then-number-eq0-clause-ended : goal.returns-then-number-eq0-clause-ended
 returns-then-number-eq0-clause-ended c at lines is key alone =
@@ -19,7 +19,7 @@ returns-then-number-eq0-clause-ended c at lines is key alone =
     let stays : (place.is_maker && not (number == 0)) ≡ false =
     ap (λ b. b && not (number == 0)) (still_so place.is_maker c.if-not-place.false) ∙ ap (λ k. true && not (k == 0)) root in
     chained_closed (put_at number c.args.queue None at) c.close.new.self.heads.items c.close.new.self.nodes lines number c.args.queue place stays
-    (c.close.ensures.closed at lines number c.args.queue is key)
+    (c.close.ensures.closed at lines is number c.args.queue key)
 
 pub returns-clause-ended : goal.returns-clause-ended
 returns-clause-ended c at lines is key alone =
@@ -28,5 +28,5 @@ returns-clause-ended c at lines is key alone =
     let place = c.args.place in
     let other : number ≢ 0 = c.if-number-eq0.false in
     chained_over (put_at number queue None at) c.give_up.new.self.heads.items c.give_up.new.self.nodes lines number queue place (still_so place.is_maker c.if-not-place.false) other
-    (c.give_up.ensures.given_up (put_at number queue None at) (in_line queue (after_close number) lines) (c.close.ensures.closed at lines number queue is key)
+    (c.give_up.ensures.given_up (put_at number queue None at) (in_line queue (after_close number) lines) (c.close.ensures.closed at lines is number queue key)
     (none_but_own number queue at (alone (still_so place.is_maker c.if-not-place.false) other)))

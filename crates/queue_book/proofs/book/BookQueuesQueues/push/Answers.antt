@@ -60,4 +60,4 @@ invariant_of-self c =
     let turn : IsOnTurn name state n = subst Turn (sym c.self.view_is) c.requires.turn in
     let P : QueueState → Type 0 = λ st. IsBook name st c.count_deed.new.self c.push.new.self.heads.items c.push.new.self.nodes turns in
     subst P (sym c.after.ensures) (book_push name state frames heads nodes turns is n q may value next turn c.push.new.self.heads.items c.push.new.self.nodes c.push.ensures.heads
-    (c.in-Ok.ensures.pushed (key_at frames) is.lines n q is.chained key) c.count_deed.new.self c.count_deed.ensures)
+    (c.in-Ok.ensures.pushed (key_at frames) is.lines is.chained n q key) c.count_deed.new.self c.count_deed.ensures)

@@ -6,7 +6,7 @@ use Rattle.queue_book.proofs.ChainGrowth.{IsHandedOn, chained_hand_on}
 use Rattle.queue_book.proofs.chains.Chains.hand_on.Goals as goal
 
 pub returns-in-Some-get_mut-clause-handed : goal.returns-in-Some-get_mut-clause-handed
-returns-in-Some-get_mut-clause-handed c at lines queue is mine unplaced =
+returns-in-Some-get_mut-clause-handed c at lines is queue mine unplaced =
     let heads = c.args.self.now.heads.items in
     let nodes = c.args.self.now.nodes in
     let inserted = c.insert.new.self in

@@ -7,7 +7,7 @@ use Rattle.queue_book.proofs.ChainChanges.{chained_push}
 use Rattle.queue_book.proofs.chains.Chains.push.Goals as goal
 
 pub returns-clause-pushed : goal.returns-clause-pushed
-returns-clause-pushed c at lines owner queue is mine =
+returns-clause-pushed c at lines is owner queue mine =
     let heads = c.args.self.now.heads.items in
     let nodes = c.args.self.now.nodes in
     let key = c.args.key in

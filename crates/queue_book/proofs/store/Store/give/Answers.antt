@@ -28,5 +28,5 @@ returns-clause-given c =
       chained = λ at lines is mine free.
           let P : List (Option ℕ) → Type 0 = λ hs.
           AreChained (put_at parent q (Some c.in_ok-new.new) (put_at child q (Some c.in-Some.place.key) at)) hs c.hand_on.new.self.nodes (in_line q (after_hand_on parent child) lines) in
-          subst P c.hand_on.ensures.heads (c.in_ok-new.ensures.handed at lines q is mine free);
+          subst P c.hand_on.ensures.heads (c.in_ok-new.ensures.handed at lines is q mine free);
     })
