@@ -38,14 +38,19 @@ pub trait Files {
     /// bytes, but for a call that is Failed. After any refusal the buffer is as it was. A read
     /// leaves all told contents as they are.
     fn read(&mut self, name: &Word, into: &mut Vec<u8>) -> Result<(), ReadAnswer>
+        // what is read
         ensures whole { OnOk result
             (Reads (content self.old name.now) into.old.items into.new.items) }
         ensures unread { OnErr result (into.new.items ≡ into.old.items) }
+
+        // when each refusal comes
         ensures failed { result ≡ Err answer.Failed → Rose (faults self.old) (faults self.new) }
         ensures long { result ≡ Err answer.TooLong →
             Rose (long_reads self.old) (long_reads self.new) }
         ensures long_where_told { result ≡ Err answer.TooLong →
             IsTooLong (content self.old name.now) }
+
+        // what is counted, and what stays
         ensures no_fault { result ≢ Err answer.Failed → faults self.new ≡ faults self.old }
         ensures no_long_read { result ≢ Err answer.TooLong →
             long_reads self.new ≡ long_reads self.old }

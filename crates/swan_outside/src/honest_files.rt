@@ -52,18 +52,25 @@ impl Files for HonestFiles {
     /// file has the name. Failed never comes. TooLong comes exactly where the content passes `FILE_MOST`
     /// bytes. `O(files + content)`.
     fn read(&mut self, name: &Word, into: &mut Vec<u8>) -> Result<(), ReadAnswer>
+        // the exact answer, and what it leaves
         ensures answer { IsAnswerTo (Some (honest_content self.old.files name.now)) result }
         ensures after { self.new ≡ record self.old {
           long_reads = long_reads_after self.old.long_reads result;
         } }
+
+        // what is read
         ensures whole { OnOk result (Reads (Some (honest_content self.old.files name.now))
             into.old.items into.new.items) }
         ensures unread { OnErr result (into.new.items ≡ into.old.items) }
+
+        // when each refusal comes
         ensures failed { result ≡ Err answer.Failed → Rose 0 0 }
         ensures long { result ≡ Err answer.TooLong →
             Rose self.old.long_reads self.new.long_reads }
         ensures long_where_told { result ≡ Err answer.TooLong →
             IsTooLong (Some (honest_content self.old.files name.now)) }
+
+        // what is counted, and what stays
         ensures no_long_read { result ≢ Err answer.TooLong →
             self.new.long_reads ≡ self.old.long_reads }
         ensures long_reads_kept { self.old.long_reads ≤ self.new.long_reads }

@@ -66,16 +66,23 @@ impl Sink for HonestSink {
 
     /// Takes the whole piece. Failed never comes. It takes no memory. `O(bytes of the piece)`.
     fn put(&mut self, piece: &[u8]) -> Result<usize, Failed>
+        // what is given
         requires { 0 < length piece.now }
+
+        // the exact answer, and what it leaves
         ensures answer { result ≡ Ok (length piece.now) }
         ensures after { self.new ≡ record self.old {
           written = told_within self.old.room self.old.written piece.now;
         } }
+
+        // what is taken
         ensures some { IfOk result (λ n. 1 ≤ n) }
         ensures most { IfOk result (λ n. n ≤ length piece.now) }
         ensures taken { IfOk result
             (λ n. Appends self.old.written (take n piece.now) self.new.written) }
         ensures nothing { OnErr result (Appends self.old.written [] self.new.written) }
+
+        // what is counted
         ensures failed { OnErr result (Rose 0 0) }
     {
         if self.tells && piece.len() <= self.room - self.bytes.len() {

@@ -62,17 +62,24 @@ impl Files for MemoryFiles {
     /// comes exactly where else the content passes `FILE_MOST` bytes. `O(files + numbers that fail
     /// + content)`.
     fn read(&mut self, name: &Word, into: &mut Vec<u8>) -> Result<(), ReadAnswer>
+        // the exact answer, and what it leaves
         ensures answer { IsAnswerTo (content_found self.old name.now) result }
         ensures after { self.new ≡ after_read self.old result }
+
+        // what is read
         ensures whole { OnOk result
             (Reads (content_of self.old.files name.now) into.old.items into.new.items) }
         ensures unread { OnErr result (into.new.items ≡ into.old.items) }
+
+        // when each refusal comes
         ensures failed { result ≡ Err answer.Failed →
             Rose self.old.counts.faults self.new.counts.faults }
         ensures long { result ≡ Err answer.TooLong →
             Rose self.old.counts.long_reads self.new.counts.long_reads }
         ensures long_where_told { result ≡ Err answer.TooLong →
             IsTooLong (content_of self.old.files name.now) }
+
+        // what is counted, and what stays
         ensures no_fault { result ≢ Err answer.Failed →
             self.new.counts.faults ≡ self.old.counts.faults }
         ensures no_long_read { result ≢ Err answer.TooLong →

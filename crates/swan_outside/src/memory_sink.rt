@@ -80,15 +80,22 @@ impl Sink for MemorySink {
     /// exactly where the call's number is one of those that fail, or no room is left. It takes no
     /// memory. `O(numbers that fail + bytes taken)`.
     fn put(&mut self, piece: &[u8]) -> Result<usize, Failed>
+        // what is given
         requires { 0 < length piece.now }
+
+        // the exact answer, and what it leaves
         ensures answer { result ≡ put_answer self.old piece.now }
         ensures after { self.new ≡ after_put self.old piece.now }
+
+        // what is taken
         ensures some { IfOk result (λ n. 1 ≤ n) }
         ensures most { IfOk result (λ n. n ≤ length piece.now) }
         ensures taken { IfOk result
             (λ n. Appends (Some self.old.written) (take n piece.now) (Some self.new.written)) }
         ensures nothing { OnErr result
             (Appends (Some self.old.written) [] (Some self.new.written)) }
+
+        // what is counted
         ensures failed { OnErr result (Rose self.old.faults self.new.faults) }
         ensures faults_kept { self.old.faults ≤ self.new.faults }
     {

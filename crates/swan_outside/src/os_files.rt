@@ -68,16 +68,23 @@ impl<T: Runtime> Files for OsFiles<T> {
     /// Where the runtime tells what its files have left, the bytes are all that one of its files
     /// had, and TooLong comes only where one had more than `FILE_MOST`. `O(bytes that are read)`.
     fn read(&mut self, name: &Word, into: &mut Vec<u8>) -> Result<(), ReadAnswer>
+        // what is known of a system
         ensures counts { self.new ≡ counts_after_read self.old result }
         ensures file { OnOk result ((file : T.File)
             × Reads (T.File.remaining file) into.old.items into.new.items) }
+
+        // what is read
         ensures whole { OnOk result (Reads None into.old.items into.new.items) }
         ensures unread { OnErr result (into.new.items ≡ into.old.items) }
+
+        // when each refusal comes
         ensures failed { result ≡ Err answer.Failed → Rose self.old.faults self.new.faults }
         ensures long { result ≡ Err answer.TooLong → Rose self.old.long_reads self.new.long_reads }
         ensures long_file { result ≡ Err answer.TooLong →
             (file : T.File) × IsTooLong (T.File.remaining file) }
         ensures opened { result ≡ Err answer.NoMemory → T.File }
+
+        // what is counted, and what stays
         ensures no_fault { result ≢ Err answer.Failed → self.new.faults ≡ self.old.faults }
         ensures no_long_read { result ≢ Err answer.TooLong →
             self.new.long_reads ≡ self.old.long_reads }

@@ -73,12 +73,19 @@ impl<T: Print + Eprint + Drop> Sink for OsSink<T> {
     /// the system can't write, or takes nothing; where it fails in the middle of a front for
     /// standard error, a part of that may have been written. It takes no memory. `O(bytes taken)`.
     fn put(&mut self, piece: &[u8]) -> Result<usize, Failed>
+        // what is given
         requires { 0 < length piece.now }
+
+        // what is known of a system
         ensures counts { self.new ≡
             record self.old { faults = faults_after_put self.old.faults result } }
         ensures front { IfOk result (λ n. IsTakenBy self.old.stream piece.now n) }
+
+        // what is taken
         ensures some { IfOk result (λ n. 1 ≤ n) }
         ensures most { IfOk result (λ n. n ≤ length piece.now) }
+
+        // what is counted
         ensures failed { OnErr result (Rose self.old.faults self.new.faults) }
         ensures faults_kept { self.old.faults ≤ self.new.faults }
     {

@@ -21,12 +21,17 @@ pub trait Sink {
     /// Failed comes only where the count of faults rose in this call, and then nothing was taken. A
     /// put that took nothing is a fault.
     fn put(&mut self, piece: &[u8]) -> Result<usize, Failed>
+        // what is given
         requires { 0 < length piece.now }
+
+        // what is taken
         ensures some { IfOk result (λ n. 1 ≤ n) }
         ensures most { IfOk result (λ n. n ≤ length piece.now) }
         ensures taken { IfOk result
             (λ n. Appends (written self.old) (take n piece.now) (written self.new)) }
         ensures nothing { OnErr result (Appends (written self.old) [] (written self.new)) }
+
+        // what is counted
         ensures failed { OnErr result (Rose (faults self.old) (faults self.new)) }
         ensures faults_kept { faults self.old ≤ faults self.new };
 }
