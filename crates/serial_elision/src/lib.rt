@@ -66,6 +66,7 @@ mod text;
 use activation::Activation;
 use cell::Cell;
 use effect::Effect;
+pub use alias::is_aliased;
 pub use elision::{elide, elision_ends};
 use holding::Holding;
 pub use laws::{a_fault_ends_its_task, faults_are_in_order, rights_bind};
