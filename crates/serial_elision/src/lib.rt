@@ -64,9 +64,9 @@ mod task_laws;
 mod text;
 
 use activation::Activation;
+pub use alias::is_aliased;
 use cell::Cell;
 use effect::Effect;
-pub use alias::is_aliased;
 pub use elision::{elide, elision_ends};
 use holding::Holding;
 pub use laws::{a_fault_ends_its_task, faults_are_in_order, rights_bind};
