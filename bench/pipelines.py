@@ -4,7 +4,7 @@ import resource
 import shutil
 import subprocess
 
-from common import SWAN, folder, least, written
+from common import SWAN, folder, written
 
 LINES = 200_000
 
@@ -25,23 +25,27 @@ def table():
         yield f"{i}\t{i * 7919 % 30011}\t{'x' * (i % 17)}\tand some more of it\n"
 
 
-def seconds(command, path):
-    """The processor seconds of a command of a shell and all that it starts, and what it writes."""
+def seconds(command):
+    """The processor seconds of a command of a shell and all that it starts, and what it writes, which is read through a pipe."""
     before = resource.getrusage(resource.RUSAGE_CHILDREN)
-    out = subprocess.run(["bash", "-c", command.format(path)], env=dict(os.environ, LC_ALL="C"), capture_output=True, check=True).stdout
+    out = subprocess.run(["bash", "-c", command], env=dict(os.environ, LC_ALL="C"), stdout=subprocess.PIPE, stderr=subprocess.DEVNULL, check=True).stdout
     after = resource.getrusage(resource.RUSAGE_CHILDREN)
     return after.ru_utime + after.ru_stime - before.ru_utime - before.ru_stime, out
 
 
 def compared(command, path, others):
-    own, _ = least([command, 1, path], 3)
-    written_by_swan = subprocess.run([SWAN, command, "1", path], capture_output=True, check=True).stdout
-    print(f"{command}: {own:.3g} s for {os.path.getsize(path)} bytes")
-    for tool, line in others:
-        if shutil.which(tool):
-            ran = [seconds(line, path) for _ in range(3)]
-            same = "the same" if ran[0][1] == written_by_swan else "OTHER BYTES"
-            print(f"{command} to {tool:12} {own / min(time for time, _ in ran):6.2f}  {same}")
+    """Prints the ratios of a command's processor time to those of the others, all run in turns and in the same way."""
+    lines = {"swan": f"{SWAN} {command} 1 {path}"} | {tool: line.format(path) for tool, line in others if shutil.which(tool)}
+    least, outs = {}, {}
+    for _ in range(3):
+        for tool, line in lines.items():
+            time, outs[tool] = seconds(line)
+            least[tool] = min(time, least.get(tool, time))
+    print(f"{command}: {least['swan']:.3g} s for {os.path.getsize(path)} bytes")
+    for tool in lines:
+        if tool != "swan":
+            same = "the same" if outs[tool] == outs["swan"] else "OTHER BYTES"
+            print(f"{command} to {tool:12} {least['swan'] / least[tool]:6.2f}  {same}")
 
 
 with folder() as here:

@@ -3,9 +3,8 @@ use Rattle.std.proofs.Common.{◌≡◌, ℕ, Bool, cond, Some, None, List, [], 
 use Rattle.std.proofs.lemmas.Cmp.{nat_list_cmp_total}
 use Rattle.std.proofs.lemmas.Map.Lookups.{exact_bytes}
 use Rattle.std.specs.BTreeMap.{insert_entry, is_at}
-use Rattle.std.specs.BTreeSet.{BTreeSet, insert_key}
+use Rattle.std.specs.BTreeSet.{insert_key}
 use Rattle.std.specs.Cmp.Lexicographic.{slice_cmp}
-use Rattle.std.specs.Global.{Vec}
 use Rattle.std.specs.List.{AllByRecursion}
 use Rattle.std.specs.List.Sorted.{IsStrictlySortedBy}
 use Rattle.std.specs.Map.{keys_of, lookup, set_value}
@@ -18,7 +17,7 @@ use Rattle.index_pipeline.specs.Pairs.{Pair, pair_order}
 abbrev pub paired : List ℕ → ℕ → Pair
 paired word number = record { word = word; line = number }
 
-abbrev word_cmp : List ℕ → List ℕ → Ordering
+abbrev pub word_cmp : List ℕ → List ℕ → Ordering
 word_cmp = slice_cmp nat_cmp
 
 -- ---- among the pairs of one word
@@ -66,13 +65,10 @@ behind word before number (first ∷ numbers) rest above =
 -- ---- among the pairs of all words
 
 abbrev Entries : Type 0
-Entries = List (Vec ℕ × BTreeSet ℕ)
-
-abbrev pub vec_cmp : Vec ℕ → Vec ℕ → Ordering
-vec_cmp a b = word_cmp a.items b.items
+Entries = List (List ℕ × List ℕ)
 
 abbrev Above : List ℕ → Entries → Type 0
-Above word entries = AllByRecursion (λ key. word_cmp word key.items ≡ Less) (keys_of entries)
+Above word entries = AllByRecursion (λ key. word_cmp word key ≡ Less) (keys_of entries)
 
 -- the pairs of words that come later are above those of a word
 pairs_above_word : (word later : List ℕ) (number : ℕ) (numbers : List ℕ) (rest : List Pair) → word_cmp word later ≡ Less
@@ -84,77 +80,77 @@ pairs_above_word word later number (first ∷ numbers) rest less above =
 pairs_above : (word : List ℕ) (number : ℕ) (entries : Entries) → Above word entries → AllByRecursion (λ other. pair_order (paired word number) other ≡ Less) (kept_pairs entries)
 pairs_above word number [] above = tt
 pairs_above word number (entry ∷ entries) above =
-    pairs_above_word word entry.0.items number entry.1.keys (kept_pairs entries) above.0 (pairs_above word number entries above.1)
+    pairs_above_word word entry.0 number entry.1 (kept_pairs entries) above.0 (pairs_above word number entries above.1)
 
 above_later : (word first : List ℕ) (entries : Entries) → word_cmp word first ≡ Less → Above first entries → Above word entries
 above_later word first [] less above = tt
-above_later word first (entry ∷ entries) less above = (nat_list_cmp_total.trans word first entry.0.items less above.0, above_later word first entries less above.1)
+above_later word first (entry ∷ entries) less above = (nat_list_cmp_total.trans word first entry.0 less above.0, above_later word first entries less above.1)
 
-none_above : (word : List ℕ) (entries : Entries) → Above word entries → lookup (is_at (λ (key : Vec ℕ). word_cmp word key.items)) entries ≡ None
+none_above : (word : List ℕ) (entries : Entries) → Above word entries → lookup (is_at (word_cmp word)) entries ≡ None
 none_above word [] above = refl
 none_above word (entry ∷ entries) above =
-    ap (λ o. cond (is_eq o) (Some entry.1) (lookup (is_at (λ (key : Vec ℕ). word_cmp word key.items)) entries)) above.0 ∙ none_above word entries above.1
+    ap (λ o. cond (is_eq o) (Some entry.1) (lookup (is_at (word_cmp word)) entries)) above.0 ∙ none_above word entries above.1
 
 -- whether a word is there, and with which numbers
-abbrev pub at_word : List ℕ → Vec ℕ → Bool
-at_word word = is_at (λ key. word_cmp word key.items)
+abbrev pub at_word : List ℕ → List ℕ → Bool
+at_word word = is_at (word_cmp word)
 
 -- one more number of a word that is there
-pub one_number_more : (word : List ℕ) (number : ℕ) (entries : Entries) (numbers more : BTreeSet ℕ) → IsStrictlySortedBy vec_cmp (keys_of entries)
-    → lookup (at_word word) entries ≡ Some numbers → more.keys ≡ insert_key nat_cmp numbers.keys number
+pub one_number_more : (word : List ℕ) (number : ℕ) (entries : Entries) (numbers more : List ℕ) → IsStrictlySortedBy word_cmp (keys_of entries)
+    → lookup (at_word word) entries ≡ Some numbers → more ≡ insert_key nat_cmp numbers number
     → kept_pairs (set_value (at_word word) entries more) ≡ insert_key pair_order (kept_pairs entries) (paired word number)
 unfolding IsStrictlySortedBy
 one_number_more word number [] numbers more sorted found is = absurd (cc)
 one_number_more word number (entry ∷ entries) numbers more sorted found is =
-    by_case (word_cmp word entry.0.items) refl (λ later. one_number_more word number entries numbers more sorted.1 later is)
+    by_case (word_cmp word entry.0) refl (λ later. one_number_more word number entries numbers more sorted.1 later is)
   where
-    test : Vec ℕ → Bool
+    test : List ℕ → Bool
     test = at_word word
 
-    by_case : (o : Ordering) → word_cmp word entry.0.items ≡ o
+    by_case : (o : Ordering) → word_cmp word entry.0 ≡ o
         → (lookup test entries ≡ Some numbers → kept_pairs (set_value test entries more) ≡ insert_key pair_order (kept_pairs entries) (paired word number))
         → kept_pairs (set_value test (entry ∷ entries) more) ≡ insert_key pair_order (kept_pairs (entry ∷ entries)) (paired word number)
     by_case Less at rest =
         let later : lookup test entries ≡ Some numbers = sym (ap (λ o. cond (is_eq o) (Some entry.1) (lookup test entries)) at) ∙ found in
-        let none : lookup test entries ≡ None = none_above word entries (above_later word entry.0.items entries at sorted.0) in
+        let none : lookup test entries ≡ None = none_above word entries (above_later word entry.0 entries at sorted.0) in
         absurd (cc)
     by_case Equal at rest =
         let here : Some entry.1 ≡ Some numbers = sym (ap (λ o. cond (is_eq o) (Some entry.1) (lookup test entries)) at) ∙ found in
         let its : entry.1 ≡ numbers = cc in
         ap (λ o. kept_pairs (cond (is_eq o) ((entry.0, more) ∷ entries) (entry ∷ set_value test entries more))) at
-        ∙ ap (λ ks. pairs_of_word entry.0.items ks ++ kept_pairs entries) (is ∙ ap (λ (s : BTreeSet ℕ). insert_key nat_cmp s.keys number) (sym its))
-        ∙ sym (among entry.0.items number entry.1.keys (kept_pairs entries) (pairs_above entry.0.items number entries sorted.0))
-        ∙ ap (λ w. insert_key pair_order (kept_pairs (entry ∷ entries)) (paired w number)) (sym (exact_bytes word entry.0.items at))
+        ∙ ap (λ ks. pairs_of_word entry.0 ks ++ kept_pairs entries) (is ∙ ap (λ s. insert_key nat_cmp s number) (sym its))
+        ∙ sym (among entry.0 number entry.1 (kept_pairs entries) (pairs_above entry.0 number entries sorted.0))
+        ∙ ap (λ w. insert_key pair_order (kept_pairs (entry ∷ entries)) (paired w number)) (sym (exact_bytes word entry.0 at))
     by_case Greater at rest =
         let later : lookup test entries ≡ Some numbers = sym (ap (λ o. cond (is_eq o) (Some entry.1) (lookup test entries)) at) ∙ found in
         ap (λ o. kept_pairs (cond (is_eq o) ((entry.0, more) ∷ entries) (entry ∷ set_value test entries more))) at
-        ∙ ap (λ ps. pairs_of_word entry.0.items entry.1.keys ++ ps) (rest later)
-        ∙ sym (behind word entry.0.items number entry.1.keys (kept_pairs entries) at)
+        ∙ ap (λ ps. pairs_of_word entry.0 entry.1 ++ ps) (rest later)
+        ∙ sym (behind word entry.0 number entry.1 (kept_pairs entries) at)
 
 -- a word that isn't there yet, with one number
-pub one_word_more : (key : Vec ℕ) (number : ℕ) (entries : Entries) (numbers : BTreeSet ℕ) → IsStrictlySortedBy vec_cmp (keys_of entries)
-    → lookup (at_word key.items) entries ≡ None → numbers.keys ≡ number ∷ []
-    → kept_pairs (insert_entry vec_cmp entries key numbers) ≡ insert_key pair_order (kept_pairs entries) (paired key.items number)
+pub one_word_more : (key : List ℕ) (number : ℕ) (entries : Entries) (numbers : List ℕ) → IsStrictlySortedBy word_cmp (keys_of entries)
+    → lookup (at_word key) entries ≡ None → numbers ≡ number ∷ []
+    → kept_pairs (insert_entry word_cmp entries key numbers) ≡ insert_key pair_order (kept_pairs entries) (paired key number)
 unfolding IsStrictlySortedBy
-one_word_more key number [] numbers sorted none is = ap (λ ks. pairs_of_word key.items ks ++ []) is
+one_word_more key number [] numbers sorted none is = ap (λ ks. pairs_of_word key ks ++ []) is
 one_word_more key number (entry ∷ entries) numbers sorted none is =
-    by_case (word_cmp key.items entry.0.items) refl (λ later. one_word_more key number entries numbers sorted.1 later is)
+    by_case (word_cmp key entry.0) refl (λ later. one_word_more key number entries numbers sorted.1 later is)
   where
-    test : Vec ℕ → Bool
-    test = at_word key.items
+    test : List ℕ → Bool
+    test = at_word key
 
-    by_case : (o : Ordering) → word_cmp key.items entry.0.items ≡ o
-        → (lookup test entries ≡ None → kept_pairs (insert_entry vec_cmp entries key numbers) ≡ insert_key pair_order (kept_pairs entries) (paired key.items number))
-        → kept_pairs (insert_entry vec_cmp (entry ∷ entries) key numbers) ≡ insert_key pair_order (kept_pairs (entry ∷ entries)) (paired key.items number)
+    by_case : (o : Ordering) → word_cmp key entry.0 ≡ o
+        → (lookup test entries ≡ None → kept_pairs (insert_entry word_cmp entries key numbers) ≡ insert_key pair_order (kept_pairs entries) (paired key number))
+        → kept_pairs (insert_entry word_cmp (entry ∷ entries) key numbers) ≡ insert_key pair_order (kept_pairs (entry ∷ entries)) (paired key number)
     by_case Less at rest =
-        ap (λ o. kept_pairs (match_ordering o ((key, numbers) ∷ entry ∷ entries) ((entry.0, numbers) ∷ entries) (entry ∷ insert_entry vec_cmp entries key numbers))) at
-        ∙ ap (λ ks. pairs_of_word key.items ks ++ kept_pairs (entry ∷ entries)) is
-        ∙ sym (before_all (paired key.items number) (kept_pairs (entry ∷ entries)) (pairs_above key.items number (entry ∷ entries) (at, above_later key.items entry.0.items entries at sorted.0)))
+        ap (λ o. kept_pairs (match_ordering o ((key, numbers) ∷ entry ∷ entries) ((entry.0, numbers) ∷ entries) (entry ∷ insert_entry word_cmp entries key numbers))) at
+        ∙ ap (λ ks. pairs_of_word key ks ++ kept_pairs (entry ∷ entries)) is
+        ∙ sym (before_all (paired key number) (kept_pairs (entry ∷ entries)) (pairs_above key number (entry ∷ entries) (at, above_later key entry.0 entries at sorted.0)))
     by_case Equal at rest =
         let here : Some entry.1 ≡ None = sym (ap (λ o. cond (is_eq o) (Some entry.1) (lookup test entries)) at) ∙ none in
         absurd (cc)
     by_case Greater at rest =
         let later : lookup test entries ≡ None = sym (ap (λ o. cond (is_eq o) (Some entry.1) (lookup test entries)) at) ∙ none in
-        ap (λ o. kept_pairs (match_ordering o ((key, numbers) ∷ entry ∷ entries) ((entry.0, numbers) ∷ entries) (entry ∷ insert_entry vec_cmp entries key numbers))) at
-        ∙ ap (λ ps. pairs_of_word entry.0.items entry.1.keys ++ ps) (rest later)
-        ∙ sym (behind key.items entry.0.items number entry.1.keys (kept_pairs entries) at)
+        ap (λ o. kept_pairs (match_ordering o ((key, numbers) ∷ entry ∷ entries) ((entry.0, numbers) ∷ entries) (entry ∷ insert_entry word_cmp entries key numbers))) at
+        ∙ ap (λ ps. pairs_of_word entry.0 entry.1 ++ ps) (rest later)
+        ∙ sym (behind key entry.0 number entry.1 (kept_pairs entries) at)

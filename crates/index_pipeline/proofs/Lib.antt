@@ -1,10 +1,14 @@
+mod Batching
 mod Collecting
+mod Dropping
 mod Indexing
 mod KeptOrder
+mod KeyOrder
 mod Lowering
 mod Recording
 mod Rising
 mod Runs
+mod SortedLists
 mod Taking
 mod Telling
 mod Wording

@@ -5,9 +5,9 @@ use Rattle.std.proofs.lemmas.Map.Lookups.{exact_bytes, exact_unsigned}
 use Rattle.std.specs.BTreeSet.{insert_key}
 use Rattle.std.specs.Cmp.{IsTotalOrder, on_total, then_total}
 use Rattle.std.specs.Cmp.Lexicographic.{slice_cmp}
-use Rattle.std.specs.List.{AllByRecursion, Contains, fold, slice_index_or}
+use Rattle.std.specs.List.{Contains, fold, slice_index_or}
 use Rattle.std.specs.List.Sorted.{IsStrictlySortedBy}
-use Rattle.std.specs.Ordering.{match_ordering, nat_cmp, ordering_reverse, ordering_then}
+use Rattle.std.specs.Ordering.{match_ordering, nat_cmp, ordering_then}
 use Rattle.std.specs.Prelude.{◌⊎◌, ◌↔◌, slice_get}
 use Rattle.std.specs.declared.cmp.Ordering.{Ordering}
 use Rattle.std.specs.declared.cmp.Ordering.TheVariants.{Less, Equal, Greater}
@@ -15,6 +15,7 @@ use Rattle.index_pipeline.specs.Index.{index_pairs, pairs_from}
 use Rattle.index_pipeline.specs.Members.{StandsOn}
 use Rattle.index_pipeline.specs.Pairs.{Pair, pair_order}
 use Rattle.index_pipeline.specs.Words.{words}
+use Rattle.index_pipeline.proofs.SortedLists.{insert_rises}
 
 -- ---- the order of pairs
 
@@ -33,34 +34,9 @@ same_pair a b is = by_case (slice_cmp nat_cmp a.word b.word) refl is
 
 -- ---- it rises
 
-above_first : (k first : Pair) (ks : List Pair) → pair_order k first ≡ Less → AllByRecursion (λ y. pair_order first y ≡ Less) ks → AllByRecursion (λ y. pair_order k y ≡ Less) ks
-above_first k first [] less all = tt
-above_first k first (next ∷ ks) less all = (pair_total.trans k first next less all.0, above_first k first ks less all.1)
-
-all_inserted : (P : Pair → Type 0) (ks : List Pair) (k : Pair) → AllByRecursion P ks → P k → AllByRecursion P (insert_key pair_order ks k)
-all_inserted P [] k all one = (one, tt)
-all_inserted P (first ∷ ks) k all one = by_case (pair_order k first) (all_inserted P ks k all.1 one)
-  where
-    by_case : (o : Ordering) → AllByRecursion P (insert_key pair_order ks k) → AllByRecursion P (match_ordering o (k ∷ first ∷ ks) (first ∷ ks) (first ∷ insert_key pair_order ks k))
-    by_case Less rest = (one, all)
-    by_case Equal rest = all
-    by_case Greater rest = (all.0, rest)
-
-insert_rises : (ks : List Pair) (k : Pair) → IsStrictlySortedBy pair_order ks → IsStrictlySortedBy pair_order (insert_key pair_order ks k)
-unfolding IsStrictlySortedBy
-insert_rises [] k rise = (tt, tt)
-insert_rises (first ∷ ks) k rise = by_case (pair_order k first) refl (insert_rises ks k rise.1)
-  where
-    by_case : (o : Ordering) → pair_order k first ≡ o → IsStrictlySortedBy pair_order (insert_key pair_order ks k)
-        → IsStrictlySortedBy pair_order (match_ordering o (k ∷ first ∷ ks) (first ∷ ks) (first ∷ insert_key pair_order ks k))
-    by_case Less is rest = ((is, above_first k first ks is rise.0), rise)
-    by_case Equal is rest = rise
-    by_case Greater is rest =
-        (all_inserted (λ y. pair_order first y ≡ Less) ks k rise.0 (pair_total.antisymm first k ∙ ap ordering_reverse is), rest)
-
 fold_rises : (pairs got : List Pair) → IsStrictlySortedBy pair_order got → IsStrictlySortedBy pair_order (fold (insert_key pair_order) got pairs)
 fold_rises [] got rise = rise
-fold_rises (pair ∷ pairs) got rise = fold_rises pairs (insert_key pair_order got pair) (insert_rises got pair rise)
+fold_rises (pair ∷ pairs) got rise = fold_rises pairs (insert_key pair_order got pair) (insert_rises pair_total got pair rise)
 
 none_rise : IsStrictlySortedBy pair_order []
 unfolding IsStrictlySortedBy

@@ -4,7 +4,9 @@ pub mod Pairs
 pub mod Index
 pub mod Members
 pub mod Records
+pub mod Keys
 pub mod KeptPairs
+pub mod Batches
 pub mod Steps
 pub mod Plans
 pub mod Indexed

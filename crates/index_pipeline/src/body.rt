@@ -5,7 +5,7 @@ ghost use Rattle.index_pipeline.specs.Steps.{block_task, collector, collects, pa
 use crate::IndexLocal;
 use crate::pairs::Pairs;
 use crate::pairs_left::PairsLeft;
-use crate::words_left::WordsLeft;
+use crate::words_left::{WordsLeft, words_of};
 use line_blocks::{
     HeldLines, LineBlock, LineStep, QueueReader, ReaderStep, bytes_of, gives_of, read_lines,
 };
@@ -40,7 +40,7 @@ fn block_task(alloc: Global, block: LineBlock) -> Result<Child<IndexLocal>, NoMe
     };
     let fuel = 2 * block.byte_count() + 2;
     Ok(Child {
-        local: IndexLocal::Words(WordsLeft::of(alloc, block)?),
+        local: IndexLocal::Words(words_of(alloc, block)?),
         gives: gives_of(alloc, &[words])?,
         fuel,
     })
@@ -111,7 +111,7 @@ impl IndexBody {
             mode: Mode::Push,
         };
         Ok(Child {
-            local: IndexLocal::Collects(QueueReader::Looks(Pairs::new(alloc))),
+            local: IndexLocal::Collects(QueueReader::Looks(Pairs::new(alloc)?)),
             gives: gives_of(alloc, &[words, output])?,
             fuel: self.collector_fuel,
         })

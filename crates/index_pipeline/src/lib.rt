@@ -15,10 +15,14 @@
 //! Not promised: that memory is found. What a text costs is said in `docs/COSTS.md`.
 #![tactic(auto)]
 
+mod batch;
+mod batches;
 mod body;
+mod key;
 mod laws;
 mod line_left;
 mod local;
+mod numbers;
 mod pair;
 mod pairs;
 mod pairs_left;

@@ -1,12 +1,11 @@
 // The words of a line that are left.
-ghost use Rattle.std.specs.Prelude.{◌≡◌, ◌∷◌, [], IfOk, MatchOption};
+ghost use Rattle.std.specs.Prelude.{◌≡◌, ◌<◌, ◌++◌, [], length, true, false, IfOk, OnOk};
 ghost use Rattle.line_blocks.specs.LineBlocks.{bytes_of};
 ghost use Rattle.index_pipeline.specs.Records.{line_records};
 
-use crate::pair::record_of;
-use crate::word::{after, first_run, write_word};
+use crate::batch::BatchWriter;
+use crate::word::{after, first_run};
 use line_blocks::bytes_of;
-use std::alloc::Global;
 use std::marker::Model;
 use swan_model::{NoMemory, Value};
 
@@ -52,18 +51,22 @@ impl LineLeft {
         }
     }
 
-    /// Takes the next word's record, and None exactly where no word is left. It leaves the word where it is told to
-    /// write it. `O(1)` amortised over the bytes of the line.
+    /// Writes the next word's record behind those of a batch, and answers false exactly where no word is left. `O(1)`
+    /// amortised over the bytes of the line.
     #[tactic(auto, using(crate::proofs::Taking::line_more, crate::proofs::Taking::line_over))]
-    pub fn take(&mut self, alloc: Global, word: &mut Vec<u8>) -> Result<Option<Value>, NoMemory>
-        ensures { IfOk result (λ taken. MatchOption taken (self.old ≡ []) (λ item. self.old ≡ item ∷ self.new)) }
+    pub fn write_next(&mut self, batch: &mut BatchWriter) -> Result<bool, NoMemory>
+        ensures records { OnOk result (batch.new ++ self.new ≡ batch.old ++ self.old) }
+        ensures shorter { IfOk result (λ more. more ≡ true → length self.new < length self.old) }
+        ensures written { IfOk result (λ more. more ≡ true → batch.new ≡ [] → ⊥) }
+        ensures none { IfOk result (λ more. more ≡ false → self.new ≡ []) }
+        ensures same { IfOk result (λ more. more ≡ false → (self.new ≡ self.old) × (batch.new ≡ batch.old)) }
     {
         let left = after(bytes_of(&self.line), self.taken);
         let Some(run) = first_run(left) else {
-            return Ok(None);
+            return Ok(false);
         };
-        write_word(word, &left[run.from..run.to])?;
+        batch.push_run(&left[run.from..run.to], self.number)?;
         self.taken += run.to;
-        Ok(Some(Value::Bytes(record_of(alloc, word, self.number)?)))
+        Ok(true)
     }
 }

@@ -1,11 +1,10 @@
 // The texts of pairs of a word and a line's number.
-ghost use Rattle.std.specs.Prelude.{◌≡◌, ◌≤◌, ◌+◌, ◌∷◌, ◌++◌, length, drop, IfOk, OnOk};
+ghost use Rattle.std.specs.Prelude.{◌≡◌, ◌≤◌, ◌+◌, ◌∷◌, ◌++◌, length, take, drop, OnOk};
 ghost use Rattle.std.specs.Fmt.{decimal};
 ghost use Rattle.index_pipeline.specs.Pairs.{number_of, pair_of, word_len};
 
 use itoa::Buffer;
-use std::alloc::Global;
-use swan_model::{NoMemory, Record};
+use std::alloc::AllocError;
 
 /// A word and the number of a line on which it stands, as a text tells them.
 #[derive(Clone, Copy)]
@@ -60,19 +59,12 @@ pub fn told(text: &[u8]) -> ToldPair<'_>
     }
 }
 
-/// The record of the pair of a word and a number. What is added to the word is taken off again, but its room
-/// stays. `O(length)`.
-pub fn record_of(alloc: Global, word: &mut Vec<u8>, line: u64) -> Result<Record, NoMemory>
-    ensures record { IfOk result (λ it. it ≡ word.old.items ++ 32 ∷ decimal line) }
-    ensures word { OnOk result (word.new.items ≡ word.old.items) }
+/// Writes a space and a number behind what stands there. `O(1)` amortised.
+pub fn write_number(text: &mut Vec<u8>, number: u64) -> Result<(), AllocError>
+    ensures number { OnOk result (text.new.items ≡ text.old.items ++ 32 ∷ decimal number) }
+    ensures front { text.old.items ≡ take (length text.old.items) text.new.items }
 {
-    let len = word.len();
-    word.push(b' ')?;
-    word.extend_from_slice(Buffer::new().format(line).as_bytes())?;
-    let record = Record::of(alloc, word.as_slice());
-    word.truncate(len);
-    match record {
-        Ok(record) => Ok(record),
-        Err(_) => Err(NoMemory),
-    }
+    text.push(b' ')?;
+    text.extend_from_slice(Buffer::new().format(number).as_bytes())?;
+    Ok(())
 }

@@ -1,20 +1,51 @@
 // The set of pairs that the collector keeps.
 ghost use Rattle.std.specs.Prelude.{◌≡◌, [], map, IfOk, OnOk};
 ghost use Rattle.std.specs.BTreeSet.{insert_key};
+ghost use Rattle.index_pipeline.specs.KeptPairs.{kept_pairs};
 ghost use Rattle.index_pipeline.specs.Pairs.{pair_of, pair_order};
 ghost use Rattle.index_pipeline.specs.Records.{record_of};
 
+use crate::key::Key;
+use crate::numbers::Numbers;
 use crate::pair::{ToldPair, told};
-use crate::pairs_left::PairsLeft;
+use crate::pairs_left::{PairsLeft, pairs_of};
 use std::alloc::Global;
-use std::collections::{BTreeMap, BTreeSet};
+use std::collections::BTreeMap;
 use std::marker::Model;
 use swan_model::NoMemory;
 
-/// A set of pairs: the numbers of each word, by the words. Contracts see it as its pairs in their order.
+/// The numbers of each word.
+#[derive(Drop)]
+struct Kept {
+    // the numbers of each word, by the words
+    words: BTreeMap<Key, Numbers>,
+    // where a word is written that is looked up
+    asked: Key,
+}
+
+impl Kept {
+    /// Adds the pair that this text tells, unless it is there.
+    fn add(&mut self, alloc: Global, text: &[u8]) -> Result<(), NoMemory>
+        ensures { OnOk result (kept_pairs self.new.words.entries ≡ insert_key pair_order (kept_pairs self.old.words.entries) (pair_of text.now)) }
+    {
+        let ToldPair { word, line } = told(text);
+        self.asked.set(word)?;
+        if let Some(numbers) = self.words.get_mut(&self.asked) {
+            numbers.add(line)?;
+            return Ok(());
+        }
+        let mut numbers = Numbers::new(alloc);
+        numbers.add(line)?;
+        self.words.insert(self.asked.again(alloc)?, numbers)?;
+        Ok(())
+    }
+}
+
+/// A set of pairs. Contracts see it as its pairs in their order. It is small, since what a task keeps is moved at each of
+/// its steps.
 #[derive(Drop)]
 pub struct Pairs {
-    words: BTreeMap<Vec<u8>, BTreeSet<u64>>,
+    kept: Box<Kept>,
 }
 
 impl Model for Pairs {
@@ -24,39 +55,36 @@ impl Model for Pairs {
 
     ghost Value = { List Pair };
 
-    ghost view = { λ pairs. kept_pairs pairs.words.entries };
+    ghost view = { λ pairs. kept_pairs pairs.kept.value.words.entries };
 }
 
 impl Pairs {
-    /// No pair. It takes no memory. `O(1)`.
-    pub fn new(alloc: Global) -> Pairs
-        ensures { result ≡ [] }
+    /// No pair. It allocates once. `O(1)`.
+    pub fn new(alloc: Global) -> Result<Pairs, NoMemory>
+        ensures { IfOk result (λ pairs. pairs ≡ []) }
     {
-        Pairs {
+        let kept = Kept {
             words: BTreeMap::new(alloc),
-        }
+            asked: Key::new(alloc),
+        };
+        Ok(Pairs {
+            kept: Box::new(alloc, kept)?,
+        })
     }
 
     /// Adds the pair that this text tells, unless it is there. Memory is taken for a word or a number that is new.
-    /// `O(length + log pairs)`.
+    /// `O(length + log pairs)` where the number is above all others of its word, as it is in a run.
     pub fn add(&mut self, alloc: Global, text: &[u8]) -> Result<(), NoMemory>
         ensures { OnOk result (self.new ≡ insert_key pair_order self.old (pair_of text.now)) }
     {
-        let ToldPair { word, line } = told(text);
-        if let Some(numbers) = self.words.get_mut(word) {
-            numbers.insert(line)?;
-            return Ok(());
-        }
-        let mut numbers = BTreeSet::new(alloc);
-        numbers.insert(line)?;
-        self.words.insert(word.to_vec(alloc)?, numbers)?;
-        Ok(())
+        self.kept.add(alloc, text)
     }
 
     /// The pairs in order, to push. It allocates once. `O(1)`.
     pub fn into_left(self, alloc: Global) -> Result<PairsLeft, NoMemory>
         ensures { IfOk result (λ left. left ≡ map record_of self) }
     {
-        PairsLeft::of(alloc, self.words)
+        let Kept { words, asked: _ } = Box::into_inner(self.kept);
+        pairs_of(alloc, words)
     }
 }

@@ -1,85 +1,72 @@
 // The pairs that are left to push.
-ghost use Rattle.std.specs.Prelude.{◌≡◌, ◌∷◌, [], map, IfOk, MatchOption};
+ghost use Rattle.std.specs.Prelude.{◌≡◌, map, drop, IfOk};
 ghost use Rattle.index_pipeline.specs.KeptPairs.{kept_pairs, pairs_from_word};
 ghost use Rattle.index_pipeline.specs.Records.{record_of};
 
-use crate::pair::record_of;
+use crate::batch::BatchWriter;
+use crate::batches::{Batches, Source};
+use crate::key::Key;
+use crate::numbers::Numbers;
 use std::alloc::Global;
-use std::collections::{BTreeMap, BTreeSet};
-use std::marker::Model;
-use swan_model::{NoMemory, Value};
+use std::collections::BTreeMap;
+use swan_model::NoMemory;
 
 /// Words in order with their numbers, of which some are taken already.
 #[derive(Drop)]
-struct NumbersLeft {
+pub struct NumbersLeft {
     // the word whose numbers are taken
-    word: Vec<u8>,
-    // those of its numbers that are left
-    numbers: BTreeSet<u64>,
+    word: Key,
+    // its numbers
+    numbers: Numbers,
+    // how many of them are taken
+    taken: usize,
     // the words after it
-    words: BTreeMap<Vec<u8>, BTreeSet<u64>>,
+    words: BTreeMap<Key, Numbers>,
 }
 
-impl NumbersLeft {
-    /// Takes the next pair's record of the word or of those after it, and None exactly where no pair is left.
-    fn take(&mut self, alloc: Global) -> Result<Option<Value>, NoMemory>
-        ensures { IfOk result (λ taken. MatchOption taken (map record_of (pairs_from_word self.old.word.items self.old.numbers.keys self.old.words.entries) ≡ [])
-            (λ item. map record_of (pairs_from_word self.old.word.items self.old.numbers.keys self.old.words.entries)
-            ≡ item ∷ map record_of (pairs_from_word self.new.word.items self.new.numbers.keys self.new.words.entries))) }
-    {
+impl Source for NumbersLeft {
+    ghost left = { λ it. map record_of (pairs_from_word it.word (drop it.taken it.numbers) it.words.entries) };
+
+    /// Writes the next pair's record. A word's memory is given up with its last number. `O(length)`, and `O(log words)`
+    /// more for the first number of a word.
+    fn write_next(&mut self, batch: &mut BatchWriter) -> Result<bool, NoMemory> {
         loop {
-            if let Some(line) = self.numbers.pop_first() {
-                return Ok(Some(Value::Bytes(record_of(alloc, &mut self.word, line)?)));
+            if let Some(line) = self.numbers.get(self.taken) {
+                if !batch.has_room(self.word.as_slice().len()) {
+                    return Ok(false);
+                }
+                batch.push_word(self.word.as_slice(), line)?;
+                self.taken += 1;
+                return Ok(true);
             }
             match self.words.pop_first() {
                 Some((word, numbers)) => {
                     self.word = word;
                     self.numbers = numbers;
+                    self.taken = 0;
                 }
-                None => return Ok(None),
+                None => return Ok(false),
             }
         }
     }
 }
 
-/// The pairs that are left. Contracts see it as their records, in order. It is small, since what a task keeps is moved
-/// at each of its steps.
-#[derive(Drop)]
-pub struct PairsLeft {
-    words: Box<NumbersLeft>,
-}
+/// The pairs that are left, as their records.
+pub type PairsLeft = Batches<NumbersLeft>;
 
-impl Model for PairsLeft {
-    ghost use Rattle.std.specs.Prelude.{List, map};
-    ghost use Rattle.swan_model.specs.declared.value.Value.{Value as Item};
-    ghost use Rattle.index_pipeline.specs.KeptPairs.{pairs_from_word};
-    ghost use Rattle.index_pipeline.specs.Records.{record_of};
-
-    ghost Value = { List Item };
-
-    ghost view = { λ left. map record_of (pairs_from_word left.words.value.word.items left.words.value.numbers.keys left.words.value.words.entries) };
-}
-
-impl PairsLeft {
-    /// All pairs of these words. It allocates once. `O(1)`.
-    pub fn of(alloc: Global, words: BTreeMap<Vec<u8>, BTreeSet<u64>>) -> Result<PairsLeft, NoMemory>
-        ensures { IfOk result (λ left. left ≡ map record_of (kept_pairs words.entries)) }
-    {
-        let words = NumbersLeft {
-            word: Vec::new(alloc),
-            numbers: BTreeSet::new(alloc),
+/// All pairs of these words. It allocates once. `O(1)`.
+pub fn pairs_of(alloc: Global, words: BTreeMap<Key, Numbers>) -> Result<PairsLeft, NoMemory>
+    ensures { IfOk result (λ left. left ≡ map record_of (kept_pairs words.entries)) }
+{
+    let word = Key::new(alloc);
+    let numbers = Numbers::new(alloc);
+    Batches::of(
+        alloc,
+        NumbersLeft {
+            word,
+            numbers,
+            taken: 0,
             words,
-        };
-        Ok(PairsLeft {
-            words: Box::new(alloc, words)?,
-        })
-    }
-
-    /// Takes the next pair's record, and None exactly where no pair is left. It gives the pair's memory up.
-    /// `O(length + log pairs)`.
-    pub fn take(&mut self, alloc: Global) -> Result<Option<Value>, NoMemory>
-        ensures { IfOk result (λ taken. MatchOption taken (self.old ≡ []) (λ item. self.old ≡ item ∷ self.new)) }
-    {
-        self.words.take(alloc)
-    }
+        },
+    )
 }

@@ -67,14 +67,15 @@ pub fn first_run(line: &[u8]) -> Option<Run>
     })
 }
 
-/// Writes the word of a run, in place of what stood there. `O(1)`: a run's first `WORD_MOST` bytes are taken, in one
-/// copy.
-pub fn write_word(word: &mut Vec<u8>, run: &[u8]) -> Result<(), AllocError>
-    ensures { OnOk result (word.new.items ≡ word_of run.now) }
+/// Writes the word of a run behind what stands there. `O(1)`: a run's first `WORD_MOST` bytes are taken, in one copy,
+/// and lowered where they stand.
+pub fn write_word(text: &mut Vec<u8>, run: &[u8]) -> Result<(), AllocError>
+    ensures word { OnOk result (text.new.items ≡ text.old.items ++ word_of run.now) }
+    ensures front { text.old.items ≡ take (length text.old.items) text.new.items }
 {
     let len = WORD_MOST.min(run.len());
-    word.clear();
-    word.extend_from_slice(&run[..len])?;
-    word.make_ascii_lowercase();
+    let from = text.len();
+    text.extend_from_slice(&run[..len])?;
+    text[from..].make_ascii_lowercase();
     Ok(())
 }

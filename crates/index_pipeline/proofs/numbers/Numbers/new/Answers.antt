@@ -1,0 +1,9 @@
+-- No number rises.
+use Rattle.std.proofs.Common.{subst, sym}
+use Rattle.std.specs.List.Sorted.{IsStrictlySortedBy}
+use Rattle.std.specs.Ordering.{nat_cmp}
+use Rattle.index_pipeline.proofs.SortedLists.{none_rise}
+use Rattle.index_pipeline.proofs.numbers.Numbers.new.Goals as goal
+
+pub invariant_of-result : goal.invariant_of-result
+invariant_of-result c = subst (IsStrictlySortedBy nat_cmp) (sym c.new.ensures.items) none_rise
