@@ -7,3 +7,48 @@ pub mod Served
 pub mod Same
 -- the root
 pub mod Root
+-- a reading that goes on
+pub mod GoneOn
+pub mod CatchUp
+-- what the core keeps: of its queues, of its objects, of its frames, of its faults
+pub mod Queues
+pub mod Objects
+pub mod LocalNames
+pub mod Live
+pub mod Booked
+-- what may be asked for a step
+pub mod Rights
+-- whom a frame waits for
+pub mod Waiting
+-- names of what is held
+pub mod Names
+pub mod QueueUse
+-- ends that are lent, frames that may end, and what a child is given
+pub mod EndsLent
+pub mod MayEnd
+pub mod Giving
+pub mod Spawning
+pub mod FewFrames
+pub mod Opening
+-- the order of faults
+pub mod FaultsSorted
+pub mod LeftOver
+-- the record of live frames
+pub mod Pairs
+pub mod Lives
+-- frames at the core, and those that stay as they are meanwhile
+pub mod Given
+pub mod Goings
+pub mod Endings
+pub mod Taking
+pub mod Asked
+pub mod Firsts
+pub mod Answered
+pub mod Tried
+pub mod ObjectSteps
+pub mod AtQueues
+pub mod ChildGiven
+pub mod SpawnStep
+pub mod AtPlaces
+pub mod Beginning
+pub mod Leaving

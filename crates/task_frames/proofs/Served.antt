@@ -44,16 +44,16 @@ use Rattle.task_frames.specs.Going.{IsAnswerTo, IsNextDeed, deeds_of}
 use Rattle.task_frames.proofs.Amid.{goes-on, is-asking, with-steps, worked}
 
 -- what is said of the value that there is
-some-and : {X : Type 0} (o : Option X) (P : X → Type 0) (R : Type 0) → IsSomeAnd o P → ((x : X) → o ≡ Some x → P x → R) → R
+pub some-and : {X : Type 0} (o : Option X) (P : X → Type 0) (R : Type 0) → IsSomeAnd o P → ((x : X) → o ≡ Some x → P x → R) → R
 some-and None P R has gives = absurd has
 some-and (Some x) P R has gives = gives x refl has
 
-has-some : {X : Type 0} (o : Option X) (P : X → Type 0) → IsSomeAnd o P → (x : X) × (o ≡ Some x)
+pub has-some : {X : Type 0} (o : Option X) (P : X → Type 0) → IsSomeAnd o P → (x : X) × (o ≡ Some x)
 has-some None P has = absurd has
 has-some (Some x) P has = (x, refl)
 
 -- a list whose modes are those of another has a holding by the same mode at each place
-same-mode : (xs ys : List Holding) (place : ℕ) (h : Holding) → map (λ (x : Holding). x.mode) xs ≡ map (λ (x : Holding). x.mode) ys → slice_get xs place ≡ Some h
+pub same-mode : (xs ys : List Holding) (place : ℕ) (h : Holding) → map (λ (x : Holding). x.mode) xs ≡ map (λ (x : Holding). x.mode) ys → slice_get xs place ≡ Some h
     → (g : Holding) × (slice_get ys place ≡ Some g) × (g.mode ≡ h.mode)
 same-mode xs ys place h same is = found (slice_get ys place) refl where
   modes : option_map (λ (x : Holding). x.mode) (slice_get ys place) ≡ Some h.mode

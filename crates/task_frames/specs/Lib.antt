@@ -1,3 +1,10 @@
--- What the contracts of this crate cite: what a frame is, wherever it is, and how it goes on by itself.
+-- What the contracts of this crate cite: what a frame is, wherever it is, and how it goes on by itself; and what the core of a
+-- run keeps, and what holds of it.
 pub mod Frames
 pub mod Going
+pub mod Records
+pub mod Cores
+pub mod Resumes
+pub mod Giving
+pub mod Opened
+pub mod Leaving

@@ -1,20 +1,22 @@
 // Frames.
-ghost use Rattle.std.specs.Prelude.{◌≡◌, ◌+◌, ◌<◌, ◌≤◌, true, false, [], map, None, Some, IfOk, OnOk, OnErr, if◌then◌else◌};
-ghost use Rattle.swan_model.specs.Elision.{root};
-ghost use Rattle.swan_model.specs.SerialState.{Holding as Held};
-ghost use Rattle.swan_model.specs.declared.body.Answer.TheVariants.{Start};
+ghost use Rattle.std.specs.Prelude.{◌≡◌, ◌≢◌, ◌+◌, ◌<◌, ◌≤◌, true, false, None, Some, IfOk, IfErr, OnOk, OnErr, if◌then◌else◌};
 ghost use Rattle.task_frames.specs.declared.stage.Stage.TheVariants.{Ready};
-ghost use Rattle.task_frames.specs.Frames.{AreEndsOf, IsAnyFrame, IsFrame, IsPlan, is_whole, root_task};
+ghost use Rattle.swan_model.specs.Lawful.{IsLawful};
+ghost use Rattle.swan_model.specs.QueueFollows.{AreByEnds};
+ghost use Rattle.swan_model.specs.QueueState.{after_back};
+ghost use Rattle.queues.specs.Asks.{IsRecorded, IsSameRun, OnNext};
+ghost use Rattle.task_frames.specs.Frames.{IsAnyFrame, IsFrame, is_whole};
 ghost use Rattle.task_frames.specs.Going.{IsSameFrame, NeedsCore, OnAtCore, OnBudget, OnNoMemory, OnSteps, is_at_core, stands_still};
 
+use crate::holding::hold_same;
 use crate::row::take_row;
 use crate::serving::serve;
-use crate::{Holding, Paused, PlanRun, Stage, Steps};
+use crate::{FrameAtCore, Holding, LiveFrame, Paused, PlanRun, Stage, Steps, TaskAtCore};
 use named_lock::Named;
 use queues::Queues;
 use std::alloc::Global;
 use std::marker::Model;
-use swan_model::{Answer, Body, Meaning, NoMemory, Path, Plan};
+use swan_model::{Body, Meaning, NoMemory, Path, Plan};
 
 /// A frame.
 #[derive(Drop)]
@@ -71,91 +73,106 @@ impl<B: Body, Q: Queues> Model for Frame<B, Q> {
 }
 
 impl<B: Body, Q: Queues> Frame<B, Q> {
-    /// The root of a run of the plan, which has taken no step, with what it holds by the run's numbers, and with its ends.
-    /// It takes no memory. `O(1)`.
-    pub(crate) fn root(
-        plan: Meaning<Plan<B>>,
-        path: Path,
-        local: B::Local,
-        fuel: u64,
-        holdings: Vec<Holding>,
-        ends: Q::Ends,
-    ) -> Frame<B, Q>
-        requires plan { IsPlan plan.means }
-        requires path { path ≡ [] }
-        requires local { local ≡ plan.means.root_local }
-        requires fuel { fuel ≡ plan.means.fuel }
-        requires holdings { map (λ (h : Held). h.mode) holdings.items ≡ map (λ (h : Held). h.mode) (root plan.means).holdings }
-        requires ends { AreEndsOf B.Body (root_task plan.means holdings.items) (Q.Ends.name ends) (Q.Ends.ends ends) }
-        ensures { result ≡ record { task = root_task plan.means holdings.items; stage = Some (Ready local Start); mark = false; ends = ends } }
+    /// A frame as the core gives it, wherever it stands to its next step, with its ends. It takes no memory. `O(1)`.
+    pub(crate) fn given(at: FrameAtCore<B>, ends: Q::Ends) -> Frame<B, Q>
+        requires frame { IsFrame B.Body at.task (Q.Ends.name ends) (Q.Ends.ends ends) at.stage }
+        ensures { result ≡ record { task = at.task; stage = Some at.stage; mark = false; ends = ends } }
     {
+        let FrameAtCore { task, stage } = at;
         Frame {
-            plan,
-            path,
-            number: 0,
-            done: 0,
-            since: 0,
-            fuel,
-            holdings,
-            children: 0,
-            stage: Some(Stage::Ready(local, Answer::Start)),
+            plan: task.plan,
+            path: task.path,
+            number: task.number,
+            done: task.done,
+            since: task.done,
+            fuel: task.fuel,
+            holdings: task.holdings,
+            children: task.children,
+            stage: Some(stage),
             mark: false,
             ends,
         }
     }
 
-    /// A frame as the core gives it, with so many steps done: its next step is still to be taken, with this local and this
-    /// answer. It takes no memory. `O(1)`.
-    pub(crate) fn given(
-        plan: Meaning<Plan<B>>,
-        path: Path,
-        number: u64,
-        done: u64,
-        local: B::Local,
-        answer: Answer,
-        fuel: u64,
-        holdings: Vec<Holding>,
-        children: u32,
-        ends: Q::Ends,
-    ) -> Frame<B, Q>
-        requires frame { IsFrame B.Body (record {
-          plan = plan.means;
-          number = number;
-          path = path;
-          done = done;
-          since = done;
-          fuel = fuel;
-          holdings = holdings.items;
-          children = children;
-        }) (Q.Ends.name ends) (Q.Ends.ends ends) (Ready local answer) }
-        ensures { result ≡ record {
-          task = record {
-            plan = plan.means;
-            number = number;
-            path = path;
-            done = done;
-            since = done;
-            fuel = fuel;
-            holdings = holdings.items;
-            children = children;
-          };
-          stage = Some (Ready local answer);
-          mark = false;
-          ends = ends;
-        } }
+    /// Whether it stands as the record has it: with this path, this number of steps when it was given, and these holdings.
+    /// `O(d + k)` for a path of d parts and k places; it takes no memory.
+    pub(crate) fn stands_as(&self, live: &LiveFrame) -> bool
+        ensures yes { result ≡ true → (live.now.path ≡ self.now.task.path) × (live.now.done ≡ self.now.task.since) × (live.now.holdings ≡ self.now.task.holdings) }
+        ensures no { result ≡ false → ¬ ((live.now.path ≡ self.now.task.path) × (live.now.done ≡ self.now.task.since) × (live.now.holdings ≡ self.now.task.holdings)) }
     {
-        Frame {
+        if live.done != self.since {
+            return false;
+        }
+        if !same_path(&live.path, &self.path) {
+            return false;
+        }
+        hold_same(live.holdings.as_slice(), self.holdings.as_slice())
+    }
+
+    /// The frame without its ends, which go back to the queues of its run. Err gives it back as it was, with its ends and
+    /// its mark, and comes exactly where the queues refuse the ends. It takes no memory. It costs what `Queues::back` costs.
+    pub(crate) fn come_back(self, queues: &mut Q) -> Result<FrameAtCore<B>, Frame<B, Q>>
+        // whose it is
+        requires whole { is_whole self ≡ true }
+        requires own { (Q.Ends.name self.ends ≡ Q.name queues.old) × (Q.Ends.run self.ends ≡ Q.run queues.old) }
+        requires path { OnNext (Q.name queues.old) (Q.state queues.old) self.task.number (λ s f. self.task.path ≡ f.path) }
+
+        // the frame
+        ensures is { IfOk result (λ at. IsFrame B.Body self.task (Q.Ends.name self.ends) (Q.Ends.ends self.ends) at.stage) }
+        ensures task { IfOk result (λ at. at.task ≡ record self.task { since = self.task.done }) }
+        ensures stage { IfOk result (λ at. self.stage ≡ Some at.stage) }
+        ensures handed_back { IfErr result (λ frame. frame ≡ self) }
+
+        // the queues
+        ensures recorded { OnOk result (IsRecorded (Q.state queues.old) self.task.number (Q.Ends.ends self.ends)) }
+        ensures by_ends { OnOk result (OnNext (Q.name queues.old) (Q.state queues.old) self.task.number
+            (λ s f. IsLawful s → AreByEnds s f.path f.deeds (Q.Ends.ends self.ends).deeds)) }
+        ensures ok { OnOk result (Q.state queues.new ≡ after_back (Q.state queues.old) self.task.number (Q.Ends.ends self.ends).deeds) }
+        ensures err { OnErr result ((¬ IsRecorded (Q.state queues.old) self.task.number (Q.Ends.ends self.ends)) × (Q.state queues.new ≡ Q.state queues.old)) }
+        ensures same { IsSameRun Q.name Q.run queues.old queues.new }
+    {
+        let Frame {
             plan,
             path,
             number,
             done,
-            since: done,
+            since,
             fuel,
             holdings,
             children,
-            stage: Some(Stage::Ready(local, answer)),
-            mark: false,
+            stage,
+            mark,
             ends,
+        } = self;
+        match queues.back(number, ends) {
+            Ok(()) => match stage {
+                Some(stage) => Ok(FrameAtCore {
+                    task: TaskAtCore {
+                        plan,
+                        path,
+                        number,
+                        done,
+                        fuel,
+                        holdings,
+                        children,
+                    },
+                    stage,
+                }),
+                None => unreachable!(),
+            },
+            Err(ends) => Err(Frame {
+                plan,
+                path,
+                number,
+                done,
+                since,
+                fuel,
+                holdings,
+                children,
+                stage,
+                mark,
+                ends,
+            }),
         }
     }
 
@@ -365,6 +382,14 @@ impl<B: Body, Q: Queues> Frame<B, Q> {
 
     /// Lets the frame go. It takes no memory.
     pub fn tear(self) {}
+}
+
+/// Whether two paths are the same. `O(d)` for d parts; it takes no memory.
+fn same_path(path: &Path, other: &Path) -> bool
+    ensures yes { result ≡ true → path.now ≡ other.now }
+    ensures no { result ≡ false → path.now ≢ other.now }
+{
+    path.parts() == other.parts()
 }
 
 /// What came of a turn of steps that a frame takes by itself.

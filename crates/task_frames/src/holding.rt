@@ -1,5 +1,5 @@
 // What a frame holds at one of its places.
-ghost use Rattle.std.specs.Prelude.{◌≡◌};
+ghost use Rattle.std.specs.Prelude.{◌≡◌, ◌≢◌, true, false};
 ghost use Rattle.swan_model.specs.SerialStep.{number_at};
 
 use std::marker::Model;
@@ -36,4 +36,12 @@ pub(crate) fn number_at(holdings: &[Holding], place: u32, mode: Mode) -> Option<
     } else {
         None
     }
+}
+
+/// Whether two hold the same, place by place. `O(k)` for k places; it takes no memory.
+pub(crate) fn hold_same(held: &[Holding], other: &[Holding]) -> bool
+    ensures yes { result ≡ true → held.now ≡ other.now }
+    ensures no { result ≡ false → held.now ≢ other.now }
+{
+    held == other
 }

@@ -1,10 +1,11 @@
-//! Frames: the tasks of a run out of order, which take what steps they can without anyone.
+//! Frames and the core: the tasks of a run out of order, which take what steps they can without anyone, and what has the
+//! queues and objects of the run, which takes the other steps.
 //!
 //! A run out of order has many tasks under way at once. Each stands in a `Frame`: where it is in the tree of tasks, how
 //! many of its steps are done, its local and the answer to its last ask, its fuel, what it holds by place, and the ends of
 //! queues that it has with it. Whoever has a frame may call `run_local`: it takes the steps of the task's own work, and
-//! the pushes and pops that the frame's ends serve, without asking anyone. All other steps need the core, which has the
-//! queues and objects of the run; so does the first step of each frame.
+//! the pushes and pops that the frame's ends serve, without asking anyone. All other steps need the `Core`; so does
+//! the first step of each frame.
 //!
 //! Promised by the type, wherever the frame is and whoever has it, up to want of memory (definition `IsFrame`):
 //!
@@ -19,29 +20,69 @@
 //! it names; and it counts its steps in a `Steps`, which nobody else can make. A frame has as its name the plan and the
 //! run of its queues (`PlanRun`), which no call changes; it is never done, and may move to another thread.
 //!
+//! Promised by the type of the core between any two calls, up to want of memory (definition `IsCore`): its queues and its
+//! objects are those of the elision's script at one reading of the whole run, its record has the live frames and who
+//! spawned each, and each fault of a task that has ended is booked.
+//!
+//! Promised of `resume` (definition `IsResumed`): the core takes the next step of the frame that it gave last under this number,
+//! and of no other one; or it shows what the frame has to wait for, which is a live frame earlier in serial order. All other
+//! frames stay as they are. Want of memory tears the frame and leaves the core without anything for good.
+//!
 //! Not promised: that memory is found, and how long a body takes for a step.
 //!
-//! Inside, a turn takes a row of steps of work by the body's own call for many steps (`take_row`), and then the step that
-//! is asked for, where the ends serve it (`serve`).
+//! Inside, a turn of `run_local` takes a row of steps of work by the body's own call for many steps (`take_row`), and then
+//! the step that is asked for, where the ends serve it (`serve`). `resume` takes the ends of a frame back and notes its steps
+//! (`Kept::take_in`), looks whether the frame may begin, asks the body, takes the step (`Kept::step`), and lends ends to the
+//! frames that come of it (`Kept::answer`).
 #![tactic(auto)]
 
 #[cfg(test)]
 mod asks;
+mod at_core;
+mod begin;
+mod child_gives;
+mod children;
+mod ending;
 mod frame;
 mod holding;
+mod kept;
+mod left_over;
+mod live_record;
+mod new_places;
+mod noting;
+mod object_steps;
+mod outcome;
+mod own_steps;
 mod paused;
+mod queue_steps;
+mod reading;
+mod resumed;
 mod row;
 mod run;
+mod run_core;
 mod serving;
+mod spawn_steps;
 mod stage;
+mod step;
+mod stepping;
 mod steps;
 #[cfg(test)]
 mod tests;
 
+use at_core::{FrameAtCore, MidStep, TaskAtCore};
+pub use begin::Opened;
+use children::Children;
 pub use frame::Frame;
 pub use holding::Holding;
+use kept::Kept;
+use live_record::{LiveFrame, LiveRecord};
+pub use outcome::{Ran, RunOutcome};
 pub use paused::Paused;
+use reading::KeptReading;
+pub use resumed::{Foreign, Resumed, Waited};
 use row::Row;
 pub use run::{PlanRun, Run};
+pub use run_core::Core;
 use stage::Stage;
+use step::Step;
 pub use steps::Steps;

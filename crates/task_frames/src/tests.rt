@@ -6,7 +6,7 @@ ghost use Rattle.swan_model.specs.declared.rights.Mode.TheVariants.{PushPop};
 ghost use Rattle.task_frames.specs.Frames.{is_whole};
 
 use crate::asks::Asks;
-use crate::{Frame, Holding, Paused};
+use crate::{Frame, FrameAtCore, Holding, Paused, Stage, TaskAtCore};
 use queue_book::BookQueues;
 use queues::Queues;
 use std::alloc::Global;
@@ -79,14 +79,19 @@ fn root_of(alloc: Global, plan: &Plan<Asks>) -> Result<Frame<Asks, BookQueues>, 
             number: 0
         },
     ]?;
-    Ok(Frame::root(
-        Meaning::of(&PlanOf { plan }),
-        Path::root(alloc),
-        plan.root_local,
-        fuel,
-        holdings,
-        ends,
-    ))
+    let at = FrameAtCore {
+        task: TaskAtCore {
+            plan: Meaning::of(&PlanOf { plan }),
+            path: Path::root(alloc),
+            number: 0,
+            done: 0,
+            fuel,
+            holdings,
+            children: 0,
+        },
+        stage: Stage::Ready(plan.root_local, Answer::Start),
+    };
+    Ok(Frame::given(at, ends))
 }
 
 /// The root of a run of the plan, as it is given after its first step, which has to be work.
@@ -115,18 +120,19 @@ fn begun_of(alloc: Global, plan: &Plan<Asks>) -> Result<Frame<Asks, BookQueues>,
             number: 0
         },
     ]?;
-    Ok(Frame::given(
-        Meaning::of(&PlanOf { plan }),
-        Path::root(alloc),
-        0,
-        1,
-        local,
-        Answer::Nothing,
-        fuel - 1,
-        holdings,
-        0,
-        ends,
-    ))
+    let at = FrameAtCore {
+        task: TaskAtCore {
+            plan: Meaning::of(&PlanOf { plan }),
+            path: Path::root(alloc),
+            number: 0,
+            done: 1,
+            fuel: fuel - 1,
+            holdings,
+            children: 0,
+        },
+        stage: Stage::Ready(local, Answer::Nothing),
+    };
+    Ok(Frame::given(at, ends))
 }
 
 /// Whether a call answers so.

@@ -1,0 +1,130 @@
+-- Going through the roots of a plan in their order, and the core that has the root alone.
+use Rattle.std.proofs.Common.{◌≡◌, ◌≢◌, ℕ, zero, suc, ◌+◌, ◌<◌, ◌≤◌, List, [], ◌∷◌, Some, None, length, drop, map, ◌++◌, refl, sym, ap, ◌∙◌, subst, arith}
+use Rattle.std.specs.Option.{option_map}
+use Rattle.std.specs.Prelude.{slice_get}
+use Rattle.std.proofs.lemmas.List.{length-map}
+use Rattle.std.proofs.lemmas.Option.{same_Some, slice_get-map}
+use Rattle.swan_model.specs.declared.body.Answer.TheVariants as answer
+use Rattle.swan_model.specs.declared.body.Body.{Ghosts}
+use Rattle.swan_model.specs.declared.origin.Origin.TheVariants.{Root}
+use Rattle.swan_model.specs.declared.plan.Plan.{Plan}
+use Rattle.swan_model.specs.declared.plan.RootQueue.{RootQueue}
+use Rattle.swan_model.specs.declared.script.Script.{Script}
+use Rattle.swan_model.specs.Elision.{root, root_holdings}
+use Rattle.swan_model.specs.QueueState.{ActiveFrame}
+use Rattle.swan_model.specs.Readings.{at_start}
+use Rattle.swan_model.specs.Script.{script}
+use Rattle.serial_elision.proofs.Lawful.{lawful}
+use Rattle.serial_elision.proofs.RootLists.{length-root_holdings}
+use Rattle.serial_elision.proofs.TaskSteps.{root_stands}
+use Rattle.task_frames.specs.declared.stage.Stage.TheVariants.{Ready}
+use Rattle.task_frames.specs.Cores.{AreBooked, AreFrames, AreObjects, AreQueues, HasIt, IsAtCore, IsCore, KeptView}
+use Rattle.task_frames.specs.Frames.{IsPlan, Task, root_task}
+use Rattle.task_frames.specs.Opened.{AreFirstObjects, AreFirstQueues, roots_to}
+use Rattle.task_frames.specs.Records.{IsOnlyLive, live_at}
+use Rattle.task_frames.proofs.Opening.{booked-open, frames-open, objects-open, queues-open}
+
+-- the next one, and what is left behind it
+pub record IsNextOf {X : Type 0} (xs : List X) (n : ℕ) (x : X) (left : List X) : Type 0 where
+  pub stands : slice_get xs n ≡ Some x
+  pub rest : left ≡ drop (n + 1) xs
+  pub more : n + 1 ≤ length xs
+
+next-is : {X : Type 0} (xs : List X) (n : ℕ) (x : X) (left : List X) → drop n xs ≡ x ∷ left → (slice_get xs n ≡ Some x) × (left ≡ drop (suc n) xs) × (n < length xs)
+next-is [] zero x left is = absurd (cc)
+next-is [] (suc n) x left is = absurd (cc)
+next-is (y ∷ ys) zero x left is =
+    let first : y ≡ x = cc in
+    let rest : ys ≡ left = cc in
+    (ap Some first, sym rest, omega arith)
+next-is (y ∷ ys) (suc n) x left is =
+    let by = next-is ys n x left is in
+    (by.0, by.1, omega (arith, by.2))
+
+pub next-of : {X : Type 0} (xs : List X) (n : ℕ) (x : X) (left : List X) → drop n xs ≡ x ∷ left → IsNextOf xs n x left
+next-of xs n x left is =
+    let by = next-is xs n x left is in
+    let one : suc n ≡ n + 1 = omega arith in
+    record { stands = by.0; rest = subst (λ k. left ≡ drop k xs) one by.1; more = omega (arith, by.2) }
+
+-- the reading with one root more
+pub roots-more : (n : ℕ) → roots_to n ++ Root n ∷ [] ≡ roots_to (n + 1)
+roots-more n = let one : suc n ≡ n + 1 = omega arith in ap roots_to one
+
+-- none is left
+pub all-of : {X : Type 0} (xs : List X) (n : ℕ) → n ≤ length xs → length (drop n xs) ≡ 0 → n ≡ length xs
+all-of [] zero less none = refl
+all-of [] (suc n) less none = absurd (omega (arith, less))
+all-of (x ∷ xs) zero less none = absurd (omega (arith, none))
+all-of (x ∷ xs) (suc n) less none = let by = all-of xs n (omega (arith, less)) none in omega (arith, by)
+
+-- the first items of a root queue are the script's
+pub items-at : (queues : List RootQueue) (n : ℕ) (queue : RootQueue) → slice_get queues n ≡ Some queue → slice_get (map (λ (q : RootQueue). q.items) queues) n ≡ Some queue.items
+items-at queues n queue is = slice_get-map (λ (q : RootQueue). q.items) queues n ∙ ap (option_map (λ (q : RootQueue). q.items)) is
+
+-- ---- the core with the root alone
+
+module _ {B L : Type 0} (G : Ghosts B L) (plan : Plan B L) (sound : IsPlan plan) where
+  abbrev s : Script
+  s = script G plan
+
+  many-queues : length s.queues ≡ length plan.roots.queues
+  many-queues = length-map plan.roots.queues (λ (queue : RootQueue). queue.items)
+
+  root-at-core : (fuel : ℕ) → fuel ≡ plan.fuel → IsAtCore G (record { task = record (root_task plan (root_holdings plan.roots)) { fuel = fuel }; stage = Ready plan.root_local answer.Start })
+  root-at-core fuel same =
+      let few = sound.lists.roots in
+      let most = sound.fuel in
+      record {
+        plan = sound;
+        alone = record { top = root plan; stands = root_stands G plan; stage = (refl, same, refl); modes = refl; children = refl };
+        within = record { holds = omega (arith, length-root_holdings plan.roots, few, most); spawned = omega (arith, most) };
+        since = refl;
+      }
+
+  module _ (kept : KeptView) (name : kept.name ≡ Some s) (queues : AreFirstQueues s kept.state (length plan.roots.queues))
+      (objects : AreFirstObjects s kept.versions (length plan.roots.queues) (length plan.roots.objects))
+      (reading : kept.reading ≡ at_start (roots_to (length plan.roots.queues)) (roots_to (length plan.roots.objects)))
+      (turns : kept.turns ≡ []) (frames : kept.frames ≡ 1) (count : kept.objects ≡ length plan.roots.objects) (faults : kept.faults ≡ [])
+      (live : IsOnlyLive [] kept.live 0 (Some (record { parent = None; path = []; done = 0; holdings = root_holdings plan.roots }))) where
+    first-queues : AreFirstQueues s kept.state (length s.queues)
+    first-queues = subst (AreFirstQueues s kept.state) (sym many-queues) queues
+
+    first-objects : AreFirstObjects s kept.versions (length s.queues) (length s.objects)
+    first-objects = subst (λ n. AreFirstObjects s kept.versions n (length s.objects)) (sym many-queues) objects
+
+    reading-is : at_start (roots_to (length s.queues)) (roots_to (length s.objects)) ≡ kept.reading
+    reading-is = ap (λ n. at_start (roots_to n) (roots_to (length s.objects))) many-queues ∙ sym reading
+
+    root-kept : IsCore G plan kept
+    root-kept =
+        let lawful-is = lawful G plan sound.lists in
+        let none : (n : ℕ) → n ≢ 0 → live_at kept.live n ≡ None = λ n other. live.others n other in
+        record {
+          sound = sound;
+          name = name;
+          queues = subst (λ t. AreQueues s kept.reading kept.state t) (sym turns)
+              (subst (λ r. AreQueues s r kept.state []) reading-is (queues-open G plan sound lawful-is kept.state kept.versions kept.live first-queues first-objects live.own none));
+          objects = subst (AreObjects s kept.reading kept.versions kept.live) (sym count)
+              (subst (λ r. AreObjects s r kept.versions kept.live (length s.objects)) reading-is (objects-open G plan sound lawful-is kept.state kept.versions kept.live first-queues first-objects live.own none));
+          frames = subst (AreFrames G plan kept.reading kept.state kept.live) (sym frames)
+              (subst (λ r. AreFrames G plan r kept.state kept.live 1) reading-is (frames-open G plan sound lawful-is kept.state kept.versions kept.live first-queues first-objects live.own none));
+          booked = subst (AreBooked G plan kept.reading) (sym faults)
+              (subst (λ r. AreBooked G plan r []) reading-is (booked-open G plan sound lawful-is kept.state kept.versions kept.live first-queues first-objects live.own none));
+        }
+
+    root-here : (fuel : ℕ) → fuel ≡ plan.fuel → HasIt G kept (record { task = record (root_task plan (root_holdings plan.roots)) { fuel = fuel }; stage = Ready plan.root_local answer.Start })
+    root-here fuel same = record {
+      core = root-kept;
+      is = root-at-core fuel same;
+      of = record { frame = record { parent = None; path = []; done = 0; holdings = root_holdings plan.roots }; live = live.own; path = refl; done = refl; holdings = refl };
+      back = λ own active-is.
+          let it = same_Some queues.untouched.root own (sym queues.untouched.live ∙ active-is) in
+          ap (λ (f : ActiveFrame). f.lent) (sym it) ∙ queues.untouched.back;
+    }
+
+    pub opened-has : (task : Task B L) (local : L) (fuel : ℕ) → fuel ≡ plan.fuel → task ≡ record (root_task plan (root_holdings plan.roots)) { fuel = fuel } → local ≡ plan.root_local
+        → HasIt G kept (record { task = task; stage = Ready local answer.Start })
+    opened-has task local fuel same is begins =
+        subst (λ t. HasIt G kept (record { task = t; stage = Ready local answer.Start })) (sym is)
+        (subst (λ l. HasIt G kept (record { task = record (root_task plan (root_holdings plan.roots)) { fuel = fuel }; stage = Ready l answer.Start })) (sym begins) (root-here fuel same))

@@ -1,0 +1,144 @@
+-- A frame at the core that ends by its next step, or has to wait for its children before it may.
+use Rattle.std.proofs.Common.{◌≡◌, ◌≢◌, inr, ℕ, ◌+◌, true, false, Option, Some, None, List, [], ◌∷◌, ◌++◌, length, refl, sym, ap, subst, ◌∙◌}
+use Rattle.swan_model.specs.declared.body.Body.{Ghosts}
+use Rattle.swan_model.specs.declared.fault.Fault.{Fault}
+use Rattle.swan_model.specs.declared.fault.FaultKind.{FaultKind}
+use Rattle.swan_model.specs.declared.origin.Origin.{Origin}
+use Rattle.swan_model.specs.declared.script.Deed.{Deed}
+use Rattle.swan_model.specs.declared.script.Deed.TheVariants as deed
+use Rattle.swan_model.specs.declared.script.Script.{Script}
+use Rattle.swan_model.specs.Granted.{is_spawn}
+use Rattle.swan_model.specs.QueueState.{ActiveFrame, active, after_deed, after_finish}
+use Rattle.swan_model.specs.Script.{script}
+use Rattle.swan_model.specs.SerialStep.{ends, faults}
+use Rattle.swan_model.specs.SerialTime.{is_queue_deed, time, times}
+use Rattle.swan_model.specs.Told.{deed_at}
+use Rattle.swan_model.specs.TrueFrames.{effect_at}
+use Rattle.swan_model.specs.Versions.{IsSettled, after_finish as after_end}
+use Rattle.swan_model.specs.VersionsFollow.{is_object_deed}
+use Rattle.pop_order.specs.Frames.{without}
+use Rattle.queues.specs.Asks.{MayDo, MayJoin}
+use Rattle.swan_model.specs.Readings.{gone_on_by}
+use Rattle.queues.specs.Tree.{IsOnlyFrame}
+use Rattle.serial_elision.proofs.TaskSteps.{ends_last}
+use Rattle.task_frames.specs.declared.step.Step.TheVariants as step
+use Rattle.task_frames.specs.Cores.{AreBooked, AreFrames, AreObjects, AreQueues, AtCore, HasIt, IsCore, KeptView, MayBegin}
+use Rattle.task_frames.specs.Frames.{Task}
+use Rattle.task_frames.specs.Records.{IsOldestChild, IsOnlyLive}
+use Rattle.task_frames.specs.Resumes.{IsLast, IsLiveBefore, IsStep, OthersStay, deed_now}
+use Rattle.queues.specs.declared.answers.WaitFor.TheVariants as wait
+use Rattle.queues.proofs.ActiveAfter.{one_gone}
+use Rattle.serial_elision.specs.TaskSteps.{IsFaultOf}
+use Rattle.swan_model.specs.PathOrder.{comes_before}
+use Rattle.task_frames.proofs.Booked as booked
+use Rattle.task_frames.proofs.Goings.{done-is, known, lawful, own}
+use Rattle.task_frames.proofs.Live as live
+use Rattle.task_frames.proofs.Objects as objects
+use Rattle.task_frames.proofs.Queues as queues
+use Rattle.task_frames.proofs.Waiting as waiting
+
+module _ {B L : Type 0} (G : Ghosts B L) (kept : KeptView) (frame : AtCore B L) (has : HasIt G kept frame) where
+  abbrev task : Task B L
+  task = frame.task
+
+  abbrev s : Script
+  s = script G task.plan
+
+  -- ---- waits
+
+  -- the frame stands as it did, and waits for its oldest child
+  pub child-before : (child : ℕ) → IsOldestChild kept.live task.number child → IsLiveBefore kept task.path child
+  child-before child is =
+      let before = waiting.oldest-live G task.plan (lawful G kept frame has) kept.reading kept.state kept.turns kept.live kept.frames has.core.queues has.core.frames task.number has.of.frame has.of.live child is in
+      record { frame = before.0; live = before.1; earlier = subst (λ path. comes_before before.0.path path ≡ true) has.of.path before.2 }
+
+  pub waits-child : (child : ℕ) → IsOldestChild kept.live task.number child → IsLast G task → IsStep G kept kept task (step.Waits frame (wait.Child child))
+  waits-child child is last = (has, refl, refl, (is, inr last), child-before child is)
+
+  -- ---- ends
+
+  module _ (begun : MayBegin kept task.number) (last : IsLast G task) where
+    -- it ends by this deed, which no object hears of; its faults are booked
+    module _ (does : Deed) (is : deed_now G task ≡ does) (no_object : is_object_deed does ≡ false) (no_spawn : is_spawn does ≡ false) (after : KeptView) (settled : IsSettled kept.versions task.number)
+        (only : IsOnlyLive kept.live after.live task.number None) (name : after.name ≡ kept.name) (reading : after.reading ≡ gone_on_by kept.reading task.number 1) (count : after.frames ≡ kept.frames) (made : after.objects ≡ kept.objects)
+        (ended : after.versions ≡ after_end kept.versions task.number) (gone : IsOnlyFrame kept.state after.state task.number None)
+        (queues_are : AreQueues s (gone_on_by kept.reading task.number 1) after.state after.turns)
+        (frames_are : AreFrames G task.plan (gone_on_by kept.reading task.number 1) after.state after.live kept.frames)
+        (booked_are : AreBooked G task.plan (gone_on_by kept.reading task.number 1) after.faults) where
+      pub core-ended : IsCore G task.plan after
+      core-ended = record {
+        sound = has.core.sound;
+        name = name ∙ has.core.name;
+        queues = subst (λ r. AreQueues s r after.state after.turns) (sym reading) queues_are;
+        objects = subst (λ r. AreObjects s r after.versions after.live after.objects) (sym reading)
+            (subst (AreObjects s (gone_on_by kept.reading task.number 1) after.versions after.live) (sym made)
+            (objects.finished s (lawful G kept frame has) kept.reading kept.versions kept.live kept.objects has.core.objects task.number task.path task.done (known G kept frame has)
+            has.of.frame has.of.live after.live does after.versions is no_object no_spawn last settled ended only));
+        frames = subst (λ r. AreFrames G task.plan r after.state after.live after.frames) (sym reading)
+            (subst (AreFrames G task.plan (gone_on_by kept.reading task.number 1) after.state after.live) (sym count) frames_are);
+        booked = subst (λ r. AreBooked G task.plan r after.faults) (sym reading) booked_are;
+      }
+
+      pub ends-so : IsStep G kept after task step.Ended
+      ends-so = (core-ended, last, ap is_spawn is ∙ no_spawn, only.own, record { live = only.others; active_are = gone.others })
+
+    pub is-fault : (fault : Fault) → effect_at G task.plan task.path task.done has.is.alone.top ≡ faults fault.kind → fault.path ≡ task.path
+        → fault.place ≡ G.place_of task.plan.body has.is.alone.top.local → IsFaultOf G task.plan fault
+    is-fault fault effect path place =
+        subst (IsFaultOf G task.plan) (let same : record { path = task.path; place = fault.place; kind = fault.kind } ≡ fault = λ i. record { path = sym path i; place = fault.place; kind = fault.kind } in same)
+        (booked.fault-of-step G task.plan task.path task.done has.is.alone.top fault.kind fault.place has.is.alone.stands effect place)
+
+    module _ (after : KeptView) (settled : IsSettled kept.versions task.number) (may : MayJoin kept.state task.number) (only : IsOnlyLive kept.live after.live task.number None) where
+      -- by the end that it asks for
+      pub ends-quietly : after ≡ record kept {
+        state = after_finish kept.state task.number;
+        versions = after_end kept.versions task.number;
+        reading = gone_on_by kept.reading task.number 1;
+        live = after.live;
+        turns = without kept.turns task.number;
+      }
+          → deed_now G task ≡ deed.Quiet → effect_at G task.plan task.path task.done has.is.alone.top ≡ ends → IsStep G kept after task step.Ended
+      ends-quietly is quiet effect =
+          subst (λ k. IsStep G kept k task step.Ended) (sym is)
+          (ends-so deed.Quiet quiet refl refl
+          (record kept {
+            state = after_finish kept.state task.number;
+            versions = after_end kept.versions task.number;
+            reading = gone_on_by kept.reading task.number 1;
+            live = after.live;
+            turns = without kept.turns task.number;
+          })
+          settled only refl refl refl refl refl (one_gone kept.state task.number)
+          (queues.finished s (lawful G kept frame has) kept.reading kept.state kept.turns has.core.queues task.number task.path task.done (known G kept frame has) deed.Quiet
+          (after_finish kept.state task.number) (without kept.turns task.number) quiet refl last may refl refl)
+          (live.leaves-finish G task.plan kept.reading kept.state kept.live kept.frames has.core.frames has.core.queues.tree task.number (after_finish kept.state task.number) after.live may refl only)
+          (booked.ended G task.plan kept.reading task.number task.path task.done (known G kept frame has) has.is.alone.top has.is.alone.stands last kept.faults effect has.core.booked))
+
+      -- by a fault
+      pub ends-faulty : (fault : Fault) → after ≡ record kept {
+        state = after_finish kept.state task.number;
+        versions = after_end kept.versions task.number;
+        reading = gone_on_by kept.reading task.number 1;
+        live = after.live;
+        turns = without kept.turns task.number;
+        faults = kept.faults ++ fault ∷ [];
+      }
+          → deed_now G task ≡ deed.Quiet → effect_at G task.plan task.path task.done has.is.alone.top ≡ faults fault.kind → fault.path ≡ task.path
+          → fault.place ≡ G.place_of task.plan.body has.is.alone.top.local → IsStep G kept after task step.Ended
+      ends-faulty fault is quiet effect path place =
+          subst (λ k. IsStep G kept k task step.Ended) (sym is)
+          (ends-so deed.Quiet quiet refl refl
+          (record kept {
+            state = after_finish kept.state task.number;
+            versions = after_end kept.versions task.number;
+            reading = gone_on_by kept.reading task.number 1;
+            live = after.live;
+            turns = without kept.turns task.number;
+            faults = kept.faults ++ fault ∷ [];
+          })
+          settled only refl refl refl refl refl (one_gone kept.state task.number)
+          (queues.finished s (lawful G kept frame has) kept.reading kept.state kept.turns has.core.queues task.number task.path task.done (known G kept frame has) deed.Quiet
+          (after_finish kept.state task.number) (without kept.turns task.number) quiet refl last may refl refl)
+          (live.leaves-finish G task.plan kept.reading kept.state kept.live kept.frames has.core.frames has.core.queues.tree task.number (after_finish kept.state task.number) after.live may refl only)
+          (booked.faulted G task.plan kept.reading task.number task.path task.done (known G kept frame has) has.is.alone.top has.is.alone.stands last has.core.queues.fit.tasks
+          kept.faults (kept.faults ++ fault ∷ []) fault (is-fault fault effect path place) path refl has.core.booked))

@@ -1,0 +1,103 @@
+-- Whom a frame at the core has to wait for, and when it may begin.
+use Rattle.std.proofs.Common.{◌≡◌, ◌≢◌, ◌⊎◌, inl, inr, ℕ, ◌<◌, true, false, nat_lt, Option, Some, None, refl, sym, ap, subst, ◌∙◌, arith}
+use Rattle.std.proofs.lemmas.Bool.{cases_lt, lt-ltb, false≢true}
+use Rattle.swan_model.specs.declared.body.Body.{Ghosts}
+use Rattle.swan_model.specs.PathOrder.{comes_before}
+use Rattle.swan_model.specs.QueueState.{ActiveFrame, IsEarlierPusher, IsPoppingChild, active}
+use Rattle.swan_model.specs.Versions.{Awaits, Placed, VersionState, owed, placed_at}
+use Rattle.pop_order.specs.Turns.{Blocks}
+use Rattle.queues.specs.Tells.{IsCause}
+use Rattle.queues.specs.declared.answers.WaitFor.{WaitFor}
+use Rattle.queues.specs.declared.answers.WaitFor.TheVariants as wait
+use Rattle.queues.proofs.Frames.{active_number}
+use Rattle.queues.proofs.TurnsTold.{has_turn}
+use Rattle.swan_model.specs.declared.script.Deed.TheVariants as deed
+use Rattle.task_frames.specs.declared.step.Step.TheVariants as step
+use Rattle.task_frames.specs.Cores.{AtCore, AwaitsNone, HasIt, KeptView, MayBegin}
+use Rattle.task_frames.specs.Records.{IsOldestChild, LiveFrame, live_at}
+use Rattle.task_frames.specs.Resumes.{IsLast, IsLiveBefore, IsShown, IsStep, IsToldToWait, deed_now, WaitsForTurn, WaitsForVersion, at_first, at_pop, waited_for}
+use Rattle.task_frames.proofs.Endings.{child-before}
+use Rattle.task_frames.proofs.Goings.{done-is, lawful, own}
+use Rattle.task_frames.proofs.Waiting as waiting
+
+not-less : (done : ℕ) → nat_lt 0 done ≡ false → done ≡ 0
+not-less done not_so = elim (cases_lt 0 done) [
+  | inl less ↦ absurd (false≢true (sym not_so ∙ lt-ltb 0 done less))
+  | inr zero ↦ omega (arith, zero)
+]
+
+module _ {B L : Type 0} (G : Ghosts B L) (kept : KeptView) (frame : AtCore B L) (has : HasIt G kept frame) where
+  abbrev f : LiveFrame
+  f = has.of.frame
+
+  live-before : (m : ℕ) → waiting.IsLiveBefore kept.live m f.path → IsLiveBefore kept frame.task.path m
+  live-before m before = record { frame = before.0; live = before.1; earlier = subst (λ path. comes_before before.0.path path ≡ true) has.of.path before.2 }
+
+  -- ---- before the first step
+
+  pub begun-so : 0 < frame.task.done → MayBegin kept frame.task.number
+  begun-so some = record {
+    turn = λ a live. has.core.frames.turns frame.task.number f a has.of.live live (let same = done-is G kept frame has in omega (arith, same, some));
+    ready = has.core.objects.begun frame.task.number f has.of.live (let same = done-is G kept frame has in omega (arith, same, some));
+  }
+
+  pub may-begin : AwaitsNone kept.versions frame.task.number → ((older : ℕ) → ¬ Blocks kept.turns frame.task.number older) → MayBegin kept frame.task.number
+  may-begin ready free = record {
+    turn = λ a live. has_turn kept.state has.core.queues.tree kept.turns has.core.queues.turns_are frame.task.number a live free;
+    ready = ready;
+  }
+
+  pub waits-awaited : (done m : ℕ) → done ≡ frame.task.done → nat_lt 0 done ≡ false → (place : ℕ) → Awaits kept.versions frame.task.number place m → WaitsForVersion G kept frame m
+  waits-awaited done m same not_so place awaits = at_first place (sym same ∙ not-less done not_so) awaits
+
+  pub awaited-before : (m place : ℕ) → Awaits kept.versions frame.task.number place m → IsLiveBefore kept frame.task.path m
+  awaited-before m place awaits =
+      live-before m (waiting.awaited-live G frame.task.plan (lawful G kept frame has) kept.reading kept.state kept.turns kept.live kept.frames has.core.queues has.core.frames frame.task.number f has.of.live
+      kept.versions kept.objects has.core.objects m place awaits)
+
+  pub owed-before : (m place : ℕ) (object : Placed) → placed_at kept.versions frame.task.number place ≡ Some object → object.present ≡ owed m → IsLiveBefore kept frame.task.path m
+  owed-before m place object stands owes =
+      live-before m (waiting.owner-live G frame.task.plan (lawful G kept frame has) kept.reading kept.state kept.turns kept.live kept.frames has.core.queues has.core.frames frame.task.number f has.of.live
+      kept.versions kept.objects has.core.objects m place object stands (inl owes))
+
+  pub blocked-before : (m : ℕ) → Blocks kept.turns frame.task.number m → IsLiveBefore kept frame.task.path m
+  blocked-before m blocks =
+      live-before m (waiting.blocker-live G frame.task.plan (lawful G kept frame has) kept.reading kept.state kept.turns kept.live kept.frames has.core.queues has.core.frames frame.task.number f has.of.live m blocks)
+
+  -- ---- at a queue
+
+  abbrev a : ActiveFrame
+  a = (own G kept frame has).0
+
+  a-live : active kept.state frame.task.number ≡ Some a
+  a-live = (own G kept frame has).1
+
+  pub cause-before : (queue : ℕ) (wait_for : WaitFor) → IsCause kept.name kept.state a queue wait_for → IsLiveBefore kept frame.task.path (waited_for wait_for)
+  cause-before queue (wait.Child m) cause = absurd cause
+  cause-before queue (wait.Version m) cause = absurd cause
+  cause-before queue (wait.PopTurn m) cause =
+      live-before m (waiting.popping-live G frame.task.plan (lawful G kept frame has) kept.reading kept.state kept.turns kept.live kept.frames has.core.queues has.core.frames frame.task.number f has.of.live queue m
+      (subst (λ n. IsPoppingChild kept.state n queue m) (active_number kept.state frame.task.number a a-live) cause.0))
+  cause-before queue (wait.Pusher m) cause =
+      live-before m (waiting.pusher-live G frame.task.plan (lawful G kept frame has) kept.reading kept.state kept.turns kept.live kept.frames has.core.queues has.core.frames frame.task.number f has.of.live a a-live queue m cause.1.is)
+
+  pub cause-shown : (queue : ℕ) (wait_for : WaitFor) → IsCause kept.name kept.state a queue wait_for → IsShown G kept frame wait_for
+  cause-shown queue (wait.Child m) cause = absurd cause
+  cause-shown queue (wait.Version m) cause = absurd cause
+  cause-shown queue (wait.PopTurn m) cause = at_pop (record { own = a; active_is = a-live; queue = queue; cause = cause })
+  cause-shown queue (wait.Pusher m) cause = record { own = a; active_is = a-live; queue = queue; cause = cause }
+
+  -- ---- it waits
+
+  pub waits-so : (after : KeptView) (same : AtCore B L) (wait_for : WaitFor) → after ≡ kept → same ≡ frame → IsShown G kept frame wait_for → IsLiveBefore kept frame.task.path (waited_for wait_for)
+      → IsStep G kept after frame.task (step.Waits same wait_for)
+  waits-so after same wait_for after_is same_is shown before =
+      subst (λ k. IsStep G kept k frame.task (step.Waits same wait_for)) (sym after_is)
+      (subst (λ x. IsStep G kept kept frame.task (step.Waits x wait_for)) (sym same_is) (has, refl, refl, shown, before))
+
+  pub waits-cause : (after : KeptView) (same : AtCore B L) (queue : ℕ) (wait_for : WaitFor) → after ≡ kept → same ≡ frame → IsCause kept.name kept.state a queue wait_for → IsStep G kept after frame.task (step.Waits same wait_for)
+  waits-cause after same queue wait_for after_is same_is cause = waits-so after same wait_for after_is same_is (cause-shown queue wait_for cause) (cause-before queue wait_for cause)
+
+  pub waits-oldest : (after : KeptView) (same : AtCore B L) (child : ℕ) → after ≡ kept → same ≡ frame → IsOldestChild kept.live frame.task.number child → (deed_now G frame.task ≡ deed.Sync) ⊎ IsLast G frame.task
+      → IsStep G kept after frame.task (step.Waits same (wait.Child child))
+  waits-oldest after same child after_is same_is oldest why = waits-so after same (wait.Child child) after_is same_is (oldest, why) (child-before G kept frame has child oldest)

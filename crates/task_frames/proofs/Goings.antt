@@ -1,0 +1,207 @@
+-- A frame at the core that goes on by its next step.
+use Rattle.std.proofs.Common.{◌≡◌, ◌≢◌, ℕ, ◌+◌, ◌-◌, ◌<◌, true, false, Option, Some, None, List, length, map, refl, sym, ap, subst, ◌∙◌, arith}
+use Rattle.std.proofs.lemmas.Option.{same_Some}
+use Rattle.std.specs.Prelude.{slice_get}
+use Rattle.swan_model.specs.declared.body.Answer.{Answer}
+use Rattle.swan_model.specs.declared.body.Ask.{Ask}
+use Rattle.swan_model.specs.declared.body.Body.{Ghosts}
+use Rattle.swan_model.specs.declared.origin.Origin.{Origin}
+use Rattle.swan_model.specs.declared.plan.Plan.{Plan}
+use Rattle.swan_model.specs.declared.rights.Mode.TheVariants.{Out}
+use Rattle.swan_model.specs.declared.script.Deed.{Deed}
+use Rattle.swan_model.specs.declared.script.Deed.TheVariants as deed
+use Rattle.swan_model.specs.declared.script.Script.{Script}
+use Rattle.swan_model.specs.declared.value.Value.{Value}
+use Rattle.swan_model.specs.Granted.{is_spawn}
+use Rattle.swan_model.specs.Lawful.{IsLawful}
+use Rattle.swan_model.specs.QueueState.{ActiveFrame, active, after_deed, with_deed}
+use Rattle.swan_model.specs.Rights.{allows}
+use Rattle.swan_model.specs.Script.{script}
+use Rattle.swan_model.specs.SerialState.{Activation}
+use Rattle.swan_model.specs.SerialStep.{moved, told}
+use Rattle.swan_model.specs.SerialTime.{Progress, frame_of, is_queue_deed}
+use Rattle.swan_model.specs.TrueFrames.{StandsAt, give_in, gives_at}
+use Rattle.swan_model.specs.Versions.{Placed, after_write, placed_at}
+use Rattle.swan_model.specs.VersionsFollow.{is_object_deed}
+use Rattle.queues.specs.Asks.{MayDo}
+use Rattle.swan_model.specs.Readings.{gone_on_by}
+use Rattle.queues.specs.Tree.{IsOnlyFrame}
+use Rattle.queues.proofs.ActiveAfter.{one_changed}
+use Rattle.serial_elision.specs.TaskSteps.{GoesOn, IsAsking}
+use Rattle.serial_elision.proofs.Lawful as elision
+use Rattle.serial_elision.proofs.TaskSteps.{goes_on_next, stands-one}
+use Rattle.task_frames.specs.declared.stage.Stage.TheVariants.{Ready, Asking}
+use Rattle.task_frames.specs.declared.step.Step.TheVariants as step
+use Rattle.task_frames.specs.Cores.{AreBooked, AreFrames, AreObjects, AreQueues, AtCore, HasIt, IsAtCore, IsCore, IsTold, KeptView, MayBegin, Mid, asking, one_on}
+use Rattle.task_frames.specs.Frames.{Task}
+use Rattle.task_frames.specs.Records.{IsOnlyLive, LiveFrame, live_at}
+use Rattle.task_frames.specs.Resumes.{IsStep, OthersStay}
+use Rattle.task_frames.proofs.Booked as booked
+use Rattle.task_frames.proofs.Live as live
+use Rattle.task_frames.proofs.Objects as objects
+use Rattle.task_frames.proofs.Queues as queues
+
+-- ---- a frame at the core, as the core has it
+
+module _ {B L : Type 0} (G : Ghosts B L) (kept : KeptView) (frame : AtCore B L) (has : HasIt G kept frame) where
+  abbrev task : Task B L
+  task = frame.task
+
+  abbrev s : Script
+  s = script G task.plan
+
+  abbrev here : LiveFrame
+  here = has.of.frame
+
+  abbrev top : Activation L
+  top = has.is.alone.top
+
+  abbrev p : Progress
+  p = record { number = task.number; path = task.path; done = task.done }
+
+  pub lawful : IsLawful s
+  lawful = elision.lawful G task.plan has.is.plan.lists
+
+  pub done-is : here.done ≡ task.done
+  done-is = has.of.done ∙ has.is.since
+
+  -- the reading has it
+  pub known : frame_of kept.reading task.number ≡ Some p
+  known =
+      let told = has.core.frames.told task.number here has.of.live in
+      told.progress ∙ ap {B = Option Progress} (λ path. Some (record { number = task.number; path = path; done = here.done })) has.of.path
+      ∙ ap {B = Option Progress} (λ k. Some (record { number = task.number; path = task.path; done = k })) done-is
+
+  -- what it holds, by name
+  pub told-now : IsTold G task.plan kept.reading task.number (record { parent = here.parent; path = task.path; done = task.done; holdings = task.holdings })
+  told-now =
+      let told = has.core.frames.told task.number here has.of.live in
+      subst (λ hs. IsTold G task.plan kept.reading task.number (record { parent = here.parent; path = task.path; done = task.done; holdings = hs })) has.of.holdings
+      (subst (λ k. IsTold G task.plan kept.reading task.number (record { parent = here.parent; path = task.path; done = k; holdings = here.holdings })) done-is
+      (subst (λ path. IsTold G task.plan kept.reading task.number (record { parent = here.parent; path = path; done = here.done; holdings = here.holdings })) has.of.path told))
+
+  pub named : map (give_in kept.reading) task.holdings ≡ gives_at G task.plan task.path task.done top
+  named =
+      let told = told-now in
+      told.named ∙ ap (gives_at G task.plan task.path task.done) (stands-one G task.plan task.path task.done told.top top told.stands has.is.alone.stands)
+
+  -- it is active
+  pub own : (a : ActiveFrame) × (active kept.state task.number ≡ Some a) × (a.parent ≡ here.parent)
+  own = has.core.frames.active_is task.number here has.of.live
+
+-- ---- a step that leaves it with what it holds
+
+module _ {B L : Type 0} (G : Ghosts B L) (kept : KeptView) (mid : Mid B L) (asks : Ask L) (has : HasIt G kept (asking mid asks)) (begun : MayBegin kept mid.task.number) where
+  pub is-asking : IsAsking G mid.task.plan mid.task.path mid.task.done has.is.alone.top mid.local asks
+  is-asking = record { stands = has.is.alone.stands; paid = has.is.alone.stage.0; said = has.is.alone.stage.3 }
+
+  module _ (said : Answer) (does : Deed) (goes : GoesOn G mid.task.plan mid.task.path mid.task.done has.is.alone.top mid.local said does) where
+    abbrev next : Activation L
+    next = told (moved has.is.alone.top mid.local) said
+
+    abbrev after-task : Task B L
+    after-task = one_on mid.task
+
+    pub stands-next : StandsAt G mid.task.plan mid.task.path (mid.task.done + 1) next
+    stands-next = goes_on_next G mid.task.plan mid.task.path mid.task.done has.is.alone.top has.is.alone.stands next goes.store goes.effect
+
+    pub is-next : IsAtCore G (record { task = one_on mid.task; stage = Ready mid.local said })
+    is-next =
+        let within = has.is.within in
+        let paid = has.is.alone.stage.0 in
+        record {
+          plan = has.is.plan;
+          alone = record { top = next; stands = stands-next; stage = (refl, has.is.alone.stage.1, refl); modes = has.is.alone.modes; children = has.is.alone.children };
+          within = record { holds = let a = within.holds in omega (arith, a, paid); spawned = let a = within.spawned in omega (arith, a, paid) };
+          since = refl;
+        }
+
+    module _ (after : KeptView) (only : IsOnlyLive kept.live after.live mid.task.number (Some (record has.of.frame { done = mid.task.done + 1 })))
+        (name : after.name ≡ kept.name) (reading : after.reading ≡ gone_on_by kept.reading mid.task.number 1) (count : after.frames ≡ kept.frames) (faults : after.faults ≡ kept.faults)
+        (queues : AreQueues (script G mid.task.plan) (gone_on_by kept.reading mid.task.number 1) after.state after.turns)
+        (objects : AreObjects (script G mid.task.plan) (gone_on_by kept.reading mid.task.number 1) after.versions after.live after.objects)
+        (frames : AreFrames G mid.task.plan (gone_on_by kept.reading mid.task.number 1) after.state after.live kept.frames)
+        (b : ActiveFrame) (changed : IsOnlyFrame kept.state after.state mid.task.number (Some b)) (back : b.lent ≡ None) (no_spawn : is_spawn does ≡ false) where
+      core-next : IsCore G mid.task.plan after
+      core-next = record {
+        sound = has.core.sound;
+        name = name ∙ has.core.name;
+        queues = subst (λ r. AreQueues (script G mid.task.plan) r after.state after.turns) (sym reading) queues;
+        objects = subst (λ r. AreObjects (script G mid.task.plan) r after.versions after.live after.objects) (sym reading) objects;
+        frames = subst (λ r. AreFrames G mid.task.plan r after.state after.live after.frames) (sym reading)
+            (subst (AreFrames G mid.task.plan (gone_on_by kept.reading mid.task.number 1) after.state after.live) (sym count) frames);
+        booked = subst (λ r. AreBooked G mid.task.plan r after.faults) (sym reading)
+            (subst (AreBooked G mid.task.plan (gone_on_by kept.reading mid.task.number 1)) (sym faults)
+            (booked.goes G mid.task.plan kept.reading mid.task.number mid.task.path mid.task.done (known G kept (asking mid asks) has) 1 kept.faults stands-next.left has.core.booked));
+      }
+
+      has-next : HasIt G after (record { task = one_on mid.task; stage = Ready mid.local said })
+      has-next = record {
+        core = core-next;
+        is = is-next;
+        of = record { frame = record has.of.frame { done = mid.task.done + 1 }; live = only.own; path = has.of.path; done = refl; holdings = has.of.holdings };
+        back = λ c live_now. ap (λ (x : ActiveFrame). x.lent) (same_Some c b (sym live_now ∙ changed.changed)) ∙ back;
+      }
+
+      pub runs : IsStep G kept after mid.task (step.Runs (record { task = one_on mid.task; stage = Ready mid.local said }))
+      runs = (has-next, refl, ap is_spawn goes.deed ∙ no_spawn, record { live = only.others; active_are = changed.others })
+
+    abbrev n : ℕ
+    n = mid.task.number
+
+    abbrev plan : Plan B L
+    plan = mid.task.plan
+
+    abbrev a : ActiveFrame
+    a = (own G kept (asking mid asks) has).0
+
+    own-live : active kept.state n ≡ Some a
+    own-live = (own G kept (asking mid asks) has).1
+
+    -- a step of which neither the queues nor the objects hear
+    pub runs-quiet : (after : KeptView) → IsOnlyLive kept.live after.live n (Some (record has.of.frame { done = mid.task.done + 1 }))
+        → after ≡ record kept { reading = gone_on_by kept.reading n 1; live = after.live }
+        → is_queue_deed does ≡ false → is_object_deed does ≡ false → is_spawn does ≡ false
+        → IsStep G kept after mid.task (step.Runs (record { task = one_on mid.task; stage = Ready mid.local said }))
+    runs-quiet after only is no_queue no_object no_spawn =
+        subst (λ k. IsStep G kept k mid.task (step.Runs (record { task = one_on mid.task; stage = Ready mid.local said }))) (sym is)
+        (runs (record kept { reading = gone_on_by kept.reading n 1; live = after.live }) only refl refl refl refl
+        (queues.others (script G plan) (lawful G kept (asking mid asks) has) kept.reading kept.state kept.turns has.core.queues n mid.task.path mid.task.done (known G kept (asking mid asks) has)
+        does goes.deed no_queue stands-next.left)
+        (objects.others (script G plan) (lawful G kept (asking mid asks) has) kept.reading kept.versions kept.live kept.objects has.core.objects n mid.task.path mid.task.done (known G kept (asking mid asks) has)
+        has.of.frame has.of.live after.live does goes.deed has.is.alone.stands.left no_object no_spawn begun.ready only)
+        (live.goes G plan kept.reading kept.state kept.live kept.frames has.core.frames n has.of.frame has.of.live a own-live after.live mid.task.path mid.task.done has.is.alone.top next
+        has.of.path (done-is G kept (asking mid asks) has) has.is.alone.stands stands-next goes.names (begun.turn a own-live) only)
+        a (record { changed = own-live; others = λ m other. refl }) (has.back a own-live) no_spawn)
+
+    -- a write of an object
+    pub runs-written : (after : KeptView) (place : ℕ) (value : Value) (origin : Origin) (object : Placed) → IsOnlyLive kept.live after.live n (Some (record has.of.frame { done = mid.task.done + 1 }))
+        → after ≡ record kept { versions = after_write kept.versions n place value; reading = gone_on_by kept.reading n 1; live = after.live }
+        → does ≡ deed.Write origin value → placed_at kept.versions n place ≡ Some object → allows object.mode Out ≡ true → slice_get kept.reading.objects object.object ≡ Some origin
+        → IsStep G kept after mid.task (step.Runs (record { task = one_on mid.task; stage = Ready mid.local said }))
+    runs-written after place value origin object only is written stands may named =
+        subst (λ k. IsStep G kept k mid.task (step.Runs (record { task = one_on mid.task; stage = Ready mid.local said }))) (sym is)
+        (runs (record kept { versions = after_write kept.versions n place value; reading = gone_on_by kept.reading n 1; live = after.live }) only refl refl refl refl
+        (queues.others (script G plan) (lawful G kept (asking mid asks) has) kept.reading kept.state kept.turns has.core.queues n mid.task.path mid.task.done (known G kept (asking mid asks) has)
+        does goes.deed (ap is_queue_deed written) stands-next.left)
+        (objects.written (script G plan) (lawful G kept (asking mid asks) has) kept.reading kept.versions kept.live kept.objects has.core.objects n mid.task.path mid.task.done (known G kept (asking mid asks) has)
+        has.of.frame has.of.live after.live place value object origin (after_write kept.versions n place value) (goes.deed ∙ written) has.is.alone.stands.left stands may named refl begun.ready only)
+        (live.goes G plan kept.reading kept.state kept.live kept.frames has.core.frames n has.of.frame has.of.live a own-live after.live mid.task.path mid.task.done has.is.alone.top next
+        has.of.path (done-is G kept (asking mid asks) has) has.is.alone.stands stands-next goes.names (begun.turn a own-live) only)
+        a (record { changed = own-live; others = λ m other. refl }) (has.back a own-live) (ap is_spawn written))
+
+    -- a push, a pop or a test
+    pub runs-used : (after : KeptView) → IsOnlyLive kept.live after.live n (Some (record has.of.frame { done = mid.task.done + 1 })) → MayDo kept.state n
+        → after ≡ record kept { name = kept.name; run = kept.run; state = after_deed kept.state n; reading = gone_on_by kept.reading n 1; live = after.live }
+        → is_queue_deed does ≡ true → is_object_deed does ≡ false → is_spawn does ≡ false → does ≢ deed.MakeQueue
+        → IsStep G kept after mid.task (step.Runs (record { task = one_on mid.task; stage = Ready mid.local said }))
+    runs-used after only act is queue no_object no_spawn no_making =
+        subst (λ k. IsStep G kept k mid.task (step.Runs (record { task = one_on mid.task; stage = Ready mid.local said }))) (sym is)
+        (runs (record kept { state = after_deed kept.state n; reading = gone_on_by kept.reading n 1; live = after.live }) only refl refl refl refl
+        (queues.used (script G plan) (lawful G kept (asking mid asks) has) kept.reading kept.state kept.turns has.core.queues n mid.task.path mid.task.done (known G kept (asking mid asks) has)
+        does (after_deed kept.state n) goes.deed queue no_spawn no_making stands-next.left act refl)
+        (objects.others (script G plan) (lawful G kept (asking mid asks) has) kept.reading kept.versions kept.live kept.objects has.core.objects n mid.task.path mid.task.done (known G kept (asking mid asks) has)
+        has.of.frame has.of.live after.live does goes.deed has.is.alone.stands.left no_object no_spawn begun.ready only)
+        (live.goes-used G plan kept.reading kept.state kept.live kept.frames has.core.frames n has.of.frame has.of.live a own-live after.live has.core.queues.tree act
+        mid.task.path mid.task.done has.is.alone.top next (after_deed kept.state n) has.of.path (done-is G kept (asking mid asks) has) has.is.alone.stands stands-next goes.names (begun.turn a own-live) refl only)
+        (with_deed a) (one_changed kept.state n with_deed (λ x. refl) a own-live) (has.back a own-live) no_spawn)

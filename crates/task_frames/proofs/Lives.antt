@@ -1,0 +1,225 @@
+-- The record of live frames after a call, and its set of children.
+use Rattle.std.proofs.Common.{◌≡◌, ◌≢◌, inl, inr, ℕ, ◌||◌, ◌&&◌, not, Bool, true, false, cond, Option, None, Some, IsSome, IfSome, IfNone, List, [], refl, sym, ap, subst, ◌∙◌, arith, rules}
+use Rattle.std.proofs.lemmas.Bool.{cases_eq, false≢true}
+use Rattle.std.proofs.lemmas.Bool.Decides.{nat_tests}
+use Rattle.std.proofs.lemmas.Cmp.{eq_by_cmp_equiv, nat_cmp_total}
+use Rattle.std.proofs.lemmas.Map.{lookup-set_value, lookup-remove_entry}
+use Rattle.std.proofs.lemmas.Map.Keys.{IsDistinct-from_sorted}
+use Rattle.std.proofs.lemmas.Option.{same_Some}
+use Rattle.std.specs.BTreeMap.{is_at, insert_entry}
+use Rattle.std.specs.List.Sorted.{IsStrictlySortedBy}
+use Rattle.std.specs.Map.{keys_of, remove_entry, set_value}
+use Rattle.std.specs.Option.{option_map}
+use Rattle.std.specs.Ordering.{nat_cmp, eq_by_cmp}
+use Rattle.swan_model.proofs.Lookups.{tied, untied, equal_at}
+use Rattle.queue_book.proofs.Lookups.{at_inserted, by_inserted}
+use Rattle.task_frames.specs.Records.{HasChildren, IsLiveChild, IsOldest, IsOldestChild, IsOnlyLive, IsWith, IsWithout, LiveFrame, LiveFrames, Pair, come_at, come_to, has, live_at}
+
+-- ---- entries
+
+pub entered : (before after : LiveFrames) (number : ℕ) (frame : LiveFrame) → after ≡ insert_entry nat_cmp before number frame → IsOnlyLive before after number (Some frame)
+entered before after number frame is = record {
+  own = ap (λ es. live_at es number) is ∙ at_inserted before number frame;
+  others = λ other differs. ap (λ es. live_at es other) is ∙ by_inserted before number frame other differs;
+}
+
+one_key : (k x y : ℕ) → is_at (nat_cmp k) x ≡ true → is_at (nat_cmp k) y ≡ eq_by_cmp nat_cmp x y
+one_key k x y h = ap (λ z. is_at (nat_cmp z) y) (equal_at k x h)
+
+some_is : (o : Option LiveFrame) (f : LiveFrame) → o ≡ Some f → IsSome o
+some_is o f e = let P : Option LiveFrame → Type 0 = λ x. IsSome x in subst P (sym e) refl
+
+set_found : (es : LiveFrames) (k : ℕ) (was v : LiveFrame) (n : ℕ) → live_at es k ≡ Some was
+    → live_at (set_value (is_at (nat_cmp k)) es v) n ≡ cond (is_at (nat_cmp k) n) (Some v) (live_at es n)
+set_found es k was v n e =
+    lookup-set_value (eq_by_cmp_equiv nat_cmp_total) (is_at (nat_cmp k)) (one_key k) n v es (some_is (live_at es k) was e)
+
+pub changed : (before after : LiveFrames) (number : ℕ) (was frame : LiveFrame) → live_at before number ≡ Some was
+    → after ≡ set_value (is_at (nat_cmp number)) before frame → IsOnlyLive before after number (Some frame)
+changed before after number was frame there is = record {
+  own = ap (λ es. live_at es number) is ∙ set_found before number was frame number there ∙ ap (λ b. cond b (Some frame) (live_at before number)) (tied number number refl);
+  others = λ other differs. ap (λ es. live_at es other) is ∙ set_found before number was frame other there
+      ∙ ap (λ b. cond b (Some frame) (live_at before other)) (untied number other differs);
+}
+
+removed_found : (es : LiveFrames) (k n : ℕ) → IsStrictlySortedBy nat_cmp (keys_of es)
+    → live_at (remove_entry (is_at (nat_cmp k)) es) n ≡ cond (is_at (nat_cmp k) n) None (live_at es n)
+removed_found es k n sorted =
+    lookup-remove_entry (eq_by_cmp_equiv nat_cmp_total) (is_at (nat_cmp k)) (one_key k) n es (IsDistinct-from_sorted nat_cmp (keys_of es) sorted)
+
+pub left : (before after : LiveFrames) (number : ℕ) → IsStrictlySortedBy nat_cmp (keys_of before)
+    → after ≡ remove_entry (is_at (nat_cmp number)) before → IsOnlyLive before after number None
+left before after number sorted is = record {
+  own = ap (λ es. live_at es number) is ∙ removed_found before number number sorted ∙ ap (λ b. cond b None (live_at before number)) (tied number number refl);
+  others = λ other differs. ap (λ es. live_at es other) is ∙ removed_found before number other sorted
+      ∙ ap (λ b. cond b None (live_at before other)) (untied number other differs);
+}
+
+-- a record that is the same
+pub same : (frames : LiveFrames) (number : ℕ) (frame : Option LiveFrame) → live_at frames number ≡ frame → IsOnlyLive frames frames number frame
+same frames number frame is = record { own = is; others = λ other differs. refl }
+
+-- ---- children
+
+-- a child that is found is the oldest live one
+pub oldest_is : (frames : LiveFrames) (pairs : List Pair) (parent oldest : ℕ) → HasChildren frames pairs → IsOldest pairs parent oldest → IsOldestChild frames parent oldest
+oldest_is frames pairs parent oldest kept is = record {
+  child = kept.known parent oldest is.known;
+  least = λ other child. is.least other (kept.all parent other child);
+}
+
+pub none_is : (frames : LiveFrames) (pairs : List Pair) (parent : ℕ) → HasChildren frames pairs → ((child : ℕ) → has pairs parent child ≡ false) → (other : ℕ) → ¬ IsLiveChild frames parent other
+none_is frames pairs parent kept none other child = false≢true (sym (none other) ∙ kept.all parent other child)
+
+module _ (before after : LiveFrames) (pairs : List Pair) (number : ℕ) (kept : HasChildren before pairs) (sorted : IsStrictlySortedBy nat_cmp (keys_of after)) where
+  module _ (others : (other : ℕ) → other ≢ number → live_at after other ≡ live_at before other) where
+    -- a child of another number is one before and after
+    there : (parent other : ℕ) → other ≢ number → IsLiveChild before parent other → IsLiveChild after parent other
+    there parent other differs child = record { frame = child.frame; live = others other differs ∙ child.live; of = child.of }
+
+    back : (parent other : ℕ) → other ≢ number → IsLiveChild after parent other → IsLiveChild before parent other
+    back parent other differs child = record { frame = child.frame; live = sym (others other differs) ∙ child.live; of = child.of }
+
+  -- a frame that is the child of the same parent as before
+  pub changed_keeps : (was frame : LiveFrame) → live_at before number ≡ Some was → IsOnlyLive before after number (Some frame) → frame.parent ≡ was.parent → HasChildren after pairs
+  changed_keeps was frame there_was only parent_is = record {
+    sorted = sorted;
+    known = λ parent other in_set. elim (cases_eq other number) [
+      | inl is ↦
+          let child = kept.known parent other in_set in
+          let one : was ≡ child.frame = same_Some was child.frame (sym there_was ∙ ap (live_at before) (sym is) ∙ child.live) in
+          record { frame = frame; live = ap (live_at after) is ∙ only.own; of = parent_is ∙ ap (λ (f : LiveFrame). f.parent) one ∙ child.of }
+      | inr differs ↦ there only.others parent other differs (kept.known parent other in_set)
+    ];
+    all = λ parent other child. elim (cases_eq other number) [
+      | inl is ↦
+          let one : frame ≡ child.frame = same_Some frame child.frame (sym only.own ∙ ap (live_at after) (sym is) ∙ child.live) in
+          kept.all parent other (record { frame = was; live = ap (live_at before) is ∙ there_was; of = sym parent_is ∙ ap (λ (f : LiveFrame). f.parent) one ∙ child.of })
+      | inr differs ↦ kept.all parent other (back only.others parent other differs child)
+    ];
+  }
+
+  -- a frame that has no parent, where none was
+  pub entered_root_keeps : (frame : LiveFrame) → live_at before number ≡ None → IsOnlyLive before after number (Some frame) → frame.parent ≡ None → HasChildren after pairs
+  entered_root_keeps frame free only root = record {
+    sorted = sorted;
+    known = λ parent other in_set. elim (cases_eq other number) [
+      | inl is ↦ let child = kept.known parent other in_set in let no : None ≡ Some child.frame = sym free ∙ ap (live_at before) (sym is) ∙ child.live in absurd (cc)
+      | inr differs ↦ there only.others parent other differs (kept.known parent other in_set)
+    ];
+    all = λ parent other child. elim (cases_eq other number) [
+      | inl is ↦
+          let one : frame ≡ child.frame = same_Some frame child.frame (sym only.own ∙ ap (live_at after) (sym is) ∙ child.live) in
+          let no : None ≡ Some parent = sym root ∙ ap (λ (f : LiveFrame). f.parent) one ∙ child.of in absurd (cc)
+      | inr differs ↦ kept.all parent other (back only.others parent other differs child)
+    ];
+  }
+
+  with_pair : (b was now : Bool) → now ≡ (b || was) → was ≡ true → now ≡ true
+  with_pair true was now is e = is
+  with_pair false was now is e = is ∙ e
+
+  module _ (own : ℕ) (then_pairs : List Pair) where
+    -- a child of a parent, where none was
+    pub entered_keeps : (frame : LiveFrame) → live_at before number ≡ None → IsOnlyLive before after number (Some frame) → frame.parent ≡ Some own → IsWith pairs own number then_pairs → HasChildren after then_pairs
+    entered_keeps frame free only of set = record {
+      sorted = sorted;
+      known = λ parent other in_set. elim (cases_eq other number) [
+        | inl is ↦ record {
+          frame = frame;
+          live = ap (live_at after) is ∙ only.own;
+          of = of ∙ ap Some (elim (cases_eq own parent) [
+            | inl e ↦ e
+            | inr differs ↦
+                let was : has pairs parent other ≡ true = grind (arith, nat_tests, set parent other, in_set, differs) in
+                let child = kept.known parent other was in let none : None ≡ Some child.frame = sym free ∙ ap (live_at before) (sym is) ∙ child.live in absurd (cc)
+          ]);
+        }
+        | inr differs ↦
+            let was : has pairs parent other ≡ true = grind (arith, nat_tests, set parent other, in_set, differs) in
+            there only.others parent other differs (kept.known parent other was)
+      ];
+      all = λ parent other child. elim (cases_eq other number) [
+        | inl is ↦
+            let one : frame ≡ child.frame = same_Some frame child.frame (sym only.own ∙ ap (live_at after) (sym is) ∙ child.live) in
+            let same_parent : Some own ≡ Some parent = sym of ∙ ap (λ (f : LiveFrame). f.parent) one ∙ child.of in
+            let e : own ≡ parent = same_Some own parent same_parent in
+            grind (arith, nat_tests, set parent other, e, is)
+        | inr differs ↦ let was = kept.all parent other (back only.others parent other differs child) in with_pair _ _ _ (set parent other) was
+      ];
+    }
+
+    -- a child that goes
+    pub left_keeps : (was : LiveFrame) → live_at before number ≡ Some was → IsOnlyLive before after number None → was.parent ≡ Some own → IsWithout pairs own number then_pairs → HasChildren after then_pairs
+    left_keeps was there_was only of set = record {
+      sorted = sorted;
+      known = λ parent other in_set. elim (cases_eq other number) [
+        | inl is ↦
+            let in_both : has pairs parent other ≡ true = grind (arith, nat_tests, set parent other, in_set) in
+            let child = kept.known parent other in_both in
+            let one : was ≡ child.frame = same_Some was child.frame (sym there_was ∙ ap (live_at before) (sym is) ∙ child.live) in
+            let same_parent : Some own ≡ Some parent = sym of ∙ ap (λ (f : LiveFrame). f.parent) one ∙ child.of in
+            let e : own ≡ parent = same_Some own parent same_parent in
+            let no : has then_pairs parent other ≡ false = grind (arith, nat_tests, set parent other, e, is) in
+            absurd (false≢true (sym no ∙ in_set))
+        | inr differs ↦
+            let in_both : has pairs parent other ≡ true = grind (arith, nat_tests, set parent other, in_set) in
+            there only.others parent other differs (kept.known parent other in_both)
+      ];
+      all = λ parent other child. elim (cases_eq other number) [
+        | inl is ↦ let no : None ≡ Some child.frame = sym only.own ∙ ap (live_at after) (sym is) ∙ child.live in absurd (cc)
+        | inr differs ↦ let in_set = kept.all parent other (back only.others parent other differs child) in grind (arith, nat_tests, set parent other, in_set, differs)
+      ];
+    }
+
+  -- a root that goes, or nobody
+  pub left_root_keeps : IsOnlyLive before after number None → ((parent : ℕ) → ¬ IsLiveChild before parent number) → HasChildren after pairs
+  left_root_keeps only root = record {
+    sorted = sorted;
+    known = λ parent other in_set. elim (cases_eq other number) [
+      | inl is ↦ absurd (root parent (subst (IsLiveChild before parent) is (kept.known parent other in_set)))
+      | inr differs ↦ there only.others parent other differs (kept.known parent other in_set)
+    ];
+    all = λ parent other child. elim (cases_eq other number) [
+      | inl is ↦ let no : None ≡ Some child.frame = sym only.own ∙ ap (live_at after) (sym is) ∙ child.live in absurd (cc)
+      | inr differs ↦ kept.all parent other (back only.others parent other differs child)
+    ];
+  }
+
+-- ---- what the calls find
+
+nothing-live : HasChildren [] []
+unfolding has IsStrictlySortedBy
+nothing-live = record { sorted = tt; known = λ parent number in_set. absurd (cc); all = λ parent number child. let no : None ≡ Some child.frame = child.live in absurd (cc) }
+
+-- no frames, no children
+pub none-live : (frames : LiveFrames) (pairs : List Pair) → frames ≡ [] → pairs ≡ [] → HasChildren frames pairs
+none-live frames pairs no_frames no_pairs =
+    subst (λ fs. HasChildren fs pairs) (sym no_frames) (subst (HasChildren []) (sym no_pairs) nothing-live)
+
+pub found-oldest : (frames kept : LiveFrames) (pairs : List Pair) (parent : ℕ) (found : Option ℕ) → frames ≡ kept → HasChildren frames pairs → IfSome found (IsOldest pairs parent) → IfSome found (IsOldestChild kept parent)
+found-oldest frames kept pairs parent None same has is = tt
+found-oldest frames kept pairs parent (Some oldest) same has is = subst (λ fs. IsOldestChild fs parent oldest) same (oldest_is frames pairs parent oldest has is)
+
+pub found-none : (frames kept : LiveFrames) (pairs : List Pair) (parent : ℕ) (found : Option ℕ) → frames ≡ kept → HasChildren frames pairs → IfNone found ((child : ℕ) → has pairs parent child ≡ false)
+    → IfNone found ((other : ℕ) → ¬ IsLiveChild kept parent other)
+found-none frames kept pairs parent None same has is = λ other. subst (λ fs. ¬ IsLiveChild fs parent other) same (none_is frames pairs parent has is other)
+found-none frames kept pairs parent (Some oldest) same has is = tt
+
+-- a frame that is given with so many steps done, where there is one
+pub come-only : (before after : LiveFrames) (number done : ℕ) (found : Option LiveFrame) → live_at before number ≡ found → after ≡ come_at before number done found
+    → IsOnlyLive before after number (option_map (come_to done) found)
+come-only before after number done None none is = subst (λ fs. IsOnlyLive before fs number None) (sym is) (same before number None none)
+come-only before after number done (Some was) there is = changed before after number was (come_to done was) there is
+
+pub come-keeps : (before after : LiveFrames) (pairs : List Pair) (number done : ℕ) (found : Option LiveFrame) → live_at before number ≡ found → HasChildren before pairs
+    → IsStrictlySortedBy nat_cmp (keys_of after) → after ≡ come_at before number done found → HasChildren after pairs
+come-keeps before after pairs number done None none kept sorted is = subst (λ fs. HasChildren fs pairs) (sym is) kept
+come-keeps before after pairs number done (Some was) there kept sorted is =
+    changed_keeps before after pairs number kept sorted was (come_to done was) there (changed before after number was (come_to done was) there is) refl
+
+pub nobody-left : (before after : LiveFrames) (pairs : List Pair) (number : ℕ) → HasChildren before pairs → IsStrictlySortedBy nat_cmp (keys_of after)
+    → after ≡ remove_entry (is_at (nat_cmp number)) before → live_at before number ≡ None → HasChildren after pairs
+nobody-left before after pairs number kept sorted is none =
+    left_root_keeps before after pairs number kept sorted (left before after number kept.sorted is)
+    (λ parent child. let both : None ≡ Some child.frame = sym none ∙ child.live in absurd (cc))

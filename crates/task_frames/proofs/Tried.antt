@@ -1,0 +1,184 @@
+-- A frame at the core whose next step is tried: its body says what it asks for, or it has no fuel for that.
+use Rattle.std.proofs.Common.{◌≡◌, ◌≢◌, ℕ, ◌+◌, ◌-◌, ◌<◌, false, None, Option, Some, List, [], ◌∷◌, ◌++◌, length, refl, sym, ap, subst, ◌∙◌, arith}
+use Rattle.std.proofs.lemmas.Option.{same_Some}
+use Rattle.swan_model.specs.declared.body.Answer.{Answer}
+use Rattle.swan_model.specs.declared.body.Ask.{Ask}
+use Rattle.swan_model.specs.declared.body.Ask.TheVariants as ask
+use Rattle.swan_model.specs.declared.body.Body.{Ghosts}
+use Rattle.swan_model.specs.declared.fault.Fault.{Fault}
+use Rattle.swan_model.specs.declared.fault.FaultKind.{FaultKind}
+use Rattle.swan_model.specs.declared.fault.FaultKind.TheVariants as kind
+use Rattle.swan_model.specs.declared.script.Deed.TheVariants as deed
+use Rattle.swan_model.specs.QueueState.{ActiveFrame, active, after_finish}
+use Rattle.swan_model.specs.Readings.{gone_on_by}
+use Rattle.swan_model.specs.Script.{is_end, script}
+use Rattle.swan_model.specs.SerialState.{Activation}
+use Rattle.swan_model.specs.SerialTime.{is_queue_deed, time, times}
+use Rattle.swan_model.specs.Told.{deed_at}
+use Rattle.swan_model.specs.Versions.{IsSettled, after_finish as after_end}
+use Rattle.pop_order.specs.Frames.{HasNoChild, without}
+use Rattle.queues.specs.Asks.{IsOnTurn, MayJoin, OnNext}
+use Rattle.queues.proofs.TurnsGone.{turns_childless}
+use Rattle.swan_model.specs.QueueFollows.{next_queue_deed}
+use Rattle.serial_elision.specs.TaskSteps.{Ends, Faults, IsAsking}
+use Rattle.serial_elision.proofs.AskSteps.{dry, fails, finishes}
+use Rattle.serial_elision.proofs.TaskSteps.{ends_last, stands-one}
+use Rattle.task_frames.specs.declared.stage.Stage.{Stage}
+use Rattle.task_frames.specs.declared.stage.Stage.TheVariants.{Asking, Ready}
+use Rattle.task_frames.specs.Cores.{AtCore, HasIt, KeptView, MayBegin, Mid, asking}
+use Rattle.task_frames.specs.Frames.{Task}
+use Rattle.task_frames.specs.Records.{IsLiveChild, IsOnlyLive, LiveFrame}
+use Rattle.task_frames.specs.Resumes.{EndsByFault, IsLast, deed_now}
+use Rattle.task_frames.proofs.Asked.{ends-by}
+use Rattle.task_frames.proofs.Goings.{done-is, lawful, own}
+use Rattle.task_frames.proofs.MayEnd as ending
+
+module _ {B L : Type 0} (G : Ghosts B L) (kept : KeptView) where
+  -- ---- before the body is asked
+
+  module _ (task : Task B L) (local : L) (said : Answer) (has : HasIt G kept (record { task = task; stage = Ready local said })) where
+    pub dry-ends : (place : ℕ) → task.fuel ≡ 0 → place ≡ G.place_of task.plan.body local → EndsByFault G task place kind.Fuel
+    dry-ends place none at other stands =
+        let top = has.is.alone.top in
+        let one = stands-one G task.plan task.path task.done other top stands has.is.alone.stands in
+        let empty : other.fuel ≡ 0 = ap (λ (a : Activation L). a.fuel) one ∙ sym has.is.alone.stage.1 ∙ none in (
+          dry G task.plan task.path task.done other stands empty,
+          at ∙ ap (G.place_of task.plan.body) has.is.alone.stage.0 ∙ ap (λ (a : Activation L). G.place_of task.plan.body a.local) (sym one),
+        )
+
+    pub has-asked : (place : ℕ) (next : L) (asks : Ask L) → 0 < task.fuel → place ≡ G.place_of task.plan.body local → (next, asks) ≡ G.next task.plan.body local said (task.fuel - 1)
+        → HasIt G kept (asking (record { task = record task { fuel = task.fuel - 1 }; local = next; at = place }) asks)
+    has-asked place next asks some at step =
+        let alone = has.is.alone in
+        let top = alone.top in
+        let steps : G.next task.plan.body local said (task.fuel - 1) ≡ G.next task.plan.body top.local top.answer (top.fuel - 1) =
+        ap (λ l. G.next task.plan.body l said (task.fuel - 1)) alone.stage.0
+        ∙ ap (λ a. G.next task.plan.body top.local a (task.fuel - 1)) alone.stage.2
+        ∙ ap (λ n. G.next task.plan.body top.local top.answer (n - 1)) alone.stage.1 in
+        record {
+          core = has.core;
+          is = record {
+            plan = has.is.plan;
+            alone = record {
+              top = top;
+              stands = alone.stands;
+              stage = (let e = alone.stage.1 in omega (arith, e, some), ap (λ n. n - 1) alone.stage.1, at ∙ ap (G.place_of task.plan.body) alone.stage.0, step ∙ steps);
+              modes = alone.modes;
+              children = alone.children;
+            };
+            within = has.is.within;
+            since = has.is.since;
+          };
+          of = record { frame = has.of.frame; live = has.of.live; path = has.of.path; done = has.of.done; holdings = has.of.holdings };
+          back = has.back;
+        }
+
+  -- ---- ends
+
+  module _ (frame : AtCore B L) (has : HasIt G kept frame) where
+    pub fault-last : (place : ℕ) (fault : FaultKind) → EndsByFault G frame.task place fault → IsLast G frame.task
+    fault-last place fault is =
+        let top = has.is.alone.top in
+        ends_last G frame.task.plan frame.task.path frame.task.done top has.is.alone.stands (ap is_end (is top has.is.alone.stands).0.effect)
+
+    module _ (begun : MayBegin kept frame.task.number) (alone : (m : ℕ) → ¬ IsLiveChild kept.live frame.task.number m) where
+      pub on-turn-so : IsOnTurn kept.name kept.state frame.task.number
+      on-turn-so = λ s is x live. begun.turn x live
+
+      pub join-so : MayJoin kept.state frame.task.number
+      join-so =
+          let it = own G kept frame has in
+          ending.may-join G frame.task.plan (lawful G kept frame has) kept.reading kept.state kept.turns kept.live kept.frames has.core.queues has.core.frames frame.task.number has.of.frame has.of.live alone
+          it.0 it.1 (has.back it.0 it.1)
+
+      pub settled-so : IsSettled kept.versions frame.task.number
+      settled-so =
+          ending.may-end G frame.task.plan (lawful G kept frame has) kept.reading kept.state kept.turns kept.live kept.frames has.core.queues has.core.frames frame.task.number has.of.frame has.of.live alone
+          kept.versions kept.objects has.core.objects begun.ready
+
+      pub childless-so : HasNoChild kept.turns frame.task.number
+      childless-so = turns_childless kept.state kept.turns frame.task.number has.core.queues.turns_are join-so.alone
+
+      pub over-so : (does : _) → deed_now G frame.task ≡ does → is_queue_deed does ≡ false → IsLast G frame.task → OnNext kept.name kept.state frame.task.number (λ s x. next_queue_deed s x.path x.deeds ≡ None)
+      over-so does is quiet last = λ s named x live.
+          let f = has.of.frame in
+          let at : deed_at (script G frame.task.plan) (time (script G frame.task.plan) f.path f.done) ≡ does =
+          ap (λ p. deed_at (script G frame.task.plan) (time (script G frame.task.plan) p f.done)) has.of.path
+          ∙ ap (λ k. deed_at (script G frame.task.plan) (time (script G frame.task.plan) frame.task.path k)) (done-is G kept frame has) ∙ is in
+          let ends : f.done + 1 ≡ length (times (script G frame.task.plan) f.path) =
+          ap (λ k. k + 1) (done-is G kept frame has) ∙ last ∙ ap (λ p. length (times (script G frame.task.plan) p)) (sym has.of.path) in
+          subst (λ z. next_queue_deed z x.path x.deeds ≡ None) (same_Some (script G frame.task.plan) s (sym has.core.name ∙ named))
+          (ending.over-next G frame.task.plan (lawful G kept frame has) kept.reading kept.state kept.turns kept.live kept.frames has.core.queues has.core.frames frame.task.number f has.of.live alone
+          x live does at quiet ends)
+
+-- ---- the end that a task asks for
+
+module _ {B L : Type 0} (G : Ghosts B L) (kept : KeptView) (mid : Mid B L) (has : HasIt G kept (asking mid ask.Finish)) where
+  pub finish-ends : Ends G mid.task.plan mid.task.path mid.task.done has.is.alone.top
+  finish-ends = finishes G mid.task.plan mid.task.path mid.task.done has.is.alone.top mid.local (record { stands = has.is.alone.stands; paid = has.is.alone.stage.0; said = has.is.alone.stage.3 })
+
+  pub finish-last : IsLast G mid.task
+  finish-last = ends_last G mid.task.plan mid.task.path mid.task.done has.is.alone.top has.is.alone.stands (ap is_end finish-ends.effect)
+
+-- ---- what is kept once a frame has left
+
+-- by a number that is the frame's
+pub left-so : (kept after : KeptView) (n m : ℕ) → n ≡ m → after.name ≡ kept.name → after.run ≡ kept.run
+    → after ≡ record kept {
+      name = after.name;
+      run = after.run;
+      state = after_finish kept.state n;
+      versions = after_end kept.versions n;
+      reading = gone_on_by kept.reading n 1;
+      live = after.live;
+      turns = without kept.turns n;
+    }
+    → IsOnlyLive kept.live after.live n None
+    → (after ≡ record kept { state = after_finish kept.state m; versions = after_end kept.versions m; reading = gone_on_by kept.reading m 1; live = after.live; turns = without kept.turns m })
+    × IsOnlyLive kept.live after.live m None
+left-so kept after n m number name run is only = (
+  subst (λ x. after ≡ record kept { state = after_finish kept.state x; versions = after_end kept.versions x; reading = gone_on_by kept.reading x 1; live = after.live; turns = without kept.turns x }) number
+      (is
+      ∙ ap {B = KeptView} (λ x. record kept {
+        name = x;
+        run = after.run;
+        state = after_finish kept.state n;
+        versions = after_end kept.versions n;
+        reading = gone_on_by kept.reading n 1;
+        live = after.live;
+        turns = without kept.turns n;
+      }) name
+      ∙ ap {B = KeptView} (λ x. record kept {
+        run = x;
+        state = after_finish kept.state n;
+        versions = after_end kept.versions n;
+        reading = gone_on_by kept.reading n 1;
+        live = after.live;
+        turns = without kept.turns n;
+      }) run),
+  subst (λ x. IsOnlyLive kept.live after.live x None) number only,
+)
+
+-- and over what is the same
+pub left-over : (kept other after : KeptView) (n m : ℕ) → other ≡ kept → n ≡ m → after.name ≡ other.name → after.run ≡ other.run
+    → after ≡ record other {
+      name = after.name;
+      run = after.run;
+      state = after_finish other.state n;
+      versions = after_end other.versions n;
+      reading = gone_on_by other.reading n 1;
+      live = after.live;
+      turns = without other.turns n;
+    }
+    → IsOnlyLive other.live after.live n None
+    → (after ≡ record kept { state = after_finish kept.state m; versions = after_end kept.versions m; reading = gone_on_by kept.reading m 1; live = after.live; turns = without kept.turns m })
+    × IsOnlyLive kept.live after.live m None
+left-over kept other after n m same number name run is only =
+    subst (λ (k : KeptView). (after ≡ record k { state = after_finish k.state m; versions = after_end k.versions m; reading = gone_on_by k.reading m 1; live = after.live; turns = without k.turns m })
+    × IsOnlyLive k.live after.live m None) same (left-so other after n m number name run is only)
+
+-- what is kept, with one fault more
+pub booked-kept : (kept now : KeptView) (faults : List Fault) (fault : Fault) → faults ≡ kept.faults ++ fault ∷ [] → kept ≡ now
+    → ◌≡◌ {A = KeptView} (record kept { faults = faults }) (record now { faults = now.faults ++ fault ∷ [] })
+booked-kept kept now faults fault is same =
+    ap {B = KeptView} (λ f. record kept { faults = f }) is ∙ ap {B = KeptView} (λ (k : KeptView). record k { faults = k.faults ++ fault ∷ [] }) same

@@ -1,0 +1,46 @@
+use Rattle.std.proofs.Common.{◌<◌, inl, refl, sym, subst, ◌∙◌}
+use Rattle.swan_model.specs.declared.body.Answer.TheVariants as answer
+use Rattle.swan_model.specs.declared.body.Ask.TheVariants as ask
+use Rattle.swan_model.specs.declared.script.Deed.TheVariants as deed
+use Rattle.queues.specs.Asks.{IsOnTurn, MayJoin}
+use Rattle.serial_elision.proofs.AskSteps.{syncs}
+use Rattle.task_frames.specs.Cores.{HasIt, KeptView, MayBegin, STEPS_MOST, asking}
+use Rattle.task_frames.specs.Records.{IsLiveChild, IsOldestChild}
+use Rattle.task_frames.proofs.Asked.{noted-so, quiet-so, steps-few}
+use Rattle.task_frames.proofs.Firsts.{waits-oldest}
+use Rattle.task_frames.proofs.Given.{over, same-state}
+use Rattle.task_frames.proofs.Goings.{is-asking}
+use Rattle.task_frames.proofs.Tried.{join-so, on-turn-so}
+use Rattle.task_frames.proofs.kept.Kept.sync.Goals as goal
+
+pub returns-in-Some-clause-step : goal.returns-in-Some-clause-step
+returns-in-Some-clause-step g c =
+    let has = c.requires.has in
+    waits-oldest g.B.Body _ _ has _ c.asks.result c.in-Some.child refl c.asks.ensures
+    (over (λ k n. IsOldestChild k.live n c.in-Some.child) _ _ _ _ (sym c.self.view_is) (sym c.number-number.ensures) c.in-Some.ensures.oldest)
+    (inl (syncs g.B.Body c.args.mid.task.plan c.args.mid.task.path c.args.mid.task.done has.is.alone.top c.args.mid.local has.is.plan.lists (is-asking g.B.Body _ _ _ has c.requires.begun)).deed)
+
+pub sync-requires-clause-may : goal.sync-requires-clause-may
+sync-requires-clause-may g c =
+    over (λ k n. MayJoin k.state n) _ _ _ _ c.self.view_is c.number-number.ensures
+    (join-so g.B.Body _ _ c.requires.has c.requires.begun (over (λ k n. (m : _) → ¬ IsLiveChild k.live n m) _ _ _ _ (sym c.self.view_is) (sym c.number-number.ensures) c.in_default.ensures.none))
+
+pub sync-requires-clause-turn : goal.sync-requires-clause-turn
+sync-requires-clause-turn g c =
+    over (λ k n. IsOnTurn k.name k.state n) _ _ _ _ c.self.view_is c.number-number.ensures
+    (on-turn-so g.B.Body _ _ c.requires.has c.requires.begun (over (λ k n. (m : _) → ¬ IsLiveChild k.live n m) _ _ _ _ (sym c.self.view_is) (sym c.number-number.ensures) c.in_default.ensures.none))
+
+pub note_step-requires-after_bounds : goal.note_step-requires-after_bounds
+note_step-requires-after_bounds g c κs within = subst (λ k. k < STEPS_MOST) (sym c.done.ensures) (steps-few g.B.Body _ _ _ c.requires.has)
+
+pub is_told-frame-requires-after_bounds : goal.is_told-frame-requires-after_bounds
+is_told-frame-requires-after_bounds g c κs within = steps-few g.B.Body _ _ _ c.requires.has
+
+pub returns-clause-step : goal.returns-clause-step
+returns-clause-step g c =
+    let has = c.requires.has in
+    let same = same-state _ _ _ _ c.sync.ensures.same.0 c.sync.ensures.same.1 c.sync.ensures.after ∙ c.self.view_is in
+    let noted = noted-so c.args.self.now _ _ _ _ _ _ same c.number-number.ensures c.done.ensures c.note_step.ensures.same c.note_step.ensures.live in
+    quiet-so g.B.Body _ _ _ has c.requires.begun answer.Nothing deed.Sync
+    (syncs g.B.Body c.args.mid.task.plan c.args.mid.task.path c.args.mid.task.done has.is.alone.top c.args.mid.local has.is.plan.lists (is-asking g.B.Body _ _ _ has c.requires.begun))
+    c.note_step.new.self c.is_told-frame.result c.is_told-frame.ensures noted.1 noted.0 refl refl refl

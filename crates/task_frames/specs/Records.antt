@@ -1,0 +1,94 @@
+-- The record that a core keeps of its live frames.
+use Rattle.std.specs.Prelude.{◌≡◌, ◌≢◌, ℕ, ◌≤◌, ◌&&◌, ◌||◌, ◌==◌, not, Bool, true, false, Option, Some, None, List, [], ◌∷◌, ◌++◌}
+use Rattle.std.specs.BTreeMap.{is_at}
+use Rattle.std.specs.List.{list_any}
+use Rattle.std.specs.List.Sorted.{IsStrictlySortedBy}
+use Rattle.std.specs.Map.{keys_of, lookup, set_value}
+use Rattle.std.specs.Ordering.{nat_cmp, ordering_then, is_gt}
+use Rattle.std.specs.declared.cmp.Ordering.{Ordering}
+use Rattle.swan_model.specs.SerialState.{Holding}
+
+-- a live frame, as the core last gave it
+pub record LiveFrame : Type 0 where
+  -- the frame that spawned it; none for the root
+  pub parent : Option ℕ
+  pub path : List ℕ
+  -- how many of its task's steps were done
+  pub done : ℕ
+  -- what it held, by place, with the run's numbers of queues and objects
+  pub holdings : List Holding
+
+-- such a frame, as it is given with so many steps done, and with one place more
+abbrev pub come_to : ℕ → LiveFrame → LiveFrame
+come_to done frame = record frame { done = done }
+
+abbrev pub holding_too : Holding → LiveFrame → LiveFrame
+holding_too holding frame = record frame { holdings = frame.holdings ++ holding ∷ [] }
+
+-- by rising numbers
+abbrev pub LiveFrames : Type 0
+LiveFrames = List (ℕ × LiveFrame)
+
+abbrev pub live_at : LiveFrames → ℕ → Option LiveFrame
+live_at frames number = lookup (is_at (nat_cmp number)) frames
+
+-- the record, once the frame at a number is given with so many steps done; it is the same where there is none
+abbrev pub come_at : LiveFrames → (number done : ℕ) → Option LiveFrame → LiveFrames
+come_at frames number done None = frames
+come_at frames number done (Some frame) = set_value (is_at (nat_cmp number)) frames (come_to done frame)
+
+-- the record has this at this number afterwards, and is the same at each other one
+pub record IsOnlyLive (before after : LiveFrames) (number : ℕ) (frame : Option LiveFrame) : Type 0 where
+  pub own : live_at after number ≡ frame
+  pub others : (other : ℕ) → other ≢ number → live_at after other ≡ live_at before other
+
+-- a live child of a frame
+pub record IsLiveChild (frames : LiveFrames) (parent number : ℕ) : Type 0 where
+  pub frame : LiveFrame
+  pub live : live_at frames number ≡ Some frame
+  pub of : frame.parent ≡ Some parent
+
+-- the oldest of them, which is the one of the least number
+pub record IsOldestChild (frames : LiveFrames) (parent number : ℕ) : Type 0 where
+  pub child : IsLiveChild frames parent number
+  pub least : (other : ℕ) → IsLiveChild frames parent other → number ≤ other
+
+-- ---- how children are found
+
+-- a parent, and a child of it
+abbrev pub Pair : Type 0
+Pair = ℕ × ℕ
+
+-- by the parent, and then by the child
+abbrev pub pair_cmp : Pair → Pair → Ordering
+pair_cmp a b = ordering_then (nat_cmp a.0 b.0) (nat_cmp a.1 b.1)
+
+-- a pair isn't after another in that order
+unfoldable pub IsUpTo : Pair → Pair → Type 0
+IsUpTo a b = is_gt (pair_cmp a b) ≡ false
+
+-- whether a set has this child of this parent
+unfoldable pub has : List Pair → (parent child : ℕ) → Bool
+has pairs parent child = list_any (is_at (pair_cmp (parent, child))) pairs
+
+-- whether a parent and a child are those of a pair
+abbrev pub is_pair : (parent child p c : ℕ) → Bool
+is_pair parent child p c = (parent == p) && (child == c)
+
+-- the set after a pair came in, and after one went out
+abbrev pub IsWith : List Pair → (parent child : ℕ) → List Pair → Type 0
+IsWith before parent child after = (p c : ℕ) → has after p c ≡ (is_pair parent child p c || has before p c)
+
+abbrev pub IsWithout : List Pair → (parent child : ℕ) → List Pair → Type 0
+IsWithout before parent child after = (p c : ℕ) → has after p c ≡ (not (is_pair parent child p c) && has before p c)
+
+-- the oldest child that a set has of a parent
+pub record IsOldest (pairs : List Pair) (parent oldest : ℕ) : Type 0 where
+  pub known : has pairs parent oldest ≡ true
+  pub least : (child : ℕ) → has pairs parent child ≡ true → oldest ≤ child
+
+-- The frames stand in order, and a set has exactly those that have a parent, each behind it.
+pub record HasChildren (frames : LiveFrames) (pairs : List Pair) : Type 0 where
+  pub sorted : IsStrictlySortedBy nat_cmp (keys_of frames)
+  pub known : (parent number : ℕ) → has pairs parent number ≡ true → IsLiveChild frames parent number
+  pub all : (parent number : ℕ) → IsLiveChild frames parent number → has pairs parent number ≡ true

@@ -1,0 +1,253 @@
+-- What the core makes of a frame that comes to it, and what it answers.
+use Rattle.std.specs.Prelude.{◌≡◌, ◌≢◌, ℕ, ◌+◌, ◌≤◌, ◌⊎◌, true, false, Option, Some, None, List, [], ◌∷◌, ◌++◌, is_some, length}
+use Rattle.std.specs.Option.{ForSome}
+use Rattle.swan_model.specs.declared.body.Ask.{Ask}
+use Rattle.swan_model.specs.declared.body.Ask.TheVariants as ask
+use Rattle.swan_model.specs.declared.body.Body.{Ghosts}
+use Rattle.swan_model.specs.declared.fault.FaultKind.{FaultKind}
+use Rattle.swan_model.specs.declared.plan.Plan.{Plan}
+use Rattle.swan_model.specs.declared.rights.Mode.TheVariants.{In, Out, Push, Pop}
+use Rattle.swan_model.specs.declared.script.Deed.{Deed}
+use Rattle.swan_model.specs.declared.script.Deed.TheVariants as deed
+use Rattle.swan_model.specs.Granted.{is_spawn}
+use Rattle.swan_model.specs.PathOrder.{comes_before}
+use Rattle.swan_model.specs.QueueState.{ActiveFrame, LentEnd, active, after_lend}
+use Rattle.swan_model.specs.Script.{script}
+use Rattle.swan_model.specs.SerialState.{Activation, Holding}
+use Rattle.swan_model.specs.SerialStep.{given, number_at}
+use Rattle.swan_model.specs.SerialTime.{time, times}
+use Rattle.swan_model.specs.Told.{deed_at}
+use Rattle.swan_model.specs.TrueFrames.{StandsAt}
+use Rattle.swan_model.specs.Versions.{Awaits, Placed, owed, placed_at}
+use Rattle.pop_order.specs.Turns.{Blocks}
+use Rattle.queues.specs.Asks.{LentEnds}
+use Rattle.queues.specs.Tells.{IsCause}
+use Rattle.queues.specs.declared.answers.WaitFor.{WaitFor}
+use Rattle.queues.specs.declared.answers.WaitFor.TheVariants as wait
+use Rattle.serial_elision.specs.TaskSteps.{Faults}
+use Rattle.task_frames.specs.declared.stage.Stage.TheVariants.{Asking}
+use Rattle.task_frames.specs.declared.resumed.Resumed.{Resumed}
+use Rattle.task_frames.specs.declared.resumed.Resumed.TheVariants as resumed
+use Rattle.task_frames.specs.declared.step.Step.{Step}
+use Rattle.task_frames.specs.declared.step.Step.TheVariants as step
+use Rattle.task_frames.specs.Cores.{AtCore, CoreView, HasIt, IsCore, IsGiven, KeptView}
+use Rattle.task_frames.specs.Frames.{FrameView, Task, is_whole}
+use Rattle.task_frames.specs.Records.{IsOldestChild, LiveFrame, live_at}
+
+-- ---- waits
+
+-- the frame that a wait names
+abbrev pub waited_for : WaitFor → ℕ
+waited_for (wait.Child n) = n
+waited_for (wait.Version n) = n
+waited_for (wait.PopTurn n) = n
+waited_for (wait.Pusher n) = n
+
+-- it is live, and earlier in serial order than a task of this path
+pub record IsLiveBefore (kept : KeptView) (path : List ℕ) (number : ℕ) : Type 0 where
+  pub frame : LiveFrame
+  pub live : live_at kept.live number ≡ Some frame
+  pub earlier : comes_before frame.path path ≡ true
+
+-- what the queues answered an active frame that pops or tests one of them
+pub record IsToldToWait (kept : KeptView) (number : ℕ) (wait_for : WaitFor) : Type 0 where
+  pub own : ActiveFrame
+  pub active_is : active kept.state number ≡ Some own
+  pub queue : ℕ
+  pub cause : IsCause kept.name kept.state own queue wait_for
+
+module _ {B L : Type 0} (G : Ghosts B L) where
+  -- the deed of a task's next step
+  abbrev pub deed_now : Task B L → Deed
+  deed_now task = let s = script G task.plan in deed_at s (time s task.path task.done)
+
+  -- it ends the task by this fault, at this place of the program, and does nothing else
+  abbrev pub EndsByFault : Task B L → (place : ℕ) → FaultKind → Type 0
+  EndsByFault task place kind =
+      (top : Activation L) → StandsAt G task.plan task.path task.done top
+      → Faults G task.plan task.path task.done top kind deed.Quiet × (place ≡ G.place_of task.plan.body top.local)
+
+  -- it is the task's last one
+  abbrev pub IsLast : Task B L → Type 0
+  IsLast task = task.done + 1 ≡ length (times (script G task.plan) task.path)
+
+  module _ (kept : KeptView) (frame : AtCore B L) where
+    -- A version is waited for where it was given to the frame to read, before the first step; or where the frame asks to read it.
+    pub data WaitsForVersion (number : ℕ) : Type 0 where
+      at_first : (place : ℕ) → frame.task.done ≡ 0 → Awaits kept.versions frame.task.number place number → WaitsForVersion number
+      at_read : (local : L) (place at : ℕ) (object : Placed) → frame.stage ≡ Asking local (ask.Read place) at
+          → placed_at kept.versions frame.task.number place ≡ Some object → object.present ≡ owed number → WaitsForVersion number
+
+    -- A turn to pop is waited for before the first step, by an older sibling that pops what the frame pops; or where a child pops it.
+    pub data WaitsForTurn (number : ℕ) : Type 0 where
+      at_start : frame.task.done ≡ 0 → Blocks kept.turns frame.task.number number → WaitsForTurn number
+      at_pop : IsToldToWait kept frame.task.number (wait.PopTurn number) → WaitsForTurn number
+
+    -- What is kept shows a wait.
+    abbrev pub IsShown : WaitFor → Type 0
+    IsShown (wait.Child n) = IsOldestChild kept.live frame.task.number n × ((deed_now frame.task ≡ deed.Sync) ⊎ IsLast frame.task)
+    IsShown (wait.Version n) = WaitsForVersion n
+    IsShown (wait.PopTurn n) = WaitsForTurn n
+    IsShown (wait.Pusher n) = IsToldToWait kept frame.task.number (wait.Pusher n)
+
+-- ---- a step at the core
+
+-- The ask is for the use of a place that one who holds this may not use so, or for a child with a give that it may not give.
+abbrev pub MayNotUse : {L : Type 0} → List Holding → Ask L → Type 0
+MayNotUse holdings (ask.Read place) = number_at holdings place In ≡ None
+MayNotUse holdings (ask.Write place value) = number_at holdings place Out ≡ None
+MayNotUse holdings (ask.Push place value) = number_at holdings place Push ≡ None
+MayNotUse holdings (ask.Pop place) = number_at holdings place Pop ≡ None
+MayNotUse holdings (ask.Empty place) = number_at holdings place Pop ≡ None
+MayNotUse holdings (ask.Spawn new) = given holdings new.gives ≡ None
+MayNotUse holdings _ = ⊥
+
+-- these frames are in the record, and among the queues, as before
+pub record OthersStay (before after : KeptView) (IsOther : ℕ → Type 0) : Type 0 where
+  pub live : (other : ℕ) → IsOther other → live_at after.live other ≡ live_at before.live other
+  pub active_are : (other : ℕ) → IsOther other → active after.state other ≡ active before.state other
+
+-- the same task with one step more done
+abbrev pub IsOneOn : {B L : Type 0} → (before after : Task B L) → Type 0
+IsOneOn before after = after ≡ record before { done = before.done + 1; since = before.done + 1; fuel = after.fuel; holdings = after.holdings; children = after.children }
+
+-- a child of this task that has done nothing
+pub record IsChildOf {B L : Type 0} (parent child : Task B L) : Type 0 where
+  pub plan : child.plan ≡ parent.plan
+  pub path : child.path ≡ parent.path ++ parent.children ∷ []
+  pub done : child.done ≡ 0
+  pub other : child.number ≢ parent.number
+
+module _ {B L : Type 0} (G : Ghosts B L) (before after : KeptView) (task : Task B L) where
+  -- What a step at the core leaves: the frame one step on; or with its child; or as it was, but for the ask of its body, with what it
+  -- waits for; or it has ended.
+  abbrev pub IsStep : Step B L → Type 0
+  IsStep (step.Runs next) =
+      HasIt G after next × IsOneOn task next.task × (is_spawn (deed_now G task) ≡ false)
+      × OthersStay before after (λ other. other ≢ task.number)
+  IsStep (step.Spawned parent new) =
+      HasIt G after parent × HasIt G after new × IsOneOn task parent.task × IsChildOf task new.task × (is_spawn (deed_now G task) ≡ true)
+      × (live_at before.live new.task.number ≡ None) × OthersStay before after (λ other. (other ≢ task.number) × (other ≢ new.task.number))
+  IsStep (step.Waits same wait_for) =
+      HasIt G after same × (after ≡ before) × (same.task ≡ record task { fuel = same.task.fuel })
+      × IsShown G after same wait_for × IsLiveBefore after task.path (waited_for wait_for)
+  IsStep step.Ended =
+      IsCore G task.plan after × IsLast G task × (is_spawn (deed_now G task) ≡ false)
+      × (live_at after.live task.number ≡ None) × OthersStay before after (λ other. other ≢ task.number)
+
+-- ---- frames that are given
+
+-- a frame's ends: their run, and what they are
+pub record EndsOf (E : Type 0) : Type 0 where
+  pub run : E → List ℕ
+  pub ends : E → LentEnds
+
+-- A frame was given as it stood at the core.
+pub record IsGivenAs {B L E : Type 0} (of : EndsOf E) (kept : KeptView) (at : AtCore B L) (frame : FrameView B L E) : Type 0 where
+  pub task : frame.task ≡ at.task
+  pub stage : frame.stage ≡ Some at.stage
+  pub mark : frame.mark ≡ false
+  pub run : of.run frame.ends ≡ kept.run
+  pub given : IsGiven kept frame.task (of.ends frame.ends)
+
+-- The queues have lent these ends to an active frame, and all else is as before.
+pub record HasLent (before after : KeptView) (number : ℕ) : Type 0 where
+  pub own : ActiveFrame
+  pub active_is : active before.state number ≡ Some own
+  pub list : List LentEnd
+  pub after_is : after ≡ record before { state = after_lend before.state own list }
+
+-- the frames that came of a step are at the core
+abbrev pub HaveCome : {B L : Type 0} → Ghosts B L → KeptView → Step B L → Type 0
+HaveCome G kept (step.Runs next) = HasIt G kept next
+HaveCome G kept (step.Spawned parent new) = HasIt G kept parent × HasIt G kept new × (new.task.number ≢ parent.task.number)
+HaveCome G kept (step.Waits same wait_for) = HasIt G kept same
+HaveCome G kept step.Ended = Unit {0}
+
+-- and they are tasks of this plan
+abbrev pub AreOfPlan : {B L : Type 0} → Plan B L → Step B L → Type 0
+AreOfPlan plan (step.Runs next) = next.task.plan ≡ plan
+AreOfPlan plan (step.Spawned parent new) = (parent.task.plan ≡ plan) × (new.task.plan ≡ plan)
+AreOfPlan plan (step.Waits same wait_for) = same.task.plan ≡ plan
+AreOfPlan plan step.Ended = Unit {0}
+
+module _ {B Q L E : Type 0} (of : EndsOf E) (before after : KeptView) where
+  -- What is answered of a step: the frames are given that came of it, and all others are kept as before.
+  abbrev pub IsAnswered : Step B L → Resumed B Q L E → Type 0
+  IsAnswered (step.Runs next) (resumed.Runs frame steps) =
+      (steps.count ≡ 1) × IsGivenAs of after next frame × OthersStay before after (λ other. other ≢ next.task.number)
+  IsAnswered (step.Spawned parent new) (resumed.Spawned frame spawned steps) =
+      (steps.count ≡ 1) × IsGivenAs of after parent frame × IsGivenAs of after new spawned
+      × OthersStay before after (λ other. (other ≢ parent.task.number) × (other ≢ new.task.number))
+  IsAnswered (step.Waits same wait_for) (resumed.Waits frame waited) =
+      (waited.wait ≡ wait_for) × IsGivenAs of after same frame × HasLent before after same.task.number
+  IsAnswered step.Ended (resumed.Ended steps) = (steps.count ≡ 1) × (after ≡ before)
+  IsAnswered _ _ = ⊥
+
+-- ---- what the core answers
+
+module _ {B L E : Type 0} (of : EndsOf E) (core : CoreView B L) (frame : FrameView B L E) where
+  -- The core has given the frame last under its number. It is whole, and its mark doesn't stand.
+  pub record IsGivenBy : Type 0 where
+    pub kept : KeptView
+    pub keeps : core.kept ≡ Some kept
+    pub given : IsGiven kept frame.task (of.ends frame.ends)
+    pub mark : frame.mark ≡ false
+    pub whole : is_whole frame ≡ true
+    pub plan : frame.task.plan ≡ core.plan
+    pub run : of.run frame.ends ≡ core.run
+
+-- The wait was shown by what the core kept while the frame's ends were back. The frame that it names is live, and earlier in serial
+-- order.
+pub record IsShownBy {B L E : Type 0} (G : Ghosts B L) (core : CoreView B L) (frame : FrameView B L E) (wait_for : WaitFor) : Type 0 where
+  pub shown : KeptView
+  pub at : AtCore B L
+  pub task : at.task ≡ frame.task
+  pub stage : frame.stage ≡ Some at.stage
+  pub shows : IsShown G shown at wait_for
+  pub kept : KeptView
+  pub keeps : core.kept ≡ Some kept
+  pub lent : HasLent shown kept frame.task.number
+  pub earlier : IsLiveBefore shown frame.task.path (waited_for wait_for)
+
+-- the other frames are kept as before
+abbrev pub OthersKept : {B L : Type 0} → (before after : CoreView B L) → (ℕ → Type 0) → Type 0
+OthersKept before after IsOther = ForSome before.kept (λ kept. ForSome after.kept (λ now. OthersStay kept now IsOther))
+
+-- the core has no frame of this number
+abbrev pub HasNone : {B L : Type 0} → CoreView B L → ℕ → Type 0
+HasNone core number = ForSome core.kept (λ kept. live_at kept.live number ≡ None)
+
+module _ {B Q L E : Type 0} (G : Ghosts B L) (of : EndsOf E) (before after : CoreView B L) (frame : FrameView B L E) where
+  abbrev pub IsResumed : Resumed B Q L E → Type 0
+  IsResumed (resumed.Runs next steps) =
+      (steps.count ≡ 1) × IsGivenBy of after next × IsOneOn frame.task next.task × (is_spawn (deed_now G frame.task) ≡ false)
+      × OthersKept before after (λ other. other ≢ frame.task.number)
+  IsResumed (resumed.Spawned parent new steps) =
+      (steps.count ≡ 1) × IsGivenBy of after parent × IsGivenBy of after new × IsOneOn frame.task parent.task × IsChildOf frame.task new.task
+      × (is_spawn (deed_now G frame.task) ≡ true) × HasNone before new.task.number
+      × OthersKept before after (λ other. (other ≢ frame.task.number) × (other ≢ new.task.number))
+  IsResumed (resumed.Waits same waited) =
+      IsGivenBy of after same × (same.task ≡ record frame.task { since = frame.task.done; fuel = same.task.fuel }) × IsShownBy G after same waited.wait
+      × OthersKept before after (λ other. other ≢ frame.task.number)
+  IsResumed (resumed.Ended steps) =
+      (steps.count ≡ 1) × (is_some after.kept ≡ true) × IsLast G frame.task × (is_spawn (deed_now G frame.task) ≡ false) × HasNone after frame.task.number
+      × OthersKept before after (λ other. other ≢ frame.task.number)
+  IsResumed (resumed.Strange same foreign) =
+      (same ≡ frame) × (foreign.number ≡ frame.task.number) × (after ≡ before)
+      × ForSome before.kept (λ kept. ¬ IsGiven kept frame.task (of.ends frame.ends))
+  IsResumed resumed.NoMemory = (after ≡ record before { kept = None })
+
+-- what holds where a step was taken, or has to wait
+abbrev pub OnTried : {B Q L E : Type 0} → Resumed B Q L E → Type 0 → Type 0
+OnTried (resumed.Strange same foreign) Holds = Unit {0}
+OnTried resumed.NoMemory Holds = Unit {0}
+OnTried _ Holds = Holds
+
+-- ---- the beginning
+
+-- The core was opened and has done nothing since: its root is the one frame that it has, as it gave it.
+pub record IsOpened {B L E : Type 0} (of : EndsOf E) (core : CoreView B L) (root : FrameView B L E) : Type 0 where
+  pub given : IsGivenBy of core root
+  pub first : root.task.number ≡ 0
+  pub alone : (kept : KeptView) → core.kept ≡ Some kept → (number : ℕ) (live : LiveFrame) → live_at kept.live number ≡ Some live → number ≡ 0

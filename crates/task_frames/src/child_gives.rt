@@ -1,0 +1,96 @@
+// What a child is given.
+ghost use Rattle.std.specs.Prelude.{◌≡◌, ◌<◌, ℕ, Some, IfOk, OnOk, length};
+ghost use Rattle.std.specs.Option.{option_map};
+ghost use Rattle.swan_model.specs.SerialStep.{given};
+ghost use Rattle.pop_order.specs.Frames.{Frames};
+ghost use Rattle.queues.specs.Turned.{AreApart, AreGivenTurns, AreOlder};
+ghost use Rattle.task_frames.specs.Giving.{AreMade, AreGivesOfQueues, GivesObjects, queue_rights};
+
+use crate::Holding;
+use crate::holding::number_at;
+use object_versions::Versions;
+use pop_order::PopTurns;
+use queues::QueueGive;
+use std::alloc::Global;
+use swan_model::{Gives, NoMemory};
+
+/// What a child holds by its gives, and None exactly where one who holds this may not give one of them so. `O(gives)`, one
+/// allocation.
+pub fn given(
+    alloc: Global,
+    holdings: &[Holding],
+    gives: &Gives,
+) -> Result<Option<Vec<Holding>>, NoMemory>
+    ensures { IfOk result (λ held. option_map (λ list. list.items) held ≡ given holdings.now gives.now) }
+{
+    let mut held = Vec::with_capacity(alloc, gives.len())?;
+    for give in gives.as_slice() {
+        let Some(number) = number_at(holdings, give.place, give.mode) else {
+            return Ok(None);
+        };
+        held.push(Holding {
+            mode: give.mode,
+            number,
+        })?;
+    }
+    Ok(Some(held))
+}
+
+/// The queues among what is held, each with its mode. `O(holdings)`, amortised.
+pub fn queue_gives(alloc: Global, holdings: &[Holding]) -> Result<Vec<QueueGive>, NoMemory>
+    ensures { IfOk result (λ list. list.items ≡ queue_rights holdings.now) }
+{
+    let mut gives = Vec::new(alloc);
+    for holding in holdings {
+        if holding.mode.is_of_queues() {
+            gives.push(QueueGive {
+                queue: holding.number,
+                mode: holding.mode,
+            })?;
+        }
+    }
+    Ok(gives)
+}
+
+/// Gives a child the objects among its gives, one after the other. Err is want of memory, and nothing is said of the
+/// objects after it. `O(g log n)` for g gives, amortised.
+pub fn give_objects(
+    versions: &mut Versions,
+    parent: u64,
+    child: u64,
+    gives: &Gives,
+) -> Result<(), NoMemory>
+    requires may { GivesObjects versions.old parent child gives.now }
+    ensures made { OnOk result ((may : GivesObjects versions.old parent child gives.now)
+        → AreMade may.s may.r versions.old versions.new may.giver child gives.now (length gives.now)) }
+{
+    let _most = gives.len();
+    let mut place = 0;
+    for give in gives.as_slice() {
+        if !give.mode.is_of_queues() {
+            versions.access(parent, give.place, child, place, give.mode)?;
+        }
+        place += 1;
+    }
+    Ok(())
+}
+
+/// Enlists a child for each queue that it is given. Err is want of memory, and nothing is said of the turns after it.
+/// `O(g log n)` for g gives.
+pub fn enlist_all(
+    turns: &mut PopTurns,
+    parent: u64,
+    child: u64,
+    gives: &[QueueGive],
+) -> Result<(), NoMemory>
+    requires rising { parent < child }
+    requires older { AreOlder turns.old child }
+    requires apart { AreApart turns.old }
+    requires gives { AreGivesOfQueues gives.now }
+    ensures given { OnOk result (AreGivenTurns turns.old turns.new parent child gives.now) }
+{
+    for give in gives {
+        turns.enlist(parent, child, give.queue, give.mode)?;
+    }
+    Ok(())
+}

@@ -1,0 +1,111 @@
+// Steps that end their frame.
+ghost use Rattle.std.specs.Prelude.{◌≡◌, ℕ, ◌+◌, ◌∷◌, ◌++◌, [], None, IfOk, OnOk};
+ghost use Rattle.swan_model.specs.declared.body.Ask.{Ask as Asked};
+ghost use Rattle.swan_model.specs.declared.body.Ask.TheVariants as ask;
+ghost use Rattle.swan_model.specs.QueueFollows.{next_queue_deed};
+ghost use Rattle.swan_model.specs.QueueState.{after_finish};
+ghost use Rattle.swan_model.specs.Versions.{IsSettled, after_finish as after_end};
+ghost use Rattle.pop_order.specs.Frames.{HasNoChild, without};
+ghost use Rattle.queues.specs.Asks.{IsOnTurn, MayJoin, OnNext};
+ghost use Rattle.swan_model.specs.Readings.{gone_on_by};
+ghost use Rattle.task_frames.specs.Cores.{HasIt, MayBegin, asking};
+ghost use Rattle.task_frames.specs.Records.{IsOnlyLive};
+ghost use Rattle.task_frames.specs.Resumes.{EndsByFault, IsStep, MayNotUse};
+
+use crate::{FrameAtCore, Kept, MidStep, Step};
+use queues::{Queues, WaitFor};
+use swan_model::{Ask, Body, Fault, FaultKind, NoMemory};
+
+impl<Q: Queues> Kept<Q> {
+    /// The end that a task asks for. It isn't taken while a child is active. Err is want of memory. `O(k log n)` for k
+    /// places, and what `Queues::finish` costs.
+    pub fn finish<B: Body>(&mut self, mid: MidStep<B>) -> Result<Step<B>, NoMemory>
+        requires has { HasIt B.Body self.old (asking mid ask.Finish) }
+        requires begun { MayBegin self.old mid.task.number }
+        ensures step { IfOk result (IsStep B.Body self.old self.new mid.task) }
+        ensures run { OnOk result (self.new.run ≡ self.old.run) }
+    {
+        let number = mid.number();
+        if let Some(child) = self.live.oldest_child(number) {
+            return Ok(Step::Waits(mid.asks(Ask::Finish), WaitFor::Child(child)));
+        }
+        self.leave(number)?;
+        Ok(Step::Ended)
+    }
+
+    /// The end of a frame whose next step is this fault, at this place of its program. It isn't taken while a child is
+    /// active. Err is want of memory. `O(k log n)` for k places, and what `Queues::finish` costs.
+    pub fn fault<B: Body>(
+        &mut self,
+        frame: FrameAtCore<B>,
+        at: u64,
+        kind: FaultKind,
+    ) -> Result<Step<B>, NoMemory>
+        requires has { HasIt B.Body self.old frame }
+        requires begun { MayBegin self.old frame.task.number }
+        requires faults { EndsByFault B.Body frame.task at kind }
+        ensures step { IfOk result (IsStep B.Body self.old self.new frame.task) }
+        ensures run { OnOk result (self.new.run ≡ self.old.run) }
+    {
+        let number = frame.number();
+        if let Some(child) = self.live.oldest_child(number) {
+            return Ok(Step::Waits(frame, WaitFor::Child(child)));
+        }
+        self.faults.push(Fault {
+            path: frame.into_task().into_path(),
+            place: at,
+            kind,
+        })?;
+        self.leave(number)?;
+        Ok(Step::Ended)
+    }
+
+    /// The end of a frame that asks to use a place which it may not use so. Else as `fault`.
+    pub fn refuse<B: Body>(
+        &mut self,
+        mid: MidStep<B>,
+        ask: Ask<B::Local>,
+    ) -> Result<Step<B>, NoMemory>
+        requires has { HasIt B.Body self.old (asking mid ask) }
+        requires begun { MayBegin self.old mid.task.number }
+        requires refused { MayNotUse mid.task.holdings ask }
+        ensures step { IfOk result (IsStep B.Body self.old self.new mid.task) }
+        ensures run { OnOk result (self.new.run ≡ self.old.run) }
+    {
+        let at = mid.at();
+        self.fault(mid.asks(ask), at, FaultKind::Privilege)
+    }
+
+    /// Gives up what is kept of a frame that has taken its last step: first its versions get their values, then the queues
+    /// hear of its end, and then it leaves the turns and the record. Err is want of memory. `O(k log n)` for k places, and what
+    /// `Queues::finish` costs.
+    pub fn leave(&mut self, number: u64) -> Result<(), NoMemory>
+        // what may end
+        requires settled { IsSettled self.old.versions number }
+        requires may { MayJoin self.old.state number }
+        requires turn { IsOnTurn self.old.name self.old.state number }
+        requires over { OnNext self.old.name self.old.state number (λ s own. next_queue_deed s own.path own.deeds ≡ None) }
+        requires alone { HasNoChild self.old.turns number }
+
+        // what it leaves
+        ensures live { OnOk result (IsOnlyLive self.old.live self.new.live number None) }
+        ensures name { OnOk result (self.new.name ≡ self.old.name) }
+        ensures run { OnOk result (self.new.run ≡ self.old.run) }
+        ensures after { OnOk result (self.new ≡ record self.old {
+          name = self.new.name;
+          run = self.new.run;
+          state = after_finish self.old.state number;
+          versions = after_end self.old.versions number;
+          reading = gone_on_by self.old.reading number 1;
+          live = self.new.live;
+          turns = without self.old.turns number;
+        }) }
+    {
+        self.versions.finish(number)?;
+        self.queues.finish(number);
+        self.turns.back(number);
+        self.live.leave(number);
+        self.reading = self.reading.gone_on_by(number, 1);
+        Ok(())
+    }
+}

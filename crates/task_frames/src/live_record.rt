@@ -1,0 +1,195 @@
+// The record of live frames.
+ghost use Rattle.std.specs.Prelude.{◌≡◌, ℕ, Some, None, [], OnOk, OnErr, IfSome, IfNone};
+ghost use Rattle.std.specs.Option.{option_map};
+ghost use Rattle.std.specs.List.Sorted.{IsStrictlySortedBy};
+ghost use Rattle.std.specs.Map.{keys_of};
+ghost use Rattle.std.specs.Ordering.{nat_cmp};
+ghost use Rattle.task_frames.specs.Records.{HasChildren, IsLiveChild, IsOldestChild, IsOnlyLive, come_at, come_to, holding_too, live_at};
+
+use crate::{Children, Holding};
+use std::alloc::Global;
+use std::collections::BTreeMap;
+use std::marker::Model;
+use swan_model::{NoMemory, Path};
+
+/// A live frame, as the core last gave it.
+#[derive(Drop)]
+pub struct LiveFrame {
+    /// The frame that spawned it; None for the root.
+    pub parent: Option<u64>,
+    /// Which task it is.
+    pub path: Path,
+    /// How many of its task's steps were done.
+    pub done: u64,
+    /// What it held, by place.
+    pub holdings: Vec<Holding>,
+}
+
+impl Model for LiveFrame {
+    ghost use Rattle.task_frames.specs.Records.{LiveFrame as Live};
+
+    ghost Value = { Live };
+
+    ghost view = { λ frame. record {
+      parent = frame.parent;
+      path = frame.path;
+      done = frame.done;
+      holdings = frame.holdings.items;
+    } };
+}
+
+impl LiveFrame {
+    /// Notes that so many steps are done. `O(1)`.
+    fn come_to(&mut self, done: u64)
+        ensures { self.new ≡ come_to done self.old }
+    {
+        self.done = done;
+    }
+
+    /// Notes one place more. Err is want of memory. `O(1)`, amortised.
+    fn hold(&mut self, holding: Holding) -> Result<(), NoMemory>
+        ensures ok { OnOk result (self.new ≡ holding_too holding self.old) }
+        ensures err { OnErr result (self.new ≡ self.old) }
+    {
+        self.holdings.push(holding)?;
+        Ok(())
+    }
+}
+
+/// The live frames by their numbers. It finds the oldest live child of a frame, however many it has.
+///
+/// In costs, n counts the live frames.
+#[derive(Drop)]
+pub struct LiveRecord {
+    frames: BTreeMap<u64, LiveFrame>,
+    // Each that has a parent, behind the parent.
+    children: Children,
+}
+
+impl Model for LiveRecord {
+    ghost use Rattle.std.specs.List.Sorted.{IsStrictlySortedBy};
+    ghost use Rattle.std.specs.Map.{keys_of};
+    ghost use Rattle.std.specs.Ordering.{nat_cmp};
+    ghost use Rattle.task_frames.specs.Records.{HasChildren, LiveFrames};
+
+    ghost Value = { LiveFrames };
+
+    ghost view = { λ record_of. record_of.frames.entries };
+
+    ghost invariant = { λ record_of. HasChildren record_of.frames.entries record_of.children };
+}
+
+impl LiveRecord {
+    /// No frames. It takes no memory. `O(1)`.
+    pub fn new(alloc: Global) -> LiveRecord
+        ensures { result ≡ [] }
+    {
+        LiveRecord {
+            frames: BTreeMap::new(alloc),
+            children: Children::new(alloc),
+        }
+    }
+
+    /// The live frame of a number. `O(log n)`; it takes no memory.
+    pub fn get(&self, number: u64) -> Option<&LiveFrame>
+        ensures some { IfSome result (λ frame. live_at self.now number ≡ Some frame.now) }
+        ensures none { IfNone result (live_at self.now number ≡ None) }
+    {
+        self.frames.get(&number)
+    }
+
+    /// The oldest live child of a frame; None exactly where it has none. `O(log n)`; it takes no memory.
+    pub fn oldest_child(&self, parent: u64) -> Option<u64>
+        ensures oldest { IfSome result (IsOldestChild self.now parent) }
+        ensures none { IfNone result ((other : ℕ) → ¬ IsLiveChild self.now parent other) }
+    {
+        self.children.oldest(parent)
+    }
+
+    /// Enters the root, where there is no frame yet. Err is want of memory. It allocates once.
+    pub fn enter_root(&mut self, number: u64, frame: LiveFrame) -> Result<(), NoMemory>
+        requires empty { self.old ≡ [] }
+        requires root { frame.parent ≡ None }
+        ensures { OnOk result (IsOnlyLive self.old self.new number (Some frame)) }
+    {
+        self.frames.insert(number, frame)?;
+        Ok(())
+    }
+
+    /// Enters a child of this parent, whose number isn't there. Err is want of memory, and nothing is said of the record
+    /// after it. `O(log n)`, amortised.
+    pub fn enter(&mut self, parent: u64, number: u64, frame: LiveFrame) -> Result<(), NoMemory>
+        requires free { live_at self.old number ≡ None }
+        requires child { frame.parent ≡ Some parent }
+        ensures { OnOk result (IsOnlyLive self.old self.new number (Some frame)) }
+    {
+        match add(&mut self.frames, &mut self.children, parent, number, frame) {
+            Ok(()) => Ok(()),
+            Err(NoMemory) => {
+                self.frames.clear();
+                self.children.clear();
+                Err(NoMemory)
+            }
+        }
+    }
+
+    /// Notes that a frame is given with so many steps done. It changes nothing for one that isn't there. `O(log n)`; it
+    /// takes no memory.
+    pub fn come_to(&mut self, number: u64, done: u64)
+        ensures { IsOnlyLive self.old self.new number (option_map (come_to done) (live_at self.old number)) }
+    {
+        come_to(&mut self.frames, number, done);
+    }
+
+    /// Notes that a frame holds one place more. It changes nothing for one that isn't there. Err is want of memory, and
+    /// nothing is said of the record after it. `O(log n)`, amortised.
+    pub fn hold(&mut self, number: u64, holding: Holding) -> Result<(), NoMemory>
+        ensures { OnOk result (IsOnlyLive self.old self.new number (option_map (holding_too holding) (live_at self.old number))) }
+    {
+        match self.frames.get_mut(&number) {
+            Some(frame) => frame.hold(holding),
+            None => Ok(()),
+        }
+    }
+
+    /// Takes a frame out. It changes nothing for one that isn't there. `O(log n)`; it takes no memory.
+    pub fn leave(&mut self, number: u64)
+        ensures { IsOnlyLive self.old self.new number None }
+    {
+        let Some(frame) = self.frames.remove(&number) else {
+            return;
+        };
+        if let Some(parent) = frame.parent {
+            self.children.remove(parent, number);
+        }
+    }
+}
+
+/// Adds a child to the frames and to the children.
+fn add(
+    frames: &mut BTreeMap<u64, LiveFrame>,
+    children: &mut Children,
+    parent: u64,
+    number: u64,
+    frame: LiveFrame,
+) -> Result<(), NoMemory>
+    requires kept { HasChildren frames.old.entries children.old }
+    requires free { live_at frames.old.entries number ≡ None }
+    requires child { frame.parent ≡ Some parent }
+    ensures entered { OnOk result (IsOnlyLive frames.old.entries frames.new.entries number (Some frame)) }
+    ensures kept { OnOk result (HasChildren frames.new.entries children.new) }
+{
+    frames.insert(number, frame)?;
+    children.insert(parent, number)?;
+    Ok(())
+}
+
+/// Notes in the frames that one is given with so many steps done.
+fn come_to(frames: &mut BTreeMap<u64, LiveFrame>, number: u64, done: u64)
+    ensures come { frames.new.entries ≡ come_at frames.old.entries number done (live_at frames.old.entries number) }
+    ensures sorted { IsStrictlySortedBy nat_cmp (keys_of frames.new.entries) }
+{
+    if let Some(frame) = frames.get_mut(&number) {
+        frame.come_to(done);
+    }
+}

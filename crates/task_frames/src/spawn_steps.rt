@@ -1,0 +1,275 @@
+// Steps that spawn a child.
+ghost use Rattle.std.specs.Prelude.{◌≡◌, ℕ, ◌+◌, ◌-◌, ◌<◌, ◌≤◌, ◌≢◌, ◌∷◌, ◌++◌, [], Some, None, IfOk, OnOk, false, length};
+ghost use Rattle.std.specs.Option.{option_map};
+ghost use Rattle.swan_model.specs.declared.body.Answer.TheVariants as answer;
+ghost use Rattle.swan_model.specs.declared.body.Ask.TheVariants as ask;
+ghost use Rattle.swan_model.specs.declared.path.TheConstants.{PATH_MOST as DEPTH};
+ghost use Rattle.swan_model.specs.declared.plan.TheConstants.{FUEL_MOST};
+ghost use Rattle.swan_model.specs.declared.rights.TheConstants.{GIVES_MOST};
+ghost use Rattle.swan_model.specs.QueueFollows.{NextSpawnGivesQueues};
+ghost use Rattle.swan_model.specs.QueueState.{after_spawn};
+ghost use Rattle.swan_model.specs.Rights.{is_aliased};
+ghost use Rattle.swan_model.specs.SerialStep.{given};
+ghost use Rattle.queues.specs.Asks.{IsOnTurn, MaySpawn, OnActive, OnNext};
+ghost use Rattle.swan_model.specs.Readings.{gone_on_by};
+ghost use Rattle.queues.specs.Turned.{AreApart, AreGivenTurns, AreOlder};
+ghost use Rattle.task_frames.specs.declared.stage.Stage.TheVariants.{Ready};
+ghost use Rattle.task_frames.specs.declared.step.Step.TheVariants as step;
+ghost use Rattle.task_frames.specs.Cores.{HasIt, MayBegin, STEPS_MOST, asking};
+ghost use Rattle.task_frames.specs.Giving.{AreGivesOfQueues, AreMade, GivesObjects, queue_rights};
+ghost use Rattle.task_frames.specs.Records.{come_to, live_at};
+ghost use Rattle.task_frames.specs.Resumes.{IsStep};
+
+use crate::child_gives::{enlist_all, give_objects, given, queue_gives};
+use crate::{FrameAtCore, Holding, Kept, LiveFrame, MidStep, Stage, Step, TaskAtCore};
+use queues::Queues;
+use serial_elision::is_aliased;
+use std::alloc::Global;
+use swan_model::{Answer, Ask, Body, Child, FaultKind, Gives, NoMemory, PATH_MOST, Path};
+
+impl<B: Body> MidStep<B> {
+    /// Its fuel, without the unit of the step. `O(1)`.
+    fn fuel(&self) -> u64
+        ensures { result ≡ self.now.task.fuel }
+    {
+        self.task.fuel
+    }
+
+    /// Of how many parts its path is. `O(1)`.
+    fn depth(&self) -> usize
+        ensures { result ≡ length self.now.task.path }
+    {
+        self.task.path.parts().len()
+    }
+
+    /// What a child holds by these gives, and None exactly where the frame may not give one of them so. `O(gives)`, one
+    /// allocation.
+    fn given(&self, alloc: Global, gives: &Gives) -> Result<Option<Vec<Holding>>, NoMemory>
+        ensures { IfOk result (λ held. option_map (λ list. list.items) held ≡ given self.now.task.holdings gives.now) }
+    {
+        given(alloc, self.task.holdings.as_slice(), gives)
+    }
+
+    /// The path of its next child. `O(depth)`.
+    fn child_path(&self) -> Result<Path, NoMemory>
+        requires { length self.now.task.path < DEPTH }
+        ensures { IfOk result (λ path. path ≡ self.now.task.path ++ self.now.task.children ∷ []) }
+    {
+        self.task.path.child(self.task.children)
+    }
+
+    /// The frame once it has spawned this child, and the child as it begins. `O(1)`.
+    fn spawns(
+        self,
+        child: Child<B::Local>,
+        number: u64,
+        path: Path,
+        holdings: Vec<Holding>,
+    ) -> Step<B>
+        requires few { self.task.done < STEPS_MOST }
+        requires cheap { child.fuel ≤ self.task.fuel }
+        requires room { self.task.children < FUEL_MOST }
+        ensures { result ≡ step.Spawned
+            (record {
+              task = record self.task {
+                done = self.task.done + 1;
+                since = self.task.done + 1;
+                fuel = self.task.fuel - child.fuel;
+                children = self.task.children + 1;
+              };
+              stage = Ready self.local answer.Nothing;
+            })
+            (record {
+              task = record {
+                plan = self.task.plan;
+                number = number;
+                path = path;
+                done = 0;
+                since = 0;
+                fuel = child.fuel;
+                holdings = holdings.items;
+                children = 0;
+              };
+              stage = Ready child.local answer.Start;
+            }) }
+    {
+        let Child {
+            local: begins,
+            gives: _,
+            fuel,
+        } = child;
+        let MidStep { task, local, at: _ } = self;
+        let plan = task.plan.again();
+        let mut task = task;
+        task.done += 1;
+        task.fuel -= fuel;
+        task.children += 1;
+        let parent = FrameAtCore {
+            task,
+            stage: Stage::Ready(local, Answer::Nothing),
+        };
+        let spawned = FrameAtCore {
+            task: TaskAtCore {
+                plan,
+                path,
+                number,
+                done: 0,
+                fuel,
+                holdings,
+                children: 0,
+            },
+            stage: Stage::Ready(begins, Answer::Start),
+        };
+        Step::Spawned(parent, spawned)
+    }
+}
+
+impl<Q: Queues> Kept<Q> {
+    /// A child, to which the frame gives what stands at its places. A child that it may not give so ends the frame by
+    /// Privilege; then one that is given a place twice by Alias, one too deep by Depth, and one for which the fuel
+    /// doesn't last by Fuel. Err is want of memory. `O(g log n + d)` for g gives and a path of d parts, amortised, and what
+    /// `Queues::spawn` costs.
+    pub fn spawn<B: Body>(
+        &mut self,
+        alloc: Global,
+        mid: MidStep<B>,
+        child: Child<B::Local>,
+    ) -> Result<Step<B>, NoMemory>
+        requires has { HasIt B.Body self.old (asking mid (ask.Spawn child)) }
+        requires begun { MayBegin self.old mid.task.number }
+        ensures step { IfOk result (IsStep B.Body self.old self.new mid.task) }
+        ensures run { OnOk result (self.new.run ≡ self.old.run) }
+    {
+        let Some(held) = mid.given(alloc, &child.gives)? else {
+            return self.refuse(mid, Ask::Spawn(child));
+        };
+        let at = mid.at();
+        if is_aliased(alloc, child.gives.as_slice())? {
+            return self.fault(mid.asks(Ask::Spawn(child)), at, FaultKind::Alias);
+        }
+        if mid.depth() >= PATH_MOST {
+            return self.fault(mid.asks(Ask::Spawn(child)), at, FaultKind::Depth);
+        }
+        if mid.fuel() < child.fuel {
+            return self.fault(mid.asks(Ask::Spawn(child)), at, FaultKind::Fuel);
+        }
+        self.make_child(alloc, mid, child, held)
+    }
+
+    /// The number of the next frame. `O(1)`.
+    fn next_number(&self) -> u64
+        ensures { result ≡ self.now.frames }
+    {
+        self.frames
+    }
+
+    /// A child that is no fault, and which holds this. Else as `spawn`.
+    fn make_child<B: Body>(
+        &mut self,
+        alloc: Global,
+        mid: MidStep<B>,
+        child: Child<B::Local>,
+        held: Vec<Holding>,
+    ) -> Result<Step<B>, NoMemory>
+        requires has { HasIt B.Body self.old (asking mid (ask.Spawn child)) }
+        requires begun { MayBegin self.old mid.task.number }
+        requires given { given mid.task.holdings child.gives ≡ Some held.items }
+        requires alone { is_aliased child.gives ≡ false }
+        requires shallow { length mid.task.path < DEPTH }
+        requires cheap { child.fuel ≤ mid.task.fuel }
+        ensures step { IfOk result (IsStep B.Body self.old self.new mid.task) }
+        ensures run { OnOk result (self.new.run ≡ self.old.run) }
+    {
+        let parent = mid.number();
+        let number = self.next_number();
+        let _most = child.gives.len();
+        self.hand_over(alloc, parent, number, &child.gives, held.as_slice())?;
+        let path = mid.child_path()?;
+        self.note_child(parent, mid.done(), &path, &held)?;
+        Ok(mid.spawns(child, number, path, held))
+    }
+
+    /// Gives a child of this number the objects and the queues among its gives, of which it holds this. Err is want of memory,
+    /// and nothing is said of what is kept after it. `O(g log n)` for g gives, amortised, and what `Queues::spawn` costs.
+    fn hand_over(
+        &mut self,
+        alloc: Global,
+        parent: u64,
+        child: u64,
+        gives: &Gives,
+        held: &[Holding],
+    ) -> Result<(), NoMemory>
+        // what the objects allow, and what the queues
+        requires objects { GivesObjects self.old.versions parent child gives.now }
+        requires may { MaySpawn self.old.state parent child (queue_rights held.now) }
+        requires turn { IsOnTurn self.old.name self.old.state parent }
+        requires next { OnNext self.old.name self.old.state parent (λ s f. NextSpawnGivesQueues s self.old.state f (queue_rights held.now)) }
+
+        // and the turns of those that pop
+        requires rising { parent < child }
+        requires older { AreOlder self.old.turns child }
+        requires apart { AreApart self.old.turns }
+        requires gives { AreGivesOfQueues (queue_rights held.now) }
+
+        // what it leaves
+        ensures made { OnOk result ((may : GivesObjects self.old.versions parent child gives.now)
+            → AreMade may.s may.r self.old.versions self.new.versions may.giver child gives.now (length gives.now)) }
+        ensures turns { OnOk result (AreGivenTurns self.old.turns self.new.turns parent child (queue_rights held.now)) }
+        ensures state { OnOk result (OnActive self.old.state parent (λ f. self.new.state ≡ after_spawn self.old.state f child (queue_rights held.now))) }
+        ensures name { OnOk result (self.new.name ≡ self.old.name) }
+        ensures run { OnOk result (self.new.run ≡ self.old.run) }
+        ensures same { OnOk result (self.new ≡ record self.old {
+          name = self.new.name;
+          run = self.new.run;
+          state = self.new.state;
+          versions = self.new.versions;
+          turns = self.new.turns;
+        }) }
+    {
+        give_objects(&mut self.versions, parent, child, gives)?;
+        let queues = queue_gives(alloc, held)?;
+        self.queues.spawn(parent, child, queues.as_slice())?;
+        enlist_all(&mut self.turns, parent, child, queues.as_slice())?;
+        Ok(())
+    }
+
+    /// Notes that a frame has taken one step, after so many others, by which it has spawned a child of this path, which holds
+    /// this. Err is want of memory, and nothing is said of what is kept after it. `O(log n + d + k)` for a path of d parts and
+    /// k places, amortised.
+    fn note_child(
+        &mut self,
+        parent: u64,
+        done: u64,
+        path: &Path,
+        held: &Vec<Holding>,
+    ) -> Result<(), NoMemory>
+        requires few { done < STEPS_MOST }
+        requires room { self.old.frames < 18446744073709551615 }
+        requires rising { parent < self.old.frames }
+        requires free { live_at self.old.live self.old.frames ≡ None }
+        ensures parent { OnOk result (live_at self.new.live parent ≡ option_map (come_to (done + 1)) (live_at self.old.live parent)) }
+        ensures child { OnOk result (live_at self.new.live self.old.frames
+            ≡ Some (record { parent = Some parent; path = path.now; done = 0; holdings = held.now.items })) }
+        ensures others { OnOk result ((other : ℕ) → other ≢ parent → other ≢ self.old.frames → live_at self.new.live other ≡ live_at self.old.live other) }
+        ensures same { OnOk result (self.new ≡ record self.old {
+          reading = record self.old.reading {
+            frames = (gone_on_by self.old.reading parent 1).frames ++ (record { number = self.old.frames; path = path.now; done = 0 }) ∷ [];
+          };
+          live = self.new.live;
+          frames = self.old.frames + 1;
+        }) }
+    {
+        let child = self.frames;
+        let frame = LiveFrame {
+            parent: Some(parent),
+            path: path.copy()?,
+            done: 0,
+            holdings: held.clone()?,
+        };
+        self.live.enter(parent, child, frame)?;
+        self.live.come_to(parent, done + 1);
+        self.reading = self.reading.gone_on_by(parent, 1).with_frame(child, path);
+        self.frames += 1;
+        Ok(())
+    }
+}
