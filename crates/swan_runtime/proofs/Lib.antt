@@ -1,0 +1,4 @@
+pub mod Fuel
+pub mod Stacking
+pub mod Spending
+pub mod Turning

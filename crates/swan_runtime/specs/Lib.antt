@@ -1,0 +1,2 @@
+-- What the contracts of this crate cite: how frames stand on a stack.
+pub mod Stacks

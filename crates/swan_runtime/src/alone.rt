@@ -1,0 +1,87 @@
+// A run on one thread.
+ghost use Rattle.std.specs.Prelude.{◌≡◌, ◌<◌, ◌∷◌, ◌++◌, [], IfOk, OnOk, length};
+ghost use Rattle.swan_model.specs.Elision.{outcome};
+ghost use Rattle.swan_model.specs.Script.{script};
+ghost use Rattle.task_frames.specs.Resumes.{IsOpened};
+ghost use Rattle.swan_runtime.specs.Stacks.{IsStack, turns_left};
+
+use queues::Queues;
+use std::alloc::Global;
+use swan_model::{Body, NoMemory};
+use task_frames::{Core, Frame, Opened, Paused, Resumed, RunOutcome};
+
+/// Takes the turn of a frame that was the top of the stack: the steps that it can take by itself, and the one that needs
+/// the core. Err is want of memory.
+fn turn<B: Body, Q: Queues>(
+    alloc: Global,
+    core: &mut Core<B, Q>,
+    body: &B,
+    stack: &mut Vec<Frame<B, Q>>,
+    mut frame: Frame<B, Q>,
+) -> Result<(), NoMemory>
+    requires stack { IsStack (record { run = Q.Ends.run; ends = Q.Ends.ends }) core.old (stack.old.items ++ frame ∷ []) }
+    requires body { body.now ≡ core.old.plan.body }
+    ensures stack { OnOk result (IsStack (record { run = Q.Ends.run; ends = Q.Ends.ends }) core.new stack.new.items) }
+    ensures fewer { OnOk result (turns_left stack.new.items < turns_left (stack.old.items ++ frame ∷ [])) }
+    ensures plan { core.new.plan ≡ core.old.plan }
+{
+    // Each `number` is there for what a frame's type says of it: it is true for its plan, so its fuel is the elision's.
+    frame.number();
+    match frame.run_local(alloc, body, u64::MAX) {
+        Paused::AtCore(_) => {
+            frame.number();
+        }
+        Paused::Budget(_) => unreachable!(),
+        Paused::NoMemory => return Err(NoMemory),
+    }
+    match core.resume(alloc, body, frame) {
+        Resumed::Runs(next, _) => {
+            next.number();
+            stack.push(next)?;
+        }
+        Resumed::Spawned(parent, child, _) => {
+            parent.number();
+            child.number();
+            stack.push(parent)?;
+            stack.push(child)?;
+        }
+        Resumed::Ended(_) => {}
+        Resumed::Waits(_, _) => unreachable!(),
+        Resumed::Strange(_, _) => unreachable!(),
+        Resumed::NoMemory => return Err(NoMemory),
+    }
+    Ok(())
+}
+
+/// Runs an opened core to its end, on this thread alone, and answers the outcome of the plan that the core names. NoMemory
+/// is want of memory.
+///
+/// Its live frames stand on a stack, each child above its parent. The top is the earliest in serial order, so no frame
+/// ever waits, and the run takes the elision's steps. Each turn takes a step at least; at most 65 frames are live. It costs
+/// what the steps cost.
+pub fn run_alone<B: Body, Q: Queues>(
+    alloc: Global,
+    opened: Opened<B, Q>,
+) -> Result<RunOutcome, NoMemory>
+    requires opened { IsOpened (record { run = Q.Ends.run; ends = Q.Ends.ends }) opened.core opened.root }
+    requires body { opened.body.value ≡ opened.core.plan.body }
+    ensures outcome { IfOk result (λ ran. ran.outcome ≡ outcome B.Body opened.core.plan) }
+    ensures queues { IfOk result (λ ran. length ran.outcome.queues ≡ length opened.core.plan.roots.queues) }
+    ensures objects { IfOk result (λ ran. length ran.outcome.objects ≡ length opened.core.plan.roots.objects) }
+    ensures script { IfOk result (λ ran. ran.script.means ≡ script B.Body opened.core.plan) }
+{
+    let Opened {
+        mut core,
+        body,
+        root,
+    } = opened;
+    let mut stack = Vec::new(alloc);
+    stack.push(root)?;
+    while let Some(frame) = stack.pop() {
+        turn(alloc, &mut core, &body, &mut stack, frame)?;
+    }
+    if !core.is_done() {
+        unreachable!();
+    }
+    core.take_outcome(alloc)
+}

@@ -1,0 +1,9 @@
+//! Runs of a plan out of order.
+//!
+//! `run_alone` runs an opened core to its end on one thread. It keeps the live frames on a stack, with each child above its
+//! parent: the top is the earliest live frame in serial order, so it never has to wait.
+#![tactic(auto)]
+
+mod alone;
+
+pub use alone::run_alone;
