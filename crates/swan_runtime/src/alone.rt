@@ -57,8 +57,7 @@ fn turn<B: Body, Q: Queues>(
 /// is want of memory.
 ///
 /// Its live frames stand on a stack, each child above its parent. The top is the earliest in serial order, so no frame
-/// ever waits, and the run takes the elision's steps. Each turn takes a step at least; at most 65 frames are live. It costs
-/// what the steps cost.
+/// ever waits, and the run takes the elision's steps. Each turn takes one at least. It costs what the steps cost.
 pub fn run_alone<B: Body, Q: Queues>(
     alloc: Global,
     opened: Opened<B, Q>,

@@ -49,7 +49,7 @@ pub record IsLiveBefore (kept : KeptView) (path : List ℕ) (number : ℕ) : Typ
   pub live : live_at kept.live number ≡ Some frame
   pub earlier : comes_before frame.path path ≡ true
 
--- what the queues answered an active frame that pops or tests one of them
+-- what the queues answered an active frame about one of them
 pub record IsToldToWait (kept : KeptView) (number : ℕ) (wait_for : WaitFor) : Type 0 where
   pub own : ActiveFrame
   pub active_is : active kept.state number ≡ Some own
@@ -246,7 +246,7 @@ OnTried _ Holds = Holds
 
 -- ---- the beginning
 
--- The core was opened and has done nothing since: its root is the one frame that it has, as it gave it.
+-- The root is the one frame that the core has, as it gave it.
 pub record IsOpened {B L E : Type 0} (of : EndsOf E) (core : CoreView B L) (root : FrameView B L E) : Type 0 where
   pub given : IsGivenBy of core root
   pub first : root.task.number ≡ 0

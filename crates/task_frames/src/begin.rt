@@ -30,7 +30,7 @@ pub struct Opened<B: Body, Q: Queues> {
     pub core: Core<B, Q>,
     /// The body of the plan.
     pub body: Arc<B>,
-    /// The root, which has taken no step.
+    /// The root, as the core gave it.
     pub root: Frame<B, Q>,
 }
 

@@ -67,7 +67,7 @@ impl<B: Body, Q: Queues> Core<B, Q> {
     ///
     /// The mark stands in no frame that is given but that of Strange. The frame and the body are those of the plan that the core's
     /// name has, and the frame's last `run_local` answered AtCore. It costs `O(k log n)` for k places that the step is about,
-    /// a comparison of the frame's path and places, and what the queues and the body take.
+    /// all of them at its first step, a comparison of the frame's path and places, and what the queues and the body take.
     pub fn resume(&mut self, alloc: Global, body: &B, frame: Frame<B, Q>) -> Resumed<B, Q>
         // which frames
         requires name { (frame.task.plan ≡ self.old.plan) × (Q.Ends.run frame.ends ≡ self.old.run) }
