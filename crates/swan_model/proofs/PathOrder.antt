@@ -159,3 +159,23 @@ either_before [] (other ∷ others) = inr (inr refl)
 either_before (part ∷ parts) [] = inr (inl refl)
 either_before (part ∷ parts) (other ∷ others) =
     either-parts (nat_eq part other) (nat_lt part other) part other parts others refl refl (either_before parts others)
+
+-- the order of paths goes one way
+pub before-one_way : (path other : List ℕ) → comes_before path other ≡ true → comes_before other path ≡ false
+before-one_way [] other is = absurd (cc)
+before-one_way (part ∷ parts) [] is = refl
+before-one_way (part ∷ parts) (other ∷ others) is = grind (arith, before-one_way parts others)
+
+-- where one path is not before another, which is not before a third, it is not before that one
+pub before-chain : (path other last : List ℕ) → comes_before path other ≡ false → comes_before other last ≡ false → comes_before path last ≡ false
+before-chain [] other last is also = refl
+before-chain (part ∷ parts) [] last is also = absurd (cc)
+before-chain (part ∷ parts) (other ∷ others) [] is also = absurd (cc)
+before-chain (part ∷ parts) (other ∷ others) (end ∷ ends) is also = grind (arith, before-chain parts others ends)
+
+-- a path before another one, which is before a third, is before that one
+pub before-through : (path other last : List ℕ) → comes_before path other ≡ true → comes_before other last ≡ true → comes_before path last ≡ true
+before-through [] other last is also = absurd (cc)
+before-through (part ∷ parts) [] last is also = absurd (cc)
+before-through (part ∷ parts) (other ∷ others) [] is also = refl
+before-through (part ∷ parts) (other ∷ others) (end ∷ ends) is also = grind (arith, before-through parts others ends)

@@ -17,27 +17,9 @@ use Rattle.swan_model.specs.Elision.{outcome}
 use Rattle.swan_model.specs.PathOrder.{comes_before}
 use Rattle.serial_elision.specs.Laws.{AreInOrder}
 use Rattle.serial_elision.specs.TaskSteps.{IsFaultOf}
-use Rattle.swan_model.proofs.PathOrder.{either_before}
+use Rattle.swan_model.proofs.PathOrder.{before-chain, before-one_way, either_before}
 use Rattle.swan_model.proofs.Paths.{path_is-itself, same_path}
 use Rattle.serial_elision.proofs.FaultsTold.{faults-are, not_before-itself}
-
-pub before-one_way : (path other : List ℕ) → comes_before path other ≡ true → comes_before other path ≡ false
-before-one_way [] other is = absurd (cc)
-before-one_way (part ∷ parts) [] is = refl
-before-one_way (part ∷ parts) (other ∷ others) is = grind (arith, before-one_way parts others)
-
-pub before-chain : (path other last : List ℕ) → comes_before path other ≡ false → comes_before other last ≡ false → comes_before path last ≡ false
-before-chain [] other last is also = refl
-before-chain (part ∷ parts) [] last is also = absurd (cc)
-before-chain (part ∷ parts) (other ∷ others) [] is also = absurd (cc)
-before-chain (part ∷ parts) (other ∷ others) (end ∷ ends) is also = grind (arith, before-chain parts others ends)
-
--- a task that comes before another, which comes before a third, comes before that one
-pub before-through : (path other last : List ℕ) → comes_before path other ≡ true → comes_before other last ≡ true → comes_before path last ≡ true
-before-through [] other last is also = absurd (cc)
-before-through (part ∷ parts) [] last is also = absurd (cc)
-before-through (part ∷ parts) (other ∷ others) [] is also = refl
-before-through (part ∷ parts) (other ∷ others) (end ∷ ends) is also = grind (arith, before-through parts others ends)
 
 abbrev pub is_earlier_fault : Fault → Fault → Bool
 is_earlier_fault a b = comes_before a.path b.path
