@@ -5,7 +5,10 @@
 //! piece. There are four kinds of each: those that a caller writes, those in memory, which answer
 //! exactly what they are told to, honest ones, of which no call fails, and those of the system.
 //!
-//! Promised of every implementation:
+//! A third trait, `Gate`, is what a worker asks before it goes on with a task. It tells nothing, and
+//! `OpenGate` is always open.
+//!
+//! Promised of every implementation of files and sinks:
 //!
 //! - A read adds the whole content to the buffer, of at most `FILE_MOST` bytes, or leaves the
 //!   buffer as it was. Where contents are told, the bytes are the told ones, and a file is too long
@@ -24,6 +27,7 @@
 mod answer;
 mod counts;
 mod files;
+mod gate;
 mod honest_files;
 mod honest_sink;
 mod limits;
@@ -35,6 +39,7 @@ mod sink;
 
 pub use answer::{Failed, ReadAnswer};
 pub use files::{FILE_MOST, FileBlob, Files};
+pub use gate::{Gate, OpenGate};
 pub use honest_files::HonestFiles;
 pub use honest_sink::HonestSink;
 pub use limits::limits_of_files_and_sinks;
