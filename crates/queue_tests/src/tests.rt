@@ -1,7 +1,8 @@
 // The tables on each form of hyperqueues.
-ghost use Rattle.std.specs.Prelude.{◌≡◌, None, true};
+ghost use Rattle.std.specs.Prelude.{◌≡◌, ◌≢◌, None, true};
 ghost use Rattle.swan_model.specs.QueueState.{new_state};
-ghost use Rattle.queue_tests.specs.Steps.{allows_steps};
+ghost use Rattle.queue_tests.specs.Allowed.{may_make};
+ghost use Rattle.queue_tests.specs.Steps.{after_steps, allows_steps};
 
 use crate::*;
 use queue_book::BookQueues;
@@ -17,51 +18,69 @@ fn book(alloc: Global) -> BookQueues
     BookQueues::new(alloc, RunName::free())
 }
 
+/// Runs a table, in which each call has to give its answer.
+fn meets(alloc: Global, steps: &[Step]) -> Result<(), Fail>
+    requires { allows_steps new_state steps.now ≡ true }
+{
+    run(&mut book(alloc), alloc, steps)?;
+    Ok(())
+}
+
 #[test]
 fn two_pushers_in_serial_order(rt: HostRuntime) -> Result<(), Fail> {
-    run(&mut book(rt.alloc()), rt.alloc(), TWO_PUSHERS)?;
-    Ok(())
+    meets(rt.alloc(), TWO_PUSHERS)
 }
 
 #[test]
 fn first_items_are_popped_while_a_pusher_is_active(rt: HostRuntime) -> Result<(), Fail> {
-    run(&mut book(rt.alloc()), rt.alloc(), FIRST_ITEMS)?;
-    Ok(())
+    meets(rt.alloc(), FIRST_ITEMS)
 }
 
 #[test]
 fn items_of_a_grandchild_come_between_those_of_its_parent(rt: HostRuntime) -> Result<(), Fail> {
-    run(&mut book(rt.alloc()), rt.alloc(), GRANDCHILD)?;
-    Ok(())
+    meets(rt.alloc(), GRANDCHILD)
 }
 
 #[test]
 fn a_pusher_between_two_poppers(rt: HostRuntime) -> Result<(), Fail> {
-    run(&mut book(rt.alloc()), rt.alloc(), PUSHER_BETWEEN_POPPERS)?;
-    Ok(())
+    meets(rt.alloc(), PUSHER_BETWEEN_POPPERS)
 }
 
 #[test]
 fn a_queue_of_a_child_ends_with_it_and_its_number_stays_taken(rt: HostRuntime) -> Result<(), Fail> {
-    run(&mut book(rt.alloc()), rt.alloc(), CHILD_QUEUE_ENDS)?;
-    Ok(())
+    meets(rt.alloc(), CHILD_QUEUE_ENDS)
+}
+
+/// Two frames that a table leaves get their ends back, and each its own alone.
+fn keeps_apart(alloc: Global, steps: &[Step], one: u64, two: u64) -> Result<(), Fail>
+    requires may { allows_steps new_state steps.now ≡ true }
+    requires one { may_make (after_steps new_state steps.now) one ≡ true }
+    requires two { may_make (after_steps new_state steps.now) two ≡ true }
+    requires apart { one ≢ two }
+{
+    lend_two(&mut book(alloc), alloc, steps, one, two)
 }
 
 #[test]
 fn ends_come_back_to_their_frame_alone(rt: HostRuntime) -> Result<(), Fail> {
-    lend_two(&mut book(rt.alloc()), rt.alloc(), TWO_CHILDREN, 1, 2)
-}
-
-#[test]
-fn a_million_items_are_let_go(rt: HostRuntime) -> Result<(), Fail> {
-    let mut queues = book(rt.alloc());
-    push_many(&mut queues, 1_000_000)?;
-    let_go(queues);
-    Ok(())
+    keeps_apart(rt.alloc(), TWO_CHILDREN, 1, 2)
 }
 
 /// Lets go what may be sent to another thread.
 fn let_go<T: Send + Drop>(_value: T) {}
+
+/// Lets go so many items of one queue.
+fn lets_go_of(alloc: Global, count: u32) -> Result<(), Fail> {
+    let mut queues = book(alloc);
+    push_many(&mut queues, count)?;
+    let_go(queues);
+    Ok(())
+}
+
+#[test]
+fn a_million_items_are_let_go(rt: HostRuntime) -> Result<(), Fail> {
+    lets_go_of(rt.alloc(), 1_000_000)
+}
 
 #[test]
 fn queues_and_ends_may_be_sent(rt: HostRuntime) {
