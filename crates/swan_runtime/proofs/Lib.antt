@@ -2,3 +2,5 @@ pub mod Fuel
 pub mod Stacking
 pub mod Spending
 pub mod Turning
+pub mod Depth
+pub mod Bound

@@ -99,7 +99,7 @@ module _ {B L E : Type 0} (G : Ghosts B L) (name : E → Option Script) (run : E
 
       -- and doesn't wait
       pub never-waits : (next : FrameView B L E) (wait_for : WaitFor) → IsGivenBy of after next
-          → next.task ≡ record moved.task { since = moved.task.done; fuel = next.task.fuel } → IsShownBy G after next wait_for → ⊥
+          → next.task ≡ record moved.task { since = moved.task.done; fuel = next.task.fuel } → IsShownBy G of core after moved next wait_for → ⊥
       never-waits next wait_for gives task shown =
           let number-is : next.task.number ≡ top.task.number = ap (λ (t : Task B L). t.number) task ∙ number in
           let path-is : next.task.path ≡ top.task.path = ap (λ (t : Task B L). t.path) task ∙ path in

@@ -1,2 +1,3 @@
 -- What the contracts of this crate cite: how frames stand on a stack.
 pub mod Stacks
+pub mod Turns

@@ -2,7 +2,7 @@
 ghost use Rattle.std.specs.Prelude.{◌≡◌, ◌<◌, ◌∷◌, ◌++◌, [], IfOk, OnOk, length};
 ghost use Rattle.swan_model.specs.Elision.{outcome};
 ghost use Rattle.swan_model.specs.Script.{script};
-ghost use Rattle.task_frames.specs.Resumes.{IsOpened};
+ghost use Rattle.task_frames.specs.Resumes.{IsOpened, ends_of};
 ghost use Rattle.swan_runtime.specs.Stacks.{IsStack, turns_left};
 
 use queues::Queues;
@@ -19,9 +19,9 @@ fn turn<B: Body, Q: Queues>(
     stack: &mut Vec<Frame<B, Q>>,
     mut frame: Frame<B, Q>,
 ) -> Result<(), NoMemory>
-    requires stack { IsStack (record { run = Q.Ends.run; ends = Q.Ends.ends }) core.old (stack.old.items ++ frame ∷ []) }
+    requires stack { IsStack (ends_of Q.Ends.LocalEnds) core.old (stack.old.items ++ frame ∷ []) }
     requires body { body.now ≡ core.old.plan.body }
-    ensures stack { OnOk result (IsStack (record { run = Q.Ends.run; ends = Q.Ends.ends }) core.new stack.new.items) }
+    ensures stack { OnOk result (IsStack (ends_of Q.Ends.LocalEnds) core.new stack.new.items) }
     ensures fewer { OnOk result (turns_left stack.new.items < turns_left (stack.old.items ++ frame ∷ [])) }
     ensures plan { core.new.plan ≡ core.old.plan }
 {
@@ -62,7 +62,7 @@ pub fn run_alone<B: Body, Q: Queues>(
     alloc: Global,
     opened: Opened<B, Q>,
 ) -> Result<RunOutcome, NoMemory>
-    requires opened { IsOpened (record { run = Q.Ends.run; ends = Q.Ends.ends }) opened.core opened.root }
+    requires opened { IsOpened (ends_of Q.Ends.LocalEnds) opened.core opened.root }
     requires body { opened.body.value ≡ opened.core.plan.body }
     ensures outcome { IfOk result (λ ran. ran.outcome ≡ outcome B.Body opened.core.plan) }
     ensures queues { IfOk result (λ ran. length ran.outcome.queues ≡ length opened.core.plan.roots.queues) }

@@ -5,5 +5,7 @@
 #![tactic(auto)]
 
 mod alone;
+mod laws;
 
 pub use alone::run_alone;
+pub use laws::turns_are_few;

@@ -15,11 +15,12 @@ use Rattle.task_frames.specs.declared.resumed.Waited.{Waited}
 use Rattle.task_frames.specs.declared.step.Step.{Step}
 use Rattle.task_frames.specs.declared.step.Step.TheVariants as step
 use Rattle.task_frames.specs.declared.steps.Steps.{Steps}
-use Rattle.task_frames.specs.Cores.{AtCore, CoreView, HasIt, IsCore, IsCoreView, IsGiven, KeptView, is_over}
+use Rattle.task_frames.specs.Cores.{AtCore, CoreView, HasIt, IsCore, IsCoreView, IsGiven, KeptView, come_in, is_over}
 use Rattle.task_frames.specs.Frames.{FrameView, Task, is_whole}
-use Rattle.task_frames.specs.Records.{LiveFrame, live_at}
-use Rattle.task_frames.specs.Resumes.{AreOfPlan, EndsOf, HasLent, HasNone, HaveCome, IsAnswered, IsChildOf, IsGivenAs, IsGivenBy, IsLiveBefore, IsResumed, IsShown, IsShownBy, IsStep, OthersKept, OthersStay, waited_for}
+use Rattle.task_frames.specs.Records.{HasNoLiveChild, IsLiveChild, LiveFrame, come_at, live_at}
+use Rattle.task_frames.specs.Resumes.{AreOfPlan, EndsOf, HasLent, HasNoChild, HasNone, HaveCome, IsAnswered, IsChildOf, IsGivenAs, IsGivenBy, IsLiveBefore, IsResumed, IsShown, IsShownBy, IsStep, OthersKept, OthersStay, waited_for}
 use Rattle.task_frames.proofs.Given.{given-stays, has-stays}
+use Rattle.task_frames.proofs.Lives.{child-comes, come-only}
 
 -- ---- frames that are given one after the other
 
@@ -85,7 +86,8 @@ all-stay a IsOther = record { live = λ other is. refl; active_are = λ other is
 
 module _ {B L E : Type 0} (G : Ghosts B L) (of : EndsOf E) (before after : CoreView B L) (frame : FrameView B L E) (at : AtCore B L) (start taken stepped given : KeptView)
     (start_is : before.kept ≡ Some start) (given_is : after.kept ≡ Some given) (plan : frame.task.plan ≡ after.plan) (run : given.run ≡ after.run)
-    (task : at.task ≡ record frame.task { since = frame.task.done }) (others : OthersStay start taken (λ other. other ≢ frame.task.number)) where
+    (task : at.task ≡ record frame.task { since = frame.task.done }) (come : taken ≡ come_in start frame.task (of.ends frame.ends))
+    (others : OthersStay start taken (λ other. other ≢ frame.task.number)) where
   abbrev n : ℕ
   n = frame.task.number
 
@@ -111,6 +113,14 @@ module _ {B L E : Type 0} (G : Ghosts B L) (of : EndsOf E) (before after : CoreV
   from-start IsOther apart second third =
       then-stay start taken given IsOther (fewer-stay start taken (λ other. other ≢ n) IsOther apart others) (then-stay taken stepped given IsOther second third)
 
+  -- who has no child once the frame has come in had none before
+  no-child : HasNoLiveChild taken.live n → HasNoChild before n
+  no-child none x is other child =
+      let was = subst (λ (k : KeptView). IsLiveChild k.live n other) (same_Some x start (sym is ∙ start_is)) child in
+      let frame-then = live_at start.live n in
+      let came = child-comes start.live (come_at start.live n frame.task.done frame-then) n frame.task.done n other (come-only start.live _ n frame.task.done frame-then refl refl) was in
+      none other (subst (λ (k : KeptView). IsLiveChild k.live n other) (sym come) came)
+
   abbrev t : Task B L
   t = record frame.task { since = frame.task.done }
 
@@ -123,6 +133,7 @@ module _ {B L E : Type 0} (G : Ghosts B L) (of : EndsOf E) (before after : CoreV
         so.2,
         kept-others (λ other. other ≢ n) (from-start (λ other. other ≢ n) (λ m apart. apart) so.3
             (fewer-stay stepped given (λ other. other ≢ next.task.number) (λ other. other ≢ n) (λ m apart same. apart (same ∙ own)) answered.2)),
+        (λ sync. no-child (so.4 sync)),
       )
     where
       same-rest : (a : AtCore B L) (b : FrameView B L E) → b.task ≡ a.task
@@ -153,15 +164,17 @@ module _ {B L E : Type 0} (G : Ghosts B L) (of : EndsOf E) (before after : CoreV
         given-by same it (ap (λ (x : Task B L). x.plan) so.2) its_so,
         its_so.task ∙ so.2 ∙ ap (λ (x : Task B L). let y : Task B L = record frame.task { since = frame.task.done; fuel = x.fuel } in y) (sym its_so.task),
         record {
-          shown = stepped;
+          was = start;
+          kept_was = start_is;
           at = same;
           task = sym its_so.task;
           stage = its_so.stage;
-          shows = subst (IsShown G stepped same) (sym answered.0) so.3;
+          shows = subst (λ k. IsShown G k same waited.wait) (so.1 ∙ come) (subst (IsShown G stepped same) (sym answered.0) so.3);
+          earlier = subst (λ k. IsLiveBefore k it.task.path (waited_for waited.wait)) (so.1 ∙ come)
+              (subst (λ q. IsLiveBefore stepped q (waited_for waited.wait)) path (subst (λ w. IsLiveBefore stepped frame.task.path (waited_for w)) (sym answered.0) so.4));
           kept = given;
           keeps = given_is;
-          lent = subst (HasLent stepped given) its_own answered.2;
-          earlier = subst (λ q. IsLiveBefore stepped q (waited_for waited.wait)) path (subst (λ w. IsLiveBefore stepped frame.task.path (waited_for w)) (sym answered.0) so.4);
+          lent = subst (λ k. HasLent k given it.task.number) (so.1 ∙ come) (subst (HasLent stepped given) its_own answered.2);
         },
         kept-others (λ other. other ≢ n) (from-start (λ other. other ≢ n) (λ m apart. apart) (subst (λ k. OthersStay taken k (λ other. other ≢ n)) (sym so.1) (all-stay taken (λ other. other ≢ n)))
             (fewer-stay stepped given (λ other. other ≢ same.task.number) (λ other. other ≢ n) (λ m apart eq. apart (eq ∙ own)) (lent-others stepped given same.task.number answered.2))),
@@ -173,6 +186,7 @@ module _ {B L E : Type 0} (G : Ghosts B L) (of : EndsOf E) (before after : CoreV
     so.2,
     (λ x is. subst (λ (k : KeptView). live_at k.live n ≡ None) (same_Some given x (sym given_is ∙ is)) (subst (λ (k : KeptView). live_at k.live n ≡ None) (sym answered.1) so.3)),
     kept-others (λ other. other ≢ n) (from-start (λ other. other ≢ n) (λ m apart. apart) so.4 (subst (λ k. OthersStay stepped k (λ other. other ≢ n)) (sym answered.1) (all-stay stepped (λ other. other ≢ n)))),
+    no-child so.5,
   )
   resumed-cases Q (step.Runs next) (resumed.Spawned it child steps) so answered = absurd answered
   resumed-cases Q (step.Runs next) (resumed.Waits it waited) so answered = absurd answered

@@ -37,7 +37,7 @@ use Rattle.serial_elision.proofs.TaskSteps.{stands-one}
 use Rattle.task_frames.specs.declared.stage.Stage.TheVariants.{Ready}
 use Rattle.task_frames.specs.declared.step.Step.TheVariants as step
 use Rattle.task_frames.specs.Cores.{AtCore, HasIt, KeptView, MayBegin, Mid, STEPS_MOST, asking, one_on}
-use Rattle.task_frames.specs.Records.{IsOnlyLive, LiveFrame, LiveFrames, come_to, live_at}
+use Rattle.task_frames.specs.Records.{HasNoLiveChild, IsOnlyLive, LiveFrame, LiveFrames, come_to, live_at}
 use Rattle.task_frames.specs.Resumes.{EndsByFault, IsStep, MayNotUse}
 use Rattle.task_frames.proofs.Goings.{runs-quiet, runs-used, runs-written}
 use Rattle.task_frames.proofs.Served.{same-mode, some-and}
@@ -142,10 +142,10 @@ module _ {B L : Type 0} (G : Ghosts B L) (kept : KeptView) (mid : Mid B L) (asks
     n = mid.task.number
 
     pub quiet-so : after ≡ record kept { reading = gone_on_by kept.reading n 1; live = after.live } → is_queue_deed does ≡ false → is_object_deed does ≡ false → is_spawn does ≡ false
-        → IsStep G kept after mid.task (step.Runs next)
-    quiet-so is no_queue no_object no_spawn =
+        → (does ≡ deed.Sync → HasNoLiveChild kept.live n) → IsStep G kept after mid.task (step.Runs next)
+    quiet-so is no_queue no_object no_spawn childless =
         subst (λ x. IsStep G kept after mid.task (step.Runs x)) (sym next_is)
-        (runs-quiet G kept mid asks has begun said does goes after (noted kept.live after.live n (mid.task.done + 1) has.of.frame has.of.live only) is no_queue no_object no_spawn)
+        (runs-quiet G kept mid asks has begun said does goes after (noted kept.live after.live n (mid.task.done + 1) has.of.frame has.of.live only) is no_queue no_object no_spawn childless)
 
     pub written-so : (place : ℕ) (value : Value) (origin : Origin) (object : Placed) → after ≡ record kept { versions = after_write kept.versions n place value; reading = gone_on_by kept.reading n 1; live = after.live }
         → does ≡ deed.Write origin value → placed_at kept.versions n place ≡ Some object → allows object.mode Out ≡ true → slice_get kept.reading.objects object.object ≡ Some origin

@@ -43,7 +43,7 @@ use Rattle.task_frames.specs.declared.stage.Stage.TheVariants.{Ready}
 use Rattle.task_frames.specs.declared.step.Step.TheVariants as step
 use Rattle.task_frames.specs.Cores.{AtCore, HasIt, IsTold, KeptView, MayBegin, Mid, asking, one_on}
 use Rattle.task_frames.specs.Records.{IsLiveChild, IsOnlyLive, come_to, live_at}
-use Rattle.task_frames.specs.Resumes.{IsLast, IsStep}
+use Rattle.task_frames.specs.Resumes.{AsksOf, IsLast, IsStep}
 use Rattle.task_frames.proofs.Asked.{pop-does, usable, used-so}
 use Rattle.task_frames.proofs.Booked as booked
 use Rattle.task_frames.proofs.Endings.{ends-so, is-fault}
@@ -128,13 +128,11 @@ module _ {B L : Type 0} (G : Ghosts B L) (kept : KeptView) (mid : Mid B L) (asks
   pub turn : MayBegin kept n → IsOnTurn kept.name kept.state n
   turn begun x is b b_live = begun.turn b b_live
 
-  -- ---- waits
-
   -- ---- it waits for whom the queues name
 
-  pub waits : (after : KeptView) (same : AtCore B L) (queue : ℕ) (wait_for : WaitFor) → after ≡ kept → same ≡ asking mid asks
+  pub waits : (after : KeptView) (same : AtCore B L) (queue : ℕ) (wait_for : WaitFor) → after ≡ kept → same ≡ asking mid asks → AsksOf (asking mid asks) queue
       → OnActive kept.state n (λ b. IsCause kept.name kept.state b queue wait_for) → IsStep G kept after mid.task (step.Waits same wait_for)
-  waits after same queue wait_for after_is same_is causes = waits-cause G kept (asking mid asks) has after same queue wait_for after_is same_is (causes a a-live)
+  waits after same queue wait_for after_is same_is about causes = waits-cause G kept (asking mid asks) has after same queue wait_for after_is same_is about (causes a a-live)
 
   -- ---- a queue that it uses
 
@@ -326,7 +324,7 @@ module _ {B L : Type 0} (G : Ghosts B L) (kept : KeptView) (mid : Mid B L) (plac
             turns = without kept.turns n;
             faults = kept.faults ++ fault ∷ [];
           })
-          settled only refl refl refl refl refl
+          settled only refl refl refl refl refl alone
           (record { changed = gone.changed; others = λ m other. gone.others m other ∙ popped.others m other })
           (queues.finished-dry s lawful_is r kept.state kept.turns has.core.queues n mid.task.path mid.task.done known_is pop-used.0 then_state (without kept.turns n) popped-deed (none-last none) act dry-join refl refl)
           (live.leaves-dry G mid.task.plan r kept.state kept.live kept.frames has.core.frames has.core.queues.tree n (a G kept mid (ask.Pop place) has) then_state after.live

@@ -24,7 +24,7 @@ use Rattle.serial_elision.proofs.TaskSteps.{ends_last}
 use Rattle.task_frames.specs.declared.step.Step.TheVariants as step
 use Rattle.task_frames.specs.Cores.{AreBooked, AreFrames, AreObjects, AreQueues, AtCore, HasIt, IsCore, KeptView, MayBegin}
 use Rattle.task_frames.specs.Frames.{Task}
-use Rattle.task_frames.specs.Records.{IsOldestChild, IsOnlyLive}
+use Rattle.task_frames.specs.Records.{HasNoLiveChild, IsOldestChild, IsOnlyLive}
 use Rattle.task_frames.specs.Resumes.{IsLast, IsLiveBefore, IsStep, OthersStay, deed_now}
 use Rattle.queues.specs.declared.answers.WaitFor.TheVariants as wait
 use Rattle.queues.proofs.ActiveAfter.{one_gone}
@@ -57,11 +57,15 @@ module _ {B L : Type 0} (G : Ghosts B L) (kept : KeptView) (frame : AtCore B L) 
 
   -- ---- ends
 
+  -- who has no active child has no live one
+  no-child : MayJoin kept.state task.number → HasNoLiveChild kept.live task.number
+  no-child may child is = let it = has.core.frames.active_is child is.frame is.live in may.alone child (record { frame = it.0; live = it.1; of = it.2 ∙ is.of })
+
   module _ (begun : MayBegin kept task.number) (last : IsLast G task) where
     -- it ends by this deed, which no object hears of; its faults are booked
     module _ (does : Deed) (is : deed_now G task ≡ does) (no_object : is_object_deed does ≡ false) (no_spawn : is_spawn does ≡ false) (after : KeptView) (settled : IsSettled kept.versions task.number)
         (only : IsOnlyLive kept.live after.live task.number None) (name : after.name ≡ kept.name) (reading : after.reading ≡ gone_on_by kept.reading task.number 1) (count : after.frames ≡ kept.frames) (made : after.objects ≡ kept.objects)
-        (ended : after.versions ≡ after_end kept.versions task.number) (gone : IsOnlyFrame kept.state after.state task.number None)
+        (ended : after.versions ≡ after_end kept.versions task.number) (alone : HasNoLiveChild kept.live task.number) (gone : IsOnlyFrame kept.state after.state task.number None)
         (queues_are : AreQueues s (gone_on_by kept.reading task.number 1) after.state after.turns)
         (frames_are : AreFrames G task.plan (gone_on_by kept.reading task.number 1) after.state after.live kept.frames)
         (booked_are : AreBooked G task.plan (gone_on_by kept.reading task.number 1) after.faults) where
@@ -80,7 +84,7 @@ module _ {B L : Type 0} (G : Ghosts B L) (kept : KeptView) (frame : AtCore B L) 
       }
 
       pub ends-so : IsStep G kept after task step.Ended
-      ends-so = (core-ended, last, ap is_spawn is ∙ no_spawn, only.own, record { live = only.others; active_are = gone.others })
+      ends-so = (core-ended, last, ap is_spawn is ∙ no_spawn, only.own, record { live = only.others; active_are = gone.others }, alone)
 
     pub is-fault : (fault : Fault) → effect_at G task.plan task.path task.done has.is.alone.top ≡ faults fault.kind → fault.path ≡ task.path
         → fault.place ≡ G.place_of task.plan.body has.is.alone.top.local → IsFaultOf G task.plan fault
@@ -108,7 +112,7 @@ module _ {B L : Type 0} (G : Ghosts B L) (kept : KeptView) (frame : AtCore B L) 
             live = after.live;
             turns = without kept.turns task.number;
           })
-          settled only refl refl refl refl refl (one_gone kept.state task.number)
+          settled only refl refl refl refl refl (no-child may) (one_gone kept.state task.number)
           (queues.finished s (lawful G kept frame has) kept.reading kept.state kept.turns has.core.queues task.number task.path task.done (known G kept frame has) deed.Quiet
           (after_finish kept.state task.number) (without kept.turns task.number) quiet refl last may refl refl)
           (live.leaves-finish G task.plan kept.reading kept.state kept.live kept.frames has.core.frames has.core.queues.tree task.number (after_finish kept.state task.number) after.live may refl only)
@@ -136,7 +140,7 @@ module _ {B L : Type 0} (G : Ghosts B L) (kept : KeptView) (frame : AtCore B L) 
             turns = without kept.turns task.number;
             faults = kept.faults ++ fault ∷ [];
           })
-          settled only refl refl refl refl refl (one_gone kept.state task.number)
+          settled only refl refl refl refl refl (no-child may) (one_gone kept.state task.number)
           (queues.finished s (lawful G kept frame has) kept.reading kept.state kept.turns has.core.queues task.number task.path task.done (known G kept frame has) deed.Quiet
           (after_finish kept.state task.number) (without kept.turns task.number) quiet refl last may refl refl)
           (live.leaves-finish G task.plan kept.reading kept.state kept.live kept.frames has.core.frames has.core.queues.tree task.number (after_finish kept.state task.number) after.live may refl only)

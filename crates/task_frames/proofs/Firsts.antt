@@ -15,7 +15,7 @@ use Rattle.swan_model.specs.declared.script.Deed.TheVariants as deed
 use Rattle.task_frames.specs.declared.step.Step.TheVariants as step
 use Rattle.task_frames.specs.Cores.{AtCore, AwaitsNone, HasIt, KeptView, MayBegin}
 use Rattle.task_frames.specs.Records.{IsOldestChild, LiveFrame, live_at}
-use Rattle.task_frames.specs.Resumes.{IsLast, IsLiveBefore, IsShown, IsStep, IsToldToWait, deed_now, WaitsForTurn, WaitsForVersion, at_first, at_pop, waited_for}
+use Rattle.task_frames.specs.Resumes.{AsksOf, IsLast, IsLiveBefore, IsShown, IsStep, IsToldToWait, deed_now, WaitsForTurn, WaitsForVersion, at_first, at_pop, waited_for}
 use Rattle.task_frames.proofs.Endings.{child-before}
 use Rattle.task_frames.proofs.Goings.{done-is, lawful, own}
 use Rattle.task_frames.proofs.Waiting as waiting
@@ -81,11 +81,11 @@ module _ {B L : Type 0} (G : Ghosts B L) (kept : KeptView) (frame : AtCore B L) 
   cause-before queue (wait.Pusher m) cause =
       live-before m (waiting.pusher-live G frame.task.plan (lawful G kept frame has) kept.reading kept.state kept.turns kept.live kept.frames has.core.queues has.core.frames frame.task.number f has.of.live a a-live queue m cause.1.is)
 
-  pub cause-shown : (queue : ℕ) (wait_for : WaitFor) → IsCause kept.name kept.state a queue wait_for → IsShown G kept frame wait_for
-  cause-shown queue (wait.Child m) cause = absurd cause
-  cause-shown queue (wait.Version m) cause = absurd cause
-  cause-shown queue (wait.PopTurn m) cause = at_pop (record { own = a; active_is = a-live; queue = queue; cause = cause })
-  cause-shown queue (wait.Pusher m) cause = record { own = a; active_is = a-live; queue = queue; cause = cause }
+  pub cause-shown : (queue : ℕ) (wait_for : WaitFor) → AsksOf frame queue → IsCause kept.name kept.state a queue wait_for → IsShown G kept frame wait_for
+  cause-shown queue (wait.Child m) asks cause = absurd cause
+  cause-shown queue (wait.Version m) asks cause = absurd cause
+  cause-shown queue (wait.PopTurn m) asks cause = at_pop (record { own = a; active_is = a-live; queue = queue; asks = asks; cause = cause })
+  cause-shown queue (wait.Pusher m) asks cause = record { own = a; active_is = a-live; queue = queue; asks = asks; cause = cause }
 
   -- ---- it waits
 
@@ -95,8 +95,8 @@ module _ {B L : Type 0} (G : Ghosts B L) (kept : KeptView) (frame : AtCore B L) 
       subst (λ k. IsStep G kept k frame.task (step.Waits same wait_for)) (sym after_is)
       (subst (λ x. IsStep G kept kept frame.task (step.Waits x wait_for)) (sym same_is) (has, refl, refl, shown, before))
 
-  pub waits-cause : (after : KeptView) (same : AtCore B L) (queue : ℕ) (wait_for : WaitFor) → after ≡ kept → same ≡ frame → IsCause kept.name kept.state a queue wait_for → IsStep G kept after frame.task (step.Waits same wait_for)
-  waits-cause after same queue wait_for after_is same_is cause = waits-so after same wait_for after_is same_is (cause-shown queue wait_for cause) (cause-before queue wait_for cause)
+  pub waits-cause : (after : KeptView) (same : AtCore B L) (queue : ℕ) (wait_for : WaitFor) → after ≡ kept → same ≡ frame → AsksOf frame queue → IsCause kept.name kept.state a queue wait_for → IsStep G kept after frame.task (step.Waits same wait_for)
+  waits-cause after same queue wait_for after_is same_is asks cause = waits-so after same wait_for after_is same_is (cause-shown queue wait_for asks cause) (cause-before queue wait_for cause)
 
   pub waits-oldest : (after : KeptView) (same : AtCore B L) (child : ℕ) → after ≡ kept → same ≡ frame → IsOldestChild kept.live frame.task.number child → (deed_now G frame.task ≡ deed.Sync) ⊎ IsLast G frame.task
       → IsStep G kept after frame.task (step.Waits same (wait.Child child))

@@ -1,5 +1,6 @@
 -- A frame at the core that goes on by its next step.
 use Rattle.std.proofs.Common.{◌≡◌, ◌≢◌, ℕ, ◌+◌, ◌-◌, ◌<◌, true, false, Option, Some, None, List, length, map, refl, sym, ap, subst, ◌∙◌, arith}
+use Rattle.std.proofs.lemmas.Bool.{false≢true}
 use Rattle.std.proofs.lemmas.Option.{same_Some}
 use Rattle.std.specs.Prelude.{slice_get}
 use Rattle.swan_model.specs.declared.body.Answer.{Answer}
@@ -34,7 +35,7 @@ use Rattle.task_frames.specs.declared.stage.Stage.TheVariants.{Ready, Asking}
 use Rattle.task_frames.specs.declared.step.Step.TheVariants as step
 use Rattle.task_frames.specs.Cores.{AreBooked, AreFrames, AreObjects, AreQueues, AtCore, HasIt, IsAtCore, IsCore, IsTold, KeptView, MayBegin, Mid, asking, one_on}
 use Rattle.task_frames.specs.Frames.{Task}
-use Rattle.task_frames.specs.Records.{IsOnlyLive, LiveFrame, live_at}
+use Rattle.task_frames.specs.Records.{HasNoLiveChild, IsOnlyLive, LiveFrame, live_at}
 use Rattle.task_frames.specs.Resumes.{IsStep, OthersStay}
 use Rattle.task_frames.proofs.Booked as booked
 use Rattle.task_frames.proofs.Live as live
@@ -121,7 +122,8 @@ module _ {B L : Type 0} (G : Ghosts B L) (kept : KeptView) (mid : Mid B L) (asks
         (queues : AreQueues (script G mid.task.plan) (gone_on_by kept.reading mid.task.number 1) after.state after.turns)
         (objects : AreObjects (script G mid.task.plan) (gone_on_by kept.reading mid.task.number 1) after.versions after.live after.objects)
         (frames : AreFrames G mid.task.plan (gone_on_by kept.reading mid.task.number 1) after.state after.live kept.frames)
-        (b : ActiveFrame) (changed : IsOnlyFrame kept.state after.state mid.task.number (Some b)) (back : b.lent ≡ None) (no_spawn : is_spawn does ≡ false) where
+        (b : ActiveFrame) (changed : IsOnlyFrame kept.state after.state mid.task.number (Some b)) (back : b.lent ≡ None) (no_spawn : is_spawn does ≡ false)
+        (childless : does ≡ deed.Sync → HasNoLiveChild kept.live mid.task.number) where
       core-next : IsCore G mid.task.plan after
       core-next = record {
         sound = has.core.sound;
@@ -144,7 +146,7 @@ module _ {B L : Type 0} (G : Ghosts B L) (kept : KeptView) (mid : Mid B L) (asks
       }
 
       pub runs : IsStep G kept after mid.task (step.Runs (record { task = one_on mid.task; stage = Ready mid.local said }))
-      runs = (has-next, refl, ap is_spawn goes.deed ∙ no_spawn, record { live = only.others; active_are = changed.others })
+      runs = (has-next, refl, ap is_spawn goes.deed ∙ no_spawn, record { live = only.others; active_are = changed.others }, λ is. childless (sym goes.deed ∙ is))
 
     abbrev n : ℕ
     n = mid.task.number
@@ -161,9 +163,9 @@ module _ {B L : Type 0} (G : Ghosts B L) (kept : KeptView) (mid : Mid B L) (asks
     -- a step of which neither the queues nor the objects hear
     pub runs-quiet : (after : KeptView) → IsOnlyLive kept.live after.live n (Some (record has.of.frame { done = mid.task.done + 1 }))
         → after ≡ record kept { reading = gone_on_by kept.reading n 1; live = after.live }
-        → is_queue_deed does ≡ false → is_object_deed does ≡ false → is_spawn does ≡ false
+        → is_queue_deed does ≡ false → is_object_deed does ≡ false → is_spawn does ≡ false → (does ≡ deed.Sync → HasNoLiveChild kept.live n)
         → IsStep G kept after mid.task (step.Runs (record { task = one_on mid.task; stage = Ready mid.local said }))
-    runs-quiet after only is no_queue no_object no_spawn =
+    runs-quiet after only is no_queue no_object no_spawn childless =
         subst (λ k. IsStep G kept k mid.task (step.Runs (record { task = one_on mid.task; stage = Ready mid.local said }))) (sym is)
         (runs (record kept { reading = gone_on_by kept.reading n 1; live = after.live }) only refl refl refl refl
         (queues.others (script G plan) (lawful G kept (asking mid asks) has) kept.reading kept.state kept.turns has.core.queues n mid.task.path mid.task.done (known G kept (asking mid asks) has)
@@ -172,7 +174,7 @@ module _ {B L : Type 0} (G : Ghosts B L) (kept : KeptView) (mid : Mid B L) (asks
         has.of.frame has.of.live after.live does goes.deed has.is.alone.stands.left no_object no_spawn begun.ready only)
         (live.goes G plan kept.reading kept.state kept.live kept.frames has.core.frames n has.of.frame has.of.live a own-live after.live mid.task.path mid.task.done has.is.alone.top next
         has.of.path (done-is G kept (asking mid asks) has) has.is.alone.stands stands-next goes.names (begun.turn a own-live) only)
-        a (record { changed = own-live; others = λ m other. refl }) (has.back a own-live) no_spawn)
+        a (record { changed = own-live; others = λ m other. refl }) (has.back a own-live) no_spawn childless)
 
     -- a write of an object
     pub runs-written : (after : KeptView) (place : ℕ) (value : Value) (origin : Origin) (object : Placed) → IsOnlyLive kept.live after.live n (Some (record has.of.frame { done = mid.task.done + 1 }))
@@ -188,7 +190,7 @@ module _ {B L : Type 0} (G : Ghosts B L) (kept : KeptView) (mid : Mid B L) (asks
         has.of.frame has.of.live after.live place value object origin (after_write kept.versions n place value) (goes.deed ∙ written) has.is.alone.stands.left stands may named refl begun.ready only)
         (live.goes G plan kept.reading kept.state kept.live kept.frames has.core.frames n has.of.frame has.of.live a own-live after.live mid.task.path mid.task.done has.is.alone.top next
         has.of.path (done-is G kept (asking mid asks) has) has.is.alone.stands stands-next goes.names (begun.turn a own-live) only)
-        a (record { changed = own-live; others = λ m other. refl }) (has.back a own-live) (ap is_spawn written))
+        a (record { changed = own-live; others = λ m other. refl }) (has.back a own-live) (ap is_spawn written) (λ same. absurd (cc)))
 
     -- a push, a pop or a test
     pub runs-used : (after : KeptView) → IsOnlyLive kept.live after.live n (Some (record has.of.frame { done = mid.task.done + 1 })) → MayDo kept.state n
@@ -204,4 +206,4 @@ module _ {B L : Type 0} (G : Ghosts B L) (kept : KeptView) (mid : Mid B L) (asks
         has.of.frame has.of.live after.live does goes.deed has.is.alone.stands.left no_object no_spawn begun.ready only)
         (live.goes-used G plan kept.reading kept.state kept.live kept.frames has.core.frames n has.of.frame has.of.live a own-live after.live has.core.queues.tree act
         mid.task.path mid.task.done has.is.alone.top next (after_deed kept.state n) has.of.path (done-is G kept (asking mid asks) has) has.is.alone.stands stands-next goes.names (begun.turn a own-live) refl only)
-        (with_deed a) (one_changed kept.state n with_deed (λ x. refl) a own-live) (has.back a own-live) no_spawn)
+        (with_deed a) (one_changed kept.state n with_deed (λ x. refl) a own-live) (has.back a own-live) no_spawn (λ same. absurd (false≢true (sym (ap is_queue_deed same) ∙ queue))))

@@ -21,11 +21,15 @@ use Rattle.serial_elision.proofs.Lawful.{lawful}
 use Rattle.queues.specs.Asks.{IsRestLeft, is_emptied}
 use Rattle.queues.specs.Tells.{OnQueue, rest_of}
 use Rattle.task_frames.specs.Cores.{IsCore, KeptView}
-use Rattle.task_frames.specs.Leaving.{AreFirst}
 use Rattle.task_frames.specs.Records.{live_at}
 use Rattle.task_frames.proofs.LeftOver.{lists-same, object-left, queue-root, rest-left, rest-may}
 
 -- ---- lists that grow
+
+-- these are the first so many of all
+pub record AreFirst {X : Type 0} (xs : List X) (n : ℕ) (all : List X) : Type 0 where
+  pub many : length xs ≡ n
+  pub each : (i : ℕ) (x : X) → slice_get xs i ≡ Some x → slice_get all i ≡ Some x
 
 pub first-none : {X : Type 0} (left : List X) → AreFirst [] 0 left
 first-none left = record { many = refl; each = λ i x is. absurd (cc) }

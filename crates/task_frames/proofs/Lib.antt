@@ -52,3 +52,5 @@ pub mod SpawnStep
 pub mod AtPlaces
 pub mod Beginning
 pub mod Leaving
+-- the earliest live frame
+pub mod Earliest

@@ -212,6 +212,18 @@ pub come-only : (before after : LiveFrames) (number done : ℕ) (found : Option 
 come-only before after number done None none is = subst (λ fs. IsOnlyLive before fs number None) (sym is) (same before number None none)
 come-only before after number done (Some was) there is = changed before after number was (come_to done was) there is
 
+-- and its children are children still
+pub child-comes : (before after : LiveFrames) (number done parent other : ℕ) → IsOnlyLive before after number (option_map (come_to done) (live_at before number))
+    → IsLiveChild before parent other → IsLiveChild after parent other
+child-comes before after number done parent other only child = elim (cases_eq other number) [
+  | inl same ↦ record {
+    frame = come_to done child.frame;
+    live = ap (live_at after) same ∙ only.own ∙ ap (option_map (come_to done)) (ap (live_at before) (sym same) ∙ child.live);
+    of = child.of;
+  }
+  | inr differs ↦ record { frame = child.frame; live = only.others other differs ∙ child.live; of = child.of }
+]
+
 pub come-keeps : (before after : LiveFrames) (pairs : List Pair) (number done : ℕ) (found : Option LiveFrame) → live_at before number ≡ found → HasChildren before pairs
     → IsStrictlySortedBy nat_cmp (keys_of after) → after ≡ come_at before number done found → HasChildren after pairs
 come-keeps before after pairs number done None none kept sorted is = subst (λ fs. HasChildren fs pairs) (sym is) kept

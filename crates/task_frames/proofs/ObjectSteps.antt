@@ -89,7 +89,7 @@ module _ {B L : Type 0} (G : Ghosts B L) (kept : KeptView) (mid : Mid B L) (plac
       (GoesOn G mid.task.plan mid.task.path mid.task.done has.is.alone.top mid.local (answer.Item value) (deed.Read may.0))
       (reads G mid.task.plan mid.task.path mid.task.done has.is.alone.top mid.local has.is.plan.lists place may.0 (is-asking G kept mid asks has begun) may.1)
       (λ v is goes_v. subst (λ x. GoesOn G mid.task.plan mid.task.path mid.task.done has.is.alone.top mid.local (answer.Item x) (deed.Read may.0)) (same_Some v value (sym is ∙ value_is)) goes_v) in
-      quiet-so G kept mid asks has begun (answer.Item value) (deed.Read may.0) goes after next next_is only after_is refl refl refl
+      quiet-so G kept mid asks has begun (answer.Item value) (deed.Read may.0) goes after next next_is only after_is refl refl refl (λ same. absurd (cc))
 
   pub read-waits : (owing : ℕ) → ((object : Placed) → placed_at kept.versions mid.task.number place ≡ Some object → object.present ≡ owed owing)
       → (after : KeptView) (same : AtCore B L) → after ≡ kept → same ≡ asking mid (ask.Read place) → IsStep G kept after mid.task (step.Waits same (wait.Version owing))

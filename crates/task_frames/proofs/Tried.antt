@@ -25,10 +25,12 @@ use Rattle.serial_elision.proofs.AskSteps.{dry, fails, finishes}
 use Rattle.serial_elision.proofs.TaskSteps.{ends_last, stands-one}
 use Rattle.task_frames.specs.declared.stage.Stage.{Stage}
 use Rattle.task_frames.specs.declared.stage.Stage.TheVariants.{Asking, Ready}
+use Rattle.task_frames.specs.declared.step.Step.{Step}
+use Rattle.task_frames.specs.declared.step.Step.TheVariants as step
 use Rattle.task_frames.specs.Cores.{AtCore, HasIt, KeptView, MayBegin, Mid, asking}
 use Rattle.task_frames.specs.Frames.{Task}
 use Rattle.task_frames.specs.Records.{IsLiveChild, IsOnlyLive, LiveFrame}
-use Rattle.task_frames.specs.Resumes.{EndsByFault, IsLast, deed_now}
+use Rattle.task_frames.specs.Resumes.{EndsByFault, IsLast, IsStep, deed_now}
 use Rattle.task_frames.proofs.Asked.{ends-by}
 use Rattle.task_frames.proofs.Goings.{done-is, lawful, own}
 use Rattle.task_frames.proofs.MayEnd as ending
@@ -182,3 +184,10 @@ pub booked-kept : (kept now : KeptView) (faults : List Fault) (fault : Fault) �
     → ◌≡◌ {A = KeptView} (record kept { faults = faults }) (record now { faults = now.faults ++ fault ∷ [] })
 booked-kept kept now faults fault is same =
     ap {B = KeptView} (λ f. record kept { faults = f }) is ∙ ap {B = KeptView} (λ (k : KeptView). record k { faults = k.faults ++ fault ∷ [] }) same
+
+-- a step is the same whether or not its unit of fuel is taken
+pub paid-step : {B L : Type 0} (G : Ghosts B L) (before after : KeptView) (task : Task B L) (fuel : ℕ) (its : Step B L) → IsStep G before after (record task { fuel = fuel }) its → IsStep G before after task its
+paid-step G before after task fuel (step.Runs next) so = so
+paid-step G before after task fuel (step.Spawned parent new) so = (so.0, so.1, so.2, record { plan = so.3.plan; path = so.3.path; done = so.3.done; other = so.3.other }, so.4, so.5, so.6)
+paid-step G before after task fuel (step.Waits same wait_for) so = so
+paid-step G before after task fuel step.Ended so = so

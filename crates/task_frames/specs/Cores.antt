@@ -1,6 +1,6 @@
 -- The core of a run: what it keeps, and what holds of it.
 use Rattle.std.specs.Option.{ForSome}
-use Rattle.std.specs.Prelude.{◌≡◌, ◌≢◌, ℕ, ◌+◌, ◌<◌, Bool, true, false, Option, Some, None, List, [], is_none, length, map, slice_get}
+use Rattle.std.specs.Prelude.{◌≡◌, ◌≢◌, ℕ, ◌+◌, ◌-◌, ◌<◌, Bool, true, false, Option, Some, None, List, [], is_none, length, map, slice_get}
 use Rattle.swan_model.specs.declared.body.Ask.{Ask}
 use Rattle.swan_model.specs.declared.body.Body.{Ghosts}
 use Rattle.swan_model.specs.declared.fault.Fault.{Fault}
@@ -9,7 +9,8 @@ use Rattle.swan_model.specs.declared.origin.Origin.TheVariants.{Root}
 use Rattle.swan_model.specs.declared.plan.Plan.{Plan}
 use Rattle.swan_model.specs.declared.script.Script.{Script}
 use Rattle.swan_model.specs.QueueFollows.{Fits, QueuesFollow}
-use Rattle.swan_model.specs.QueueState.{ActiveFrame, HasTurn, QueueState, active, planned}
+use Rattle.swan_model.specs.QueueState.{ActiveFrame, HasTurn, QueueState, active, after_back, planned}
+use Rattle.swan_model.specs.Readings.{gone_on_by}
 use Rattle.swan_model.specs.Rights.{is_queue_mode}
 use Rattle.swan_model.specs.Script.{script}
 use Rattle.swan_model.specs.SerialState.{Activation, Holding}
@@ -27,7 +28,7 @@ use Rattle.serial_elision.specs.TaskSteps.{IsFaultOf}
 use Rattle.task_frames.specs.declared.stage.Stage.{Stage}
 use Rattle.task_frames.specs.declared.stage.Stage.TheVariants.{Asking}
 use Rattle.task_frames.specs.Frames.{FrameView, IsPlan, Task, state_of}
-use Rattle.task_frames.specs.Records.{LiveFrame, LiveFrames, live_at}
+use Rattle.task_frames.specs.Records.{LiveFrame, LiveFrames, come_at, live_at}
 
 -- what a core keeps until want of memory
 pub record KeptView : Type 0 where
@@ -183,6 +184,14 @@ pub record IsOf {B L : Type 0} (kept : KeptView) (task : Task B L) : Type 0 wher
 pub record IsGiven {B L : Type 0} (kept : KeptView) (task : Task B L) (ends : LentEnds) : Type 0 where
   pub of : IsOf kept task
   pub lent : IsRecorded kept.state task.number ends
+
+-- What is kept once a frame has come in: its ends are back, and all that it did by itself is done.
+abbrev pub come_in : {B L : Type 0} → KeptView → Task B L → LentEnds → KeptView
+come_in kept task ends = record kept {
+  state = after_back kept.state task.number ends.deeds;
+  reading = gone_on_by kept.reading task.number (task.done - task.since);
+  live = come_at kept.live task.number task.done (live_at kept.live task.number);
+}
 
 -- a frame that has its turn to pop, and waits for nothing that it was given to read
 pub record MayBegin (kept : KeptView) (number : ℕ) : Type 0 where

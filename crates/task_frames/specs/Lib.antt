@@ -5,6 +5,6 @@ pub mod Going
 pub mod Records
 pub mod Cores
 pub mod Resumes
+pub mod Earliest
 pub mod Giving
 pub mod Opened
-pub mod Leaving

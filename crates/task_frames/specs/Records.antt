@@ -48,6 +48,10 @@ pub record IsLiveChild (frames : LiveFrames) (parent number : ℕ) : Type 0 wher
   pub live : live_at frames number ≡ Some frame
   pub of : frame.parent ≡ Some parent
 
+-- no live frame is a child of it
+abbrev pub HasNoLiveChild : LiveFrames → ℕ → Type 0
+HasNoLiveChild frames parent = (number : ℕ) → ¬ IsLiveChild frames parent number
+
 -- the oldest of them, which is the one of the least number
 pub record IsOldestChild (frames : LiveFrames) (parent number : ℕ) : Type 0 where
   pub child : IsLiveChild frames parent number

@@ -1,6 +1,7 @@
 -- What the core makes of a frame that comes to it, and what it answers.
 use Rattle.std.specs.Prelude.{◌≡◌, ◌≢◌, ℕ, ◌+◌, ◌≤◌, ◌⊎◌, true, false, Option, Some, None, List, [], ◌∷◌, ◌++◌, is_some, length}
 use Rattle.std.specs.Option.{ForSome}
+use Rattle.swan_model.specs.declared.body.Answer.TheVariants as answer
 use Rattle.swan_model.specs.declared.body.Ask.{Ask}
 use Rattle.swan_model.specs.declared.body.Ask.TheVariants as ask
 use Rattle.swan_model.specs.declared.body.Body.{Ghosts}
@@ -9,6 +10,7 @@ use Rattle.swan_model.specs.declared.plan.Plan.{Plan}
 use Rattle.swan_model.specs.declared.rights.Mode.TheVariants.{In, Out, Push, Pop}
 use Rattle.swan_model.specs.declared.script.Deed.{Deed}
 use Rattle.swan_model.specs.declared.script.Deed.TheVariants as deed
+use Rattle.swan_model.specs.Elision.{root_holdings}
 use Rattle.swan_model.specs.Granted.{is_spawn}
 use Rattle.swan_model.specs.PathOrder.{comes_before}
 use Rattle.swan_model.specs.QueueState.{ActiveFrame, LentEnd, active, after_lend}
@@ -20,19 +22,20 @@ use Rattle.swan_model.specs.Told.{deed_at}
 use Rattle.swan_model.specs.TrueFrames.{StandsAt}
 use Rattle.swan_model.specs.Versions.{Awaits, Placed, owed, placed_at}
 use Rattle.pop_order.specs.Turns.{Blocks}
+use Rattle.queues.specs.declared.ends.LocalEnds.{Ghosts as EndsMeaning}
 use Rattle.queues.specs.Asks.{LentEnds}
 use Rattle.queues.specs.Tells.{IsCause}
 use Rattle.queues.specs.declared.answers.WaitFor.{WaitFor}
 use Rattle.queues.specs.declared.answers.WaitFor.TheVariants as wait
 use Rattle.serial_elision.specs.TaskSteps.{Faults}
-use Rattle.task_frames.specs.declared.stage.Stage.TheVariants.{Asking}
+use Rattle.task_frames.specs.declared.stage.Stage.TheVariants.{Asking, Ready}
 use Rattle.task_frames.specs.declared.resumed.Resumed.{Resumed}
 use Rattle.task_frames.specs.declared.resumed.Resumed.TheVariants as resumed
 use Rattle.task_frames.specs.declared.step.Step.{Step}
 use Rattle.task_frames.specs.declared.step.Step.TheVariants as step
-use Rattle.task_frames.specs.Cores.{AtCore, CoreView, HasIt, IsCore, IsGiven, KeptView}
-use Rattle.task_frames.specs.Frames.{FrameView, Task, is_whole}
-use Rattle.task_frames.specs.Records.{IsOldestChild, LiveFrame, live_at}
+use Rattle.task_frames.specs.Cores.{AtCore, CoreView, HasIt, IsCore, IsGiven, KeptView, come_in}
+use Rattle.task_frames.specs.Frames.{FrameView, Task, is_whole, root_task}
+use Rattle.task_frames.specs.Records.{HasNoLiveChild, IsOldestChild, LiveFrame, live_at}
 
 -- ---- waits
 
@@ -49,11 +52,19 @@ pub record IsLiveBefore (kept : KeptView) (path : List ℕ) (number : ℕ) : Typ
   pub live : live_at kept.live number ≡ Some frame
   pub earlier : comes_before frame.path path ≡ true
 
--- what the queues answered an active frame about one of them
-pub record IsToldToWait (kept : KeptView) (number : ℕ) (wait_for : WaitFor) : Type 0 where
+-- a frame asks to pop from a queue that it may pop, or whether that is empty
+pub data AsksOf {B L : Type 0} (frame : AtCore B L) (queue : ℕ) : Type 0 where
+  to_pop : (local : L) (place at : ℕ) → frame.stage ≡ Asking local (ask.Pop place) at
+      → number_at frame.task.holdings place Pop ≡ Some queue → AsksOf frame queue
+  to_test : (local : L) (place at : ℕ) → frame.stage ≡ Asking local (ask.Empty place) at
+      → number_at frame.task.holdings place Pop ≡ Some queue → AsksOf frame queue
+
+-- what the queues answered a frame about the queue of which it asks
+pub record IsToldToWait {B L : Type 0} (kept : KeptView) (frame : AtCore B L) (wait_for : WaitFor) : Type 0 where
   pub own : ActiveFrame
-  pub active_is : active kept.state number ≡ Some own
+  pub active_is : active kept.state frame.task.number ≡ Some own
   pub queue : ℕ
+  pub asks : AsksOf frame queue
   pub cause : IsCause kept.name kept.state own queue wait_for
 
 module _ {B L : Type 0} (G : Ghosts B L) where
@@ -81,14 +92,14 @@ module _ {B L : Type 0} (G : Ghosts B L) where
     -- A turn to pop is waited for before the first step, by an older sibling that pops what the frame pops; or where a child pops it.
     pub data WaitsForTurn (number : ℕ) : Type 0 where
       at_start : frame.task.done ≡ 0 → Blocks kept.turns frame.task.number number → WaitsForTurn number
-      at_pop : IsToldToWait kept frame.task.number (wait.PopTurn number) → WaitsForTurn number
+      at_pop : IsToldToWait kept frame (wait.PopTurn number) → WaitsForTurn number
 
     -- What is kept shows a wait.
     abbrev pub IsShown : WaitFor → Type 0
     IsShown (wait.Child n) = IsOldestChild kept.live frame.task.number n × ((deed_now frame.task ≡ deed.Sync) ⊎ IsLast frame.task)
     IsShown (wait.Version n) = WaitsForVersion n
     IsShown (wait.PopTurn n) = WaitsForTurn n
-    IsShown (wait.Pusher n) = IsToldToWait kept frame.task.number (wait.Pusher n)
+    IsShown (wait.Pusher n) = IsToldToWait kept frame (wait.Pusher n)
 
 -- ---- a step at the core
 
@@ -120,11 +131,12 @@ pub record IsChildOf {B L : Type 0} (parent child : Task B L) : Type 0 where
 
 module _ {B L : Type 0} (G : Ghosts B L) (before after : KeptView) (task : Task B L) where
   -- What a step at the core leaves: the frame one step on; or with its child; or as it was, but for the ask of its body, with what it
-  -- waits for; or it has ended.
+  -- waits for; or it has ended. A wait for all children is over only where there is none, and so is the frame.
   abbrev pub IsStep : Step B L → Type 0
   IsStep (step.Runs next) =
       HasIt G after next × IsOneOn task next.task × (is_spawn (deed_now G task) ≡ false)
       × OthersStay before after (λ other. other ≢ task.number)
+      × (deed_now G task ≡ deed.Sync → HasNoLiveChild before.live task.number)
   IsStep (step.Spawned parent new) =
       HasIt G after parent × HasIt G after new × IsOneOn task parent.task × IsChildOf task new.task × (is_spawn (deed_now G task) ≡ true)
       × (live_at before.live new.task.number ≡ None) × OthersStay before after (λ other. (other ≢ task.number) × (other ≢ new.task.number))
@@ -134,6 +146,7 @@ module _ {B L : Type 0} (G : Ghosts B L) (before after : KeptView) (task : Task 
   IsStep step.Ended =
       IsCore G task.plan after × IsLast G task × (is_spawn (deed_now G task) ≡ false)
       × (live_at after.live task.number ≡ None) × OthersStay before after (λ other. other ≢ task.number)
+      × HasNoLiveChild before.live task.number
 
 -- ---- frames that are given
 
@@ -141,6 +154,10 @@ module _ {B L : Type 0} (G : Ghosts B L) (before after : KeptView) (task : Task 
 pub record EndsOf (E : Type 0) : Type 0 where
   pub run : E → List ℕ
   pub ends : E → LentEnds
+
+-- those of a form of hyperqueues
+abbrev pub ends_of : {E : Type 0} → EndsMeaning E → EndsOf E
+ends_of meaning = record { run = meaning.run; ends = meaning.ends }
 
 -- A frame was given as it stood at the core.
 pub record IsGivenAs {B L E : Type 0} (of : EndsOf E) (kept : KeptView) (at : AtCore B L) (frame : FrameView B L E) : Type 0 where
@@ -197,18 +214,19 @@ module _ {B L E : Type 0} (of : EndsOf E) (core : CoreView B L) (frame : FrameVi
     pub plan : frame.task.plan ≡ core.plan
     pub run : of.run frame.ends ≡ core.run
 
--- The wait was shown by what the core kept while the frame's ends were back. The frame that it names is live, and earlier in serial
--- order.
-pub record IsShownBy {B L E : Type 0} (G : Ghosts B L) (core : CoreView B L) (frame : FrameView B L E) (wait_for : WaitFor) : Type 0 where
-  pub shown : KeptView
+-- A frame was given back with a wait. What the core kept once it had come in shows the wait, and the frame that the wait names is
+-- live there, and earlier in serial order. Nothing has changed since then but that the frame's ends were lent anew.
+pub record IsShownBy {B L E : Type 0} (G : Ghosts B L) (of : EndsOf E) (before after : CoreView B L) (frame same : FrameView B L E) (wait_for : WaitFor) : Type 0 where
+  pub was : KeptView
+  pub kept_was : before.kept ≡ Some was
   pub at : AtCore B L
-  pub task : at.task ≡ frame.task
-  pub stage : frame.stage ≡ Some at.stage
-  pub shows : IsShown G shown at wait_for
+  pub task : at.task ≡ same.task
+  pub stage : same.stage ≡ Some at.stage
+  pub shows : IsShown G (come_in was frame.task (of.ends frame.ends)) at wait_for
+  pub earlier : IsLiveBefore (come_in was frame.task (of.ends frame.ends)) same.task.path (waited_for wait_for)
   pub kept : KeptView
-  pub keeps : core.kept ≡ Some kept
-  pub lent : HasLent shown kept frame.task.number
-  pub earlier : IsLiveBefore shown frame.task.path (waited_for wait_for)
+  pub keeps : after.kept ≡ Some kept
+  pub lent : HasLent (come_in was frame.task (of.ends frame.ends)) kept same.task.number
 
 -- the other frames are kept as before
 abbrev pub OthersKept : {B L : Type 0} → (before after : CoreView B L) → (ℕ → Type 0) → Type 0
@@ -218,21 +236,27 @@ OthersKept before after IsOther = ForSome before.kept (λ kept. ForSome after.ke
 abbrev pub HasNone : {B L : Type 0} → CoreView B L → ℕ → Type 0
 HasNone core number = ForSome core.kept (λ kept. live_at kept.live number ≡ None)
 
+-- the core has no live child of the frame of this number
+abbrev pub HasNoChild : {B L : Type 0} → CoreView B L → ℕ → Type 0
+HasNoChild core number = ForSome core.kept (λ kept. HasNoLiveChild kept.live number)
+
 module _ {B Q L E : Type 0} (G : Ghosts B L) (of : EndsOf E) (before after : CoreView B L) (frame : FrameView B L E) where
   abbrev pub IsResumed : Resumed B Q L E → Type 0
   IsResumed (resumed.Runs next steps) =
       (steps.count ≡ 1) × IsGivenBy of after next × IsOneOn frame.task next.task × (is_spawn (deed_now G frame.task) ≡ false)
       × OthersKept before after (λ other. other ≢ frame.task.number)
+      × (deed_now G frame.task ≡ deed.Sync → HasNoChild before frame.task.number)
   IsResumed (resumed.Spawned parent new steps) =
       (steps.count ≡ 1) × IsGivenBy of after parent × IsGivenBy of after new × IsOneOn frame.task parent.task × IsChildOf frame.task new.task
       × (is_spawn (deed_now G frame.task) ≡ true) × HasNone before new.task.number
       × OthersKept before after (λ other. (other ≢ frame.task.number) × (other ≢ new.task.number))
   IsResumed (resumed.Waits same waited) =
-      IsGivenBy of after same × (same.task ≡ record frame.task { since = frame.task.done; fuel = same.task.fuel }) × IsShownBy G after same waited.wait
+      IsGivenBy of after same × (same.task ≡ record frame.task { since = frame.task.done; fuel = same.task.fuel }) × IsShownBy G of before after frame same waited.wait
       × OthersKept before after (λ other. other ≢ frame.task.number)
   IsResumed (resumed.Ended steps) =
       (steps.count ≡ 1) × (is_some after.kept ≡ true) × IsLast G frame.task × (is_spawn (deed_now G frame.task) ≡ false) × HasNone after frame.task.number
       × OthersKept before after (λ other. other ≢ frame.task.number)
+      × HasNoChild before frame.task.number
   IsResumed (resumed.Strange same foreign) =
       (same ≡ frame) × (foreign.number ≡ frame.task.number) × (after ≡ before)
       × ForSome before.kept (λ kept. ¬ IsGiven kept frame.task (of.ends frame.ends))
@@ -246,8 +270,11 @@ OnTried _ Holds = Holds
 
 -- ---- the beginning
 
--- The root is the one frame that the core has, as it gave it.
+-- The root is the one frame that the core has, as it gave it. It has taken no step, and no fault is booked.
 pub record IsOpened {B L E : Type 0} (of : EndsOf E) (core : CoreView B L) (root : FrameView B L E) : Type 0 where
   pub given : IsGivenBy of core root
   pub first : root.task.number ≡ 0
   pub alone : (kept : KeptView) → core.kept ≡ Some kept → (number : ℕ) (live : LiveFrame) → live_at kept.live number ≡ Some live → number ≡ 0
+  pub task : root.task ≡ root_task core.plan (root_holdings core.plan.roots)
+  pub begins : root.stage ≡ Some (Ready core.plan.root_local answer.Start)
+  pub faultless : (kept : KeptView) → core.kept ≡ Some kept → kept.faults ≡ []

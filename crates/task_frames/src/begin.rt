@@ -8,7 +8,7 @@ ghost use Rattle.swan_model.specs.declared.plan.TheConstants.{ROOTS_MOST};
 ghost use Rattle.queues.specs.Asks.{IsSameRun};
 ghost use Rattle.task_frames.specs.Frames.{IsPlan};
 ghost use Rattle.task_frames.specs.Opened.{AreFirstObjects, AreFirstQueues, roots_to};
-ghost use Rattle.task_frames.specs.Resumes.{IsOpened};
+ghost use Rattle.task_frames.specs.Resumes.{IsOpened, ends_of};
 
 use crate::{
     Core, Frame, FrameAtCore, Holding, Kept, KeptReading, LiveFrame, LiveRecord, Run, Stage,
@@ -94,6 +94,7 @@ fn held(alloc: Global, queues: &RootQueues, objects: &Values) -> Result<Vec<Hold
 }
 
 /// Makes the root queues of the plan, one after the other. The answer is the reading that has them. Err is want of memory.
+/// The plan itself is there for what contracts say alone.
 fn make_queues<B: Body, Q: Queues>(
     plan: &Meaning<Plan<B>>,
     queues: &mut Q,
@@ -127,6 +128,7 @@ struct FirstObjects {
 }
 
 /// Makes the root objects of the plan, one after the other, at the places behind those of the queues. Err is want of memory.
+/// The plan itself is there for what contracts say alone.
 fn make_objects<B: Body>(
     alloc: Global,
     plan: &Meaning<Plan<B>>,
@@ -160,12 +162,13 @@ fn make_objects<B: Body>(
 
 impl<B: Body, Q: Queues> Core<B, Q> {
     /// Opens a run of a plan over new queues, whose name means the plan's script. The core has the root alone then, which has
-    /// taken no step. Err is want of memory. `O(r log r)` for r queues and objects that the plan begins with.
+    /// taken no step, and the run of the queues. Err is want of memory. `O(r log r)` for r queues and objects that the plan begins with.
     pub fn open(alloc: Global, plan: Plan<B>, queues: Q) -> Result<Opened<B, Q>, NoMemory>
         requires new { Q.state queues ≡ new_state }
         requires name { Q.name queues ≡ Some (script B.Body plan) }
-        ensures opened { IfOk result (λ it. IsOpened (record { run = Q.Ends.run; ends = Q.Ends.ends }) it.core it.root) }
+        ensures opened { IfOk result (λ it. IsOpened (ends_of Q.Ends.LocalEnds) it.core it.root) }
         ensures plan { IfOk result (λ it. it.core.plan ≡ plan) }
+        ensures run { IfOk result (λ it. it.core.run ≡ Q.run queues) }
         ensures body { IfOk result (λ it. it.body.value ≡ plan.body) }
     {
         let means = Meaning::of(&PlanOf { plan: &plan });

@@ -1,5 +1,6 @@
 // Frames.
 ghost use Rattle.std.specs.Prelude.{◌≡◌, ◌≢◌, ◌+◌, ◌<◌, ◌≤◌, true, false, None, Some, IfOk, IfErr, OnOk, OnErr, if◌then◌else◌};
+ghost use Rattle.task_frames.specs.declared.paused.Paused.TheVariants as paused;
 ghost use Rattle.task_frames.specs.declared.stage.Stage.TheVariants.{Ready};
 ghost use Rattle.swan_model.specs.Lawful.{IsLawful};
 ghost use Rattle.swan_model.specs.QueueFollows.{AreByEnds};
@@ -35,6 +36,7 @@ pub struct Frame<B: Body, Q: Queues> {
 }
 
 impl<B: Body, Q: Queues> Model for Frame<B, Q> {
+    ghost use Rattle.std.specs.Prelude.{◌≡◌, true, is_some};
     ghost use Rattle.task_frames.specs.Frames.{FrameView, IsAnyFrame};
 
     ghost Value = { FrameView B B.Local Q.Ends };
@@ -69,7 +71,8 @@ impl<B: Body, Q: Queues> Model for Frame<B, Q> {
       stage = f.stage;
       mark = f.mark;
       ends = f.ends;
-    }) };
+    })
+        × (f.mark ≡ true → is_some f.stage ≡ true) };
 }
 
 impl<B: Body, Q: Queues> Frame<B, Q> {
@@ -113,7 +116,7 @@ impl<B: Body, Q: Queues> Frame<B, Q> {
     /// its mark, and comes exactly where the queues refuse the ends. It takes no memory. It costs what `Queues::back` costs.
     pub(crate) fn come_back(self, queues: &mut Q) -> Result<FrameAtCore<B>, Frame<B, Q>>
         // whose it is
-        requires whole { is_whole self ≡ true }
+        requires mark { self.mark ≡ true }
         requires own { (Q.Ends.name self.ends ≡ Q.name queues.old) × (Q.Ends.run self.ends ≡ Q.run queues.old) }
         requires path { OnNext (Q.name queues.old) (Q.state queues.old) self.task.number (λ s f. self.task.path ≡ f.path) }
 
@@ -183,11 +186,12 @@ impl<B: Body, Q: Queues> Frame<B, Q> {
         &self.path
     }
 
-    /// Its number. Whatever frame it is, it is true for its plan where no want of memory was met. It takes no memory.
-    /// `O(1)`.
+    /// Its number. Whatever frame it is, it is true for its plan where no want of memory was met; and where its mark stands,
+    /// none was. It takes no memory. `O(1)`.
     pub fn number(&self) -> u64
         ensures number { result ≡ self.now.task.number }
         ensures frame { IsAnyFrame B.Body Q.Ends.name Q.Ends.ends self.now }
+        ensures marked { self.now.mark ≡ true → is_whole self.now ≡ true }
     {
         self.number
     }
@@ -198,6 +202,7 @@ impl<B: Body, Q: Queues> Frame<B, Q> {
     fn work(&mut self, alloc: Global, body: &B, budget: u64) -> Result<u64, NoMemory>
         requires body { body.now ≡ self.old.task.plan.body }
         requires whole { is_whole self.old ≡ true }
+        requires unmarked { self.old.mark ≡ false }
         requires begun { 0 < self.old.task.done }
         requires budget { 0 < budget }
         ensures same { IsSameFrame Q.Ends.name Q.Ends.run Q.Ends.ends Q.Ends.counts self.old self.new }
@@ -267,6 +272,7 @@ impl<B: Body, Q: Queues> Frame<B, Q> {
     fn turn(&mut self, alloc: Global, body: &B, budget: u64) -> Result<Turn, NoMemory>
         requires body { body.now ≡ self.old.task.plan.body }
         requires whole { is_whole self.old ≡ true }
+        requires unmarked { self.old.mark ≡ false }
         requires begun { 0 < self.old.task.done }
         requires budget { 0 < budget }
         ensures same { IsSameFrame Q.Ends.name Q.Ends.run Q.Ends.ends Q.Ends.counts self.old self.new }
@@ -303,6 +309,7 @@ impl<B: Body, Q: Queues> Frame<B, Q> {
     fn run_on(&mut self, alloc: Global, body: &B, budget: u64) -> Paused
         requires body { body.now ≡ self.old.task.plan.body }
         requires whole { is_whole self.old ≡ true }
+        requires unmarked { self.old.mark ≡ false }
         requires begun { 0 < self.old.task.done }
         ensures same { IsSameFrame Q.Ends.name Q.Ends.run Q.Ends.ends Q.Ends.counts self.old self.new }
         ensures mark { self.new.mark ≡ self.old.mark }
@@ -339,20 +346,19 @@ impl<B: Body, Q: Queues> Frame<B, Q> {
     ///   that the frame may not do or that its ends didn't serve, as they found in this call. The frame's mark stands
     ///   then, and after each other answer it doesn't.
     /// - Budget comes once as many steps as the budget were taken, at budget 0 too.
-    /// - NoMemory is want of memory of the body. The frame has no local then, and only `path`, `number` and `tear` may
-    ///   be called on it.
+    /// - NoMemory is want of memory of the body. The frame has no local then, and each later call answers so too.
     ///
     /// The body is that of the plan that the frame's name has. It costs what the steps cost, and `O(1)` for each step that
     /// isn't work.
     pub fn run_local(&mut self, alloc: Global, body: &B, budget: u64) -> Paused
         // what the frame may do
         requires body { body.now ≡ self.old.task.plan.body }
-        requires whole { is_whole self.old ≡ true }
 
         // what is answered
         ensures at_core { OnAtCore result (λ k. k < budget) }
         ensures cause { OnAtCore result (λ k. NeedsCore Q.Ends.ends Q.Ends.counts self.old self.new) }
         ensures budget { OnBudget result (λ k. k ≡ budget) }
+        ensures dead { self.old.stage ≡ None → result ≡ paused.NoMemory }
 
         // what it leaves
         ensures done { OnSteps result (λ k. self.new.task.done ≡ self.old.task.done + k) }
@@ -363,6 +369,9 @@ impl<B: Body, Q: Queues> Frame<B, Q> {
         ensures same { IsSameFrame Q.Ends.name Q.Ends.run Q.Ends.ends Q.Ends.counts self.old self.new }
     {
         self.mark = false;
+        if self.stage.is_none() {
+            return Paused::NoMemory;
+        }
         if budget == 0 {
             return Paused::Budget(Steps::of(0));
         }

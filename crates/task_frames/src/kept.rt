@@ -1,8 +1,7 @@
 // What a core keeps until want of memory.
 ghost use Rattle.std.specs.Prelude.{◌≡◌, ◌≢◌, true, false, Some, IfOk, IfErr, OnOk, OnErr};
-ghost use Rattle.task_frames.specs.Cores.{HasIt, IsCore, IsGiven, is_over};
-ghost use Rattle.task_frames.specs.Frames.{is_whole};
-ghost use Rattle.task_frames.specs.Resumes.{AreOfPlan, HasLent, HaveCome, IsAnswered, IsGivenAs, OthersStay};
+ghost use Rattle.task_frames.specs.Cores.{HasIt, IsCore, IsGiven, come_in, is_over};
+ghost use Rattle.task_frames.specs.Resumes.{AreOfPlan, HasLent, HaveCome, IsAnswered, IsGivenAs, OthersStay, ends_of};
 
 use crate::{Frame, FrameAtCore, KeptReading, LiveRecord, Resumed, Step, Steps, Waited};
 use object_versions::Versions;
@@ -59,7 +58,7 @@ impl<Q: Queues> Kept<Q> {
     pub fn take_in<B: Body>(&mut self, frame: Frame<B, Q>) -> Result<FrameAtCore<B>, Frame<B, Q>>
         // whose it is
         requires core { IsCore B.Body frame.task.plan self.old }
-        requires whole { is_whole frame ≡ true }
+        requires mark { frame.mark ≡ true }
         requires run { Q.Ends.run frame.ends ≡ self.old.run }
 
         // the frame
@@ -71,6 +70,7 @@ impl<Q: Queues> Kept<Q> {
         ensures handed_back { IfErr result (λ back. back ≡ frame) }
 
         // what is kept
+        ensures come { OnOk result (self.new ≡ come_in self.old frame.task (Q.Ends.ends frame.ends)) }
         ensures others { OthersStay self.old self.new (λ other. other ≢ frame.task.number) }
         ensures run { self.new.run ≡ self.old.run }
         ensures err { OnErr result (self.new ≡ self.old) }
@@ -99,7 +99,7 @@ impl<Q: Queues> Kept<Q> {
         requires has { HasIt B.Body self.old at }
 
         // the frame
-        ensures given { IsGivenAs (record { run = Q.Ends.run; ends = Q.Ends.ends }) self.new at result }
+        ensures given { IsGivenAs (ends_of Q.Ends.LocalEnds) self.new at result }
 
         // what is kept
         ensures core { IsCore B.Body at.task.plan self.new }
@@ -109,12 +109,13 @@ impl<Q: Queues> Kept<Q> {
         Frame::given(at, ends)
     }
 
-    /// Gives the frames that came of a step. It takes no memory. `O(1)`, and what `Queues::lend` costs for each.
+    /// Gives the frames that came of a step. It takes no memory. `O(1)`, and what `Queues::lend` costs for each. The plan is
+    /// there for what contracts say alone.
     pub fn answer<B: Body>(&mut self, plan: &Meaning<Plan<B>>, step: Step<B>) -> Resumed<B, Q>
         requires core { IsCore B.Body plan.now.means self.old }
         requires come { HaveCome B.Body self.old step }
         requires plan { AreOfPlan plan.now.means step }
-        ensures answered { IsAnswered (record { run = Q.Ends.run; ends = Q.Ends.ends }) self.old self.new step result }
+        ensures answered { IsAnswered (ends_of Q.Ends.LocalEnds) self.old self.new step result }
         ensures core { IsCore B.Body plan.now.means self.new }
         ensures live { self.new.live ≡ self.old.live }
         ensures run { self.new.run ≡ self.old.run }

@@ -45,7 +45,8 @@ fn fault_order(fault: &Fault, other: &Fault) -> Ordering
     }
 }
 
-/// The value of each root object. Err is want of memory. `O(r log n)` for r of them.
+/// The value of each root object. Err is want of memory. `O(r log n)` for r of them. The plan is there for what contracts
+/// say alone.
 fn values_left<B: Body, Q: Queues>(
     alloc: Global,
     plan: &Meaning<Plan<B>>,
@@ -74,7 +75,8 @@ fn values_left<B: Body, Q: Queues>(
     Ok(values)
 }
 
-/// What is left in each root queue. Err is want of memory. It costs what `Queues::take_rest` costs for each.
+/// What is left in each root queue. Err is want of memory. It costs what `Queues::take_rest` costs for each. The plan is
+/// there for what contracts say alone.
 fn rests_left<B: Body, Q: Queues>(
     alloc: Global,
     plan: &Meaning<Plan<B>>,
@@ -98,7 +100,8 @@ fn rests_left<B: Body, Q: Queues>(
     Ok(lists)
 }
 
-/// The faults in serial order. `O(f log f)` for f faults; it takes no memory.
+/// The faults in serial order. `O(f log f)` for f faults; it takes no memory. The plan is there for what contracts say
+/// alone.
 fn in_serial_order<B: Body>(plan: &Meaning<Plan<B>>, faults: Vec<Fault>) -> Faults
     requires kept { (kept : KeptView) × IsCore B.Body plan.now.means kept × (live_at kept.live 0 ≡ None) × (faults.items ≡ kept.faults) }
     ensures { result ≡ (outcome B.Body plan.now.means).faults }

@@ -46,6 +46,7 @@ mod ending;
 mod frame;
 mod holding;
 mod kept;
+mod laws;
 mod left_over;
 mod live_record;
 mod new_places;
@@ -75,6 +76,10 @@ use children::Children;
 pub use frame::Frame;
 pub use holding::Holding;
 use kept::Kept;
+pub use laws::{
+    a_core_is_never_stuck, live_frames_stand_in_serial_order, objects_follow_local_steps,
+    paths_stand_in_one_order,
+};
 use live_record::{LiveFrame, LiveRecord};
 pub use outcome::{Ran, RunOutcome};
 pub use paused::Paused;

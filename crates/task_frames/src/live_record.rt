@@ -136,7 +136,8 @@ impl LiveRecord {
     /// Notes that a frame is given with so many steps done. It changes nothing for one that isn't there. `O(log n)`; it
     /// takes no memory.
     pub fn come_to(&mut self, number: u64, done: u64)
-        ensures { IsOnlyLive self.old self.new number (option_map (come_to done) (live_at self.old number)) }
+        ensures come { self.new ≡ come_at self.old number done (live_at self.old number) }
+        ensures only { IsOnlyLive self.old self.new number (option_map (come_to done) (live_at self.old number)) }
     {
         come_to(&mut self.frames, number, done);
     }

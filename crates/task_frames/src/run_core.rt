@@ -4,8 +4,7 @@ ghost use Rattle.swan_model.specs.Elision.{outcome};
 ghost use Rattle.swan_model.specs.Script.{script};
 ghost use Rattle.std.specs.Option.{ForSome};
 ghost use Rattle.task_frames.specs.Cores.{IsCoreView, IsGiven};
-ghost use Rattle.task_frames.specs.Frames.{is_whole};
-ghost use Rattle.task_frames.specs.Resumes.{IsResumed, OnTried};
+ghost use Rattle.task_frames.specs.Resumes.{IsResumed, OnTried, ends_of};
 ghost use Rattle.task_frames.specs.declared.resumed.Resumed.TheVariants as resumed;
 
 use crate::{Foreign, Frame, Kept, PlanRun, Resumed, Run, Step, Steps, Waited};
@@ -66,17 +65,16 @@ impl<B: Body, Q: Queues> Core<B, Q> {
     /// - NoMemory is want of memory. The frame is torn, and each later call answers so too.
     ///
     /// The mark stands in no frame that is given but that of Strange. The frame and the body are those of the plan that the core's
-    /// name has, and the frame's last `run_local` answered AtCore. It costs `O(k log n)` for k places that the step is about,
+    /// name has, and the frame's mark stands: its last `run_local` answered AtCore. It costs `O(k log n)` for k places that the step is about,
     /// all of them at its first step, a comparison of the frame's path and places, and what the queues and the body take.
     pub fn resume(&mut self, alloc: Global, body: &B, frame: Frame<B, Q>) -> Resumed<B, Q>
         // which frames
         requires name { (frame.task.plan ≡ self.old.plan) × (Q.Ends.run frame.ends ≡ self.old.run) }
         requires mark { frame.mark ≡ true }
-        requires whole { is_whole frame ≡ true }
         requires body { body.now ≡ self.old.plan.body }
 
         // what is answered, and what it leaves
-        ensures resumed { IsResumed B.Body (record { run = Q.Ends.run; ends = Q.Ends.ends }) self.old self.new frame result }
+        ensures resumed { IsResumed B.Body (ends_of Q.Ends.LocalEnds) self.old self.new frame result }
         ensures given { OnTried result (ForSome self.old.kept (λ kept. IsGiven kept frame.task (Q.Ends.ends frame.ends))) }
         ensures dead { self.old.kept ≡ None → result ≡ resumed.NoMemory }
         ensures plan { self.new.plan ≡ self.old.plan }

@@ -1,9 +1,8 @@
 // Tests of frames: what a frame answers, call by call, over queues whose ends serve nothing.
-ghost use Rattle.std.specs.Prelude.{◌≡◌, ◌≤◌, ◌∷◌, [], IfOk, map, true};
+ghost use Rattle.std.specs.Prelude.{◌≡◌, ◌≤◌, ◌∷◌, [], IfOk, map};
 ghost use Rattle.swan_model.specs.Elision.{root};
 ghost use Rattle.swan_model.specs.SerialState.{Holding as Held};
 ghost use Rattle.swan_model.specs.declared.rights.Mode.TheVariants.{PushPop};
-ghost use Rattle.task_frames.specs.Frames.{is_whole};
 
 use crate::asks::Asks;
 use crate::{Frame, FrameAtCore, Holding, Paused, Stage, TaskAtCore};
@@ -66,8 +65,7 @@ fn plan(alloc: Global, asks: Vec<Ask<usize>>, fails: usize, fuel: u64) -> Result
 /// The root of a run of the plan.
 fn root_of(alloc: Global, plan: &Plan<Asks>) -> Result<Frame<Asks, BookQueues>, NoMemory>
     requires { map (λ (h : Held). h.mode) (root plan.now).holdings ≡ PushPop ∷ [] }
-    ensures plan { IfOk result (λ frame. frame.task.plan ≡ plan.now) }
-    ensures whole { IfOk result (λ frame. is_whole frame ≡ true) }
+    ensures { IfOk result (λ frame. frame.task.plan ≡ plan.now) }
 {
     let _lists = plan.roots.queues();
     let fuel = plan.fuel.units();
@@ -97,8 +95,7 @@ fn root_of(alloc: Global, plan: &Plan<Asks>) -> Result<Frame<Asks, BookQueues>, 
 /// The root of a run of the plan, as it is given after its first step, which has to be work.
 fn begun_of(alloc: Global, plan: &Plan<Asks>) -> Result<Frame<Asks, BookQueues>, Fail>
     requires { map (λ (h : Held). h.mode) (root plan.now).holdings ≡ PushPop ∷ [] }
-    ensures plan { IfOk result (λ frame. frame.task.plan ≡ plan.now) }
-    ensures whole { IfOk result (λ frame. is_whole frame ≡ true) }
+    ensures { IfOk result (λ frame. frame.task.plan ≡ plan.now) }
 {
     let _lists = plan.roots.queues();
     let fuel = plan.fuel.units();
@@ -152,8 +149,7 @@ fn calls_answer(
     mut frame: Frame<Asks, BookQueues>,
     calls: &[Call],
 ) -> bool
-    requires body { body.now ≡ frame.task.plan.body }
-    requires whole { is_whole frame ≡ true }
+    requires { body.now ≡ frame.task.plan.body }
 {
     for call in calls {
         let paused = frame.run_local(alloc, body, call.budget);

@@ -3,13 +3,14 @@ use Rattle.std.proofs.Common.{◌≡◌, true, false, [], ◌∷◌, ◌++◌, l
 use Rattle.std.proofs.lemmas.List.{nil_from_length}
 use Rattle.swan_model.specs.declared.outcome.Outcome.{Outcome}
 use Rattle.swan_model.specs.declared.plan.Plan.{Plan}
+use Rattle.task_frames.specs.Resumes.{ends_of}
 use Rattle.serial_elision.proofs.Counts.{length-outcome_objects, length-outcome_queues}
 use Rattle.swan_runtime.proofs.Turning.{nobody-left, opened-stack}
 use Rattle.swan_runtime.proofs.alone.run_alone.Goals as goal
 
 pub loop-frame-init : goal.loop-frame-init
 loop-frame-init g c =
-    let stack = opened-stack (record { run = g.Q.Ends.LocalEnds.run; ends = g.Q.Ends.LocalEnds.ends }) c.args.opened.core c.args.opened.root c.requires.opened in
+    let stack = opened-stack (ends_of g.Q.Ends.LocalEnds) c.args.opened.core c.args.opened.root c.requires.opened in
     let items = c.in_ok-push.ensures.items ∙ ap (λ l. l ++ c.args.opened.root ∷ []) c.new-stack.ensures.items in
     record {
       stack = rw (sym items) at stack;
@@ -22,7 +23,7 @@ unreachable-requires g c =
     let none : length c.loop-frame.stack.items ≡ 0 = omega (arith, c.loop-frame.stack.ok, c.in_default.ensures.cases.0) in
     let left = nil_from_length c.loop-frame.stack.items none in
     let stack = rw left at c.loop-frame.invariant.stack in
-    let done = nobody-left (record { run = g.Q.Ends.LocalEnds.run; ends = g.Q.Ends.LocalEnds.ends }) c.loop-frame.core g.B.Body c.is_done.ensures.core stack in
+    let done = nobody-left (ends_of g.Q.Ends.LocalEnds) c.loop-frame.core g.B.Body c.is_done.ensures.core stack in
     let no : true ≡ false = sym done ∙ sym c.is_done.ensures.done ∙ c.if-not-is_done.true in
     absurd (cc)
 

@@ -1,11 +1,12 @@
 use Rattle.std.proofs.Common.{◌≡◌}
 use Rattle.swan_runtime.specs.Stacks.{IsStack, turns_left}
+use Rattle.task_frames.specs.Resumes.{ends_of}
 use Rattle.swan_runtime.proofs.alone.run_alone.Given as goal
 
 abbrev pub invariant-loop-frame : goal.invariant-loop-frame
 invariant-loop-frame g l =
     record {
-      stack : IsStack (record { run = g.Q.Ends.LocalEnds.run; ends = g.Q.Ends.LocalEnds.ends }) l.core l.stack.items;
+      stack : IsStack (ends_of g.Q.Ends.LocalEnds) l.core l.stack.items;
       plan : l.core.plan ≡ l.fn.opened.core.plan;
       body : l.body.value ≡ l.core.plan.body;
     }

@@ -1,5 +1,6 @@
 use Rattle.std.proofs.Common.{◌∷◌, ◌++◌, [], arith, sym, ap, ◌∙◌}
 use Rattle.swan_model.specs.declared.plan.Plan.{Plan}
+use Rattle.task_frames.specs.Resumes.{ends_of}
 use Rattle.swan_runtime.proofs.Spending.{fuel-is, left-more, some_is}
 use Rattle.swan_runtime.proofs.Stacking.{top-given}
 use Rattle.swan_runtime.proofs.Turning.{fewer-runs, fewer-spawns, moved-named, never-strange, never-waits, stack-ends, stack-runs, stack-spawns}
@@ -7,13 +8,8 @@ use Rattle.swan_runtime.proofs.alone.turn.Goals as goal
 
 pub run_local-requires-clause-body : goal.run_local-requires-clause-body
 run_local-requires-clause-body g c κs within =
-    let given = top-given (record { run = g.Q.Ends.LocalEnds.run; ends = g.Q.Ends.LocalEnds.ends }) c.args.core.now c.args.stack.now.items c.args.frame c.requires.stack.stacked in
+    let given = top-given (ends_of g.Q.Ends.LocalEnds) c.args.core.now c.args.stack.now.items c.args.frame c.requires.stack.stacked in
     c.requires.body ∙ ap (λ (p : Plan g.row.B.Denot g.row.B-Local.Denot). p.body) (sym given.plan)
-
-pub run_local-requires-clause-whole : goal.run_local-requires-clause-whole
-run_local-requires-clause-whole g c κs within =
-    let given = top-given (record { run = g.Q.Ends.LocalEnds.run; ends = g.Q.Ends.LocalEnds.ends }) c.args.core.now c.args.stack.now.items c.args.frame c.requires.stack.stacked in
-    given.whole
 
 pub resume-requires-clause-name : goal.resume-requires-clause-name
 resume-requires-clause-name g c κs within =
@@ -44,7 +40,7 @@ returns-in_ok-push-in-Runs-clause-stack g c =
 pub returns-in_ok-push-in-Runs-clause-fewer : goal.returns-in_ok-push-in-Runs-clause-fewer
 returns-in_ok-push-in-Runs-clause-fewer g c =
     let said = c.in-Runs.ensures in
-    let given = top-given (record { run = g.Q.Ends.LocalEnds.run; ends = g.Q.Ends.LocalEnds.ends }) c.args.core.now c.args.stack.now.items c.args.frame c.requires.stack.stacked in
+    let given = top-given (ends_of g.Q.Ends.LocalEnds) c.args.core.now c.args.stack.now.items c.args.frame c.requires.stack.stacked in
     let fewer = fewer-runs g.B.Body g.Q.Ends.LocalEnds.name g.Q.Ends.LocalEnds.run g.Q.Ends.LocalEnds.ends g.Q.Ends.LocalEnds.counts
     c.args.stack.now.items c.args.frame c.run_local.new.self c.run_local.ensures.same c.in-AtCore.field-0.count c.in-AtCore.ensures.done
     (fuel-is g.B.Body g.Q.Ends.LocalEnds.name g.Q.Ends.LocalEnds.ends c.args.frame given.whole c.number.ensures.frame)
@@ -65,7 +61,7 @@ pub returns-in_ok-push-in-Spawned-2-clause-fewer :
     goal.returns-in_ok-push-in-Spawned-2-clause-fewer
 returns-in_ok-push-in-Spawned-2-clause-fewer g c =
     let said = c.in-Spawned.ensures in
-    let given = top-given (record { run = g.Q.Ends.LocalEnds.run; ends = g.Q.Ends.LocalEnds.ends }) c.args.core.now c.args.stack.now.items c.args.frame c.requires.stack.stacked in
+    let given = top-given (ends_of g.Q.Ends.LocalEnds) c.args.core.now c.args.stack.now.items c.args.frame c.requires.stack.stacked in
     let items = c.in_ok-push-in-Spawned-2.ensures.items ∙ ap (λ l. l ++ c.in-Spawned.child ∷ []) c.in_ok-push-in-Spawned.ensures.items in
     let fewer = fewer-spawns g.B.Body g.Q.Ends.LocalEnds.name g.Q.Ends.LocalEnds.run g.Q.Ends.LocalEnds.ends g.Q.Ends.LocalEnds.counts
     c.args.stack.now.items c.args.frame c.run_local.new.self c.run_local.ensures.same c.in-AtCore.field-0.count c.in-AtCore.ensures.done

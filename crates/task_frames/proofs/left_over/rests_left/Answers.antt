@@ -6,8 +6,7 @@ use Rattle.swan_model.specs.QueueState.{QueueState}
 use Rattle.serial_elision.proofs.Counts.{length-outcome_queues}
 use Rattle.queues.specs.Asks.{is_emptied}
 use Rattle.queues.specs.Tells.{OnQueue, rest_of}
-use Rattle.task_frames.specs.Leaving.{AreFirst}
-use Rattle.task_frames.proofs.Leaving.{first-all, first-more, first-none, fresh-more, rest-free, rest-is}
+use Rattle.task_frames.proofs.Leaving.{AreFirst, first-all, first-more, first-none, fresh-more, rest-free, rest-is}
 use Rattle.task_frames.proofs.left_over.rests_left.Goals as goal
 
 pub loop-index-init : goal.loop-index-init

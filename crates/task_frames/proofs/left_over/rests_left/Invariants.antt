@@ -1,7 +1,7 @@
 use Rattle.std.proofs.Common.{◌≡◌, ◌≤◌, ℕ, false}
 use Rattle.swan_model.specs.Elision.{outcome}
 use Rattle.queues.specs.Asks.{is_emptied}
-use Rattle.task_frames.specs.Leaving.{AreFirst}
+use Rattle.task_frames.proofs.Leaving.{AreFirst}
 use Rattle.task_frames.proofs.left_over.rests_left.Given as goal
 
 abbrev pub invariant-loop-index : goal.invariant-loop-index

@@ -5,8 +5,7 @@ use Rattle.swan_model.specs.Elision.{outcome}
 use Rattle.swan_model.specs.Versions.{Placed, VersionState, owed, placed_at, settled}
 use Rattle.serial_elision.proofs.Counts.{length-outcome_objects}
 use Rattle.task_frames.specs.Cores.{KeptView}
-use Rattle.task_frames.specs.Leaving.{AreFirst}
-use Rattle.task_frames.proofs.Leaving.{first-all, first-more, first-none, never-owed, root-placed, value-left}
+use Rattle.task_frames.proofs.Leaving.{AreFirst, first-all, first-more, first-none, never-owed, root-placed, value-left}
 use Rattle.task_frames.proofs.left_over.values_left.Goals as goal
 
 pub value-requires : goal.value-requires

@@ -1,5 +1,5 @@
 use Rattle.swan_model.specs.Elision.{outcome}
-use Rattle.task_frames.specs.Leaving.{AreFirst}
+use Rattle.task_frames.proofs.Leaving.{AreFirst}
 use Rattle.task_frames.proofs.left_over.values_left.Given as goal
 
 abbrev pub invariant-loop-index : goal.invariant-loop-index

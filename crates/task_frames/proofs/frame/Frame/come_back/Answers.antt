@@ -2,19 +2,19 @@ use Rattle.std.proofs.Common.{◌≡◌, true, Some, sym, subst, ap, ◌∙◌}
 use Rattle.swan_model.specs.Lawful.{IsLawful}
 use Rattle.swan_model.specs.QueueFollows.{AreByEnds}
 use Rattle.queues.specs.Asks.{OnNext}
-use Rattle.task_frames.specs.Frames.{FrameView, IsFrame, Task, is_whole}
+use Rattle.task_frames.specs.Frames.{FrameView, IsFrame, Task}
 use Rattle.task_frames.proofs.Amid.{some-of}
 use Rattle.task_frames.proofs.frame.Frame.come_back.Goals as goal
 
 pub back-requires-clause-path : goal.back-requires-clause-path
 back-requires-clause-path g c = λ s named own live.
     let View : Type 0 = FrameView g.row.B.Denot g.row.B-Local.Denot g.row.Q-Ends.Denot in
-    let whole = some-of c.self.inside.stage (subst (λ (f : View). is_whole f ≡ true) (sym c.self.view_is) c.requires.whole) in
+    let whole = some-of c.self.inside.stage (c.self.invariant.1 (ap (λ (f : View). f.mark) c.self.view_is ∙ c.requires.mark)) in
     let path = subst (λ (f : View). OnNext (g.Q.Queues.name c.args.queues.now) (g.Q.Queues.state c.args.queues.now) f.task.number (λ z x. f.task.path ≡ x.path)) (sym c.self.view_is) c.requires.path in
-    (c.self.invariant whole.0 whole.1).lent.path ∙ path s named own live
+    (c.self.invariant.0 whole.0 whole.1).lent.path ∙ path s named own live
 
 pub invariant_of-result : goal.invariant_of-result
-invariant_of-result g c = λ x is.
+invariant_of-result g c =
     let task : Task g.row.B.Denot g.row.B-Local.Denot = record {
       plan = c.self.inside.plan.means;
       number = c.self.inside.number;
@@ -24,13 +24,15 @@ invariant_of-result g c = λ x is.
       fuel = c.self.inside.fuel;
       holdings = c.self.inside.holdings.items;
       children = c.self.inside.children;
-    } in
-    subst (λ e. IsFrame g.B.Body task (g.Q.Ends.LocalEnds.name e) (g.Q.Ends.LocalEnds.ends e) x) (sym c.in-Err.ensures.handed_back) (c.self.invariant x is)
+    } in (
+      (λ x is. subst (λ e. IsFrame g.B.Body task (g.Q.Ends.LocalEnds.name e) (g.Q.Ends.LocalEnds.ends e) x) (sym c.in-Err.ensures.handed_back) (c.self.invariant.0 x is)),
+      c.self.invariant.1,
+    )
 
 pub returns-in-Some-clause-is : goal.returns-in-Some-clause-is
 returns-in-Some-clause-is g c =
     subst (λ (f : FrameView g.row.B.Denot g.row.B-Local.Denot g.row.Q-Ends.Denot). IsFrame g.B.Body f.task (g.Q.Ends.LocalEnds.name f.ends) (g.Q.Ends.LocalEnds.ends f.ends) c.in-Some.stage)
-    c.self.view_is (c.self.invariant c.in-Some.stage c.in-Some.is)
+    c.self.view_is (c.self.invariant.0 c.in-Some.stage c.in-Some.is)
 
 pub returns-in-Some-clause-by_ends : goal.returns-in-Some-clause-by_ends
 returns-in-Some-clause-by_ends g c =

@@ -9,33 +9,33 @@ use Rattle.task_frames.proofs.frame.Frame.step.Goals as goal
 pub serve-requires-clause-room : goal.serve-requires-clause-room
 serve-requires-clause-room g c κs within =
     let was = sym c.take.ensures.value ∙ c.in-Some-Asking.is ∙ ap Some c.in-Some-Asking.field-0-is in
-    room g.B.Body _ _ _ c.in-Some-Asking.local c.in-Some-Asking.ask c.in-Some-Asking.place (c.self.invariant _ was)
+    room g.B.Body _ _ _ c.in-Some-Asking.local c.in-Some-Asking.ask c.in-Some-Asking.place (c.self.invariant.0 _ was)
 
 pub serve-requires-clause-next : goal.serve-requires-clause-next
 serve-requires-clause-next g c κs within =
     let was = sym c.take.ensures.value ∙ c.in-Some-Asking.is ∙ ap Some c.in-Some-Asking.field-0-is in
     subst (λ hs. IsNextDeed (g.Q.Ends.LocalEnds.name c.self.inside.ends) hs (g.Q.Ends.LocalEnds.ends c.self.inside.ends) c.in-Some-Asking.ask) (sym c.as_slice.ensures.value)
-    (next-ask g.B.Body _ _ _ c.in-Some-Asking.local c.in-Some-Asking.ask c.in-Some-Asking.place (c.self.invariant _ was))
+    (next-ask g.B.Body _ _ _ c.in-Some-Asking.local c.in-Some-Asking.ask c.in-Some-Asking.place (c.self.invariant.0 _ was))
 
 pub overflow_add-self : goal.overflow_add-self
 overflow_add-self g c =
     let was = sym c.take.ensures.value ∙ c.in-Some-Asking.is ∙ ap Some c.in-Some-Asking.field-0-is in
-    let less = few g.B.Body _ _ _ _ (c.self.invariant _ was) in
+    let less = few g.B.Body _ _ _ _ (c.self.invariant.0 _ was) in
     omega (arith, less)
 
 pub invariant_of-self : goal.invariant_of-self
 invariant_of-self g c =
     let was = sym c.take.ensures.value ∙ c.in-Some-Asking.is ∙ ap Some c.in-Some-Asking.field-0-is in
     let says = subst (λ hs. IsAnswerTo (g.Q.Ends.LocalEnds.name c.self.inside.ends) hs (g.Q.Ends.LocalEnds.ends c.self.inside.ends) c.in-Some-Asking.ask c.in-Ok.said) c.as_slice.ensures.value c.in-Ok.ensures.answer in
-    for-one _ _ (served g.B.Body _ _ _ c.in-Some-Asking.local c.in-Some-Asking.ask c.in-Some-Asking.place c.in-Ok.said _ _ (c.self.invariant _ was) (search rules) says c.in-Ok.ensures.same.0 c.in-Ok.ensures.ok)
+    (for-one _ _ (served g.B.Body _ _ _ c.in-Some-Asking.local c.in-Some-Asking.ask c.in-Some-Asking.place c.in-Ok.said _ _ (c.self.invariant.0 _ was) (search rules) says c.in-Ok.ensures.same.0 c.in-Ok.ensures.ok), λ _. refl)
 
 pub invariant_of-self-in-Err : goal.invariant_of-self-in-Err
 invariant_of-self-in-Err g c =
     let was = sym c.take.ensures.value ∙ c.in-Some-Asking.is ∙ ap Some c.in-Some-Asking.field-0-is in
-    for-one _ _ (same-ends g.B.Body _ _ _ c.in-Some-Asking.local c.in-Some-Asking.ask c.in-Some-Asking.place c.in-Err.ask _ _ (c.self.invariant _ was) c.in-Err.ensures.handed_back c.in-Err.ensures.same.0 c.in-Err.ensures.err)
+    (for-one _ _ (same-ends g.B.Body _ _ _ c.in-Some-Asking.local c.in-Some-Asking.ask c.in-Some-Asking.place c.in-Err.ask _ _ (c.self.invariant.0 _ was) c.in-Err.ensures.handed_back c.in-Err.ensures.same.0 c.in-Err.ensures.err), λ _. refl)
 
 pub invariant_of-self-in-Some-Ready : goal.invariant_of-self-in-Some-Ready
-invariant_of-self-in-Some-Ready g c = for-one _ _ (c.self.invariant _ (sym c.take.ensures.value ∙ c.in-Some-Ready.is ∙ ap Some c.in-Some-Ready.field-0-is))
+invariant_of-self-in-Some-Ready g c = (for-one _ _ (c.self.invariant.0 _ (sym c.take.ensures.value ∙ c.in-Some-Ready.is ∙ ap Some c.in-Some-Ready.field-0-is)), λ _. refl)
 
 pub returns-in-Err-clause-cause : goal.returns-in-Err-clause-cause
 returns-in-Err-clause-cause g c =

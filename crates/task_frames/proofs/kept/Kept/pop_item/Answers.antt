@@ -1,4 +1,4 @@
-use Rattle.std.proofs.Common.{sym, subst, ◌<◌, ◌≡◌, Some}
+use Rattle.std.proofs.Common.{refl, sym, subst, ◌<◌, ◌≡◌, Some}
 use Rattle.swan_model.specs.declared.rights.Mode.TheVariants.{Pop}
 use Rattle.swan_model.specs.declared.script.Deed.TheVariants as deed
 use Rattle.swan_model.specs.QueueFollows.{IsNextAbout, next_item}
@@ -7,6 +7,7 @@ use Rattle.queues.specs.Tells.{FindsItem, FindsNone, IsCause, OnQueue}
 use Rattle.task_frames.specs.Cores.{STEPS_MOST}
 use Rattle.task_frames.proofs.Asked.{noted-so, steps-few}
 use Rattle.task_frames.proofs.AtQueues.{deed-kept, finds-one, item-steps, pop-may, state-kept, turn, waits}
+use Rattle.task_frames.specs.Resumes.{to_pop}
 use Rattle.task_frames.proofs.Given.{over}
 use Rattle.task_frames.proofs.kept.Kept.pop_item.Goals as goal
 
@@ -45,5 +46,5 @@ returns-in-Item-clause-step g c =
 pub returns-in-NotYet-clause-step : goal.returns-in-NotYet-clause-step
 returns-in-NotYet-clause-step g c =
     waits g.B.Body _ _ _ c.requires.has _ c.asks.result c.args.queue c.in-NotYet.wait
-    (state-kept _ _ _ _ _ c.self.view_is c.in-NotYet.ensures.same.0 c.in-NotYet.ensures.same.1 c.in-NotYet.ensures.after) c.asks.ensures
+    (state-kept _ _ _ _ _ c.self.view_is c.in-NotYet.ensures.same.0 c.in-NotYet.ensures.same.1 c.in-NotYet.ensures.after) c.asks.ensures (to_pop _ _ _ refl c.requires.at)
     (over (λ k n. OnActive k.state n (λ b. IsCause k.name k.state b c.args.queue c.in-NotYet.wait)) _ _ _ _ (sym c.self.view_is) (sym c.number-number.ensures) c.in-NotYet.ensures.answer)

@@ -11,6 +11,7 @@ use Rattle.task_frames.specs.Frames.{Task}
 use Rattle.task_frames.specs.Records.{IsLiveChild, IsOldestChild}
 use Rattle.task_frames.proofs.AtQueues.{dry-ends, dry-join, dry-kept, dry-over, dry-turn, finds-one, none-last, pop-may, state-kept, turn, waits}
 use Rattle.task_frames.proofs.Firsts.{waits-oldest}
+use Rattle.task_frames.specs.Resumes.{to_pop}
 use Rattle.task_frames.proofs.Given.{over}
 use Rattle.task_frames.proofs.Tried.{childless-so, left-over, settled-so}
 use Rattle.task_frames.proofs.kept.Kept.pop_none.Goals as goal
@@ -84,5 +85,5 @@ returns-in_ok-leave-in-Empty-clause-step g c =
 pub returns-in-NotYet-clause-step : goal.returns-in-NotYet-clause-step
 returns-in-NotYet-clause-step g c =
     waits g.B.Body _ _ _ c.requires.has _ c.asks-in-NotYet.result c.args.queue c.in-NotYet.wait
-    (state-kept _ _ _ _ _ c.self.view_is c.in-NotYet.ensures.same.0 c.in-NotYet.ensures.same.1 c.in-NotYet.ensures.after) c.asks-in-NotYet.ensures
+    (state-kept _ _ _ _ _ c.self.view_is c.in-NotYet.ensures.same.0 c.in-NotYet.ensures.same.1 c.in-NotYet.ensures.after) c.asks-in-NotYet.ensures (to_pop _ _ _ refl c.requires.at)
     (over (λ k n. OnActive k.state n (λ b. IsCause k.name k.state b c.args.queue c.in-NotYet.wait)) _ _ _ _ (sym c.self.view_is) (sym c.number-number.ensures) c.in-NotYet.ensures.answer)

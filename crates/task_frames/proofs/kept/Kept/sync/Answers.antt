@@ -5,7 +5,7 @@ use Rattle.swan_model.specs.declared.script.Deed.TheVariants as deed
 use Rattle.queues.specs.Asks.{IsOnTurn, MayJoin}
 use Rattle.serial_elision.proofs.AskSteps.{syncs}
 use Rattle.task_frames.specs.Cores.{HasIt, KeptView, MayBegin, STEPS_MOST, asking}
-use Rattle.task_frames.specs.Records.{IsLiveChild, IsOldestChild}
+use Rattle.task_frames.specs.Records.{HasNoLiveChild, IsLiveChild, IsOldestChild}
 use Rattle.task_frames.proofs.Asked.{noted-so, quiet-so, steps-few}
 use Rattle.task_frames.proofs.Firsts.{waits-oldest}
 use Rattle.task_frames.proofs.Given.{over, same-state}
@@ -44,3 +44,4 @@ returns-clause-step g c =
     quiet-so g.B.Body _ _ _ has c.requires.begun answer.Nothing deed.Sync
     (syncs g.B.Body c.args.mid.task.plan c.args.mid.task.path c.args.mid.task.done has.is.alone.top c.args.mid.local has.is.plan.lists (is-asking g.B.Body _ _ _ has c.requires.begun))
     c.note_step.new.self c.is_told-frame.result c.is_told-frame.ensures noted.1 noted.0 refl refl refl
+    (λ _. over (λ k n. HasNoLiveChild k.live n) _ _ _ _ (sym c.self.view_is) (sym c.number-number.ensures) c.in_default.ensures.none)

@@ -2,7 +2,8 @@ use Rattle.std.proofs.Common.{sym, subst}
 use Rattle.swan_model.specs.declared.fault.FaultKind.TheVariants as kind
 use Rattle.serial_elision.proofs.AskSteps.{fails}
 use Rattle.task_frames.specs.Cores.{AtCore, HasIt, asking}
-use Rattle.task_frames.specs.Resumes.{EndsByFault}
+use Rattle.std.specs.Prelude.{IfOk}
+use Rattle.task_frames.specs.Resumes.{EndsByFault, IsStep}
 use Rattle.task_frames.proofs.Asked.{ends-by}
 use Rattle.task_frames.proofs.Goings.{is-asking}
 use Rattle.task_frames.proofs.kept.Kept.take.Goals as goal
@@ -14,3 +15,7 @@ fault-requires-clause-faults g c κs within =
     (subst (λ n. EndsByFault g.B.Body c.args.mid.task n (kind.Trouble c.in-Fail.trouble)) (sym c.at-at.ensures)
     (ends-by g.B.Body _ _ _ has (kind.Trouble c.in-Fail.trouble)
     (fails g.B.Body c.args.mid.task.plan c.args.mid.task.path c.args.mid.task.done has.is.alone.top c.args.mid.local c.in-Fail.trouble (is-asking g.B.Body _ _ _ has c.requires.begun))))
+
+pub returns-in-Fail-clause-step : goal.returns-in-Fail-clause-step
+returns-in-Fail-clause-step g c =
+    subst (λ (f : AtCore g.row.B.Denot g.row.B-Local.Denot). IfOk c.fault.result (IsStep g.B.Body c.args.self.now c.fault.new.self f.task)) c.asks.ensures c.fault.ensures.step

@@ -1,4 +1,4 @@
-use Rattle.std.proofs.Common.{sym, subst, ◌∙◌, ◌<◌, ◌≡◌}
+use Rattle.std.proofs.Common.{refl, sym, subst, ◌∙◌, ◌<◌, ◌≡◌}
 use Rattle.swan_model.specs.declared.rights.Mode.TheVariants.{Pop}
 use Rattle.swan_model.specs.declared.script.Deed.TheVariants as deed
 use Rattle.swan_model.specs.QueueFollows.{IsNextAbout}
@@ -8,6 +8,7 @@ use Rattle.task_frames.specs.Cores.{STEPS_MOST}
 use Rattle.task_frames.proofs.Asked.{noted-so, steps-few}
 use Rattle.swan_model.specs.QueueState.{after_deed}
 use Rattle.task_frames.proofs.AtQueues.{IsToldOf, deed-kept, state-kept, test-may, test-steps, turn, waits}
+use Rattle.task_frames.specs.Resumes.{to_test}
 use Rattle.task_frames.proofs.Given.{over}
 use Rattle.task_frames.proofs.kept.Kept.test.Goals as goal
 use Rattle.task_frames.proofs.kept.Kept.test.Goals.{in-Empty, in-Holds}
@@ -27,7 +28,7 @@ test-requires-clause-next g c =
 pub returns-in-NotYet-clause-step : goal.returns-in-NotYet-clause-step
 returns-in-NotYet-clause-step g c =
     waits g.B.Body _ _ _ c.requires.has _ c.asks.result c.in-Some.queue c.in-NotYet.wait
-    (state-kept _ _ _ _ _ c.self.view_is c.in-NotYet.ensures.same.0 c.in-NotYet.ensures.same.1 c.in-NotYet.ensures.after) c.asks.ensures
+    (state-kept _ _ _ _ _ c.self.view_is c.in-NotYet.ensures.same.0 c.in-NotYet.ensures.same.1 c.in-NotYet.ensures.after) c.asks.ensures (to_test _ _ _ refl (sym c.number_at.ensures ∙ c.in-Some.is))
     (over (λ k n. OnActive k.state n (λ b. IsCause k.name k.state b c.in-Some.queue c.in-NotYet.wait)) _ _ _ _ (sym c.self.view_is) (sym c.number-number.ensures) c.in-NotYet.ensures.answer)
 
 pub note_step-requires-after_bounds : goal.note_step-requires-after_bounds

@@ -19,4 +19,4 @@ returns-clause-step g c =
     let noted = noted-so c.args.self.now _ _ _ _ _ _ refl c.number.ensures c.done.ensures c.note_step.ensures.same c.note_step.ensures.live in
     quiet-so g.B.Body _ _ _ has c.requires.begun answer.Nothing deed.Quiet
     (works g.B.Body c.args.mid.task.plan c.args.mid.task.path c.args.mid.task.done has.is.alone.top c.args.mid.local has.is.plan.lists (is-asking g.B.Body _ _ _ has c.requires.begun))
-    c.note_step.new.self c.is_told-frame.result c.is_told-frame.ensures noted.1 noted.0 refl refl refl
+    c.note_step.new.self c.is_told-frame.result c.is_told-frame.ensures noted.1 noted.0 refl refl refl (λ same. absurd (cc))

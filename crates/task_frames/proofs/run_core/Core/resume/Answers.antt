@@ -2,6 +2,7 @@ use Rattle.std.proofs.Common.{refl, sym, subst, ap, ◌∙◌, Some}
 use Rattle.std.proofs.lemmas.Option.{same_Some}
 use Rattle.task_frames.specs.Cores.{CoreView, IsCore, IsCoreView}
 use Rattle.task_frames.specs.Frames.{Task}
+use Rattle.task_frames.specs.Resumes.{ends_of}
 use Rattle.task_frames.proofs.Answered.{resumed-so, step-core}
 use Rattle.task_frames.proofs.run_core.Core.resume.Goals as goal
 
@@ -32,7 +33,7 @@ returns-in-Ok-step-clause-resumed g c =
     let View : Type 0 = CoreView g.row.B.Denot g.row.B-Local.Denot in
     let is = sym c.take.ensures.value ∙ c.in-Some.is in
     let runs = c.answer-resumed.ensures.run ∙ c.in-Ok-step.ensures.run ∙ c.in-Ok.ensures.run in
-    resumed-so g.B.Body (record { run = g.Q.Ends.LocalEnds.run; ends = g.Q.Ends.LocalEnds.ends }) c.args.self.now _ c.args.frame c.in-Ok.at c.in-Some.kept c.take_in.new.self c.step.new.self c.answer-resumed.new.self
+    resumed-so g.B.Body (ends_of g.Q.Ends.LocalEnds) c.args.self.now _ c.args.frame c.in-Ok.at c.in-Some.kept c.take_in.new.self c.step.new.self c.answer-resumed.new.self
     (ap (λ (v : View). v.kept) (sym c.self.view_is) ∙ is) refl
-    (c.requires.name.0 ∙ ap (λ (v : View). v.plan) (sym c.self.view_is)) (runs ∙ (c.self.invariant.0 c.in-Some.kept is).1) c.in-Ok.ensures.task c.take_in.ensures.others
+    (c.requires.name.0 ∙ ap (λ (v : View). v.plan) (sym c.self.view_is)) (runs ∙ (c.self.invariant.0 c.in-Some.kept is).1) c.in-Ok.ensures.task c.in-Ok.ensures.come c.take_in.ensures.others
     _ c.in-Ok-step.step c.answer-resumed.result c.in-Ok-step.ensures.step c.answer-resumed.ensures.answered

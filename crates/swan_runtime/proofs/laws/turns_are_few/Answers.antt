@@ -1,0 +1,12 @@
+use Rattle.std.proofs.Common.{arith}
+use Rattle.swan_runtime.proofs.Bound.{are-left, few-frames}
+use Rattle.swan_runtime.proofs.laws.turns_are_few.Goals as goal
+
+pub returns-clause-stands : goal.returns-clause-stands
+returns-clause-stands g c = λ opened core turns stack are. (are-left _ _ _ _ _ opened turns core stack are).stands
+
+pub returns-clause-few : goal.returns-clause-few
+returns-clause-few g c = λ opened core turns stack are. let few = (are-left _ _ _ _ _ opened turns core stack are).few in omega (arith, few)
+
+pub returns-clause-shallow : goal.returns-clause-shallow
+returns-clause-shallow g c = λ opened core turns stack are. let left = are-left _ _ _ _ _ opened turns core stack are in few-frames _ _ _ _ _ core stack left.stands left.frames
