@@ -1,6 +1,7 @@
 """How time and memory grow with inputs, with texts, with tasks, with the lines of a job and with its names."""
 from itertools import repeat
 
+import jobs
 from common import folder, growth, least, written
 
 COPY = """swan 1
@@ -18,28 +19,6 @@ task main
     push page line
     empty none lines
     more = not none
-  end
-end
-"""
-
-# Each turn spawns a child that makes a queue, pushes, pops and ends.
-TASKS = """swan 1
-task child
-  queue q int
-  var n int
-  do
-  push q 1
-  pop n q
-end
-task main
-  var i int
-  var more int
-  do
-  more = lt i {n}
-  while more
-    spawn 5 child
-    i = add i 1
-    more = lt i {n}
   end
 end
 """
@@ -85,8 +64,19 @@ with folder() as here:
     series("convert of n lines", lambda times: ["convert", 1, inputs[times]])
     series("bulk of n lines", lambda times: ["bulk", 7, 75_000 * times, 1])
 
-    jobs = {times: written(here, f"tasks{times}", [TASKS.format(n=200_000 * times)]) for times in (1, 2, 4)}
-    series("elide of n spawned tasks", lambda times: ["elide", 10_000_000, jobs[times]])
+    made = {times: written(here, f"queues{times}", [jobs.queues_of_children(200_000 * times)]) for times in (1, 2, 4)}
+    series("elide of n spawned tasks", lambda times: ["elide", 10_000_000, made[times]])
+
+    for name, job, count in [
+        ("n spawned tasks", jobs.queues_of_children, 100_000),
+        ("n inout children", jobs.chain, 100_000),
+        ("n readers and a writer", jobs.readers, 100_000),
+        ("n producers and a consumer", jobs.producers, 100_000),
+        ("n items through five stages", jobs.pipeline, 50_000),
+        ("n dives of 60 tasks", jobs.dives, 2_500),
+    ]:
+        made = {times: written(here, f"run{times}", [job(count * times)]) for times in (1, 2, 4)}
+        series(f"run 1 of {name}", lambda times: ["run", 1, 10_000_000, made[times]])
 
     for name, text in [
         ("lines", lines_job),

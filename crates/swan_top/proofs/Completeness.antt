@@ -12,7 +12,6 @@ use Rattle.line_blocks.specs.TextRoots.{text_names}
 use Rattle.swan_model.specs.Lines.{refusal_of}
 use Rattle.swan_model.specs.Texts.{has_fault}
 use Rattle.swan_model.specs.declared.lines.LinesAnswer.{LinesAnswer}
-use Rattle.swan_model.specs.declared.outcome.Outcome.{Outcome}
 use Rattle.swan_model.specs.declared.plan.Plan.{Plan}
 use Rattle.swan_outside.specs.Counts.{Rose}
 use Rattle.swan_outside.specs.Reads.{IsTooLong}
@@ -24,7 +23,10 @@ use Rattle.swan_top.specs.Decision.{Verdict, prints, refuses, Next, reads, settl
 use Rattle.swan_top.specs.Elisions.{Elisions, converted, indexed}
 use Rattle.swan_top.specs.Headline.{FilesSeen, SinkSeen, Answers, AreRead, IsRead, Ends, FailedToWrite, Follows, ReadRefused, Settles, Wrote, ends_of, usage}
 use Rattle.swan_top.specs.declared.status.Status.{Status}
+use Rattle.swan_top.specs.declared.how.How.{How}
+use Rattle.swan_top.specs.declared.run_end.RunEnd.{RunEnd}
 use Rattle.swan_top.specs.declared.status.Status.TheVariants as status
+use Rattle.swan_top.specs.declared.way.Way.TheVariants as way
 
 -- a text that was read of a file that tells its text is that one
 told_text : (content : Option (List ℕ)) (text read : List ℕ) → IsTold content text → IsRead content read → read ≡ text
@@ -75,38 +77,38 @@ module _ (files : FilesSeen) (well : ¬ Rose files.faults_before files.faults_af
       let same : x ≡ text = told_text (files.content job) text x told is.0 in
       follows.0 ∙ ap (λ t. checked (accepted t)) same ∙ ap checked order.is_accepted ∙ sym order.prints_text
 
-  text_settles : (outcome_over : List ℕ → Outcome) (input text : List ℕ) (read : List (List ℕ)) → IsTold (files.content input) text → TextInOrder outcome_over text verdict → AreRead files.content (input ∷ []) read → Follows files (next_of_text outcome_over input read) verdict' → verdict' ≡ verdict
-  text_settles outcome_over input text [] told order is follows = absurd (not_refused files input text verdict' told well follows)
-  text_settles outcome_over input text (x ∷ xs) told order is follows =
+  text_settles : (end_over : List ℕ → RunEnd) (input text : List ℕ) (read : List (List ℕ)) → IsTold (files.content input) text → TextInOrder end_over text verdict → AreRead files.content (input ∷ []) read → Follows files (next_of_text end_over input read) verdict' → verdict' ≡ verdict
+  text_settles end_over input text [] told order is follows = absurd (not_refused files input text verdict' told well follows)
+  text_settles end_over input text (x ∷ xs) told order is follows =
       let same : x ≡ text = told_text (files.content input) text x told is.0 in
-      follows.0 ∙ ap (λ t. unless_unfit (refusal_of t) (printed text_names (outcome_over t))) same
-      ∙ ap (λ why. unless_unfit why (printed text_names (outcome_over text))) order.none_refused ∙ sym order.prints_outcome
+      follows.0 ∙ ap (λ t. unless_unfit (refusal_of t) (printed text_names (end_over t))) same
+      ∙ ap (λ why. unless_unfit why (printed text_names (end_over text))) order.none_refused ∙ sym order.prints_outcome
 
-  module _ (outcome_of : Plan (List Line) Standing → Outcome) where
+  module _ (end_of : Plan (List Line) Standing → RunEnd) where
     -- a job and inputs that are at hand
-    at_hand : (fuel : ℕ) (text : List ℕ) (inputs : List (List ℕ)) → RunsInOrder outcome_of fuel text inputs verdict → Follows files (next_of_job outcome_of fuel [] (accepted text) inputs) verdict' → verdict' ≡ verdict
+    at_hand : (fuel : ℕ) (text : List ℕ) (inputs : List (List ℕ)) → RunsInOrder end_of fuel text inputs verdict → Follows files (next_of_job end_of fuel [] (accepted text) inputs) verdict' → verdict' ≡ verdict
     at_hand fuel text inputs order follows =
-        let P : Result (List Line) JobFault → Type 0 = λ r. Follows files (next_of_job outcome_of fuel [] r inputs) verdict' in
+        let P : Result (List Line) JobFault → Type 0 = λ r. Follows files (next_of_job end_of fuel [] r inputs) verdict' in
         let comes = subst P order.is_accepted follows in
-        comes.0 ∙ ap (λ why. unless_refused outcome_of order.lines inputs fuel why) order.none_refused ∙ sym order.prints_outcome
+        comes.0 ∙ ap (λ why. unless_refused end_of order.lines inputs fuel why) order.none_refused ∙ sym order.prints_outcome
 
-    generated_settles : (number size : ℕ) → GeneratedInOrder outcome_of number size verdict → Follows files (generated outcome_of number size) verdict' → verdict' ≡ verdict
+    generated_settles : (number size : ℕ) → GeneratedInOrder end_of number size verdict → Follows files (generated end_of number size) verdict' → verdict' ≡ verdict
     unfolding generated GeneratedInOrder
     generated_settles number size = at_hand (bulk_fuel size) (bulk_job size) (bulk_input number size ∷ [])
 
-    run_settles : (fuel : ℕ) (job text : List ℕ) (names inputs read : List (List ℕ)) → IsTold (files.content job) text → AreTold files.content names inputs → RunsInOrder outcome_of fuel text inputs verdict → AreRead files.content (job ∷ names) read → Follows files (next_of_run outcome_of fuel job names read) verdict' → verdict' ≡ verdict
+    run_settles : (fuel : ℕ) (job text : List ℕ) (names inputs read : List (List ℕ)) → IsTold (files.content job) text → AreTold files.content names inputs → RunsInOrder end_of fuel text inputs verdict → AreRead files.content (job ∷ names) read → Follows files (next_of_run end_of fuel job names read) verdict' → verdict' ≡ verdict
     run_settles fuel job text names inputs [] told all order is follows = absurd (not_refused files job text verdict' told well follows)
     run_settles fuel job text names inputs (x ∷ xs) told all order is follows =
         let same : accepted x ≡ Ok order.lines = ap (λ t. accepted t) (told_text (files.content job) text x told is.0) ∙ order.is_accepted in
-        let P : Result (List Line) JobFault → Type 0 = λ r. Follows files (next_of_job outcome_of fuel names r xs) verdict' in
-        let Q : List (List ℕ) → Option (List ℕ) → Type 0 = λ inputs' file. Follows files (unless_unread file (ran outcome_of order.lines inputs' fuel)) verdict' in
+        let P : Result (List Line) JobFault → Type 0 = λ r. Follows files (next_of_job end_of fuel names r xs) verdict' in
+        let Q : List (List ℕ) → Option (List ℕ) → Type 0 = λ inputs' file. Follows files (unless_unread file (ran end_of order.lines inputs' fuel)) verdict' in
         let comes : Q xs (unread names xs) = subst P same follows in
         elim (front_told files.content names inputs xs all is.1) [
           | inl e ↦ (
               let R : List (List ℕ) → Type 0 = λ inputs'. Q inputs' (unread names inputs') in
               let S : Option (List ℕ) → Type 0 = λ file. Q inputs file in
               let ends : Q inputs None = subst S (told_all files.content names inputs all) (subst R e comes) in
-              ends.0 ∙ ap (λ why. unless_refused outcome_of order.lines inputs fuel why) order.none_refused ∙ sym order.prints_outcome)
+              ends.0 ∙ ap (λ why. unless_refused end_of order.lines inputs fuel why) order.none_refused ∙ sym order.prints_outcome)
           | inr u ↦ (
               let S : Option (List ℕ) → Type 0 = λ file. Q xs file in
               let refused : ReadRefused files u.0 verdict' = subst S u.1 comes in
@@ -122,17 +124,17 @@ module _ (files : FilesSeen) (well : ¬ Rose files.faults_before files.faults_af
     leads_in_order (check job) (text ∷ texts) told order leads = check_settles job text leads.texts told.0 order leads.are_read leads.follows
     leads_in_order (elide fuel job names) [] told order leads = absurd order
     leads_in_order (elide fuel job names) (text ∷ inputs) told order leads =
-        run_settles elisions.of_job fuel job text names inputs leads.texts told.0 told.1 order leads.are_read leads.follows
+        run_settles (elisions.of_job way.Elide) fuel job text names inputs leads.texts told.0 told.1 order leads.are_read leads.follows
     leads_in_order (run workers fuel job names) [] told order leads = absurd order
     leads_in_order (run workers fuel job names) (text ∷ inputs) told order leads =
-        run_settles elisions.of_job fuel job text names inputs leads.texts told.0 told.1 order leads.are_read leads.follows
+        run_settles (elisions.of_job way.Run) fuel job text names inputs leads.texts told.0 told.1 order leads.are_read leads.follows
     leads_in_order (index workers input) [] told order leads = absurd order
     leads_in_order (index workers input) (text ∷ texts) told order leads =
         text_settles (indexed elisions) input text leads.texts told.0 order leads.are_read leads.follows
     leads_in_order (convert workers input) [] told order leads = absurd order
     leads_in_order (convert workers input) (text ∷ texts) told order leads =
         text_settles (converted elisions) input text leads.texts told.0 order leads.are_read leads.follows
-    leads_in_order (bulk number size workers) [] told order leads = generated_settles elisions.of_job number size order leads.follows
+    leads_in_order (bulk number size workers) [] told order leads = generated_settles (elisions.of_job way.Run) number size order leads.follows
     leads_in_order (bulk number size workers) (text ∷ texts) told order leads = absurd order
 
 -- where no count of a sink rose, no write failed
@@ -154,8 +156,8 @@ module _ (elisions : Elisions) (files : FilesSeen) (out report : SinkSeen) where
   completes (Some command) status.NoMemory is = λ texts verdict told order well. inl refl
   completes (Some command) status.WriteFailed is =
       λ texts verdict told order well. absurd (no_failed_write out report is.0 well.out_well well.report_well is.2)
-  completes (Some command) status.Done is = written command is.0 status.Done is.1 is.2
-  completes (Some command) status.Faulted is = written command is.0 status.Faulted is.1 is.2
+  completes (Some command) (status.Done how) is = written command is.0 (status.Done how) is.1 is.2
+  completes (Some command) (status.Faulted how) is = written command is.0 (status.Faulted how) is.1 is.2
   completes (Some command) status.Usage is = written command is.0 status.Usage is.1 is.2
   completes (Some command) status.JobRefused is = written command is.0 status.JobRefused is.1 is.2
   completes (Some command) status.ReadFailed is = written command is.0 status.ReadFailed is.1 is.2
@@ -166,41 +168,43 @@ checked_ends : (r : Result (List Line) JobFault) → ends_of (checked r) ≡ sta
 checked_ends (Ok lines) is = cc
 checked_ends (Err fault) is = cc
 
-status_ends : (b : Bool) → (if b then status.Faulted else status.Done) ≡ status.ReadFailed → ⊥
-status_ends true is = cc
-status_ends false is = cc
+status_ends : (how : How) (b : Bool) → (if b then status.Faulted how else status.Done how) ≡ status.ReadFailed → ⊥
+status_ends how true is = cc
+status_ends how false is = cc
 
-module _ (outcome_of : Plan (List Line) Standing → Outcome) where
-  ran_ends : (lines : List Line) (inputs : List (List ℕ)) (fuel : ℕ) (why : Option PlanAnswer) → ends_of (unless_refused outcome_of lines inputs fuel why) ≡ status.ReadFailed → ⊥
-  ran_ends lines inputs fuel None is = status_ends (has_fault (outcome_of (plan_of_job lines inputs fuel))) is
+module _ (end_of : Plan (List Line) Standing → RunEnd) where
+  ran_ends : (lines : List Line) (inputs : List (List ℕ)) (fuel : ℕ) (why : Option PlanAnswer) → ends_of (unless_refused end_of lines inputs fuel why) ≡ status.ReadFailed → ⊥
+  ran_ends lines inputs fuel None is =
+      let end = end_of (plan_of_job lines inputs fuel) in
+      status_ends end.how (has_fault end.outcome) is
   ran_ends lines inputs fuel (Some why) is = cc
 
   unless_unread_ends : (file : Option (List ℕ)) (verdict v : Verdict) → (ends_of verdict ≡ status.ReadFailed → ⊥) → unless_unread file verdict ≡ settled v → ends_of v ≡ status.ReadFailed → ⊥
   unless_unread_ends None verdict v never is ends = let same : verdict ≡ v = cc in never (ap ends_of same ∙ ends)
   unless_unread_ends (Some file) verdict v never is ends = cc
 
-  job_ends : (fuel : ℕ) (names : List (List ℕ)) (job : Result (List Line) JobFault) (inputs : List (List ℕ)) (v : Verdict) → next_of_job outcome_of fuel names job inputs ≡ settled v → ends_of v ≡ status.ReadFailed → ⊥
+  job_ends : (fuel : ℕ) (names : List (List ℕ)) (job : Result (List Line) JobFault) (inputs : List (List ℕ)) (v : Verdict) → next_of_job end_of fuel names job inputs ≡ settled v → ends_of v ≡ status.ReadFailed → ⊥
   job_ends fuel names (Ok lines) inputs v is ends =
-      unless_unread_ends (unread names inputs) (ran outcome_of lines inputs fuel) v (ran_ends lines inputs fuel (refusal_of_plan lines inputs)) is ends
+      unless_unread_ends (unread names inputs) (ran end_of lines inputs fuel) v (ran_ends lines inputs fuel (refusal_of_plan lines inputs)) is ends
   job_ends fuel names (Err fault) inputs v is ends = cc
 
-  run_ends : (fuel : ℕ) (job : List ℕ) (names texts : List (List ℕ)) (v : Verdict) → next_of_run outcome_of fuel job names texts ≡ settled v → ends_of v ≡ status.ReadFailed → ⊥
+  run_ends : (fuel : ℕ) (job : List ℕ) (names texts : List (List ℕ)) (v : Verdict) → next_of_run end_of fuel job names texts ≡ settled v → ends_of v ≡ status.ReadFailed → ⊥
   run_ends fuel job names [] v is ends = cc
   run_ends fuel job names (text ∷ inputs) v is ends = job_ends fuel names (accepted text) inputs v is ends
 
-  generated_ends : (number size : ℕ) (v : Verdict) → generated outcome_of number size ≡ settled v → ends_of v ≡ status.ReadFailed → ⊥
+  generated_ends : (number size : ℕ) (v : Verdict) → generated end_of number size ≡ settled v → ends_of v ≡ status.ReadFailed → ⊥
   unfolding generated
   generated_ends number size = job_ends (bulk_fuel size) [] (accepted (bulk_job size)) (bulk_input number size ∷ [])
 
-unfit_ends : (why : Option LinesAnswer) (outcome : Outcome) → ends_of (unless_unfit why (printed text_names outcome)) ≡ status.ReadFailed → ⊥
-unfit_ends None outcome is = status_ends (has_fault outcome) is
-unfit_ends (Some why) outcome is = cc
+unfit_ends : (why : Option LinesAnswer) (end : RunEnd) → ends_of (unless_unfit why (printed text_names end)) ≡ status.ReadFailed → ⊥
+unfit_ends None end is = status_ends end.how (has_fault end.outcome) is
+unfit_ends (Some why) end is = cc
 
-text_ends : (outcome_over : List ℕ → Outcome) (input : List ℕ) (texts : List (List ℕ)) (v : Verdict) → next_of_text outcome_over input texts ≡ settled v → ends_of v ≡ status.ReadFailed → ⊥
-text_ends outcome_over input [] v is ends = cc
-text_ends outcome_over input (text ∷ texts) v is ends =
-    let same : unless_unfit (refusal_of text) (printed text_names (outcome_over text)) ≡ v = cc in
-    unfit_ends (refusal_of text) (outcome_over text) (ap ends_of same ∙ ends)
+text_ends : (end_over : List ℕ → RunEnd) (input : List ℕ) (texts : List (List ℕ)) (v : Verdict) → next_of_text end_over input texts ≡ settled v → ends_of v ≡ status.ReadFailed → ⊥
+text_ends end_over input [] v is ends = cc
+text_ends end_over input (text ∷ texts) v is ends =
+    let same : unless_unfit (refusal_of text) (printed text_names (end_over text)) ≡ v = cc in
+    unfit_ends (refusal_of text) (end_over text) (ap ends_of same ∙ ends)
 
 -- What is read next is a file of the command.
 the_file : (file name : List ℕ) (names : List (List ℕ)) → reads name ≡ reads file → Contains (name ∷ names) file
@@ -212,21 +216,21 @@ unread_among (name ∷ names) [] file is = (0, omega arith, cc)
 unread_among (name ∷ names) (text ∷ texts) file is =
     let rest : Contains names file = unread_among names texts file is in (suc rest.0, omega arith, rest.2)
 
-module _ (outcome_of : Plan (List Line) Standing → Outcome) where
+module _ (end_of : Plan (List Line) Standing → RunEnd) where
   unless_unread_among : (names texts : List (List ℕ)) (verdict : Verdict) (file : List ℕ) (next : Option (List ℕ)) → unread names texts ≡ next → unless_unread next verdict ≡ reads file → Contains names file
   unless_unread_among names texts verdict file None same is = cc
   unless_unread_among names texts verdict file (Some name) same is = unread_among names texts file (cc)
 
-  job_among : (fuel : ℕ) (names : List (List ℕ)) (accepted : Result (List Line) JobFault) (inputs : List (List ℕ)) (file : List ℕ) → next_of_job outcome_of fuel names accepted inputs ≡ reads file → Contains names file
-  job_among fuel names (Ok lines) inputs file is = unless_unread_among names inputs (ran outcome_of lines inputs fuel) file (unread names inputs) refl is
+  job_among : (fuel : ℕ) (names : List (List ℕ)) (accepted : Result (List Line) JobFault) (inputs : List (List ℕ)) (file : List ℕ) → next_of_job end_of fuel names accepted inputs ≡ reads file → Contains names file
+  job_among fuel names (Ok lines) inputs file is = unless_unread_among names inputs (ran end_of lines inputs fuel) file (unread names inputs) refl is
   job_among fuel names (Err fault) inputs file is = cc
 
-  run_among : (fuel : ℕ) (job : List ℕ) (names texts : List (List ℕ)) (file : List ℕ) → next_of_run outcome_of fuel job names texts ≡ reads file → Contains (job ∷ names) file
+  run_among : (fuel : ℕ) (job : List ℕ) (names texts : List (List ℕ)) (file : List ℕ) → next_of_run end_of fuel job names texts ≡ reads file → Contains (job ∷ names) file
   run_among fuel job names [] file is = the_file file job names is
   run_among fuel job names (text ∷ inputs) file is =
       let rest : Contains names file = job_among fuel names (accepted text) inputs file is in (suc rest.0, omega arith, rest.2)
 
-  generated_among : (number size : ℕ) (file : List ℕ) → generated outcome_of number size ≡ reads file → Contains [] file
+  generated_among : (number size : ℕ) (file : List ℕ) → generated end_of number size ≡ reads file → Contains [] file
   unfolding generated
   generated_among number size = job_among (bulk_fuel size) [] (accepted (bulk_job size)) (bulk_input number size ∷ [])
 
@@ -237,24 +241,24 @@ module _ (elisions : Elisions) where
   next_ends (check job) [] v is ends = cc
   next_ends (check job) (text ∷ texts) v is ends =
       let same : checked (accepted text) ≡ v = cc in checked_ends (accepted text) (ap ends_of same ∙ ends)
-  next_ends (elide fuel job names) texts v is ends = run_ends elisions.of_job fuel job names texts v is ends
-  next_ends (run workers fuel job names) texts v is ends = run_ends elisions.of_job fuel job names texts v is ends
+  next_ends (elide fuel job names) texts v is ends = run_ends (elisions.of_job way.Elide) fuel job names texts v is ends
+  next_ends (run workers fuel job names) texts v is ends = run_ends (elisions.of_job way.Run) fuel job names texts v is ends
   next_ends (index workers input) texts v is ends = text_ends (indexed elisions) input texts v is ends
   next_ends (convert workers input) texts v is ends = text_ends (converted elisions) input texts v is ends
-  next_ends (bulk number size workers) texts v is ends = generated_ends elisions.of_job number size v is ends
+  next_ends (bulk number size workers) texts v is ends = generated_ends (elisions.of_job way.Run) number size v is ends
 
   next_reads : (command : Command) (texts : List (List ℕ)) (file : List ℕ) → next elisions command texts ≡ reads file → Contains (files_of command) file
   next_reads (help) texts file is = cc
   next_reads (version) texts file is = cc
   next_reads (check job) [] file is = the_file file job [] is
   next_reads (check job) (text ∷ texts) file is = cc
-  next_reads (elide fuel job names) texts file is = run_among elisions.of_job fuel job names texts file is
-  next_reads (run workers fuel job names) texts file is = run_among elisions.of_job fuel job names texts file is
+  next_reads (elide fuel job names) texts file is = run_among (elisions.of_job way.Elide) fuel job names texts file is
+  next_reads (run workers fuel job names) texts file is = run_among (elisions.of_job way.Run) fuel job names texts file is
   next_reads (index workers input) [] file is = the_file file input [] is
   next_reads (index workers input) (text ∷ texts) file is = cc
   next_reads (convert workers input) [] file is = the_file file input [] is
   next_reads (convert workers input) (text ∷ texts) file is = cc
-  next_reads (bulk number size workers) texts file is = generated_among elisions.of_job number size file is
+  next_reads (bulk number size workers) texts file is = generated_among (elisions.of_job way.Run) number size file is
 
   module _ (files : FilesSeen) (out report : SinkSeen) (well : NothingFailed files out report) where
     read_refused : (command : Command) (n : Next) (verdict : Verdict) → ((v : Verdict) → n ≡ settled v → ends_of v ≡ status.ReadFailed → ⊥) → ((file : List ℕ) → n ≡ reads file → Contains (files_of command) file) → Follows files n verdict → status.ReadFailed ≡ ends_of verdict → Wrote out report verdict → EndsWell files out report (Some command) status.ReadFailed
@@ -271,8 +275,8 @@ module _ (elisions : Elisions) where
     ends_well (Some command) status.WriteFailed is = absurd (no_failed_write out report is.0 well.out_well well.report_well is.2)
     ends_well (Some command) status.ReadFailed is =
         read_refused command (next elisions command is.1.texts) is.0 (next_ends command is.1.texts) (next_reads command is.1.texts) is.1.follows is.2.0 is.2.1
-    ends_well asked status.Done is = tt
-    ends_well asked status.Faulted is = tt
+    ends_well asked (status.Done how) is = tt
+    ends_well asked (status.Faulted how) is = tt
     ends_well asked status.Usage is = tt
     ends_well asked status.JobRefused is = tt
     ends_well asked status.NoMemory is = tt
@@ -280,8 +284,8 @@ module _ (elisions : Elisions) where
 
     usage_ends : (ends : Status) → Ends out report usage ends → (ends ≡ status.Usage) × Wrote out report usage
     usage_ends status.WriteFailed is = absurd (no_failed_write out report usage well.out_well well.report_well is)
-    usage_ends status.Done is = is
-    usage_ends status.Faulted is = is
+    usage_ends (status.Done how) is = is
+    usage_ends (status.Faulted how) is = is
     usage_ends status.Usage is = is
     usage_ends status.JobRefused is = is
     usage_ends status.ReadFailed is = is

@@ -4,8 +4,8 @@ use Rattle.swan_top.specs.declared.status.Status.{Status}
 use Rattle.swan_top.specs.declared.status.Status.TheVariants as status
 
 abbrev pub code_of : Status → ℕ
-code_of status.Done = 0
-code_of status.Faulted = 1
+code_of (status.Done how) = 0
+code_of (status.Faulted how) = 1
 code_of status.Usage = 2
 code_of status.JobRefused = 3
 code_of status.ReadFailed = 4

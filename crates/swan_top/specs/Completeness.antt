@@ -9,7 +9,6 @@ use Rattle.job_reader.specs.CanonicalText.{text_of}
 use Rattle.job_reader.specs.declared.line.Line.{Line}
 use Rattle.line_blocks.specs.TextRoots.{text_names}
 use Rattle.swan_model.specs.Lines.{refusal_of}
-use Rattle.swan_model.specs.declared.outcome.Outcome.{Outcome}
 use Rattle.swan_model.specs.declared.plan.Plan.{Plan}
 use Rattle.swan_outside.specs.Counts.{Rose}
 use Rattle.swan_outside.specs.Reads.{IsTooLong}
@@ -20,8 +19,11 @@ use Rattle.swan_top.specs.Elisions.{Elisions, converted, indexed}
 use Rattle.swan_top.specs.Headline.{FilesSeen, SinkSeen, Took, Wrote, ends_of, usage}
 use Rattle.swan_top.specs.Refusals.{file_line}
 use Rattle.swan_top.specs.declared.help.TheConstants.{HELP, VERSION}
+use Rattle.swan_top.specs.declared.how.How.TheVariants as how
+use Rattle.swan_top.specs.declared.run_end.RunEnd.{RunEnd}
 use Rattle.swan_top.specs.declared.status.Status.{Status}
 use Rattle.swan_top.specs.declared.status.Status.TheVariants as status
+use Rattle.swan_top.specs.declared.way.Way.TheVariants as way
 
 -- the files tell this text, which is within their limit
 pub record IsTold (content : Option (List ℕ)) (text : List ℕ) : Type 0 where
@@ -45,37 +47,37 @@ pub record NothingFailed (files : FilesSeen) (out report : SinkSeen) : Type 0 wh
 pub record ChecksInOrder (text : List ℕ) (verdict : Verdict) : Type 0 where
   pub lines : List Line
   pub is_accepted : accepted text ≡ Ok lines
-  pub prints_text : verdict ≡ prints (text_of lines) (codes "checked\n") status.Done
+  pub prints_text : verdict ≡ prints (text_of lines) (codes "checked\n") (status.Done how.Plain)
 
-module _ (outcome_of : Plan (List Line) Standing → Outcome) where
+module _ (end_of : Plan (List Line) Standing → RunEnd) where
   -- A run is in order: its job is accepted, and its inputs are as many as the job wants, each within the limits of
-  -- lines. What is printed is what the outcome of the job's plan leaves.
+  -- lines. What is printed is what the run of the job's plan leaves.
   pub record RunsInOrder (fuel : ℕ) (text : List ℕ) (inputs : List (List ℕ)) (verdict : Verdict) : Type 0 where
     pub lines : List Line
     pub is_accepted : accepted text ≡ Ok lines
     pub none_refused : refusal_of_plan lines inputs ≡ None
-    pub prints_outcome : verdict ≡ printed (names_of_job lines) (outcome_of (plan_of_job lines inputs fuel))
+    pub prints_outcome : verdict ≡ printed (names_of_job lines) (end_of (plan_of_job lines inputs fuel))
 
   -- The run of the generated job over its input is in order.
   unfoldable pub GeneratedInOrder : (number size : ℕ) → Verdict → Type 0
   GeneratedInOrder number size verdict = RunsInOrder (bulk_fuel size) (bulk_job size) (bulk_input number size ∷ []) verdict
 
 -- A pipeline over a text is in order: the text is within the limits of lines.
-pub record TextInOrder (outcome_over : List ℕ → Outcome) (text : List ℕ) (verdict : Verdict) : Type 0 where
+pub record TextInOrder (end_over : List ℕ → RunEnd) (text : List ℕ) (verdict : Verdict) : Type 0 where
   pub none_refused : refusal_of text ≡ None
-  pub prints_outcome : verdict ≡ printed text_names (outcome_over text)
+  pub prints_outcome : verdict ≡ printed text_names (end_over text)
 
 module _ (elisions : Elisions) where
   -- A command is in order over the texts of its files, and this is what it comes to.
   abbrev pub InOrder : Command → (texts : List (List ℕ)) → Verdict → Type 0
-  InOrder help texts verdict = verdict ≡ prints HELP.now [] status.Done
-  InOrder version texts verdict = verdict ≡ prints VERSION.now [] status.Done
+  InOrder help texts verdict = verdict ≡ prints HELP.now [] (status.Done how.Plain)
+  InOrder version texts verdict = verdict ≡ prints VERSION.now [] (status.Done how.Plain)
   InOrder (check job) (text ∷ texts) verdict = ChecksInOrder text verdict
-  InOrder (elide fuel job names) (text ∷ inputs) verdict = RunsInOrder elisions.of_job fuel text inputs verdict
-  InOrder (run workers fuel job names) (text ∷ inputs) verdict = RunsInOrder elisions.of_job fuel text inputs verdict
+  InOrder (elide fuel job names) (text ∷ inputs) verdict = RunsInOrder (elisions.of_job way.Elide) fuel text inputs verdict
+  InOrder (run workers fuel job names) (text ∷ inputs) verdict = RunsInOrder (elisions.of_job way.Run) fuel text inputs verdict
   InOrder (index workers input) (text ∷ texts) verdict = TextInOrder (indexed elisions) text verdict
   InOrder (convert workers input) (text ∷ texts) verdict = TextInOrder (converted elisions) text verdict
-  InOrder (bulk number size workers) [] verdict = GeneratedInOrder elisions.of_job number size verdict
+  InOrder (bulk number size workers) [] verdict = GeneratedInOrder (elisions.of_job way.Run) number size verdict
   InOrder (bulk number size workers) (text ∷ texts) verdict = ⊥
   InOrder command [] verdict = ⊥
 

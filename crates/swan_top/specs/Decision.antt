@@ -20,13 +20,15 @@ use Rattle.swan_model.specs.Lines.{refusal_of}
 use Rattle.swan_model.specs.Texts.{out_bytes, report_bytes, has_fault}
 use Rattle.swan_model.specs.declared.lines.LinesAnswer.{LinesAnswer}
 use Rattle.swan_model.specs.declared.outcome.Names.{Names}
-use Rattle.swan_model.specs.declared.outcome.Outcome.{Outcome}
 use Rattle.swan_model.specs.declared.plan.Plan.{Plan}
 use Rattle.swan_top.specs.Command.{Command, help, version, check, elide, run, index, convert, bulk}
 use Rattle.swan_top.specs.Elisions.{Elisions, converted, indexed}
 use Rattle.swan_top.specs.declared.help.TheConstants.{HELP, VERSION}
+use Rattle.swan_top.specs.declared.how.How.TheVariants as how
+use Rattle.swan_top.specs.declared.run_end.RunEnd.{RunEnd}
 use Rattle.swan_top.specs.declared.status.Status.{Status}
 use Rattle.swan_top.specs.declared.status.Status.TheVariants as status
+use Rattle.swan_top.specs.declared.way.Way.TheVariants as way
 
 -- What is settled: both texts and a status, or a refusal's one line of the report and a status.
 pub data Verdict : Type 0 where
@@ -74,15 +76,15 @@ job_refused fault = refuses (job_line fault) status.JobRefused
 
 -- what `check` does with an accepted job
 abbrev pub checked : Result (List Line) JobFault → Verdict
-checked (Ok job) = prints (text_of job) (codes "checked\n") status.Done
+checked (Ok job) = prints (text_of job) (codes "checked\n") (status.Done how.Plain)
 checked (Err fault) = job_refused fault
 
 -- the status of a run that ended
-abbrev pub status_of : Outcome → Status
-status_of outcome = if has_fault outcome then status.Faulted else status.Done
+abbrev pub status_of : RunEnd → Status
+status_of end = if has_fault end.outcome then status.Faulted end.how else status.Done end.how
 
-abbrev pub printed : Names → Outcome → Verdict
-printed names outcome = prints (out_bytes names outcome) (report_bytes names outcome) (status_of outcome)
+abbrev pub printed : Names → RunEnd → Verdict
+printed names end = prints (out_bytes names end.outcome) (report_bytes names end.outcome) (status_of end)
 
 abbrev pub input_line : PlanAnswer → List ℕ
 input_line (plan.Inputs wanted given) = codes "inputs " ++ (decimal wanted ++ (codes " " ++ (decimal given ++ codes "\n")))
@@ -110,15 +112,15 @@ unless_unfit None verdict = verdict
 unless_unfit (Some why) verdict = refuses (input_line (of_input 1 why)) status.InputRefused
 
 -- a pipeline over a file: what is settled once its text was read
-abbrev pub next_of_text : (List ℕ → Outcome) → List ℕ → (texts : List (List ℕ)) → Next
-next_of_text outcome_over input [] = reads input
-next_of_text outcome_over input (text ∷ texts) = settled (unless_unfit (refusal_of text) (printed text_names (outcome_over text)))
+abbrev pub next_of_text : (List ℕ → RunEnd) → List ℕ → (texts : List (List ℕ)) → Next
+next_of_text end_over input [] = reads input
+next_of_text end_over input (text ∷ texts) = settled (unless_unfit (refusal_of text) (printed text_names (end_over text)))
 
--- What the elision of a plan leaves is an argument: `outcome_of`.
-module _ (outcome_of : Plan (List Line) Standing → Outcome) where
+-- How the run of a plan ends is an argument: `end_of`.
+module _ (end_of : Plan (List Line) Standing → RunEnd) where
   -- the run of an accepted job over all its inputs
   abbrev pub unless_refused : List Line → List (List ℕ) → ℕ → Option PlanAnswer → Verdict
-  unless_refused job inputs fuel None = printed (names_of_job job) (outcome_of (plan_of_job job inputs fuel))
+  unless_refused job inputs fuel None = printed (names_of_job job) (end_of (plan_of_job job inputs fuel))
   unless_refused job inputs fuel (Some why) = refuses (input_line why) status.InputRefused
 
   abbrev pub ran : List Line → List (List ℕ) → ℕ → Verdict
@@ -138,14 +140,14 @@ module _ (outcome_of : Plan (List Line) Standing → Outcome) where
   generated number size = next_of_job (bulk_fuel size) [] (accepted (bulk_job size)) (bulk_input number size ∷ [])
 
 abbrev pub next : Elisions → Command → (texts : List (List ℕ)) → Next
-next elisions help texts = settled (prints HELP.now [] status.Done)
-next elisions version texts = settled (prints VERSION.now [] status.Done)
+next elisions help texts = settled (prints HELP.now [] (status.Done how.Plain))
+next elisions version texts = settled (prints VERSION.now [] (status.Done how.Plain))
 next elisions (check job) texts = next_of_check job texts
-next elisions (elide fuel job inputs) texts = next_of_run elisions.of_job fuel job inputs texts
-next elisions (run workers fuel job inputs) texts = next_of_run elisions.of_job fuel job inputs texts
+next elisions (elide fuel job inputs) texts = next_of_run (elisions.of_job way.Elide) fuel job inputs texts
+next elisions (run workers fuel job inputs) texts = next_of_run (elisions.of_job way.Run) fuel job inputs texts
 next elisions (index workers input) texts = next_of_text (indexed elisions) input texts
 next elisions (convert workers input) texts = next_of_text (converted elisions) input texts
-next elisions (bulk number size workers) texts = generated elisions.of_job number size
+next elisions (bulk number size workers) texts = generated (elisions.of_job way.Run) number size
 
 -- the files of a command, in the order in which they are read
 abbrev pub files_of : Command → List (List ℕ)

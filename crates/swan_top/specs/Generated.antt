@@ -7,9 +7,10 @@ use Rattle.swan_top.specs.Elisions.{Elisions}
 use Rattle.swan_top.specs.Headline.{SinkSeen, Ends}
 use Rattle.swan_top.specs.declared.status.Status.{Status}
 use Rattle.swan_top.specs.declared.status.Status.TheVariants as status
+use Rattle.swan_top.specs.declared.way.Way.TheVariants as way
 
 -- Where the words are those of a generated run, the call never ends as one that was refused: the job has no fault and has a
--- plan over its input, and the call ends as the verdict says that prints what the outcome of this plan leaves; or memory
+-- plan over its input, and the call ends as the verdict says that prints what the run of this plan leaves; or memory
 -- ran out.
 abbrev pub NeverRefused : Elisions → (out report : SinkSeen) → Option Command → Status → Type 0
 NeverRefused elisions out report (Some (bulk number size workers)) status.NoMemory = Unit {0}
@@ -18,5 +19,5 @@ NeverRefused elisions out report (Some (bulk number size workers)) status.JobRef
 NeverRefused elisions out report (Some (bulk number size workers)) status.ReadFailed = ⊥
 NeverRefused elisions out report (Some (bulk number size workers)) status.InputRefused = ⊥
 NeverRefused elisions out report (Some (bulk number size workers)) ends =
-    (verdict : Verdict) × GeneratedInOrder elisions.of_job number size verdict × Ends out report verdict ends
+    (verdict : Verdict) × GeneratedInOrder (elisions.of_job way.Run) number size verdict × Ends out report verdict ends
 NeverRefused elisions out report asked ends = Unit {0}

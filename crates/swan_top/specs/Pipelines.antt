@@ -31,8 +31,8 @@ pub record WrittenOf (files : FilesSeen) (out report : SinkSeen) (input : List �
 -- An index that is Done wrote the index of the text, and none is Faulted. A conversion wrote the conversion, and is
 -- Faulted where a line was left out.
 abbrev pub WroteOfText : FilesSeen → (out report : SinkSeen) → Option Command → Status → Type 0
-WroteOfText files out report (Some (index workers input)) status.Done = WrittenOf files out report input index_of (λ text. []) false
-WroteOfText files out report (Some (index workers input)) status.Faulted = ⊥
-WroteOfText files out report (Some (convert workers input)) status.Done = WrittenOf files out report input convert_of conversion_faults false
-WroteOfText files out report (Some (convert workers input)) status.Faulted = WrittenOf files out report input convert_of conversion_faults true
+WroteOfText files out report (Some (index workers input)) (status.Done how) = WrittenOf files out report input index_of (λ text. []) false
+WroteOfText files out report (Some (index workers input)) (status.Faulted how) = ⊥
+WroteOfText files out report (Some (convert workers input)) (status.Done how) = WrittenOf files out report input convert_of conversion_faults false
+WroteOfText files out report (Some (convert workers input)) (status.Faulted how) = WrittenOf files out report input convert_of conversion_faults true
 WroteOfText files out report command ends = Unit {0}

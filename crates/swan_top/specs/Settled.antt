@@ -5,10 +5,10 @@ use Rattle.job_reader.specs.declared.fault.JobFault.{JobFault}
 use Rattle.swan_model.specs.declared.lines.LinesAnswer.{LinesAnswer}
 use Rattle.swan_model.specs.declared.lines.LinesAnswer.TheVariants as answer
 use Rattle.swan_model.specs.declared.outcome.Names.{Names}
-use Rattle.swan_model.specs.declared.outcome.Outcome.{Outcome}
 use Rattle.swan_model.specs.declared.plan.Plan.{Plan}
 use Rattle.swan_top.specs.Decision.{Verdict, prints, refuses, unread, accepted, job_refused, input_line, printed}
 use Rattle.swan_top.specs.Headline.{FilesSeen, AreRead, NoReadFailed, NoneTooLong, ReadRefused}
+use Rattle.swan_top.specs.declared.run_end.RunEnd.{RunEnd}
 use Rattle.swan_top.specs.declared.status.Status.{Status}
 use Rattle.swan_top.specs.declared.status.Status.TheVariants as status
 use Rattle.swan_top.specs.declared.verdict.Settled.{Settled}
@@ -63,6 +63,6 @@ pub record IsRefused (text : List ℕ) (verdict : Verdict) : Type 0 where
   pub refused : verdict ≡ job_refused fault
 
 -- The plan of a text was run, or the text is refused as an input.
-abbrev pub Ran : {B L : Type 0} → (Plan B L → Outcome) → Names → Result (Plan B L) LinesAnswer → Verdict → Type 0
-Ran outcome_of names (Ok plan) verdict = verdict ≡ printed names (outcome_of plan)
-Ran outcome_of names (Err why) verdict = (why ≢ answer.NoMemory) × (verdict ≡ refuses (input_line (of_input 1 why)) status.InputRefused)
+abbrev pub Ran : {B L : Type 0} → (Plan B L → RunEnd) → Names → Result (Plan B L) LinesAnswer → Verdict → Type 0
+Ran end_of names (Ok plan) verdict = verdict ≡ printed names (end_of plan)
+Ran end_of names (Err why) verdict = (why ≢ answer.NoMemory) × (verdict ≡ refuses (input_line (of_input 1 why)) status.InputRefused)

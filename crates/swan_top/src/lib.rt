@@ -9,6 +9,10 @@
 //! ends as its command says (`specs/Completeness.antt`), and the law `honest_calls_end_well` says both of files and
 //! sinks that never fail, and `honest_call` is a call over them that has it as its clauses.
 //!
+//! `run`, `index`, `convert` and `bulk` run their plans by the runtime, and `elide` by the elision. Reading, refusals, texts
+//! and writes are one road for both ways. A status that says that a run ended shows which one it went (`How`): that a core ran
+//! the plan to its end shows a `Ran`, which only the outcome of a core gives.
+//!
 //! What an index and a conversion write is said by its clause `written_of_text` (`specs/Pipelines.antt`), of the text
 //! alone. That a generated job is never refused is its clause `never_refused` (`specs/Generated.antt`).
 //!
@@ -20,21 +24,27 @@ mod accept;
 mod command;
 mod help;
 mod honest;
+mod how;
 mod inputs;
 mod limits;
 mod read;
 mod run;
+mod run_end;
 mod settle;
 mod status;
 #[cfg(test)]
 mod tests;
 mod top_call;
 mod verdict;
+mod way;
 mod write;
 
 pub use command::{Command, FUEL_WORD_MOST, NUMBER_WORD_MOST, Usage, WORKERS_MOST, read_words};
 pub use help::{HELP, VERSION};
 pub use honest::{honest_call, honest_calls_end_well};
+pub use how::How;
 pub use limits::limits_of_words;
+pub use run_end::RunEnd;
 pub use status::Status;
 pub use top_call::swan;
+pub use way::Way;

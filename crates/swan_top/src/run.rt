@@ -1,22 +1,25 @@
 // Running plans.
-ghost use Rattle.std.specs.Prelude.{◌≡◌, ◌≤◌, IfOk, IfErr};
+ghost use Rattle.std.specs.Prelude.{◌≡◌, ◌≤◌, IfOk, IfErr, length};
 ghost use Rattle.job_body.specs.NamesOfJob.{IsNaming};
 ghost use Rattle.job_body.specs.PlanOfJob.{of_input};
-ghost use Rattle.swan_model.specs.Elision.{outcome};
-ghost use Rattle.swan_top.specs.Elisions.{elisions};
+ghost use Rattle.swan_top.specs.Elisions.{elisions, end_by};
 ghost use Rattle.swan_top.specs.Decision.{input_line, printed, ran, refuses, status_of};
 ghost use Rattle.swan_top.specs.declared.status.Status.TheVariants as status;
+ghost use Rattle.swan_top.specs.declared.way.Way.TheVariants as way;
 ghost use Rattle.swan_top.specs.Settled.{Is, Ran, Stops};
 ghost use Rattle.swan_model.specs.declared.plan.TheConstants.{FUEL_MOST};
 ghost use Rattle.job_body.specs.declared.answer.PlanAnswer.TheVariants as plan;
 
-use crate::Status;
 use crate::verdict::{Settled, Stop};
+use crate::{How, RunEnd, Status, Way};
 use job_body::{PlanAnswer, names_of, plan_of};
 use privilege_check::CheckedJob;
+use queue_book::BookQueues;
 use serial_elision::{Printed, elide, print};
 use std::alloc::{AllocError, Global};
-use swan_model::{Blob, Body, LinesAnswer, Names, NoMemory, Outcome, Plan};
+use swan_model::{Blob, Body, LinesAnswer, Names, NoMemory, Plan, RunName};
+use swan_runtime::run_alone;
+use task_frames::Core;
 
 // The line of a refusal of inputs.
 fn input_line(alloc: Global, why: PlanAnswer) -> Result<Blob, AllocError>
@@ -33,25 +36,69 @@ fn input_line(alloc: Global, why: PlanAnswer) -> Result<Blob, AllocError>
     Ok(Blob::new(text.into_bytes()))
 }
 
-// How a run with this outcome ends.
-fn status_of(outcome: &Outcome) -> Status
-    ensures { result ≡ status_of outcome.now }
+// Runs a plan by the runtime, over hyperqueues in the plainest form.
+fn run_on_a_core<B: Body>(alloc: Global, plan: Plan<B>) -> Result<RunEnd, NoMemory>
+    ensures end { IfOk result (λ end. end ≡ end_by B.Body way.Run plan) }
+    ensures queues { IfOk result (λ end. length end.outcome.queues ≡ length plan.roots.queues) }
+    ensures objects { IfOk result (λ end. length end.outcome.objects ≡ length plan.roots.objects) }
 {
-    if outcome.faults.len() == 0 {
-        Status::Done
-    } else {
-        Status::Faulted
+    let queues = BookQueues::new(alloc, RunName::of(&plan));
+    let opened = Core::open(alloc, plan, queues)?;
+    let (outcome, ran) = run_alone(alloc, opened)?.outcome();
+    Ok(RunEnd {
+        outcome,
+        how: How::Ran(ran),
+    })
+}
+
+// Runs a plan by the elision.
+fn run_by_elision<B: Body>(alloc: Global, plan: Plan<B>) -> Result<RunEnd, NoMemory>
+    ensures end { IfOk result (λ end. end ≡ end_by B.Body way.Elide plan) }
+    ensures queues { IfOk result (λ end. length end.outcome.queues ≡ length plan.roots.queues) }
+    ensures objects { IfOk result (λ end. length end.outcome.objects ≡ length plan.roots.objects) }
+{
+    Ok(RunEnd {
+        outcome: elide(alloc, plan)?,
+        how: How::Plain,
+    })
+}
+
+// Runs a plan this way.
+fn end_by<B: Body>(alloc: Global, way: Way, plan: Plan<B>) -> Result<RunEnd, NoMemory>
+    ensures end { IfOk result (λ end. end ≡ end_by B.Body way plan) }
+    ensures queues { IfOk result (λ end. length end.outcome.queues ≡ length plan.roots.queues) }
+    ensures objects { IfOk result (λ end. length end.outcome.objects ≡ length plan.roots.objects) }
+{
+    match way {
+        Way::Elide => run_by_elision(alloc, plan),
+        Way::Run => run_on_a_core(alloc, plan),
     }
 }
 
-// Runs a plan, and settles its two texts. This is the one way in which a command runs anything.
-fn run_plan<B: Body>(alloc: Global, plan: Plan<B>, names: &Names) -> Result<Settled, NoMemory>
-    requires { IsNaming names.now plan.roots }
-    ensures { IfOk result (Is (λ verdict. verdict ≡ printed names.now (outcome B.Body plan))) }
+// How a call ends after a run that ended so.
+fn status_of(end: RunEnd) -> Status
+    ensures { result ≡ status_of end }
 {
-    let outcome = elide(alloc, plan)?;
-    let Printed { out, report } = print(alloc, names, &outcome)?;
-    let ends = status_of(&outcome);
+    if end.outcome.faults.len() == 0 {
+        Status::Done(end.how)
+    } else {
+        Status::Faulted(end.how)
+    }
+}
+
+// Runs a plan this way, and settles its two texts. This is the one way in which a command runs anything.
+fn run_plan<B: Body>(
+    alloc: Global,
+    way: Way,
+    plan: Plan<B>,
+    names: &Names,
+) -> Result<Settled, NoMemory>
+    requires { IsNaming names.now plan.roots }
+    ensures { IfOk result (Is (λ verdict. verdict ≡ printed names.now (end_by B.Body way plan))) }
+{
+    let end = end_by(alloc, way, plan)?;
+    let Printed { out, report } = print(alloc, names, &end.outcome)?;
+    let ends = status_of(end);
     Ok(Settled::Prints { out, report, ends })
 }
 
@@ -62,26 +109,27 @@ pub(crate) fn run_text<B: Body>(
     names: &Names,
 ) -> Result<Settled, Stop>
     requires { IfOk plan (λ plan'. IsNaming names.now plan'.roots) }
-    ensures ran { IfOk result (Is (Ran (outcome B.Body) names.now plan)) }
-    ensures refused { IfErr result (Stops (Ran (outcome B.Body) names.now plan)) }
+    ensures ran { IfOk result (Is (Ran (end_by B.Body way.Run) names.now plan)) }
+    ensures refused { IfErr result (Stops (Ran (end_by B.Body way.Run) names.now plan)) }
 {
     match plan {
-        Ok(plan) => Ok(run_plan(alloc, plan, names)?),
+        Ok(plan) => Ok(run_plan(alloc, Way::Run, plan, names)?),
         Err(LinesAnswer::NoMemory) => Err(Stop::NoMemory),
         Err(why) => Err(refuse_inputs(alloc, PlanAnswer::of_input(1, why))),
     }
 }
 
-// Runs an accepted job over its inputs.
+// Runs an accepted job over its inputs this way.
 pub(crate) fn run_job(
     alloc: Global,
+    way: Way,
     fuel: u64,
     job: CheckedJob,
     inputs: Vec<Blob>,
 ) -> Result<Settled, Stop>
     requires { fuel ≤ FUEL_MOST }
-    ensures ran { IfOk result (Is (λ verdict. verdict ≡ ran elisions.of_job job inputs.items fuel)) }
-    ensures refused { IfErr result (Stops (λ verdict. verdict ≡ ran elisions.of_job job inputs.items fuel)) }
+    ensures ran { IfOk result (Is (λ verdict. verdict ≡ ran (elisions.of_job way) job inputs.items fuel)) }
+    ensures refused { IfErr result (Stops (λ verdict. verdict ≡ ran (elisions.of_job way) job inputs.items fuel)) }
 {
     let names = names_of(alloc, &job)?;
     let plan = match plan_of(alloc, job, inputs, fuel) {
@@ -89,7 +137,7 @@ pub(crate) fn run_job(
         Err(PlanAnswer::NoMemory) => return Err(Stop::NoMemory),
         Err(why) => return Err(refuse_inputs(alloc, why)),
     };
-    Ok(run_plan(alloc, plan, &names)?)
+    Ok(run_plan(alloc, way, plan, &names)?)
 }
 
 // A refusal of inputs.

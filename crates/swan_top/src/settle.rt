@@ -7,14 +7,16 @@ ghost use Rattle.swan_top.specs.Decision.{checked, generated, settled, next_of_c
 ghost use Rattle.swan_top.specs.Elisions.{converted, elisions, indexed};
 ghost use Rattle.swan_top.specs.Headline.{Leads, Settles, files_over};
 ghost use Rattle.swan_top.specs.Settled.{Is, Stops, StopsOver, verdict_of};
+ghost use Rattle.swan_top.specs.declared.how.How.TheVariants as how;
 ghost use Rattle.swan_top.specs.declared.status.Status.TheVariants as status;
+ghost use Rattle.swan_top.specs.declared.way.Way.TheVariants as way;
 
 use crate::accept::accept;
 use crate::inputs::read_inputs;
 use crate::read::read_file;
 use crate::run::{run_job, run_text};
 use crate::verdict::{Settled, Stop};
-use crate::{Command, HELP, Status, VERSION};
+use crate::{Command, HELP, How, Status, VERSION, Way};
 use bulk_workload::{bulk_fuel, bulk_input, bulk_job};
 use index_pipeline::{index_names, index_plan};
 use job_reader::write_job;
@@ -26,12 +28,12 @@ use swan_outside::Files;
 
 // A text for the output, and nothing to report.
 fn settle_text(alloc: Global, text: &str) -> Result<Settled, AllocError>
-    ensures { IfOk result (Is (λ verdict. verdict ≡ prints text.now [] status.Done)) }
+    ensures { IfOk result (Is (λ verdict. verdict ≡ prints text.now [] (status.Done how.Plain))) }
 {
     Ok(Settled::Prints {
         out: Blob::new(Vec::from_slice(alloc, text.as_bytes())?),
         report: Blob::new(Vec::new(alloc)),
-        ends: Status::Done,
+        ends: Status::Done(How::Plain),
     })
 }
 
@@ -43,7 +45,7 @@ fn settle_checked(alloc: Global, job: &CheckedJob) -> Result<Settled, Stop>
     Ok(Settled::Prints {
         out: Blob::new(write_job(alloc, job.job())?),
         report: Blob::new(Vec::from_slice(alloc, b"checked\n")?),
-        ends: Status::Done,
+        ends: Status::Done(How::Plain),
     })
 }
 
@@ -63,21 +65,22 @@ fn settle_check<F: Files>(alloc: Global, files: &mut F, job: &Word) -> Result<Se
 fn settle_run<F: Files>(
     alloc: Global,
     files: &mut F,
+    way: Way,
     fuel: u64,
     job: &Word,
     inputs: &[Word],
 ) -> Result<Settled, Stop>
     requires { fuel ≤ FUEL_MOST }
     ensures ok { IfOk result (Is (Leads (files_over F.content F.faults F.long_reads files.old files.new)
-        (job.now ∷ inputs.now) (next_of_run elisions.of_job fuel job.now inputs.now))) }
+        (job.now ∷ inputs.now) (next_of_run (elisions.of_job way) fuel job.now inputs.now))) }
     ensures err { let seen = files_over F.content F.faults F.long_reads files.old files.new in
         IfErr result (StopsOver seen (Leads seen (job.now ∷ inputs.now)
-        (next_of_run elisions.of_job fuel job.now inputs.now))) }
+        (next_of_run (elisions.of_job way) fuel job.now inputs.now))) }
 {
     let text = read_file(alloc, files, job)?;
     let job = accept(alloc, text)?;
     let inputs = read_inputs(alloc, files, inputs)?;
-    run_job(alloc, fuel, job, inputs)
+    run_job(alloc, way, fuel, job, inputs)
 }
 
 // What the index of a file leads to.
@@ -113,12 +116,12 @@ fn settle_convert<F: Files>(alloc: Global, files: &mut F, input: &Word) -> Resul
 // What the run of the generated job over its input leads to.
 fn settle_bulk(alloc: Global, number: u64, size: u64) -> Result<Settled, Stop>
     requires { size ≤ BULK_MOST }
-    ensures ok { IfOk result (Is (λ verdict. generated elisions.of_job number size ≡ settled verdict)) }
-    ensures err { IfErr result (Stops (λ verdict. generated elisions.of_job number size ≡ settled verdict)) }
+    ensures ok { IfOk result (Is (λ verdict. generated (elisions.of_job way.Run) number size ≡ settled verdict)) }
+    ensures err { IfErr result (Stops (λ verdict. generated (elisions.of_job way.Run) number size ≡ settled verdict)) }
 {
     let job = accept(alloc, bulk_job(alloc, size)?)?;
     let inputs = vec![in alloc; Blob::new(bulk_input(alloc, number, size)?)]?;
-    run_job(alloc, bulk_fuel(size), job, inputs)
+    run_job(alloc, Way::Run, bulk_fuel(size), job, inputs)
 }
 
 // What a command leads to.
@@ -136,13 +139,15 @@ pub(crate) fn settle<F: Files>(
         Command::Help => Ok(settle_text(alloc, HELP)?),
         Command::Version => Ok(settle_text(alloc, VERSION)?),
         Command::Check { job } => settle_check(alloc, files, job),
-        Command::Elide { fuel, job, inputs } => settle_run(alloc, files, fuel, job, inputs),
+        Command::Elide { fuel, job, inputs } => {
+            settle_run(alloc, files, Way::Elide, fuel, job, inputs)
+        }
         Command::Run {
             fuel,
             job,
             inputs,
             ..
-        } => settle_run(alloc, files, fuel, job, inputs),
+        } => settle_run(alloc, files, Way::Run, fuel, job, inputs),
         Command::Index { input, .. } => settle_index(alloc, files, input),
         Command::Convert { input, .. } => settle_convert(alloc, files, input),
         Command::Bulk { number, size, .. } => settle_bulk(alloc, number, size),

@@ -2,13 +2,15 @@
 ghost use Rattle.std.specs.Prelude.{◌≡◌};
 ghost use Rattle.swan_top.specs.Codes.{code_of};
 
+use crate::How;
+
 /// How a call ends.
-#[derive(Clone, Copy, Debug, PartialEq, Eq)]
+#[derive(Drop)]
 pub enum Status {
     /// Both texts were written, and the run has no fault.
-    Done,
+    Done(How),
     /// Both texts were written, and the run has a fault.
-    Faulted,
+    Faulted(How),
     /// The words are no command.
     Usage,
     /// The job has a fault.
@@ -24,13 +26,13 @@ pub enum Status {
 }
 
 impl Status {
-    /// The code that the program ends with. It takes no memory.
+    /// The code that the program ends with, which is the same for either `How`. It takes no memory.
     pub fn code(&self) -> u8
         ensures { result ≡ code_of self.now }
     {
         match self {
-            Status::Done => 0,
-            Status::Faulted => 1,
+            Status::Done(_) => 0,
+            Status::Faulted(_) => 1,
             Status::Usage => 2,
             Status::JobRefused => 3,
             Status::ReadFailed => 4,

@@ -13,6 +13,7 @@ mod limits;
 mod pipelines;
 mod rows;
 mod scripts;
+mod ways;
 
 // How a call ended, and what it wrote.
 #[derive(Drop)]

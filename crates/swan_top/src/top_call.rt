@@ -40,6 +40,9 @@ use swan_outside::{Files, Sink};
 /// Where the words are a command, the texts that `files` tells are in order for it, and no count of faults
 /// rises, the call ends Done or Faulted as the elision says, or NoMemory.
 ///
+/// Done and Faulted of `run`, `index`, `convert` and `bulk` hold a `Ran`, which means the script of the plan that was run:
+/// a core ran that plan to its end. Those of `check` and `elide`, of the help and the version are Plain.
+///
 /// The contents are those that `files` tells, and what is said of written bytes holds where the sinks
 /// tell them. It always returns.
 #[tactic(auto, using(crate::proofs::Completeness::completes))]
@@ -97,8 +100,8 @@ fn follow<F: Files, O: Sink, R: Sink>(
         Err(Usage) => return write_line(out, report, b"usage\n", Status::Usage),
     };
     match settle(alloc, files, command) {
-        Ok(settled) => write_settled(out, report, &settled),
-        Err(Stop::Settled(settled)) => write_settled(out, report, &settled),
+        Ok(settled) => write_settled(out, report, settled),
+        Err(Stop::Settled(settled)) => write_settled(out, report, settled),
         Err(Stop::NoMemory) => Status::NoMemory,
     }
 }

@@ -54,13 +54,13 @@ pub(crate) fn write_line<O: Sink, R: Sink>(
 pub(crate) fn write_settled<O: Sink, R: Sink>(
     out: &mut O,
     report: &mut R,
-    settled: &Settled,
+    settled: Settled,
 ) -> Status
-    requires { EndsSo settled.now }
+    requires { EndsSo settled }
     ensures { Ends
         (sink_over O.written O.faults out.old out.new)
         (sink_over R.written R.faults report.old report.new)
-        (verdict_of settled.now) result }
+        (verdict_of settled) result }
 {
     match settled {
         Settled::Prints {
@@ -72,8 +72,8 @@ pub(crate) fn write_settled<O: Sink, R: Sink>(
             report,
             out_text.as_slice(),
             report_text.as_slice(),
-            *ends,
+            ends,
         ),
-        Settled::Refuses { line, ends } => write_line(out, report, line.as_slice(), *ends),
+        Settled::Refuses { line, ends } => write_line(out, report, line.as_slice(), ends),
     }
 }

@@ -1,0 +1,45 @@
+// By which way commands run.
+use super::jobs::{NAMES, TEXTS};
+use super::*;
+
+/// Command lines, and by which way they run.
+const WAYS: &str = "\
+run 1 100 a|a core
+run 1 1 a|a core
+index 1 five|a core
+convert 1 five|a core
+bulk 7 3 1|a core
+elide 100 a|no core
+elide 1 a|no core
+check a|no core
+--help|no core
+--version|no core
+check frob|no run";
+
+// By which way a call ran what it ran.
+fn way_of(status: &Status) -> &'static str {
+    match status {
+        Status::Done(How::Ran(_)) | Status::Faulted(How::Ran(_)) => "a core",
+        Status::Done(How::Plain) | Status::Faulted(How::Plain) => "no core",
+        _ => "no run",
+    }
+}
+
+// By which way a call with these words runs.
+fn way_of_words(alloc: Global, words: &str) -> Result<&'static str, AllocError> {
+    let words = words_of(alloc, words)?;
+    let mut files = MemoryFiles::new(files_of(alloc, NAMES, &TEXTS)?, Vec::new(alloc));
+    let mut out = sink(alloc, 4_096, 0)?;
+    let mut report = sink(alloc, 4_096, 0)?;
+    let status = swan(alloc, words.as_slice(), &mut files, &mut out, &mut report);
+    Ok(way_of(&status))
+}
+
+#[test]
+fn a_status_shows_whether_a_core_ran_the_plan(rt: HostRuntime) -> Result<(), Fail> {
+    for row in WAYS.lines() {
+        let (words, way) = row.split_once('|').ok_or("no way")?;
+        assert_eq!(rt; way_of_words(rt.alloc(), words)?, way, "{row}");
+    }
+    Ok(())
+}
