@@ -1,5 +1,5 @@
 -- How deep tasks lie in each other: a spawn from a path of the greatest length is a fault.
-use Rattle.std.proofs.Common.{◌≡◌, ℕ, zero, suc, ◌-◌, ◌≤◌, ◌<◌, Bool, true, false, nat_eq, nat_le, cond, List, [], ◌∷◌, Option, Some, None, length, refl, sym, ap, subst, ◌∙◌, arith, rules, tests, length-append}
+use Rattle.std.proofs.Common.{◌≡◌, ℕ, zero, suc, ◌-◌, ◌≤◌, ◌<◌, Bool, true, false, nat_eq, nat_le, nat_lt, cond, List, [], ◌∷◌, ◌++◌, Option, Some, None, length, refl, sym, ap, subst, ◌∙◌, arith, rules, tests, length-append}
 use Rattle.swan_model.specs.declared.body.Ask.{Ask}
 use Rattle.swan_model.specs.declared.body.Ask.TheVariants as ask
 use Rattle.swan_model.specs.declared.body.Body.{Ghosts}
@@ -40,7 +40,7 @@ spawned-shallow store a child None = tt
 spawned-shallow store a child (Some holdings) =
     if-shallow a (is_aliased child.gives) _ _ tt (λ alone.
     if-shallow a (nat_le PATH_MOST (length a.path)) _ _ tt (λ shallow.
-    if-shallow a _ _ _ tt (λ enough. let less : length a.path < PATH_MOST = search (rules, tests) in less)))
+    if-shallow a (nat_lt a.fuel child.fuel) _ _ tt (λ enough. let less : length a.path < PATH_MOST = search (rules, tests) in less)))
 
 effect-shallow : {L : Type 0} (n : ℕ) (store : Store) (a : Activation L) (asks : Ask L) → IsShallow a (effect n store a asks)
 effect-shallow n store a ask.Work = tt

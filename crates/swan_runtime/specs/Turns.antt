@@ -18,11 +18,12 @@ with_resumed stack (resumed.Ended steps) = stack
 with_resumed stack (resumed.Strange frame foreign) = stack ++ frame ∷ []
 with_resumed stack resumed.NoMemory = stack
 
-module _ {B L E : Type 0} (Q : Type 0) (G : Ghosts B L) (name : E → Option Script) (of : EndsOf E) (counts : E → Counts) where
+module _ {B L E : Type 0} (G : Ghosts B L) (name : E → Option Script) (of : EndsOf E) where
   -- these are frames, by what their type keeps
   abbrev pub AreFrames : List (FrameView B L E) → Type 0
   AreFrames frames = (index : ℕ) (frame : FrameView B L E) → slice_get frames index ≡ Some frame → IsAnyFrame G name of.ends frame
 
+module _ {B L E : Type 0} (Q : Type 0) (G : Ghosts B L) (name : E → Option Script) (of : EndsOf E) (counts : E → Counts) where
   -- A turn: the top of the stack takes some steps by itself, and is resumed. Memory lasts.
   pub record IsTurn (before : CoreView B L) (stack : List (FrameView B L E)) (after : CoreView B L) (then : List (FrameView B L E)) : Type 0 where
     pub below : List (FrameView B L E)
@@ -40,7 +41,7 @@ module _ {B L E : Type 0} (Q : Type 0) (G : Ghosts B L) (name : E → Option Scr
     pub plan : after.plan ≡ before.plan
     pub run : after.run ≡ before.run
     pub then_is : then ≡ with_resumed below result
-    pub frames : AreFrames then
+    pub frames : AreFrames G name of then
 
   -- a core and a stack, after so many turns from where the core was opened
   pub data AreTurns (opened : CoreView B L) : ℕ → CoreView B L → List (FrameView B L E) → Type 0 where

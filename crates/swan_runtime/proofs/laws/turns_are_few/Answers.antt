@@ -1,4 +1,5 @@
 use Rattle.std.proofs.Common.{arith}
+use Rattle.task_frames.specs.Resumes.{ends_of}
 use Rattle.swan_runtime.proofs.Bound.{are-left, few-frames}
 use Rattle.swan_runtime.proofs.laws.turns_are_few.Goals as goal
 
@@ -9,4 +10,4 @@ pub returns-clause-few : goal.returns-clause-few
 returns-clause-few g c = λ opened core turns stack are. let few = (are-left _ _ _ _ _ opened turns core stack are).few in omega (arith, few)
 
 pub returns-clause-shallow : goal.returns-clause-shallow
-returns-clause-shallow g c = λ opened core turns stack are. let left = are-left _ _ _ _ _ opened turns core stack are in few-frames _ _ _ _ _ core stack left.stands left.frames
+returns-clause-shallow g c = λ opened core turns stack are. let left = are-left _ _ _ _ _ opened turns core stack are in few-frames g.row.Q.Denot g.B.Body g.Q.Ends.LocalEnds.name (ends_of g.Q.Ends.LocalEnds) g.Q.Ends.LocalEnds.counts core stack left.stands left.frames
