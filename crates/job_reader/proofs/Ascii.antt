@@ -6,15 +6,10 @@ use Rattle.std.specs.Char.{is_ascii_digit, is_ascii_lowercase}
 use Rattle.std.proofs.lemmas.Str.{IsUtf8-from_ascii}
 use Rattle.std.proofs.lemmas.Str.Ascii.{IsAscii-nil, IsAscii-cons}
 use Rattle.std.proofs.lemmas.Bool.Decides.{nat_tests}
-use Rattle.std.proofs.lemmas.Bool.{and_from, cond_both}
+use Rattle.std.proofs.lemmas.Bool.{and_from, and_parts, cond_both}
 use Rattle.job_reader.specs.Characters.{is_allowed}
 use Rattle.job_reader.specs.Tokens.{before_trimmed, trimmed, without_end_spaces, without_front_spaces}
 use Rattle.job_reader.specs.Atoms.{is_name, is_name_byte, is_natural}
-
-pub both_true : (a b : Bool) → (a && b) ≡ true → (a ≡ true) × (b ≡ true)
-both_true true true is = (refl, refl)
-both_true true false is = cc
-both_true false _ is = cc
 
 name_byte_is_ascii : (byte : ℕ) → is_name_byte byte ≡ true → byte < 128
 name_byte_is_ascii byte is = grind (arith, nat_tests)
@@ -29,7 +24,7 @@ letter_is_ascii byte is = grind (arith, nat_tests)
 all_ascii : (test : ℕ → Bool) → ((byte : ℕ) → test byte ≡ true → byte < 128) → (bytes : List ℕ) → list_all test bytes ≡ true → IsAscii bytes
 all_ascii test only [] all = IsAscii-nil
 all_ascii test only (byte ∷ bytes) all =
-    let parts = both_true (test byte) (list_all test bytes) all in
+    let parts = and_parts (test byte) (list_all test bytes) all in
     IsAscii-cons byte bytes (only byte parts.0) (all_ascii test only bytes parts.1)
 
 pub digits_are_ascii : (bytes : List ℕ) → list_all is_ascii_digit bytes ≡ true → IsAscii bytes
@@ -38,13 +33,13 @@ digits_are_ascii = all_ascii is_ascii_digit digit_is_ascii
 pub name_is_ascii : (token : List ℕ) → is_name token ≡ true → IsAscii token
 name_is_ascii [] is = cc
 name_is_ascii (byte ∷ bytes) is =
-    let front = both_true (is_ascii_lowercase byte && list_all is_name_byte bytes) _ is in
-    let parts = both_true (is_ascii_lowercase byte) (list_all is_name_byte bytes) front.0 in
+    let front = and_parts (is_ascii_lowercase byte && list_all is_name_byte bytes) _ is in
+    let parts = and_parts (is_ascii_lowercase byte) (list_all is_name_byte bytes) front.0 in
     IsAscii-cons byte bytes (letter_is_ascii byte parts.0) (all_ascii is_name_byte name_byte_is_ascii bytes parts.1)
 
 pub natural_is_ascii : (text : List ℕ) → is_natural text ≡ true → IsAscii text
 natural_is_ascii [] is = cc
-natural_is_ascii (byte ∷ bytes) is = digits_are_ascii (byte ∷ bytes) (both_true (list_all is_ascii_digit (byte ∷ bytes)) _ is).0
+natural_is_ascii (byte ∷ bytes) is = digits_are_ascii (byte ∷ bytes) (and_parts (list_all is_ascii_digit (byte ∷ bytes)) _ is).0
 
 allowed_is_ascii : (byte : ℕ) → is_allowed byte ≡ true → byte < 128
 allowed_is_ascii byte is = grind (arith, nat_tests)
@@ -54,7 +49,7 @@ all_front : (test : ℕ → Bool) (bytes : List ℕ) → list_all test bytes ≡
 all_front test [] all = refl
 all_front test (byte ∷ bytes) all =
     cond_both (byte == 32) (without_front_spaces bytes) (byte ∷ bytes) (λ l. list_all test l ≡ true)
-    (λ is. all_front test bytes (both_true (test byte) (list_all test bytes) all).1) (λ isnt. all)
+    (λ is. all_front test bytes (and_parts (test byte) (list_all test bytes) all).1) (λ isnt. all)
 
 all_before : (test : ℕ → Bool) (byte : ℕ) (bytes : List ℕ) → test byte ≡ true → list_all test bytes ≡ true → list_all test (before_trimmed byte bytes) ≡ true
 all_before test byte [] is all =
@@ -64,7 +59,7 @@ all_before test byte (other ∷ bytes) is all = and_from _ _ is all
 all_end : (test : ℕ → Bool) (bytes : List ℕ) → list_all test bytes ≡ true → list_all test (without_end_spaces bytes) ≡ true
 all_end test [] all = refl
 all_end test (byte ∷ bytes) all =
-    let parts = both_true (test byte) (list_all test bytes) all in
+    let parts = and_parts (test byte) (list_all test bytes) all in
     all_before test byte (without_end_spaces bytes) parts.0 (all_end test bytes parts.1)
 
 pub trimmed_may : (bytes : List ℕ) → list_all is_allowed bytes ≡ true → list_all is_allowed (trimmed bytes) ≡ true

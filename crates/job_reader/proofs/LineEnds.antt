@@ -9,8 +9,8 @@ use Rattle.job_reader.specs.FirstFault.{is_nothing}
 feed : (byte : ℕ) (bytes : List ℕ) → (byte == 10) ≡ true → lines (byte ∷ bytes) ≡ [] ∷ lines bytes
 feed byte bytes is = cond-true (byte == 10) ([] ∷ lines bytes) (before_lines byte (lines bytes)) is
 
-other : (byte : ℕ) (bytes : List ℕ) → (byte == 10) ≡ false → lines (byte ∷ bytes) ≡ before_lines byte (lines bytes)
-other byte bytes isnt = cond-false (byte == 10) ([] ∷ lines bytes) (before_lines byte (lines bytes)) isnt
+pub other_byte : (byte : ℕ) (bytes : List ℕ) → (byte == 10) ≡ false → lines (byte ∷ bytes) ≡ before_lines byte (lines bytes)
+other_byte byte bytes isnt = cond-false (byte == 10) ([] ∷ lines bytes) (before_lines byte (lines bytes)) isnt
 
 before_some : (byte : ℕ) (rest : List (List ℕ)) → is_nothing (before_lines byte rest) ≡ false
 before_some byte [] = refl
@@ -23,5 +23,5 @@ nothing_left (byte ∷ bytes) =
     let some : (length (byte ∷ bytes) == 0) ≡ false = ne_eqb (suc (length bytes)) 0 (λ is. omega arith) in
     ⊎_elim
     (λ (is : (byte == 10) ≡ true). ap is_nothing (feed byte bytes is) ∙ sym some)
-    (λ (isnt : (byte == 10) ≡ false). ap is_nothing (other byte bytes isnt) ∙ before_some byte (lines bytes) ∙ sym some)
+    (λ (isnt : (byte == 10) ≡ false). ap is_nothing (other_byte byte bytes isnt) ∙ before_some byte (lines bytes) ∙ sym some)
     (cases_Bool (byte == 10))

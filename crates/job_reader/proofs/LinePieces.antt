@@ -6,6 +6,7 @@ use Rattle.std.proofs.lemmas.Bool.{cond-false, cond_both, and_from, and_parts, e
 use Rattle.swan_model.specs.Lines.{lines, before_lines}
 use Rattle.job_reader.specs.Pieces.{HasNoLineFeed, AreLines}
 use Rattle.job_reader.specs.Pieces.AreLines.{no_lines, ended, last_line}
+use Rattle.job_reader.proofs.LineEnds.{other_byte}
 
 no_feed : (byte : ℕ) (bytes : List ℕ) → (byte == 10) ≡ false → HasNoLineFeed bytes → HasNoLineFeed (byte ∷ bytes)
 no_feed byte bytes isnt none = and_from (not (byte == 10)) (list_all (λ b. not (b == 10)) bytes) (ap not isnt) none
@@ -24,22 +25,19 @@ are_lines (byte ∷ bytes) =
     (λ isnt. longer byte bytes (lines bytes) isnt (are_lines bytes))
 
 -- the first line of a text
-other : (byte : ℕ) (bytes : List ℕ) → (byte == 10) ≡ false → lines (byte ∷ bytes) ≡ before_lines byte (lines bytes)
-other byte bytes isnt = cond-false (byte == 10) ([] ∷ lines bytes) (before_lines byte (lines bytes)) isnt
-
 first_ended : (line rest : List ℕ) → HasNoLineFeed line → lines (line ++ 10 ∷ rest) ≡ line ∷ lines rest
 first_ended [] rest none = refl
 first_ended (byte ∷ line) rest none =
     let parts = and_parts (not (byte == 10)) (list_all (λ b. not (b == 10)) line) none in
-    other byte (line ++ 10 ∷ rest) (not-true (byte == 10) parts.0) ∙ ap (before_lines byte) (first_ended line rest parts.1)
+    other_byte byte (line ++ 10 ∷ rest) (not-true (byte == 10) parts.0) ∙ ap (before_lines byte) (first_ended line rest parts.1)
 
 whole : (byte : ℕ) (line : List ℕ) → HasNoLineFeed (byte ∷ line) → lines (byte ∷ line) ≡ (byte ∷ line) ∷ []
 whole byte [] none =
     let parts = and_parts (not (byte == 10)) true none in
-    other byte [] (not-true (byte == 10) parts.0)
+    other_byte byte [] (not-true (byte == 10) parts.0)
 whole byte (first ∷ line) none =
     let parts = and_parts (not (byte == 10)) (list_all (λ b. not (b == 10)) (first ∷ line)) none in
-    other byte (first ∷ line) (not-true (byte == 10) parts.0) ∙ ap (before_lines byte) (whole first line parts.1)
+    other_byte byte (first ∷ line) (not-true (byte == 10) parts.0) ∙ ap (before_lines byte) (whole first line parts.1)
 
 pub only_lines : (text : List ℕ) (found : List (List ℕ)) → AreLines text found → found ≡ lines text
 only_lines _ _ no_lines = refl

@@ -9,10 +9,10 @@ use Rattle.std.specs.Result.{result_ok}
 use Rattle.std.proofs.lemmas.Str.{IsUtf8-from_ascii}
 use Rattle.std.proofs.lemmas.Str.Ascii.{IsAscii-cons}
 use Rattle.std.proofs.lemmas.Str.Parse.{IsDigitsTest, IsNumeralModel, numerals_by_value, parse_signed_digits, parse_signed_minus}
-use Rattle.std.proofs.lemmas.Bool.{and_from, and_right, lt-ltb, le-ltb, le-leb, leb-true, ltb-true, false_from_ne_true}
+use Rattle.std.proofs.lemmas.Bool.{and_from, and_parts, and_right, lt-ltb, le-ltb, le-leb, leb-true, ltb-true, false_from_ne_true}
 use Rattle.std.proofs.Common.{rules}
 use Rattle.job_reader.specs.Atoms.{is_natural, plain_number, negative_number}
-use Rattle.job_reader.proofs.Ascii.{both_true, natural_is_ascii}
+use Rattle.job_reader.proofs.Ascii.{natural_is_ascii}
 
 tells_digits : IsDigitsTest (λ ds. list_all is_ascii_digit ds ≡ true)
 tells_digits = search rules
@@ -22,7 +22,7 @@ own = numerals_by_value (λ ds. list_all is_ascii_digit ds ≡ true) tells_digit
 
 pub natural_digits : (text : List ℕ) → is_natural text ≡ true → (list_all is_ascii_digit text ≡ true) × (0 < length text)
 natural_digits [] is = cc
-natural_digits (byte ∷ bytes) is = ((both_true (list_all is_ascii_digit (byte ∷ bytes)) _ is).0, omega arith)
+natural_digits (byte ∷ bytes) is = ((and_parts (list_all is_ascii_digit (byte ∷ bytes)) _ is).0, omega arith)
 
 -- a choice by two tests
 pub if_both : {A : Type 0} (a b : Bool) (x y : A) → a ≡ true → b ≡ true → cond (a && b) x y ≡ x

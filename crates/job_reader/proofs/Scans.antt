@@ -17,7 +17,7 @@ abbrev pub opened : Scan → List ℕ → List (List ℕ) → List (List ℕ)
 opened Between front tokens = tokens
 opened _ front tokens = with_front front tokens
 
-front_of_byte : (byte : ℕ) (tokens : List (List ℕ)) → in_front byte tokens ≡ with_front (byte ∷ []) tokens
+pub front_of_byte : (byte : ℕ) (tokens : List (List ℕ)) → in_front byte tokens ≡ with_front (byte ∷ []) tokens
 front_of_byte byte [] = refl
 front_of_byte byte (token ∷ tokens) = refl
 

@@ -17,7 +17,7 @@ use Rattle.job_reader.proofs.Canon.{canon, canon_literal, is_fine, unquoted_stay
 use Rattle.job_reader.proofs.CanonTokens.{read_inside}
 use Rattle.job_reader.proofs.Literals.{AreBytes, Escaping, escaping, literal_short}
 use Rattle.job_reader.proofs.Literals.Escaping.{at_quote, at_backslash, at_feed, at_tab, itself, by_digits}
-use Rattle.job_reader.proofs.Scans.{with_front}
+use Rattle.job_reader.proofs.Scans.{front_of_byte, with_front}
 use Rattle.job_reader.proofs.Trims.{end_other}
 
 isnt_space : ℕ → Bool
@@ -158,10 +158,6 @@ two_in_front : (a b : ℕ) (tokens : List (List ℕ)) → in_front a (in_front b
 two_in_front a b [] = refl
 two_in_front a b (token ∷ tokens) = refl
 
-one_in_front : (a : ℕ) (tokens : List (List ℕ)) → in_front a tokens ≡ with_front (a ∷ []) tokens
-one_in_front a [] = refl
-one_in_front a (token ∷ tokens) = refl
-
 pub joined_front : (xs ys : List ℕ) (tokens : List (List ℕ)) → with_front xs (with_front ys tokens) ≡ with_front (xs ++ ys) tokens
 joined_front xs ys [] = refl
 joined_front xs ys (token ∷ tokens) = ap (λ t. t ∷ tokens) (sym (append_assoc xs ys token))
@@ -172,7 +168,7 @@ escape_scanned byte _ (at_backslash is) small rest = two_in_front 92 92 (tokens_
 escape_scanned byte _ (at_feed is) small rest = two_in_front 92 110 (tokens_from Quoted rest)
 escape_scanned byte _ (at_tab is) small rest = two_in_front 92 116 (tokens_from Quoted rest)
 escape_scanned byte _ (itself quote backslash is) small rest =
-    stays_quoted byte rest (cond-false (byte == 34) _ _ quote ∙ cond-false (byte == 92) _ _ backslash) ∙ one_in_front byte (tokens_from Quoted rest)
+    stays_quoted byte rest (cond-false (byte == 34) _ _ quote ∙ cond-false (byte == 92) _ _ backslash) ∙ front_of_byte byte (tokens_from Quoted rest)
 escape_scanned byte _ (by_digits isnt) small rest =
     let high : byte / 16 < 16 = omega arith in
     let low : byte % 16 < 16 = omega arith in
@@ -183,7 +179,7 @@ escape_scanned byte _ (by_digits isnt) small rest =
     ∙ joined_front (92 ∷ 120 ∷ []) (h ∷ l ∷ []) (tokens_from Quoted rest)
 
 pub closed_quote : (rest : List ℕ) → tokens_from Quoted (34 ∷ rest) ≡ with_front (34 ∷ []) (tokens_from Token rest)
-closed_quote rest = one_in_front 34 (tokens_from Token rest)
+closed_quote rest = front_of_byte 34 (tokens_from Token rest)
 
 inside_scanned : (bytes : List ℕ) → AreBytes bytes → (rest : List ℕ) → tokens_from Quoted (flat_map escaped bytes ++ 34 ∷ rest) ≡ with_front (flat_map escaped bytes ++ 34 ∷ []) (tokens_from Token rest)
 inside_scanned [] are rest = closed_quote rest

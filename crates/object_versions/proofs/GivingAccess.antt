@@ -11,11 +11,12 @@ use Rattle.swan_model.specs.Rights.{allows}
 use Rattle.swan_model.specs.SerialTime.{Progress, Reading, frame_of, point}
 use Rattle.swan_model.specs.Versions.{Holds, MayGet, owed, Placed, VersionState, placed_at, after_access, got, left_with}
 use Rattle.swan_model.specs.VersionsFollow.{Access, Begins, ObjectsFollow, FollowsAt, IsAccessMade, IsGiving, NextSpawnGivesObjects, IsVersionAt}
+use Rattle.swan_model.proofs.Elements.{before_more, last_more}
 use Rattle.object_versions.proofs.Differ.{writes_not-in}
 use Rattle.object_versions.proofs.GivingKept.{IsAboveKept, IsBelowKept, IsUngiven, access_kept, next_spawn_kept}
 use Rattle.object_versions.proofs.GivingPlaces.{IsBack, IsLeft, after_is, child_has, given_now, got_given, got_kind, got_mode, got_object, got_owed, got_present, left, middle, parent_has, which}
 use Rattle.object_versions.proofs.PlacesAfter.{IsHere, sorted_in, sorted_set}
-use Rattle.object_versions.proofs.Tasks.{earlier_element, last_element, one_more_element}
+use Rattle.object_versions.proofs.Tasks.{one_more_element}
 
 -- a frame that the reading doesn't have isn't one that it has
 pub no_frame : (r : Reading) (number : ℕ) (frame : Progress) → frame_of r number ≡ None → frame_of r number ≡ Some frame → ⊥
@@ -288,10 +289,10 @@ module _ (s : Script) (r : Reading) (state : VersionState) (giver : Progress) (c
   all_after : (place : ℕ) (has : Placed) → placed_at after child place ≡ Some has
       → (i : ℕ) × (one : Access) × (slice_get (made ++ access ∷ []) i ≡ Some one) × (one.child_place ≡ place)
   all_after place has is = elim (back child place has is) [
-    | inl here ↦ (length made, access, last_element made access, sym here.places)
+    | inl here ↦ (length made, access, last_more made access, sym here.places)
     | inr b ↦ elim b.how [
       | inl here ↦ absurd (differ (sym here.frames))
-      | inr there ↦ let by = giving.all place has there.was in (by.0, by.1, earlier_element made access by.0 by.1 by.2, by.3)
+      | inr there ↦ let by = giving.all place has there.was in (by.0, by.1, before_more made access by.0 by.1 by.2, by.3)
     ]
   ]
 
@@ -299,7 +300,7 @@ module _ (s : Script) (r : Reading) (state : VersionState) (giver : Progress) (c
   IsOwedFor number place = (number ≡ parent) × ((i : ℕ) × (one : Access) × (slice_get (made ++ access ∷ []) i ≡ Some one) × (one.place ≡ place) × (allows one.mode Out ≡ true))
 
   owed_for_this : (b : Bool) → allows access.mode Out ≡ b → (number place : ℕ) → number ≡ parent → place ≡ access.place → cond b (owed child) object.present ≡ owed child → IsOwedFor number place
-  owed_for_this true may number place own at owes = (own, (length made, access, last_element made access, sym at, may))
+  owed_for_this true may number place own at owes = (own, (length made, access, last_more made access, sym at, may))
   owed_for_this false may number place own at owes = absurd (not_owed owes)
 
   owed_after : (number place : ℕ) (has : Placed) → placed_at after number place ≡ Some has → has.present ≡ owed child → IsOwedFor number place
@@ -309,7 +310,7 @@ module _ (s : Script) (r : Reading) (state : VersionState) (giver : Progress) (c
       | inl here ↦ owed_for_this (allows access.mode Out) refl number place here.frames here.places (sym (ap (λ o. o.present) here.objects) ∙ owes)
       | inr there ↦
           let by = giving.owed_by number place has there.was owes in
-          (by.0, (by.1.0, by.1.1, earlier_element made access by.1.0 by.1.1 by.1.2, by.1.3, by.1.4))
+          (by.0, (by.1.0, by.1.1, before_more made access by.1.0 by.1.1 by.1.2, by.1.3, by.1.4))
     ]
   ]
 

@@ -5,6 +5,7 @@ use Rattle.std.proofs.lemmas.Map.Steps.{set_value_same}
 use Rattle.std.specs.BTreeMap.{is_at, insert_entry}
 use Rattle.std.specs.Map.{set_value, keys_of}
 use Rattle.std.specs.List.Sorted.{IsStrictlySortedBy}
+use Rattle.swan_model.proofs.Elements.{some_same}
 use Rattle.slab.specs.Slab.{Slab, get, Updates}
 use Rattle.swan_model.specs.declared.rights.Mode.TheVariants.{In}
 use Rattle.swan_model.specs.Versions.{owed, owing, place_cmp, after_access, given_from}
@@ -40,16 +41,13 @@ module _ (entries later : Entries) (old new : Slab Node) (made parent pp child c
   same : (k : ℕ) → told_at new k ≡ told_at old k
   same = shared_told entries old new made (λ _. 0) (λ k. one k was.present + one k was.present) was.present 2 whole (let some = some_use in omega (arith, some)) share
 
-  some_is : (a b : ℕ) → Some a ≡ Some b → a ≡ b
-  some_is a b e = cc
-
   fit : IsFit new made child gets
   fit =
       let before = with_shared.fits parent pp was stands in
       record {
         known = before.known;
         present = before.present;
-        given = λ k is. ap (λ n. (told_at new n).0) (sym (some_is was.present k is)) ∙ before.present;
+        given = λ k is. ap (λ n. (told_at new n).0) (sym (some_same was.present k is)) ∙ before.present;
         reads = λ k is. refl;
         owes = λ k is. absurd (cc);
       }

@@ -4,6 +4,7 @@ use Rattle.std.proofs.lemmas.Bool.{cases_eq}
 use Rattle.std.specs.BTreeMap.{is_at, insert_entry}
 use Rattle.std.specs.Map.{set_value, keys_of}
 use Rattle.std.specs.List.Sorted.{IsStrictlySortedBy}
+use Rattle.swan_model.proofs.Elements.{some_same}
 use Rattle.slab.specs.Slab.{Slab, get, Updates}
 use Rattle.swan_model.specs.declared.rights.Mode.TheVariants.{InOut}
 use Rattle.swan_model.specs.Versions.{owed, owing, place_cmp, after_access, given_from, with_placed, with_present}
@@ -56,9 +57,6 @@ module _ (entries with_child later : Entries) (old shared middle new : Slab Node
       made_told entries shared middle made (λ k. one k was.present + one k was.present) (λ k. one k key + uses_of k gets) key owed_node with_shared vacant owes k (omega arith)
       ∙ shared_told entries old shared made (λ _. 0) (λ k. one k was.present + one k was.present) was.present 2 whole (let some = some_use in omega (arith, some)) share k
 
-  some_is : (a b : ℕ) → Some a ≡ Some b → a ≡ b
-  some_is a b e = cc
-
   owed_same : (a b : ℕ) → owed a ≡ owed b → a ≡ b
   owed_same a b e = cc
 
@@ -68,9 +66,9 @@ module _ (entries with_child later : Entries) (old shared middle new : Slab Node
       record {
         known = before.known;
         present = before.present;
-        given = λ k is. ap (λ n. (told_at middle n).0) (sym (some_is was.present k is)) ∙ before.present;
+        given = λ k is. ap (λ n. (told_at middle n).0) (sym (some_same was.present k is)) ∙ before.present;
         reads = λ k is. refl;
-        owes = λ k is. let e = some_is key k is in record {
+        owes = λ k is. let e = some_same key k is in record {
           same = ap (λ n. (told_at middle n).0) (sym e) ∙ ap (λ t. t.0) told_key;
           may = refl;
           by = λ other h. sym (owed_same child other (sym (ap (λ t. t.1) told_key) ∙ ap (version_at middle) e ∙ h));

@@ -10,13 +10,13 @@ use Rattle.swan_model.specs.SerialTime.{Progress, Reading, frame_of, point}
 use Rattle.swan_model.specs.Values.{kind_of}
 use Rattle.swan_model.specs.Versions.{Version, settled, owed, Placed, VersionState, placed_at, with_placed, with_present, written_at, after_create, after_write}
 use Rattle.swan_model.specs.VersionsFollow.{Access, ObjectsFollow, IsGiving}
+use Rattle.swan_model.proofs.Elements.{before_more}
 use Rattle.object_versions.proofs.Differ.{settled_not-owed}
 use Rattle.swan_model.proofs.MovedFrames.{gone_back}
 use Rattle.object_versions.proofs.GivingKept.{IsAboveKept, IsBelowKept, IsUngiven, begins_kept, giving_kept}
 use Rattle.object_versions.proofs.Lookups.{found_in, still_set, untied}
 use Rattle.object_versions.proofs.Moves.{IsSameTask, Owes, same_task}
 use Rattle.object_versions.proofs.PlacesAfter.{after_placed, after_present}
-use Rattle.object_versions.proofs.Tasks.{earlier_element}
 
 -- ---- what doesn't change
 
@@ -91,7 +91,7 @@ create_giving old now frame place first is = λ s r origin giver child made left
     subst (λ state. IsGiving s then state giver child made left) (sym is)
     (others_leave s r then old (after_create old frame place first) giver child made left giving (subst (ObjectsFollow s then) is follows) (unread_still r frame child giving.unread)
     (λ p was stands number now owes there. same_task r frame number now (gone_back r frame number now there))
-    (λ object of has. earlier_element r.objects origin object of has)
+    (λ object of has. before_more r.objects origin object of has)
     (λ p. placed_elsewhere old frame place (made_object old first) giver.number p not_giver)
     (λ p. placed_elsewhere old frame place (made_object old first) child p not_child)
     (λ number other has stands owes. (has, create_owes old frame place first child number other has stands (inl owes), owes))

@@ -4,6 +4,7 @@ use Rattle.std.proofs.lemmas.Bool.{cases_eq}
 use Rattle.std.specs.BTreeMap.{is_at, insert_entry}
 use Rattle.std.specs.Map.{set_value, keys_of}
 use Rattle.std.specs.List.Sorted.{IsStrictlySortedBy}
+use Rattle.swan_model.proofs.Elements.{some_same}
 use Rattle.slab.specs.Slab.{Slab, get, Updates}
 use Rattle.swan_model.specs.declared.rights.Mode.TheVariants.{Out}
 use Rattle.swan_model.specs.declared.value.Value.{Value}
@@ -70,9 +71,6 @@ module _ (entries with_child later : Entries) (old first middle new : Slab Node)
       made_told entries first middle made (λ k. one k key + one k key) (λ k. one k key + uses_of k gets) own own_node with_key vacant_own starts k (omega arith)
       ∙ made_told entries old first made (λ _. 0) (λ k. one k key + one k key) key owed_node whole vacant_key owes k (omega arith)
 
-  some_is : (a b : ℕ) → Some a ≡ Some b → a ≡ b
-  some_is a b e = cc
-
   owed_same : (a b : ℕ) → owed a ≡ owed b → a ≡ b
   owed_same a b e = cc
 
@@ -85,7 +83,7 @@ module _ (entries with_child later : Entries) (old first middle new : Slab Node)
     present = ap (λ t. t.0) told_own;
     given = λ k is. absurd (cc);
     reads = λ k is. absurd (cc);
-    owes = λ k is. let e = some_is key k is in record {
+    owes = λ k is. let e = some_same key k is in record {
       same = ap (λ n. (told_at middle n).0) (sym e) ∙ ap (λ t. t.0) told_key;
       may = refl;
       by = λ other h. sym (owed_same child other (sym (ap (λ t. t.1) told_key) ∙ ap (version_at middle) e ∙ h));

@@ -1,6 +1,6 @@
 -- A new object: whoever made it has it at a place, by its first value, and may read and write it.
 use Rattle.std.proofs.Common.{◌≡◌, ◌≢◌, ◌⊎◌, inl, inr, ℕ, zero, suc, ◌+◌, ◌-◌, ◌<◌, ◌≤◌, nat_eq, ◌&&◌, ◌||◌, Bool, true, false, cond, None, Some, List, [], ◌∷◌, ◌++◌, length, refl, sym, ap, subst, ◌∙◌, arith, length-append}
-use Rattle.std.proofs.lemmas.Bool.{eq-eqb, lt-ltb}
+use Rattle.std.proofs.lemmas.Bool.{eq-eqb, lt-ltb, or_right}
 use Rattle.std.proofs.lemmas.List.Folds.{list_any-append}
 use Rattle.std.proofs.lemmas.Option.{slice_get_within}
 use Rattle.std.specs.Prelude.{slice_get, slice_index, IsTrue}
@@ -26,12 +26,13 @@ use Rattle.swan_model.specs.Values.{kind_of}
 use Rattle.swan_model.specs.Versions.{settled, Placed, VersionState, placed_at, new_versions, after_create}
 use Rattle.swan_model.specs.VersionsFollow.{ObjectsFollow, FollowsAt}
 use Rattle.swan_model.proofs.MovedFrames.{frame_number, gone_back, gone_there, path_kept}
+use Rattle.swan_model.proofs.Elements.{last_more}
 use Rattle.object_versions.proofs.PlacesAfter.{after_placed, sorted_in, still_placed}
 use Rattle.object_versions.proofs.Moves.{Owes, acting, at_gone, at_moves, does_now}
 use Rattle.swan_model.proofs.ScriptCells.{cell_made}
 use Rattle.swan_model.proofs.ScriptRights.{maker_holds_object}
 use Rattle.swan_model.proofs.ScriptSteps.{at_next}
-use Rattle.object_versions.proofs.Tasks.{IsLast, done_gone, done_then, last_element, not_done, one_more_element, tasks_gone}
+use Rattle.object_versions.proofs.Tasks.{IsLast, done_gone, done_then, not_done, one_more_element, tasks_gone}
 use Rattle.object_versions.proofs.Differ.{settled_not-owed}
 
 -- ---- before the first step
@@ -99,7 +100,7 @@ module _ (s : Script) (r after : Reading) (state : VersionState) (follows : Obje
         let number_now : slice_get after.objects state.made ≡ Some of = ap (λ o. slice_get after.objects o.object) (sym here.objects) ∙ made in
         let count = follows.objects in
         let found : slice_get after.objects state.made ≡ Some origin =
-        ap (λ os. slice_get os state.made) objects ∙ ap (slice_get (r.objects ++ origin ∷ [])) (sym count) ∙ last_element r.objects origin in
+        ap (λ os. slice_get os state.made) objects ∙ ap (slice_get (r.objects ++ origin ∷ [])) (sym count) ∙ last_more r.objects origin in
         let same : origin ≡ of = let e : Some origin ≡ Some of = sym found ∙ number_now in cc in
         subst (λ o. FollowsAt s after now o of) (sym here.objects) (subst (λ f. FollowsAt s after now (made_object state first) f) same
         (new now (ap (frame_of after) (sym here.frames) ∙ moved)))
@@ -199,10 +200,6 @@ point_start s lawful root path done =
     ∙ ap (λ b. cond b (time s [] 0) (time s [] (length (times s []) - 1) + 1)) (lt-ltb 0 (length (times s [])) at.0)
     ∙ at.1
 
-or_second : (a b : Bool) → b ≡ true → (a || b) ≡ true
-or_second true b is = refl
-or_second false b is = is
-
 root_among : (many from k : ℕ) → k < many → may_use (roots_from InOut from many) InOut (Root (from + k)) ≡ true
 root_among zero from k less = absurd (omega arith)
 root_among (suc many) from zero less =
@@ -210,14 +207,14 @@ root_among (suc many) from zero less =
     ap (λ b. b || may_use (roots_from InOut (from + 1) many) InOut (Root (from + 0))) (eq-eqb from (from + 0) e)
 root_among (suc many) from (suc k) less =
     let e : (from + 1) + k ≡ from + suc k = omega arith in
-    or_second (nat_eq from (from + suc k)) _ (ap (λ j. may_use (roots_from InOut (from + 1) many) InOut (Root j)) (sym e) ∙ root_among many (from + 1) k (omega arith))
+    or_right (nat_eq from (from + suc k)) _ (ap (λ j. may_use (roots_from InOut (from + 1) many) InOut (Root j)) (sym e) ∙ root_among many (from + 1) k (omega arith))
 
 root_holds_object : (s : Script) (path : List ℕ) (index : ℕ) → path ≡ [] → index < length s.objects → may_use (holds s path 0) InOut (Root index) ≡ true
 root_holds_object s path index is less =
     let e : index ≡ 0 + index = omega arith in
     ap (λ p. may_use (holds s p 0) InOut (Root index)) is
     ∙ list_any-append (λ (has : OriginGive). allows has.mode InOut && is_same has.origin (Root index)) (roots_from PushPop 0 (length s.queues)) (roots_from InOut 0 (length s.objects))
-    ∙ or_second _ _ (ap (λ j. may_use (roots_from InOut 0 (length s.objects)) InOut (Root j)) e ∙ root_among (length s.objects) 0 index less)
+    ∙ or_right _ _ (ap (λ j. may_use (roots_from InOut 0 (length s.objects)) InOut (Root j)) e ∙ root_among (length s.objects) 0 index less)
 
 pub root_object_follows : (s : Script) (r : Reading) (state : VersionState) (n place : ℕ) (first : Value) (root : Progress) → placed_at state n place ≡ None → IsLawful s
     → ObjectsFollow s r state → n ≡ 0 → frame_of r 0 ≡ Some root → root.done ≡ 0 → slice_get s.objects state.made ≡ Some first

@@ -4,6 +4,7 @@ use Rattle.std.proofs.lemmas.Bool.{cases_eq}
 use Rattle.std.proofs.lemmas.Map.Steps.{set_value_same}
 use Rattle.std.specs.BTreeMap.{is_at}
 use Rattle.std.specs.Map.{set_value}
+use Rattle.swan_model.proofs.Elements.{some_same}
 use Rattle.slab.specs.Slab.{Slab, get, Updates}
 use Rattle.swan_model.specs.declared.value.Value.{Value}
 use Rattle.swan_model.specs.Versions.{settled, owed, owing, place_cmp, with_present, after_write, written_at}
@@ -14,9 +15,6 @@ use Rattle.object_versions.specs.Store.{Entries, place_at, told_of, told_at, ver
 use Rattle.object_versions.specs.Whole.{IsWhole, HasOwn}
 use Rattle.object_versions.proofs.Counts.{HasNode, one_self, one_other, counted_after, told_here, told_elsewhere, used, uses_at, uses_set, present_used}
 use Rattle.object_versions.proofs.Seeing.{seen_same, seen_set, seen_some}
-
-some_is : {A : Type 0} (a b : A) → Some a ≡ Some b → a ≡ b
-some_is a b e = cc
 
 -- what is set twice has what was set last
 set_twice : {X : Type 0} (test : ℕ × ℕ → Bool) (es : List ((ℕ × ℕ) × X)) (v w : X) → set_value test (set_value test es v) w ≡ set_value test es w
@@ -75,7 +73,7 @@ module _ (entries : Entries) (old new : Slab Node) (made f p : ℕ) (was : Place
     counted = counted_after old new was.present _ update (λ k. uses k entries + 0) (λ k. uses k entries + 0) whole.counted (λ k apart. refl)
         (sym (ap uses_in found.is) ∙ whole.counted.exact was.present)
         (λ other is. let P : Node → Type 0 = λ o. 0 < o.uses in
-        subst P (some_is (record found.node { state = Settled value }) other is) (whole.counted.live was.present found.node found.is));
+        subst P (some_same (record found.node { state = Settled value }) other is) (whole.counted.live was.present found.node found.is));
     fits = λ frame place other is. let fit = whole.fits frame place other is in record {
       known = fit.known;
       present = same_object other.present ∙ fit.present;

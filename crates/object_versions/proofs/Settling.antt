@@ -2,6 +2,7 @@
 use Rattle.std.proofs.Common.{◌≡◌, ℕ, ◌+◌, ◌<◌, true, cond, ◌==◌, Some, refl, sym, ap, ◌∙◌, subst, arith, ⊎_elim}
 use Rattle.std.proofs.lemmas.Bool.{cases_eq}
 use Rattle.std.specs.Option.{unwrap_or}
+use Rattle.swan_model.proofs.Elements.{some_same}
 use Rattle.slab.specs.Slab.{Slab, get, Updates}
 use Rattle.swan_model.specs.declared.value.Value.{Value}
 use Rattle.swan_model.specs.Versions.{settled, owed, VersionState, settle, left_by, IsSettled}
@@ -18,9 +19,6 @@ use Rattle.object_versions.proofs.Listing.{left_of, equal_to}
 
 settled_owes : (value : Value) (frame : ℕ) → settled value ≡ owed frame → ⊥
 settled_owes value frame e = cc
-
-some_is : (a b : Node) → Some a ≡ Some b → a ≡ b
-some_is a b e = cc
 
 key_is : (a b : ℕ) → Some a ≡ Some b → a ≡ b
 key_is a b e = cc
@@ -143,7 +141,7 @@ module _ (entries : Entries) (start now next : Slab Node) (made n q : ℕ) (has 
     counted = counted_after now next key _ update (λ k. uses k entries + 0) (λ k. uses k entries + 0) begun.whole.counted (λ k apart. refl)
         (sym (ap uses_in found.is) ∙ begun.whole.counted.exact key)
         (λ other is. let P : Node → Type 0 = λ o. 0 < o.uses in
-        subst P (some_is (record found.node { state = state_settled found.node.state value }) other is) (begun.whole.counted.live key found.node found.is));
+        subst P (some_same (record found.node { state = state_settled found.node.state value }) other is) (begun.whole.counted.live key found.node found.is));
     fits = fit_next;
     owing = λ k m h is. begun.whole.owing k m h (owed_before k m is);
     alone = begun.whole.alone;

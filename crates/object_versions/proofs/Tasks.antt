@@ -1,6 +1,6 @@
 -- What is done stays done, and the frames of a reading stay tasks of the script, as one of them does one more entry.
 use Rattle.std.proofs.Common.{◌≡◌, ◌⊎◌, inl, inr, ℕ, zero, suc, ◌+◌, ◌<◌, nat_lt, Bool, true, false, ◌||◌, Option, None, Some, List, [], ◌∷◌, ◌++◌, length, map, refl, sym, ap, subst, ◌∙◌, arith}
-use Rattle.std.proofs.lemmas.Bool.{and_parts, and_from, lt-ltb, ltb-true}
+use Rattle.std.proofs.lemmas.Bool.{and_parts, and_from, lt-ltb, ltb-true, or_left}
 use Rattle.std.proofs.lemmas.List.Folds.{list_any-append}
 use Rattle.std.proofs.lemmas.Map.Keys.{any_passes_from_place}
 use Rattle.std.proofs.lemmas.Option.{slice_get-map}
@@ -38,15 +38,6 @@ one_more_element (z ∷ xs) x (suc i) y is = elim (one_more_element xs x i y is)
   | inr last ↦ inr (record { place = ap suc last.place; same = last.same })
 ]
 
-pub earlier_element : {A : Type 0} (xs : List A) (x : A) (i : ℕ) (y : A) → slice_get xs i ≡ Some y → slice_get (xs ++ x ∷ []) i ≡ Some y
-earlier_element [] x i y is = absurd (cc)
-earlier_element (z ∷ xs) x zero y is = is
-earlier_element (z ∷ xs) x (suc i) y is = earlier_element xs x i y is
-
-pub last_element : {A : Type 0} (xs : List A) (x : A) → slice_get (xs ++ x ∷ []) (length xs) ≡ Some x
-last_element [] x = refl
-last_element (z ∷ xs) x = last_element xs x
-
 -- ---- what is done
 
 any_goes : (test : Progress → Bool) (n : ℕ) → ((frame : Progress) → test frame ≡ true → test (one_more n frame) ≡ true) → (frames : List Progress)
@@ -78,10 +69,6 @@ done_gone s r n t is = by (slice_get s.entries t) is where
   by None none = none
   by (Some entry) any = any_goes (is_past s t entry) n (past_goes s t entry n) r.frames any
 
-or_first : (a b : Bool) → a ≡ true → (a || b) ≡ true
-or_first true b is = refl
-or_first false b is = absurd (cc)
-
 pub done_spawned : (s : Script) (r : Reading) (parent : Progress) (child t : ℕ) → IsTrue (is_done s r t) → IsTrue (is_done s (spawned s r parent child) t)
 done_spawned s r parent child t is = by (slice_get s.entries t) is where
   by : (o : Option Entry) → IsTrue (option_map_or (λ entry. list_any (is_past s t entry) r.frames) o false)
@@ -89,7 +76,7 @@ done_spawned s r parent child t is = by (slice_get s.entries t) is where
   by None none = none
   by (Some entry) any =
       list_any-append (is_past s t entry) (map (one_more parent.number) r.frames) (child_of s parent child ∷ [])
-      ∙ or_first _ _ (any_goes (is_past s t entry) parent.number (past_goes s t entry parent.number) r.frames any)
+      ∙ or_left _ _ (any_goes (is_past s t entry) parent.number (past_goes s t entry parent.number) r.frames any)
 
 -- who has done it
 pub record IsDoneBy (s : Script) (r : Reading) (t : ℕ) : Type 0 where
@@ -172,7 +159,7 @@ done_spawning s r parent child does known next =
     let any = any_passes_from_place (is_past s (point s parent) step.entry) (map (one_more parent.number) r.frames) here.index (one_more parent.number parent) place (past_then s parent does next) in
     ap (λ o. option_map_or (λ entry. list_any (is_past s (point s parent) entry) (map (one_more parent.number) r.frames ++ child_of s parent child ∷ [])) o false) step.stands
     ∙ list_any-append (is_past s (point s parent) step.entry) (map (one_more parent.number) r.frames) (child_of s parent child ∷ [])
-    ∙ or_first _ _ any
+    ∙ or_left _ _ any
 
 -- ---- the tasks
 

@@ -11,6 +11,7 @@ use Rattle.std.specs.BTreeMap.Range.{entries_between, range_contains}
 use Rattle.std.specs.declared.cmp.Ordering.TheVariants.{Less}
 use Rattle.std.specs.declared.ops.Bound.TheVariants.{Included, Unbounded}
 use Rattle.swan_model.specs.Versions.{place_cmp}
+use Rattle.swan_model.proofs.Elements.{some_same}
 use Rattle.object_versions.specs.declared.placed_object.PlacedObject.{PlacedObject}
 use Rattle.object_versions.specs.Store.{Entries, place_at}
 use Rattle.object_versions.proofs.Lookups.{equal_at, tied}
@@ -25,9 +26,6 @@ pub record IsWalk (entries left : Entries) (frame : ℕ) (Done : PlacedObject �
 
 none_is : (has : PlacedObject) → None ≡ Some has → ⊥
 none_is has e = cc
-
-some_is : (a b : PlacedObject) → Some a ≡ Some b → a ≡ b
-some_is a b e = cc
 
 -- what is true of all keys is true of one that is found
 all_found : (P : ℕ × ℕ → Type 0) (es : Entries) (n : ℕ × ℕ) (has : PlacedObject) → AllByRecursion P (keys_of es) → place_at es n.0 n.1 ≡ Some has → P n
@@ -71,7 +69,7 @@ module _ (entries left : Entries) (frame : ℕ) (Done : PlacedObject → Type 0)
   found : (n : ℕ × ℕ) (has : PlacedObject) → place_at (e ∷ left) n.0 n.1 ≡ Some has → Found n has
   found n has is = by (is_at (place_cmp n) e.0) refl is where
     by : (b : Bool) → is_at (place_cmp n) e.0 ≡ b → cond b (Some e.1) (place_at left n.0 n.1) ≡ Some has → Found n has
-    by true same at = here (equal_at n e.0 same) (some_is e.1 has at)
+    by true same at = here (equal_at n e.0 same) (some_same e.1 has at)
     by false other at = after at
 
   -- the next entry is what stands in the map

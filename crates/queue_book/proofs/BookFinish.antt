@@ -29,6 +29,7 @@ use Rattle.queues.proofs.Frames.{same_frame}
 use Rattle.queue_book.proofs.LiveKept.{key_none, kept_live, live_gone, place_has}
 use Rattle.queues.proofs.Match.{matches_finish, matches_finish_other}
 use Rattle.queue_book.proofs.PlainSaid.{on_next}
+use Rattle.queue_book.proofs.BookRest.{root_path}
 use Rattle.queues.proofs.TreeSpawners.{spawners_finish}
 use Rattle.queues.proofs.TreeKept.{tree_finish}
 use Rattle.queues.proofs.TreeOwners.{none_has, owners_finish, owners_kept_finish, owners_none}
@@ -40,10 +41,6 @@ in_use_before state n q maker (inr (m, frame, live, has)) = elim (cases_eq m n) 
   | inl here ↦ let never : None ≡ Some frame = sym (one_gone state n).changed ∙ ap (active (after_finish state n)) (sym here) ∙ live in absurd (cc)
   | inr other ↦ inr (m, frame, sym ((one_gone state n).others m other) ∙ live, has)
 ]
-
-root_path : (maker : QueueMaker) → IsOfRoot (Some maker) → maker_path maker ≡ []
-root_path (planned index) is = refl
-root_path (made_by path deeds) is = is
 
 -- only the root's path is empty
 below_root : (state : QueueState) → IsTree state → (n : ℕ) (frame : ActiveFrame) → active state n ≡ Some frame → n ≢ 0 → frame.path ≡ [] → ⊥

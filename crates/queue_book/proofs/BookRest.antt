@@ -52,9 +52,10 @@ none_active state tree over m frame live =
     let never : None ≡ Some root.0 = sym over ∙ root.1 in
     cc
 
-of_root : (maker : QueueMaker) → IsOfRoot (Some maker) → maker_path maker ≡ []
-of_root (planned index) is = refl
-of_root (made_by path deeds) is = is
+-- a queue of the root was made at its path
+pub root_path : (maker : QueueMaker) → IsOfRoot (Some maker) → maker_path maker ≡ []
+root_path (planned index) is = refl
+root_path (made_by path deeds) is = is
 
 -- no frame has a chunk
 none_owns : (state : QueueState) (queue : ℕ) → ((m : ℕ) (frame : ActiveFrame) → active state m ≡ Some frame → ⊥) → HasOwners state queue []
@@ -95,7 +96,7 @@ module _ (name : Option Script) (state : QueueState) (frames : LiveFrames) (head
       let line = is.plain.queues q maker.0 maker.1 in
       let matches = line.matches full (inl is_root) s named lawful in
       let P : List ℕ → Type 0 = λ path. Matches s state q (origin_in s maker.0) (end_time s path) (is.lines q) in
-      are ∙ rest_told s lawful state q (origin_in s maker.0) (is.lines q) (subst P (of_root maker.0 is_root) matches)
+      are ∙ rest_told s lawful state q (origin_in s maker.0) (is.lines q) (subst P (root_path maker.0 is_root) matches)
       (λ index number own. let frame = line.owners.owners index number own in none_active state is.plain.tree left.over number frame.0 frame.1))
 
   pub book_rest : (after_heads : List (Option ℕ)) (after_nodes : Slab Link) → length after_heads ≡ length heads

@@ -81,13 +81,6 @@ front_spent link none unowned =
     let Q : List Value → Type 0 = λ items. is_spent (record { owner = None; items = items }) ≡ true in
     subst P (sym unowned) (subst Q (sym none) refl)
 
-pub spent_closed : (chunk : Chunk) → is_spent chunk ≡ true → chunk.owner ≡ None
-spent_closed chunk spent = by_parts chunk.owner chunk.items spent where
-  by_parts : (owner : Option ℕ) (items : List Value) → is_spent (record { owner = owner; items = items }) ≡ true → owner ≡ None
-  by_parts None items e = refl
-  by_parts (Some n) [] e = absurd (false≢true e)
-  by_parts (Some n) (item ∷ items) e = absurd (false≢true e)
-
 module _ (at : ℕ → ℕ → Option ℕ) (heads : List (Option ℕ)) (nodes : Slab Link) (lines : ℕ → Chunks) (is : AreChained at heads nodes lines) (queue : ℕ) where
   pub empty_line : slice_get heads queue ≡ Some None → lines queue ≡ []
   empty_line has = let one = is.chains queue None has in no_chunks nodes queue one.0 (lines queue) one.1

@@ -7,9 +7,10 @@ use Rattle.slab.specs.Slab.{Slab, get, Updates}
 use Rattle.pop_order.proofs.Flags.{and_both, and_parts, eq_of, eq_same, or_cases, or_left, or_right}
 use Rattle.swan_model.specs.declared.value.Value.{Value}
 use Rattle.queues.specs.Chunks.{Chunk, Chunks, own, is_owned, after_hand_on}
+use Rattle.queues.proofs.MatchOwners.{owned_is}
 use Rattle.queue_book.specs.Chains.{Link, chunk_of, is_among, IsChain, AreChained, in_line, put_at}
 use Rattle.swan_model.proofs.Elements.{more_cases}
-use Rattle.queue_book.proofs.ChainKept.{one_link, chain_same, in_chain, owned_by, owned_so}
+use Rattle.queue_book.proofs.ChainKept.{one_link, chain_same, in_chain, owned_so}
 use Rattle.queue_book.proofs.ChainChanges.{one_some, put_same, put_other}
 
 not_both : (o : Option Link) (link : Link) → o ≡ None → o ≡ Some link → ⊥
@@ -133,7 +134,7 @@ module _ (nodes after : Slab Link) (queue key new parent child : ℕ) (link : Li
         at_first : (b : Bool) → is_owned parent chunk ≡ b → HasHandedOn nodes after queue l.next keys new (after_hand_on parent child chunks)
             → HasHandedOn nodes after queue head (k ∷ keys) new (cond b (own child chunk.items ∷ own parent [] ∷ chunks) (chunk ∷ after_hand_on parent child chunks))
         at_first true owns later =
-            let l_owner : l.owner ≡ Some parent = ap (λ (c : Chunk). c.owner) (sym chunk_is) ∙ owned_by parent chunk owns in
+            let l_owner : l.owner ≡ Some parent = ap (λ (c : Chunk). c.owner) (sym chunk_is) ∙ owned_is parent chunk owns in
             let here : k ≡ key = sole k l stands l_mine l_owner in
             let same : l ≡ link = one_link (get nodes key) l link (ap (λ n. get nodes n) (sym here) ∙ stands) is.stands in
             let new_apart : is_among new keys ≡ false = vacant_apart nodes queue l.next keys chunks new is.vacant rest in

@@ -8,6 +8,7 @@ use Rattle.std.specs.Prelude.{slice_get, if◌then◌else◌}
 use Rattle.slab.specs.Slab.{Slab, get, with_value, Updates}
 use Rattle.swan_model.specs.declared.value.Value.{Value}
 use Rattle.queues.specs.Chunks.{Chunk, Chunks, is_owned, with_item, after_close}
+use Rattle.queues.proofs.MatchOwners.{owned_is}
 use Rattle.queue_book.specs.Chains.{Link, chunk_of, is_among, IsChain, in_line}
 
 -- two nodes of one key are one
@@ -61,12 +62,6 @@ closed_is number (chunk ∷ chunks) =
     ap (λ rest. if is_owned number chunk then record chunk { owner = None } ∷ chunks else chunk ∷ rest) (closed_is number chunks)
 
 -- whose chunk it is
-pub owned_by : (number : ℕ) (chunk : Chunk) → is_owned number chunk ≡ true → chunk.owner ≡ Some number
-owned_by number chunk is = owned (chunk.owner) refl is where
-  owned : (owner : Option ℕ) → chunk.owner ≡ owner → option_map_or (λ owner. owner == number) owner false ≡ true → owner ≡ Some number
-  owned None e h = absurd (false≢true h)
-  owned (Some n) e h = ap Some (eq_of n number h)
-
 pub owned_so : (number : ℕ) (owner : Option ℕ) → owner ≡ Some number → option_map_or (λ owner. owner == number) owner false ≡ true
 owned_so number owner e = let P : Option ℕ → Type 0 = λ o. option_map_or (λ owner. owner == number) o false ≡ true in subst P (sym e) (eq_same number)
 
@@ -112,7 +107,7 @@ module _ (nodes after : Slab Link) (queue number key : ℕ) (link new : Link) (c
     at_first : (b : Bool) → is_owned number chunk ≡ b → IsChain after queue l.next keys (at_owned number change chunks)
         → IsChain after queue head (k ∷ keys) (cond b (change chunk ∷ chunks) (chunk ∷ at_owned number change chunks))
     at_first true owns later =
-        let l_owner : l.owner ≡ Some number = ap (λ (c : Chunk). c.owner) (sym chunk_is) ∙ owned_by number chunk owns in
+        let l_owner : l.owner ≡ Some number = ap (λ (c : Chunk). c.owner) (sym chunk_is) ∙ owned_is number chunk owns in
         let here : k ≡ key = is.sole k l stands mine l_owner in
         let same : l ≡ link = one_link (get nodes key) l link (ap (λ n. get nodes n) (sym here) ∙ stands) is.stands in
         let next : new.next ≡ l.next = is.same_next ∙ ap (λ (m : Link). m.next) (sym same) in

@@ -2,7 +2,7 @@ use Rattle.std.proofs.Common.{◌≡◌, ◌∷◌, drop, refl, sym, ap, ◌∙�
 use Rattle.queues.specs.Chunks.{Chunk}
 use Rattle.queue_book.specs.Chains.{chunk_of}
 use Rattle.queue_book.proofs.ChainLoops.{left_none, trimmed_drop}
-use Rattle.queue_book.proofs.ChainFronts.{spent_closed}
+use Rattle.queues.proofs.ChunkOwners.{spent_unowned}
 use Rattle.queue_book.proofs.chains.Chains.trim.Goals as goal
 
 pub loop-front-init : goal.loop-front-init
@@ -23,5 +23,5 @@ loop-front-preserved c = record {
       let are : chunk_of node ∷ drop 1 (now c.args.queue) ≡ spent.0 ∷ spent.1 = sym first ∙ spent.2 in
       let chunk_is : chunk_of node ≡ spent.0 = cc in
       trimmed_drop at lines c.args.queue c.args.self.now.nodes c.loop-front.self.heads.items c.drop_first.new.self.heads.items c.loop-front.self.nodes c.drop_first.new.self.nodes c.in-Some-drop_first.ensures.fewer
-      was spent.0 spent.1 spent.2 spent.3 (c.in-Some-drop_first.ensures.dropped at now was.left.kept (ap (λ (ch : Chunk). ch.owner) chunk_is ∙ spent_closed spent.0 spent.3));
+      was spent.0 spent.1 spent.2 spent.3 (c.in-Some-drop_first.ensures.dropped at now was.left.kept (ap (λ (ch : Chunk). ch.owner) chunk_is ∙ spent_unowned spent.0 spent.3));
 }
