@@ -1,7 +1,8 @@
 //! Runs of a plan out of order.
 //!
 //! `run_alone` runs an opened core to its end on one thread. It keeps the live frames on a stack, with each child above its
-//! parent: the top is the earliest live frame in serial order, so it never has to wait.
+//! parent: the top is the earliest live frame in serial order, so it never has to wait. `turns_are_few` says how long such a run
+//! can be, and how many frames stand there.
 #![tactic(auto)]
 
 mod alone;

@@ -1,24 +1,19 @@
 -- What the core answers of a step.
-use Rattle.std.proofs.Common.{◌≡◌, ◌≢◌, ℕ, ◌+◌, ◌-◌, ◌<◌, true, false, Option, Some, None, List, is_none, is_some, refl, sym, ap, subst, ◌∙◌, arith}
+use Rattle.std.proofs.Common.{◌≡◌, ◌≢◌, ℕ, ◌+◌, Some, None, is_some, refl, sym, ap, subst, ◌∙◌}
 use Rattle.std.proofs.lemmas.Option.{same_Some}
-use Rattle.std.specs.Option.{ForSome}
-use Rattle.swan_model.specs.declared.body.Ask.{Ask}
 use Rattle.swan_model.specs.declared.body.Body.{Ghosts}
 use Rattle.swan_model.specs.declared.plan.Plan.{Plan}
-use Rattle.swan_model.specs.declared.script.Deed.TheVariants as deed
-use Rattle.swan_model.specs.QueueState.{ActiveFrame, active, after_lend}
-use Rattle.queues.specs.declared.answers.WaitFor.{WaitFor}
+use Rattle.swan_model.specs.QueueState.{active}
 use Rattle.queues.proofs.ActiveAfter.{one_goes_on}
 use Rattle.task_frames.specs.declared.resumed.Resumed.{Resumed}
 use Rattle.task_frames.specs.declared.resumed.Resumed.TheVariants as resumed
-use Rattle.task_frames.specs.declared.resumed.Waited.{Waited}
 use Rattle.task_frames.specs.declared.step.Step.{Step}
 use Rattle.task_frames.specs.declared.step.Step.TheVariants as step
 use Rattle.task_frames.specs.declared.steps.Steps.{Steps}
-use Rattle.task_frames.specs.Cores.{AtCore, CoreView, HasIt, IsCore, IsCoreView, IsGiven, KeptView, come_in, is_over}
-use Rattle.task_frames.specs.Frames.{FrameView, Task, is_whole}
-use Rattle.task_frames.specs.Records.{HasNoLiveChild, IsLiveChild, LiveFrame, come_at, live_at}
-use Rattle.task_frames.specs.Resumes.{AreOfPlan, EndsOf, HasLent, HasNoChild, HasNone, HaveCome, IsAnswered, IsChildOf, IsGivenAs, IsGivenBy, IsLiveBefore, IsResumed, IsShown, IsShownBy, IsStep, OthersKept, OthersStay, waited_for}
+use Rattle.task_frames.specs.Cores.{MayBegin, AtCore, CoreView, HasIt, IsCore, KeptView, come_in}
+use Rattle.task_frames.specs.Frames.{FrameView, Task}
+use Rattle.task_frames.specs.Records.{HasNoLiveChild, IsLiveChild, come_at, live_at}
+use Rattle.task_frames.specs.Resumes.{MayStep, AreOfPlan, EndsOf, HasLent, HasNoChild, HaveCome, IsAnswered, IsChildOf, IsGivenAs, IsGivenBy, IsLiveBefore, IsResumed, IsShown, IsStep, OthersKept, OthersStay, waited_for}
 use Rattle.task_frames.proofs.Given.{given-stays, has-stays}
 use Rattle.task_frames.proofs.Lives.{child-comes, come-only}
 
@@ -121,6 +116,11 @@ module _ {B L E : Type 0} (G : Ghosts B L) (of : EndsOf E) (before after : CoreV
       let came = child-comes start.live (come_at start.live n frame.task.done frame-then) n frame.task.done n other (come-only start.live _ n frame.task.done frame-then refl refl) was in
       none other (subst (λ (k : KeptView). IsLiveChild k.live n other) (sym come) came)
 
+  -- and who may begin then
+  may-step : MayBegin taken n → MayStep of before frame
+  may-step may x is =
+      subst (λ k. MayBegin (come_in k frame.task (of.ends frame.ends)) n) (same_Some start x (sym start_is ∙ is)) (subst (λ k. MayBegin k n) come may)
+
   abbrev t : Task B L
   t = record frame.task { since = frame.task.done }
 
@@ -134,6 +134,7 @@ module _ {B L E : Type 0} (G : Ghosts B L) (of : EndsOf E) (before after : CoreV
         kept-others (λ other. other ≢ n) (from-start (λ other. other ≢ n) (λ m apart. apart) so.3
             (fewer-stay stepped given (λ other. other ≢ next.task.number) (λ other. other ≢ n) (λ m apart same. apart (same ∙ own)) answered.2)),
         (λ sync. no-child (so.4 sync)),
+        may-step so.5,
       )
     where
       same-rest : (a : AtCore B L) (b : FrameView B L E) → b.task ≡ a.task
@@ -155,6 +156,7 @@ module _ {B L E : Type 0} (G : Ghosts B L) (of : EndsOf E) (before after : CoreV
         kept-others IsOther (from-start IsOther (λ m apart. apart.0)
             (fewer-stay taken stepped (λ other. (other ≢ n) × (other ≢ new.task.number)) IsOther (λ m apart. (apart.0, λ same. apart.1 (same ∙ sym child_own))) so.6)
             (fewer-stay stepped given (λ other. (other ≢ parent.task.number) × (other ≢ new.task.number)) IsOther (λ m apart. (λ same. apart.0 (same ∙ own), λ same. apart.1 (same ∙ sym child_own))) answered.3)),
+        may-step so.7,
       )
   resumed-cases Q (step.Waits same wait_for) (resumed.Waits it waited) so answered =
       let its_so = answered.1 in
@@ -187,6 +189,7 @@ module _ {B L E : Type 0} (G : Ghosts B L) (of : EndsOf E) (before after : CoreV
     (λ x is. subst (λ (k : KeptView). live_at k.live n ≡ None) (same_Some given x (sym given_is ∙ is)) (subst (λ (k : KeptView). live_at k.live n ≡ None) (sym answered.1) so.3)),
     kept-others (λ other. other ≢ n) (from-start (λ other. other ≢ n) (λ m apart. apart) so.4 (subst (λ k. OthersStay stepped k (λ other. other ≢ n)) (sym answered.1) (all-stay stepped (λ other. other ≢ n)))),
     no-child so.5,
+    may-step so.6,
   )
   resumed-cases Q (step.Runs next) (resumed.Spawned it child steps) so answered = absurd answered
   resumed-cases Q (step.Runs next) (resumed.Waits it waited) so answered = absurd answered

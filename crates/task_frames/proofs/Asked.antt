@@ -1,7 +1,6 @@
 -- A frame at the core that asks for something: what it may use, and how it goes on.
-use Rattle.std.proofs.Common.{◌≡◌, ◌≢◌, inl, inr, ℕ, ◌+◌, ◌-◌, ◌<◌, ◌≤◌, true, false, cond, Option, Some, None, List, [], ◌∷◌, length, map, refl, sym, ap, subst, ◌∙◌, arith}
+use Rattle.std.proofs.Common.{◌≡◌, ◌≢◌, inl, inr, ℕ, ◌+◌, ◌<◌, true, false, cond, Option, Some, None, List, [], ◌∷◌, map, refl, sym, ap, subst, ◌∙◌, arith}
 use Rattle.std.proofs.lemmas.Bool.{cases_lt}
-use Rattle.std.proofs.lemmas.Option.{same_Some, slice_get-map}
 use Rattle.std.specs.Option.{option_map}
 use Rattle.std.specs.Prelude.{slice_get}
 use Rattle.swan_model.specs.declared.body.Answer.{Answer}
@@ -18,7 +17,7 @@ use Rattle.swan_model.specs.declared.script.Deed.{Deed}
 use Rattle.swan_model.specs.declared.script.Deed.TheVariants as deed
 use Rattle.swan_model.specs.declared.value.Value.{Value}
 use Rattle.swan_model.specs.Granted.{is_spawn}
-use Rattle.swan_model.specs.QueueState.{ActiveFrame, active, after_deed}
+use Rattle.swan_model.specs.QueueState.{after_deed}
 use Rattle.swan_model.specs.Readings.{gone_on_by}
 use Rattle.swan_model.specs.Rights.{allows}
 use Rattle.swan_model.specs.Script.{script}
@@ -26,7 +25,6 @@ use Rattle.swan_model.specs.SerialState.{Activation, Holding}
 use Rattle.swan_model.specs.SerialStep.{given, given_also, number_at, used_by}
 use Rattle.swan_model.specs.SerialTime.{is_queue_deed, time}
 use Rattle.swan_model.specs.Told.{count, deed_at, pushes, taken}
-use Rattle.swan_model.specs.TrueFrames.{StandsAt}
 use Rattle.swan_model.specs.Versions.{Placed, after_write, placed_at}
 use Rattle.swan_model.specs.VersionsFollow.{is_object_deed}
 use Rattle.queues.specs.Asks.{MayDo}
@@ -42,7 +40,6 @@ use Rattle.task_frames.specs.Resumes.{EndsByFault, IsStep, MayNotUse}
 use Rattle.task_frames.proofs.Goings.{runs-quiet, runs-used, runs-written}
 use Rattle.task_frames.proofs.Served.{same-mode, some-and}
 use Rattle.serial_elision.proofs.FewMade.{few-times}
-use Rattle.swan_model.specs.declared.plan.TheConstants.{FUEL_MOST}
 
 -- ---- what is held, by the run's numbers and by the elision's
 

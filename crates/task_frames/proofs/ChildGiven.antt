@@ -1,5 +1,5 @@
 -- What a child is given, one after the other: the next one each time.
-use Rattle.std.proofs.Common.{◌≡◌, ◌≢◌, ℕ, zero, suc, ◌+◌, ◌<◌, Bool, true, false, nat_eq, List, [], ◌∷◌, ◌++◌, None, Some, get_or, length, take, refl, sym, ap, subst, ◌∙◌, arith}
+use Rattle.std.proofs.Common.{◌≡◌, ◌≢◌, ℕ, zero, suc, ◌+◌, ◌<◌, Bool, true, false, nat_eq, List, [], ◌∷◌, None, Some, get_or, length, take, refl, sym, ap, subst, ◌∙◌}
 use Rattle.std.proofs.lemmas.Bool.{eq-eqb, ne_eqb}
 use Rattle.std.proofs.lemmas.Option.{same_Some, slice_get-get_or}
 use Rattle.std.specs.List.{list_any}
@@ -7,7 +7,6 @@ use Rattle.std.specs.Prelude.{◌||◌, slice_get}
 use Rattle.swan_model.specs.declared.rights.Give.{Give}
 use Rattle.swan_model.specs.QueueState.{QueueRight}
 use Rattle.swan_model.specs.Rights.{is_queue_mode}
-use Rattle.swan_model.specs.SerialTime.{Progress}
 use Rattle.swan_model.specs.Versions.{Holds, MayGet, Placed, VersionState, after_access, placed_at}
 use Rattle.pop_order.specs.Frames.{AreUpTo, Frames, MayGet as MayGetQueue, enlisted}
 use Rattle.queues.specs.Turned.{AreApart, AreGivenTurns, AreOlder, gives_queue, holding_of}

@@ -1,37 +1,32 @@
 -- A frame at the core that ends by its next step, or has to wait for its children before it may.
-use Rattle.std.proofs.Common.{◌≡◌, ◌≢◌, inr, ℕ, ◌+◌, true, false, Option, Some, None, List, [], ◌∷◌, ◌++◌, length, refl, sym, ap, subst, ◌∙◌}
+use Rattle.std.proofs.Common.{◌≡◌, inr, ℕ, true, false, None, [], ◌∷◌, ◌++◌, refl, sym, ap, subst, ◌∙◌}
 use Rattle.swan_model.specs.declared.body.Body.{Ghosts}
 use Rattle.swan_model.specs.declared.fault.Fault.{Fault}
-use Rattle.swan_model.specs.declared.fault.FaultKind.{FaultKind}
-use Rattle.swan_model.specs.declared.origin.Origin.{Origin}
 use Rattle.swan_model.specs.declared.script.Deed.{Deed}
 use Rattle.swan_model.specs.declared.script.Deed.TheVariants as deed
 use Rattle.swan_model.specs.declared.script.Script.{Script}
 use Rattle.swan_model.specs.Granted.{is_spawn}
-use Rattle.swan_model.specs.QueueState.{ActiveFrame, active, after_deed, after_finish}
+use Rattle.swan_model.specs.QueueState.{after_finish}
 use Rattle.swan_model.specs.Script.{script}
 use Rattle.swan_model.specs.SerialStep.{ends, faults}
-use Rattle.swan_model.specs.SerialTime.{is_queue_deed, time, times}
-use Rattle.swan_model.specs.Told.{deed_at}
 use Rattle.swan_model.specs.TrueFrames.{effect_at}
 use Rattle.swan_model.specs.Versions.{IsSettled, after_finish as after_end}
 use Rattle.swan_model.specs.VersionsFollow.{is_object_deed}
 use Rattle.pop_order.specs.Frames.{without}
-use Rattle.queues.specs.Asks.{MayDo, MayJoin}
+use Rattle.queues.specs.Asks.{MayJoin}
 use Rattle.swan_model.specs.Readings.{gone_on_by}
 use Rattle.queues.specs.Tree.{IsOnlyFrame}
-use Rattle.serial_elision.proofs.TaskSteps.{ends_last}
 use Rattle.task_frames.specs.declared.step.Step.TheVariants as step
 use Rattle.task_frames.specs.Cores.{AreBooked, AreFrames, AreObjects, AreQueues, AtCore, HasIt, IsCore, KeptView, MayBegin}
 use Rattle.task_frames.specs.Frames.{Task}
 use Rattle.task_frames.specs.Records.{HasNoLiveChild, IsOldestChild, IsOnlyLive}
-use Rattle.task_frames.specs.Resumes.{IsLast, IsLiveBefore, IsStep, OthersStay, deed_now}
+use Rattle.task_frames.specs.Resumes.{IsLast, IsLiveBefore, IsStep, deed_now}
 use Rattle.queues.specs.declared.answers.WaitFor.TheVariants as wait
 use Rattle.queues.proofs.ActiveAfter.{one_gone}
 use Rattle.serial_elision.specs.TaskSteps.{IsFaultOf}
 use Rattle.swan_model.specs.PathOrder.{comes_before}
 use Rattle.task_frames.proofs.Booked as booked
-use Rattle.task_frames.proofs.Goings.{done-is, known, lawful, own}
+use Rattle.task_frames.proofs.Goings.{known, lawful}
 use Rattle.task_frames.proofs.Live as live
 use Rattle.task_frames.proofs.Objects as objects
 use Rattle.task_frames.proofs.Queues as queues
@@ -84,7 +79,7 @@ module _ {B L : Type 0} (G : Ghosts B L) (kept : KeptView) (frame : AtCore B L) 
       }
 
       pub ends-so : IsStep G kept after task step.Ended
-      ends-so = (core-ended, last, ap is_spawn is ∙ no_spawn, only.own, record { live = only.others; active_are = gone.others }, alone)
+      ends-so = (core-ended, last, ap is_spawn is ∙ no_spawn, only.own, record { live = only.others; active_are = gone.others }, alone, begun)
 
     pub is-fault : (fault : Fault) → effect_at G task.plan task.path task.done has.is.alone.top ≡ faults fault.kind → fault.path ≡ task.path
         → fault.place ≡ G.place_of task.plan.body has.is.alone.top.local → IsFaultOf G task.plan fault

@@ -1,11 +1,8 @@
 -- Ends that are lent to a live frame are its own.
-use Rattle.std.proofs.Common.{◌≡◌, ℕ, Bool, true, cond, List, Option, Some, None, length, map, refl, sym, ap, subst, ◌∙◌}
-use Rattle.std.proofs.lemmas.Option.{same_Some, slice_get-map}
-use Rattle.std.specs.Option.{option_map}
+use Rattle.std.proofs.Common.{◌≡◌, ℕ, true, cond, Option, Some, map, refl, sym, ap, subst, ◌∙◌}
+use Rattle.std.proofs.lemmas.Option.{same_Some}
 use Rattle.std.specs.Prelude.{slice_get}
 use Rattle.swan_model.specs.declared.body.Body.{Ghosts}
-use Rattle.swan_model.specs.declared.origin.Origin.{Origin}
-use Rattle.swan_model.specs.declared.script.OriginGive.{OriginGive}
 use Rattle.swan_model.specs.declared.script.Script.{Script}
 use Rattle.swan_model.specs.Lawful.{IsLawful}
 use Rattle.swan_model.specs.QueueFollows.{FitsFrame, queue_origin}
@@ -13,8 +10,8 @@ use Rattle.swan_model.specs.QueueState.{ActiveFrame, LentEnd, QueueState, active
 use Rattle.swan_model.specs.Rights.{is_queue_mode}
 use Rattle.swan_model.specs.Script.{script}
 use Rattle.swan_model.specs.Segments.{segment_queue}
-use Rattle.swan_model.specs.SerialState.{Activation, Holding}
-use Rattle.swan_model.specs.SerialTime.{Progress, Reading}
+use Rattle.swan_model.specs.SerialState.{Holding}
+use Rattle.swan_model.specs.SerialTime.{Reading}
 use Rattle.swan_model.specs.TrueFrames.{StandsAt, give_in, gives_at}
 use Rattle.pop_order.specs.Frames.{Frames}
 use Rattle.queues.specs.Asks.{LentEnds}

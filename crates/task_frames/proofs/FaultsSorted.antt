@@ -1,7 +1,6 @@
 -- The serial order of tasks sorts: faults of different tasks that are sorted by it are in serial order, and so they are
 -- those that the elision leaves, where they are those of the last steps that are faults.
-use Rattle.std.proofs.Common.{◌≡◌, ◌⊎◌, inl, inr, ℕ, ◌<◌, Bool, true, false, nat_eq, List, [], ◌∷◌, Some, length, get_or, refl, sym, ap, ◌∙◌, arith}
-use Rattle.std.proofs.lemmas.List.Elements.{Contains-get_or}
+use Rattle.std.proofs.Common.{◌≡◌, inl, inr, ℕ, Bool, true, false, nat_eq, List, [], ◌∷◌, Some, get_or, refl, sym, ap, ◌∙◌, arith}
 use Rattle.std.proofs.lemmas.List.Sorted.{Contains-permutation, IsPermutation-sym, sorted_far}
 use Rattle.std.proofs.lemmas.Map.Keys.{IsDistinct-IsPermutation, IsDistinct-from_apart, apart_from_distinct}
 use Rattle.std.proofs.lemmas.Option.{get_or_from_slice_get, slice_get-get_or, slice_get_within}
@@ -19,7 +18,7 @@ use Rattle.serial_elision.specs.Laws.{AreInOrder}
 use Rattle.serial_elision.specs.TaskSteps.{IsFaultOf}
 use Rattle.swan_model.proofs.PathOrder.{before-chain, before-one_way, either_before}
 use Rattle.swan_model.proofs.Paths.{path_is-itself, same_path}
-use Rattle.serial_elision.proofs.FaultsTold.{faults-are, not_before-itself}
+use Rattle.serial_elision.proofs.FaultsTold.{faults-are}
 
 abbrev pub is_earlier_fault : Fault → Fault → Bool
 is_earlier_fault a b = comes_before a.path b.path

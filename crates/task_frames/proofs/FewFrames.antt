@@ -1,5 +1,5 @@
 -- A reading has no more frames than its script has entries, and the root: each other frame is a task that one entry spawned.
-use Rattle.std.proofs.Common.{◌≡◌, ◌≢◌, inl, inr, ℕ, zero, suc, ◌+◌, ◌<◌, ◌≤◌, Bool, true, false, eqb, List, [], ◌∷◌, ◌++◌, Option, None, Some, length, map, refl, sym, ap, subst, ◌∙◌, arith}
+use Rattle.std.proofs.Common.{◌≡◌, ◌≢◌, inl, inr, ℕ, suc, ◌+◌, ◌<◌, ◌≤◌, true, eqb, List, [], ◌∷◌, ◌++◌, Option, None, Some, length, map, refl, sym, ap, subst, ◌∙◌, arith}
 use Rattle.std.proofs.lemmas.Bool.{cases_order, eqb-true, or_cases}
 use Rattle.std.proofs.lemmas.Bool.Decides.{Decides-eqb}
 use Rattle.std.proofs.lemmas.List.{length-map}
@@ -13,7 +13,7 @@ use Rattle.swan_model.specs.declared.body.Body.{Ghosts}
 use Rattle.swan_model.specs.declared.plan.Plan.{Plan}
 use Rattle.swan_model.specs.declared.plan.TheConstants.{FUEL_MOST}
 use Rattle.swan_model.specs.declared.script.Script.{Script}
-use Rattle.swan_model.specs.Nested.{HasTasks, IsSpawned, spawn_time}
+use Rattle.swan_model.specs.Nested.{HasTasks, spawn_time}
 use Rattle.swan_model.specs.Script.{script}
 use Rattle.swan_model.specs.SerialTime.{Progress, Reading}
 use Rattle.swan_model.proofs.Lists.{last_of, some_within}

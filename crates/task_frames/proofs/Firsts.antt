@@ -1,10 +1,10 @@
 -- Whom a frame at the core has to wait for, and when it may begin.
-use Rattle.std.proofs.Common.{◌≡◌, ◌≢◌, ◌⊎◌, inl, inr, ℕ, ◌<◌, true, false, nat_lt, Option, Some, None, refl, sym, ap, subst, ◌∙◌, arith}
+use Rattle.std.proofs.Common.{◌≡◌, ◌⊎◌, inl, inr, ℕ, ◌<◌, true, false, nat_lt, Some, refl, sym, subst, ◌∙◌, arith}
 use Rattle.std.proofs.lemmas.Bool.{cases_lt, lt-ltb, false≢true}
 use Rattle.swan_model.specs.declared.body.Body.{Ghosts}
 use Rattle.swan_model.specs.PathOrder.{comes_before}
-use Rattle.swan_model.specs.QueueState.{ActiveFrame, IsEarlierPusher, IsPoppingChild, active}
-use Rattle.swan_model.specs.Versions.{Awaits, Placed, VersionState, owed, placed_at}
+use Rattle.swan_model.specs.QueueState.{ActiveFrame, IsPoppingChild, active}
+use Rattle.swan_model.specs.Versions.{Awaits, Placed, owed, placed_at}
 use Rattle.pop_order.specs.Turns.{Blocks}
 use Rattle.queues.specs.Tells.{IsCause}
 use Rattle.queues.specs.declared.answers.WaitFor.{WaitFor}
@@ -14,8 +14,8 @@ use Rattle.queues.proofs.TurnsTold.{has_turn}
 use Rattle.swan_model.specs.declared.script.Deed.TheVariants as deed
 use Rattle.task_frames.specs.declared.step.Step.TheVariants as step
 use Rattle.task_frames.specs.Cores.{AtCore, AwaitsNone, HasIt, KeptView, MayBegin}
-use Rattle.task_frames.specs.Records.{IsOldestChild, LiveFrame, live_at}
-use Rattle.task_frames.specs.Resumes.{AsksOf, IsLast, IsLiveBefore, IsShown, IsStep, IsToldToWait, deed_now, WaitsForTurn, WaitsForVersion, at_first, at_pop, waited_for}
+use Rattle.task_frames.specs.Records.{IsOldestChild, LiveFrame}
+use Rattle.task_frames.specs.Resumes.{AsksOf, IsLast, IsLiveBefore, IsShown, IsStep, deed_now, WaitsForVersion, at_first, at_pop, waited_for}
 use Rattle.task_frames.proofs.Endings.{child-before}
 use Rattle.task_frames.proofs.Goings.{done-is, lawful, own}
 use Rattle.task_frames.proofs.Waiting as waiting

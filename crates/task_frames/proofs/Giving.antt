@@ -1,14 +1,13 @@
 -- A child is given its objects, one after the other.
-use Rattle.std.proofs.Common.{◌≡◌, ◌≢◌, ◌⊎◌, inl, inr, ℕ, zero, suc, ◌+◌, ◌<◌, ◌≤◌, Bool, true, false, nat_eq, cond, List, [], ◌∷◌, ◌++◌, Option, None, Some, length, map, take, drop, refl, sym, ap, subst, ◌∙◌, arith}
-use Rattle.std.proofs.lemmas.Bool.{cases_eq, cases_lt, eq-eqb}
-use Rattle.std.proofs.lemmas.Option.{same_Some, slice_get-map, slice_get_within}
+use Rattle.std.proofs.Common.{◌≡◌, ◌≢◌, inl, inr, ℕ, zero, suc, ◌+◌, ◌<◌, ◌≤◌, Bool, true, false, cond, List, [], ◌∷◌, ◌++◌, Option, None, Some, length, map, take, drop, refl, sym, ap, subst, ◌∙◌, arith}
+use Rattle.std.proofs.lemmas.Bool.{cases_eq, eq-eqb}
+use Rattle.std.proofs.lemmas.Option.{same_Some, slice_get_within}
 use Rattle.std.specs.Option.{option_and_then, option_map}
-use Rattle.std.specs.Prelude.{◌&&◌, ◌||◌, filter, not, slice_get}
+use Rattle.std.specs.Prelude.{◌&&◌, filter, not, slice_get}
 use Rattle.swan_model.specs.declared.origin.Origin.{Origin}
-use Rattle.swan_model.specs.declared.origin.Origin.TheVariants.{Root}
 use Rattle.swan_model.specs.declared.rights.Give.{Give}
 use Rattle.swan_model.specs.declared.rights.Mode.{Mode}
-use Rattle.swan_model.specs.declared.rights.Mode.TheVariants.{In, InOut, Out, Pop, Push, PushPop}
+use Rattle.swan_model.specs.declared.rights.Mode.TheVariants.{In}
 use Rattle.swan_model.specs.declared.script.Deed.TheVariants.{Spawn}
 use Rattle.swan_model.specs.declared.script.OriginGive.{OriginGive}
 use Rattle.swan_model.specs.declared.script.Script.{Script}
@@ -17,17 +16,16 @@ use Rattle.swan_model.specs.Readings.{next_deed, spawned}
 use Rattle.swan_model.specs.Rights.{allows, clash, is_aliased, is_in, is_queue_mode}
 use Rattle.swan_model.specs.SerialState.{Holding}
 use Rattle.swan_model.specs.SerialStep.{given, number_at}
-use Rattle.swan_model.specs.SerialTime.{Progress, Reading, frame_of, time, times}
-use Rattle.swan_model.specs.TrueFrames.{give_in}
-use Rattle.swan_model.specs.Versions.{Holds, IsSettled, MayGet, Placed, VersionState, after_access, given_from, left_with, placed_at}
+use Rattle.swan_model.specs.SerialTime.{Progress, Reading, frame_of}
+use Rattle.swan_model.specs.Versions.{Holds, MayGet, Placed, VersionState, after_access, given_from, left_with, placed_at}
 use Rattle.swan_model.specs.VersionsFollow.{Access, IsGiving, IsNewFrame, NextSpawnGivesObjects, ObjectsFollow, is_object_give, object_give}
 use Rattle.object_versions.proofs.GivingBegins.{giving_begins}
 use Rattle.object_versions.proofs.GivingCalls.{access_giving, giving_ends}
 use Rattle.object_versions.proofs.NoMoreWaits.{access_waits}
 use Rattle.object_versions.proofs.PlacesStay.{access_keeps, access_leaves}
-use Rattle.swan_model.proofs.Elements.{before_more, more_cases, option_cases}
+use Rattle.swan_model.proofs.Elements.{option_cases}
 use Rattle.serial_elision.proofs.Held.{same_kind}
-use Rattle.task_frames.specs.Cores.{AreObjects, AwaitsNone, HasObjects, IsPlacedSo, IsRootObject}
+use Rattle.task_frames.specs.Cores.{AreObjects, AwaitsNone, HasObjects, IsPlacedSo}
 use Rattle.task_frames.specs.Giving.{AreMade, access_of, accesses_from, with_access}
 use Rattle.task_frames.specs.Records.{LiveFrame, LiveFrames, live_at}
 use Rattle.task_frames.proofs.GoneOn.{with-child}

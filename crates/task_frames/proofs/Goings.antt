@@ -1,5 +1,5 @@
 -- A frame at the core that goes on by its next step.
-use Rattle.std.proofs.Common.{◌≡◌, ◌≢◌, ℕ, ◌+◌, ◌-◌, ◌<◌, true, false, Option, Some, None, List, length, map, refl, sym, ap, subst, ◌∙◌, arith}
+use Rattle.std.proofs.Common.{◌≡◌, ◌≢◌, ℕ, ◌+◌, true, false, Option, Some, None, map, refl, sym, ap, subst, ◌∙◌, arith}
 use Rattle.std.proofs.lemmas.Bool.{false≢true}
 use Rattle.std.proofs.lemmas.Option.{same_Some}
 use Rattle.std.specs.Prelude.{slice_get}
@@ -31,12 +31,12 @@ use Rattle.queues.proofs.ActiveAfter.{one_changed}
 use Rattle.serial_elision.specs.TaskSteps.{GoesOn, IsAsking}
 use Rattle.serial_elision.proofs.Lawful as elision
 use Rattle.serial_elision.proofs.TaskSteps.{goes_on_next, stands-one}
-use Rattle.task_frames.specs.declared.stage.Stage.TheVariants.{Ready, Asking}
+use Rattle.task_frames.specs.declared.stage.Stage.TheVariants.{Ready}
 use Rattle.task_frames.specs.declared.step.Step.TheVariants as step
 use Rattle.task_frames.specs.Cores.{AreBooked, AreFrames, AreObjects, AreQueues, AtCore, HasIt, IsAtCore, IsCore, IsTold, KeptView, MayBegin, Mid, asking, one_on}
 use Rattle.task_frames.specs.Frames.{Task}
-use Rattle.task_frames.specs.Records.{HasNoLiveChild, IsOnlyLive, LiveFrame, live_at}
-use Rattle.task_frames.specs.Resumes.{IsStep, OthersStay}
+use Rattle.task_frames.specs.Records.{HasNoLiveChild, IsOnlyLive, LiveFrame}
+use Rattle.task_frames.specs.Resumes.{IsStep}
 use Rattle.task_frames.proofs.Booked as booked
 use Rattle.task_frames.proofs.Live as live
 use Rattle.task_frames.proofs.Objects as objects
@@ -146,7 +146,7 @@ module _ {B L : Type 0} (G : Ghosts B L) (kept : KeptView) (mid : Mid B L) (asks
       }
 
       pub runs : IsStep G kept after mid.task (step.Runs (record { task = one_on mid.task; stage = Ready mid.local said }))
-      runs = (has-next, refl, ap is_spawn goes.deed ∙ no_spawn, record { live = only.others; active_are = changed.others }, λ is. childless (sym goes.deed ∙ is))
+      runs = (has-next, refl, ap is_spawn goes.deed ∙ no_spawn, record { live = only.others; active_are = changed.others }, λ is. childless (sym goes.deed ∙ is), begun)
 
     abbrev n : ℕ
     n = mid.task.number

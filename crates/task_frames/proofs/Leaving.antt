@@ -1,8 +1,7 @@
 -- What is left once the root has ended, one root object or queue after the other.
-use Rattle.std.proofs.Common.{◌≡◌, ◌≢◌, inl, inr, ℕ, zero, suc, ◌+◌, ◌<◌, ◌≤◌, Bool, true, false, nat_eq, cond, List, [], ◌∷◌, ◌++◌, Option, Some, None, length, refl, sym, ap, ◌∙◌, subst, arith, length-append}
+use Rattle.std.proofs.Common.{◌≡◌, ◌≢◌, inl, inr, ℕ, ◌+◌, ◌<◌, Bool, true, false, nat_eq, List, [], ◌∷◌, ◌++◌, Option, Some, None, length, refl, sym, ap, ◌∙◌, subst, length-append}
 use Rattle.std.proofs.lemmas.Bool.{ne_eqb}
 use Rattle.std.proofs.lemmas.List.{length-map}
-use Rattle.std.proofs.lemmas.Option.{same_Some}
 use Rattle.std.specs.List.{list_any}
 use Rattle.std.specs.Prelude.{◌||◌, is_none, slice_get}
 use Rattle.swan_model.specs.declared.body.Body.{Ghosts}
@@ -15,7 +14,7 @@ use Rattle.swan_model.specs.Elision.{outcome}
 use Rattle.swan_model.specs.QueueFollows.{queue_origin}
 use Rattle.swan_model.specs.QueueState.{QueueState}
 use Rattle.swan_model.specs.Script.{script}
-use Rattle.swan_model.specs.Versions.{Placed, Version, owed, placed_at, settled}
+use Rattle.swan_model.specs.Versions.{Placed, owed, placed_at, settled}
 use Rattle.swan_model.proofs.Elements.{more_cases}
 use Rattle.serial_elision.proofs.Lawful.{lawful}
 use Rattle.queues.specs.Asks.{IsRestLeft, is_emptied}

@@ -1,5 +1,5 @@
 -- Once the root has ended: no frame is live, each task of the script has ended, and what is left is the elision's outcome.
-use Rattle.std.proofs.Common.{◌≡◌, ◌≢◌, inl, inr, ℕ, zero, suc, ◌+◌, ◌-◌, ◌<◌, ◌≤◌, true, nat_eq, List, [], ◌∷◌, ◌++◌, Option, None, Some, length, refl, sym, ap, subst, ◌∙◌, append_assoc, arith}
+use Rattle.std.proofs.Common.{◌≡◌, inl, inr, ℕ, zero, suc, ◌+◌, ◌-◌, ◌<◌, nat_eq, List, [], ◌∷◌, ◌++◌, None, Some, length, refl, sym, ap, subst, ◌∙◌, append_assoc, arith}
 use Rattle.std.proofs.lemmas.Bool.{cases_eq}
 use Rattle.std.proofs.lemmas.List.{append-nil}
 use Rattle.std.proofs.lemmas.Option.{same_Some, slice_get-get_or, slice_get_within}
@@ -9,7 +9,6 @@ use Rattle.std.specs.List.Sorted.{IsPermutation, IsSortedBy}
 use Rattle.std.specs.Prelude.{slice_get}
 use Rattle.swan_model.specs.declared.body.Body.{Ghosts}
 use Rattle.swan_model.specs.declared.fault.Fault.{Fault}
-use Rattle.swan_model.specs.declared.origin.Origin.{Origin}
 use Rattle.swan_model.specs.declared.origin.Origin.TheVariants.{Root}
 use Rattle.swan_model.specs.declared.plan.Plan.{Plan}
 use Rattle.swan_model.specs.declared.script.Entry.{Entry}
@@ -22,7 +21,7 @@ use Rattle.swan_model.specs.QueueFollows.{Fits, origin_in, queue_origin}
 use Rattle.swan_model.specs.QueueState.{ActiveFrame, IsOfRoot, QueueState, active, planned}
 use Rattle.swan_model.specs.Readings.{end_time}
 use Rattle.swan_model.specs.Script.{script}
-use Rattle.swan_model.specs.SerialTime.{Progress, Reading, frame_of, is_done, point, time, times}
+use Rattle.swan_model.specs.SerialTime.{Progress, Reading, point, time, times}
 use Rattle.swan_model.specs.Told.{cell}
 use Rattle.swan_model.specs.Versions.{Placed, VersionState, placed_at, settled}
 use Rattle.swan_model.specs.VersionsFollow.{IsVersionAt}
@@ -37,10 +36,9 @@ use Rattle.queues.proofs.Between.{own_last}
 use Rattle.queues.proofs.Frames.{active_number}
 use Rattle.queues.proofs.Refitting.{past_done}
 use Rattle.queues.proofs.Under.{led_to}
-use Rattle.serial_elision.specs.TaskSteps.{IsFaultOf}
 use Rattle.serial_elision.proofs.OutcomeTold.{objects_told, rest_told}
 use Rattle.task_frames.specs.Cores.{AreBooked, AreFrames, AreObjects, AreQueues, HasEnded}
-use Rattle.task_frames.specs.Records.{LiveFrame, LiveFrames, live_at}
+use Rattle.task_frames.specs.Records.{LiveFrames, live_at}
 use Rattle.task_frames.proofs.FaultsSorted.{is_earlier_fault, sorted-faults}
 
 -- ---- nobody is live

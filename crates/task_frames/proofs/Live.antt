@@ -1,5 +1,5 @@
 -- What the core keeps of its live frames: it stays through each call, as the reading goes on.
-use Rattle.std.proofs.Common.{◌≡◌, ◌≢◌, ◌⊎◌, inl, inr, ℕ, zero, suc, ◌+◌, ◌<◌, ◌≤◌, Bool, true, false, nat_eq, cond, List, [], ◌∷◌, ◌++◌, Option, None, Some, length, map, refl, sym, ap, subst, ◌∙◌, arith, length-append}
+use Rattle.std.proofs.Common.{◌≡◌, ◌≢◌, ◌⊎◌, inl, inr, ℕ, suc, ◌+◌, ◌<◌, Bool, true, false, nat_eq, cond, List, [], ◌∷◌, ◌++◌, Option, None, Some, length, map, refl, sym, ap, subst, ◌∙◌, arith, length-append}
 use Rattle.std.proofs.lemmas.Bool.{cases_eq, cases_lt, eqb-true}
 use Rattle.std.proofs.lemmas.List.{length-map, map-append}
 use Rattle.std.proofs.lemmas.Option.{same_Some, slice_get-map, slice_get_within}
@@ -14,16 +14,15 @@ use Rattle.swan_model.specs.declared.rights.Mode.TheVariants.{InOut, PushPop}
 use Rattle.swan_model.specs.declared.script.OriginGive.{OriginGive}
 use Rattle.swan_model.specs.declared.script.Script.{Script}
 use Rattle.swan_model.specs.QueueState.{ActiveFrame, HasTurn, LentEnd, QueueRight, QueueState, active, after_back, after_create, after_deed, after_finish, after_lend, after_spawn, child_of, with_deed, with_made}
-use Rattle.swan_model.specs.Readings.{one_more, with_object, with_queue}
+use Rattle.swan_model.specs.Readings.{with_object, with_queue}
 use Rattle.swan_model.specs.Rights.{is_queue_mode}
 use Rattle.swan_model.specs.Roots.{IsWithinBounds}
 use Rattle.swan_model.specs.Script.{give_of, script}
 use Rattle.swan_model.specs.SerialState.{Activation, Holding}
-use Rattle.swan_model.specs.SerialTime.{Progress, Reading, frame_of, time, times}
+use Rattle.swan_model.specs.SerialTime.{Progress, Reading, frame_of, time}
 use Rattle.swan_model.specs.TrueFrames.{StandsAt, give_in, gives_at, state_at}
 use Rattle.queues.specs.Asks.{MayDo, MayJoin, MaySpawn}
 use Rattle.swan_model.specs.Readings.{gone_on_by, more_by}
-use Rattle.queues.specs.OneChange.{IsOnlyChange}
 use Rattle.queues.specs.Tree.{IsOnlyFrame, IsTree, TurnsGoOn}
 use Rattle.swan_model.proofs.Elements.{before_more, found_is, last_more, more_cases}
 use Rattle.queues.proofs.ActiveAfter.{child_spawned, one_changed, one_goes_on, one_gone, others_spawned, parent_spawned}

@@ -1,5 +1,5 @@
 -- Steps that a frame takes by itself leave what its task holds, and so the names of it.
-use Rattle.std.proofs.Common.{◌≡◌, ◌⊎◌, inl, inr, ℕ, zero, suc, ◌+◌, ◌-◌, ◌<◌, ◌==◌, Bool, true, false, cond, List, [], ◌∷◌, Option, Some, None, length, refl, sym, ap, subst, ◌∙◌, arith}
+use Rattle.std.proofs.Common.{◌≡◌, inl, inr, ℕ, zero, suc, ◌+◌, ◌-◌, Bool, true, false, cond, List, [], ◌∷◌, Option, Some, None, length, refl, sym, ap, subst, ◌∙◌, arith}
 use Rattle.std.specs.Prelude.{nat_eq, nat_le, nat_lt, slice_get}
 use Rattle.swan_model.specs.declared.body.Ask.{Ask}
 use Rattle.swan_model.specs.declared.body.Ask.TheVariants as ask
@@ -16,8 +16,8 @@ use Rattle.swan_model.specs.Roots.{IsWithinBounds}
 use Rattle.swan_model.specs.Rights.{is_aliased}
 use Rattle.swan_model.specs.Script.{asked, deed_of, entry_of, script}
 use Rattle.swan_model.specs.SerialState.{Activation, Cell, Holding, Queue, Store}
-use Rattle.swan_model.specs.SerialStep.{Effect, effect, effect_of, ends, faults, given, goes_on, moved, number_at, on_cell, on_list, on_object, on_queue, popped, spawned, spawns}
-use Rattle.swan_model.specs.SerialTime.{time, times}
+use Rattle.swan_model.specs.SerialStep.{Effect, effect, faults, given, goes_on, moved, number_at, on_cell, on_list, on_object, on_queue, popped, spawned, spawns}
+use Rattle.swan_model.specs.SerialTime.{time}
 use Rattle.swan_model.specs.Told.{deed_at}
 use Rattle.swan_model.specs.TrueFrames.{StandsAt, effect_at, gives_at, state_at}
 use Rattle.swan_model.proofs.ScriptSteps.{deed_is}

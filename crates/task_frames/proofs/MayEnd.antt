@@ -1,8 +1,7 @@
 -- A frame that has no live child may end: it may join, and each of its versions has its value.
-use Rattle.std.proofs.Common.{◌≡◌, ◌≢◌, inl, inr, ℕ, zero, suc, ◌+◌, ◌<◌, true, false, nat_eq, List, [], ◌∷◌, ◌++◌, Option, None, Some, length, refl, sym, ap, subst, ◌∙◌, arith, length-append}
+use Rattle.std.proofs.Common.{◌≡◌, ◌≢◌, inl, inr, ℕ, ◌+◌, false, List, [], ◌∷◌, ◌++◌, None, Some, length, refl, sym, ap, ◌∙◌}
 use Rattle.std.proofs.lemmas.Bool.{cases_eq}
 use Rattle.std.proofs.lemmas.Option.{same_Some}
-use Rattle.std.specs.Prelude.{slice_get}
 use Rattle.swan_model.specs.declared.body.Body.{Ghosts}
 use Rattle.swan_model.specs.declared.origin.Origin.{Origin}
 use Rattle.swan_model.specs.declared.plan.Plan.{Plan}
@@ -15,7 +14,7 @@ use Rattle.swan_model.specs.QueueState.{ActiveFrame, IsActiveChild, QueueState, 
 use Rattle.swan_model.specs.Script.{script}
 use Rattle.swan_model.specs.SerialTime.{Progress, Reading, frame_of, is_queue_deed, time, times}
 use Rattle.swan_model.specs.Told.{deed_at}
-use Rattle.swan_model.specs.Versions.{IsSettled, Placed, VersionState, owed, placed_at}
+use Rattle.swan_model.specs.Versions.{IsSettled, Placed, VersionState, placed_at}
 use Rattle.swan_model.proofs.Elements.{option_cases}
 use Rattle.swan_model.proofs.Lists.{last_same}
 use Rattle.object_versions.proofs.EndedChildren.{ended_children}

@@ -1,9 +1,9 @@
 -- What a frame holds has the same names in the run as in the elision. So what the frame may use, it may use in both, and
 -- what it gives a child is what the script names.
-use Rattle.std.proofs.Common.{◌≡◌, ℕ, zero, suc, ◌+◌, ◌<◌, Bool, true, false, cond, List, [], ◌∷◌, Option, Some, None, length, map, refl, sym, ap, subst, ◌∙◌, arith}
+use Rattle.std.proofs.Common.{◌≡◌, ℕ, suc, true, cond, List, [], ◌∷◌, Option, Some, None, length, map, refl, sym, ap, ◌∙◌, arith}
 use Rattle.std.proofs.lemmas.Option.{same_Some, slice_get-map}
 use Rattle.std.specs.Option.{option_map}
-use Rattle.std.specs.Prelude.{slice_get, filter}
+use Rattle.std.specs.Prelude.{slice_get}
 use Rattle.swan_model.specs.declared.body.Body.{Ghosts}
 use Rattle.swan_model.specs.declared.body.Child.{Child}
 use Rattle.swan_model.specs.declared.origin.Origin.{Origin}
@@ -12,13 +12,12 @@ use Rattle.swan_model.specs.declared.rights.Give.{Give}
 use Rattle.swan_model.specs.declared.rights.Mode.{Mode}
 use Rattle.swan_model.specs.declared.script.OriginGive.{OriginGive}
 use Rattle.swan_model.specs.Rights.{allows, is_queue_mode}
-use Rattle.swan_model.specs.Script.{give_of}
-use Rattle.swan_model.specs.SerialState.{Activation, Holding, Store}
+use Rattle.swan_model.specs.SerialState.{Activation, Holding}
 use Rattle.swan_model.specs.SerialStep.{given, given_also, number_at, used_by}
 use Rattle.swan_model.specs.SerialTime.{Reading}
 use Rattle.swan_model.specs.TrueFrames.{give_in, gives_at}
 use Rattle.serial_elision.specs.TaskSteps.{MayUseAt, Spawns}
-use Rattle.serial_elision.proofs.Held.{IsUsed, same_kind, used-at}
+use Rattle.serial_elision.proofs.Held.{same_kind}
 
 -- what made what is held by a mode, as a reading tells
 abbrev pub origin_in : Reading → Mode → ℕ → Option Origin

@@ -1,5 +1,5 @@
 -- Steps at the core that read and write objects.
-use Rattle.std.proofs.Common.{◌≡◌, ◌≢◌, ℕ, ◌+◌, true, false, Option, Some, refl, sym, ap, subst, ◌∙◌}
+use Rattle.std.proofs.Common.{◌≡◌, ℕ, ◌+◌, true, false, Some, refl, sym, ap, subst, ◌∙◌}
 use Rattle.std.proofs.lemmas.Option.{same_Some}
 use Rattle.std.specs.Option.{option_map}
 use Rattle.std.specs.Prelude.{slice_get}
@@ -16,14 +16,13 @@ use Rattle.swan_model.specs.declared.value.Value.{Value}
 use Rattle.swan_model.specs.Readings.{gone_on_by}
 use Rattle.swan_model.specs.Rights.{allows, is_queue_mode}
 use Rattle.swan_model.specs.Script.{script}
-use Rattle.swan_model.specs.SerialState.{Holding}
 use Rattle.swan_model.specs.SerialStep.{number_at}
 use Rattle.swan_model.specs.SerialTime.{Progress, Reading, frame_of, time, version}
 use Rattle.swan_model.specs.Told.{cell}
 use Rattle.swan_model.specs.Versions.{Placed, VersionState, after_write, owed, placed_at}
 use Rattle.swan_model.specs.VersionsFollow.{ObjectsFollow}
 use Rattle.queues.specs.declared.answers.WaitFor.TheVariants as wait
-use Rattle.serial_elision.specs.TaskSteps.{GoesOn, IsAsking, MayUseAt}
+use Rattle.serial_elision.specs.TaskSteps.{GoesOn, MayUseAt}
 use Rattle.serial_elision.proofs.AskSteps.{reads, writes}
 use Rattle.task_frames.specs.declared.stage.Stage.TheVariants.{Ready}
 use Rattle.task_frames.specs.declared.step.Step.TheVariants as step

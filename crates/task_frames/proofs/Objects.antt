@@ -1,5 +1,5 @@
 -- What the core keeps of its objects: it stays through each call, as the reading goes on.
-use Rattle.std.proofs.Common.{◌≡◌, ◌≢◌, ◌⊎◌, inl, inr, ℕ, zero, suc, ◌+◌, ◌<◌, ◌≤◌, Bool, true, false, cond, List, [], ◌∷◌, ◌++◌, Option, None, Some, length, map, refl, sym, ap, subst, ◌∙◌, arith}
+use Rattle.std.proofs.Common.{◌≡◌, ◌≢◌, ◌⊎◌, inl, inr, ℕ, ◌+◌, ◌<◌, ◌≤◌, true, false, List, [], ◌∷◌, ◌++◌, Option, None, Some, length, refl, sym, ap, subst, ◌∙◌, arith}
 use Rattle.std.proofs.lemmas.Bool.{cases_eq, cases_lt}
 use Rattle.std.proofs.lemmas.Option.{same_Some, slice_get_within}
 use Rattle.std.specs.Option.{option_map}
@@ -13,19 +13,19 @@ use Rattle.swan_model.specs.declared.script.Script.{Script}
 use Rattle.swan_model.specs.declared.value.Value.{Value}
 use Rattle.swan_model.specs.Granted.{is_spawn}
 use Rattle.swan_model.specs.Lawful.{IsLawful}
-use Rattle.swan_model.specs.Readings.{gone_on, next_deed, with_object}
+use Rattle.swan_model.specs.Readings.{with_object}
 use Rattle.swan_model.specs.Rights.{allows, is_queue_mode}
 use Rattle.swan_model.specs.SerialState.{Holding}
 use Rattle.swan_model.specs.SerialTime.{Progress, Reading, frame_of, point, time, times}
 use Rattle.swan_model.specs.Told.{deed_at}
 use Rattle.swan_model.specs.Values.{kind_of}
-use Rattle.swan_model.specs.Versions.{Awaits, IsSettled, Placed, VersionState, after_create, after_finish, after_write, placed_at, settle, settle_placed, settled, written_at}
+use Rattle.swan_model.specs.Versions.{IsSettled, Placed, VersionState, after_create, after_finish, after_write, placed_at, settle, settle_placed, settled, written_at}
 use Rattle.swan_model.specs.VersionsFollow.{ObjectsFollow, is_object_deed}
 use Rattle.swan_model.proofs.Elements.{before_more, last_more, more_cases, option_cases}
 use Rattle.swan_model.proofs.TaskEntries.{point_is}
 use Rattle.object_versions.proofs.CallsFollow.{create_made, finish_told, write_told}
 use Rattle.object_versions.proofs.NoMoreWaits.{create_waits, finish_waits, write_waits}
-use Rattle.object_versions.proofs.PassFollows.{any_queues, others_pass}
+use Rattle.object_versions.proofs.PassFollows.{others_pass}
 use Rattle.object_versions.proofs.PlacesAfter.{at_placed}
 use Rattle.object_versions.proofs.PlacesStay.{create_keeps, finish_forgets, finish_keeps, write_keeps, write_leaves}
 use Rattle.swan_model.specs.Readings.{gone_on_by}
@@ -33,7 +33,7 @@ use Rattle.serial_elision.specs.Laws.{IsObjectOf}
 use Rattle.task_frames.specs.Cores.{AreObjects, AwaitsNone, HasObjects, IsPlacedSo, IsRootObject}
 use Rattle.task_frames.specs.Frames.{AreLocal}
 use Rattle.task_frames.specs.Records.{IsOnlyLive, LiveFrame, LiveFrames, live_at}
-use Rattle.task_frames.proofs.CatchUp.{caught-up, next-is}
+use Rattle.task_frames.proofs.CatchUp.{caught-up}
 use Rattle.task_frames.proofs.Queues.{next-does}
 use Rattle.task_frames.proofs.GoneOn.{own-gone}
 

@@ -1,5 +1,5 @@
 -- A run that opens: its root queues and root objects are made one after the other, and then the core has the root.
-use Rattle.std.proofs.Common.{◌≡◌, ◌≢◌, ◌⊎◌, inl, inr, ℕ, zero, suc, ◌+◌, ◌<◌, ◌≤◌, Bool, true, false, nat_eq, cond, List, [], ◌∷◌, ◌++◌, Option, None, Some, length, map, refl, sym, ap, subst, ◌∙◌, arith, length-append}
+use Rattle.std.proofs.Common.{◌≡◌, ◌≢◌, ◌⊎◌, inl, inr, ℕ, zero, suc, ◌+◌, ◌<◌, true, false, cond, List, [], ◌∷◌, ◌++◌, Option, None, Some, length, map, refl, sym, ap, subst, ◌∙◌, arith, length-append}
 use Rattle.std.proofs.lemmas.Bool.{cases_eq, cases_lt, ne_eqb}
 use Rattle.std.proofs.lemmas.List.{length-map}
 use Rattle.std.proofs.lemmas.Option.{get_or_from_slice_get, none-some, same_Some, slice_get-map, slice_get_within}
@@ -11,22 +11,20 @@ use Rattle.swan_model.specs.declared.origin.Origin.{Origin}
 use Rattle.swan_model.specs.declared.origin.Origin.TheVariants.{Root}
 use Rattle.swan_model.specs.declared.plan.Plan.{Plan}
 use Rattle.swan_model.specs.declared.plan.RootQueue.{RootQueue}
-use Rattle.swan_model.specs.declared.plan.TheConstants.{FIRST_ITEMS_MOST}
-use Rattle.swan_model.specs.declared.rights.Mode.{Mode}
 use Rattle.swan_model.specs.declared.rights.Mode.TheVariants.{InOut}
 use Rattle.swan_model.specs.declared.script.OriginGive.{OriginGive}
 use Rattle.swan_model.specs.declared.script.Script.{Script}
 use Rattle.swan_model.specs.declared.value.Value.{Value}
 use Rattle.swan_model.specs.Elision.{object_holdings, queue_holdings, root, root_holdings}
 use Rattle.swan_model.specs.Lawful.{IsLawful}
-use Rattle.swan_model.specs.QueueFollows.{Fits, QueuesFollow}
-use Rattle.swan_model.specs.QueueState.{ActiveFrame, IsUntouched, QueueState, active, after_create_root, new_state, planned, root_frame, with_made}
+use Rattle.swan_model.specs.QueueFollows.{Fits}
+use Rattle.swan_model.specs.QueueState.{ActiveFrame, QueueState, active, after_create_root, new_state, planned, root_frame, with_made}
 use Rattle.swan_model.specs.Readings.{at_start, with_object, with_queue}
 use Rattle.swan_model.specs.Rights.{is_queue_mode}
 use Rattle.swan_model.specs.Script.{script}
 use Rattle.swan_model.specs.SerialState.{Holding}
 use Rattle.swan_model.specs.SerialTime.{Progress, Reading, frame_of, times}
-use Rattle.swan_model.specs.TrueFrames.{StandsAt, give_in, gives_at}
+use Rattle.swan_model.specs.TrueFrames.{give_in, gives_at}
 use Rattle.swan_model.specs.Values.{kind_of}
 use Rattle.swan_model.specs.Versions.{Placed, VersionState, after_create, new_versions, placed_at, settled}
 use Rattle.swan_model.specs.VersionsFollow.{ObjectsFollow}
@@ -36,8 +34,6 @@ use Rattle.object_versions.proofs.CallsFollow.{create_root, new_follows}
 use Rattle.object_versions.proofs.PlacesAfter.{at_placed}
 use Rattle.object_versions.proofs.PlacesStay.{create_keeps}
 use Rattle.queues.specs.OneChange.{IsOnlyChange}
-use Rattle.queues.specs.Tree.{IsTree}
-use Rattle.queues.specs.Turned.{AreTurns}
 use Rattle.queues.proofs.ActiveAfter.{one_changed}
 use Rattle.queues.proofs.Calls.{new_follows as new_queues_follow}
 use Rattle.queues.proofs.Creating.{root_created_follows}

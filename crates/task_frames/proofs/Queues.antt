@@ -1,17 +1,15 @@
 -- What the core keeps of its queues: it stays through each call, as the reading goes on.
-use Rattle.std.proofs.Common.{◌≡◌, ◌≢◌, ℕ, ◌+◌, ◌<◌, Bool, true, false, cond, List, [], ◌∷◌, ◌++◌, None, Some, length, map, refl, sym, ap, subst, ◌∙◌, arith}
-use Rattle.std.proofs.lemmas.Bool.{lt-ltb}
+use Rattle.std.proofs.Common.{◌≡◌, ◌≢◌, ℕ, ◌+◌, ◌<◌, true, false, List, [], ◌∷◌, ◌++◌, None, Some, length, refl, sym, ap, subst, ◌∙◌, arith}
 use Rattle.std.proofs.lemmas.Option.{same_Some}
-use Rattle.std.specs.Prelude.{slice_get}
 use Rattle.swan_model.specs.declared.origin.Origin.{Origin}
 use Rattle.swan_model.specs.declared.origin.Origin.TheVariants.{Step}
 use Rattle.swan_model.specs.declared.script.Deed.{Deed}
 use Rattle.swan_model.specs.declared.script.Deed.TheVariants.{MakeQueue, Pop, Spawn}
 use Rattle.swan_model.specs.declared.script.OriginGive.{OriginGive}
 use Rattle.swan_model.specs.declared.script.Script.{Script}
-use Rattle.swan_model.specs.Granted.{child_path, children_before, is_spawn}
+use Rattle.swan_model.specs.Granted.{children_before, is_spawn}
 use Rattle.swan_model.specs.Lawful.{IsLawful}
-use Rattle.swan_model.specs.QueueFollows.{AreByEnds, Fits, FitsFrame, NextSpawnGivesQueues, QueuesFollow, next_queue_deed}
+use Rattle.swan_model.specs.QueueFollows.{AreByEnds, Fits, FitsFrame, NextSpawnGivesQueues, QueuesFollow}
 use Rattle.swan_model.specs.QueueState.{ActiveFrame, LentEnd, QueueRight, QueueState, active, after_back, after_create, after_deed, after_finish, after_lend, after_spawn, planned}
 use Rattle.swan_model.specs.Readings.{next_deed, spawned, with_queue}
 use Rattle.swan_model.specs.SerialTime.{Progress, Reading, frame_of, is_queue_deed, point, time, times}

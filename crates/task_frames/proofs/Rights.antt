@@ -1,13 +1,12 @@
 -- What the core may ask of its queues and objects for a frame's next step, and what their answers say of it.
-use Rattle.std.proofs.Common.{◌≡◌, ◌≢◌, inl, inr, ℕ, ◌+◌, ◌<◌, ◌≤◌, Bool, true, false, cond, List, [], ◌∷◌, Option, None, Some, length, map, refl, sym, ap, subst, ◌∙◌, arith}
-use Rattle.std.proofs.lemmas.Option.{same_Some, slice_get_within}
+use Rattle.std.proofs.Common.{◌≡◌, ℕ, ◌<◌, ◌≤◌, true, false, cond, List, Option, None, Some, map, refl, sym, ap, subst, ◌∙◌, arith}
+use Rattle.std.proofs.lemmas.Option.{same_Some}
 use Rattle.std.specs.Option.{option_and_then, option_map}
 use Rattle.std.specs.Prelude.{slice_get}
 use Rattle.swan_model.specs.declared.body.Body.{Ghosts}
 use Rattle.swan_model.specs.declared.origin.Origin.{Origin}
 use Rattle.swan_model.specs.declared.origin.Origin.TheVariants.{Root, Step}
 use Rattle.swan_model.specs.declared.plan.Plan.{Plan}
-use Rattle.swan_model.specs.declared.plan.TheConstants.{FUEL_MOST}
 use Rattle.swan_model.specs.declared.rights.Mode.{Mode}
 use Rattle.swan_model.specs.declared.rights.Mode.TheVariants.{Pop, Push}
 use Rattle.swan_model.specs.declared.script.Deed.{Deed}
@@ -20,9 +19,9 @@ use Rattle.swan_model.specs.QueueFollows.{IsNextAbout, next_item, next_queue_dee
 use Rattle.swan_model.specs.QueueState.{ActiveFrame, QueueState, active, holds_queue}
 use Rattle.swan_model.specs.Rights.{allows, is_queue_mode}
 use Rattle.swan_model.specs.Script.{script}
-use Rattle.swan_model.specs.SerialState.{Activation, Holding}
+use Rattle.swan_model.specs.SerialState.{Activation}
 use Rattle.swan_model.specs.SerialStep.{number_at}
-use Rattle.swan_model.specs.SerialTime.{Progress, Reading, frame_of, is_queue_deed, point, time, times, version}
+use Rattle.swan_model.specs.SerialTime.{Progress, Reading, frame_of, is_queue_deed, point, time, version}
 use Rattle.swan_model.specs.Told.{cell, count, deed_at, pushes, taken}
 use Rattle.swan_model.specs.TrueFrames.{StandsAt, give_in, gives_at}
 use Rattle.swan_model.specs.Versions.{Placed, VersionState, placed_at}
@@ -37,13 +36,13 @@ use Rattle.queues.proofs.SerialPoints.{is_read}
 use Rattle.serial_elision.specs.Laws.{AreEachOnce, IsObjectOf}
 use Rattle.serial_elision.specs.TaskSteps.{MayUseAt}
 use Rattle.serial_elision.proofs.FewMade.{few-objects}
-use Rattle.serial_elision.proofs.Held.{IsUsed, same_kind, used-at}
+use Rattle.serial_elision.proofs.Held.{same_kind, used-at}
 use Rattle.serial_elision.proofs.Room.{room-deeds, room-queues}
 use Rattle.serial_elision.proofs.TaskSteps.{stands-one}
-use Rattle.task_frames.specs.Cores.{AreFrames, AreObjects, AreQueues, HasObjects, IsTold}
+use Rattle.task_frames.specs.Cores.{AreObjects, AreQueues, HasObjects, IsTold}
 use Rattle.task_frames.specs.Frames.{IsPlan}
-use Rattle.task_frames.specs.Records.{LiveFrame, LiveFrames, live_at}
-use Rattle.task_frames.proofs.Names.{IsHeldSo, held-number, held-origin, origin_in, use-held}
+use Rattle.task_frames.specs.Records.{LiveFrame, LiveFrames}
+use Rattle.task_frames.proofs.Names.{held-number, held-origin, origin_in, use-held}
 use Rattle.task_frames.proofs.Queues.{next-does}
 use Rattle.task_frames.proofs.QueueUse.{may-use}
 

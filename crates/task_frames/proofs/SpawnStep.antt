@@ -1,5 +1,5 @@
 -- A frame at the core that asks for a child: why the child is refused, and what a spawn leaves.
-use Rattle.std.proofs.Common.{◌≡◌, ◌≢◌, ℕ, zero, suc, ◌+◌, ◌-◌, ◌<◌, ◌≤◌, true, false, cond, Option, Some, None, List, [], ◌∷◌, ◌++◌, length, map, refl, sym, ap, subst, ◌∙◌, arith}
+use Rattle.std.proofs.Common.{◌≡◌, ◌≢◌, ℕ, ◌+◌, ◌-◌, ◌<◌, ◌≤◌, true, false, cond, Option, Some, None, List, [], ◌∷◌, ◌++◌, length, map, refl, sym, ap, subst, ◌∙◌, arith}
 use Rattle.std.proofs.lemmas.Option.{same_Some}
 use Rattle.std.specs.Option.{option_map}
 use Rattle.std.specs.Prelude.{slice_get}
@@ -19,22 +19,19 @@ use Rattle.swan_model.specs.declared.script.Script.{Script}
 use Rattle.swan_model.specs.Granted.{is_spawn}
 use Rattle.swan_model.specs.Lawful.{IsLawful}
 use Rattle.swan_model.specs.QueueFollows.{NextSpawnGivesQueues}
-use Rattle.swan_model.specs.QueueState.{ActiveFrame, HasTurn, MayGive, QueueRight, QueueState, active, after_spawn, child_of as active_child, with_deed}
+use Rattle.swan_model.specs.QueueState.{ActiveFrame, MayGive, QueueRight, QueueState, active, after_spawn, child_of as active_child, with_deed}
 use Rattle.swan_model.specs.Rights.{allows, is_aliased}
 use Rattle.swan_model.specs.Script.{script}
 use Rattle.swan_model.specs.SerialState.{Activation, Holding}
 use Rattle.swan_model.specs.SerialStep.{given, given_also, moved, number_at, used_by}
-use Rattle.swan_model.specs.SerialTime.{Progress, frame_of, times}
-use Rattle.swan_model.specs.TrueFrames.{StandsAt, give_in, gives_at}
-use Rattle.swan_model.specs.Versions.{VersionState}
-use Rattle.pop_order.specs.Frames.{Frames}
+use Rattle.swan_model.specs.SerialTime.{Progress}
+use Rattle.swan_model.specs.TrueFrames.{StandsAt}
 use Rattle.queues.specs.Asks.{IsOnTurn, MaySpawn, OnNext}
 use Rattle.swan_model.specs.Readings.{gone_on_by}
 use Rattle.queues.specs.Turned.{AreApart, AreGivenTurns, AreOlder}
 use Rattle.queues.proofs.ActiveAfter.{child_spawned, others_spawned, parent_spawned}
 use Rattle.queues.proofs.Match.{not_active}
 use Rattle.queues.proofs.TurnsSpawned.{turns_older}
-use Rattle.serial_elision.specs.Bounds.{IsWithin}
 use Rattle.serial_elision.specs.TaskSteps.{IsAsking, Spawns, child_of, parent_of}
 use Rattle.serial_elision.proofs.AskMakes.{aliased, spawns-child, too-dear, too-deep}
 use Rattle.serial_elision.proofs.FewHeld.{given-many}
@@ -382,6 +379,7 @@ module _ {B L : Type 0} (G : Ghosts B L) (kept : KeptView) (mid : Mid B L) (chil
               live = λ m apart. is.others m apart.0 apart.1;
               active_are = λ m apart. active-after m ∙ others_spawned kept.state n kept.frames a (queue_rights hs) own-live free m apart.0 apart.1;
             },
+            begun,
           )
 
         -- ---- by what the calls answer

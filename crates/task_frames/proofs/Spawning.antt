@@ -1,8 +1,6 @@
 -- A spawn: what the core may ask for it, and what it keeps through it.
-use Rattle.std.proofs.Common.{◌≡◌, ◌≢◌, inl, inr, ℕ, zero, suc, ◌+◌, ◌<◌, ◌≤◌, true, false, nat_eq, List, [], ◌∷◌, ◌++◌, Option, None, Some, length, map, refl, sym, ap, subst, ◌∙◌, arith}
+use Rattle.std.proofs.Common.{◌≡◌, ◌≢◌, inl, inr, ℕ, ◌+◌, ◌<◌, false, nat_eq, List, [], ◌∷◌, ◌++◌, None, Some, length, map, refl, sym, ap, subst, ◌∙◌, arith}
 use Rattle.std.proofs.lemmas.Bool.{eqb-true}
-use Rattle.std.proofs.lemmas.Option.{same_Some}
-use Rattle.std.specs.Prelude.{slice_get}
 use Rattle.swan_model.specs.declared.body.Body.{Ghosts}
 use Rattle.swan_model.specs.declared.body.Child.{Child}
 use Rattle.swan_model.specs.declared.fault.Fault.{Fault}
@@ -19,7 +17,7 @@ use Rattle.swan_model.specs.Rights.{is_aliased}
 use Rattle.swan_model.specs.Script.{script}
 use Rattle.swan_model.specs.SerialState.{Activation, Holding}
 use Rattle.swan_model.specs.SerialStep.{given, moved}
-use Rattle.swan_model.specs.SerialTime.{Progress, Reading, frame_of, point, time, times}
+use Rattle.swan_model.specs.SerialTime.{Progress, Reading, frame_of, point}
 use Rattle.swan_model.specs.TrueFrames.{StandsAt, give_in, gives_at}
 use Rattle.swan_model.specs.Versions.{VersionState, placed_at}
 use Rattle.swan_model.specs.VersionsFollow.{IsNewFrame, NextSpawnGivesObjects}

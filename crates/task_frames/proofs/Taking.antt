@@ -1,5 +1,5 @@
 -- A frame that comes back to the core, and one that the core gives.
-use Rattle.std.proofs.Common.{◌≡◌, ◌≢◌, ℕ, ◌+◌, ◌-◌, ◌<◌, ◌≤◌, false, List, Option, Some, None, length, refl, sym, ap, subst, ◌∙◌, arith}
+use Rattle.std.proofs.Common.{◌≡◌, ◌≢◌, ℕ, ◌+◌, ◌-◌, false, List, Option, Some, None, refl, sym, ap, subst, ◌∙◌, arith}
 use Rattle.std.proofs.lemmas.Option.{same_Some}
 use Rattle.std.specs.Option.{option_map}
 use Rattle.std.specs.Prelude.{slice_get}
@@ -11,16 +11,16 @@ use Rattle.swan_model.specs.QueueState.{ActiveFrame, LentEnd, QueueState, active
 use Rattle.swan_model.specs.Readings.{gone_on_by}
 use Rattle.swan_model.specs.Script.{script}
 use Rattle.swan_model.specs.Segments.{segment_queue}
-use Rattle.swan_model.specs.SerialTime.{Progress, Reading, frame_of, times}
+use Rattle.swan_model.specs.SerialTime.{Progress, Reading, frame_of}
 use Rattle.swan_model.specs.TrueFrames.{StandsAt}
-use Rattle.queues.specs.Asks.{IsRecorded, LentEnds, OnNext}
+use Rattle.queues.specs.Asks.{LentEnds, OnNext}
 use Rattle.queues.specs.Reads.{deeds_among}
 use Rattle.queues.specs.Tells.{OnQueue}
 use Rattle.queues.specs.Tree.{IsOnlyFrame}
 use Rattle.queues.proofs.ActiveAfter.{one_changed, one_goes_on}
 use Rattle.serial_elision.proofs.Lawful as elision
 use Rattle.task_frames.specs.declared.stage.Stage.{Stage}
-use Rattle.task_frames.specs.Cores.{AtCore, HasIt, IsAtCore, IsCore, IsGiven, IsOf, KeptView, come_in}
+use Rattle.task_frames.specs.Cores.{AtCore, HasIt, IsCore, IsGiven, IsOf, KeptView, come_in}
 use Rattle.task_frames.specs.Frames.{AreEndsOf, AreLocal, FrameView, IsFrame, Task}
 use Rattle.task_frames.specs.Records.{IsOnlyLive, LiveFrame, LiveFrames, come_at, come_to, live_at}
 use Rattle.task_frames.specs.Resumes.{EndsOf, HasLent, IsGivenAs, OthersStay}

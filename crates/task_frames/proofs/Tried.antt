@@ -1,5 +1,5 @@
 -- A frame at the core whose next step is tried: its body says what it asks for, or it has no fuel for that.
-use Rattle.std.proofs.Common.{◌≡◌, ◌≢◌, ℕ, ◌+◌, ◌-◌, ◌<◌, false, None, Option, Some, List, [], ◌∷◌, ◌++◌, length, refl, sym, ap, subst, ◌∙◌, arith}
+use Rattle.std.proofs.Common.{◌≡◌, ℕ, ◌+◌, ◌-◌, ◌<◌, false, None, List, [], ◌∷◌, ◌++◌, length, sym, ap, subst, ◌∙◌, arith}
 use Rattle.std.proofs.lemmas.Option.{same_Some}
 use Rattle.swan_model.specs.declared.body.Answer.{Answer}
 use Rattle.swan_model.specs.declared.body.Ask.{Ask}
@@ -8,8 +8,7 @@ use Rattle.swan_model.specs.declared.body.Body.{Ghosts}
 use Rattle.swan_model.specs.declared.fault.Fault.{Fault}
 use Rattle.swan_model.specs.declared.fault.FaultKind.{FaultKind}
 use Rattle.swan_model.specs.declared.fault.FaultKind.TheVariants as kind
-use Rattle.swan_model.specs.declared.script.Deed.TheVariants as deed
-use Rattle.swan_model.specs.QueueState.{ActiveFrame, active, after_finish}
+use Rattle.swan_model.specs.QueueState.{after_finish}
 use Rattle.swan_model.specs.Readings.{gone_on_by}
 use Rattle.swan_model.specs.Script.{is_end, script}
 use Rattle.swan_model.specs.SerialState.{Activation}
@@ -20,18 +19,16 @@ use Rattle.pop_order.specs.Frames.{HasNoChild, without}
 use Rattle.queues.specs.Asks.{IsOnTurn, MayJoin, OnNext}
 use Rattle.queues.proofs.TurnsGone.{turns_childless}
 use Rattle.swan_model.specs.QueueFollows.{next_queue_deed}
-use Rattle.serial_elision.specs.TaskSteps.{Ends, Faults, IsAsking}
-use Rattle.serial_elision.proofs.AskSteps.{dry, fails, finishes}
+use Rattle.serial_elision.specs.TaskSteps.{Ends}
+use Rattle.serial_elision.proofs.AskSteps.{dry, finishes}
 use Rattle.serial_elision.proofs.TaskSteps.{ends_last, stands-one}
-use Rattle.task_frames.specs.declared.stage.Stage.{Stage}
-use Rattle.task_frames.specs.declared.stage.Stage.TheVariants.{Asking, Ready}
+use Rattle.task_frames.specs.declared.stage.Stage.TheVariants.{Ready}
 use Rattle.task_frames.specs.declared.step.Step.{Step}
 use Rattle.task_frames.specs.declared.step.Step.TheVariants as step
 use Rattle.task_frames.specs.Cores.{AtCore, HasIt, KeptView, MayBegin, Mid, asking}
 use Rattle.task_frames.specs.Frames.{Task}
-use Rattle.task_frames.specs.Records.{IsLiveChild, IsOnlyLive, LiveFrame}
+use Rattle.task_frames.specs.Records.{IsLiveChild, IsOnlyLive}
 use Rattle.task_frames.specs.Resumes.{EndsByFault, IsLast, IsStep, deed_now}
-use Rattle.task_frames.proofs.Asked.{ends-by}
 use Rattle.task_frames.proofs.Goings.{done-is, lawful, own}
 use Rattle.task_frames.proofs.MayEnd as ending
 
@@ -188,6 +185,6 @@ booked-kept kept now faults fault is same =
 -- a step is the same whether or not its unit of fuel is taken
 pub paid-step : {B L : Type 0} (G : Ghosts B L) (before after : KeptView) (task : Task B L) (fuel : ℕ) (its : Step B L) → IsStep G before after (record task { fuel = fuel }) its → IsStep G before after task its
 paid-step G before after task fuel (step.Runs next) so = so
-paid-step G before after task fuel (step.Spawned parent new) so = (so.0, so.1, so.2, record { plan = so.3.plan; path = so.3.path; done = so.3.done; other = so.3.other }, so.4, so.5, so.6)
+paid-step G before after task fuel (step.Spawned parent new) so = (so.0, so.1, so.2, record { plan = so.3.plan; path = so.3.path; done = so.3.done; other = so.3.other }, so.4, so.5, so.6, so.7)
 paid-step G before after task fuel (step.Waits same wait_for) so = so
 paid-step G before after task fuel step.Ended so = so

@@ -1,7 +1,6 @@
 -- Whom a frame waits for: a live frame, which comes before it in serial order.
-use Rattle.std.proofs.Common.{◌≡◌, ◌≢◌, ◌⊎◌, inl, inr, ℕ, ◌<◌, true, nat_eq, List, [], ◌∷◌, ◌++◌, None, Some, length, refl, sym, ap, subst, ◌∙◌}
+use Rattle.std.proofs.Common.{◌≡◌, ◌⊎◌, inl, inr, ℕ, true, nat_eq, List, [], ◌∷◌, ◌++◌, Some, sym, ap, ◌∙◌}
 use Rattle.std.proofs.lemmas.Option.{same_Some}
-use Rattle.std.specs.Prelude.{slice_get}
 use Rattle.swan_model.specs.declared.body.Body.{Ghosts}
 use Rattle.swan_model.specs.declared.plan.Plan.{Plan}
 use Rattle.swan_model.specs.declared.script.Script.{Script}
@@ -10,7 +9,7 @@ use Rattle.swan_model.specs.Nested.{IsLeft}
 use Rattle.swan_model.specs.PathOrder.{comes_before}
 use Rattle.swan_model.specs.QueueState.{ActiveFrame, IsEarlierPusher, IsPoppingChild, QueueState, active}
 use Rattle.swan_model.specs.Script.{script}
-use Rattle.swan_model.specs.SerialTime.{Progress, Reading, frame_of, is_earlier, times}
+use Rattle.swan_model.specs.SerialTime.{Progress, Reading, is_earlier}
 use Rattle.swan_model.specs.Versions.{Awaits, Placed, VersionState, owed, placed_at}
 use Rattle.swan_model.proofs.Elements.{found_is, option_cases}
 use Rattle.swan_model.proofs.PathOrder.{before-parent}

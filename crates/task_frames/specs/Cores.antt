@@ -27,7 +27,7 @@ use Rattle.serial_elision.specs.Laws.{IsObjectOf}
 use Rattle.serial_elision.specs.TaskSteps.{IsFaultOf}
 use Rattle.task_frames.specs.declared.stage.Stage.{Stage}
 use Rattle.task_frames.specs.declared.stage.Stage.TheVariants.{Asking}
-use Rattle.task_frames.specs.Frames.{FrameView, IsPlan, Task, state_of}
+use Rattle.task_frames.specs.Frames.{IsPlan, Task, state_of}
 use Rattle.task_frames.specs.Records.{LiveFrame, LiveFrames, come_at, live_at}
 
 -- what a core keeps until want of memory

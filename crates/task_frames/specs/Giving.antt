@@ -1,5 +1,5 @@
 -- What a child is given: the queues among what it will hold, and the accesses to its parent's objects, one after the other.
-use Rattle.std.specs.Prelude.{◌≡◌, ◌≢◌, ℕ, ◌+◌, ◌==◌, Bool, true, false, List, [], ◌∷◌, Some, drop, filter, if◌then◌else◌, length, map, take}
+use Rattle.std.specs.Prelude.{◌≡◌, ◌≢◌, ℕ, ◌+◌, ◌==◌, Bool, true, false, List, [], ◌∷◌, Some, drop, filter, if◌then◌else◌, map, take}
 use Rattle.std.specs.List.{list_any}
 use Rattle.swan_model.specs.declared.rights.Give.{Give}
 use Rattle.swan_model.specs.declared.script.Script.{Script}

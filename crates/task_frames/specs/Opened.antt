@@ -1,5 +1,5 @@
 -- A run that opens: its root queues and its root objects, made one after the other.
-use Rattle.std.specs.Prelude.{◌≡◌, ℕ, zero, suc, ◌+◌, ◌<◌, List, [], ◌∷◌, ◌++◌, Option, None, Some, length, slice_get}
+use Rattle.std.specs.Prelude.{◌≡◌, ℕ, zero, suc, ◌+◌, ◌<◌, List, [], ◌∷◌, ◌++◌, None, Some, length, slice_get}
 use Rattle.swan_model.specs.declared.origin.Origin.{Origin}
 use Rattle.swan_model.specs.declared.origin.Origin.TheVariants.{Root}
 use Rattle.swan_model.specs.declared.rights.Mode.TheVariants.{InOut}

@@ -1,5 +1,5 @@
 -- What the core makes of a frame that comes to it, and what it answers.
-use Rattle.std.specs.Prelude.{◌≡◌, ◌≢◌, ℕ, ◌+◌, ◌≤◌, ◌⊎◌, true, false, Option, Some, None, List, [], ◌∷◌, ◌++◌, is_some, length}
+use Rattle.std.specs.Prelude.{◌≡◌, ◌≢◌, ℕ, ◌+◌, ◌⊎◌, true, false, Some, None, List, [], ◌∷◌, ◌++◌, is_some, length}
 use Rattle.std.specs.Option.{ForSome}
 use Rattle.swan_model.specs.declared.body.Answer.TheVariants as answer
 use Rattle.swan_model.specs.declared.body.Ask.{Ask}
@@ -33,7 +33,7 @@ use Rattle.task_frames.specs.declared.resumed.Resumed.{Resumed}
 use Rattle.task_frames.specs.declared.resumed.Resumed.TheVariants as resumed
 use Rattle.task_frames.specs.declared.step.Step.{Step}
 use Rattle.task_frames.specs.declared.step.Step.TheVariants as step
-use Rattle.task_frames.specs.Cores.{AtCore, CoreView, HasIt, IsCore, IsGiven, KeptView, come_in}
+use Rattle.task_frames.specs.Cores.{MayBegin, AtCore, CoreView, HasIt, IsCore, IsGiven, KeptView, come_in}
 use Rattle.task_frames.specs.Frames.{FrameView, Task, is_whole, root_task}
 use Rattle.task_frames.specs.Records.{HasNoLiveChild, IsOldestChild, LiveFrame, live_at}
 
@@ -131,22 +131,24 @@ pub record IsChildOf {B L : Type 0} (parent child : Task B L) : Type 0 where
 
 module _ {B L : Type 0} (G : Ghosts B L) (before after : KeptView) (task : Task B L) where
   -- What a step at the core leaves: the frame one step on; or with its child; or as it was, but for the ask of its body, with what it
-  -- waits for; or it has ended. A wait for all children is over only where there is none, and so is the frame.
+  -- waits for; or it has ended. A wait for all children is over only where there is none, and so is the frame. No step is taken of a
+  -- frame that may not begin.
   abbrev pub IsStep : Step B L → Type 0
   IsStep (step.Runs next) =
       HasIt G after next × IsOneOn task next.task × (is_spawn (deed_now G task) ≡ false)
       × OthersStay before after (λ other. other ≢ task.number)
-      × (deed_now G task ≡ deed.Sync → HasNoLiveChild before.live task.number)
+      × (deed_now G task ≡ deed.Sync → HasNoLiveChild before.live task.number) × MayBegin before task.number
   IsStep (step.Spawned parent new) =
       HasIt G after parent × HasIt G after new × IsOneOn task parent.task × IsChildOf task new.task × (is_spawn (deed_now G task) ≡ true)
       × (live_at before.live new.task.number ≡ None) × OthersStay before after (λ other. (other ≢ task.number) × (other ≢ new.task.number))
+      × MayBegin before task.number
   IsStep (step.Waits same wait_for) =
       HasIt G after same × (after ≡ before) × (same.task ≡ record task { fuel = same.task.fuel })
       × IsShown G after same wait_for × IsLiveBefore after task.path (waited_for wait_for)
   IsStep step.Ended =
       IsCore G task.plan after × IsLast G task × (is_spawn (deed_now G task) ≡ false)
       × (live_at after.live task.number ≡ None) × OthersStay before after (λ other. other ≢ task.number)
-      × HasNoLiveChild before.live task.number
+      × HasNoLiveChild before.live task.number × MayBegin before task.number
 
 -- ---- frames that are given
 
@@ -232,6 +234,10 @@ pub record IsShownBy {B L E : Type 0} (G : Ghosts B L) (of : EndsOf E) (before a
 abbrev pub OthersKept : {B L : Type 0} → (before after : CoreView B L) → (ℕ → Type 0) → Type 0
 OthersKept before after IsOther = ForSome before.kept (λ kept. ForSome after.kept (λ now. OthersStay kept now IsOther))
 
+-- once the frame has come in it has its turn to pop, and waits for nothing that it was given to read
+abbrev pub MayStep : {B L E : Type 0} → EndsOf E → CoreView B L → FrameView B L E → Type 0
+MayStep of before frame = ForSome before.kept (λ kept. MayBegin (come_in kept frame.task (of.ends frame.ends)) frame.task.number)
+
 -- the core has no frame of this number
 abbrev pub HasNone : {B L : Type 0} → CoreView B L → ℕ → Type 0
 HasNone core number = ForSome core.kept (λ kept. live_at kept.live number ≡ None)
@@ -245,18 +251,18 @@ module _ {B Q L E : Type 0} (G : Ghosts B L) (of : EndsOf E) (before after : Cor
   IsResumed (resumed.Runs next steps) =
       (steps.count ≡ 1) × IsGivenBy of after next × IsOneOn frame.task next.task × (is_spawn (deed_now G frame.task) ≡ false)
       × OthersKept before after (λ other. other ≢ frame.task.number)
-      × (deed_now G frame.task ≡ deed.Sync → HasNoChild before frame.task.number)
+      × (deed_now G frame.task ≡ deed.Sync → HasNoChild before frame.task.number) × MayStep of before frame
   IsResumed (resumed.Spawned parent new steps) =
       (steps.count ≡ 1) × IsGivenBy of after parent × IsGivenBy of after new × IsOneOn frame.task parent.task × IsChildOf frame.task new.task
       × (is_spawn (deed_now G frame.task) ≡ true) × HasNone before new.task.number
-      × OthersKept before after (λ other. (other ≢ frame.task.number) × (other ≢ new.task.number))
+      × OthersKept before after (λ other. (other ≢ frame.task.number) × (other ≢ new.task.number)) × MayStep of before frame
   IsResumed (resumed.Waits same waited) =
       IsGivenBy of after same × (same.task ≡ record frame.task { since = frame.task.done; fuel = same.task.fuel }) × IsShownBy G of before after frame same waited.wait
       × OthersKept before after (λ other. other ≢ frame.task.number)
   IsResumed (resumed.Ended steps) =
       (steps.count ≡ 1) × (is_some after.kept ≡ true) × IsLast G frame.task × (is_spawn (deed_now G frame.task) ≡ false) × HasNone after frame.task.number
       × OthersKept before after (λ other. other ≢ frame.task.number)
-      × HasNoChild before frame.task.number
+      × HasNoChild before frame.task.number × MayStep of before frame
   IsResumed (resumed.Strange same foreign) =
       (same ≡ frame) × (foreign.number ≡ frame.task.number) × (after ≡ before)
       × ForSome before.kept (λ kept. ¬ IsGiven kept frame.task (of.ends frame.ends))

@@ -1,6 +1,6 @@
 // Opening a run.
-ghost use Rattle.std.specs.Prelude.{◌≡◌, ◌+◌, ◌++◌, ◌≤◌, [], Some, None, length, map, IfOk, OnOk};
-ghost use Rattle.swan_model.specs.Elision.{object_holdings, queue_holdings, root_holdings};
+ghost use Rattle.std.specs.Prelude.{◌≡◌, ◌+◌, ◌++◌, ◌≤◌, [], Some, None, length, IfOk, OnOk};
+ghost use Rattle.swan_model.specs.Elision.{object_holdings, queue_holdings};
 ghost use Rattle.swan_model.specs.QueueState.{new_state};
 ghost use Rattle.swan_model.specs.Readings.{at_start};
 ghost use Rattle.swan_model.specs.Script.{script};

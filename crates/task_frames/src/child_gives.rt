@@ -1,8 +1,7 @@
 // What a child is given.
-ghost use Rattle.std.specs.Prelude.{◌≡◌, ◌<◌, ℕ, Some, IfOk, OnOk, length};
+ghost use Rattle.std.specs.Prelude.{◌≡◌, ◌<◌, Some, IfOk, OnOk, length};
 ghost use Rattle.std.specs.Option.{option_map};
 ghost use Rattle.swan_model.specs.SerialStep.{given};
-ghost use Rattle.pop_order.specs.Frames.{Frames};
 ghost use Rattle.queues.specs.Turned.{AreApart, AreGivenTurns, AreOlder};
 ghost use Rattle.task_frames.specs.Giving.{AreMade, AreGivesOfQueues, GivesObjects, queue_rights};
 

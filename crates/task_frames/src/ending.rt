@@ -1,6 +1,5 @@
 // Steps that end their frame.
-ghost use Rattle.std.specs.Prelude.{◌≡◌, ℕ, ◌+◌, ◌∷◌, ◌++◌, [], None, IfOk, OnOk};
-ghost use Rattle.swan_model.specs.declared.body.Ask.{Ask as Asked};
+ghost use Rattle.std.specs.Prelude.{◌≡◌, None, IfOk, OnOk};
 ghost use Rattle.swan_model.specs.declared.body.Ask.TheVariants as ask;
 ghost use Rattle.swan_model.specs.QueueFollows.{next_queue_deed};
 ghost use Rattle.swan_model.specs.QueueState.{after_finish};

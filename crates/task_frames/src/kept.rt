@@ -1,5 +1,5 @@
 // What a core keeps until want of memory.
-ghost use Rattle.std.specs.Prelude.{◌≡◌, ◌≢◌, true, false, Some, IfOk, IfErr, OnOk, OnErr};
+ghost use Rattle.std.specs.Prelude.{◌≡◌, ◌≢◌, true, Some, IfOk, IfErr, OnOk, OnErr};
 ghost use Rattle.task_frames.specs.Cores.{HasIt, IsCore, IsGiven, come_in, is_over};
 ghost use Rattle.task_frames.specs.Resumes.{AreOfPlan, HasLent, HaveCome, IsAnswered, IsGivenAs, OthersStay, ends_of};
 

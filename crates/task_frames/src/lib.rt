@@ -15,6 +15,7 @@
 //!   the place is the one before the step. That the numbers of what it holds are those of the run is the core's to say.
 //! - Its ends are those of its task, by the name of the run, the path and the number of queue deeds.
 //! - All that it did since it was given are steps that need no core. So one that has taken no step at all did nothing.
+//! - Where its mark stands, no want of memory was met.
 //!
 //! Promised of `run_local`: it stops before the budget only where the next step needs the core, by one of the causes that
 //! it names; and it counts its steps in a `Steps`, which nobody else can make. A frame has as its name the plan and the
@@ -26,7 +27,8 @@
 //!
 //! Promised of `resume` (definition `IsResumed`): the core takes the next step of the frame that it gave last under this number,
 //! and of no other one; or it shows what the frame has to wait for, which is a live frame earlier in serial order. All other
-//! frames stay as they are. Want of memory tears the frame and leaves the core without anything for good.
+//! frames stay as they are. Want of memory tears the frame and leaves the core without anything for good. So a run is never stuck,
+//! which is a law (`a_core_is_never_stuck`): its earliest live frame waits for nobody.
 //!
 //! Not promised: that memory is found, and how long a body takes for a step.
 //!

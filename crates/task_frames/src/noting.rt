@@ -1,5 +1,5 @@
 // What each step leaves in the record and in the reading.
-ghost use Rattle.std.specs.Prelude.{◌≡◌, ◌+◌, ◌<◌, Some, None};
+ghost use Rattle.std.specs.Prelude.{◌≡◌, ◌+◌, ◌<◌};
 ghost use Rattle.std.specs.Option.{option_map};
 ghost use Rattle.swan_model.specs.Readings.{gone_on_by};
 ghost use Rattle.task_frames.specs.Cores.{STEPS_MOST};

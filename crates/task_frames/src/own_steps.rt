@@ -1,5 +1,5 @@
 // Steps of which neither queues nor objects hear.
-ghost use Rattle.std.specs.Prelude.{◌≡◌, IfOk, OnOk};
+ghost use Rattle.std.specs.Prelude.{◌≡◌};
 ghost use Rattle.swan_model.specs.declared.body.Ask.TheVariants as ask;
 ghost use Rattle.task_frames.specs.Cores.{HasIt, MayBegin, asking};
 ghost use Rattle.task_frames.specs.Resumes.{IsStep};

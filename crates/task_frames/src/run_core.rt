@@ -1,7 +1,5 @@
 // The core of a run.
-ghost use Rattle.std.specs.Prelude.{◌≡◌, None, Some, true, false, IfOk, IsErr};
-ghost use Rattle.swan_model.specs.Elision.{outcome};
-ghost use Rattle.swan_model.specs.Script.{script};
+ghost use Rattle.std.specs.Prelude.{◌≡◌, None, Some, true};
 ghost use Rattle.std.specs.Option.{ForSome};
 ghost use Rattle.task_frames.specs.Cores.{IsCoreView, IsGiven};
 ghost use Rattle.task_frames.specs.Resumes.{IsResumed, OnTried, ends_of};

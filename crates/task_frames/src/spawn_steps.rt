@@ -5,7 +5,6 @@ ghost use Rattle.swan_model.specs.declared.body.Answer.TheVariants as answer;
 ghost use Rattle.swan_model.specs.declared.body.Ask.TheVariants as ask;
 ghost use Rattle.swan_model.specs.declared.path.TheConstants.{PATH_MOST as DEPTH};
 ghost use Rattle.swan_model.specs.declared.plan.TheConstants.{FUEL_MOST};
-ghost use Rattle.swan_model.specs.declared.rights.TheConstants.{GIVES_MOST};
 ghost use Rattle.swan_model.specs.QueueFollows.{NextSpawnGivesQueues};
 ghost use Rattle.swan_model.specs.QueueState.{after_spawn};
 ghost use Rattle.swan_model.specs.Rights.{is_aliased};

@@ -1,6 +1,5 @@
 // A frame's next step at the core.
-ghost use Rattle.std.specs.Prelude.{◌≡◌, ℕ, IfOk, IfSome, OnOk, IfNone};
-ghost use Rattle.swan_model.specs.declared.body.Ask.{Ask as Asked};
+ghost use Rattle.std.specs.Prelude.{◌≡◌, IfOk, IfSome, OnOk, IfNone};
 ghost use Rattle.task_frames.specs.Cores.{HasIt, MayBegin, asking};
 ghost use Rattle.task_frames.specs.Resumes.{IsLiveBefore, IsShown, IsStep, waited_for};
 

@@ -1,4 +1,4 @@
-use Rattle.std.proofs.Common.{◌≡◌, ◌≤◌, [], drop, length}
+use Rattle.std.proofs.Common.{◌≡◌, ◌≤◌, drop, length}
 use Rattle.std.specs.Vec.Iter.{into_iter_items}
 use Rattle.swan_model.specs.Readings.{at_start}
 use Rattle.swan_model.specs.Script.{script}

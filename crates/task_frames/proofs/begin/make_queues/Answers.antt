@@ -1,15 +1,14 @@
-use Rattle.std.proofs.Common.{◌≡◌, ◌+◌, ◌≤◌, [], ◌∷◌, List, Some, length, drop, refl, sym, ap, ◌∙◌, subst, arith}
+use Rattle.std.proofs.Common.{◌≡◌, [], length, drop, refl, sym, ap, ◌∙◌, subst, arith}
 use Rattle.std.specs.Prelude.{slice_get}
 use Rattle.swan_model.specs.declared.script.Script.{Script}
-use Rattle.swan_model.specs.declared.value.Value.{Value}
-use Rattle.swan_model.specs.QueueState.{QueueState, after_create_root}
+use Rattle.swan_model.specs.QueueState.{QueueState}
 use Rattle.swan_model.specs.declared.origin.Origin.TheVariants.{Root}
 use Rattle.swan_model.specs.Readings.{at_start, with_queue}
 use Rattle.swan_model.specs.Script.{script}
 use Rattle.swan_model.specs.SerialTime.{Reading}
 use Rattle.swan_model.proofs.Elements.{some_same}
 use Rattle.serial_elision.proofs.Lawful.{lawful}
-use Rattle.task_frames.specs.Opened.{AreFirstQueues, roots_to}
+use Rattle.task_frames.specs.Opened.{AreFirstQueues}
 use Rattle.task_frames.proofs.Beginning.{all-of, items-at, next-of, roots-more}
 use Rattle.task_frames.proofs.Opening.{queues-next, queues-start}
 use Rattle.task_frames.proofs.begin.make_queues.Goals as goal

@@ -1,6 +1,5 @@
-use Rattle.std.proofs.Common.{◌≡◌, Some, length, refl, sym, ap, ◌∙◌}
+use Rattle.std.proofs.Common.{Some, length, refl, sym, ap, ◌∙◌}
 use Rattle.std.proofs.lemmas.Option.{slice_get_read}
-use Rattle.std.specs.Prelude.{slice_get}
 use Rattle.swan_model.specs.QueueState.{QueueRight}
 use Rattle.task_frames.proofs.ChildGiven.{gives-mode, next-fits, next-given, next-newest}
 use Rattle.task_frames.proofs.child_gives.enlist_all.Goals as goal

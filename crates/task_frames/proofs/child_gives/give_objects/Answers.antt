@@ -1,4 +1,4 @@
-use Rattle.std.proofs.Common.{◌≡◌, ◌+◌, sym, ap, ◌∙◌, subst, arith}
+use Rattle.std.proofs.Common.{◌+◌, sym, ap, ◌∙◌, subst, arith}
 use Rattle.swan_model.specs.Versions.{placed_at}
 use Rattle.task_frames.specs.Giving.{AreMade}
 use Rattle.task_frames.proofs.ChildGiven.{next-alone, next-free, next-holds, next-object, next-queue}

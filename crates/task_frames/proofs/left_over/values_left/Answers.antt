@@ -1,11 +1,10 @@
-use Rattle.std.proofs.Common.{◌≡◌, ◌+◌, ◌<◌, ◌++◌, ◌∷◌, [], List, Some, length, sym, ap, ◌∙◌, subst, arith}
-use Rattle.std.proofs.lemmas.Result.{IfOk-weaker}
+use Rattle.std.proofs.Common.{◌+◌, ◌<◌, ◌++◌, ◌∷◌, [], List, length, sym, ap, ◌∙◌, subst, arith}
 use Rattle.swan_model.specs.declared.value.Value.{Value}
 use Rattle.swan_model.specs.Elision.{outcome}
-use Rattle.swan_model.specs.Versions.{Placed, VersionState, owed, placed_at, settled}
+use Rattle.swan_model.specs.Versions.{VersionState, placed_at}
 use Rattle.serial_elision.proofs.Counts.{length-outcome_objects}
 use Rattle.task_frames.specs.Cores.{KeptView}
-use Rattle.task_frames.proofs.Leaving.{AreFirst, first-all, first-more, first-none, never-owed, root-placed, value-left}
+use Rattle.task_frames.proofs.Leaving.{AreFirst, first-all, first-more, never-owed, root-placed, value-left}
 use Rattle.task_frames.proofs.left_over.values_left.Goals as goal
 
 pub value-requires : goal.value-requires

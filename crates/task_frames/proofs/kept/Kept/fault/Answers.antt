@@ -1,4 +1,4 @@
-use Rattle.std.proofs.Common.{◌≡◌, ◌∷◌, ◌++◌, [], None, inr, refl, sym, subst, ap, ◌∙◌}
+use Rattle.std.proofs.Common.{◌≡◌, None, inr, refl, sym, ap, ◌∙◌}
 use Rattle.pop_order.specs.Frames.{HasNoChild}
 use Rattle.queues.specs.Asks.{IsOnTurn, MayJoin, OnNext}
 use Rattle.swan_model.specs.declared.script.Deed.TheVariants as deed

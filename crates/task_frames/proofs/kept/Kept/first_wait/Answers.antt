@@ -1,7 +1,7 @@
-use Rattle.std.proofs.Common.{◌≡◌, ◌<◌, nat_lt, false, refl, rules, sym, subst, arith}
+use Rattle.std.proofs.Common.{◌<◌, rules, sym, subst, arith}
 use Rattle.swan_model.specs.Versions.{Awaits}
 use Rattle.pop_order.specs.Turns.{Blocks}
-use Rattle.task_frames.specs.Cores.{AwaitsNone, MayBegin}
+use Rattle.task_frames.specs.Cores.{AwaitsNone}
 use Rattle.task_frames.proofs.Firsts.{awaited-before, begun-so, blocked-before, may-begin, waits-awaited}
 use Rattle.task_frames.proofs.Given.{over}
 use Rattle.task_frames.proofs.kept.Kept.first_wait.Goals as goal

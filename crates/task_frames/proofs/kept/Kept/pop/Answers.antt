@@ -1,5 +1,4 @@
 use Rattle.std.proofs.Common.{refl, sym, subst, ◌∙◌}
-use Rattle.swan_model.specs.declared.rights.Mode.TheVariants.{Pop}
 use Rattle.swan_model.specs.declared.script.Deed.TheVariants as deed
 use Rattle.swan_model.specs.QueueFollows.{IsNextAbout}
 use Rattle.queues.specs.Asks.{IsOnTurn, MayLook, OnActive, OnNext}

@@ -1,4 +1,4 @@
-use Rattle.std.proofs.Common.{refl, rules, sym, subst, ap, ◌∙◌, ◌-◌, arith}
+use Rattle.std.proofs.Common.{rules, sym, subst, ap, ◌∙◌, ◌-◌, arith}
 use Rattle.task_frames.specs.declared.stage.Stage.TheVariants.{Ready}
 use Rattle.task_frames.specs.Cores.{AtCore, HasIt}
 use Rattle.task_frames.specs.Frames.{Task}

@@ -1,10 +1,9 @@
 use Rattle.std.proofs.Common.{◌<◌, inl, refl, sym, subst, ◌∙◌}
 use Rattle.swan_model.specs.declared.body.Answer.TheVariants as answer
-use Rattle.swan_model.specs.declared.body.Ask.TheVariants as ask
 use Rattle.swan_model.specs.declared.script.Deed.TheVariants as deed
 use Rattle.queues.specs.Asks.{IsOnTurn, MayJoin}
 use Rattle.serial_elision.proofs.AskSteps.{syncs}
-use Rattle.task_frames.specs.Cores.{HasIt, KeptView, MayBegin, STEPS_MOST, asking}
+use Rattle.task_frames.specs.Cores.{STEPS_MOST}
 use Rattle.task_frames.specs.Records.{HasNoLiveChild, IsLiveChild, IsOldestChild}
 use Rattle.task_frames.proofs.Asked.{noted-so, quiet-so, steps-few}
 use Rattle.task_frames.proofs.Firsts.{waits-oldest}

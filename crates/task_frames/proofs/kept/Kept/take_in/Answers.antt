@@ -1,10 +1,9 @@
-use Rattle.std.proofs.Common.{◌≡◌, ◌≢◌, ◌-◌, Some, refl, sym, subst, ap, ◌∙◌}
+use Rattle.std.proofs.Common.{◌≡◌, ◌-◌, Some, refl, sym, subst, ap, ◌∙◌}
 use Rattle.std.specs.Option.{option_map}
 use Rattle.swan_model.specs.Readings.{gone_on_by}
-use Rattle.task_frames.specs.Cores.{IsCore, IsOf, KeptView}
+use Rattle.task_frames.specs.Cores.{IsCore, KeptView}
 use Rattle.task_frames.specs.Records.{IsOnlyLive, LiveFrame, come_to, live_at}
 use Rattle.task_frames.specs.Frames.{Task}
-use Rattle.task_frames.specs.Resumes.{OthersStay}
 use Rattle.task_frames.proofs.Amid.{some-of}
 use Rattle.task_frames.proofs.Taking.{come-so, has-taken, path-so, stands-so, stay-from, taken-stay}
 use Rattle.task_frames.proofs.kept.Kept.take_in.Goals as goal

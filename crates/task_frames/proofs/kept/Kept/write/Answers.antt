@@ -1,7 +1,7 @@
-use Rattle.std.proofs.Common.{◌<◌, ◌≡◌, Some, refl, sym, subst, ap, ◌∙◌}
+use Rattle.std.proofs.Common.{◌<◌, ◌≡◌, Some, refl, sym, subst, ◌∙◌}
 use Rattle.swan_model.specs.declared.rights.Mode.TheVariants.{Out}
 use Rattle.swan_model.specs.Versions.{Placed, after_write, placed_at}
-use Rattle.task_frames.specs.Cores.{KeptView, STEPS_MOST}
+use Rattle.task_frames.specs.Cores.{STEPS_MOST}
 use Rattle.task_frames.proofs.Amid.{some-of}
 use Rattle.task_frames.proofs.Asked.{noted-so, steps-few}
 use Rattle.task_frames.proofs.Given.{over}

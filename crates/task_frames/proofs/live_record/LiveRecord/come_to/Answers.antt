@@ -1,4 +1,4 @@
-use Rattle.std.proofs.Common.{refl, sym, subst}
+use Rattle.std.proofs.Common.{refl, subst}
 use Rattle.task_frames.specs.Records.{LiveFrames, IsOnlyLive, come_to, live_at}
 use Rattle.std.specs.Option.{option_map}
 use Rattle.task_frames.proofs.Lives.{come-keeps, come-only}

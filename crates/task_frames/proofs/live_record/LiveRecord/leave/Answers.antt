@@ -1,4 +1,4 @@
-use Rattle.std.proofs.Common.{None, sym, ap, refl, ◌∙◌}
+use Rattle.std.proofs.Common.{sym, ap, ◌∙◌}
 use Rattle.task_frames.specs.Records.{LiveFrame}
 use Rattle.task_frames.proofs.Lives.{left, left_keeps, nobody-left}
 use Rattle.task_frames.proofs.live_record.LiveRecord.leave.Goals as goal

@@ -1,13 +1,11 @@
-use Rattle.std.proofs.Common.{◌≡◌, ℕ, [], ◌++◌, List, Some, None, length, refl, sym, ap, ◌∙◌, subst}
+use Rattle.std.proofs.Common.{◌≡◌, [], ◌++◌, List, Some, None, length, refl, ap, ◌∙◌, subst}
 use Rattle.swan_model.specs.declared.plan.Plan.{Plan}
 use Rattle.swan_model.specs.declared.plan.RootQueue.{RootQueue}
 use Rattle.swan_model.specs.declared.value.Value.{Value}
 use Rattle.swan_model.specs.Elision.{object_holdings, queue_holdings, root_holdings}
-use Rattle.swan_model.specs.QueueState.{QueueState}
 use Rattle.swan_model.specs.Readings.{at_start}
 use Rattle.swan_model.specs.Script.{script}
 use Rattle.swan_model.specs.SerialState.{Holding}
-use Rattle.swan_model.specs.Versions.{VersionState}
 use Rattle.task_frames.specs.Frames.{IsPlan, Task, root_task}
 use Rattle.task_frames.specs.Opened.{AreFirstObjects, AreFirstQueues, roots_to}
 use Rattle.task_frames.specs.Records.{IsOnlyLive, LiveFrame, LiveFrames}

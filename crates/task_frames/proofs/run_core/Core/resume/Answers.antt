@@ -1,6 +1,5 @@
 use Rattle.std.proofs.Common.{refl, sym, subst, ap, ◌∙◌, Some}
-use Rattle.std.proofs.lemmas.Option.{same_Some}
-use Rattle.task_frames.specs.Cores.{CoreView, IsCore, IsCoreView}
+use Rattle.task_frames.specs.Cores.{CoreView, IsCore}
 use Rattle.task_frames.specs.Frames.{Task}
 use Rattle.task_frames.specs.Resumes.{ends_of}
 use Rattle.task_frames.proofs.Answered.{resumed-so, step-core}
