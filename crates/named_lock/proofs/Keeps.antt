@@ -2,6 +2,7 @@
 use Rattle.std.proofs.Common.{◌≡◌, ◌≢◌, ℕ, zero, suc, ◌+◌, ◌-◌, ◌<◌, ◌≤◌, eqb, eq-eqb, ne_eqb, Bool, true, false, true≢false, ◌||◌, List, [], ◌∷◌, ◌++◌, length, set, get_or, sym, refl, ap, ◌∙◌, subst, inl, inr, ⊎_elim, ◌⊎◌, arith}
 use Rattle.std.specs.Prelude.{Option, Some, None}
 use Rattle.std.proofs.Common.{All as AllOf}
+use Rattle.std.proofs.lemmas.Bool.{or_cases, or_left, or_right}
 use Rattle.std.proofs.lemmas.List.Elements.{All-append, All-take, All-drop}
 use lib.Seq.{take-append_seam, drop-append_seam}
 use Rattle.named_lock.specs.declared.seat.LockSeat.{LockSeat}
@@ -19,21 +20,6 @@ use Rattle.atomic_table.proofs.Lists.{at_set, at_snoc, at_longer, set_here, set_
 use Rattle.atomic_table.specs.declared.shared.Seat.{Seat}
 use Rattle.named_lock.specs.declared.rule.View.{View}
 use Rattle.named_lock.specs.Rule.{lock_words, sign_of, stopped_from, seated, spent, rest_of, one_of, joined, total, Fits, IsLock, Kept, took, closed, gave, finished, stopped, looked}
-
-or_true : (a b : Bool) → (a || b) ≡ true → (a ≡ true) ⊎ (b ≡ true)
-or_true true b e = inl refl
-or_true false b e = inr e
-
-true_or : (a b : Bool) → a ≡ true → (a || b) ≡ true
-true_or true b e = refl
-true_or false b e = absurd (true≢false (sym e))
-
-pub or_right : (a b : Bool) → b ≡ true → (a || b) ≡ true
-or_right true b e = refl
-or_right false b e = e
-
-pub or_left : (a b : Bool) → a ≡ true → (a || b) ≡ true
-or_left a b e = true_or a b e
 
 -- the sign of a word
 done_is : (k : ℕ) → is_done (sign_of k) ≡ true → k ≡ 1
@@ -243,7 +229,7 @@ module _ {S N : Type 0} (name : S → N) (done : S → Bool) (n : N) (seats : �
       → Rule record { words = lock_words word sign'; homes = home ∷ []; views = set vs id w }
   meets id word sign sign' v w home vs g at small stays back parts named same owes saw =
       signs id word sign sign' v w home vs g at small stays back parts named same owes
-      (λ h. ⊎_elim (λ before. stays ((g.each id v at).2 before)) (done_is sign') (or_true v.saw_done (is_done (sign_of sign')) (sym saw ∙ h)))
+      (λ h. ⊎_elim (λ before. stays ((g.each id v at).2 before)) (done_is sign') (or_cases v.saw_done (is_done (sign_of sign')) (sym saw ∙ h)))
 
   pub finishes : (slots id : ℕ) (v : View N) (c : List (ℕ × Option S)) → v.holding ≡ true → Allows Rule slots id (v, c) 16 (λ k. either (eqb k 0) 1 k) (finished (step slots 16 0 1 none) (v, c))
   finishes slots id v c holds = allows slots id (v, c) 16 _ (finished (step slots 16 0 1 none) (v, c)) (λ word sign home vs g at.
@@ -287,7 +273,7 @@ module _ {S N : Type 0} (name : S → N) (done : S → Bool) (n : N) (seats : �
   pub joins : (id : ℕ) (v : View N) (other : ℕ) (u : View N) → v.holding ≡ false → u.holding ≡ false → 0 < v.parts → Joins Rule id v other u (joined v u) spent
   joins id v other u idle idle' part s r at apart at' = let g = r.5 in let b : View N = joined v u in let mine = g.each id v at in let F = Fits r.0 r.1 n g.holder in
       let was : get_elem? s.views other ≡ some u = ⊎_elim (λ x. absurd (apart x.0)) (λ x. x.1) (at_set s.views id other b u at') in let theirs = g.each other u was in
-      let now : All F (set s.views id b) = all_set F s.views id b ((λ _. mine.0 part), (λ h. absurd (true≢false (sym h ∙ idle))), λ h. ⊎_elim mine.2 theirs.2 (or_true v.saw_done u.saw_done h)) (λ j y _ e. g.each j y e) in (
+      let now : All F (set s.views id b) = all_set F s.views id b ((λ _. mine.0 part), (λ h. absurd (true≢false (sym h ∙ idle))), λ h. ⊎_elim mine.2 theirs.2 (or_cases v.saw_done u.saw_done h)) (λ j y _ e. g.each j y e) in (
         r.0,
         r.1,
         r.2,
@@ -346,8 +332,8 @@ first_of_one P x h = h 0 x (omega arith)
 
 module _ {S N : Type 0} where
   saw_ends : (xs : List (LockSeat S N)) (x : LockSeat S N) → any_saw_done (xs ++ x ∷ []) ≡ true → (any_saw_done xs ≡ true) ⊎ (x.seat.me.0.saw_done ≡ true)
-  saw_ends [] x e = inr (⊎_elim (λ h. h) (λ h. absurd (true≢false (sym h))) (or_true x.seat.me.0.saw_done false e))
-  saw_ends (y ∷ ys) x e = ⊎_elim (λ h. inl (true_or y.seat.me.0.saw_done (any_saw_done ys) h)) (λ h. ⊎_elim (λ a. inl (or_right y.seat.me.0.saw_done (any_saw_done ys) a)) inr (saw_ends ys x h)) (or_true y.seat.me.0.saw_done (any_saw_done (ys ++ x ∷ [])) e)
+  saw_ends [] x e = inr (⊎_elim (λ h. h) (λ h. absurd (true≢false (sym h))) (or_cases x.seat.me.0.saw_done false e))
+  saw_ends (y ∷ ys) x e = ⊎_elim (λ h. inl (or_left y.seat.me.0.saw_done (any_saw_done ys) h)) (λ h. ⊎_elim (λ a. inl (or_right y.seat.me.0.saw_done (any_saw_done ys) a)) inr (saw_ends ys x h)) (or_cases y.seat.me.0.saw_done (any_saw_done (ys ++ x ∷ [])) e)
 
   pub saw_pop : (ys xs : List (LockSeat S N)) (x : LockSeat S N) → ys ≡ xs ++ x ∷ [] → any_saw_done ys ≡ true → (any_saw_done xs ≡ true) ⊎ (x.seat.me.0.saw_done ≡ true)
   saw_pop ys xs x e h = saw_ends xs x (ap any_saw_done (sym e) ∙ h)

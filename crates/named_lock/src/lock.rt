@@ -106,10 +106,14 @@ impl<S: Named> NamedLock<S> {
     pub fn try_take(&self, seat: &mut LockSeat<S>) -> Option<Held<S>>
         requires { IsSeatOf self.now false seat.old }
         ensures same { IsSameSeat seat.old seat.new }
+
+        // a state, and what the seat knows then
         ensures some { IfSome result (λ held. IsSeatOf self.now true seat.new × IsHeldBy seat.new held) }
         ensures name { IfSome result (λ held. S.name held.state ≡ lock_name self.now) }
         ensures done { IfSome result (λ held. (knows seat.old).saw_done ≡ true → S.done held.state ≡ true) }
         ensures held { IfSome result (λ held. knows seat.new ≡ record (knows seat.old) { holding = true; owes_done = S.done held.state; holds = (knows seat.old).holds + 1 }) }
+
+        // and none
         ensures none { IfNone result (IsSeatOf self.now false seat.new) }
         ensures lost { IfNone result (knows seat.new ≡ record (knows seat.old) { lost = (knows seat.old).lost + 1 }) }
     {
@@ -149,6 +153,8 @@ impl<S: Named> NamedLock<S> {
         requires seat { IsSeatOf self.now true seat.old × IsHeldBy seat.old held.now }
         requires name { S.name held.now.state ≡ lock_name self.now }
         requires done { S.done held.now.state ≡ true }
+
+        // the seat holds the state still, and has seen the sign
         ensures same { IsSameSeat seat.old seat.new }
         ensures holds { IsSeatOf self.now true seat.new }
         ensures yes { result ≡ true → knows seat.new ≡ record (learnt (knows seat.old) Done) { owes_done = true } }

@@ -1,6 +1,7 @@
 use Rattle.std.proofs.Common.{rules, arith, false, ap, ◌∙◌, refl, inl, inr, ⊎_elim}
 use Rattle.named_lock.specs.Seats.{IsSeatOf}
-use Rattle.named_lock.proofs.Keeps.{joins, all_pop, first_of_one, saw_pop, or_left, or_right}
+use Rattle.std.proofs.lemmas.Bool.{or_left, or_right}
+use Rattle.named_lock.proofs.Keeps.{joins, all_pop, first_of_one, saw_pop}
 use Rattle.named_lock.proofs.lock.NamedLock.gather.Goals as goal
 
 pub join_seat-requires : goal.join_seat-requires
