@@ -1,5 +1,5 @@
 -- What a turn of the top makes of a stack, by what the core answers.
-use Rattle.std.proofs.Common.{◌≡◌, ◌≢◌, inl, inr, ℕ, zero, suc, ◌+◌, ◌<◌, true, Option, Some, List, [], ◌∷◌, ◌++◌, refl, sym, ap, ◌∙◌, subst, arith}
+use Rattle.std.proofs.Common.{◌≡◌, ◌≢◌, inl, inr, ℕ, zero, suc, ◌+◌, ◌<◌, Bool, true, false, Option, Some, List, [], ◌∷◌, ◌++◌, refl, sym, ap, ◌∙◌, subst, arith}
 use Rattle.std.specs.Option.{ForSome}
 use Rattle.std.specs.Prelude.{is_none, slice_get}
 use Rattle.swan_model.specs.declared.body.Body.{Ghosts}
@@ -53,6 +53,10 @@ module _ {B L E : Type 0} (of : EndsOf E) (core : CoreView B L) where
     | inl none ↦ (view is.kept is.keeps).2 ∙ ap is_none none
     | inr some ↦ let on = is.all 0 some.0 some.1 in absurd (cc)
   ]
+
+-- what tells truth isn't false
+pub not-false : (told is : Bool) → is ≡ true → told ≡ is → told ≡ false → ⊥
+not-false told is so same differs = absurd (cc)
 
 -- ---- a turn
 

@@ -1,5 +1,5 @@
 // A run on one thread.
-ghost use Rattle.std.specs.Prelude.{◌≡◌, ◌<◌, ◌∷◌, ◌++◌, [], IfOk, OnOk, length};
+ghost use Rattle.std.specs.Prelude.{◌≡◌, ◌<◌, ◌∷◌, ◌++◌, [], None, IfOk, length, option_to_list};
 ghost use Rattle.swan_model.specs.Elision.{outcome};
 ghost use Rattle.swan_model.specs.Script.{script};
 ghost use Rattle.task_frames.specs.Resumes.{IsOpened, ends_of};
@@ -10,19 +10,20 @@ use std::alloc::Global;
 use swan_model::{Body, NoMemory};
 use task_frames::{Core, Frame, Opened, Paused, Resumed, RunOutcome};
 
-/// Takes the turn of a frame that was the top of the stack: the steps that it can take by itself, and the one that needs
-/// the core. Err is want of memory.
+/// Takes the turn of a frame that is the top of the stack: the steps that it can take by itself, and the one that needs
+/// the core. The frame that is the top then is handed out, and None comes where none is left. Err is want of memory.
 fn turn<B: Body, Q: Queues>(
     alloc: Global,
     core: &mut Core<B, Q>,
     body: &B,
-    stack: &mut Vec<Frame<B, Q>>,
+    below: &mut Vec<Frame<B, Q>>,
     mut frame: Frame<B, Q>,
-) -> Result<(), NoMemory>
-    requires stack { IsStack (ends_of Q.Ends.LocalEnds) core.old (stack.old.items ++ frame ∷ []) }
+) -> Result<Option<Frame<B, Q>>, NoMemory>
+    requires stack { IsStack (ends_of Q.Ends.LocalEnds) core.old (below.old.items ++ frame ∷ []) }
     requires body { body.now ≡ core.old.plan.body }
-    ensures stack { OnOk result (IsStack (ends_of Q.Ends.LocalEnds) core.new stack.new.items) }
-    ensures fewer { OnOk result (turns_left stack.new.items < turns_left (stack.old.items ++ frame ∷ [])) }
+    ensures stack { IfOk result (λ top. IsStack (ends_of Q.Ends.LocalEnds) core.new (below.new.items ++ option_to_list top)) }
+    ensures empty { IfOk result (λ top. top ≡ None → below.new.items ≡ []) }
+    ensures fewer { IfOk result (λ top. turns_left (below.new.items ++ option_to_list top) < turns_left (below.old.items ++ frame ∷ [])) }
     ensures plan { core.new.plan ≡ core.old.plan }
 {
     // Each `number` is there for what a frame's type says of it: it is true for its plan, so its fuel is the elision's.
@@ -37,20 +38,19 @@ fn turn<B: Body, Q: Queues>(
     match core.resume(alloc, body, frame) {
         Resumed::Runs(next, _) => {
             next.number();
-            stack.push(next)?;
+            Ok(Some(next))
         }
         Resumed::Spawned(parent, child, _) => {
             parent.number();
             child.number();
-            stack.push(parent)?;
-            stack.push(child)?;
+            below.push(parent)?;
+            Ok(Some(child))
         }
-        Resumed::Ended(_) => {}
+        Resumed::Ended(_) => Ok(below.pop()),
         Resumed::Waits(_, _) => unreachable!(),
         Resumed::Strange(_, _) => unreachable!(),
-        Resumed::NoMemory => return Err(NoMemory),
+        Resumed::NoMemory => Err(NoMemory),
     }
-    Ok(())
 }
 
 /// Runs an opened core to its end, on this thread alone, and answers the outcome of the plan that the core names. NoMemory
@@ -74,10 +74,10 @@ pub fn run_alone<B: Body, Q: Queues>(
         body,
         root,
     } = opened;
-    let mut stack = Vec::new(alloc);
-    stack.push(root)?;
-    while let Some(frame) = stack.pop() {
-        turn(alloc, &mut core, &body, &mut stack, frame)?;
+    let mut below = Vec::new(alloc);
+    let mut top = Some(root);
+    while let Some(frame) = top {
+        top = turn(alloc, &mut core, &body, &mut below, frame)?;
     }
     if !core.is_done() {
         unreachable!();
