@@ -16,8 +16,10 @@ use Rattle.swan_model.specs.declared.value.Value.TheVariants.{Bytes}
 use Rattle.swan_model.specs.Elision.{outcome}
 use Rattle.swan_model.specs.Lines.{lines, refusal_of}
 use Rattle.swan_model.specs.SerialState.{Holding}
+use Rattle.swan_model.specs.Texts.{line, out_bytes}
 use Rattle.line_blocks.specs.declared.queue_reader.QueueReader.TheVariants as reader
 use Rattle.line_blocks.specs.LineBlocks.{Lines, bytes_of, later}
+use Rattle.line_blocks.specs.TextRoots.{text_names}
 use Rattle.line_blocks.proofs.FewLines.{few_lines}
 use Rattle.line_blocks.proofs.Reading.{hands_block, holds_line, lines_after}
 use Rattle.whole_runs.specs.Whole.{Contents, RunsWhole}
@@ -31,10 +33,15 @@ use Rattle.swan_reducers.specs.declared.local.FoldLocal.TheVariants as local
 use Rattle.swan_reducers.specs.declared.reducer.Reducer.{Ghosts}
 use Rattle.swan_reducers.specs.Fold.{bad_blocks, bad_line, first_bad, fold_of, in_blocks, joined_from}
 use Rattle.swan_reducers.specs.LineFolds.{bad_number, unless_part}
-use Rattle.swan_reducers.specs.Folded.{end_faults, end_records, folded}
+use Rattle.swan_reducers.specs.Folded.{IsFolded, end_faults, end_records, end_text, folded}
 use Rattle.swan_reducers.specs.Plans.{fold_plan}
 use Rattle.swan_reducers.specs.Steps.{as_part, block_task, collector, item_part, next, place_of, pushed_end, reads}
 use Rattle.swan_reducers.proofs.Joining.{as_part-is, items_are_parts, joined_is_part, join_joined, joined_from-append, parts_are_parts}
+
+-- what is written of an outcome with this end
+written : (end : Result (List ℕ) Trouble) (faults : List Fault) → out_bytes text_names (record { objects = []; queues = [] ∷ end_records end ∷ []; faults = faults }) ≡ end_text end
+written (Ok item) faults = append-nil (line item ++ []) ∙ append-nil (line item)
+written (Err trouble) faults = refl
 
 -- the input and the parts
 abbrev shape : List Value → List Value → Contents
@@ -352,8 +359,8 @@ module _ {R : Type 0} (g : Ghosts R) where
         (collector_whole (0 + length children) parts (fold_of g body.reducer (map bytes_of xs)) (all_collected xs) total_is feeds)
         (finishes G (omega (arith, same, paid, costs_are xs)) refl))))))
 
-  pub is_folded : (reducer : R) (text : List ℕ) → refusal_of text ≡ None → outcome G (fold_plan reducer text) ≡ folded g reducer (lines text)
-  is_folded reducer text accepted =
+  outcome_of_fold : (reducer : R) (text : List ℕ) → refusal_of text ≡ None → outcome G (fold_plan reducer text) ≡ folded g reducer (lines text)
+  outcome_of_fold reducer text accepted =
       let plan = fold_plan reducer text in
       let ls = lines text in
       let xs = map Bytes ls in
@@ -363,3 +370,8 @@ module _ {R : Type 0} (g : Ghosts R) where
       let counted : (length xs + 63) / 64 ≡ (length ls + 63) / 64 = ap (λ n. (n + 63) / 64) many in
       outcome_is G plan (root_whole plan.body xs plan.fuel (omega (arith, many, few)) (omega (arith, counted)) (omega (arith, many)))
       ∙ ap (folded g reducer) same
+
+  pub is_folded : (reducer : R) (text : List ℕ) → refusal_of text ≡ None → IsFolded g reducer text (outcome G (fold_plan reducer text))
+  is_folded reducer text accepted =
+      let same = outcome_of_fold reducer text accepted in
+      record { outcome_is = same; output = ap (out_bytes text_names) same ∙ written (g.end_of reducer (fold_of g reducer (lines text))) (folded g reducer (lines text)).faults }

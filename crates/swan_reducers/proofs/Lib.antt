@@ -1,6 +1,7 @@
 pub mod Folding
 pub mod JoinBlocks
 pub mod JoinTotals
-mod Joining
+pub mod Joining
 pub mod Narrowing
+pub mod SumBlocks
 pub mod SumTotals

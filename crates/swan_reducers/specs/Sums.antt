@@ -27,6 +27,15 @@ number_part line = option_map sum_part (number line)
 abbrev pub summed : List ℕ → List ℕ → List ℕ
 summed left right = sum_part (int_wrap w128 (sum_of left +ℤ sum_of right))
 
+-- The sum of lines, from a sum on, as it is kept in 128 bits. A line that is no number adds nothing.
+abbrev pub added_number : ℤ → Option ℤ → ℤ
+added_number sum None = sum
+added_number sum (Some number) = int_wrap w128 (sum +ℤ number)
+
+abbrev pub lines_summed : ℤ → List (List ℕ) → ℤ
+lines_summed sum [] = sum
+lines_summed sum (line ∷ lines) = lines_summed (added_number sum (number line)) lines
+
 -- the decimal text of a number of 64 bits, and an overflow past them
 abbrev pub fits_64 : ℤ → Bool
 fits_64 (pos n) = nat_lt n (2 ^ 63)

@@ -30,12 +30,12 @@ fn is_too_long(part: &[u8]) -> bool
     }
 }
 
-/// A record of so few bytes.
-fn record_of(alloc: Global, bytes: &[u8]) -> Result<Record, NoMemory>
-    requires { length bytes.now ≤ JOIN_MOST }
-    ensures { IfOk result (λ it. it ≡ bytes.now) }
+/// A record of so few bytes, without a copy.
+fn record_of(bytes: Vec<u8>) -> Result<Record, NoMemory>
+    requires { length bytes.items ≤ JOIN_MOST }
+    ensures { IfOk result (λ it. it ≡ bytes.items) }
 {
-    match Record::of(alloc, bytes) {
+    match Record::from_vec(bytes) {
         Ok(record) => Ok(record),
         Err(_) => Err(NoMemory),
     }
@@ -45,10 +45,10 @@ fn record_of(alloc: Global, bytes: &[u8]) -> Result<Record, NoMemory>
 fn too_long(alloc: Global) -> Result<Record, NoMemory>
     ensures { IfOk result (λ part. part ≡ too_long) }
 {
-    record_of(alloc, b"\n")
+    record_of(vec![in alloc; b'\n']?)
 }
 
-/// Both sides joined, unless there are too many bytes. `O(length)`.
+/// Both sides joined, unless there are too many bytes. Each side is copied once. `O(length)`.
 fn joined(alloc: Global, left: &[u8], right: &[u8]) -> Result<Record, NoMemory>
     requires left { length left.now ≤ JOIN_MOST }
     requires right { length right.now ≤ JOIN_MOST }
@@ -60,7 +60,7 @@ fn joined(alloc: Global, left: &[u8], right: &[u8]) -> Result<Record, NoMemory>
     let mut bytes = Vec::with_capacity(alloc, left.len() + right.len())?;
     bytes.extend_from_slice(left)?;
     bytes.extend_from_slice(right)?;
-    record_of(alloc, bytes.as_slice())
+    record_of(bytes)
 }
 
 /// Whether a line makes joined bytes too many. `O(1)`.
@@ -85,7 +85,7 @@ fn lines_joined(alloc: Global, mut block: LineBlock) -> Result<Record, NoMemory>
         }
         bytes.extend_from_slice(line)?;
     }
-    record_of(alloc, bytes.as_slice())
+    record_of(bytes)
 }
 
 impl Reducer for JoinReducer {
@@ -110,7 +110,7 @@ impl Reducer for JoinReducer {
     }
 
     fn zero(&self, alloc: Global) -> Result<Record, NoMemory> {
-        record_of(alloc, &[])
+        record_of(Vec::new(alloc))
     }
 
     fn of_line(&self, alloc: Global, line: &Record) -> Result<Record, LineAnswer> {

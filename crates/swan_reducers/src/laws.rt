@@ -7,7 +7,7 @@ ghost use Rattle.swan_reducers.specs.declared.join_reducer.JoinReducer.{JoinRedu
 ghost use Rattle.swan_reducers.specs.declared.join_reducer.TheConstants.{JOIN_MOST};
 ghost use Rattle.swan_reducers.specs.declared.sum_reducer.SumReducer.{SumReducer};
 ghost use Rattle.swan_reducers.specs.Fold.{fold_of};
-ghost use Rattle.swan_reducers.specs.Folded.{folded};
+ghost use Rattle.swan_reducers.specs.Folded.{IsFolded};
 ghost use Rattle.swan_reducers.specs.Joins.{all_bytes, join_end, whole_text};
 ghost use Rattle.swan_reducers.specs.Plans.{fold_plan};
 ghost use Rattle.swan_reducers.specs.Sums.{decimal_text, sum_end, total};
@@ -18,9 +18,10 @@ use swan_model::Body;
 
 /// The law that the outcome of a fold's plan is the fold, for each reducer and each text that isn't refused: no line is
 /// left in the input; the output is the end of the fold, or nothing where that is a trouble; and there is exactly one
-/// fault for each block with a line without a part, in order, and then that trouble. So the fuel of the plan is enough.
+/// fault for each block with a line without a part, in order, and then that trouble. So the fuel of the plan is enough, and
+/// what is written is the end with a line feed, or nothing.
 pub fn the_outcome_is_the_fold<R: Reducer + Send + Sync>()
-    ensures { (reducer : R) (text : List ℕ) → refusal_of text ≡ None → outcome ⟦<FoldBody<R> as Body>⟧ (fold_plan reducer text) ≡ folded R.Reducer reducer (lines text) }
+    ensures { (reducer : R) (text : List ℕ) → refusal_of text ≡ None → IsFolded R.Reducer reducer text (outcome ⟦<FoldBody<R> as Body>⟧ (fold_plan reducer text)) }
 {}
 
 /// The law that the fold of lines by the reducer of sums ends with the decimal text of the sum of those that are

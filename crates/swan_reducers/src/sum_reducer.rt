@@ -1,11 +1,14 @@
 // The reducer of sums.
-ghost use Rattle.std.specs.Prelude.{◌≡◌, ◌≤◌, ◌+ℤ◌, length, IfOk};
+ghost use Rattle.std.specs.Prelude.{◌≡◌, ◌≤◌, ◌+ℤ◌, pos, None, option_map, length, map, IfOk};
 ghost use Rattle.std.specs.Fmt.{signed_decimal};
 ghost use Rattle.std.specs.Int.{int_wrap, w128};
-ghost use Rattle.swan_reducers.specs.Sums.{is_sum_part, narrowed, sum_of, sum_part};
+ghost use Rattle.line_blocks.specs.LineBlocks.{bytes_of};
+ghost use Rattle.swan_reducers.specs.LineFolds.{bad_number, or_first, unless_part};
+ghost use Rattle.swan_reducers.specs.Sums.{added_number, is_sum_part, lines_summed, narrowed, number_part, sum_of, sum_part};
 
-use crate::{EndAnswer, LineAnswer, Reducer};
+use crate::{BlockFold, EndAnswer, LineAnswer, Reducer};
 use job_reader::read_number;
+use line_blocks::{LineBlock, bytes_of};
 use std::alloc::Global;
 use swan_model::{NoMemory, Record, Trouble};
 
@@ -16,7 +19,8 @@ const PART_BYTES: usize = 16;
 /// of the sum, or Overflow exactly where the sum doesn't fit 64 bits with its sign.
 ///
 /// A part is the 16 bytes of a sum of 128 bits, the highest first, so that the sum of all lines of a text is exact,
-/// however far it is from 64 bits on the way. Each call is `O(length)`.
+/// however far it is from 64 bits on the way. Each call is `O(length)`, and `fold_block` takes memory for the one part
+/// alone, however many lines the block has.
 #[derive(Drop)]
 pub struct SumReducer;
 
@@ -62,6 +66,50 @@ fn added(left: i128, right: i128) -> i128
     ensures { result ≡ int_wrap w128 (left +ℤ right) }
 {
     left.wrapping_add(right)
+}
+
+/// The sum of lines, and the number of the first one that is no number.
+struct LineSum {
+    sum: i128,
+    bad: Option<u64>,
+}
+
+/// A sum and what a line is, which adds nothing where it is no number.
+fn with_number(sum: i128, read: Option<i64>) -> i128
+    ensures { result ≡ added_number sum read }
+{
+    match read {
+        Some(number) => added(sum, i128::from(number)),
+        None => sum,
+    }
+}
+
+/// The first bad line, after one more line with this number.
+fn first_bad(bad: Option<u64>, number: u64, read: Option<i64>) -> Option<u64>
+    ensures { result ≡ or_first bad (unless_part (option_map sum_part read) number None) }
+{
+    match read {
+        Some(_) => bad,
+        None => bad.or(Some(number)),
+    }
+}
+
+/// The sum of a block's lines. It takes no memory. `O(length)`.
+#[tactic(auto, using(crate::proofs::Joining::bad_last, crate::proofs::Joining::bad_step))]
+fn lines_summed(mut block: LineBlock) -> LineSum
+    ensures sum { result.sum ≡ lines_summed (pos 0) (map bytes_of block.lines) }
+    ensures bad { result.bad ≡ bad_number number_part block.number (map bytes_of block.lines) }
+{
+    let mut sum = 0;
+    let mut bad = None;
+    let mut number = block.number();
+    while let Some(line) = block.take() {
+        let read = read_number(bytes_of(&line));
+        sum = with_number(sum, read);
+        bad = first_bad(bad, number, read);
+        number = block.number();
+    }
+    LineSum { sum, bad }
 }
 
 /// A sum as a number of 64 bits, where it fits them.
@@ -126,5 +174,14 @@ impl Reducer for SumReducer {
             Some(sum) => Ok(decimal(alloc, sum)?),
             None => Err(EndAnswer::Trouble(Trouble::Overflow)),
         }
+    }
+
+    #[tactic(auto, using(crate::proofs::SumBlocks::block_sum))]
+    fn fold_block(&self, alloc: Global, block: LineBlock) -> Result<BlockFold, NoMemory> {
+        let LineSum { sum, bad } = lines_summed(block);
+        Ok(BlockFold {
+            part: sum_part(alloc, sum)?,
+            bad,
+        })
     }
 }

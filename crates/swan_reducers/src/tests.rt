@@ -1,11 +1,14 @@
 // Folds of texts, against answers worked out by hand.
-use crate::{JOIN_MOST, JoinReducer, Reducer, SumReducer, fold_names, fold_plan};
+use crate::{
+    BlockFold, EndAnswer, JOIN_MOST, JoinReducer, LineAnswer, Reducer, SumReducer, fold_names,
+    fold_plan,
+};
 use serial_elision::{Printed, elide, print};
 use std::alloc::Global;
 use std::marker::{Send, Sync};
 use std::process::Abort;
 use std::test::Fail;
-use swan_model::{RECORD_MOST, Record};
+use swan_model::{NoMemory, RECORD_MOST, Record};
 
 /// The two texts that the fold of a text leaves.
 fn texts_of<R: Reducer + Send + Sync>(
@@ -337,6 +340,175 @@ fn parts_are_told_from_other_records(rt: HostRuntime) -> Result<(), Fail> {
         let item = Record::of(alloc, &text).ok().ok_or("too long")?;
         assert_eq!(rt; SumReducer.is_part(&item), is_sum);
         assert!(rt; JoinReducer.is_part(&item));
+    }
+    Ok(())
+}
+
+/// The bytes of a line's part, and None for a bad line.
+fn part_of<R: Reducer>(alloc: Global, reducer: &R, line: &[u8]) -> Result<Option<Vec<u8>>, Fail> {
+    let line = Record::of(alloc, line).ok().ok_or("too long")?;
+    match reducer.of_line(alloc, &line) {
+        Ok(part) => Ok(Some(part.as_slice().to_vec(alloc)?)),
+        Err(LineAnswer::BadNumber) => Ok(None),
+        Err(LineAnswer::NoMemory) => Err("no memory".into()),
+    }
+}
+
+#[test]
+fn a_lines_part_is_its_number_in_16_bytes_or_its_bytes(rt: HostRuntime) -> Result<(), Fail> {
+    let alloc = rt.alloc();
+    let longest = repeated(alloc, b"a", JOIN_MOST)?;
+    for (line, sum) in [
+        (
+            b"5".as_slice(),
+            Some(b"\0\0\0\0\0\0\0\0\0\0\0\0\0\0\0\x05".as_slice()),
+        ),
+        (
+            b"-2",
+            Some(b"\xff\xff\xff\xff\xff\xff\xff\xff\xff\xff\xff\xff\xff\xff\xff\xfe"),
+        ),
+        (
+            b"9223372036854775807",
+            Some(b"\0\0\0\0\0\0\0\0\x7f\xff\xff\xff\xff\xff\xff\xff"),
+        ),
+        (b"9223372036854775808", None),
+        (
+            b"-9223372036854775808",
+            Some(b"\xff\xff\xff\xff\xff\xff\xff\xff\x80\0\0\0\0\0\0\0"),
+        ),
+        (b"-9223372036854775809", None),
+        (b"+1", None),
+        (b"-0", None),
+        (b"07", None),
+        (b"", None),
+        (b"a\xff", None),
+        (b"\n", None),
+        (&longest, None),
+    ] {
+        let part = part_of(alloc, &SumReducer, line)?;
+        assert!(rt; part.as_deref() == sum);
+        let part = part_of(alloc, &JoinReducer, line)?;
+        assert!(rt; part.as_deref() == Some(line));
+    }
+    Ok(())
+}
+
+/// What a reducer makes of lines one by one, the first of which has the number 1.
+fn with_lines<R: Reducer>(
+    rt: &impl Abort,
+    alloc: Global,
+    reducer: &R,
+    lines: &[&[u8]],
+) -> Result<BlockFold, Fail> {
+    let mut fold = BlockFold {
+        part: reducer.zero(alloc)?,
+        bad: None,
+    };
+    let mut number: u64 = 1;
+    for line in lines {
+        assert!(rt; reducer.is_part(&fold.part));
+        let line = Record::of(alloc, *line).ok().ok_or("too long")?;
+        fold = reducer.with_line(alloc, fold, number, &line)?;
+        number = number.saturating_add(1);
+    }
+    Ok(fold)
+}
+
+/// Whether lines one by one leave this part, and this first bad line.
+fn leave_part<R: Reducer>(
+    rt: &impl Abort,
+    alloc: Global,
+    reducer: &R,
+    lines: &[&[u8]],
+    part: &[u8],
+    bad: Option<u64>,
+) -> Result<bool, Fail> {
+    let fold = with_lines(rt, alloc, reducer, lines)?;
+    Ok(fold.part.as_slice() == part && fold.bad == bad)
+}
+
+#[test]
+fn lines_one_by_one_keep_the_first_bad_line(rt: HostRuntime) -> Result<(), Fail> {
+    let alloc = rt.alloc();
+    let longest = repeated(alloc, b"a", JOIN_MOST)?;
+    let zero = b"\0\0\0\0\0\0\0\0\0\0\0\0\0\0\0\0".as_slice();
+    let twelve = b"\0\0\0\0\0\0\0\0\0\0\0\0\0\0\0\x0c".as_slice();
+    let minus_one = b"\xff\xff\xff\xff\xff\xff\xff\xff\xff\xff\xff\xff\xff\xff\xff\xff".as_slice();
+    for (lines, sum, bad, join) in [
+        ([b"".as_slice(), b"", b""], zero, Some(1), b"".as_slice()),
+        ([b"5", b"x", b"7"], twelve, Some(2), b"5x7"),
+        ([b"x", b"12", b"y"], twelve, Some(1), b"x12y"),
+        ([b"0", b"12", b"12 "], twelve, Some(3), b"01212 "),
+        ([b"-12", b"0", b"11"], minus_one, None, b"-12011"),
+        ([b"", &longest, b""], zero, Some(1), &longest),
+        ([&longest, b"b", b"-1"], minus_one, Some(1), b"\n"),
+        ([b"0", b"-1", &longest], minus_one, Some(3), b"\n"),
+        ([b"-1", b"\n", b"0"], minus_one, Some(2), b"\n"),
+    ] {
+        assert!(rt; leave_part(&rt, alloc, &SumReducer, &lines, sum, bad)?);
+        assert!(rt; leave_part(&rt, alloc, &JoinReducer, &lines, join, None)?);
+    }
+    Ok(())
+}
+
+/// Sums whose blocks are folded by the calls for one line, as the trait has it.
+#[derive(Drop)]
+struct LineByLine {
+    sums: SumReducer,
+}
+
+impl Reducer for LineByLine {
+    ghost use Rattle.std.specs.Prelude.{pos};
+    ghost use Rattle.swan_reducers.specs.SumLaws.{sums_are_lawful};
+    ghost use Rattle.swan_reducers.specs.Sums.{is_sum_part, number_part, sum_end, sum_part, summed};
+
+    ghost is_part = { λ _. is_sum_part };
+
+    ghost zero_part = { λ _. sum_part (pos 0) };
+
+    ghost part_of = { λ _. number_part };
+
+    ghost joined = { λ _. summed };
+
+    ghost end_of = { λ _. sum_end };
+
+    ghost laws = { λ _. sums_are_lawful };
+
+    fn is_part(&self, record: &Record) -> bool {
+        self.sums.is_part(record)
+    }
+
+    fn zero(&self, alloc: Global) -> Result<Record, NoMemory> {
+        self.sums.zero(alloc)
+    }
+
+    fn of_line(&self, alloc: Global, line: &Record) -> Result<Record, LineAnswer> {
+        self.sums.of_line(alloc, line)
+    }
+
+    fn join(&self, alloc: Global, left: &Record, right: &Record) -> Result<Record, NoMemory> {
+        self.sums.join(alloc, left, right)
+    }
+
+    fn end(&self, alloc: Global, whole: &Record) -> Result<Record, EndAnswer> {
+        self.sums.end(alloc, whole)
+    }
+}
+
+#[test]
+fn a_reducer_without_a_fold_of_blocks_goes_line_by_line(rt: HostRuntime) -> Result<(), Fail> {
+    let alloc = rt.alloc();
+    for (good, sum, faults) in [
+        (0, "0\n", "faults 1\nfault /0 1 BadNumber\n"),
+        (63, "441\n", "faults 1\nfault /0 64 BadNumber\n"),
+        (64, "448\n", "faults 1\nfault /1 65 BadNumber\n"),
+    ] {
+        let text = in_turn(alloc, b"7\n", good, b"x\n", 1)?;
+        let reducer = LineByLine { sums: SumReducer };
+        assert!(rt;
+            leaves(&rt, alloc, reducer, &text, sum.as_bytes(), faults)?,
+            "at {good}"
+        );
     }
     Ok(())
 }
