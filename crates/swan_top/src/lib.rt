@@ -44,7 +44,5 @@ pub use help::{HELP, VERSION};
 pub use honest::{honest_call, honest_calls_end_well};
 pub use how::How;
 pub use limits::limits_of_words;
-pub use run_end::RunEnd;
 pub use status::Status;
 pub use top_call::swan;
-pub use way::Way;

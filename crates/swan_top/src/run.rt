@@ -10,8 +10,10 @@ ghost use Rattle.swan_top.specs.Settled.{Is, Ran, Stops};
 ghost use Rattle.swan_model.specs.declared.plan.TheConstants.{FUEL_MOST};
 ghost use Rattle.job_body.specs.declared.answer.PlanAnswer.TheVariants as plan;
 
+use crate::run_end::RunEnd;
 use crate::verdict::{Settled, Stop};
-use crate::{How, RunEnd, Status, Way};
+use crate::way::Way;
+use crate::{How, Status};
 use job_body::{PlanAnswer, names_of, plan_of};
 use privilege_check::CheckedJob;
 use queue_book::BookQueues;

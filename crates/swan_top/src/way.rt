@@ -1,7 +1,7 @@
 // The ways to run a plan.
 
 /// A way to run a plan. What it leaves is the same by each.
-#[derive(Clone, Copy, Debug, PartialEq, Eq)]
+#[derive(Clone, Copy)]
 pub enum Way {
     /// The serial elision: a spawn is an ordinary call.
     Elide,
