@@ -99,8 +99,7 @@ fn converted(alloc: Global, width: u64, line: &[u8]) -> Result<Ask<RecordLocal>,
     if count != width {
         return Ok(Ask::Fail(Trouble::User(1)));
     }
-    let text = netstrings(alloc, line, count)?;
-    match Record::of(alloc, &text) {
+    match Record::from_vec(netstrings(alloc, line, count)?) {
         Ok(record) => Ok(Ask::Push(0, Value::Bytes(record))),
         Err(RecordAnswer::TooLong) => Ok(Ask::Fail(Trouble::TooLong)),
         Err(RecordAnswer::NoMemory) => Err(NoMemory),

@@ -7,8 +7,11 @@ use itoa::Buffer;
 use std::alloc::Global;
 use swan_model::{NoMemory, RECORD_MOST};
 
-// How many bytes a netstring has beyond its field, at most: five digits, a colon and a comma.
-const NETSTRING_MORE: usize = 7;
+/// How many bytes a netstring has beyond its field and the TAB that ends it, at most: five digits, and one more byte.
+const NETSTRING_MORE: usize = 6;
+
+/// The same in a line of fewer than 100 bytes.
+const SHORT_NETSTRING_MORE: usize = 3;
 
 /// How many fields a line has. `O(length)`.
 #[tactic(auto, using(crate::proofs::FieldByField::number_of_fields))]
@@ -48,14 +51,19 @@ fn after(line: &[u8], len: usize) -> &[u8]
     &line[len..]
 }
 
-/// The netstrings of a line's fields, joined. There is room at once for those of so many fields as the count says.
-/// `O(length + count)`.
+/// The netstrings of a line's fields, joined. There is room at once for those of so many fields as the count says, and little
+/// more. `O(length + count)`.
 pub fn netstrings(alloc: Global, line: &[u8], count: u64) -> Result<Vec<u8>, NoMemory>
     requires line { length line.now ≤ RECORD_MOST }
     requires count { count ≤ RECORD_MOST + 1 }
     ensures { IfOk result (λ text. text.items ≡ netstrings line.now) }
 {
-    let room = line.len() + NETSTRING_MORE * count as usize;
+    let more = if line.len() < 100 {
+        SHORT_NETSTRING_MORE
+    } else {
+        NETSTRING_MORE
+    };
+    let room = line.len() + 1 + more * count as usize;
     let mut text = Vec::with_capacity(alloc, room)?;
     let mut rest = line;
     let mut len = field_len(rest);
