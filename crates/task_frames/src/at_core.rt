@@ -1,13 +1,14 @@
 // Frames that are at the core, without their ends.
-ghost use Rattle.std.specs.Prelude.{◌≡◌, ◌<◌};
+ghost use Rattle.std.specs.Prelude.{◌≡◌, ◌+◌, ◌-◌, ◌<◌, ◌≤◌, IfOk};
 ghost use Rattle.swan_model.specs.SerialStep.{number_at};
 ghost use Rattle.task_frames.specs.declared.stage.Stage.TheVariants.{Ready};
 ghost use Rattle.task_frames.specs.Cores.{STEPS_MOST, asking, one_on};
 
 use crate::holding::number_at;
 use crate::{Holding, Stage};
+use std::alloc::Global;
 use std::marker::Model;
-use swan_model::{Answer, Ask, Body, Meaning, Mode, Path, Plan};
+use swan_model::{Answer, Ask, Body, Meaning, Mode, NoMemory, Path, Plan};
 
 /// A task that is at the core, as far as it has come.
 #[derive(Drop)]
@@ -46,6 +47,62 @@ impl<B: Body> Model for TaskAtCore<B> {
 }
 
 impl<B: Body> TaskAtCore<B> {
+    /// In a box, so that a frame is moved about cheaply. Err is want of memory. `O(1)`, one allocation.
+    pub fn boxed(self, alloc: Global) -> Result<Box<TaskAtCore<B>>, NoMemory>
+        ensures { IfOk result (λ boxed. boxed.value ≡ self) }
+    {
+        Ok(Box::new(alloc, self)?)
+    }
+
+    /// Its number in the run. It counts as given with the steps that it has done. `O(1)`.
+    pub fn number(&self) -> u64
+        ensures number { result ≡ self.now.number }
+        ensures since { self.now.since ≡ self.now.done }
+    {
+        self.number
+    }
+
+    /// Its fuel. `O(1)`.
+    pub fn fuel(&self) -> u64
+        ensures { result ≡ self.now.fuel }
+    {
+        self.fuel
+    }
+
+    /// What it holds, by place. `O(1)`.
+    pub fn holdings(&self) -> &[Holding]
+        ensures { result.now ≡ self.now.holdings }
+    {
+        self.holdings.as_slice()
+    }
+
+    /// Pays for a step. The answer is the fuel that it has then. `O(1)`.
+    pub fn pays(&mut self) -> u64
+        requires some { 0 < self.old.fuel }
+        ensures paid { self.new ≡ record self.old { fuel = self.old.fuel - 1 } }
+        ensures fuel { result ≡ self.old.fuel - 1 }
+    {
+        self.fuel -= 1;
+        self.fuel
+    }
+
+    /// Takes one step. `O(1)`.
+    pub fn takes_step(&mut self)
+        requires few { self.old.done < STEPS_MOST }
+        ensures { self.new ≡ one_on self.old }
+    {
+        self.done += 1;
+    }
+
+    /// Goes on by so many steps, after which it has this fuel. `O(1)`.
+    pub fn goes_on(&mut self, steps: u64, fuel: u64)
+        requires few { self.old.done + steps ≤ STEPS_MOST }
+        ensures { self.new ≡ record self.old { done = self.old.done + steps; since = self.old.done + steps; fuel = fuel } }
+    {
+        self.done += steps;
+        self.fuel = fuel;
+    }
+
     /// Its path. `O(1)`.
     pub fn into_path(self) -> Path
         ensures { result ≡ self.path }
@@ -67,7 +124,7 @@ impl<B: Body> TaskAtCore<B> {
 #[derive(Drop)]
 pub struct FrameAtCore<B: Body> {
     /// Its task.
-    pub task: TaskAtCore<B>,
+    pub task: Box<TaskAtCore<B>>,
     /// How it stands to its next step.
     pub stage: Stage<B::Local>,
 }
@@ -77,14 +134,14 @@ impl<B: Body> Model for FrameAtCore<B> {
 
     ghost Value = { AtCore B B.Local };
 
-    ghost view = { λ frame. record { task = frame.task; stage = frame.stage } };
+    ghost view = { λ frame. record { task = frame.task.value; stage = frame.stage } };
 }
 
 /// A frame at the core in the middle of a step, with what its body asks for taken out.
 #[derive(Drop)]
 pub struct MidStep<B: Body> {
     /// Its task, whose unit of fuel for the step is taken.
-    pub task: TaskAtCore<B>,
+    pub task: Box<TaskAtCore<B>>,
     /// The local that the body left.
     pub local: B::Local,
     /// The place before the step.
@@ -96,7 +153,7 @@ impl<B: Body> Model for MidStep<B> {
 
     ghost Value = { Mid B B.Local };
 
-    ghost view = { λ mid. record { task = mid.task; local = mid.local; at = mid.at } };
+    ghost view = { λ mid. record { task = mid.task.value; local = mid.local; at = mid.at } };
 }
 
 impl<B: Body> FrameAtCore<B> {
@@ -114,12 +171,12 @@ impl<B: Body> FrameAtCore<B> {
         self.task.done
     }
 
-    /// Its task. `O(1)`.
-    pub fn into_task(self) -> TaskAtCore<B>
-        ensures { result ≡ self.task }
+    /// The path of its task. `O(1)`.
+    pub fn into_path(self) -> Path
+        ensures { result ≡ self.task.path }
     {
         let FrameAtCore { task, stage: _ } = self;
-        task
+        Box::into_inner(task).into_path()
     }
 }
 
@@ -152,16 +209,16 @@ impl<B: Body> MidStep<B> {
         number_at(self.task.holdings.as_slice(), place, mode)
     }
 
-    /// Its task. `O(1)`.
-    pub fn into_task(self) -> TaskAtCore<B>
-        ensures { result ≡ self.task }
+    /// The path of its task. `O(1)`.
+    pub fn into_path(self) -> Path
+        ensures { result ≡ self.task.path }
     {
         let MidStep {
             task,
             local: _,
             at: _,
         } = self;
-        task
+        Box::into_inner(task).into_path()
     }
 
     /// The frame with its ask, as it was. `O(1)`.

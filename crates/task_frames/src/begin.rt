@@ -211,16 +211,17 @@ impl<B: Body, Q: Queues> Core<B, Q> {
             objects: made,
             faults: Vec::new(alloc),
         };
+        let task = TaskAtCore {
+            plan: means.again(),
+            path: Path::root(alloc),
+            number: 0,
+            done: 0,
+            fuel,
+            holdings,
+            children: 0,
+        };
         let root = kept.give(FrameAtCore {
-            task: TaskAtCore {
-                plan: means.again(),
-                path: Path::root(alloc),
-                number: 0,
-                done: 0,
-                fuel,
-                holdings,
-                children: 0,
-            },
+            task: task.boxed(alloc)?,
             stage: Stage::Ready(root_local, Answer::Start),
         });
         let core = Core {

@@ -51,7 +51,7 @@ impl<Q: Queues> Kept<Q> {
             return Ok(Step::Waits(frame, WaitFor::Child(child)));
         }
         self.faults.push(Fault {
-            path: frame.into_task().into_path(),
+            path: frame.into_path(),
             place: at,
             kind,
         })?;

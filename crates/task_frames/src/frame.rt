@@ -22,14 +22,10 @@ use swan_model::{Body, Meaning, NoMemory, Path, Plan};
 /// A frame.
 #[derive(Drop)]
 pub struct Frame<B: Body, Q: Queues> {
-    plan: Meaning<Plan<B>>,
-    path: Path,
-    number: u64,
-    done: u64,
+    // in a box, since frames are moved about
+    task: Box<TaskAtCore<B>>,
+    // how many steps were done when it was given
     since: u64,
-    fuel: u64,
-    holdings: Vec<Holding>,
-    children: u32,
     stage: Option<Stage<B::Local>>,
     mark: bool,
     ends: Q::Ends,
@@ -42,32 +38,14 @@ impl<B: Body, Q: Queues> Model for Frame<B, Q> {
     ghost Value = { FrameView B B.Local Q.Ends };
 
     ghost view = { λ f. record {
-      task = record {
-        plan = f.plan.means;
-        number = f.number;
-        path = f.path;
-        done = f.done;
-        since = f.since;
-        fuel = f.fuel;
-        holdings = f.holdings.items;
-        children = f.children;
-      };
+      task = record f.task.value { since = f.since };
       stage = f.stage;
       mark = f.mark;
       ends = f.ends;
     } };
 
     ghost invariant = { λ f. IsAnyFrame B.Body Q.Ends.name Q.Ends.ends (record {
-      task = record {
-        plan = f.plan.means;
-        number = f.number;
-        path = f.path;
-        done = f.done;
-        since = f.since;
-        fuel = f.fuel;
-        holdings = f.holdings.items;
-        children = f.children;
-      };
+      task = record f.task.value { since = f.since };
       stage = f.stage;
       mark = f.mark;
       ends = f.ends;
@@ -82,15 +60,10 @@ impl<B: Body, Q: Queues> Frame<B, Q> {
         ensures { result ≡ record { task = at.task; stage = Some at.stage; mark = false; ends = ends } }
     {
         let FrameAtCore { task, stage } = at;
+        let since = task.done;
         Frame {
-            plan: task.plan,
-            path: task.path,
-            number: task.number,
-            done: task.done,
-            since: task.done,
-            fuel: task.fuel,
-            holdings: task.holdings,
-            children: task.children,
+            task,
+            since,
             stage: Some(stage),
             mark: false,
             ends,
@@ -106,10 +79,10 @@ impl<B: Body, Q: Queues> Frame<B, Q> {
         if live.done != self.since {
             return false;
         }
-        if !same_path(&live.path, &self.path) {
+        if !same_path(&live.path, &self.task.path) {
             return false;
         }
-        hold_same(live.holdings.as_slice(), self.holdings.as_slice())
+        hold_same(live.holdings.as_slice(), self.task.holdings.as_slice())
     }
 
     /// The frame without its ends, which go back to the queues of its run. Err gives it back as it was, with its ends and
@@ -134,44 +107,22 @@ impl<B: Body, Q: Queues> Frame<B, Q> {
         ensures err { OnErr result ((¬ IsRecorded (Q.state queues.old) self.task.number (Q.Ends.ends self.ends)) × (Q.state queues.new ≡ Q.state queues.old)) }
         ensures same { IsSameRun Q.name Q.run queues.old queues.new }
     {
+        let number = self.task.number();
         let Frame {
-            plan,
-            path,
-            number,
-            done,
+            task,
             since,
-            fuel,
-            holdings,
-            children,
             stage,
             mark,
             ends,
         } = self;
         match queues.back(number, ends) {
             Ok(()) => match stage {
-                Some(stage) => Ok(FrameAtCore {
-                    task: TaskAtCore {
-                        plan,
-                        path,
-                        number,
-                        done,
-                        fuel,
-                        holdings,
-                        children,
-                    },
-                    stage,
-                }),
+                Some(stage) => Ok(FrameAtCore { task, stage }),
                 None => unreachable!(),
             },
             Err(ends) => Err(Frame {
-                plan,
-                path,
-                number,
-                done,
+                task,
                 since,
-                fuel,
-                holdings,
-                children,
                 stage,
                 mark,
                 ends,
@@ -183,7 +134,7 @@ impl<B: Body, Q: Queues> Frame<B, Q> {
     pub fn path(&self) -> &Path
         ensures { result.now ≡ self.now.task.path }
     {
-        &self.path
+        &self.task.path
     }
 
     /// Its number. Whatever frame it is, it is true for its plan where no want of memory was met; and where its mark stands,
@@ -193,7 +144,7 @@ impl<B: Body, Q: Queues> Frame<B, Q> {
         ensures frame { IsAnyFrame B.Body Q.Ends.name Q.Ends.ends self.now }
         ensures marked { self.now.mark ≡ true → is_whole self.now ≡ true }
     {
-        self.number
+        self.task.number
     }
 
     /// Takes steps of the frame's own work in a row, where it is at the beginning of a step: up to so many, or up to a
@@ -215,13 +166,13 @@ impl<B: Body, Q: Queues> Frame<B, Q> {
     {
         match self.stage.take() {
             Some(Stage::Ready(local, answer)) => {
-                if self.fuel == 0 {
+                let fuel = self.task.fuel();
+                if fuel == 0 {
                     self.stage = Some(Stage::Ready(local, answer));
                     return Ok(0);
                 }
-                let row = take_row(alloc, body, local, answer, self.fuel, budget)?;
-                self.done += row.works;
-                self.fuel = row.fuel;
+                let row = take_row(alloc, body, local, answer, fuel, budget)?;
+                self.task.goes_on(row.works, row.fuel);
                 self.stage = Some(row.stage);
                 Ok(row.works)
             }
@@ -247,9 +198,9 @@ impl<B: Body, Q: Queues> Frame<B, Q> {
     {
         match self.stage.take() {
             Some(Stage::Asking(local, ask, place)) => {
-                match serve(&mut self.ends, self.holdings.as_slice(), ask) {
+                match serve(&mut self.ends, self.task.holdings(), ask) {
                     Ok(said) => {
-                        self.done += 1;
+                        self.task.takes_step();
                         self.stage = Some(Stage::Ready(local, said));
                         true
                     }
@@ -375,7 +326,7 @@ impl<B: Body, Q: Queues> Frame<B, Q> {
         if budget == 0 {
             return Paused::Budget(Steps::of(0));
         }
-        if self.done == 0 {
+        if self.task.done == 0 {
             self.mark = true;
             return Paused::AtCore(Steps::of(0));
         }

@@ -104,7 +104,7 @@ impl<Q: Queues> Kept<Q> {
             Popped::Empty => {
                 let at = mid.at();
                 self.faults.push(Fault {
-                    path: mid.into_task().into_path(),
+                    path: mid.into_path(),
                     place: at,
                     kind: FaultKind::PopEmpty,
                 })?;

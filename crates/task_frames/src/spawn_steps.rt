@@ -57,18 +57,19 @@ impl<B: Body> MidStep<B> {
         self.task.path.child(self.task.children)
     }
 
-    /// The frame once it has spawned this child, and the child as it begins. `O(1)`.
+    /// The frame once it has spawned this child, and the child as it begins. Err is want of memory. `O(1)`, one allocation.
     fn spawns(
         self,
+        alloc: Global,
         child: Child<B::Local>,
         number: u64,
         path: Path,
         holdings: Vec<Holding>,
-    ) -> Step<B>
+    ) -> Result<Step<B>, NoMemory>
         requires few { self.task.done < STEPS_MOST }
         requires cheap { child.fuel ≤ self.task.fuel }
         requires room { self.task.children < FUEL_MOST }
-        ensures { result ≡ step.Spawned
+        ensures { IfOk result (λ spawned. spawned ≡ step.Spawned
             (record {
               task = record self.task {
                 done = self.task.done + 1;
@@ -90,7 +91,7 @@ impl<B: Body> MidStep<B> {
                 children = 0;
               };
               stage = Ready child.local answer.Start;
-            }) }
+            })) }
     {
         let Child {
             local: begins,
@@ -107,19 +108,20 @@ impl<B: Body> MidStep<B> {
             task,
             stage: Stage::Ready(local, Answer::Nothing),
         };
+        let begun = TaskAtCore {
+            plan,
+            path,
+            number,
+            done: 0,
+            fuel,
+            holdings,
+            children: 0,
+        };
         let spawned = FrameAtCore {
-            task: TaskAtCore {
-                plan,
-                path,
-                number,
-                done: 0,
-                fuel,
-                holdings,
-                children: 0,
-            },
+            task: begun.boxed(alloc)?,
             stage: Stage::Ready(begins, Answer::Start),
         };
-        Step::Spawned(parent, spawned)
+        Ok(Step::Spawned(parent, spawned))
     }
 }
 
@@ -185,7 +187,7 @@ impl<Q: Queues> Kept<Q> {
         self.hand_over(alloc, parent, number, &child.gives, held.as_slice())?;
         let path = mid.child_path()?;
         self.note_child(parent, mid.done(), &path, &held)?;
-        Ok(mid.spawns(child, number, path, held))
+        mid.spawns(alloc, child, number, path, held)
     }
 
     /// Gives a child of this number the objects and the queues among its gives, of which it holds this. Err is want of memory,

@@ -29,13 +29,14 @@ impl<Q: Queues> Kept<Q> {
             Stage::Asking(local, ask, at) => self.take(alloc, MidStep { task, local, at }, ask),
             Stage::Ready(local, answer) => {
                 let at = body.place(&local);
-                if task.fuel == 0 {
+                let fuel = task.fuel();
+                if fuel == 0 {
                     let stage = Stage::Ready(local, answer);
                     return self.fault(FrameAtCore { task, stage }, at, FaultKind::Fuel);
                 }
                 let mut task = task;
-                task.fuel -= 1;
-                let (local, ask) = body.advance(alloc, local, answer, task.fuel)?;
+                let left = task.pays();
+                let (local, ask) = body.advance(alloc, local, answer, left)?;
                 self.take(alloc, MidStep { task, local, at }, ask)
             }
         }

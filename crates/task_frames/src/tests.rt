@@ -77,16 +77,17 @@ fn root_of(alloc: Global, plan: &Plan<Asks>) -> Result<Frame<Asks, BookQueues>, 
             number: 0
         },
     ]?;
+    let task = TaskAtCore {
+        plan: Meaning::of(&PlanOf { plan }),
+        path: Path::root(alloc),
+        number: 0,
+        done: 0,
+        fuel,
+        holdings,
+        children: 0,
+    };
     let at = FrameAtCore {
-        task: TaskAtCore {
-            plan: Meaning::of(&PlanOf { plan }),
-            path: Path::root(alloc),
-            number: 0,
-            done: 0,
-            fuel,
-            holdings,
-            children: 0,
-        },
+        task: task.boxed(alloc)?,
         stage: Stage::Ready(plan.root_local, Answer::Start),
     };
     Ok(Frame::given(at, ends))
@@ -117,16 +118,17 @@ fn begun_of(alloc: Global, plan: &Plan<Asks>) -> Result<Frame<Asks, BookQueues>,
             number: 0
         },
     ]?;
+    let task = TaskAtCore {
+        plan: Meaning::of(&PlanOf { plan }),
+        path: Path::root(alloc),
+        number: 0,
+        done: 1,
+        fuel: fuel - 1,
+        holdings,
+        children: 0,
+    };
     let at = FrameAtCore {
-        task: TaskAtCore {
-            plan: Meaning::of(&PlanOf { plan }),
-            path: Path::root(alloc),
-            number: 0,
-            done: 1,
-            fuel: fuel - 1,
-            holdings,
-            children: 0,
-        },
+        task: task.boxed(alloc)?,
         stage: Stage::Ready(local, Answer::Nothing),
     };
     Ok(Frame::given(at, ends))

@@ -31,5 +31,5 @@ given-requires-clause-frame c κs =
     let task : Plan Asks ℕ → List ℕ → ℕ → Task Asks ℕ = λ of path fuel. record { plan = of; number = 0; path = path; done = 1; since = 1; fuel = fuel - 1; holdings = c.in_ok-holdings.holdings.items; children = 0 } in
     let same : task plan List.[] plan.fuel ≡ task c.of-2.result.means c.root.result c.units-fuel.result =
     ap (λ of. task of List.[] plan.fuel) (sym c.of-2.ensures) ∙ ap (λ path. task c.of-2.result.means path plan.fuel) (sym c.root.ensures) ∙ ap (task c.of-2.result.means c.root.result) (sym c.units-fuel.ensures.units) in
-    subst (λ t. IsFrame ghosts t c.lend-ends.result.name ends (Ready c.in_ok-local.local answer.Nothing)) same
+    subst (λ t. IsFrame ghosts t c.lend-ends.result.name ends (Ready c.in_ok-local.local answer.Nothing)) (same ∙ sym c.in_ok-boxed.ensures)
     (begun-root ghosts plan is c.in_ok-holdings.holdings.items modes c.lend-ends.result.name ends own c.in_ok-local.local some step)

@@ -1,10 +1,9 @@
-use Rattle.std.proofs.Common.{◌≡◌, None, inr, refl, sym, ap, ◌∙◌}
+use Rattle.std.proofs.Common.{◌≡◌, None, inr, refl, sym}
 use Rattle.pop_order.specs.Frames.{HasNoChild}
 use Rattle.queues.specs.Asks.{IsOnTurn, MayJoin, OnNext}
 use Rattle.swan_model.specs.declared.script.Deed.TheVariants as deed
 use Rattle.swan_model.specs.QueueFollows.{next_queue_deed}
 use Rattle.swan_model.specs.Versions.{IsSettled}
-use Rattle.task_frames.specs.Frames.{Task}
 use Rattle.task_frames.specs.Records.{IsLiveChild, IsOldestChild}
 use Rattle.task_frames.proofs.Endings.{ends-faulty}
 use Rattle.task_frames.proofs.Firsts.{waits-oldest}
@@ -46,9 +45,8 @@ returns-clause-step g c =
     let has = c.requires.has in
     let alone = (over (λ k n. (m : _) → ¬ IsLiveChild k.live n m) _ _ _ _ (sym c.self.view_is) (sym c.number-number.ensures) c.in_default.ensures.none) in
     let fault = c.requires.faults has.is.alone.top has.is.alone.stands in
-    let path = c.into_path.ensures ∙ ap (λ (t : Task g.row.B.Denot g.row.B-Local.Denot). t.path) c.into_task.ensures in
     let last = fault-last g.B.Body _ _ has c.args.at c.args.kind c.requires.faults in
     let same = booked-kept _ c.args.self.now _ _ c.in_ok-push.ensures.items c.self.view_is in
     let so = left-over _ _ c.leave.new.self _ _ same c.number-number.ensures c.in_ok-leave.ensures.name c.in_ok-leave.ensures.run c.in_ok-leave.ensures.after c.in_ok-leave.ensures.live in
     ends-faulty g.B.Body _ _ has c.requires.begun last c.leave.new.self (settled-so g.B.Body _ _ has c.requires.begun alone) (join-so g.B.Body _ _ has c.requires.begun alone) so.1 _ so.0
-    fault.0.deed fault.0.effect path fault.1
+    fault.0.deed fault.0.effect c.into_path.ensures fault.1

@@ -1,3 +1,4 @@
+use Rattle.std.proofs.lemmas.Result.{IfOk-weaker}
 use Rattle.task_frames.proofs.Asked.{steps-few}
 use Rattle.task_frames.proofs.SpawnStep.{free-then, gives-asked, next-asked, objects-asked, older-asked, rising-asked, rising-then, room-then, spawn-asked, step-so, turn-asked}
 use Rattle.std.proofs.Common.{◌<◌, sym, subst}
@@ -54,7 +55,8 @@ spawns-requires-clause-few g c κs within =
 
 pub returns-clause-step : goal.returns-clause-step
 returns-clause-step g c =
-    step-so g.B.Body _ c.args.mid c.args.child c.requires.has _ c.requires.given c.requires.alone c.requires.shallow c.requires.cheap c.len-most.ensures.most c.requires.begun c.hand_over.new.self c.note_child.new.self c.in_ok-path.path c.spawns.result
+    IfOk-weaker c.spawns.result _ _ (λ out so.
+    step-so g.B.Body _ c.args.mid c.args.child c.requires.has _ c.requires.given c.requires.alone c.requires.shallow c.requires.cheap c.len-most.ensures.most c.requires.begun c.hand_over.new.self c.note_child.new.self c.in_ok-path.path out
     _ _ _ _ c.number-parent.ensures c.next_number-number.ensures c.done.ensures c.as_slice.ensures.value
     (record {
       made = c.in_ok-hand_over.ensures.made;
@@ -68,5 +70,5 @@ returns-clause-step g c =
       new = c.in_ok-note_child.ensures.child;
       others = c.in_ok-note_child.ensures.others;
       noted = c.in_ok-note_child.ensures.same;
-      out_is = c.spawns.ensures;
-    })
+      out_is = so;
+    })) c.spawns.ensures

@@ -1,4 +1,4 @@
-use Rattle.std.proofs.Common.{◌≡◌, None, Some, inr, refl, sym, subst, ap, ◌∙◌}
+use Rattle.std.proofs.Common.{◌≡◌, None, Some, inr, refl, sym, subst}
 use Rattle.swan_model.specs.declared.rights.Mode.TheVariants.{Pop}
 use Rattle.swan_model.specs.declared.script.Deed.TheVariants as deed
 use Rattle.swan_model.specs.QueueFollows.{IsNextAbout, next_item, next_queue_deed}
@@ -7,7 +7,6 @@ use Rattle.swan_model.specs.Versions.{IsSettled}
 use Rattle.pop_order.specs.Frames.{HasNoChild}
 use Rattle.queues.specs.Asks.{IsOnTurn, MayJoin, MayUse, OnActive, OnNext}
 use Rattle.queues.specs.Tells.{FindsItem, IsCause, OnQueue}
-use Rattle.task_frames.specs.Frames.{Task}
 use Rattle.task_frames.specs.Records.{IsLiveChild, IsOldestChild}
 use Rattle.task_frames.proofs.AtQueues.{dry-ends, dry-join, dry-kept, dry-over, dry-turn, finds-one, none-last, pop-may, state-kept, turn, waits}
 use Rattle.task_frames.proofs.Firsts.{waits-oldest}
@@ -77,10 +76,9 @@ pub returns-in_ok-leave-in-Empty-clause-step : goal.returns-in_ok-leave-in-Empty
 returns-in_ok-leave-in-Empty-clause-step g c =
     let has = c.requires.has in
     let alone = over (λ k n. (m : _) → ¬ IsLiveChild k.live n m) _ _ _ _ (sym c.self.view_is) (sym c.number-number.ensures) c.in_default.ensures.none in
-    let path = c.into_path.ensures ∙ ap (λ (t : Task g.row.B.Denot g.row.B-Local.Denot). t.path) c.into_task.ensures in
     let same = dry-kept _ _ _ _ _ _ _ _ _ c.self.view_is c.number-number.ensures c.in-Empty.ensures.same.0 c.in-Empty.ensures.same.1 c.in-Empty.ensures.after c.in_ok-push-in-Empty.ensures.items in
     let so = left-over _ _ c.leave.new.self _ _ same c.number-number.ensures c.in_ok-leave-in-Empty.ensures.name c.in_ok-leave-in-Empty.ensures.run c.in_ok-leave-in-Empty.ensures.after c.in_ok-leave-in-Empty.ensures.live in
-    dry-ends g.B.Body _ _ _ has c.args.queue c.requires.at c.requires.begun alone c.requires.none c.leave.new.self _ so.1 so.0 refl path c.at-at.ensures
+    dry-ends g.B.Body _ _ _ has c.args.queue c.requires.at c.requires.begun alone c.requires.none c.leave.new.self _ so.1 so.0 refl c.into_path.ensures c.at-at.ensures
 
 pub returns-in-NotYet-clause-step : goal.returns-in-NotYet-clause-step
 returns-in-NotYet-clause-step g c =

@@ -55,4 +55,4 @@ give-root-requires-clause-has g c κs within =
     ∙ ap {B = Task g.row.B.Denot g.row.B-Local.Denot} (λ (hs : List Holding).
     record { plan = plan; number = 0; path = []; done = 0; since = 0; fuel = c.units-fuel.result; holdings = hs; children = 0 }) held in
     opened-has g.B.Body plan sound _ (c.in_ok-reading.ensures.same.0 ∙ c.requires.name) queues objects reading c.new-2.ensures refl (c.in_ok-versions.ensures.count ∙ ap length objects-are) c.new-3.ensures.items live
-    task plan.root_local c.units-fuel.result c.units-fuel.ensures.units task-is refl
+    c.in_ok-boxed.field-0.value plan.root_local c.units-fuel.result c.units-fuel.ensures.units (c.in_ok-boxed.ensures ∙ task-is) refl
