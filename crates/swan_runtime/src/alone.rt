@@ -32,7 +32,10 @@ fn turn<B: Body, Q: Queues>(
         Paused::AtCore(_) => {
             frame.number();
         }
-        Paused::Budget(_) => unreachable!(),
+        Paused::Budget(_) => {
+            frame.number();
+            unreachable!()
+        }
         Paused::NoMemory => return Err(NoMemory),
     }
     match core.resume(alloc, body, frame) {

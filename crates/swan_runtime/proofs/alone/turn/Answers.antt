@@ -2,6 +2,7 @@ use Rattle.std.proofs.Common.{◌∷◌, ◌++◌, [], arith, sym, ap, ◌∙◌
 use Rattle.swan_model.specs.declared.plan.Plan.{Plan}
 use Rattle.task_frames.specs.Resumes.{ends_of}
 use Rattle.swan_runtime.specs.Stacks.{turns_left}
+use Rattle.task_frames.proofs.Amid.{few}
 use Rattle.swan_runtime.proofs.Spending.{fuel-is, left-more, some_is}
 use Rattle.swan_runtime.proofs.Stacking.{top-given}
 use Rattle.swan_runtime.proofs.Turning.{fewer-runs, fewer-spawns, moved-named, never-strange, never-waits, stack-ends, stack-runs, stack-spawns}
@@ -16,6 +17,12 @@ pub resume-requires-clause-name : goal.resume-requires-clause-name
 resume-requires-clause-name g c κs within =
     moved-named g.B.Body g.Q.Ends.LocalEnds.name g.Q.Ends.LocalEnds.run g.Q.Ends.LocalEnds.ends g.Q.Ends.LocalEnds.counts
     c.args.core.now c.args.below.now.items c.args.frame c.run_local.new.self c.requires.stack c.run_local.ensures.same
+
+pub unreachable-requires : goal.unreachable-requires
+unreachable-requires g c =
+    let whole = some_is c.run_local.new.self.stage c.in-Budget.ensures.whole in
+    let less = few g.B.Body _ _ _ whole.0 (c.number-in-Budget.ensures.frame whole.0 whole.1) in
+    omega (arith, less, c.in-Budget.ensures.done, c.in-Budget.ensures.budget)
 
 pub unreachable-requires-in-Waits : goal.unreachable-requires-in-Waits
 unreachable-requires-in-Waits g c =
