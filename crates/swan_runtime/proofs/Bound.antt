@@ -1,5 +1,5 @@
 -- How many turns a run on a stack takes, and how many frames stand there.
-use Rattle.std.proofs.Common.{◌≡◌, ◌≢◌, inl, inr, ℕ, zero, suc, ◌+◌, ◌*◌, ◌≤◌, ◌<◌, true, Option, Some, None, List, [], ◌∷◌, ◌++◌, length, refl, sym, ap, ◌∙◌, subst, arith, length-append}
+use Rattle.std.proofs.Common.{◌≡◌, ◌≢◌, ℕ, zero, suc, ◌+◌, ◌*◌, ◌≤◌, ◌<◌, true, Option, Some, List, [], ◌∷◌, ◌++◌, length, refl, sym, ap, subst, arith, length-append}
 use Rattle.std.proofs.lemmas.Option.{slice_get_within}
 use Rattle.std.specs.Prelude.{is_some, slice_get}
 use Rattle.swan_model.specs.declared.body.Body.{Ghosts}
@@ -12,8 +12,8 @@ use Rattle.task_frames.specs.declared.resumed.Resumed.TheVariants as resumed
 use Rattle.task_frames.specs.Cores.{CoreView}
 use Rattle.task_frames.specs.Frames.{FrameView, IsAnyFrame, Task}
 use Rattle.task_frames.specs.Going.{Counts, IsSameFrame}
-use Rattle.task_frames.specs.Resumes.{EndsOf, IsOpened, IsResumed}
-use Rattle.swan_runtime.specs.Stacks.{AreStacked, IsAbove, IsStack, fuel_of, turns_left}
+use Rattle.task_frames.specs.Resumes.{EndsOf, IsResumed}
+use Rattle.swan_runtime.specs.Stacks.{AreStacked, IsStack, fuel_of, turns_left}
 use Rattle.swan_runtime.specs.Turns.{AreFrames, AreTurns, IsTurn, at_start, one_more, with_resumed}
 use Rattle.swan_runtime.proofs.Depth.{few-parts}
 use Rattle.swan_runtime.proofs.Spending.{HasFuel, fuel-is, left-more, some_is}

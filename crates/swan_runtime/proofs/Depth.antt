@@ -1,5 +1,5 @@
 -- How deep tasks lie in each other: a spawn from a path of the greatest length is a fault.
-use Rattle.std.proofs.Common.{◌≡◌, ℕ, zero, suc, ◌-◌, ◌≤◌, ◌<◌, Bool, true, false, nat_eq, nat_le, nat_lt, cond, List, [], ◌∷◌, ◌++◌, Option, Some, None, length, refl, sym, ap, subst, ◌∙◌, arith, rules, tests, length-append}
+use Rattle.std.proofs.Common.{◌≡◌, ℕ, zero, suc, ◌-◌, ◌≤◌, ◌<◌, Bool, true, false, nat_eq, nat_le, nat_lt, cond, List, [], ◌∷◌, ◌++◌, Option, Some, None, length, refl, sym, ap, subst, arith, rules, tests, length-append}
 use Rattle.swan_model.specs.declared.body.Ask.{Ask}
 use Rattle.swan_model.specs.declared.body.Ask.TheVariants as ask
 use Rattle.swan_model.specs.declared.body.Body.{Ghosts}
