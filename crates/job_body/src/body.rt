@@ -96,6 +96,7 @@ impl Body for JobBody {
 
     /// Takes steps in a row, as long as each asks for work and the budget and the fuel last. The local
     /// stays where it is, and a step of a line on numbers takes no memory.
+    #[inline(always)]
     fn work(
         &self,
         alloc: Global,

@@ -181,6 +181,7 @@ fn do_work(
 }
 
 /// Tells an activation the answer to the ask of its last step.
+#[inline(always)]
 fn tell(program: &Listed<Instruction>, local: &mut JobLocal, answer: Answer)
     ensures { local.new ≡ told_by program.now local.old answer }
 {
@@ -286,6 +287,7 @@ pub fn step(
 }
 
 /// Takes steps in a row, as long as each asks for work and the budget and the fuel last.
+#[inline(always)]
 pub fn work(
     alloc: Global,
     program: &Listed<Instruction>,
