@@ -134,7 +134,7 @@ module _ (files : FilesSeen) (well : ¬ Rose files.faults_before files.faults_af
     leads_in_order (convert workers input) [] told order leads = absurd order
     leads_in_order (convert workers input) (text ∷ texts) told order leads =
         text_settles (converted elisions) input text leads.texts told.0 order leads.are_read leads.follows
-    leads_in_order (bulk number size workers) [] told order leads = generated_settles (elisions.of_job way.Run) number size order leads.follows
+    leads_in_order (bulk number size workers) [] told order leads = generated_settles (elisions.of_job way.Elide) number size order leads.follows
     leads_in_order (bulk number size workers) (text ∷ texts) told order leads = absurd order
 
 -- where no count of a sink rose, no write failed
@@ -245,7 +245,7 @@ module _ (elisions : Elisions) where
   next_ends (run workers fuel job names) texts v is ends = run_ends (elisions.of_job way.Run) fuel job names texts v is ends
   next_ends (index workers input) texts v is ends = text_ends (indexed elisions) input texts v is ends
   next_ends (convert workers input) texts v is ends = text_ends (converted elisions) input texts v is ends
-  next_ends (bulk number size workers) texts v is ends = generated_ends (elisions.of_job way.Run) number size v is ends
+  next_ends (bulk number size workers) texts v is ends = generated_ends (elisions.of_job way.Elide) number size v is ends
 
   next_reads : (command : Command) (texts : List (List ℕ)) (file : List ℕ) → next elisions command texts ≡ reads file → Contains (files_of command) file
   next_reads (help) texts file is = cc
@@ -258,7 +258,7 @@ module _ (elisions : Elisions) where
   next_reads (index workers input) (text ∷ texts) file is = cc
   next_reads (convert workers input) [] file is = the_file file input [] is
   next_reads (convert workers input) (text ∷ texts) file is = cc
-  next_reads (bulk number size workers) texts file is = generated_among (elisions.of_job way.Run) number size file is
+  next_reads (bulk number size workers) texts file is = generated_among (elisions.of_job way.Elide) number size file is
 
   module _ (files : FilesSeen) (out report : SinkSeen) (well : NothingFailed files out report) where
     read_refused : (command : Command) (n : Next) (verdict : Verdict) → ((v : Verdict) → n ≡ settled v → ends_of v ≡ status.ReadFailed → ⊥) → ((file : List ℕ) → n ≡ reads file → Contains (files_of command) file) → Follows files n verdict → status.ReadFailed ≡ ends_of verdict → Wrote out report verdict → EndsWell files out report (Some command) status.ReadFailed

@@ -92,21 +92,21 @@ module _ (files : FilesSeen) (out report : SinkSeen) (input : List ℕ) where
       (w.0, w.1.0, w.1.1)
 
   module _ (verdict : Verdict) (ends : Status) (runs : is_run (ends_of verdict) ≡ true) (same : ends ≡ ends_of verdict) (wrote : Wrote out report verdict) where
-    indexed : (index_ghosts : Ghosts IndexBody IndexLocal) → IndexLaw index_ghosts → Leads files (input ∷ []) (next_of_text (λ t. end_by index_ghosts way.Run (index_plan t)) input) verdict
+    indexed : (index_ghosts : Ghosts IndexBody IndexLocal) → IndexLaw index_ghosts → Leads files (input ∷ []) (next_of_text (λ t. end_by index_ghosts way.Elide (index_plan t)) input) verdict
         → (text : List ℕ) × IsRead (files.content input) text × (refusal_of text ≡ None) × ((how : How) × (ends ≡ status.Done how)) × Took out (index_of text) × Took report (pipeline_report [])
     indexed index_ghosts index_law leads =
-        let r = read_of (λ t. end_by index_ghosts way.Run (index_plan t)) verdict leads.texts runs leads.are_read leads.follows in
+        let r = read_of (λ t. end_by index_ghosts way.Elide (index_plan t)) verdict leads.texts runs leads.are_read leads.follows in
         let law = index_law r.0 r.1.most in
-        let end = end_by index_ghosts way.Run (index_plan r.0) in
+        let end = end_by index_ghosts way.Elide (index_plan r.0) in
         let t = told_of end (map Bytes (index_records (lines r.0))) [] (index_of r.0) verdict ends law.outcome_is law.output r.3 same wrote in
         (r.0, r.1, r.2, (end.how, t.0), t.1, t.2)
 
-    converted : (record_ghosts : Ghosts RecordBody RecordLocal) → ConversionLaw record_ghosts → Leads files (input ∷ []) (next_of_text (λ t. end_by record_ghosts way.Run (record_plan t)) input) verdict
+    converted : (record_ghosts : Ghosts RecordBody RecordLocal) → ConversionLaw record_ghosts → Leads files (input ∷ []) (next_of_text (λ t. end_by record_ghosts way.Elide (record_plan t)) input) verdict
         → (text : List ℕ) × IsRead (files.content input) text × (refusal_of text ≡ None) × ((how : How) × (ends ≡ ends_by how (is_some_fault (conversion_faults text)))) × Took out (convert_of text) × Took report (pipeline_report (conversion_faults text))
     converted record_ghosts conversion_law leads =
-        let r = read_of (λ t. end_by record_ghosts way.Run (record_plan t)) verdict leads.texts runs leads.are_read leads.follows in
+        let r = read_of (λ t. end_by record_ghosts way.Elide (record_plan t)) verdict leads.texts runs leads.are_read leads.follows in
         let law = conversion_law r.0 r.1.most in
-        let end = end_by record_ghosts way.Run (record_plan r.0) in
+        let end = end_by record_ghosts way.Elide (record_plan r.0) in
         let t = told_of end (map Bytes (records_of (width_of (lines r.0)) (lines r.0))) (conversion_faults r.0) (convert_of r.0) verdict ends law.outcome_is law.output r.3 same wrote in
         (r.0, r.1, r.2, (end.how, t.0), t.1, t.2)
 

@@ -77,7 +77,7 @@ module _ (elisions : Elisions) where
   InOrder (run workers fuel job names) (text ∷ inputs) verdict = RunsInOrder (elisions.of_job way.Run) fuel text inputs verdict
   InOrder (index workers input) (text ∷ texts) verdict = TextInOrder (indexed elisions) text verdict
   InOrder (convert workers input) (text ∷ texts) verdict = TextInOrder (converted elisions) text verdict
-  InOrder (bulk number size workers) [] verdict = GeneratedInOrder (elisions.of_job way.Run) number size verdict
+  InOrder (bulk number size workers) [] verdict = GeneratedInOrder (elisions.of_job way.Elide) number size verdict
   InOrder (bulk number size workers) (text ∷ texts) verdict = ⊥
   InOrder command [] verdict = ⊥
 

@@ -147,7 +147,7 @@ next elisions (elide fuel job inputs) texts = next_of_run (elisions.of_job way.E
 next elisions (run workers fuel job inputs) texts = next_of_run (elisions.of_job way.Run) fuel job inputs texts
 next elisions (index workers input) texts = next_of_text (indexed elisions) input texts
 next elisions (convert workers input) texts = next_of_text (converted elisions) input texts
-next elisions (bulk number size workers) texts = generated (elisions.of_job way.Run) number size
+next elisions (bulk number size workers) texts = generated (elisions.of_job way.Elide) number size
 
 -- the files of a command, in the order in which they are read
 abbrev pub files_of : Command → List (List ℕ)

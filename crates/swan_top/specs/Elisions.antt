@@ -31,9 +31,9 @@ pub record Elisions : Type 0 where
   pub of_index : Plan IndexBody IndexLocal → RunEnd
   pub of_conversion : Plan RecordBody RecordLocal → RunEnd
 
--- by the steps of each body; the pipelines always run
+-- by the steps of each body; the pipelines are always elided
 abbrev pub elisions : Elisions
-elisions = record { of_job = end_by job_ghosts; of_index = end_by index_ghosts way.Run; of_conversion = end_by record_ghosts way.Run }
+elisions = record { of_job = end_by job_ghosts; of_index = end_by index_ghosts way.Elide; of_conversion = end_by record_ghosts way.Elide }
 
 -- of the plan of a text's index, and of its conversion
 abbrev pub indexed : Elisions → List ℕ → RunEnd

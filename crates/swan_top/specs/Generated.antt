@@ -19,5 +19,5 @@ NeverRefused elisions out report (Some (bulk number size workers)) status.JobRef
 NeverRefused elisions out report (Some (bulk number size workers)) status.ReadFailed = ⊥
 NeverRefused elisions out report (Some (bulk number size workers)) status.InputRefused = ⊥
 NeverRefused elisions out report (Some (bulk number size workers)) ends =
-    (verdict : Verdict) × GeneratedInOrder (elisions.of_job way.Run) number size verdict × Ends out report verdict ends
+    (verdict : Verdict) × GeneratedInOrder (elisions.of_job way.Elide) number size verdict × Ends out report verdict ends
 NeverRefused elisions out report asked ends = Unit {0}

@@ -9,7 +9,7 @@
 //! ends as its command says (`specs/Completeness.antt`), and the law `honest_calls_end_well` says both of files and
 //! sinks that never fail, and `honest_call` is a call over them that has it as its clauses.
 //!
-//! `run`, `index`, `convert` and `bulk` run their plans by the runtime, and `elide` by the elision. Reading, refusals, texts
+//! `run` runs its plan by the runtime; `elide`, `index`, `convert` and `bulk` by the elision. Reading, refusals, texts
 //! and writes are one road for both ways. A status that says that a run ended shows which one it went (`How`): that a core ran
 //! the plan to its end shows a `Ran`, which only the outcome of a core gives.
 //!

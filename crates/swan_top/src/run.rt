@@ -111,11 +111,11 @@ pub(crate) fn run_text<B: Body>(
     names: &Names,
 ) -> Result<Settled, Stop>
     requires { IfOk plan (λ plan'. IsNaming names.now plan'.roots) }
-    ensures ran { IfOk result (Is (Ran (end_by B.Body way.Run) names.now plan)) }
-    ensures refused { IfErr result (Stops (Ran (end_by B.Body way.Run) names.now plan)) }
+    ensures ran { IfOk result (Is (Ran (end_by B.Body way.Elide) names.now plan)) }
+    ensures refused { IfErr result (Stops (Ran (end_by B.Body way.Elide) names.now plan)) }
 {
     match plan {
-        Ok(plan) => Ok(run_plan(alloc, Way::Run, plan, names)?),
+        Ok(plan) => Ok(run_plan(alloc, Way::Elide, plan, names)?),
         Err(LinesAnswer::NoMemory) => Err(Stop::NoMemory),
         Err(why) => Err(refuse_inputs(alloc, PlanAnswer::of_input(1, why))),
     }

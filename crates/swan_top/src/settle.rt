@@ -117,12 +117,12 @@ fn settle_convert<F: Files>(alloc: Global, files: &mut F, input: &Word) -> Resul
 // What the run of the generated job over its input leads to.
 fn settle_bulk(alloc: Global, number: u64, size: u64) -> Result<Settled, Stop>
     requires { size ≤ BULK_MOST }
-    ensures ok { IfOk result (Is (λ verdict. generated (elisions.of_job way.Run) number size ≡ settled verdict)) }
-    ensures err { IfErr result (Stops (λ verdict. generated (elisions.of_job way.Run) number size ≡ settled verdict)) }
+    ensures ok { IfOk result (Is (λ verdict. generated (elisions.of_job way.Elide) number size ≡ settled verdict)) }
+    ensures err { IfErr result (Stops (λ verdict. generated (elisions.of_job way.Elide) number size ≡ settled verdict)) }
 {
     let job = accept(alloc, bulk_job(alloc, size)?)?;
     let inputs = vec![in alloc; Blob::new(bulk_input(alloc, number, size)?)]?;
-    run_job(alloc, Way::Run, bulk_fuel(size), job, inputs)
+    run_job(alloc, Way::Elide, bulk_fuel(size), job, inputs)
 }
 
 // What a command leads to.

@@ -40,8 +40,8 @@ use swan_outside::{Files, Sink};
 /// Where the words are a command, the texts that `files` tells are in order for it, and no count of faults
 /// rises, the call ends Done or Faulted as the elision says, or NoMemory.
 ///
-/// Done and Faulted of `run`, `index`, `convert` and `bulk` hold a `Ran`, which means the script of the plan that was run:
-/// a core ran that plan to its end. Those of `check` and `elide`, of the help and the version are Plain.
+/// Done and Faulted of `run` hold a `Ran`, which means the script of the plan that was run: a core ran that plan to its
+/// end. Those of all other commands are Plain.
 ///
 /// The contents are those that `files` tells, and what is said of written bytes holds where the sinks
 /// tell them. It always returns.

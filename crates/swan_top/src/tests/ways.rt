@@ -6,9 +6,9 @@ use super::*;
 const WAYS: &str = "\
 run 1 100 a|a core
 run 1 1 a|a core
-index 1 five|a core
-convert 1 five|a core
-bulk 7 3 1|a core
+index 1 five|no core
+convert 1 five|no core
+bulk 7 3 1|no core
 elide 100 a|no core
 elide 1 a|no core
 check a|no core
