@@ -6,15 +6,27 @@ ghost use Rattle.swan_model.specs.declared.body.Ask.TheVariants.{Push, Finish};
 ghost use Rattle.swan_model.specs.declared.value.Value.TheVariants.{Int};
 
 use std::alloc::Global;
+use std::marker::Model;
 use swan_model::{Answer, Ask, Body, Child, Give, Gives, NoMemory, Value};
 
 /// Each task begins at an index of the list and takes the asks from there on, one a step; past the
 /// end it finishes. A push pushes what the step is told, and its own value only where the step is
-/// told nothing. The place of a step is its index.
+/// told nothing. At one index no memory is found. The place of a step is its index. Contracts see it as the list.
 #[derive(Drop)]
 pub struct AskList {
     /// The asks.
     pub asks: Vec<Ask<usize>>,
+    /// Where no memory is found.
+    pub fails: usize,
+}
+
+impl Model for AskList {
+    ghost use Rattle.std.specs.Prelude.{List, ℕ};
+    ghost use Rattle.swan_model.specs.declared.body.Ask.{Ask as Asked};
+
+    ghost Value = { List (Asked ℕ) };
+
+    ghost view = { λ list. list.asks.items };
 }
 
 impl Body for AskList {
@@ -29,7 +41,7 @@ impl Body for AskList {
             | other ↦ other
           ],
         ))
-        (slice_get body.asks.items at)
+        (slice_get body at)
         (at, Finish) };
 
     ghost place_of = { λ body at. at };
@@ -41,6 +53,9 @@ impl Body for AskList {
         answer: Answer,
         _fuel: u64,
     ) -> Result<(usize, Ask<usize>), NoMemory> {
+        if local == self.fails {
+            return Err(NoMemory);
+        }
         let Some(ask) = self.asks.get(local) else {
             return Ok((local, Ask::Finish));
         };

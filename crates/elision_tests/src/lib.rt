@@ -2,17 +2,19 @@
 //!
 //! A row is a list of asks in words, the fuel, and what is left: the two texts, or the deeds of the script. What is
 //! left was worked out by hand from what each ask is to do. All rows go through one function, so a row costs nothing
-//! to prove.
+//! to prove. The lists, their words and their roots serve the tests of other crates too.
 #![tactic(auto)]
 
 mod ask_list;
+mod firsts;
 #[cfg(test)]
 mod rows;
 #[cfg(test)]
 mod scripts;
 #[cfg(test)]
 mod tests;
-#[cfg(test)]
 mod words;
 
 pub use ask_list::AskList;
+pub use firsts::{printed, roots};
+pub use words::ask_of;

@@ -88,6 +88,8 @@ fn mode_of(word: &str) -> Result<Mode, Fail> {
         "out" => Ok(Mode::Out),
         "push" => Ok(Mode::Push),
         "pop" => Ok(Mode::Pop),
+        "inout" => Ok(Mode::InOut),
+        "pushpop" => Ok(Mode::PushPop),
         _ => Err("no such mode".into()),
     }
 }

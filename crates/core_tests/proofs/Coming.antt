@@ -1,0 +1,24 @@
+-- Frames that may come to a core.
+use Rattle.std.proofs.Common.{◌≡◌, ℕ, ◌<◌, List, ◌∙◌, length, slice_index_or, subst, sym}
+use Rattle.std.proofs.lemmas.List.Elements.{All-weaker}
+use Rattle.task_frames.specs.Cores.{CoreView}
+use Rattle.task_frames.specs.Frames.{FrameView}
+use Rattle.task_frames.specs.Resumes.{EndsOf, IsGivenBy}
+use Rattle.core_tests.specs.Pools.{MayAllCome, MayCome}
+
+-- what a core gives may come to it
+pub given-comes : {B L E : Type 0} (of : EndsOf E) (core : CoreView B L) (frame : FrameView B L E) → IsGivenBy of core frame → MayCome of.run core frame
+given-comes of core frame given = record { plan = given.plan; run_is = given.run }
+
+-- what may come to a core may come to another one of the same plan and the same run
+module _ {B L E : Type 0} (run : E → List ℕ) (core after : CoreView B L) (plan : after.plan ≡ core.plan) (run-is : after.run ≡ core.run) where
+  pub still-comes : (frame : FrameView B L E) → MayCome run core frame → MayCome run after frame
+  still-comes frame may = record { plan = may.plan ∙ sym plan; run_is = may.run_is ∙ sym run-is }
+
+  pub all-still-come : (frames : List (FrameView B L E)) → MayAllCome run core frames → MayAllCome run after frames
+  all-still-come frames may = All-weaker (MayCome run core) (MayCome run after) still-comes frames may
+
+-- one of those that may come
+pub taken-comes : {B L E : Type 0} (run : E → List ℕ) (core : CoreView B L) (frames : List (FrameView B L E)) (index : ℕ) (frame : FrameView B L E)
+    → MayAllCome run core frames → index < length frames → frame ≡ slice_index_or frames index frame → MayCome run core frame
+taken-comes run core frames index frame all less is = subst (MayCome run core) (sym is) (all index frame less)

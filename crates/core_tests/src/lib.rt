@@ -1,0 +1,22 @@
+//! Tests of the core (crates `task_frames` and `swan_runtime`): small plans, of which the frames are tried by hand in
+//! several orders, in orders by chance, and from a stack.
+//!
+//! A plan is a table of tasks, each a list of asks in words. A test by hand is a table of turns: which frame is tried
+//! next, and what it comes to. Each turn goes through one function, so a table costs nothing to prove. What is left was
+//! worked out by hand from what each ask is to do, and is compared with the elision of the same plan too.
+#![tactic(auto)]
+
+#[cfg(test)]
+mod order_tests;
+#[cfg(test)]
+mod orders;
+#[cfg(test)]
+mod plans;
+#[cfg(test)]
+mod runs;
+#[cfg(test)]
+mod tests;
+#[cfg(test)]
+mod turn;
+#[cfg(test)]
+mod turns;

@@ -1,0 +1,67 @@
+// Orders by chance.
+ghost use Rattle.std.specs.Prelude.{◌≡◌, OnOk, true};
+ghost use Rattle.core_tests.specs.Pools.{MayAllCome};
+
+use crate::turn::Turn;
+use crate::turns::take_turn;
+use queues::Queues;
+use std::alloc::Global;
+use std::test::Fail;
+use swan_model::Body;
+use task_frames::{Core, Frame};
+
+/// More turns than a run of a test has.
+const TURNS_MOST: usize = 1_000_000;
+
+/// The next number in a row of numbers by chance.
+fn next(chance: u64) -> u64 {
+    chance
+        .wrapping_mul(6_364_136_223_846_793_005)
+        .wrapping_add(1_442_695_040_888_963_407)
+}
+
+/// How many steps a frame may take by itself.
+fn budget(chance: u64) -> u64 {
+    match (chance >> 20) & 3 {
+        0 => u64::MAX,
+        budget => budget,
+    }
+}
+
+/// Takes turns until no frame is left: each is that of any frame, with any budget. Once the core has found no memory, it
+/// finds none for each frame that comes to it. Err says what went wrong.
+pub fn take_turns_by_chance<B: Body, Q: Queues>(
+    alloc: Global,
+    core: &mut Core<B, Q>,
+    body: &B,
+    frames: &mut Vec<Frame<B, Q>>,
+    seed: u64,
+) -> Result<(), Fail>
+    requires body { body.now ≡ core.old.plan.body }
+    requires frames { MayAllCome Q.Ends.run core.old frames.old.items }
+    ensures plan { core.new.plan ≡ core.old.plan }
+{
+    let mut chance = next(seed);
+    let mut is_dead = false;
+    for _turn in 0..TURNS_MOST {
+        if frames.is_empty() {
+            return if is_dead {
+                Err("no memory".into())
+            } else {
+                Ok(())
+            };
+        }
+        chance = next(chance);
+        let at = (chance >> 33) as usize % frames.len();
+        let frame = frames.swap_remove(at);
+        match take_turn(alloc, core, body, frames, frame, budget(chance))? {
+            Turn::Works(_, _) => {}
+            Turn::Torn(_) => return Err("no memory".into()),
+            Turn::NoMemory(_, _) => is_dead = true,
+            Turn::Strange(_, _) => return Err("a frame is strange".into()),
+            _ if is_dead => return Err("a core without memory goes on".into()),
+            _ => {}
+        }
+    }
+    Err("no end".into())
+}

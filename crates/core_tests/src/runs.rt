@@ -1,0 +1,194 @@
+// Runs of plans, and what they leave.
+ghost use Rattle.std.specs.Prelude.{◌≡◌, ◌∷◌, [], IfOk};
+ghost use Rattle.task_frames.specs.Resumes.{IsOpened, ends_of};
+
+use crate::orders::take_turns_by_chance;
+use crate::plans::{failing_plan, plan};
+use crate::turn::Turn;
+use crate::turns::take_turns;
+use elision_tests::printed;
+use queue_book::BookQueues;
+use queues::Queues;
+use serial_elision::{Printed, elide};
+use std::alloc::Global;
+use std::test::Fail;
+use swan_model::{Body, NoMemory, Outcome, Plan, RunName};
+use swan_runtime::run_alone;
+use task_frames::{Core, Frame, Opened};
+
+/// How the frames of a run are tried.
+#[derive(Clone, Copy)]
+pub enum Order<'a> {
+    /// By these turns.
+    Turns(&'a [Turn]),
+    /// By chance, from this seed.
+    Chance(u64),
+    /// From a stack.
+    Stack,
+}
+
+/// The list of a root alone.
+fn alone<B: Body, Q: Queues>(alloc: Global, root: Frame<B, Q>) -> Result<Vec<Frame<B, Q>>, NoMemory>
+    ensures { IfOk result (λ frames. frames.items ≡ root ∷ []) }
+{
+    let mut frames = Vec::new(alloc);
+    frames.push(root)?;
+    Ok(frames)
+}
+
+/// What a run leaves, and None where its root hasn't ended.
+fn left<B: Body, Q: Queues>(alloc: Global, core: Core<B, Q>) -> Result<Option<Outcome>, NoMemory> {
+    if !core.is_done() {
+        return Ok(None);
+    }
+    let (outcome, _ran) = core.take_outcome(alloc)?.outcome();
+    Ok(Some(outcome))
+}
+
+/// What an opened run leaves by turns, and None where the root hasn't ended.
+fn left_by_turns<B: Body, Q: Queues>(
+    alloc: Global,
+    opened: Opened<B, Q>,
+    turns: &[Turn],
+) -> Result<Option<Outcome>, Fail>
+    requires opened { IsOpened (ends_of Q.Ends.LocalEnds) opened.core opened.root }
+    requires body { opened.body.value ≡ opened.core.plan.body }
+{
+    let Opened {
+        mut core,
+        body,
+        root,
+    } = opened;
+    let mut frames = alone(alloc, root)?;
+    take_turns(alloc, &mut core, &body, &mut frames, turns)?;
+    Ok(left(alloc, core)?)
+}
+
+/// What an opened run leaves in an order by chance.
+fn left_by_chance<B: Body, Q: Queues>(
+    alloc: Global,
+    opened: Opened<B, Q>,
+    seed: u64,
+) -> Result<Option<Outcome>, Fail>
+    requires opened { IsOpened (ends_of Q.Ends.LocalEnds) opened.core opened.root }
+    requires body { opened.body.value ≡ opened.core.plan.body }
+{
+    let Opened {
+        mut core,
+        body,
+        root,
+    } = opened;
+    let mut frames = alone(alloc, root)?;
+    take_turns_by_chance(alloc, &mut core, &body, &mut frames, seed)?;
+    Ok(left(alloc, core)?)
+}
+
+/// What an opened run leaves on a stack.
+fn left_alone<B: Body, Q: Queues>(
+    alloc: Global,
+    opened: Opened<B, Q>,
+) -> Result<Option<Outcome>, NoMemory>
+    requires opened { IsOpened (ends_of Q.Ends.LocalEnds) opened.core opened.root }
+    requires body { opened.body.value ≡ opened.core.plan.body }
+{
+    let (outcome, _ran) = run_alone(alloc, opened)?.outcome();
+    Ok(Some(outcome))
+}
+
+/// What a run of a plan leaves, and None where its root hasn't ended.
+fn left_of<B: Body>(
+    alloc: Global,
+    plan: Plan<B>,
+    order: Order<'_>,
+) -> Result<Option<Outcome>, Fail> {
+    let queues = BookQueues::new(alloc, RunName::of(&plan));
+    let opened = Core::open(alloc, plan, queues)?;
+    match order {
+        Order::Turns(turns) => left_by_turns(alloc, opened, turns),
+        Order::Chance(seed) => left_by_chance(alloc, opened, seed),
+        Order::Stack => Ok(left_alone(alloc, opened)?),
+    }
+}
+
+/// The two texts of what a run of these tasks leaves.
+fn texts(alloc: Global, tasks: &[&str], fuel: u64, order: Order<'_>) -> Result<Printed, Fail> {
+    match left_of(alloc, plan(alloc, tasks, fuel)?, order)? {
+        Some(outcome) => printed(alloc, &outcome),
+        None => Err("the root hasn't ended".into()),
+    }
+}
+
+/// The two texts of what the elision of these tasks leaves.
+fn elided(alloc: Global, tasks: &[&str], fuel: u64) -> Result<Printed, Fail> {
+    printed(alloc, &elide(alloc, plan(alloc, tasks, fuel)?)?)
+}
+
+/// A plan, and what it leaves: the output, and the end of the report.
+#[derive(Clone, Copy)]
+pub struct Row<'a> {
+    /// Its tasks.
+    pub tasks: &'a [&'a str],
+    /// The root's fuel.
+    pub fuel: u64,
+    /// The output.
+    pub out: &'a str,
+    /// The end of the report.
+    pub report: &'a str,
+}
+
+/// A run of the row's plan leaves what the row says, and what the elision leaves.
+pub fn leaves(alloc: Global, row: &Row<'_>, order: Order<'_>) -> Result<(), Fail> {
+    let left = texts(alloc, row.tasks, row.fuel, order)?;
+    if left.out.as_slice() != row.out.as_bytes()
+        || !left.report.as_slice().ends_with(row.report.as_bytes())
+    {
+        return Err("something else is left".into());
+    }
+    is_elided(alloc, row.tasks, row.fuel, &left)
+}
+
+/// These two texts are what the elision leaves.
+fn is_elided(alloc: Global, tasks: &[&str], fuel: u64, left: &Printed) -> Result<(), Fail> {
+    let elided = elided(alloc, tasks, fuel)?;
+    if left.out.as_slice() != elided.out.as_slice()
+        || left.report.as_slice() != elided.report.as_slice()
+    {
+        return Err("the elision leaves something else".into());
+    }
+    Ok(())
+}
+
+/// Runs of these tasks leave what the elision leaves, from a stack and in ten orders.
+pub fn leave_the_same(alloc: Global, tasks: &[&str], fuel: u64) -> Result<(), Fail> {
+    is_elided(
+        alloc,
+        tasks,
+        fuel,
+        &texts(alloc, tasks, fuel, Order::Stack)?,
+    )?;
+    for seed in 0..10 {
+        is_elided(
+            alloc,
+            tasks,
+            fuel,
+            &texts(alloc, tasks, fuel, Order::Chance(seed))?,
+        )?;
+    }
+    Ok(())
+}
+
+/// Turns of a run of these tasks, in which no memory is found at one index of the list of all asks. The root hasn't ended
+/// then.
+pub fn stops(
+    alloc: Global,
+    tasks: &[&str],
+    fuel: u64,
+    fails: usize,
+    turns: &[Turn],
+) -> Result<(), Fail> {
+    let plan = failing_plan(alloc, tasks, fuel, fails)?;
+    match left_of(alloc, plan, Order::Turns(turns))? {
+        Some(_) => Err("the root has ended".into()),
+        None => Ok(()),
+    }
+}

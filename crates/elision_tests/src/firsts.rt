@@ -1,0 +1,87 @@
+// What the plans of tests begin with.
+ghost use Rattle.std.specs.Prelude.{◌+◌, ◌<◌, ◌↔◌, length, IsTrue};
+ghost use Rattle.swan_model.specs.declared.plan.TheConstants.{ROOTS_MOST};
+
+use serial_elision::{Printed, print};
+use std::alloc::Global;
+use std::test::Fail;
+use swan_model::{
+    FIRST_ITEMS_MOST, Mode, Names, Outcome, QueueName, QueueNames, ROOTS_MOST, Record, RootQueue,
+    Roots, Shown, Value, Values, Word, Words,
+};
+
+/// The root queues `jobs`, with the items 10 and 20 to pop, and `lines` to push to, and the root objects `count`,
+/// the number 7, and `name`, two bytes. So the root's places are 0 to 3.
+pub fn roots(alloc: Global) -> Result<Roots, Fail> {
+    let mut roots = Roots::new(alloc);
+    add_queue(&mut roots, Mode::Pop, jobs(alloc)?)?;
+    add_queue(&mut roots, Mode::Push, Values::new(alloc))?;
+    add_object(&mut roots, Value::Int(7))?;
+    let name = Record::of(alloc, b"\xab\x0c").ok().ok_or("no memory")?;
+    add_object(&mut roots, Value::Bytes(name))?;
+    Ok(roots)
+}
+
+fn jobs(alloc: Global) -> Result<Values, Fail> {
+    let mut jobs = Values::new(alloc);
+    for item in [10, 20] {
+        jobs.push(Value::Int(item)).ok().ok_or("no memory")?;
+    }
+    Ok(jobs)
+}
+
+fn has_room(roots: &Roots) -> bool
+    ensures { IsTrue result ↔ (length roots.now.queues + length roots.now.objects < ROOTS_MOST) }
+{
+    let queues = roots.queues().len();
+    let objects = roots.objects().len();
+    queues + objects < ROOTS_MOST
+}
+
+fn add_queue(roots: &mut Roots, mode: Mode, items: Values) -> Result<(), Fail> {
+    if !has_room(roots) || !mode.is_of_queues() || items.len() > FIRST_ITEMS_MOST {
+        return Err("no room".into());
+    }
+    roots
+        .push_queue(RootQueue { mode, items })
+        .ok()
+        .ok_or("no memory")?;
+    Ok(())
+}
+
+fn add_object(roots: &mut Roots, value: Value) -> Result<(), Fail> {
+    if !has_room(roots) {
+        return Err("no room".into());
+    }
+    roots.push_object(value).ok().ok_or("no memory")?;
+    Ok(())
+}
+
+/// The names of the roots.
+fn names(alloc: Global) -> Result<Names, Fail> {
+    let mut queues = QueueNames::new(alloc);
+    for (name, shown) in [("jobs", Shown::Left), ("lines", Shown::Out)] {
+        let name = Word::of(alloc, name)?;
+        queues
+            .push(QueueName { name, shown })
+            .ok()
+            .ok_or("no memory")?;
+    }
+    let mut objects = Words::new(alloc);
+    for name in ["count", "name"] {
+        objects
+            .push(Word::of(alloc, name)?)
+            .ok()
+            .ok_or("no memory")?;
+    }
+    Ok(Names { queues, objects })
+}
+
+/// The two texts of what a plan with these roots leaves.
+pub fn printed(alloc: Global, outcome: &Outcome) -> Result<Printed, Fail> {
+    let names = names(alloc)?;
+    if names.queues.len() != outcome.queues.len() || names.objects.len() != outcome.objects.len() {
+        return Err("another number of roots".into());
+    }
+    Ok(print(alloc, &names, outcome)?)
+}
