@@ -1,4 +1,4 @@
-use Rattle.std.proofs.Common.{◌<◌, length, ap, subst}
+use Rattle.std.proofs.Common.{◌<◌, length, subst}
 use Rattle.core_tests.proofs.Coming.{taken-comes}
 use Rattle.core_tests.proofs.turns.take_turns.Goals as goal
 
