@@ -1,11 +1,14 @@
-//! Tests of pipelines (crates `index_pipeline`, `record_pipeline`, `swan_reducers`) step by step: what their tasks ask
-//! for where they are told what they haven't asked for.
+//! Tests of pipelines (crates `index_pipeline`, `record_pipeline`, `swan_reducers`) from outside, as tables: all rows of a
+//! table go through one function, so a row costs nothing to prove.
 //!
-//! A row is what a plan's root is told, and what its last child is told, in words. All rows go through one function, so a
-//! row costs nothing to prove.
+//! - Step by step: what their tasks ask for where they are told what they haven't asked for. A row is what a plan's root is
+//!   told, and what its last child is told, in words.
+//! - Indexes of texts that are hard on what the tasks keep: words that begin alike, and records that fill a buffer.
 #![tactic(auto)]
 
 #[cfg(test)]
 mod asks;
+#[cfg(test)]
+mod index_tests;
 #[cfg(test)]
 mod tests;
