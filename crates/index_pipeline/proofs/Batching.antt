@@ -1,13 +1,19 @@
--- Records that stand one after the other: one more of them, and one fewer.
-use Rattle.std.proofs.Common.{◌≡◌, ℕ, zero, suc, ◌+◌, ◌-◌, ◌≤◌, Some, None, List, [], ◌∷◌, ◌++◌, length, take, drop, refl, sym, ap, ◌∙◌, arith, append_assoc, length-append, length-drop}
+-- Records that stand one after the other: one more of them, whether it has room, and one fewer.
+use Rattle.std.proofs.Common.{◌≡◌, ℕ, zero, suc, ◌+◌, ◌-◌, ◌^◌, ◌<◌, ◌≤◌, ◌⊎◌, inl, inr, nat_le, true, Some, None, List, [], ◌∷◌, ◌++◌, length, take, drop, refl, sym, ap, subst, ◌∙◌, arith, rules, tests, append_assoc, length-append, length-drop}
 use Rattle.std.proofs.Math.Seq.{take-length}
-use Rattle.std.proofs.lemmas.List.{drop-append-le, drop-drop, drop-take, length-take-le, take-append-le}
+use Rattle.std.proofs.lemmas.Fmt.{length-decimal-le}
+use Rattle.std.proofs.lemmas.List.{drop-append-le, drop-drop, drop-take, length-map, length-take, length-take-le, take-append-le}
 use Rattle.std.proofs.lemmas.List.Sums.{sum_by-append, sum_by-cons}
+use Rattle.std.specs.Char.{to_ascii_lowercase}
+use Rattle.std.specs.Fmt.{decimal}
 use Rattle.std.specs.List.{sum}
 use Rattle.std.specs.Prelude.{slice_get, slice_range}
 use Rattle.swan_model.specs.declared.value.Value.{Value}
 use Rattle.swan_model.specs.declared.value.Value.TheVariants.{Bytes}
-use Rattle.index_pipeline.specs.Batches.{cuts}
+use Rattle.swan_model.specs.declared.record.TheConstants.{RECORD_MOST}
+use Rattle.line_blocks.specs.LineBlocks.{byte_count}
+use Rattle.index_pipeline.specs.Batches.{NUMBER_MOST, cuts, has_room}
+use Rattle.index_pipeline.specs.Words.{word_of}
 use Rattle.index_pipeline.proofs.Dropping.{drop_next, drop_past}
 
 -- ---- writing
@@ -56,16 +62,46 @@ pushed lens bytes now more written len all within is len_is =
     ∙ ap (λ n. cuts lens (take n bytes) ++ Bytes more ∷ []) all
     ∙ ap (λ rs. rs ++ Bytes more ∷ []) (cuts_front lens bytes)
 
-pub pushed_all : (lens bytes now more : List ℕ) (written len : ℕ) → written ≡ sum lens → written ≤ length bytes → now ≡ take written bytes ++ more → len ≡ length now - written
-    → length now ≡ sum (lens ++ len ∷ [])
-pushed_all lens bytes now more written len all within is len_is =
-    let front = take written bytes in
-    omega (arith, all, len_is, ap length is, length-append front more, length-take-le written bytes within, sum_by-append (λ x. x) lens (len ∷ []))
+-- ---- room
 
--- where no record is nothing is written
-pub none_written : (lens bytes : List ℕ) → cuts lens bytes ≡ [] → sum lens ≡ 0
-none_written [] bytes none = refl
-none_written (len ∷ lens) bytes none = absurd (cc)
+-- they have as many bytes as are written
+bytes_written : (lens bytes : List ℕ) → sum lens ≤ length bytes → byte_count (cuts lens bytes) ≡ sum lens
+bytes_written [] bytes within = refl
+bytes_written (len ∷ lens) bytes within =
+    let rest : sum lens ≤ length (drop len bytes) = omega (arith, within, sum-cons len lens, length-drop len bytes) in
+    omega (arith, length-take-le len bytes (omega (arith, within, sum-cons len lens)), bytes_written lens (drop len bytes) rest, sum-cons len lens)
+
+pub room_after : (lens bytes : List ℕ) (written word_len : ℕ) → written ≡ sum lens → written ≤ length bytes → (lens ≡ [] → ⊥)
+    → has_room (cuts lens bytes) word_len ≡ nat_le (written + word_len + NUMBER_MOST) RECORD_MOST
+room_after [] bytes written word_len all within some = absurd (some refl)
+room_after (len ∷ lens) bytes written word_len all within some =
+    ap (λ n. nat_le (n + word_len + NUMBER_MOST) RECORD_MOST) (bytes_written (len ∷ lens) bytes (omega (arith, all, within)) ∙ sym all)
+
+-- all of them are one record, unless there is only one
+still_fits : (lens bytes now more : List ℕ) (written len word_len : ℕ) → written ≡ sum lens → written ≤ length bytes → has_room (cuts lens bytes) word_len ≡ true
+    → now ≡ take written bytes ++ more → length more ≤ word_len + NUMBER_MOST → (length (lens ++ len ∷ []) ≤ 1) ⊎ (length now ≤ RECORD_MOST)
+still_fits [] bytes now more written len word_len all within room is few = inl (omega arith)
+still_fits (first ∷ lens) bytes now more written len word_len all within room is few =
+    let fits : nat_le (written + word_len + NUMBER_MOST) RECORD_MOST ≡ true = sym (room_after (first ∷ lens) bytes written word_len all within (λ none. absurd (cc))) ∙ room in
+    let below : written + word_len + NUMBER_MOST ≤ RECORD_MOST = search (rules, tests) in
+    inr (omega (arith, below, few, ap length is, length-append (take written bytes) more, length-take-le written bytes within))
+
+pub still_batch : (lens bytes now more items : List ℕ) (written len word_len count : ℕ) → written ≡ sum lens → written ≤ length bytes → has_room (cuts lens bytes) word_len ≡ true
+    → now ≡ take written bytes ++ more → len ≡ length now - written → items ≡ lens ++ len ∷ [] → count ≡ length now → length more ≤ word_len + NUMBER_MOST
+    → (count ≡ sum items) × (count ≤ length now) × ((length items ≤ 1) ⊎ (count ≤ RECORD_MOST))
+still_batch lens bytes now more items written len word_len count all within room is len_is items_are count_is few =
+    let front = take written bytes in
+    let fits = still_fits lens bytes now more written len word_len all within room is few in (
+      omega (arith, count_is, all, len_is, ap length is, length-append front more, length-take-le written bytes within, sum_by-append (λ x. x) lens (len ∷ []), ap sum items_are),
+      omega (arith, count_is),
+      subst (λ ls. (length ls ≤ 1) ⊎ (count ≤ RECORD_MOST)) (sym items_are) (subst (λ n. (length (lens ++ len ∷ []) ≤ 1) ⊎ (n ≤ RECORD_MOST)) (sym count_is) fits),
+    )
+
+pub number_few : (word : List ℕ) (number : ℕ) → number < 2 ^ 64 → length (word ++ 32 ∷ decimal number) ≤ length word + NUMBER_MOST
+number_few word number fits = omega (arith, length-append word (32 ∷ decimal number), length-decimal-le 20 number (omega arith) (omega (arith, fits)) fits)
+
+pub word_few : (run : List ℕ) → length (word_of run) ≤ 64
+word_few run = omega (arith, length-map (take 64 run) to_ascii_lowercase, length-take 64 run)
 
 -- what is written moves from what is left to the batch
 pub moved_before : (batch line rest old front : List Value) → batch ++ line ≡ old ++ front → batch ++ (line ++ rest) ≡ old ++ (front ++ rest)

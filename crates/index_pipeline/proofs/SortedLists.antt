@@ -3,13 +3,15 @@ use Rattle.std.proofs.Common.{◌≡◌, ℕ, zero, suc, ◌<◌, ◌≤◌, Lis
 use Rattle.std.proofs.lemmas.Bool.{cases_lt}
 use Rattle.std.proofs.lemmas.List.Sorted.{searched}
 use Rattle.std.proofs.lemmas.Map.Keys.{below_from_sorted, non_decreasing_from_sorted}
-use Rattle.std.proofs.lemmas.Option.{slice_get-get_or}
+use Rattle.std.proofs.lemmas.List.Elements.{All-from_get_or, All-get_or}
+use Rattle.std.proofs.lemmas.Option.{get_or_from_slice_get, slice_get_within}
 use Rattle.std.specs.BTreeSet.{insert_key}
 use Rattle.std.specs.Cmp.{IsTotalOrder, nat_cmp_is}
-use Rattle.std.specs.List.{AllByRecursion, insert}
+use Rattle.std.specs.List.{All, AllByRecursion, insert}
 use Rattle.std.specs.List.Sorted.{IsBinarySearchResult, IsStrictlySortedBy}
 use Rattle.std.specs.Ordering.{match_ordering, nat_cmp, ordering_reverse}
-use Rattle.std.specs.Prelude.{Result, Ok, Err, IfOk, IfErr, Some, slice_get}
+use Rattle.std.specs.Prelude.{Result, Ok, Err, IfNone, IfSome, Some, slice_get}
+use Rattle.std.specs.Result.{result_err}
 use Rattle.std.specs.declared.cmp.Ordering.{Ordering}
 use Rattle.std.specs.declared.cmp.Ordering.TheVariants.{Less, Equal, Greater}
 
@@ -64,27 +66,35 @@ found (y ∷ xs) x (suc i) rise within is =
     ∙ ap (λ ys. y ∷ ys) (found xs x i rise.1 (omega arith) is)
 
 -- a number above all
-pub at_end : (xs : List ℕ) (x : ℕ) → IsStrictlySortedBy nat_cmp xs → ((last : ℕ) → slice_get xs (length xs - 1) ≡ Some last → last < x) → insert_key nat_cmp xs x ≡ insert xs (length xs) x
-at_end xs x rise is_above = placed xs x (length xs) (omega arith) (λ k l. below k l) (λ k l m. absurd (omega arith))
+pub at_end : (xs : List ℕ) (x : ℕ) → All (λ y. y < x) xs → insert_key nat_cmp xs x ≡ insert xs (length xs) x
+at_end xs x above = placed xs x (length xs) (omega arith) (λ k l. All-get_or (λ y. y < x) xs k 0 l above) (λ k l m. absurd (omega arith))
+
+-- a number is above all where it is above the last one
+pub last_above : (xs : List ℕ) (x last : ℕ) → slice_get xs (length xs - 1) ≡ Some last → All (λ y. y < x) xs → last < x
+last_above xs x last is above =
+    subst (λ y. y < x) (get_or_from_slice_get xs (length xs - 1) last 0 is) (All-get_or (λ y. y < x) xs (length xs - 1) 0 (slice_get_within xs (length xs - 1) last is) above)
+
+pub all_above : (xs : List ℕ) (x last : ℕ) → IsStrictlySortedBy nat_cmp xs → slice_get xs (length xs - 1) ≡ Some last → last < x → All (λ y. y < x) xs
+all_above xs x last rise is less = All-from_get_or (λ y. y < x) xs 0 below
   where
-    last : 0 < length xs → get_or xs (length xs - 1) 0 < x
-    last some = is_above (get_or xs (length xs - 1) 0) (slice_get-get_or xs (length xs - 1) 0 (omega arith))
+    at_last : get_or xs (length xs - 1) 0 ≡ last
+    at_last = get_or_from_slice_get xs (length xs - 1) last 0 is
 
     below : (k : ℕ) → k < length xs → get_or xs k 0 < x
     below k l = by_case (cases_lt k (length xs - 1))
       where
         by_case : (k < length xs - 1) ⊎ (length xs - 1 ≤ k) → get_or xs k 0 < x
-        by_case (inl less) = omega (arith, below_from_sorted xs k (length xs - 1) 0 rise less (omega arith), last (omega arith))
-        by_case (inr more) = let e : k ≡ length xs - 1 = omega arith in omega (arith, ap (λ n. get_or xs n 0) e, last (omega arith))
+        by_case (inl fewer) = omega (arith, below_from_sorted xs k (length xs - 1) 0 rise fewer (omega arith), at_last, less)
+        by_case (inr more) = let e : k ≡ length xs - 1 = omega arith in omega (arith, ap (λ n. get_or xs n 0) e, at_last, less)
 
 -- ---- what a search says
 
 module _ (xs : List ℕ) (x : ℕ) (rise : IsStrictlySortedBy nat_cmp xs) where
-  pub search_finds : (r : Result ℕ ℕ) → IsBinarySearchResult (λ y. nat_cmp y x) xs r → IfOk r (λ _. insert_key nat_cmp xs x ≡ xs)
+  pub search_finds : (r : Result ℕ ℕ) → IsBinarySearchResult (λ y. nat_cmp y x) xs r → IfNone (result_err r) (insert_key nat_cmp xs x ≡ xs)
   search_finds (Ok i) is = let at = searched xs x (Ok i) is (λ i j. non_decreasing_from_sorted xs rise i j 0) in found xs x i rise at.0 at.1
   search_finds (Err i) is = tt
 
-  pub search_places : (r : Result ℕ ℕ) → IsBinarySearchResult (λ y. nat_cmp y x) xs r → IfErr r (λ i. insert_key nat_cmp xs x ≡ insert xs i x)
+  pub search_places : (r : Result ℕ ℕ) → IsBinarySearchResult (λ y. nat_cmp y x) xs r → IfSome (result_err r) (λ i. insert_key nat_cmp xs x ≡ insert xs i x)
   search_places (Ok i) is = tt
   search_places (Err i) is = let at = searched xs x (Err i) is (λ i j. non_decreasing_from_sorted xs rise i j 0) in placed xs x i at.0 at.1 at.2
 

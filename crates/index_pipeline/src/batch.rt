@@ -1,8 +1,11 @@
 // Records that share one buffer.
-ghost use Rattle.std.specs.Prelude.{◌≡◌, ◌≤◌, ◌+◌, ◌∷◌, ◌++◌, [], length, slice_get, IfOk, OnOk, IsTrue, MatchOption};
+ghost use Rattle.std.specs.Prelude.{◌≡◌, ◌+◌, ◌∷◌, ◌++◌, [], true, length, nat_le, slice_get, IfOk, OnOk, MatchOption};
+ghost use Rattle.swan_model.specs.declared.record.TheConstants.{RECORD_MOST};
+ghost use Rattle.index_pipeline.specs.Batches.{NUMBER_MOST, has_room};
 ghost use Rattle.index_pipeline.specs.Pairs.{Pair};
 ghost use Rattle.index_pipeline.specs.Records.{record_of};
 ghost use Rattle.index_pipeline.specs.Words.{word_of};
+ghost use Rattle.index_pipeline.specs.declared.word.TheConstants.{WORD_MOST};
 
 use crate::pair::write_number;
 use crate::word::write_word;
@@ -13,7 +16,15 @@ use swan_model::{NoMemory, RECORD_MOST, Record, Value};
 /// The largest number of bytes that a record of the index has beside its word: a space and a number.
 const NUMBER_MOST: usize = 21;
 
-/// Records that are written one after the other into one buffer. Contracts see it as these records, in order.
+/// Whether a word of so many bytes has room with its number after what is written, all in one record.
+fn is_within(written: usize, word_len: usize) -> bool
+    ensures { result ≡ nat_le (written + word_len + NUMBER_MOST) RECORD_MOST }
+{
+    written.saturating_add(word_len) <= RECORD_MOST - NUMBER_MOST
+}
+
+/// Records that are written one after the other into one buffer. Contracts see it as these records, in order. They are one
+/// record together, unless there is only one.
 #[derive(Drop)]
 pub struct BatchWriter {
     // the records' bytes, and then what was written of a record before memory ran out
@@ -25,8 +36,9 @@ pub struct BatchWriter {
 }
 
 impl Model for BatchWriter {
-    ghost use Rattle.std.specs.Prelude.{List, ◌≡◌, ◌≤◌, length};
+    ghost use Rattle.std.specs.Prelude.{List, ◌≡◌, ◌≤◌, ◌⊎◌, length};
     ghost use Rattle.std.specs.List.{sum};
+    ghost use Rattle.swan_model.specs.declared.record.TheConstants.{RECORD_MOST};
     ghost use Rattle.swan_model.specs.declared.value.Value.{Value as Item};
     ghost use Rattle.index_pipeline.specs.Batches.{cuts};
 
@@ -34,7 +46,7 @@ impl Model for BatchWriter {
 
     ghost view = { λ writer. cuts writer.lens.items writer.bytes.items };
 
-    ghost invariant = { λ writer. (writer.written ≡ sum writer.lens.items) × (writer.written ≤ length writer.bytes.items) };
+    ghost invariant = { λ writer. (writer.written ≡ sum writer.lens.items) × (writer.written ≤ length writer.bytes.items) × ((length writer.lens.items ≤ 1) ⊎ (writer.written ≤ RECORD_MOST)) };
 }
 
 impl BatchWriter {
@@ -52,16 +64,15 @@ impl BatchWriter {
     /// Whether the record of a word of so many bytes has room beside those that are there, all in one record. Where
     /// none is there it has. `O(1)`.
     pub fn has_room(&self, word_len: usize) -> bool
-        ensures { self.now ≡ [] → IsTrue result }
+        ensures { result ≡ has_room self.now word_len }
     {
-        if self.written == 0 {
-            return true;
-        }
-        self.written.saturating_add(word_len) <= RECORD_MOST - NUMBER_MOST
+        self.lens.is_empty() || is_within(self.written, word_len)
     }
 
-    /// Adds the record of the word of a run. `O(1)` amortised: the word is copied once.
+    /// Adds the record of the word of a run. There is room for the longest word. `O(1)` amortised: the word is copied
+    /// once.
     pub fn push_run(&mut self, run: &[u8], line: u64) -> Result<(), NoMemory>
+        requires { has_room self.old WORD_MOST ≡ true }
         ensures { OnOk result (self.new ≡ self.old ++ record_of (record { word = word_of run.now; line = line }) ∷ []) }
     {
         self.bytes.truncate(self.written);
@@ -72,8 +83,9 @@ impl BatchWriter {
         Ok(())
     }
 
-    /// Adds the record of a word. `O(length)` amortised: the word is copied once.
+    /// Adds the record of a word. There is room for it. `O(length)` amortised: the word is copied once.
     pub fn push_word(&mut self, word: &[u8], line: u64) -> Result<(), NoMemory>
+        requires { has_room self.old (length word.now) ≡ true }
         ensures { OnOk result (self.new ≡ self.old ++ record_of (record { word = word.now; line = line }) ∷ []) }
     {
         self.bytes.truncate(self.written);
@@ -84,7 +96,8 @@ impl BatchWriter {
         Ok(())
     }
 
-    /// The records, to be taken. `O(1)`, or one copy of the bytes where the buffer has room to spare, which is given up.
+    /// The records, to be taken. A record that is alone and longer than records may be is answered as want of memory: no
+    /// word of a text is so long. `O(1)`, or one copy of the bytes where the buffer has room to spare, which is given up.
     pub fn into_batch(self) -> Result<Batch, NoMemory>
         ensures { IfOk result (λ batch. batch ≡ self) }
     {

@@ -1,6 +1,7 @@
 // Records that are pushed one by one, and made in batches.
-ghost use Rattle.std.specs.Prelude.{◌≡◌, ◌<◌, ◌∷◌, ◌++◌, [], List, length, true, IfOk, OnOk, MatchOption};
+ghost use Rattle.std.specs.Prelude.{◌≡◌, ℕ, ◌<◌, ◌∷◌, ◌++◌, ◌⊎◌, [], List, length, true, false, IfOk, OnOk, MatchOption};
 ghost use Rattle.swan_model.specs.declared.value.Value.{Value as Item};
+ghost use Rattle.index_pipeline.specs.Batches.{has_room};
 
 use crate::batch::{Batch, BatchWriter};
 use std::alloc::Global;
@@ -12,12 +13,17 @@ pub trait Source: Drop {
     /// The records that are left to make, in order.
     ghost left: { Self → List Item };
 
-    /// Writes the next record behind those of a batch. It answers false, and writes nothing, where no record is left, or
-    /// none has room in the batch any more.
+    /// The length of a word for whose record it wants room in a batch.
+    ghost word_len: { Self → ℕ };
+
+    /// Writes the next record behind those of a batch. It answers false, and writes nothing, exactly where no record is
+    /// left or the batch has no room for one more.
     fn write_next(&mut self, batch: &mut BatchWriter) -> Result<bool, NoMemory>
         ensures records { OnOk result (batch.new ++ left self.new ≡ batch.old ++ left self.old) }
         ensures goes_on { IfOk result (λ more. more ≡ true → length (left self.new) < length (left self.old)) }
-        ensures through { OnOk result (batch.new ≡ [] → left self.new ≡ []) };
+        ensures had_room { IfOk result (λ more. more ≡ true → has_room batch.old (word_len self.new) ≡ true) }
+        ensures same { IfOk result (λ more. more ≡ false → batch.new ≡ batch.old) }
+        ensures full { IfOk result (λ more. more ≡ false → (left self.new ≡ []) ⊎ (has_room batch.old (word_len self.new) ≡ false)) };
 }
 
 /// A batch, and what later records are made of.
@@ -31,7 +37,7 @@ impl<S: Source> Ready<S> {
     /// Writes records as long as there is one that has room.
     fn fill(&mut self, batch: &mut BatchWriter) -> Result<(), NoMemory>
         ensures records { OnOk result (batch.new ++ S.left self.new.source ≡ batch.old ++ S.left self.old.source) }
-        ensures through { OnOk result (batch.new ≡ [] → S.left self.new.source ≡ []) }
+        ensures full { OnOk result ((S.left self.new.source ≡ []) ⊎ (has_room batch.new (S.word_len self.new.source) ≡ false)) }
     {
         loop {
             let more = self.source.write_next(batch)?;
@@ -41,10 +47,10 @@ impl<S: Source> Ready<S> {
         }
     }
 
-    /// Makes the next batch. None is left before.
+    /// Makes the next batch, of as many records as have room in one. None is left before.
     fn refill(&mut self, alloc: Global) -> Result<(), NoMemory>
         ensures records { OnOk result (self.new.batch ++ S.left self.new.source ≡ S.left self.old.source) }
-        ensures through { OnOk result (self.new.batch ≡ [] → S.left self.new.source ≡ []) }
+        ensures full { OnOk result ((S.left self.new.source ≡ []) ⊎ (has_room self.new.batch (S.word_len self.new.source) ≡ false)) }
     {
         let mut batch = BatchWriter::new(alloc);
         self.fill(&mut batch)?;

@@ -1,7 +1,9 @@
 // The words of a line that are left.
 ghost use Rattle.std.specs.Prelude.{◌≡◌, ◌<◌, ◌++◌, [], length, true, false, IfOk, OnOk};
 ghost use Rattle.line_blocks.specs.LineBlocks.{bytes_of};
+ghost use Rattle.index_pipeline.specs.Batches.{has_room};
 ghost use Rattle.index_pipeline.specs.Records.{line_records};
+ghost use Rattle.index_pipeline.specs.declared.word.TheConstants.{WORD_MOST};
 
 use crate::batch::BatchWriter;
 use crate::word::{after, first_run};
@@ -51,10 +53,11 @@ impl LineLeft {
         }
     }
 
-    /// Writes the next word's record behind those of a batch, and answers false exactly where no word is left. `O(1)`
-    /// amortised over the bytes of the line.
+    /// Writes the next word's record behind those of a batch, which has room for the longest word, and answers false
+    /// exactly where no word is left. `O(1)` amortised over the bytes of the line.
     #[tactic(auto, using(crate::proofs::Taking::line_more, crate::proofs::Taking::line_over))]
     pub fn write_next(&mut self, batch: &mut BatchWriter) -> Result<bool, NoMemory>
+        requires { has_room batch.old WORD_MOST ≡ true }
         ensures records { OnOk result (batch.new ++ self.new ≡ batch.old ++ self.old) }
         ensures shorter { IfOk result (λ more. more ≡ true → length self.new < length self.old) }
         ensures written { IfOk result (λ more. more ≡ true → batch.new ≡ [] → ⊥) }

@@ -1,7 +1,7 @@
 // The numbers of a word.
-ghost use Rattle.std.specs.Prelude.{◌≡◌, ℕ, ◌+◌, ◌-◌, ◌^◌, ◌<◌, ◌≤◌, ◌∷◌, [], Some, drop, length, slice_get, IfOk, IfErr, IsTrue, MatchOption, OnOk};
+ghost use Rattle.std.specs.Prelude.{◌≡◌, ◌+◌, ◌^◌, ◌<◌, ◌≤◌, ◌∷◌, ◌↔◌, [], drop, length, slice_get, IfNone, IfSome, IsTrue, MatchOption, OnOk};
 ghost use Rattle.std.specs.BTreeSet.{insert_key};
-ghost use Rattle.std.specs.List.{insert};
+ghost use Rattle.std.specs.List.{All, insert};
 ghost use Rattle.std.specs.List.Sorted.{IsStrictlySortedBy};
 ghost use Rattle.std.specs.Ordering.{nat_cmp};
 
@@ -27,9 +27,10 @@ impl Model for Numbers {
     ghost invariant = { λ numbers. IsStrictlySortedBy nat_cmp numbers.rising.items };
 }
 
-/// Whether a number is above the last one of these.
+/// Whether a number is above all of these. `O(1)`.
 fn is_above(rising: &[u64], number: u64) -> bool
-    ensures { IsTrue result → (last : ℕ) → slice_get rising.now (length rising.now - 1) ≡ Some last → last < number }
+    requires { IsStrictlySortedBy nat_cmp rising.now }
+    ensures { IsTrue result ↔ All (λ other. other < number) rising.now }
 {
     match rising.last() {
         Some(last) => *last < number,
@@ -37,18 +38,18 @@ fn is_above(rising: &[u64], number: u64) -> bool
     }
 }
 
-/// Where a number is among rising ones, or else where it goes. `O(1)` where it is above all others, and else
-/// `O(log numbers)`.
-fn place_of(rising: &[u64], number: u64) -> Result<usize, usize>
+/// Where a number goes among rising ones, and None exactly where it is there. `O(1)` where it is above all others, and
+/// else `O(log numbers)`.
+fn place_of(rising: &[u64], number: u64) -> Option<usize>
     requires { IsStrictlySortedBy nat_cmp rising.now }
-    ensures there { IfOk result (λ _. insert_key nat_cmp rising.now number ≡ rising.now) }
-    ensures within { IfErr result (λ place. place ≤ length rising.now) }
-    ensures goes { IfErr result (λ place. insert_key nat_cmp rising.now number ≡ insert rising.now place number) }
+    ensures there { IfNone result (insert_key nat_cmp rising.now number ≡ rising.now) }
+    ensures within { IfSome result (λ place. place ≤ length rising.now) }
+    ensures goes { IfSome result (λ place. insert_key nat_cmp rising.now number ≡ insert rising.now place number) }
 {
     if is_above(rising, number) {
-        return Err(rising.len());
+        return Some(rising.len());
     }
-    rising.binary_search(&number)
+    rising.binary_search(&number).err()
 }
 
 /// The number at an index, and None exactly past the end.
@@ -74,8 +75,8 @@ impl Numbers {
         ensures { OnOk result (self.new ≡ insert_key nat_cmp self.old number) }
     {
         match place_of(self.rising.as_slice(), number) {
-            Ok(_) => {}
-            Err(place) => self.rising.insert(place, number)?,
+            Some(place) => self.rising.insert(place, number)?,
+            None => {}
         }
         Ok(())
     }

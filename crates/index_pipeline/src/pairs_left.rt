@@ -1,5 +1,5 @@
 // The pairs that are left to push.
-ghost use Rattle.std.specs.Prelude.{◌≡◌, map, drop, IfOk};
+ghost use Rattle.std.specs.Prelude.{◌≡◌, map, drop, length, IfOk};
 ghost use Rattle.index_pipeline.specs.KeptPairs.{kept_pairs, pairs_from_word};
 ghost use Rattle.index_pipeline.specs.Records.{record_of};
 
@@ -26,6 +26,8 @@ pub struct NumbersLeft {
 
 impl Source for NumbersLeft {
     ghost left = { λ it. map record_of (pairs_from_word it.word (drop it.taken it.numbers) it.words.entries) };
+
+    ghost word_len = { λ it. length it.word };
 
     /// Writes the next pair's record. A word's memory is given up with its last number. `O(length)`, and `O(log words)`
     /// more for the first number of a word.

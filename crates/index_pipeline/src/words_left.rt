@@ -1,6 +1,7 @@
 // The words of a block that are left.
 ghost use Rattle.std.specs.Prelude.{◌≡◌, ◌∷◌, ◌++◌, [], IfOk, MatchOption};
 ghost use Rattle.index_pipeline.specs.Records.{block_records};
+ghost use Rattle.index_pipeline.specs.declared.word.TheConstants.{WORD_MOST};
 
 use crate::batch::BatchWriter;
 use crate::batches::{Batches, Source};
@@ -21,6 +22,8 @@ pub struct LinesLeft {
 
 impl Source for LinesLeft {
     ghost left = { λ lines. lines.line ++ block_records lines.block };
+
+    ghost word_len = { λ _. WORD_MOST };
 
     /// Writes the record of the next word of the line or of those after it. `O(1)` amortised over the bytes of the
     /// lines.

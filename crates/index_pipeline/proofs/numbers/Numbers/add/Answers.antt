@@ -13,8 +13,8 @@ invariant_of-self c =
     let rising = c.self.inside.rising.items in
     let number = c.args.number in
     let same : c.insert.new.self.items ≡ insert_key nat_cmp rising number =
-    c.in_ok-insert-in-Err.ensures.items
-    ∙ ap (λ xs. insert xs c.in-Err.place number) (sym c.as_slice.ensures.value)
-    ∙ sym c.in-Err.ensures.goes
+    c.in_ok-insert-in-Some.ensures.items
+    ∙ ap (λ xs. insert xs c.in-Some.place number) (sym c.as_slice.ensures.value)
+    ∙ sym c.in-Some.ensures.goes
     ∙ ap (λ xs. insert_key nat_cmp xs number) c.as_slice.ensures.value in
     subst (IsStrictlySortedBy nat_cmp) (sym same) (insert_rises nat_cmp_total rising number c.self.invariant)
