@@ -68,6 +68,7 @@ fn blocks_have_64_lines(rt: HostRuntime) -> Result<(), Fail> {
         (63, "faults 1\nfault /0/63 64 User 1\n"),
         (64, "faults 1\nfault /1/0 65 User 1\n"),
         (65, "faults 1\nfault /1/1 66 User 1\n"),
+        (127, "faults 1\nfault /1/63 128 User 1\n"),
         (128, "faults 1\nfault /2/0 129 User 1\n"),
     ] {
         let mut text = repeated(alloc, b"w\n", lines)?;
