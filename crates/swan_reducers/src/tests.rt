@@ -179,7 +179,7 @@ fn joins_end_past_their_bound(rt: HostRuntime) -> Result<(), Fail> {
 }
 
 #[test]
-fn sums_carry_from_word_to_word_and_come_back(rt: HostRuntime) -> Result<(), Fail> {
+fn sums_pass_64_bits_and_come_back(rt: HostRuntime) -> Result<(), Fail> {
     for (text, out, faults) in [
         (b"-1\n1\n".as_slice(), b"0\n".as_slice(), "faults 0\n"),
         (
