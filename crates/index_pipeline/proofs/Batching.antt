@@ -14,6 +14,7 @@ use Rattle.swan_model.specs.declared.record.TheConstants.{RECORD_MOST}
 use Rattle.line_blocks.specs.LineBlocks.{byte_count}
 use Rattle.index_pipeline.specs.Batches.{NUMBER_MOST, cuts, has_room}
 use Rattle.index_pipeline.specs.Words.{word_of}
+use Rattle.index_pipeline.specs.declared.word.TheConstants.{WORD_MOST}
 use Rattle.index_pipeline.proofs.Dropping.{drop_next, drop_past}
 
 -- ---- writing
@@ -100,8 +101,8 @@ still_batch lens bytes now more items written len word_len count all within room
 pub number_few : (word : List ℕ) (number : ℕ) → number < 2 ^ 64 → length (word ++ 32 ∷ decimal number) ≤ length word + NUMBER_MOST
 number_few word number fits = omega (arith, length-append word (32 ∷ decimal number), length-decimal-le 20 number (omega arith) (omega (arith, fits)) fits)
 
-pub word_few : (run : List ℕ) → length (word_of run) ≤ 64
-word_few run = omega (arith, length-map (take 64 run) to_ascii_lowercase, length-take 64 run)
+pub word_few : (run : List ℕ) → length (word_of run) ≤ WORD_MOST
+word_few run = omega (arith, length-map (take WORD_MOST run) to_ascii_lowercase, length-take WORD_MOST run)
 
 -- what is written moves from what is left to the batch
 pub moved_before : (batch line rest old front : List Value) → batch ++ line ≡ old ++ front → batch ++ (line ++ rest) ≡ old ++ (front ++ rest)

@@ -2,6 +2,7 @@
 use Rattle.std.proofs.Common.{◌≡◌, ◌∙◌, ◌++◌, ap, length, map, sym, take}
 use Rattle.std.proofs.lemmas.List.{take_min}
 use Rattle.std.specs.Char.{to_ascii_lowercase}
+use Rattle.index_pipeline.specs.declared.word.TheConstants.{WORD_MOST}
 use Rattle.index_pipeline.proofs.Lowering.{lowered_behind}
 use Rattle.index_pipeline.proofs.word.write_word.Goals as goal
 
@@ -15,4 +16,4 @@ returns-clause-word c =
     let count : c.extend_from_slice.new.self.len ≡ length c.extend_from_slice.new.self.items = sym c.deref_mut.ensures.len ∙ ap length value in
     lowered_behind old piece c.deref_mut.result.now c.extend_from_slice.new.self.items c.make_ascii_lowercase.new.self c.len-from.result c.extend_from_slice.new.self.len
     c.in_ok-extend_from_slice.ensures.items value from count c.make_ascii_lowercase.ensures.after
-    ∙ ap (λ p. old ++ map to_ascii_lowercase p) (ap (λ n. take n run) c.min-len.ensures ∙ take_min 64 run)
+    ∙ ap (λ p. old ++ map to_ascii_lowercase p) (ap (λ n. take n run) c.min-len.ensures ∙ take_min WORD_MOST run)
