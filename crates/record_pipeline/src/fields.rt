@@ -51,11 +51,12 @@ fn after(line: &[u8], len: usize) -> &[u8]
     &line[len..]
 }
 
-/// The netstrings of a line's fields, joined. There is room at once for those of so many fields as the count says, and little
-/// more. `O(length + count)`.
+/// The netstrings of a line's fields, of which there are so many, joined. There is room for all of them at once, and little
+/// more. `O(length)`.
 pub fn netstrings(alloc: Global, line: &[u8], count: u64) -> Result<Vec<u8>, NoMemory>
     requires line { length line.now ≤ RECORD_MOST }
-    requires count { count ≤ RECORD_MOST + 1 }
+    requires count { count ≡ length (fields line.now) }
+    requires most { count ≤ RECORD_MOST + 1 }
     ensures { IfOk result (λ text. text.items ≡ netstrings line.now) }
 {
     let more = if line.len() < 100 {
