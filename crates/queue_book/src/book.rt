@@ -116,12 +116,11 @@ impl Queues for BookQueues {
 
     /// Lends ends that push and pop nothing. `O(log n)`.
     fn lend(&mut self, frame: u64) -> NoEnds {
-        let deeds = self.store.frames.deeds(frame);
         let path = Meaning::of(&PathOf {
             state: &self.state,
             frame,
         });
-        self.store.frames.set_lent(frame, true);
+        let deeds = self.store.frames.lend(frame);
         self.state = after(&self.state, Call::Lend(frame));
         NoEnds::new(self.name.again(), frame, deeds, path)
     }
@@ -134,7 +133,7 @@ impl Queues for BookQueues {
         if !self.store.frames.is_lent(frame, ends.deeds()) {
             return Err(ends);
         }
-        self.store.frames.set_lent(frame, false);
+        self.store.frames.take_back(frame);
         self.state = after(&self.state, Call::Back(frame));
         Ok(())
     }

@@ -1,5 +1,5 @@
 // What is kept of an active frame.
-ghost use Rattle.std.specs.Prelude.{◌≡◌, ◌<◌, [], OnOk, false};
+ghost use Rattle.std.specs.Prelude.{◌≡◌, ◌<◌, [], OnOk, true, false};
 ghost use Rattle.queue_book.specs.KeptFrames.{own_chunk_in};
 ghost use Rattle.queue_book.specs.Live.{with_own_chunk};
 
@@ -63,6 +63,15 @@ impl LiveFrame {
         ensures { result ≡ own_chunk_in self.now.places queue }
     {
         self.places.get(&queue).copied()
+    }
+
+    /// Notes that its ends are lent, and answers how many queue deeds it has done. `O(1)`.
+    pub fn lend(&mut self) -> u64
+        ensures deeds { result ≡ self.old.deeds }
+        ensures lent { self.new ≡ record self.old { is_lent = true } }
+    {
+        self.is_lent = true;
+        self.deeds
     }
 
     /// The places of the frame's own chunks. `O(1)`.

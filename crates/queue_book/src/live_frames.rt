@@ -1,5 +1,5 @@
 // The active frames by number.
-ghost use Rattle.std.specs.Prelude.{◌≡◌, ◌≢◌, ℕ, ◌+◌, ◌<◌, Some, None, [], OnOk, false};
+ghost use Rattle.std.specs.Prelude.{◌≡◌, ◌≢◌, ℕ, ◌+◌, ◌<◌, Some, None, [], OnOk, true, false};
 ghost use Rattle.std.specs.Option.{option_copied, option_map};
 ghost use Rattle.queues.specs.Asks.{DEEDS_MOST};
 ghost use Rattle.queue_book.specs.Live.{is_lent_with, kept_of, own_chunk_at, with_own_chunk};
@@ -53,16 +53,6 @@ impl LiveFrames {
         }
     }
 
-    /// How many queue deeds an active frame has done. `O(log n)`.
-    pub fn deeds(&self, number: u64) -> u64
-        ensures { (kept : KeptFrame) → kept_of self.now number ≡ Some kept → result ≡ kept.deeds }
-    {
-        match self.get(number) {
-            Some(frame) => frame.deeds,
-            None => 0,
-        }
-    }
-
     /// Whether the ends of a frame were lent when it had done so many queue deeds. `O(log n)`.
     pub fn is_lent(&self, number: u64, deeds: u64) -> bool
         ensures { result ≡ is_lent_with (kept_of self.now number) deeds }
@@ -87,16 +77,34 @@ impl LiveFrames {
         }
     }
 
-    /// Notes whether the ends of a frame are lent. `O(log n)`.
-    pub fn set_lent(&mut self, number: u64, is_lent: bool)
-        ensures { IsOnlyChange (kept_of self.old) (kept_of self.new) number (option_map (λ (kept : KeptFrame). record kept { is_lent = is_lent }) (kept_of self.old number)) }
+    /// Notes that the ends of a frame are lent, and answers how many queue deeds it has done. `O(log n)`.
+    pub fn lend(&mut self, number: u64) -> u64
+        ensures deeds { (kept : KeptFrame) → kept_of self.old number ≡ Some kept → result ≡ kept.deeds }
+        ensures lent { IsOnlyChange (kept_of self.old) (kept_of self.new) number (option_map (λ (kept : KeptFrame). record kept { is_lent = true }) (kept_of self.old number)) }
+    {
+        if number == 0 {
+            match &mut self.root {
+                Some(frame) => frame.lend(),
+                None => 0,
+            }
+        } else {
+            match self.others.get_mut(&number) {
+                Some(frame) => frame.lend(),
+                None => 0,
+            }
+        }
+    }
+
+    /// Notes that the ends of a frame are back. `O(log n)`.
+    pub fn take_back(&mut self, number: u64)
+        ensures { IsOnlyChange (kept_of self.old) (kept_of self.new) number (option_map (λ (kept : KeptFrame). record kept { is_lent = false }) (kept_of self.old number)) }
     {
         if number == 0 {
             if let Some(frame) = &mut self.root {
-                frame.is_lent = is_lent;
+                frame.is_lent = false;
             }
         } else if let Some(frame) = self.others.get_mut(&number) {
-            frame.is_lent = is_lent;
+            frame.is_lent = false;
         }
     }
 

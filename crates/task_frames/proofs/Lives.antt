@@ -5,6 +5,7 @@ use Rattle.std.proofs.lemmas.Bool.Decides.{nat_tests}
 use Rattle.std.proofs.lemmas.Cmp.{eq_by_cmp_equiv, nat_cmp_total}
 use Rattle.std.proofs.lemmas.Map.{lookup-set_value, lookup-remove_entry}
 use Rattle.std.proofs.lemmas.Map.Keys.{IsDistinct-from_sorted}
+use Rattle.std.proofs.lemmas.Map.Steps.{set_value_same}
 use Rattle.std.proofs.lemmas.Option.{same_Some}
 use Rattle.std.specs.BTreeMap.{is_at, insert_entry}
 use Rattle.std.specs.List.Sorted.{IsStrictlySortedBy}
@@ -235,3 +236,27 @@ pub nobody-left : (before after : LiveFrames) (pairs : List Pair) (number : ℕ)
 nobody-left before after pairs number kept sorted is none =
     left_root_keeps before after pairs number kept sorted (left before after number kept.sorted is)
     (λ parent child. let both : None ≡ Some child.frame = sym none ∙ child.live in absurd (cc))
+
+-- ---- a frame that is given as it was
+
+come-as-it-was : (f : LiveFrame) (done : ℕ) → f.done ≡ done → come_to done f ≡ f
+come-as-it-was f done is = ap (λ n. come_to n f) (sym is)
+
+pub same-at : (frames : LiveFrames) (number done : ℕ) (found : Option LiveFrame) → live_at frames number ≡ found
+    → ((live : LiveFrame) → found ≡ Some live → live.done ≡ done) → frames ≡ come_at frames number done found
+same-at frames number done None there is = refl
+same-at frames number done (Some f) there is =
+    sym (ap (set_value (is_at (nat_cmp number)) frames) (come-as-it-was f done (is f refl)) ∙ set_value_same (is_at (nat_cmp number)) frames f there)
+
+pub same-found : (found : Option LiveFrame) (done : ℕ) → ((live : LiveFrame) → found ≡ Some live → live.done ≡ done)
+    → found ≡ option_map (come_to done) found
+same-found None done is = refl
+same-found (Some f) done is = ap Some (sym (come-as-it-was f done (is f refl)))
+
+pub come_same : (frames : LiveFrames) (number done : ℕ) → ((live : LiveFrame) → live_at frames number ≡ Some live → live.done ≡ done)
+    → frames ≡ come_at frames number done (live_at frames number)
+come_same frames number done is = same-at frames number done (live_at frames number) refl is
+
+pub only_same : (frames : LiveFrames) (number done : ℕ) → ((live : LiveFrame) → live_at frames number ≡ Some live → live.done ≡ done)
+    → IsOnlyLive frames frames number (option_map (come_to done) (live_at frames number))
+only_same frames number done is = record { own = same-found (live_at frames number) done is; others = λ other differs. refl }

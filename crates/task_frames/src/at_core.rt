@@ -1,7 +1,8 @@
 // Frames that are at the core, without their ends.
-ghost use Rattle.std.specs.Prelude.{◌≡◌, ◌+◌, ◌-◌, ◌<◌, ◌≤◌, IfOk};
+ghost use Rattle.std.specs.Prelude.{◌≡◌, ℕ, ◌+◌, ◌-◌, ◌<◌, ◌≤◌, Some, IfOk};
 ghost use Rattle.swan_model.specs.SerialStep.{number_at};
-ghost use Rattle.task_frames.specs.declared.stage.Stage.TheVariants.{Ready};
+ghost use Rattle.swan_model.specs.declared.body.Ask.{Ask as Asked};
+ghost use Rattle.task_frames.specs.declared.stage.Stage.TheVariants.{Asking, Ready};
 ghost use Rattle.task_frames.specs.Cores.{STEPS_MOST, asking, one_on};
 
 use crate::holding::number_at;
@@ -47,13 +48,6 @@ impl<B: Body> Model for TaskAtCore<B> {
 }
 
 impl<B: Body> TaskAtCore<B> {
-    /// In a box, so that a frame is moved about cheaply. Err is want of memory. `O(1)`, one allocation.
-    pub fn boxed(self, alloc: Global) -> Result<Box<TaskAtCore<B>>, NoMemory>
-        ensures { IfOk result (λ boxed. boxed.value ≡ self) }
-    {
-        Ok(Box::new(alloc, self)?)
-    }
-
     /// Its number in the run. It counts as given with the steps that it has done. `O(1)`.
     pub fn number(&self) -> u64
         ensures number { result ≡ self.now.number }
@@ -120,28 +114,60 @@ impl<B: Body> TaskAtCore<B> {
     }
 }
 
+/// A task and how it stands to its next step. A frame has both in one box from its beginning to its end, so whoever
+/// hands it on moves a pointer.
+#[derive(Drop)]
+pub struct StagedTask<B: Body> {
+    /// The task.
+    pub task: TaskAtCore<B>,
+    /// How it stands to its next step; None while a step is taken, and after want of memory.
+    pub stage: Option<Stage<B::Local>>,
+}
+
+impl<B: Body> StagedTask<B> {
+    /// Takes the step in whose middle it is, and is told this. `O(1)`.
+    pub fn is_told(&mut self, answer: Answer)
+        requires few { self.old.task.done < STEPS_MOST }
+        ensures { (local : B.Local) (ask : Asked B.Local) (at : ℕ) → self.old.stage ≡ Some (Asking local ask at)
+            → self.new ≡ record self.old { task = one_on self.old.task; stage = Some (Ready local answer) } }
+    {
+        if let Some(Stage::Asking(local, _, _)) = self.stage.take() {
+            self.task.takes_step();
+            self.stage = Some(Stage::Ready(local, answer));
+        }
+    }
+}
+
 /// A frame that is at the core: its ends are back.
 #[derive(Drop)]
 pub struct FrameAtCore<B: Body> {
-    /// Its task.
-    pub task: Box<TaskAtCore<B>>,
-    /// How it stands to its next step.
-    pub stage: Stage<B::Local>,
+    /// Its task, which has its stage.
+    pub staged: Box<StagedTask<B>>,
 }
 
 impl<B: Body> Model for FrameAtCore<B> {
+    ghost use Rattle.std.specs.Prelude.{◌≡◌, true, is_some};
+    ghost use Rattle.std.specs.Option.{unwrap_or};
+    ghost use Rattle.swan_model.specs.declared.body.Answer.TheVariants.{Start};
+    ghost use Rattle.task_frames.specs.declared.stage.Stage.TheVariants.{Ready};
     ghost use Rattle.task_frames.specs.Cores.{AtCore};
 
     ghost Value = { AtCore B B.Local };
 
-    ghost view = { λ frame. record { task = frame.task.value; stage = frame.stage } };
+    // It has a stage, so the root's first one is never seen.
+    ghost view = { λ frame. record {
+      task = frame.staged.value.task;
+      stage = unwrap_or frame.staged.value.stage (Ready frame.staged.value.task.plan.root_local Start);
+    } };
+
+    ghost invariant = { λ frame. is_some frame.staged.value.stage ≡ true };
 }
 
 /// A frame at the core in the middle of a step, with what its body asks for taken out.
 #[derive(Drop)]
 pub struct MidStep<B: Body> {
     /// Its task, whose unit of fuel for the step is taken.
-    pub task: Box<TaskAtCore<B>>,
+    pub staged: Box<StagedTask<B>>,
     /// The local that the body left.
     pub local: B::Local,
     /// The place before the step.
@@ -153,30 +179,65 @@ impl<B: Body> Model for MidStep<B> {
 
     ghost Value = { Mid B B.Local };
 
-    ghost view = { λ mid. record { task = mid.task.value; local = mid.local; at = mid.at } };
+    ghost view = { λ mid. record { task = mid.staged.value.task; local = mid.local; at = mid.at } };
 }
 
 impl<B: Body> FrameAtCore<B> {
+    /// The frame of a new task. Err is want of memory. `O(1)`, one allocation.
+    pub fn begun(
+        alloc: Global,
+        task: TaskAtCore<B>,
+        stage: Stage<B::Local>,
+    ) -> Result<FrameAtCore<B>, NoMemory>
+        ensures { IfOk result (λ frame. frame ≡ record { task = task; stage = stage }) }
+    {
+        let stage = Some(stage);
+        let staged = Box::new(alloc, StagedTask { task, stage })?;
+        Ok(FrameAtCore { staged })
+    }
+
+    /// The frame of a task that stands so. `O(1)`.
+    #[inline(always)]
+    pub fn of(staged: Box<StagedTask<B>>, stage: Stage<B::Local>) -> FrameAtCore<B>
+        ensures { result ≡ record { task = staged.value.task; stage = stage } }
+    {
+        let mut staged = staged;
+        staged.stage = Some(stage);
+        FrameAtCore { staged }
+    }
+
+    /// Its task, and how it stands to its next step. `O(1)`.
+    #[inline(always)]
+    pub fn apart(self) -> (Box<StagedTask<B>>, Stage<B::Local>)
+        ensures { self ≡ record { task = result.0.value.task; stage = result.1 } }
+    {
+        let FrameAtCore { mut staged } = self;
+        match staged.stage.take() {
+            Some(stage) => (staged, stage),
+            None => unreachable!(),
+        }
+    }
+
     /// Its number in the run. `O(1)`.
     pub fn number(&self) -> u64
         ensures { result ≡ self.now.task.number }
     {
-        self.task.number
+        self.staged.task.number
     }
 
     /// How many of its steps are done. `O(1)`.
     pub fn done(&self) -> u64
         ensures { result ≡ self.now.task.done }
     {
-        self.task.done
+        self.staged.task.done
     }
 
     /// The path of its task. `O(1)`.
     pub fn into_path(self) -> Path
         ensures { result ≡ self.task.path }
     {
-        let FrameAtCore { task, stage: _ } = self;
-        Box::into_inner(task).into_path()
+        let FrameAtCore { staged } = self;
+        path_of(staged)
     }
 }
 
@@ -185,14 +246,14 @@ impl<B: Body> MidStep<B> {
     pub fn number(&self) -> u64
         ensures { result ≡ self.now.task.number }
     {
-        self.task.number
+        self.staged.task.number
     }
 
     /// How many of its steps are done. `O(1)`.
     pub fn done(&self) -> u64
         ensures { result ≡ self.now.task.done }
     {
-        self.task.done
+        self.staged.task.done
     }
 
     /// The place before the step. `O(1)`.
@@ -206,7 +267,7 @@ impl<B: Body> MidStep<B> {
     pub fn number_at(&self, place: u32, mode: Mode) -> Option<u32>
         ensures { result ≡ number_at self.now.task.holdings place mode }
     {
-        number_at(self.task.holdings.as_slice(), place, mode)
+        number_at(self.staged.task.holdings.as_slice(), place, mode)
     }
 
     /// The path of its task. `O(1)`.
@@ -214,33 +275,42 @@ impl<B: Body> MidStep<B> {
         ensures { result ≡ self.task.path }
     {
         let MidStep {
-            task,
+            staged,
             local: _,
             at: _,
         } = self;
-        Box::into_inner(task).into_path()
+        path_of(staged)
     }
 
     /// The frame with its ask, as it was. `O(1)`.
     pub fn asks(self, ask: Ask<B::Local>) -> FrameAtCore<B>
         ensures { result ≡ asking self ask }
     {
-        FrameAtCore {
-            task: self.task,
-            stage: Stage::Asking(self.local, ask, self.at),
-        }
+        let MidStep { staged, local, at } = self;
+        FrameAtCore::of(staged, Stage::Asking(local, ask, at))
     }
 
     /// The frame after the step, which is told this. `O(1)`.
+    #[inline(always)]
     pub fn is_told(self, answer: Answer) -> FrameAtCore<B>
         requires { self.task.done < STEPS_MOST }
         ensures { result ≡ record { task = one_on self.task; stage = Ready self.local answer } }
     {
-        let mut task = self.task;
-        task.done += 1;
-        FrameAtCore {
-            task,
-            stage: Stage::Ready(self.local, answer),
-        }
+        let MidStep {
+            staged,
+            local,
+            at: _,
+        } = self;
+        let mut staged = staged;
+        staged.task.takes_step();
+        FrameAtCore::of(staged, Stage::Ready(local, answer))
     }
+}
+
+/// The path of a task. `O(1)`.
+fn path_of<B: Body>(staged: Box<StagedTask<B>>) -> Path
+    ensures { result ≡ staged.value.task.path }
+{
+    let StagedTask { task, stage: _ } = Box::into_inner(staged);
+    task.into_path()
 }

@@ -220,10 +220,8 @@ impl<B: Body, Q: Queues> Core<B, Q> {
             holdings,
             children: 0,
         };
-        let root = kept.give(FrameAtCore {
-            task: task.boxed(alloc)?,
-            stage: Stage::Ready(root_local, Answer::Start),
-        });
+        let stage = Stage::Ready(root_local, Answer::Start);
+        let root = kept.give(FrameAtCore::begun(alloc, task, stage)?);
         let core = Core {
             plan: means,
             run,

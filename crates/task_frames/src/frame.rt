@@ -12,7 +12,7 @@ ghost use Rattle.task_frames.specs.Going.{IsSameFrame, NeedsCore, OnAtCore, OnBu
 use crate::holding::hold_same;
 use crate::row::take_row;
 use crate::serving::serve;
-use crate::{FrameAtCore, Holding, LiveFrame, Paused, PlanRun, Stage, Steps, TaskAtCore};
+use crate::{FrameAtCore, LiveFrame, Paused, PlanRun, Stage, StagedTask, Steps};
 use named_lock::Named;
 use queues::Queues;
 use std::alloc::Global;
@@ -23,10 +23,9 @@ use swan_model::{Body, Meaning, NoMemory, Path, Plan};
 #[derive(Drop)]
 pub struct Frame<B: Body, Q: Queues> {
     // in a box, since frames are moved about
-    task: Box<TaskAtCore<B>>,
+    staged: Box<StagedTask<B>>,
     // how many steps were done when it was given
     since: u64,
-    stage: Option<Stage<B::Local>>,
     mark: bool,
     ends: Q::Ends,
 }
@@ -38,19 +37,19 @@ impl<B: Body, Q: Queues> Model for Frame<B, Q> {
     ghost Value = { FrameView B B.Local Q.Ends };
 
     ghost view = { λ f. record {
-      task = record f.task.value { since = f.since };
-      stage = f.stage;
+      task = record f.staged.value.task { since = f.since };
+      stage = f.staged.value.stage;
       mark = f.mark;
       ends = f.ends;
     } };
 
     ghost invariant = { λ f. IsAnyFrame B.Body Q.Ends.name Q.Ends.ends (record {
-      task = record f.task.value { since = f.since };
-      stage = f.stage;
+      task = record f.staged.value.task { since = f.since };
+      stage = f.staged.value.stage;
       mark = f.mark;
       ends = f.ends;
     })
-        × (f.mark ≡ true → is_some f.stage ≡ true) };
+        × (f.mark ≡ true → is_some f.staged.value.stage ≡ true) };
 }
 
 impl<B: Body, Q: Queues> Frame<B, Q> {
@@ -59,12 +58,11 @@ impl<B: Body, Q: Queues> Frame<B, Q> {
         requires frame { IsFrame B.Body at.task (Q.Ends.name ends) (Q.Ends.ends ends) at.stage }
         ensures { result ≡ record { task = at.task; stage = Some at.stage; mark = false; ends = ends } }
     {
-        let FrameAtCore { task, stage } = at;
-        let since = task.done;
+        let FrameAtCore { staged } = at;
+        let since = staged.task.done;
         Frame {
-            task,
+            staged,
             since,
-            stage: Some(stage),
             mark: false,
             ends,
         }
@@ -79,10 +77,13 @@ impl<B: Body, Q: Queues> Frame<B, Q> {
         if live.done != self.since {
             return false;
         }
-        if !same_path(&live.path, &self.task.path) {
+        if !same_path(&live.path, &self.staged.task.path) {
             return false;
         }
-        hold_same(live.holdings.as_slice(), self.task.holdings.as_slice())
+        hold_same(
+            live.holdings.as_slice(),
+            self.staged.task.holdings.as_slice(),
+        )
     }
 
     /// The frame without its ends, which go back to the queues of its run. Err gives it back as it was, with its ends and
@@ -107,23 +108,18 @@ impl<B: Body, Q: Queues> Frame<B, Q> {
         ensures err { OnErr result ((¬ IsRecorded (Q.state queues.old) self.task.number (Q.Ends.ends self.ends)) × (Q.state queues.new ≡ Q.state queues.old)) }
         ensures same { IsSameRun Q.name Q.run queues.old queues.new }
     {
-        let number = self.task.number();
+        let number = self.staged.task.number();
         let Frame {
-            task,
+            staged,
             since,
-            stage,
             mark,
             ends,
         } = self;
         match queues.back(number, ends) {
-            Ok(()) => match stage {
-                Some(stage) => Ok(FrameAtCore { task, stage }),
-                None => unreachable!(),
-            },
+            Ok(()) => Ok(FrameAtCore { staged }),
             Err(ends) => Err(Frame {
-                task,
+                staged,
                 since,
-                stage,
                 mark,
                 ends,
             }),
@@ -134,7 +130,7 @@ impl<B: Body, Q: Queues> Frame<B, Q> {
     pub fn path(&self) -> &Path
         ensures { result.now ≡ self.now.task.path }
     {
-        &self.task.path
+        &self.staged.task.path
     }
 
     /// Its number. Whatever frame it is, it is true for its plan where no want of memory was met; and where its mark stands,
@@ -144,7 +140,7 @@ impl<B: Body, Q: Queues> Frame<B, Q> {
         ensures frame { IsAnyFrame B.Body Q.Ends.name Q.Ends.ends self.now }
         ensures marked { self.now.mark ≡ true → is_whole self.now ≡ true }
     {
-        self.task.number
+        self.staged.task.number
     }
 
     /// Takes steps of the frame's own work in a row, where it is at the beginning of a step: up to so many, or up to a
@@ -164,23 +160,24 @@ impl<B: Body, Q: Queues> Frame<B, Q> {
         ensures most { IfOk result (λ works. works ≤ budget) }
         ensures amid { IfOk result (λ works. works < budget → stands_still self.new ≡ true) }
     {
-        match self.stage.take() {
+        let staged = &mut *self.staged;
+        match staged.stage.take() {
+            None => return Err(NoMemory),
+            Some(Stage::Asking(local, ask, place)) => {
+                staged.stage = Some(Stage::Asking(local, ask, place));
+                return Ok(0);
+            }
             Some(Stage::Ready(local, answer)) => {
-                let fuel = self.task.fuel();
+                let fuel = staged.task.fuel();
                 if fuel == 0 {
-                    self.stage = Some(Stage::Ready(local, answer));
+                    staged.stage = Some(Stage::Ready(local, answer));
                     return Ok(0);
                 }
                 let row = take_row(alloc, body, local, answer, fuel, budget)?;
-                self.task.goes_on(row.works, row.fuel);
-                self.stage = Some(row.stage);
+                staged.task.goes_on(row.works, row.fuel);
+                staged.stage = Some(row.stage);
                 Ok(row.works)
             }
-            Some(Stage::Asking(local, ask, place)) => {
-                self.stage = Some(Stage::Asking(local, ask, place));
-                Ok(0)
-            }
-            None => Err(NoMemory),
         }
     }
 
@@ -196,24 +193,16 @@ impl<B: Body, Q: Queues> Frame<B, Q> {
         ensures done { self.new.task.done ≡ (if result then self.old.task.done + 1 else self.old.task.done) }
         ensures cause { result ≡ false → NeedsCore Q.Ends.ends Q.Ends.counts self.old self.new }
     {
-        match self.stage.take() {
-            Some(Stage::Asking(local, ask, place)) => {
-                match serve(&mut self.ends, self.task.holdings(), ask) {
-                    Ok(said) => {
-                        self.task.takes_step();
-                        self.stage = Some(Stage::Ready(local, said));
-                        true
-                    }
-                    Err(ask) => {
-                        self.stage = Some(Stage::Asking(local, ask, place));
-                        false
-                    }
-                }
+        let staged = &mut *self.staged;
+        match &mut staged.stage {
+            Some(Stage::Asking(_, ask, _)) => {
+                let Some(said) = serve(&mut self.ends, staged.task.holdings(), ask) else {
+                    return false;
+                };
+                staged.is_told(said);
+                true
             }
-            Some(Stage::Ready(local, answer)) => {
-                self.stage = Some(Stage::Ready(local, answer));
-                false
-            }
+            Some(Stage::Ready(_, _)) => false,
             None => false,
         }
     }
@@ -320,13 +309,13 @@ impl<B: Body, Q: Queues> Frame<B, Q> {
         ensures same { IsSameFrame Q.Ends.name Q.Ends.run Q.Ends.ends Q.Ends.counts self.old self.new }
     {
         self.mark = false;
-        if self.stage.is_none() {
+        if self.staged.stage.is_none() {
             return Paused::NoMemory;
         }
         if budget == 0 {
             return Paused::Budget(Steps::of(0));
         }
-        if self.task.done == 0 {
+        if self.staged.task.done == 0 {
             self.mark = true;
             return Paused::AtCore(Steps::of(0));
         }

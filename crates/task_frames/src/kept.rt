@@ -87,7 +87,7 @@ impl<Q: Queues> Kept<Q> {
             Ok(at) => {
                 let done = at.done();
                 self.reading = self.reading.gone_on_by(number, done - since);
-                self.live.come_to(number, done);
+                self.live.come_on(number, since, done);
                 Ok(at)
             }
             Err(frame) => Err(frame),

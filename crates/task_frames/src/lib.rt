@@ -72,7 +72,7 @@ mod steps;
 #[cfg(test)]
 mod tests;
 
-use at_core::{FrameAtCore, MidStep, TaskAtCore};
+use at_core::{FrameAtCore, MidStep, StagedTask, TaskAtCore};
 pub use begin::Opened;
 use children::Children;
 pub use frame::Frame;

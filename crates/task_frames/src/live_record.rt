@@ -4,7 +4,7 @@ ghost use Rattle.std.specs.Option.{option_map};
 ghost use Rattle.std.specs.List.Sorted.{IsStrictlySortedBy};
 ghost use Rattle.std.specs.Map.{keys_of};
 ghost use Rattle.std.specs.Ordering.{nat_cmp};
-ghost use Rattle.task_frames.specs.Records.{HasChildren, IsLiveChild, IsOldestChild, IsOnlyLive, come_at, come_to, holding_too, live_at};
+ghost use Rattle.task_frames.specs.Records.{HasChildren, IsLiveChild, IsOldestChild, IsOnlyLive, LiveFrame as Live, come_at, come_to, holding_too, live_at};
 
 use crate::{Children, Holding};
 use std::alloc::Global;
@@ -140,6 +140,19 @@ impl LiveRecord {
         ensures only { IsOnlyLive self.old self.new number (option_map (come_to done) (live_at self.old number)) }
     {
         come_to(&mut self.frames, number, done);
+    }
+
+    /// Notes that a frame which had so many steps done is given with so many done. Nothing is looked up where both are the
+    /// same. Else as `come_to`.
+    #[tactic(auto, using(crate::proofs::Lives::come_same, crate::proofs::Lives::only_same))]
+    pub fn come_on(&mut self, number: u64, since: u64, done: u64)
+        requires since { (live : Live) → live_at self.old number ≡ Some live → live.done ≡ since }
+        ensures come { self.new ≡ come_at self.old number done (live_at self.old number) }
+        ensures only { IsOnlyLive self.old self.new number (option_map (come_to done) (live_at self.old number)) }
+    {
+        if done != since {
+            self.come_to(number, done);
+        }
     }
 
     /// Notes that a frame holds one place more. It changes nothing for one that isn't there. Err is want of memory, and

@@ -21,17 +21,17 @@ impl<B: Body> MidStep<B> {
         requires { length self.now.task.holdings < 4294967296 }
         ensures { result ≡ length self.now.task.holdings }
     {
-        self.task.holdings.len() as u32
+        self.staged.task.holdings.len() as u32
     }
 
     /// The same, with one place more. Err is want of memory. `O(1)`, amortised.
     fn with_place(self, holding: Holding) -> Result<MidStep<B>, NoMemory>
         ensures { IfOk result (λ next. next ≡ record self { task = record self.task { holdings = self.task.holdings ++ holding ∷ [] } }) }
     {
-        let MidStep { task, local, at } = self;
-        let mut task = task;
-        task.holdings.push(holding)?;
-        Ok(MidStep { task, local, at })
+        let MidStep { staged, local, at } = self;
+        let mut staged = staged;
+        staged.task.holdings.push(holding)?;
+        Ok(MidStep { staged, local, at })
     }
 
     /// The reading after its step, which makes a queue. `O(1)`.
@@ -39,9 +39,11 @@ impl<B: Body> MidStep<B> {
         ensures { result ≡ with_queue (gone_on_by reading.now self.now.task.number 1)
             (origin.Step (time (script B.Body self.now.task.plan) self.now.task.path self.now.task.done)) }
     {
-        reading
-            .gone_on_by(self.task.number, 1)
-            .with_queue(&self.task.plan, &self.task.path, self.task.done)
+        reading.gone_on_by(self.staged.task.number, 1).with_queue(
+            &self.staged.task.plan,
+            &self.staged.task.path,
+            self.staged.task.done,
+        )
     }
 
     /// The reading after its step, which makes an object. `O(1)`.
@@ -49,9 +51,11 @@ impl<B: Body> MidStep<B> {
         ensures { result ≡ with_object (gone_on_by reading.now self.now.task.number 1)
             (origin.Step (time (script B.Body self.now.task.plan) self.now.task.path self.now.task.done)) }
     {
-        reading
-            .gone_on_by(self.task.number, 1)
-            .with_object(&self.task.plan, &self.task.path, self.task.done)
+        reading.gone_on_by(self.staged.task.number, 1).with_object(
+            &self.staged.task.plan,
+            &self.staged.task.path,
+            self.staged.task.done,
+        )
     }
 }
 

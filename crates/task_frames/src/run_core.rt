@@ -78,13 +78,11 @@ impl<B: Body, Q: Queues> Core<B, Q> {
         ensures plan { self.new.plan ≡ self.old.plan }
         ensures run { self.new.run ≡ self.old.run }
     {
-        let Some(kept) = self.kept.take() else {
+        let Some(kept) = &mut self.kept else {
             return Resumed::NoMemory;
         };
-        let mut kept = kept;
         match kept.take_in(frame) {
             Err(frame) => {
-                self.kept = Some(kept);
                 let foreign = Foreign::of(frame.number());
                 Resumed::Strange(frame, foreign)
             }
@@ -92,10 +90,12 @@ impl<B: Body, Q: Queues> Core<B, Q> {
                 Ok(step) => {
                     let resumed = kept.answer(&self.plan, step);
                     self.is_done = kept.is_over();
-                    self.kept = Some(kept);
                     resumed
                 }
-                Err(NoMemory) => Resumed::NoMemory,
+                Err(NoMemory) => {
+                    self.kept = None;
+                    Resumed::NoMemory
+                }
             },
         }
     }

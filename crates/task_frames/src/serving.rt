@@ -1,51 +1,60 @@
 // What a frame's ends serve.
-ghost use Rattle.std.specs.Prelude.{◌≡◌, ◌+◌, ◌<◌, IfOk, IfErr, OnOk, OnErr};
+ghost use Rattle.std.specs.Prelude.{◌≡◌, ◌+◌, ◌<◌, IfSome, IfNone, OnSome};
 ghost use Rattle.queues.specs.Asks.{DEEDS_MOST, IsSameRun, with_deeds};
 ghost use Rattle.task_frames.specs.Going.{AreLater, IsAnswerTo, IsNextDeed, IsNotServed, deeds_of};
 
 use crate::Holding;
 use crate::holding::number_at;
 use queues::LocalEnds;
-use swan_model::{Answer, Ask, Mode};
+use std::mem;
+use swan_model::{Answer, Ask, Mode, Value};
 
 /// Serves an ask of a frame that holds this: work, and a push or a pop where the ends have an end for it
-/// that takes or gives an item now. Err hands back what needs the core, and nothing is done. It takes no memory. `O(1)`.
+/// that takes or gives an item now. None leaves what needs the core as it was, and nothing is done. Where it is served, the
+/// ask is done with. It takes no memory. `O(1)`.
+#[inline(always)]
 pub fn serve<E: LocalEnds, L>(
     ends: &mut E,
     holdings: &[Holding],
-    ask: Ask<L>,
-) -> Result<Answer, Ask<L>>
+    ask: &mut Ask<L>,
+) -> Option<Answer>
     // what the frame may do
     requires room { (E.ends ends.old).deeds < DEEDS_MOST }
-    requires next { IsNextDeed (E.name ends.old) holdings.now (E.ends ends.old) ask }
+    requires next { IsNextDeed (E.name ends.old) holdings.now (E.ends ends.old) ask.old }
 
     // what is answered, and why not
-    ensures answer { IfOk result (λ said. IsAnswerTo (E.name ends.old) holdings.now (E.ends ends.old) ask said) }
-    ensures handed_back { IfErr result (λ back. back ≡ ask) }
-    ensures cause { OnErr result (IsNotServed holdings.now (E.ends ends.old) (E.counts ends.old) (E.counts ends.new) ask) }
+    ensures answer { IfSome result (λ said. IsAnswerTo (E.name ends.old) holdings.now (E.ends ends.old) ask.old said) }
+    ensures as_it_was { IfNone result (ask.new ≡ ask.old) }
+    ensures cause { IfNone result (IsNotServed holdings.now (E.ends ends.old) (E.counts ends.old) (E.counts ends.new) ask.old) }
 
     // what it leaves
-    ensures ok { OnOk result (E.ends ends.new ≡ with_deeds (E.ends ends.old) ((E.ends ends.old).deeds + deeds_of ask)) }
-    ensures err { OnErr result (E.ends ends.new ≡ E.ends ends.old) }
+    ensures some { OnSome result (E.ends ends.new ≡ with_deeds (E.ends ends.old) ((E.ends ends.old).deeds + deeds_of ask.old)) }
+    ensures none { IfNone result (E.ends ends.new ≡ E.ends ends.old) }
     ensures later { AreLater (E.ends ends.old) (E.counts ends.old) (E.counts ends.new) }
     ensures same { IsSameRun E.name E.run ends.old ends.new }
 {
     match ask {
-        Ask::Work => Ok(Answer::Nothing),
-        Ask::Push(place, value) => match number_at(holdings, place, Mode::Push) {
-            Some(queue) => match ends.push(queue, value) {
-                Ok(()) => Ok(Answer::Nothing),
-                Err(value) => Err(Ask::Push(place, value)),
-            },
-            None => Err(Ask::Push(place, value)),
+        Ask::Work => Some(Answer::Nothing),
+        Ask::Push(place, value) => match number_at(holdings, *place, Mode::Push) {
+            Some(queue) => {
+                let item = mem::replace(value, Value::Int(0));
+                match ends.push(queue, item) {
+                    Ok(()) => Some(Answer::Nothing),
+                    Err(item) => {
+                        *value = item;
+                        None
+                    }
+                }
+            }
+            None => None,
         },
-        Ask::Pop(place) => match number_at(holdings, place, Mode::Pop) {
+        Ask::Pop(place) => match number_at(holdings, *place, Mode::Pop) {
             Some(queue) => match ends.pop(queue) {
-                Some(item) => Ok(Answer::Item(item)),
-                None => Err(Ask::Pop(place)),
+                Some(item) => Some(Answer::Item(item)),
+                None => None,
             },
-            None => Err(Ask::Pop(place)),
+            None => None,
         },
-        other => Err(other),
+        _ => None,
     }
 }

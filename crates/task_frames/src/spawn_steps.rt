@@ -31,14 +31,14 @@ impl<B: Body> MidStep<B> {
     fn fuel(&self) -> u64
         ensures { result ≡ self.now.task.fuel }
     {
-        self.task.fuel
+        self.staged.task.fuel
     }
 
     /// Of how many parts its path is. `O(1)`.
     fn depth(&self) -> usize
         ensures { result ≡ length self.now.task.path }
     {
-        self.task.path.parts().len()
+        self.staged.task.path.parts().len()
     }
 
     /// What a child holds by these gives, and None exactly where the frame may not give one of them so. `O(gives)`, one
@@ -46,7 +46,7 @@ impl<B: Body> MidStep<B> {
     fn given(&self, alloc: Global, gives: &Gives) -> Result<Option<Vec<Holding>>, NoMemory>
         ensures { IfOk result (λ held. option_map (λ list. list.items) held ≡ given self.now.task.holdings gives.now) }
     {
-        given(alloc, self.task.holdings.as_slice(), gives)
+        given(alloc, self.staged.task.holdings.as_slice(), gives)
     }
 
     /// The path of its next child. `O(depth)`.
@@ -54,7 +54,7 @@ impl<B: Body> MidStep<B> {
         requires { length self.now.task.path < DEPTH }
         ensures { IfOk result (λ path. path ≡ self.now.task.path ++ self.now.task.children ∷ []) }
     {
-        self.task.path.child(self.task.children)
+        self.staged.task.path.child(self.staged.task.children)
     }
 
     /// The frame once it has spawned this child, and the child as it begins. Err is want of memory. `O(1)`, one allocation.
@@ -98,16 +98,17 @@ impl<B: Body> MidStep<B> {
             gives: _,
             fuel,
         } = child;
-        let MidStep { task, local, at: _ } = self;
-        let plan = task.plan.again();
-        let mut task = task;
-        task.done += 1;
-        task.fuel -= fuel;
-        task.children += 1;
-        let parent = FrameAtCore {
-            task,
-            stage: Stage::Ready(local, Answer::Nothing),
-        };
+        let MidStep {
+            staged,
+            local,
+            at: _,
+        } = self;
+        let plan = staged.task.plan.again();
+        let mut staged = staged;
+        staged.task.done += 1;
+        staged.task.fuel -= fuel;
+        staged.task.children += 1;
+        let parent = FrameAtCore::of(staged, Stage::Ready(local, Answer::Nothing));
         let begun = TaskAtCore {
             plan,
             path,
@@ -117,10 +118,8 @@ impl<B: Body> MidStep<B> {
             holdings,
             children: 0,
         };
-        let spawned = FrameAtCore {
-            task: begun.boxed(alloc)?,
-            stage: Stage::Ready(begins, Answer::Start),
-        };
+        let stage = Stage::Ready(begins, Answer::Start);
+        let spawned = FrameAtCore::begun(alloc, begun, stage)?;
         Ok(Step::Spawned(parent, spawned))
     }
 }

@@ -24,20 +24,20 @@ impl<Q: Queues> Kept<Q> {
         if let Some(wait) = self.first_wait(&frame) {
             return Ok(Step::Waits(frame, wait));
         }
-        let FrameAtCore { task, stage } = frame;
+        let (staged, stage) = frame.apart();
         match stage {
-            Stage::Asking(local, ask, at) => self.take(alloc, MidStep { task, local, at }, ask),
+            Stage::Asking(local, ask, at) => self.take(alloc, MidStep { staged, local, at }, ask),
             Stage::Ready(local, answer) => {
                 let at = body.place(&local);
-                let fuel = task.fuel();
+                let fuel = staged.task.fuel();
                 if fuel == 0 {
                     let stage = Stage::Ready(local, answer);
-                    return self.fault(FrameAtCore { task, stage }, at, FaultKind::Fuel);
+                    return self.fault(FrameAtCore::of(staged, stage), at, FaultKind::Fuel);
                 }
-                let mut task = task;
-                let left = task.pays();
+                let mut staged = staged;
+                let left = staged.task.pays();
                 let (local, ask) = body.advance(alloc, local, answer, left)?;
-                self.take(alloc, MidStep { task, local, at }, ask)
+                self.take(alloc, MidStep { staged, local, at }, ask)
             }
         }
     }

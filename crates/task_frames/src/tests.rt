@@ -86,10 +86,7 @@ fn root_of(alloc: Global, plan: &Plan<Asks>) -> Result<Frame<Asks, BookQueues>, 
         holdings,
         children: 0,
     };
-    let at = FrameAtCore {
-        task: task.boxed(alloc)?,
-        stage: Stage::Ready(plan.root_local, Answer::Start),
-    };
+    let at = FrameAtCore::begun(alloc, task, Stage::Ready(plan.root_local, Answer::Start))?;
     Ok(Frame::given(at, ends))
 }
 
@@ -127,10 +124,7 @@ fn begun_of(alloc: Global, plan: &Plan<Asks>) -> Result<Frame<Asks, BookQueues>,
         holdings,
         children: 0,
     };
-    let at = FrameAtCore {
-        task: task.boxed(alloc)?,
-        stage: Stage::Ready(local, Answer::Nothing),
-    };
+    let at = FrameAtCore::begun(alloc, task, Stage::Ready(local, Answer::Nothing))?;
     Ok(Frame::given(at, ends))
 }
 

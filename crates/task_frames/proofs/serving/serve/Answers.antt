@@ -1,11 +1,14 @@
-use Rattle.std.proofs.Common.{sym, ◌∙◌}
+use Rattle.std.proofs.Common.{Some, ap, sym, ◌∙◌}
+use Rattle.swan_model.specs.declared.script.Deed.TheVariants as deed
 use Rattle.task_frames.proofs.Shown.{empty-later, may-pop, may-push, not-popped, not-pushed, refused-later}
 use Rattle.task_frames.proofs.serving.serve.Goals as goal
 
 pub push-requires-clause-next : goal.push-requires-clause-next
 push-requires-clause-next g c =
     let shown = g.E.LocalEnds.counts c.args.ends.now in
-    may-push (g.E.LocalEnds.ends c.args.ends.now) shown shown _ _ _ _ _ _ c.in-Push.is (sym c.number_at.ensures ∙ c.in-Some.is) c.requires.next
+    λ s named origin end.
+    may-push (g.E.LocalEnds.ends c.args.ends.now) shown shown _ _ _ _ _ _ c.in-Push.is (sym c.number_at.ensures ∙ c.in-Some.is) c.requires.next s named origin end
+    ∙ ap (λ v. Some (deed.Push origin v)) (sym c.replace-item.ensures.value)
 
 pub pop-requires-clause-next : goal.pop-requires-clause-next
 pop-requires-clause-next g c =

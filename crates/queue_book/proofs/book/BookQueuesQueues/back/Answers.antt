@@ -25,9 +25,9 @@ invariant_of-self c =
     let path = c.args.ends.path.means in
     let lent : is_lent_with (kept_of frames n) d ≡ true = ap (is_lent_with (kept_of frames n)) (sym c.deeds.ensures) ∙ sym c.is_lent.ensures ∙ c.if-not-is_lent.false in
     let told = recorded state frames is.live n d path lent in
-    let P : QueueState → Type 0 = λ st. IsBook name st c.set_lent.new.self heads nodes turns in
+    let P : QueueState → Type 0 = λ st. IsBook name st c.take_back.new.self heads nodes turns in
     subst P (sym (c.after.ensures ∙ called state n told.0.frame (λ g. after_back state n g.deeds) told.0.live))
-    (book_back name state frames heads nodes turns is n told.0.frame told.0.live c.set_lent.new.self c.set_lent.ensures)
+    (book_back name state frames heads nodes turns is n told.0.frame told.0.live c.take_back.new.self c.take_back.ensures)
 
 pub returns-clause-recorded : goal.returns-clause-recorded
 returns-clause-recorded c =

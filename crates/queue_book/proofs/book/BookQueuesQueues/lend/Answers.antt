@@ -18,5 +18,5 @@ invariant_of-self c =
     let n = c.args.frame in
     let f = c.requires.may in
     let live : active state n ≡ Some f.0 = ap (λ (v : BookView). active v.state n) c.self.view_is ∙ f.1 in
-    let P : QueueState → Type 0 = λ st. IsBook name st c.set_lent.new.self heads nodes turns in
-    subst P (sym (c.after.ensures ∙ called state n f.0 (λ g. after_lend state g []) live)) (book_lend name state frames heads nodes turns is n f.0 live c.set_lent.new.self c.set_lent.ensures)
+    let P : QueueState → Type 0 = λ st. IsBook name st c.lend-deeds.new.self heads nodes turns in
+    subst P (sym (c.after.ensures ∙ called state n f.0 (λ g. after_lend state g []) live)) (book_lend name state frames heads nodes turns is n f.0 live c.lend-deeds.new.self c.lend-deeds.ensures.lent)

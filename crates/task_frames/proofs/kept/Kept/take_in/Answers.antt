@@ -1,4 +1,5 @@
 use Rattle.std.proofs.Common.{◌≡◌, ◌-◌, Some, refl, sym, subst, ap, ◌∙◌}
+use Rattle.std.proofs.lemmas.Option.{same_Some}
 use Rattle.std.specs.Option.{option_map}
 use Rattle.swan_model.specs.Readings.{gone_on_by}
 use Rattle.task_frames.specs.Cores.{IsCore, KeptView}
@@ -30,7 +31,7 @@ returns-in-Ok-clause-has g c =
     let done = c.done-done.ensures ∙ ap (λ (t : Task g.row.B.Denot g.row.B-Local.Denot). t.done) c.in-Ok.ensures.task in
     has-taken g.B.Body _ c.args.frame.task core of _ _ _ c.in-Ok.ensures.is _ _ _ _ _ _ _ c.in-Ok.ensures.same.0 c.in-Ok.ensures.same.1 c.in-Ok.ensures.ok (subst (λ n. c.gone_on_by.result ≡ gone_on_by c.self.inside.reading n (c.done-done.result - c.live.inside.done)) number c.gone_on_by.ensures)
     (ap (λ k. k - c.live.inside.done) done ∙ ap (λ k. c.args.frame.task.done - k) (ap (λ (l : LiveFrame). l.done) c.live.view_is ∙ (c.stands_as.ensures.yes c.if-not-stands_as.false).1)) done
-    (subst (λ n. IsOnlyLive c.self.inside.live c.come_to.new.self n (option_map (come_to c.done-done.result) (live_at c.self.inside.live n))) number c.come_to.ensures.only) c.in-Ok.ensures.by_ends
+    (subst (λ n. IsOnlyLive c.self.inside.live c.come_on.new.self n (option_map (come_to c.done-done.result) (live_at c.self.inside.live n))) number c.come_on.ensures.only) c.in-Ok.ensures.by_ends
     c.in-Ok.at c.in-Ok.ensures.task refl
 
 pub returns-in-Ok-clause-others : goal.returns-in-Ok-clause-others
@@ -42,11 +43,16 @@ returns-in-Ok-clause-others g c =
     stay-from _ _ _ _ c.self.view_is
     (taken-stay g.B.Body _ c.args.frame.task core of _ _ _ c.in-Ok.ensures.is _ _ _ _ _ _ _ c.in-Ok.ensures.same.0 c.in-Ok.ensures.same.1 c.in-Ok.ensures.ok (subst (λ n. c.gone_on_by.result ≡ gone_on_by c.self.inside.reading n (c.done-done.result - c.live.inside.done)) number c.gone_on_by.ensures)
     (ap (λ k. k - c.live.inside.done) done ∙ ap (λ k. c.args.frame.task.done - k) (ap (λ (l : LiveFrame). l.done) c.live.view_is ∙ (c.stands_as.ensures.yes c.if-not-stands_as.false).1)) done
-    (subst (λ n. IsOnlyLive c.self.inside.live c.come_to.new.self n (option_map (come_to c.done-done.result) (live_at c.self.inside.live n))) number c.come_to.ensures.only) c.in-Ok.ensures.by_ends)
+    (subst (λ n. IsOnlyLive c.self.inside.live c.come_on.new.self n (option_map (come_to c.done-done.result) (live_at c.self.inside.live n))) number c.come_on.ensures.only) c.in-Ok.ensures.by_ends)
 
 pub returns-in-Ok-clause-come : goal.returns-in-Ok-clause-come
 returns-in-Ok-clause-come g c =
     let number = c.number-number.ensures.number in
     let done = c.done-done.ensures ∙ ap (λ (t : Task g.row.B.Denot g.row.B-Local.Denot). t.done) c.in-Ok.ensures.task in
     let since = ap (λ (l : LiveFrame). l.done) c.live.view_is ∙ (c.stands_as.ensures.yes c.if-not-stands_as.false).1 in
-    come-so _ _ c.args.frame.task (g.Q.Ends.LocalEnds.ends c.args.frame.ends) _ _ _ _ _ _ _ _ c.self.view_is number done since c.in-Ok.ensures.same.0 c.in-Ok.ensures.same.1 c.in-Ok.ensures.ok c.gone_on_by.ensures c.come_to.ensures.come
+    come-so _ _ c.args.frame.task (g.Q.Ends.LocalEnds.ends c.args.frame.ends) _ _ _ _ _ _ _ _ c.self.view_is number done since c.in-Ok.ensures.same.0 c.in-Ok.ensures.same.1 c.in-Ok.ensures.ok c.gone_on_by.ensures c.come_on.ensures.come
+
+pub come_on-requires : goal.come_on-requires
+come_on-requires g c = record {
+  since = λ live is. ap (λ (l : LiveFrame). l.done) (same_Some live c.in-Some.live.now (sym is ∙ c.in-Some.ensures.some)) ∙ sym (ap (λ (l : LiveFrame). l.done) c.live.view_is);
+}

@@ -1,4 +1,4 @@
-use Rattle.std.proofs.Common.{◌≡◌, [], ◌++◌, List, Some, None, length, refl, ap, ◌∙◌, subst}
+use Rattle.std.proofs.Common.{◌≡◌, [], ◌++◌, List, Some, None, length, refl, sym, ap, ◌∙◌, subst}
 use Rattle.swan_model.specs.declared.plan.Plan.{Plan}
 use Rattle.swan_model.specs.declared.plan.RootQueue.{RootQueue}
 use Rattle.swan_model.specs.declared.value.Value.{Value}
@@ -6,6 +6,7 @@ use Rattle.swan_model.specs.Elision.{object_holdings, queue_holdings, root_holdi
 use Rattle.swan_model.specs.Readings.{at_start}
 use Rattle.swan_model.specs.Script.{script}
 use Rattle.swan_model.specs.SerialState.{Holding}
+use Rattle.task_frames.specs.Cores.{HasIt}
 use Rattle.task_frames.specs.Frames.{IsPlan, Task, root_task}
 use Rattle.task_frames.specs.Opened.{AreFirstObjects, AreFirstQueues, roots_to}
 use Rattle.task_frames.specs.Records.{IsOnlyLive, LiveFrame, LiveFrames}
@@ -54,5 +55,6 @@ give-root-requires-clause-has g c κs within =
     record { plan = plan; number = 0; path = p; done = 0; since = 0; fuel = c.units-fuel.result; holdings = c.in_ok-holdings.holdings.items; children = 0 }) own-path
     ∙ ap {B = Task g.row.B.Denot g.row.B-Local.Denot} (λ (hs : List Holding).
     record { plan = plan; number = 0; path = []; done = 0; since = 0; fuel = c.units-fuel.result; holdings = hs; children = 0 }) held in
-    opened-has g.B.Body plan sound _ (c.in_ok-reading.ensures.same.0 ∙ c.requires.name) queues objects reading c.new-2.ensures refl (c.in_ok-versions.ensures.count ∙ ap length objects-are) c.new-3.ensures.items live
-    c.in_ok-boxed.field-0.value plan.root_local c.units-fuel.result c.units-fuel.ensures.units (c.in_ok-boxed.ensures ∙ task-is) refl
+    subst (HasIt g.B.Body _) (sym c.in_ok-begun.ensures)
+    (opened-has g.B.Body plan sound _ (c.in_ok-reading.ensures.same.0 ∙ c.requires.name) queues objects reading c.new-2.ensures refl (c.in_ok-versions.ensures.count ∙ ap length objects-are) c.new-3.ensures.items live
+    task plan.root_local c.units-fuel.result c.units-fuel.ensures.units task-is refl)

@@ -7,18 +7,18 @@ use Rattle.task_frames.proofs.run_core.Core.resume.Goals as goal
 
 pub take_in-requires-clause-core : goal.take_in-requires-clause-core
 take_in-requires-clause-core g c κs within =
-    let is = sym c.take.ensures.value ∙ c.in-Some.is in
+    let is = c.in-Some.is in
     let plan = c.requires.name.0 ∙ ap (λ (v : CoreView g.row.B.Denot g.row.B-Local.Denot). v.plan) (sym c.self.view_is) in
     subst (λ p. IsCore g.B.Body p c.in-Some.kept) (sym plan) (c.self.invariant.0 c.in-Some.kept is).0
 
 pub take_in-requires-clause-run : goal.take_in-requires-clause-run
 take_in-requires-clause-run g c κs within =
-    let is = sym c.take.ensures.value ∙ c.in-Some.is in
+    let is = c.in-Some.is in
     c.requires.name.1 ∙ ap (λ (v : CoreView g.row.B.Denot g.row.B-Local.Denot). v.run) (sym c.self.view_is) ∙ sym (c.self.invariant.0 c.in-Some.kept is).1
 
 pub invariant_of-self-in-Err : goal.invariant_of-self-in-Err
 invariant_of-self-in-Err g c =
-    let is = sym c.take.ensures.value ∙ c.in-Some.is in
+    let is = c.in-Some.is in
     (λ x same. c.self.invariant.0 x (is ∙ ap Some (sym c.in-Err.ensures.err) ∙ same), c.self.invariant.1, c.self.invariant.2)
 
 pub answer-resumed-requires-clause-core : goal.answer-resumed-requires-clause-core
@@ -30,7 +30,7 @@ answer-resumed-requires-clause-core g c κs within =
 pub returns-in-Ok-step-clause-resumed : goal.returns-in-Ok-step-clause-resumed
 returns-in-Ok-step-clause-resumed g c =
     let View : Type 0 = CoreView g.row.B.Denot g.row.B-Local.Denot in
-    let is = sym c.take.ensures.value ∙ c.in-Some.is in
+    let is = c.in-Some.is in
     let runs = c.answer-resumed.ensures.run ∙ c.in-Ok-step.ensures.run ∙ c.in-Ok.ensures.run in
     resumed-so g.B.Body (ends_of g.Q.Ends.LocalEnds) c.args.self.now _ c.args.frame c.in-Ok.at c.in-Some.kept c.take_in.new.self c.step.new.self c.answer-resumed.new.self
     (ap (λ (v : View). v.kept) (sym c.self.view_is) ∙ is) refl
