@@ -6,18 +6,19 @@ ghost use Rattle.swan_model.specs.Lawful.{IsLawful};
 ghost use Rattle.swan_model.specs.QueueFollows.{AreByEnds};
 ghost use Rattle.swan_model.specs.QueueState.{after_back};
 ghost use Rattle.queues.specs.Asks.{IsRecorded, IsSameRun, OnNext};
+ghost use Rattle.task_frames.specs.Asked.{asked_queue, queue_of};
 ghost use Rattle.task_frames.specs.Frames.{IsAnyFrame, IsFrame, is_whole};
 ghost use Rattle.task_frames.specs.Going.{IsSameFrame, NeedsCore, OnAtCore, OnBudget, OnNoMemory, OnSteps, is_at_core, stands_still};
 
-use crate::holding::hold_same;
+use crate::holding::{hold_same, number_at};
 use crate::row::take_row;
 use crate::serving::serve;
-use crate::{FrameAtCore, LiveFrame, Paused, PlanRun, Stage, StagedTask, Steps};
+use crate::{FrameAtCore, Holding, LiveFrame, Paused, PlanRun, Stage, StagedTask, Steps};
 use named_lock::Named;
 use queues::Queues;
 use std::alloc::Global;
 use std::marker::Model;
-use swan_model::{Body, Meaning, NoMemory, Path, Plan};
+use swan_model::{Ask, Body, Meaning, Mode, NoMemory, Path, Plan};
 
 /// A frame.
 #[derive(Drop)]
@@ -131,6 +132,25 @@ impl<B: Body, Q: Queues> Frame<B, Q> {
         ensures { result.now ≡ self.now.task.path }
     {
         &self.staged.task.path
+    }
+
+    /// What it holds, by place. It takes no memory. `O(1)`.
+    pub fn holdings(&self) -> &[Holding]
+        ensures { result.now ≡ self.now.task.holdings }
+    {
+        self.staged.task.holdings()
+    }
+
+    /// The queue that the step is about in whose middle the frame is, where that is a push, a pop or a test for emptiness
+    /// of what it may use so. It takes no memory. `O(1)`.
+    pub fn asked_queue(&self) -> Option<u32>
+        ensures { result ≡ asked_queue self.now }
+    {
+        match &self.staged.stage {
+            Some(Stage::Asking(_, ask, _)) => queue_of(self.staged.task.holdings(), ask),
+            Some(Stage::Ready(_, _)) => None,
+            None => None,
+        }
     }
 
     /// Its number. Whatever frame it is, it is true for its plan where no want of memory was met; and where its mark stands,
@@ -331,6 +351,18 @@ impl<B: Body, Q: Queues> Frame<B, Q> {
 
     /// Lets the frame go. It takes no memory.
     pub fn tear(self) {}
+}
+
+/// The queue that an ask is about, for one who holds this and may use it so. It takes no memory. `O(1)`.
+fn queue_of<L>(holdings: &[Holding], ask: &Ask<L>) -> Option<u32>
+    ensures { result ≡ queue_of holdings.now ask.now }
+{
+    match ask {
+        Ask::Push(place, _) => number_at(holdings, *place, Mode::Push),
+        Ask::Pop(place) => number_at(holdings, *place, Mode::Pop),
+        Ask::Empty(place) => number_at(holdings, *place, Mode::Pop),
+        _ => None,
+    }
 }
 
 /// Whether two paths are the same. `O(d)` for d parts; it takes no memory.
