@@ -6,7 +6,7 @@ use std::env;
 use std::io::{self, ErrorKind};
 use std::process::ExitCode;
 use swan_model::{Word, Words};
-use swan_outside::{OsFiles, OsSink};
+use swan_outside::{OpenGate, OsFiles, OsSink};
 use swan_top::{Status, swan};
 
 // Adds one word at the end.
@@ -40,11 +40,13 @@ fn words_or_empty(rt: &HostRuntime) -> io::Result<Words> {
 fn main(rt: HostRuntime) -> ExitCode {
     let status = match words_or_empty(&rt) {
         Ok(words) => swan(
+            &rt,
             rt.alloc(),
             words.as_slice(),
             &mut OsFiles::new(rt),
             &mut OsSink::out(rt),
             &mut OsSink::err(rt),
+            &OpenGate,
         ),
         Err(_) => Status::NoMemory,
     };

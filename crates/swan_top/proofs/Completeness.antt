@@ -20,7 +20,7 @@ use Rattle.swan_outside.specs.declared.files.TheConstants.{FILE_MOST}
 use Rattle.swan_top.specs.Command.{Command, help, version, check, elide, run, index, convert, bulk}
 use Rattle.swan_top.specs.Completeness.{IsTold, AreTold, NothingFailed, RunsInOrder, ChecksInOrder, TextInOrder, InOrder, GeneratedInOrder, Completes, CompletesWell, EndsWell}
 use Rattle.swan_top.specs.Decision.{Verdict, prints, refuses, Next, reads, settled, next, files_of, unread, unless_unread, accepted, checked, generated, ran, printed, unless_refused, unless_unfit, next_of_check, next_of_job, next_of_run, next_of_text}
-use Rattle.swan_top.specs.Elisions.{Elisions, converted, indexed}
+use Rattle.swan_top.specs.Elisions.{Elisions, cheapest, converted, indexed}
 use Rattle.swan_top.specs.Headline.{FilesSeen, SinkSeen, Answers, AreRead, IsRead, Ends, FailedToWrite, Follows, ReadRefused, Settles, Wrote, ends_of, usage}
 use Rattle.swan_top.specs.declared.status.Status.{Status}
 use Rattle.swan_top.specs.declared.how.How.{How}
@@ -127,14 +127,14 @@ module _ (files : FilesSeen) (well : ¬ Rose files.faults_before files.faults_af
         run_settles (elisions.of_job way.Elide) fuel job text names inputs leads.texts told.0 told.1 order leads.are_read leads.follows
     leads_in_order (run workers fuel job names) [] told order leads = absurd order
     leads_in_order (run workers fuel job names) (text ∷ inputs) told order leads =
-        run_settles (elisions.of_job way.Run) fuel job text names inputs leads.texts told.0 told.1 order leads.are_read leads.follows
+        run_settles (elisions.of_job (way.Run workers)) fuel job text names inputs leads.texts told.0 told.1 order leads.are_read leads.follows
     leads_in_order (index workers input) [] told order leads = absurd order
     leads_in_order (index workers input) (text ∷ texts) told order leads =
-        text_settles (indexed elisions) input text leads.texts told.0 order leads.are_read leads.follows
+        text_settles (indexed elisions workers) input text leads.texts told.0 order leads.are_read leads.follows
     leads_in_order (convert workers input) [] told order leads = absurd order
     leads_in_order (convert workers input) (text ∷ texts) told order leads =
-        text_settles (converted elisions) input text leads.texts told.0 order leads.are_read leads.follows
-    leads_in_order (bulk number size workers) [] told order leads = generated_settles (elisions.of_job way.Elide) number size order leads.follows
+        text_settles (converted elisions workers) input text leads.texts told.0 order leads.are_read leads.follows
+    leads_in_order (bulk number size workers) [] told order leads = generated_settles (elisions.of_job (cheapest workers)) number size order leads.follows
     leads_in_order (bulk number size workers) (text ∷ texts) told order leads = absurd order
 
 -- where no count of a sink rose, no write failed
@@ -242,10 +242,10 @@ module _ (elisions : Elisions) where
   next_ends (check job) (text ∷ texts) v is ends =
       let same : checked (accepted text) ≡ v = cc in checked_ends (accepted text) (ap ends_of same ∙ ends)
   next_ends (elide fuel job names) texts v is ends = run_ends (elisions.of_job way.Elide) fuel job names texts v is ends
-  next_ends (run workers fuel job names) texts v is ends = run_ends (elisions.of_job way.Run) fuel job names texts v is ends
-  next_ends (index workers input) texts v is ends = text_ends (indexed elisions) input texts v is ends
-  next_ends (convert workers input) texts v is ends = text_ends (converted elisions) input texts v is ends
-  next_ends (bulk number size workers) texts v is ends = generated_ends (elisions.of_job way.Elide) number size v is ends
+  next_ends (run workers fuel job names) texts v is ends = run_ends (elisions.of_job (way.Run workers)) fuel job names texts v is ends
+  next_ends (index workers input) texts v is ends = text_ends (indexed elisions workers) input texts v is ends
+  next_ends (convert workers input) texts v is ends = text_ends (converted elisions workers) input texts v is ends
+  next_ends (bulk number size workers) texts v is ends = generated_ends (elisions.of_job (cheapest workers)) number size v is ends
 
   next_reads : (command : Command) (texts : List (List ℕ)) (file : List ℕ) → next elisions command texts ≡ reads file → Contains (files_of command) file
   next_reads (help) texts file is = cc
@@ -253,12 +253,12 @@ module _ (elisions : Elisions) where
   next_reads (check job) [] file is = the_file file job [] is
   next_reads (check job) (text ∷ texts) file is = cc
   next_reads (elide fuel job names) texts file is = run_among (elisions.of_job way.Elide) fuel job names texts file is
-  next_reads (run workers fuel job names) texts file is = run_among (elisions.of_job way.Run) fuel job names texts file is
+  next_reads (run workers fuel job names) texts file is = run_among (elisions.of_job (way.Run workers)) fuel job names texts file is
   next_reads (index workers input) [] file is = the_file file input [] is
   next_reads (index workers input) (text ∷ texts) file is = cc
   next_reads (convert workers input) [] file is = the_file file input [] is
   next_reads (convert workers input) (text ∷ texts) file is = cc
-  next_reads (bulk number size workers) texts file is = generated_among (elisions.of_job way.Elide) number size file is
+  next_reads (bulk number size workers) texts file is = generated_among (elisions.of_job (cheapest workers)) number size file is
 
   module _ (files : FilesSeen) (out report : SinkSeen) (well : NothingFailed files out report) where
     read_refused : (command : Command) (n : Next) (verdict : Verdict) → ((v : Verdict) → n ≡ settled v → ends_of v ≡ status.ReadFailed → ⊥) → ((file : List ℕ) → n ≡ reads file → Contains (files_of command) file) → Follows files n verdict → status.ReadFailed ≡ ends_of verdict → Wrote out report verdict → EndsWell files out report (Some command) status.ReadFailed

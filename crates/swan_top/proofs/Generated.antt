@@ -15,7 +15,7 @@ use Rattle.swan_model.specs.declared.plan.Plan.{Plan}
 use Rattle.swan_top.specs.Command.{Command, IsWithinLimits, help, version, check, elide, run, index, convert, bulk}
 use Rattle.swan_top.specs.Completeness.{GeneratedInOrder, RunsInOrder}
 use Rattle.swan_top.specs.Decision.{Verdict, Next, settled, accepted, accepted_lines, generated, next_of_job, ran, unless_fault, unless_refused}
-use Rattle.swan_top.specs.Elisions.{Elisions}
+use Rattle.swan_top.specs.Elisions.{Elisions, cheapest}
 use Rattle.swan_top.specs.Generated.{NeverRefused}
 use Rattle.swan_top.specs.Headline.{Answers, Ends, FilesSeen, Follows, NoReadFailed, NoneTooLong, Settles, SinkSeen, ends_of}
 use Rattle.swan_top.specs.Settled.{IsRefused, Stops}
@@ -23,7 +23,6 @@ use Rattle.swan_top.specs.declared.status.Status.{Status}
 use Rattle.swan_top.specs.declared.how.How.{How}
 use Rattle.swan_top.specs.declared.run_end.RunEnd.{RunEnd}
 use Rattle.swan_top.specs.declared.status.Status.TheVariants as status
-use Rattle.swan_top.specs.declared.way.Way.TheVariants as way
 use Rattle.swan_top.specs.declared.verdict.Stop.{Stop}
 use Rattle.swan_top.proofs.Pipelines.{is_run}
 use Rattle.swan_top.proofs.TextsRead.{Stops-map}
@@ -78,7 +77,7 @@ module _ (end_of : Plan (List Line) Standing → RunEnd) where
         in_order (bulk_fuel size) (bulk_job size) (bulk_input number size ∷ []) never.lines verdict never.is_read never.is_checked never.is_planned follows
 
 -- where no read was refused, that is what the command comes to
-pub leads_bulk : (elisions : Elisions) (files : FilesSeen) (number size workers : ℕ) → NoReadFailed files → NoneTooLong files → (verdict : Verdict) → Generates (elisions.of_job way.Elide) number size verdict → Settles elisions files (bulk number size workers) verdict
+pub leads_bulk : (elisions : Elisions) (files : FilesSeen) (number size workers : ℕ) → NoReadFailed files → NoneTooLong files → (verdict : Verdict) → Generates (elisions.of_job (cheapest workers)) number size verdict → Settles elisions files (bulk number size workers) verdict
 leads_bulk elisions files number size workers read short verdict is =
     let P : Next → Type 0 = λ n. Follows files n verdict in
     record { texts = []; are_read = tt; follows = subst P (sym is) (refl, read, short) }
@@ -96,13 +95,13 @@ order_runs end_of number size verdict ends order same =
 
 module _ (law : (number size : ℕ) → size ≤ BULK_MOST → IsNeverRefused number size) (elisions : Elisions) (files : FilesSeen) (out report : SinkSeen) where
   bulk_ends : (number size workers : ℕ) (ends : Status) → size ≤ BULK_MOST → (verdict : Verdict) × Settles elisions files (bulk number size workers) verdict × Ends out report verdict ends
-      → (verdict : Verdict) × GeneratedInOrder (elisions.of_job way.Elide) number size verdict × Ends out report verdict ends
+      → (verdict : Verdict) × GeneratedInOrder (elisions.of_job (cheapest workers)) number size verdict × Ends out report verdict ends
   bulk_ends number size workers ends most is =
-      (is.0, generated_in_order (elisions.of_job way.Elide) files number size is.0 (law number size most) is.1.follows, is.2)
+      (is.0, generated_in_order (elisions.of_job (cheapest workers)) files number size is.0 (law number size most) is.1.follows, is.2)
 
   bulk_runs : (number size workers : ℕ) (ends : Status) → size ≤ BULK_MOST → (verdict : Verdict) → Settles elisions files (bulk number size workers) verdict → ends ≡ ends_of verdict → is_run ends ≡ true
   bulk_runs number size workers ends most verdict settles same =
-      order_runs (elisions.of_job way.Elide) number size verdict ends (generated_in_order (elisions.of_job way.Elide) files number size verdict (law number size most) settles.follows) same
+      order_runs (elisions.of_job (cheapest workers)) number size verdict ends (generated_in_order (elisions.of_job (cheapest workers)) files number size verdict (law number size most) settles.follows) same
 
   pub never_refused : (asked : Option Command) (ends : Status) → IfSome asked IsWithinLimits → Answers elisions files out report asked ends → NeverRefused elisions out report asked ends
   never_refused None ends most is = tt

@@ -27,14 +27,14 @@ use Rattle.swan_model.specs.declared.value.Value.{Value}
 use Rattle.swan_model.specs.declared.value.Value.TheVariants.{Bytes}
 use Rattle.swan_top.specs.Command.{Command, help, version, check, elide, run, index, convert, bulk}
 use Rattle.swan_top.specs.Decision.{Verdict, prints, next_of_text, printed, status_of, unless_unfit}
-use Rattle.swan_top.specs.Elisions.{elisions, end_by}
+use Rattle.swan_top.specs.Elisions.{cheapest, elisions, end_by}
 use Rattle.swan_top.specs.Headline.{Answers, AreRead, FilesSeen, Follows, IsRead, Leads, SinkSeen, Took, Wrote, ends_of}
 use Rattle.swan_top.specs.Pipelines.{WroteOfText, conversion_faults, pipeline_report}
 use Rattle.swan_top.specs.declared.status.Status.{Status}
 use Rattle.swan_top.specs.declared.how.How.{How}
 use Rattle.swan_top.specs.declared.run_end.RunEnd.{RunEnd}
 use Rattle.swan_top.specs.declared.status.Status.TheVariants as status
-use Rattle.swan_top.specs.declared.way.Way.TheVariants as way
+use Rattle.swan_top.specs.declared.way.Way.{Way}
 
 -- whether texts were printed
 abbrev pub is_run : Status → Bool
@@ -92,21 +92,21 @@ module _ (files : FilesSeen) (out report : SinkSeen) (input : List ℕ) where
       (w.0, w.1.0, w.1.1)
 
   module _ (verdict : Verdict) (ends : Status) (runs : is_run (ends_of verdict) ≡ true) (same : ends ≡ ends_of verdict) (wrote : Wrote out report verdict) where
-    indexed : (index_ghosts : Ghosts IndexBody IndexLocal) → IndexLaw index_ghosts → Leads files (input ∷ []) (next_of_text (λ t. end_by index_ghosts way.Elide (index_plan t)) input) verdict
+    indexed : (index_ghosts : Ghosts IndexBody IndexLocal) (taken : Way) → IndexLaw index_ghosts → Leads files (input ∷ []) (next_of_text (λ t. end_by index_ghosts taken (index_plan t)) input) verdict
         → (text : List ℕ) × IsRead (files.content input) text × (refusal_of text ≡ None) × ((how : How) × (ends ≡ status.Done how)) × Took out (index_of text) × Took report (pipeline_report [])
-    indexed index_ghosts index_law leads =
-        let r = read_of (λ t. end_by index_ghosts way.Elide (index_plan t)) verdict leads.texts runs leads.are_read leads.follows in
+    indexed index_ghosts taken index_law leads =
+        let r = read_of (λ t. end_by index_ghosts taken (index_plan t)) verdict leads.texts runs leads.are_read leads.follows in
         let law = index_law r.0 r.1.most in
-        let end = end_by index_ghosts way.Elide (index_plan r.0) in
+        let end = end_by index_ghosts taken (index_plan r.0) in
         let t = told_of end (map Bytes (index_records (lines r.0))) [] (index_of r.0) verdict ends law.outcome_is law.output r.3 same wrote in
         (r.0, r.1, r.2, (end.how, t.0), t.1, t.2)
 
-    converted : (record_ghosts : Ghosts RecordBody RecordLocal) → ConversionLaw record_ghosts → Leads files (input ∷ []) (next_of_text (λ t. end_by record_ghosts way.Elide (record_plan t)) input) verdict
+    converted : (record_ghosts : Ghosts RecordBody RecordLocal) (taken : Way) → ConversionLaw record_ghosts → Leads files (input ∷ []) (next_of_text (λ t. end_by record_ghosts taken (record_plan t)) input) verdict
         → (text : List ℕ) × IsRead (files.content input) text × (refusal_of text ≡ None) × ((how : How) × (ends ≡ ends_by how (is_some_fault (conversion_faults text)))) × Took out (convert_of text) × Took report (pipeline_report (conversion_faults text))
-    converted record_ghosts conversion_law leads =
-        let r = read_of (λ t. end_by record_ghosts way.Elide (record_plan t)) verdict leads.texts runs leads.are_read leads.follows in
+    converted record_ghosts taken conversion_law leads =
+        let r = read_of (λ t. end_by record_ghosts taken (record_plan t)) verdict leads.texts runs leads.are_read leads.follows in
         let law = conversion_law r.0 r.1.most in
-        let end = end_by record_ghosts way.Elide (record_plan r.0) in
+        let end = end_by record_ghosts taken (record_plan r.0) in
         let t = told_of end (map Bytes (records_of (width_of (lines r.0)) (lines r.0))) (conversion_faults r.0) (convert_of r.0) verdict ends law.outcome_is law.output r.3 same wrote in
         (r.0, r.1, r.2, (end.how, t.0), t.1, t.2)
 
@@ -120,16 +120,16 @@ module _ (index_law : IndexLaw index_ghosts) (conversion_law : ConversionLaw rec
   wrote_of_text (Some (run workers fuel job inputs)) ends is = tt
   wrote_of_text (Some (bulk number size workers)) ends is = tt
   wrote_of_text (Some (index workers input)) (status.Done how) is =
-      let told = indexed files out report input is.0 (status.Done how) (ap is_run (sym is.2.0)) is.2.0 is.2.1 index_ghosts index_law is.1 in
+      let told = indexed files out report input is.0 (status.Done how) (ap is_run (sym is.2.0)) is.2.0 is.2.1 index_ghosts (cheapest workers) index_law is.1 in
       record { text = told.0; is_read = told.1; none_refused = told.2; faulted = refl; wrote_out = told.4; wrote_report = told.5 }
   wrote_of_text (Some (index workers input)) (status.Faulted how) is =
-      let told = indexed files out report input is.0 (status.Faulted how) (ap is_run (sym is.2.0)) is.2.0 is.2.1 index_ghosts index_law is.1 in
+      let told = indexed files out report input is.0 (status.Faulted how) (ap is_run (sym is.2.0)) is.2.0 is.2.1 index_ghosts (cheapest workers) index_law is.1 in
       let bad : status.Faulted how ≡ status.Done told.3.0 = told.3.1 in absurd (cc)
   wrote_of_text (Some (convert workers input)) (status.Done how) is =
-      let told = converted files out report input is.0 (status.Done how) (ap is_run (sym is.2.0)) is.2.0 is.2.1 record_ghosts conversion_law is.1 in
+      let told = converted files out report input is.0 (status.Done how) (ap is_run (sym is.2.0)) is.2.0 is.2.1 record_ghosts (cheapest workers) conversion_law is.1 in
       record { text = told.0; is_read = told.1; none_refused = told.2; faulted = is_done how told.3.0 (is_some_fault (conversion_faults told.0)) told.3.1; wrote_out = told.4; wrote_report = told.5 }
   wrote_of_text (Some (convert workers input)) (status.Faulted how) is =
-      let told = converted files out report input is.0 (status.Faulted how) (ap is_run (sym is.2.0)) is.2.0 is.2.1 record_ghosts conversion_law is.1 in
+      let told = converted files out report input is.0 (status.Faulted how) (ap is_run (sym is.2.0)) is.2.0 is.2.1 record_ghosts (cheapest workers) conversion_law is.1 in
       record { text = told.0; is_read = told.1; none_refused = told.2; faulted = is_faulted how told.3.0 (is_some_fault (conversion_faults told.0)) told.3.1; wrote_out = told.4; wrote_report = told.5 }
   wrote_of_text (Some (index workers input)) status.Usage is = tt
   wrote_of_text (Some (index workers input)) status.JobRefused is = tt

@@ -22,7 +22,7 @@ use Rattle.swan_model.specs.declared.lines.LinesAnswer.{LinesAnswer}
 use Rattle.swan_model.specs.declared.outcome.Names.{Names}
 use Rattle.swan_model.specs.declared.plan.Plan.{Plan}
 use Rattle.swan_top.specs.Command.{Command, help, version, check, elide, run, index, convert, bulk}
-use Rattle.swan_top.specs.Elisions.{Elisions, converted, indexed}
+use Rattle.swan_top.specs.Elisions.{Elisions, cheapest, converted, indexed}
 use Rattle.swan_top.specs.declared.help.TheConstants.{HELP, VERSION}
 use Rattle.swan_top.specs.declared.how.How.TheVariants as how
 use Rattle.swan_top.specs.declared.run_end.RunEnd.{RunEnd}
@@ -144,10 +144,10 @@ next elisions help texts = settled (prints HELP.now [] (status.Done how.Plain))
 next elisions version texts = settled (prints VERSION.now [] (status.Done how.Plain))
 next elisions (check job) texts = next_of_check job texts
 next elisions (elide fuel job inputs) texts = next_of_run (elisions.of_job way.Elide) fuel job inputs texts
-next elisions (run workers fuel job inputs) texts = next_of_run (elisions.of_job way.Run) fuel job inputs texts
-next elisions (index workers input) texts = next_of_text (indexed elisions) input texts
-next elisions (convert workers input) texts = next_of_text (converted elisions) input texts
-next elisions (bulk number size workers) texts = generated (elisions.of_job way.Elide) number size
+next elisions (run workers fuel job inputs) texts = next_of_run (elisions.of_job (way.Run workers)) fuel job inputs texts
+next elisions (index workers input) texts = next_of_text (indexed elisions workers) input texts
+next elisions (convert workers input) texts = next_of_text (converted elisions workers) input texts
+next elisions (bulk number size workers) texts = generated (elisions.of_job (cheapest workers)) number size
 
 -- the files of a command, in the order in which they are read
 abbrev pub files_of : Command → List (List ℕ)

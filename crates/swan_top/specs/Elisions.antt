@@ -1,5 +1,5 @@
 -- How the run of a plan ends, for each kind of body that a command runs: what it leaves is what the elision leaves.
-use Rattle.std.specs.Prelude.{ℕ, List}
+use Rattle.std.specs.Prelude.{ℕ, nat_le, List, if◌then◌else◌}
 use Rattle.index_pipeline.specs.Plans.{index_plan}
 use Rattle.index_pipeline.specs.contracts.body.IndexBodyBody.TheImpl.{ghosts as index_ghosts}
 use Rattle.index_pipeline.specs.declared.body.IndexBody.{IndexBody}
@@ -21,23 +21,31 @@ use Rattle.swan_top.specs.declared.run_end.RunEnd.{RunEnd}
 use Rattle.swan_top.specs.declared.way.Way.{Way}
 use Rattle.swan_top.specs.declared.way.Way.TheVariants as way
 
--- Whatever the way, the outcome is that of the elision. A run shows beside it the script of its plan, by which it went.
+-- what shows by which way a plan was run: a run shows the script of its plan, by which it went
+abbrev pub shown_by : {B L : Type 0} → Ghosts B L → Plan B L → Way → How
+shown_by G plan way.Elide = how.Plain
+shown_by G plan (way.Run workers) = how.Ran (script G plan)
+
+-- Whatever the way, the outcome is that of the elision.
 abbrev pub end_by : {B L : Type 0} → Ghosts B L → Way → Plan B L → RunEnd
-end_by G way.Elide plan = record { outcome = outcome G plan; how = how.Plain }
-end_by G way.Run plan = record { outcome = outcome G plan; how = how.Ran (script G plan) }
+end_by G taken plan = record { outcome = outcome G plan; how = shown_by G plan taken }
+
+-- the cheapest way with so many workers: one does what the elision does
+abbrev pub cheapest : ℕ → Way
+cheapest workers = if nat_le workers 1 then way.Elide else way.Run workers
 
 pub record Elisions : Type 0 where
   pub of_job : Way → Plan (List Line) Standing → RunEnd
-  pub of_index : Plan IndexBody IndexLocal → RunEnd
-  pub of_conversion : Plan RecordBody RecordLocal → RunEnd
+  pub of_index : Way → Plan IndexBody IndexLocal → RunEnd
+  pub of_conversion : Way → Plan RecordBody RecordLocal → RunEnd
 
--- by the steps of each body; the pipelines are always elided
+-- by the steps of each body
 abbrev pub elisions : Elisions
-elisions = record { of_job = end_by job_ghosts; of_index = end_by index_ghosts way.Elide; of_conversion = end_by record_ghosts way.Elide }
+elisions = record { of_job = end_by job_ghosts; of_index = end_by index_ghosts; of_conversion = end_by record_ghosts }
 
--- of the plan of a text's index, and of its conversion
-abbrev pub indexed : Elisions → List ℕ → RunEnd
-indexed elisions text = elisions.of_index (index_plan text)
+-- of the plan of a text's index, and of its conversion, by so many workers
+abbrev pub indexed : Elisions → ℕ → List ℕ → RunEnd
+indexed elisions workers text = elisions.of_index (cheapest workers) (index_plan text)
 
-abbrev pub converted : Elisions → List ℕ → RunEnd
-converted elisions text = elisions.of_conversion (record_plan text)
+abbrev pub converted : Elisions → ℕ → List ℕ → RunEnd
+converted elisions workers text = elisions.of_conversion (cheapest workers) (record_plan text)

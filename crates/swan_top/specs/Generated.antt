@@ -3,11 +3,10 @@ use Rattle.std.specs.Prelude.{Option, Some}
 use Rattle.swan_top.specs.Command.{Command, bulk}
 use Rattle.swan_top.specs.Completeness.{GeneratedInOrder}
 use Rattle.swan_top.specs.Decision.{Verdict}
-use Rattle.swan_top.specs.Elisions.{Elisions}
+use Rattle.swan_top.specs.Elisions.{Elisions, cheapest}
 use Rattle.swan_top.specs.Headline.{SinkSeen, Ends}
 use Rattle.swan_top.specs.declared.status.Status.{Status}
 use Rattle.swan_top.specs.declared.status.Status.TheVariants as status
-use Rattle.swan_top.specs.declared.way.Way.TheVariants as way
 
 -- Where the words are those of a generated run, the call never ends as one that was refused: the job has no fault and has a
 -- plan over its input, and the call ends as the verdict says that prints what the run of this plan leaves; or memory
@@ -19,5 +18,5 @@ NeverRefused elisions out report (Some (bulk number size workers)) status.JobRef
 NeverRefused elisions out report (Some (bulk number size workers)) status.ReadFailed = ⊥
 NeverRefused elisions out report (Some (bulk number size workers)) status.InputRefused = ⊥
 NeverRefused elisions out report (Some (bulk number size workers)) ends =
-    (verdict : Verdict) × GeneratedInOrder (elisions.of_job way.Elide) number size verdict × Ends out report verdict ends
+    (verdict : Verdict) × GeneratedInOrder (elisions.of_job (cheapest workers)) number size verdict × Ends out report verdict ends
 NeverRefused elisions out report asked ends = Unit {0}

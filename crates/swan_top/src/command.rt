@@ -15,7 +15,7 @@ pub const FUEL_WORD_MOST: u64 = 10_000_000;
 pub const NUMBER_WORD_MOST: u64 = 1_000_000_000;
 
 /// The largest number of workers that words can ask for.
-pub const WORKERS_MOST: u64 = 1;
+pub const WORKERS_MOST: u64 = 64;
 
 /// What the program is asked to do.
 #[derive(Clone, Copy)]

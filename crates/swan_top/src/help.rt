@@ -27,8 +27,8 @@ elision of the job writes, in which each spawn is an ordinary call.
   swan --version
       writes the version
 
-FUEL is 1 to 10000000, and WORKERS is 1 in this version. NUMBER is 0 to 1000000000, and SIZE 0 to
-300000. Numbers have no sign and no leading zero.
+FUEL is 1 to 10000000, and WORKERS 1 to 64. NUMBER is 0 to 1000000000, and SIZE 0 to 300000. Numbers
+have no sign and no leading zero. The texts are the same for every number of workers.
 JOB and each INPUT name a file.
 The items that are left in the job's outputs go to standard output. A report goes to standard error:
 the job's objects, how many items are left in its inputs, and the faults.

@@ -9,8 +9,12 @@ ghost use Rattle.swan_top.specs.declared.status.Status.{Status};
 
 use crate::{Status, swan};
 use std::alloc::Global;
+use std::marker::Sync;
+use std::sync::Wait;
+use std::thread::Threads;
+use std::time::Clock;
 use swan_model::Word;
-use swan_outside::{Files, HonestFiles, HonestSink, Sink};
+use swan_outside::{Files, Gate, HonestFiles, HonestSink, Sink};
 
 /// The law that over `HonestFiles` and `HonestSink` no count of faults rises, whatever a call leaves of them
 /// (`nothing_fails`). So by the clause `answered` of `swan` no call ends as WriteFailed, and one ends as ReadFailed
@@ -47,13 +51,15 @@ pub fn honest_calls_end_well()
 /// WriteFailed, and as ReadFailed only where a file of the command has more than `FILE_MOST` bytes, with the line
 /// `too long NAME` in the report and nothing in the output. Where words, job and inputs are in order it writes what they
 /// come to and ends as Done or Faulted, or it ends as NoMemory. Words that are no command end as Usage. It costs what
-/// `swan` does.
-pub fn honest_call(
+/// `swan` does, and returns where that does.
+pub fn honest_call<T: Threads + Wait + Clock + Sync, G: Gate>(
+    rt: &T,
     alloc: Global,
     words: &[Word],
     files: &mut HonestFiles,
     out: &mut HonestSink,
     report: &mut HonestSink,
+    gate: &G,
 ) -> Status
     ensures ends_well { let F = ⟦<HonestFiles as Files>⟧ in let S = ⟦<HonestSink as Sink>⟧ in
         EndsWell
@@ -69,5 +75,5 @@ pub fn honest_call(
         (command words.now) result }
 {
     honest_calls_end_well();
-    swan(alloc, words, files, out, report)
+    swan(rt, alloc, words, files, out, report, gate)
 }

@@ -9,19 +9,21 @@
 //! ends as its command says (`specs/Completeness.antt`), and the law `honest_calls_end_well` says both of files and
 //! sinks that never fail, and `honest_call` is a call over them that has it as its clauses.
 //!
-//! `run` runs its plan by the runtime; `elide`, `index`, `convert` and `bulk` by the elision. Reading, refusals, texts
-//! and writes are one road for both ways. A status that says that a run ended shows which one it went (`How`): that a core ran
-//! the plan to its end shows a `Ran`, which only the outcome of a core gives.
+//! `run` runs its plan by the runtime, with 1 to 64 workers, and `elide` by the elision; `index`, `convert` and `bulk` go by the
+//! elision with one worker and by the runtime with several. Reading, refusals, texts and writes are one road for all
+//! ways. A status that says that a run ended shows which one it went (`How`): that a core ran the plan to its end shows a
+//! `Ran`, which only the outcome of a core gives.
 //!
 //! What an index and a conversion write is said by its clause `written_of_text` (`specs/Pipelines.antt`), of the text
 //! alone. That a generated job is never refused is its clause `never_refused` (`specs/Generated.antt`).
 //!
-//! Not promised: that memory is found, and what real files and streams hold. Over those only the causes
-//! of each status are known.
+//! Not promised: that memory is found, that a call with several workers returns, and what real files and streams hold. Over
+//! those only the causes of each status are known.
 #![tactic(auto)]
 
 mod accept;
 mod command;
+mod engine;
 mod help;
 mod honest;
 mod how;

@@ -8,5 +8,5 @@ ghost use Rattle.swan_top.specs.declared.command.TheConstants.{FUEL_WORD_MOST, N
 pub fn limits_of_words()
     ensures fuel { FUEL_WORD_MOST ≡ 10000000 }
     ensures number { NUMBER_WORD_MOST ≡ 1000000000 }
-    ensures workers { WORKERS_MOST ≡ 1 }
+    ensures workers { WORKERS_MOST ≡ 64 }
 {}

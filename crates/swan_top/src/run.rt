@@ -7,9 +7,12 @@ ghost use Rattle.swan_top.specs.Decision.{input_line, printed, ran, refuses, sta
 ghost use Rattle.swan_top.specs.declared.status.Status.TheVariants as status;
 ghost use Rattle.swan_top.specs.declared.way.Way.TheVariants as way;
 ghost use Rattle.swan_top.specs.Settled.{Is, Ran, Stops};
+ghost use Rattle.swan_model.specs.Elision.{outcome};
+ghost use Rattle.swan_model.specs.Script.{script};
 ghost use Rattle.swan_model.specs.declared.plan.TheConstants.{FUEL_MOST};
 ghost use Rattle.job_body.specs.declared.answer.PlanAnswer.TheVariants as plan;
 
+use crate::engine::Engine;
 use crate::run_end::RunEnd;
 use crate::verdict::{Settled, Stop};
 use crate::way::Way;
@@ -19,9 +22,17 @@ use privilege_check::CheckedJob;
 use queue_book::BookQueues;
 use serial_elision::{Printed, elide, print};
 use std::alloc::{AllocError, Global};
+use std::marker::Sync;
+use std::sync::Wait;
+use std::thread::Threads;
+use std::time::Clock;
 use swan_model::{Blob, Body, LinesAnswer, Names, NoMemory, Plan, RunName};
-use swan_runtime::run_alone;
-use task_frames::Core;
+use swan_outside::Gate;
+use swan_runtime::{Shape, run, run_alone};
+use task_frames::{Core, RunOutcome};
+
+/// How long the rings of hyperqueues are.
+const RING: u32 = 16;
 
 // The line of a refusal of inputs.
 fn input_line(alloc: Global, why: PlanAnswer) -> Result<Blob, AllocError>
@@ -38,15 +49,42 @@ fn input_line(alloc: Global, why: PlanAnswer) -> Result<Blob, AllocError>
     Ok(Blob::new(text.into_bytes()))
 }
 
-// Runs a plan by the runtime, over hyperqueues in the plainest form.
-fn run_on_a_core<B: Body>(alloc: Global, plan: Plan<B>) -> Result<RunEnd, NoMemory>
-    ensures end { IfOk result (λ end. end ≡ end_by B.Body way.Run plan) }
-    ensures queues { IfOk result (λ end. length end.outcome.queues ≡ length plan.roots.queues) }
-    ensures objects { IfOk result (λ end. length end.outcome.objects ≡ length plan.roots.objects) }
+// The shape of a run by several workers. One has none, since it runs alone.
+fn shape_of(workers: u32) -> Option<Shape> {
+    if workers > 1 {
+        Shape::new(workers, RING)
+    } else {
+        None
+    }
+}
+
+// Runs a plan on this thread alone, over hyperqueues in the plainest form.
+fn run_here<B: Body>(alloc: Global, plan: Plan<B>) -> Result<RunOutcome, NoMemory>
+    ensures outcome { IfOk result (λ ran. ran.outcome ≡ outcome B.Body plan) }
+    ensures queues { IfOk result (λ ran. length ran.outcome.queues ≡ length plan.roots.queues) }
+    ensures objects { IfOk result (λ ran. length ran.outcome.objects ≡ length plan.roots.objects) }
+    ensures script { IfOk result (λ ran. ran.script.means ≡ script B.Body plan) }
 {
     let queues = BookQueues::new(alloc, RunName::of(&plan));
     let opened = Core::open(alloc, plan, queues)?;
-    let (outcome, ran) = run_alone(alloc, opened)?.outcome();
+    run_alone(alloc, opened)
+}
+
+// Runs a plan by the runtime. With one worker it returns.
+fn run_by_workers<T: Threads + Wait + Clock + Sync, G: Gate, B: Body>(
+    engine: &Engine<'_, T, G>,
+    workers: u32,
+    plan: Plan<B>,
+) -> Result<RunEnd, NoMemory>
+    ensures end { IfOk result (λ end. end ≡ end_by B.Body (way.Run workers) plan) }
+    ensures queues { IfOk result (λ end. length end.outcome.queues ≡ length plan.roots.queues) }
+    ensures objects { IfOk result (λ end. length end.outcome.objects ≡ length plan.roots.objects) }
+{
+    let ran = match shape_of(workers) {
+        Some(shape) => run(engine.rt, engine.alloc, plan, &shape, engine.gate)?,
+        None => run_here(engine.alloc, plan)?,
+    };
+    let (outcome, ran) = ran.outcome();
     Ok(RunEnd {
         outcome,
         how: How::Ran(ran),
@@ -66,14 +104,18 @@ fn run_by_elision<B: Body>(alloc: Global, plan: Plan<B>) -> Result<RunEnd, NoMem
 }
 
 // Runs a plan this way.
-fn end_by<B: Body>(alloc: Global, way: Way, plan: Plan<B>) -> Result<RunEnd, NoMemory>
+fn end_by<T: Threads + Wait + Clock + Sync, G: Gate, B: Body>(
+    engine: &Engine<'_, T, G>,
+    way: Way,
+    plan: Plan<B>,
+) -> Result<RunEnd, NoMemory>
     ensures end { IfOk result (λ end. end ≡ end_by B.Body way plan) }
     ensures queues { IfOk result (λ end. length end.outcome.queues ≡ length plan.roots.queues) }
     ensures objects { IfOk result (λ end. length end.outcome.objects ≡ length plan.roots.objects) }
 {
     match way {
-        Way::Elide => run_by_elision(alloc, plan),
-        Way::Run => run_on_a_core(alloc, plan),
+        Way::Elide => run_by_elision(engine.alloc, plan),
+        Way::Run { workers } => run_by_workers(engine, workers, plan),
     }
 }
 
@@ -89,8 +131,8 @@ fn status_of(end: RunEnd) -> Status
 }
 
 // Runs a plan this way, and settles its two texts. This is the one way in which a command runs anything.
-fn run_plan<B: Body>(
-    alloc: Global,
+fn run_plan<T: Threads + Wait + Clock + Sync, G: Gate, B: Body>(
+    engine: &Engine<'_, T, G>,
     way: Way,
     plan: Plan<B>,
     names: &Names,
@@ -98,32 +140,33 @@ fn run_plan<B: Body>(
     requires { IsNaming names.now plan.roots }
     ensures { IfOk result (Is (λ verdict. verdict ≡ printed names.now (end_by B.Body way plan))) }
 {
-    let end = end_by(alloc, way, plan)?;
-    let Printed { out, report } = print(alloc, names, &end.outcome)?;
+    let end = end_by(engine, way, plan)?;
+    let Printed { out, report } = print(engine.alloc, names, &end.outcome)?;
     let ends = status_of(end);
     Ok(Settled::Prints { out, report, ends })
 }
 
-// Runs the plan of a text, or refuses the text as an input.
-pub(crate) fn run_text<B: Body>(
-    alloc: Global,
+// Runs the plan of a text this way, or refuses the text as an input.
+pub(crate) fn run_text<T: Threads + Wait + Clock + Sync, G: Gate, B: Body>(
+    engine: &Engine<'_, T, G>,
+    way: Way,
     plan: Result<Plan<B>, LinesAnswer>,
     names: &Names,
 ) -> Result<Settled, Stop>
     requires { IfOk plan (λ plan'. IsNaming names.now plan'.roots) }
-    ensures ran { IfOk result (Is (Ran (end_by B.Body way.Elide) names.now plan)) }
-    ensures refused { IfErr result (Stops (Ran (end_by B.Body way.Elide) names.now plan)) }
+    ensures ran { IfOk result (Is (Ran (end_by B.Body way) names.now plan)) }
+    ensures refused { IfErr result (Stops (Ran (end_by B.Body way) names.now plan)) }
 {
     match plan {
-        Ok(plan) => Ok(run_plan(alloc, Way::Elide, plan, names)?),
+        Ok(plan) => Ok(run_plan(engine, way, plan, names)?),
         Err(LinesAnswer::NoMemory) => Err(Stop::NoMemory),
-        Err(why) => Err(refuse_inputs(alloc, PlanAnswer::of_input(1, why))),
+        Err(why) => Err(refuse_inputs(engine.alloc, PlanAnswer::of_input(1, why))),
     }
 }
 
 // Runs an accepted job over its inputs this way.
-pub(crate) fn run_job(
-    alloc: Global,
+pub(crate) fn run_job<T: Threads + Wait + Clock + Sync, G: Gate>(
+    engine: &Engine<'_, T, G>,
     way: Way,
     fuel: u64,
     job: CheckedJob,
@@ -133,13 +176,13 @@ pub(crate) fn run_job(
     ensures ran { IfOk result (Is (λ verdict. verdict ≡ ran (elisions.of_job way) job inputs.items fuel)) }
     ensures refused { IfErr result (Stops (λ verdict. verdict ≡ ran (elisions.of_job way) job inputs.items fuel)) }
 {
-    let names = names_of(alloc, &job)?;
-    let plan = match plan_of(alloc, job, inputs, fuel) {
+    let names = names_of(engine.alloc, &job)?;
+    let plan = match plan_of(engine.alloc, job, inputs, fuel) {
         Ok(plan) => plan,
         Err(PlanAnswer::NoMemory) => return Err(Stop::NoMemory),
-        Err(why) => return Err(refuse_inputs(alloc, why)),
+        Err(why) => return Err(refuse_inputs(engine.alloc, why)),
     };
-    Ok(run_plan(alloc, way, plan, &names)?)
+    Ok(run_plan(engine, way, plan, &names)?)
 }
 
 // A refusal of inputs.

@@ -4,14 +4,14 @@ ghost use Rattle.bulk_workload.specs.declared.texts.TheConstants.{BULK_MOST};
 ghost use Rattle.swan_model.specs.declared.plan.TheConstants.{FUEL_MOST};
 ghost use Rattle.swan_top.specs.Command.{asked, IsWithinLimits};
 ghost use Rattle.swan_top.specs.Decision.{checked, generated, settled, next_of_check, next_of_run, next_of_text, prints};
-ghost use Rattle.swan_top.specs.Elisions.{converted, elisions, indexed};
+ghost use Rattle.swan_top.specs.Elisions.{cheapest, converted, elisions, indexed};
 ghost use Rattle.swan_top.specs.Headline.{Leads, Settles, files_over};
 ghost use Rattle.swan_top.specs.Settled.{Is, Stops, StopsOver, verdict_of};
 ghost use Rattle.swan_top.specs.declared.how.How.TheVariants as how;
 ghost use Rattle.swan_top.specs.declared.status.Status.TheVariants as status;
-ghost use Rattle.swan_top.specs.declared.way.Way.TheVariants as way;
 
 use crate::accept::accept;
+use crate::engine::Engine;
 use crate::inputs::read_inputs;
 use crate::read::read_file;
 use crate::run::{run_job, run_text};
@@ -24,8 +24,12 @@ use job_reader::write_job;
 use privilege_check::CheckedJob;
 use record_pipeline::{record_names, record_plan};
 use std::alloc::{AllocError, Global};
+use std::marker::Sync;
+use std::sync::Wait;
+use std::thread::Threads;
+use std::time::Clock;
 use swan_model::{Blob, Word};
-use swan_outside::Files;
+use swan_outside::{Files, Gate};
 
 // A text for the output, and nothing to report.
 fn settle_text(alloc: Global, text: &str) -> Result<Settled, AllocError>
@@ -63,8 +67,8 @@ fn settle_check<F: Files>(alloc: Global, files: &mut F, job: &Word) -> Result<Se
 }
 
 // What a run of a job leads to.
-fn settle_run<F: Files>(
-    alloc: Global,
+fn settle_run<T: Threads + Wait + Clock + Sync, F: Files, G: Gate>(
+    engine: &Engine<'_, T, G>,
     files: &mut F,
     way: Way,
     fuel: u64,
@@ -78,56 +82,72 @@ fn settle_run<F: Files>(
         IfErr result (StopsOver seen (Leads seen (job.now ∷ inputs.now)
         (next_of_run (elisions.of_job way) fuel job.now inputs.now))) }
 {
-    let text = read_file(alloc, files, job)?;
-    let job = accept(alloc, text)?;
-    let inputs = read_inputs(alloc, files, inputs)?;
-    run_job(alloc, way, fuel, job, inputs)
+    let text = read_file(engine.alloc, files, job)?;
+    let job = accept(engine.alloc, text)?;
+    let inputs = read_inputs(engine.alloc, files, inputs)?;
+    run_job(engine, way, fuel, job, inputs)
 }
 
 // What the index of a file leads to.
-fn settle_index<F: Files>(alloc: Global, files: &mut F, input: &Word) -> Result<Settled, Stop>
+fn settle_index<T: Threads + Wait + Clock + Sync, F: Files, G: Gate>(
+    engine: &Engine<'_, T, G>,
+    files: &mut F,
+    workers: u32,
+    input: &Word,
+) -> Result<Settled, Stop>
     ensures ok { IfOk result (Is (Leads (files_over F.content F.faults F.long_reads files.old files.new)
-        (input.now ∷ []) (next_of_text (indexed elisions) input.now))) }
+        (input.now ∷ []) (next_of_text (indexed elisions workers) input.now))) }
     ensures err { let seen = files_over F.content F.faults F.long_reads files.old files.new in
         IfErr result (StopsOver seen (Leads seen (input.now ∷ [])
-        (next_of_text (indexed elisions) input.now))) }
+        (next_of_text (indexed elisions workers) input.now))) }
 {
-    let text = read_file(alloc, files, input)?;
-    let names = index_names(alloc)?;
-    let plan = index_plan(alloc, text.as_slice());
+    let text = read_file(engine.alloc, files, input)?;
+    let names = index_names(engine.alloc)?;
+    let plan = index_plan(engine.alloc, text.as_slice());
     drop(text);
-    run_text(alloc, plan, &names)
+    run_text(engine, Way::cheapest(workers), plan, &names)
 }
 
 // What the conversion of a file leads to.
-fn settle_convert<F: Files>(alloc: Global, files: &mut F, input: &Word) -> Result<Settled, Stop>
+fn settle_convert<T: Threads + Wait + Clock + Sync, F: Files, G: Gate>(
+    engine: &Engine<'_, T, G>,
+    files: &mut F,
+    workers: u32,
+    input: &Word,
+) -> Result<Settled, Stop>
     ensures ok { IfOk result (Is (Leads (files_over F.content F.faults F.long_reads files.old files.new)
-        (input.now ∷ []) (next_of_text (converted elisions) input.now))) }
+        (input.now ∷ []) (next_of_text (converted elisions workers) input.now))) }
     ensures err { let seen = files_over F.content F.faults F.long_reads files.old files.new in
         IfErr result (StopsOver seen (Leads seen (input.now ∷ [])
-        (next_of_text (converted elisions) input.now))) }
+        (next_of_text (converted elisions workers) input.now))) }
 {
-    let text = read_file(alloc, files, input)?;
-    let names = record_names(alloc)?;
-    let plan = record_plan(alloc, text.as_slice());
+    let text = read_file(engine.alloc, files, input)?;
+    let names = record_names(engine.alloc)?;
+    let plan = record_plan(engine.alloc, text.as_slice());
     drop(text);
-    run_text(alloc, plan, &names)
+    run_text(engine, Way::cheapest(workers), plan, &names)
 }
 
 // What the run of the generated job over its input leads to.
-fn settle_bulk(alloc: Global, number: u64, size: u64) -> Result<Settled, Stop>
+fn settle_bulk<T: Threads + Wait + Clock + Sync, G: Gate>(
+    engine: &Engine<'_, T, G>,
+    number: u64,
+    size: u64,
+    workers: u32,
+) -> Result<Settled, Stop>
     requires { size ≤ BULK_MOST }
-    ensures ok { IfOk result (Is (λ verdict. generated (elisions.of_job way.Elide) number size ≡ settled verdict)) }
-    ensures err { IfErr result (Stops (λ verdict. generated (elisions.of_job way.Elide) number size ≡ settled verdict)) }
+    ensures ok { IfOk result (Is (λ verdict. generated (elisions.of_job (cheapest workers)) number size ≡ settled verdict)) }
+    ensures err { IfErr result (Stops (λ verdict. generated (elisions.of_job (cheapest workers)) number size ≡ settled verdict)) }
 {
+    let alloc = engine.alloc;
     let job = accept(alloc, bulk_job(alloc, size)?)?;
     let inputs = vec![in alloc; Blob::new(bulk_input(alloc, number, size)?)]?;
-    run_job(alloc, Way::Elide, bulk_fuel(size), job, inputs)
+    run_job(engine, Way::cheapest(workers), bulk_fuel(size), job, inputs)
 }
 
 // What a command leads to.
-pub(crate) fn settle<F: Files>(
-    alloc: Global,
+pub(crate) fn settle<T: Threads + Wait + Clock + Sync, F: Files, G: Gate>(
+    engine: &Engine<'_, T, G>,
     files: &mut F,
     command: Command<'_>,
 ) -> Result<Settled, Stop>
@@ -137,20 +157,24 @@ pub(crate) fn settle<F: Files>(
         IfErr result (StopsOver seen (Settles elisions seen (asked command.entry))) }
 {
     match command {
-        Command::Help => Ok(settle_text(alloc, HELP)?),
-        Command::Version => Ok(settle_text(alloc, VERSION)?),
-        Command::Check { job } => settle_check(alloc, files, job),
+        Command::Help => Ok(settle_text(engine.alloc, HELP)?),
+        Command::Version => Ok(settle_text(engine.alloc, VERSION)?),
+        Command::Check { job } => settle_check(engine.alloc, files, job),
         Command::Elide { fuel, job, inputs } => {
-            settle_run(alloc, files, Way::Elide, fuel, job, inputs)
+            settle_run(engine, files, Way::Elide, fuel, job, inputs)
         }
         Command::Run {
+            workers,
             fuel,
             job,
             inputs,
-            ..
-        } => settle_run(alloc, files, Way::Run, fuel, job, inputs),
-        Command::Index { input, .. } => settle_index(alloc, files, input),
-        Command::Convert { input, .. } => settle_convert(alloc, files, input),
-        Command::Bulk { number, size, .. } => settle_bulk(alloc, number, size),
+        } => settle_run(engine, files, Way::Run { workers }, fuel, job, inputs),
+        Command::Index { workers, input } => settle_index(engine, files, workers, input),
+        Command::Convert { workers, input } => settle_convert(engine, files, workers, input),
+        Command::Bulk {
+            number,
+            size,
+            workers,
+        } => settle_bulk(engine, number, size, workers),
     }
 }

@@ -7,6 +7,7 @@ ghost use Rattle.swan_top.specs.Generated.{NeverRefused};
 ghost use Rattle.swan_top.specs.Headline.{Answers, files_over, sink_over};
 ghost use Rattle.swan_top.specs.Pipelines.{WroteOfText};
 
+use crate::engine::Engine;
 use crate::settle::settle;
 use crate::verdict::Stop;
 use crate::write::{write_line, write_settled};
@@ -15,8 +16,12 @@ use bulk_workload::a_bulk_job_is_never_refused;
 use index_pipeline::the_outcome_is_the_index;
 use record_pipeline::the_outcome_is_the_conversion;
 use std::alloc::Global;
+use std::marker::Sync;
+use std::sync::Wait;
+use std::thread::Threads;
+use std::time::Clock;
 use swan_model::Word;
-use swan_outside::{Files, Sink};
+use swan_outside::{Files, Gate, Sink};
 
 /// Does what the words ask for, and answers how it ended.
 ///
@@ -40,18 +45,23 @@ use swan_outside::{Files, Sink};
 /// Where the words are a command, the texts that `files` tells are in order for it, and no count of faults
 /// rises, the call ends Done or Faulted as the elision says, or NoMemory.
 ///
-/// Done and Faulted of `run` hold a `Ran`, which means the script of the plan that was run: a core ran that plan to its
-/// end. Those of all other commands are Plain.
+/// All that is said holds for every number of workers, however their steps come between each other, and whatever `gate` does.
+///
+/// Done and Faulted of `run`, and of `index`, `convert` and `bulk` with several workers, hold a `Ran`, which means the script of
+/// the plan that was run: a core ran that plan to its end. Those of all other calls are Plain.
 ///
 /// The contents are those that `files` tells, and what is said of written bytes holds where the sinks
-/// tell them. It always returns.
+/// tell them. With one worker it starts no thread, asks no gate and returns. With several, they run in
+/// threads of `rt`, each asks `gate` before it goes on with a task, and no clause says that it returns.
 #[tactic(auto, using(crate::proofs::Completeness::completes))]
-pub fn swan<F: Files, O: Sink, R: Sink>(
+pub fn swan<T: Threads + Wait + Clock + Sync, F: Files, O: Sink, R: Sink, G: Gate>(
+    rt: &T,
     alloc: Global,
     words: &[Word],
     files: &mut F,
     out: &mut O,
     report: &mut R,
+    gate: &G,
 ) -> Status
     ensures answered { Answers elisions
         (files_over F.content F.faults F.long_reads files.old files.new)
@@ -77,12 +87,13 @@ pub fn swan<F: Files, O: Sink, R: Sink>(
     the_outcome_is_the_index();
     the_outcome_is_the_conversion();
     a_bulk_job_is_never_refused();
-    follow(alloc, words, files, out, report)
+    let engine = Engine { rt, alloc, gate };
+    follow(&engine, words, files, out, report)
 }
 
 // Follows the words: reads, settles and writes.
-fn follow<F: Files, O: Sink, R: Sink>(
-    alloc: Global,
+fn follow<T: Threads + Wait + Clock + Sync, F: Files, O: Sink, R: Sink, G: Gate>(
+    engine: &Engine<'_, T, G>,
     words: &[Word],
     files: &mut F,
     out: &mut O,
@@ -99,7 +110,7 @@ fn follow<F: Files, O: Sink, R: Sink>(
         Ok(command) => command,
         Err(Usage) => return write_line(out, report, b"usage\n", Status::Usage),
     };
-    match settle(alloc, files, command) {
+    match settle(engine, files, command) {
         Ok(settled) => write_settled(out, report, settled),
         Err(Stop::Settled(settled)) => write_settled(out, report, settled),
         Err(Stop::NoMemory) => Status::NoMemory,

@@ -1,18 +1,17 @@
 use Rattle.std.proofs.lemmas.Result.{IfOk-weaker}
 use Rattle.index_pipeline.specs.Plans.{index_plan}
 use Rattle.index_pipeline.specs.contracts.body.IndexBodyBody.TheImpl.{ghosts}
-use Rattle.swan_top.specs.Elisions.{end_by}
-use Rattle.swan_top.specs.declared.way.Way.TheVariants as way
+use Rattle.swan_top.specs.Elisions.{cheapest, end_by}
 use Rattle.swan_top.proofs.Leading.{ran_text}
 use Rattle.swan_top.proofs.TextsRead.{Is-map, IfErr-map, Stops-map}
 use Rattle.swan_top.proofs.settle.settle_index.Goals as goal
 
 pub returns-clause-ok : goal.returns-clause-ok
 returns-clause-ok g c =
-    IfOk-weaker c.run_text.result _ _ (Is-map _ _ (ran_text (end_by ghosts way.Elide) index_plan c.in_ok-text.text.items c.as_slice.result.now c.as_slice.ensures.value _ c.args.input.now c.in_ok-text.ensures.read c.in_ok-text.ensures.no_fault c.in_ok-text.ensures.no_long_read
+    IfOk-weaker c.run_text.result _ _ (Is-map _ _ (ran_text (end_by ghosts (cheapest c.args.workers)) index_plan c.in_ok-text.text.items c.as_slice.result.now c.as_slice.ensures.value _ c.args.input.now c.in_ok-text.ensures.read c.in_ok-text.ensures.no_fault c.in_ok-text.ensures.no_long_read
     c.index_plan-plan.result c.in_ok-names.names c.in_ok-names.ensures c.index_plan-plan.ensures.plan c.index_plan-plan.ensures.accepted c.index_plan-plan.ensures.refused)) c.run_text.ensures.ran
 
 pub returns-clause-err : goal.returns-clause-err
 returns-clause-err g c =
-    IfErr-map c.run_text.result _ _ (Stops-map (Unit {0}) _ _ _ (λ _. (c.in_ok-text.ensures.no_fault, c.in_ok-text.ensures.no_long_read)) (ran_text (end_by ghosts way.Elide) index_plan c.in_ok-text.text.items c.as_slice.result.now c.as_slice.ensures.value _ c.args.input.now c.in_ok-text.ensures.read c.in_ok-text.ensures.no_fault c.in_ok-text.ensures.no_long_read
+    IfErr-map c.run_text.result _ _ (Stops-map (Unit {0}) _ _ _ (λ _. (c.in_ok-text.ensures.no_fault, c.in_ok-text.ensures.no_long_read)) (ran_text (end_by ghosts (cheapest c.args.workers)) index_plan c.in_ok-text.text.items c.as_slice.result.now c.as_slice.ensures.value _ c.args.input.now c.in_ok-text.ensures.read c.in_ok-text.ensures.no_fault c.in_ok-text.ensures.no_long_read
     c.index_plan-plan.result c.in_ok-names.names c.in_ok-names.ensures c.index_plan-plan.ensures.plan c.index_plan-plan.ensures.accepted c.index_plan-plan.ensures.refused)) c.run_text.ensures.refused
