@@ -1,10 +1,14 @@
 // What the program writes for known jobs, words and files.
 use crate::*;
 use std::alloc::{AllocError, Global};
+use std::marker::Sync;
 use std::process::Abort;
+use std::sync::Wait;
 use std::test::Fail;
+use std::thread::Threads;
+use std::time::Clock;
 use swan_model::{Blob, Word, Words};
-use swan_outside::{FileBlob, MemoryFiles, MemorySink};
+use swan_outside::{FileBlob, MemoryFiles, MemorySink, OpenGate};
 
 mod generated;
 mod honest;
@@ -13,7 +17,14 @@ mod limits;
 mod pipelines;
 mod rows;
 mod scripts;
+mod shapes;
+mod together;
 mod ways;
+
+/// What a call of a test is made with.
+trait Machine: Abort + Threads + Wait + Clock + Sync {}
+
+impl<T: Abort + Threads + Wait + Clock + Sync> Machine for T {}
 
 // How a call ended, and what it wrote.
 #[derive(Drop)]
@@ -68,6 +79,7 @@ fn end_of(
 
 // A call with these words over these files, where the read of this number fails.
 fn called(
+    rt: &impl Machine,
     alloc: Global,
     files: Vec<FileBlob>,
     words: &str,
@@ -77,7 +89,15 @@ fn called(
     let mut files = MemoryFiles::new(files, vec![in alloc; failing]?);
     let mut out = sink(alloc, 4_096, 0)?;
     let mut report = sink(alloc, 4_096, 0)?;
-    let status = swan(alloc, words.as_slice(), &mut files, &mut out, &mut report);
+    let status = swan(
+        rt,
+        alloc,
+        words.as_slice(),
+        &mut files,
+        &mut out,
+        &mut report,
+        &OpenGate,
+    );
     end_of(alloc, &out, &report, status)
 }
 
@@ -98,7 +118,7 @@ fn assert_ended(rt: &impl Abort, got: &Ended, row: &str, out: &str, report: &str
 // Asserts a row over these files: the words, the output, the report and the code, with | between them
 // and ~ for each line feed. The command stands before the words, and the read of this number fails.
 fn hold_row(
-    rt: &impl Abort,
+    rt: &impl Machine,
     alloc: Global,
     files: Vec<FileBlob>,
     command: &str,
@@ -111,14 +131,14 @@ fn hold_row(
     let report = with_line_feeds(alloc, parts.next().ok_or("no report")?)?;
     let code = parts.next().ok_or("no code")?;
     let words = format!(in alloc; "{command} {words}")?;
-    let got = called(alloc, files, words.as_str(), failing)?;
+    let got = called(rt, alloc, files, words.as_str(), failing)?;
     assert_ended(rt, &got, row, out.as_str(), report.as_str(), code);
     Ok(())
 }
 
 // Asserts each row of a table.
 fn hold(
-    rt: &impl Abort,
+    rt: &impl Machine,
     alloc: Global,
     names: &str,
     texts: &[&str],

@@ -13,9 +13,14 @@ bulk 7 200000 1|99900000~200000~|object total int 99900000~object count int 2000
 bulk 7 300000 1|149850000~300000~|object total int 149850000~object count int 300000~left lines 0~faults 0~|0
 bulk 7 300001 1||usage~|2
 bulk 1000000001 3 1||usage~|2
+bulk 7 3 2|402~3~|object total int 402~object count int 3~left lines 0~faults 0~|0
+bulk 7 3 64|402~3~|object total int 402~object count int 3~left lines 0~faults 0~|0
+bulk 7 0 4|0~0~|object total int 0~object count int 0~left lines 0~faults 0~|0
+bulk 7 200000 8|99900000~200000~|object total int 99900000~object count int 200000~left lines 0~faults 0~|0
 bulk 7 3 0||usage~|2
-bulk 7 3 2||usage~|2
+bulk 7 3 65||usage~|2
 bulk 7 3 01||usage~|2
+bulk 7 3 +1||usage~|2
 bulk 7 03 1||usage~|2
 bulk 07 3 1||usage~|2
 bulk -7 3 1||usage~|2
@@ -72,7 +77,13 @@ fn a_generated_run_takes_so_many_units(rt: HostRuntime) -> Result<(), Fail> {
 fn the_generated_job_is_in_the_canonical_form(rt: HostRuntime) -> Result<(), Fail> {
     let job = bulk_job(rt.alloc(), 3)?;
     let job = String::from_utf8_lossy(rt.alloc(), job.as_slice())?;
-    let got = called(rt.alloc(), generated_files(rt.alloc(), 3)?, "check job", 0)?;
+    let got = called(
+        &rt,
+        rt.alloc(),
+        generated_files(rt.alloc(), 3)?,
+        "check job",
+        0,
+    )?;
     assert_ended(&rt, &got, "check job", job.as_str(), "checked\n", "0");
     Ok(())
 }

@@ -26,7 +26,12 @@ fn told(alloc: Global, sink: &HonestSink) -> Result<String, AllocError> {
 }
 
 // A call with these words over the known jobs, and where they name it, a file past the limit.
-fn called_honestly(alloc: Global, words: &str, room: usize) -> Result<Ended, AllocError> {
+fn called_honestly(
+    rt: &impl Machine,
+    alloc: Global,
+    words: &str,
+    room: usize,
+) -> Result<Ended, AllocError> {
     let mut files = files_of(alloc, NAMES, &TEXTS)?;
     if words.contains("long") {
         let name = word(alloc, "long")?;
@@ -37,7 +42,15 @@ fn called_honestly(alloc: Global, words: &str, room: usize) -> Result<Ended, All
     let mut files = HonestFiles::new(files);
     let mut out = HonestSink::new(alloc, room).map_err(|_| AllocError)?;
     let mut report = HonestSink::new(alloc, room).map_err(|_| AllocError)?;
-    let status = honest_call(alloc, words.as_slice(), &mut files, &mut out, &mut report);
+    let status = honest_call(
+        rt,
+        alloc,
+        words.as_slice(),
+        &mut files,
+        &mut out,
+        &mut report,
+        &OpenGate,
+    );
     Ok(Ended {
         out: told(alloc, &out)?,
         report: told(alloc, &report)?,
@@ -53,7 +66,7 @@ fn an_honest_call_ends_as_its_words_say(rt: HostRuntime) -> Result<(), Fail> {
         let out = with_line_feeds(rt.alloc(), parts.next().ok_or("no output")?)?;
         let report = with_line_feeds(rt.alloc(), parts.next().ok_or("no report")?)?;
         let code = parts.next().ok_or("no code")?;
-        let got = called_honestly(rt.alloc(), words, 4_096)?;
+        let got = called_honestly(&rt, rt.alloc(), words, 4_096)?;
         assert_ended(&rt, &got, row, out.as_str(), report.as_str(), code);
     }
     Ok(())
@@ -61,7 +74,7 @@ fn an_honest_call_ends_as_its_words_say(rt: HostRuntime) -> Result<(), Fail> {
 
 #[test]
 fn an_honest_sink_without_room_takes_all_and_tells_nothing(rt: HostRuntime) -> Result<(), Fail> {
-    let got = called_honestly(rt.alloc(), "run 1 100 a", 3)?;
+    let got = called_honestly(&rt, rt.alloc(), "run 1 100 a", 3)?;
     assert_ended(&rt, &got, "room 3", "hi\n", "nothing is told", "0");
     Ok(())
 }

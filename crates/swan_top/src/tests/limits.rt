@@ -47,6 +47,7 @@ fn a_failing_read_is_named_and_none_is_made_again(rt: HostRuntime) -> Result<(),
 // A call over the first job, where each put to either sink takes 2 bytes, and the puts of these numbers
 // fail.
 fn written(
+    rt: &impl Machine,
     alloc: Global,
     words: &str,
     out_fails: u64,
@@ -57,7 +58,15 @@ fn written(
     let mut files = MemoryFiles::new(files, Vec::new(alloc));
     let mut out = sink(alloc, 2, out_fails)?;
     let mut report = sink(alloc, 2, report_fails)?;
-    let status = swan(alloc, words.as_slice(), &mut files, &mut out, &mut report);
+    let status = swan(
+        rt,
+        alloc,
+        words.as_slice(),
+        &mut files,
+        &mut out,
+        &mut report,
+        &OpenGate,
+    );
     end_of(alloc, &out, &report, status)
 }
 
@@ -91,7 +100,7 @@ fn a_failing_write_leaves_a_front(rt: HostRuntime) -> Result<(), Fail> {
         ("--version", 6, 1, "swan 0.1.0", "", "5"),
         ("--version", 7, 1, "swan 0.1.0\n", "", "0"),
     ] {
-        let got = written(rt.alloc(), words, out_fails, report_fails)?;
+        let got = written(&rt, rt.alloc(), words, out_fails, report_fails)?;
         assert_ended(&rt, &got, words, out, report, code);
     }
     Ok(())
@@ -120,7 +129,7 @@ fn number_of(text: Option<&str>) -> Result<usize, Fail> {
 }
 
 // Asserts a row of the fronts.
-fn hold_front(rt: &impl Abort, alloc: Global, row: &str) -> Result<(), Fail> {
+fn hold_front(rt: &impl Machine, alloc: Global, row: &str) -> Result<(), Fail> {
     let mut parts = row.split_whitespace();
     let from = number_of(parts.next())?;
     let to = number_of(parts.next())?;
@@ -129,7 +138,7 @@ fn hold_front(rt: &impl Abort, alloc: Global, row: &str) -> Result<(), Fail> {
     let report = format!(in alloc; "refused {line} {kind}\n")?;
     for len in from..=to {
         let front = HELLO.get(..len).ok_or("too long")?;
-        let got = called(alloc, files_of(alloc, "a", &[front])?, "check a", 0)?;
+        let got = called(rt, alloc, files_of(alloc, "a", &[front])?, "check a", 0)?;
         assert_ended(rt, &got, row, "", report.as_str(), "3");
     }
     Ok(())
@@ -140,6 +149,7 @@ fn a_whole_job_is_printed_with_and_without_its_last_line_feed(rt: HostRuntime) -
     for len in [58, 59] {
         let front = HELLO.get(..len).ok_or("too long")?;
         let got = called(
+            &rt,
             rt.alloc(),
             files_of(rt.alloc(), "a", &[front])?,
             "check a",
@@ -176,17 +186,22 @@ fn input_of(alloc: Global, first: &str, part: &str, times: usize) -> Result<Stri
 }
 
 // A call with these words over this input.
-fn with_input(alloc: Global, words: &str, text: String) -> Result<Ended, AllocError> {
+fn with_input(
+    rt: &impl Machine,
+    alloc: Global,
+    words: &str,
+    text: String,
+) -> Result<Ended, AllocError> {
     let mut files = files_of(alloc, "b", &[LEAVES])?;
     let name = word(alloc, "x")?;
     let content = Blob::new(text.into_bytes());
     files.push(FileBlob { name, content })?;
-    called(alloc, files, words, 0)
+    called(rt, alloc, files, words, 0)
 }
 
 // Asserts a row of the inputs.
 pub(super) fn hold_input(
-    rt: &impl Abort,
+    rt: &impl Machine,
     alloc: Global,
     words: &str,
     row: &str,
@@ -200,7 +215,7 @@ pub(super) fn hold_input(
     let code = parts.next().ok_or("no code")?;
     let mut text = input_of(alloc, first, part, times)?;
     text.push_str(last.as_str())?;
-    let got = with_input(alloc, words, text)?;
+    let got = with_input(rt, alloc, words, text)?;
     assert_ended(rt, &got, row, "", report.as_str(), code);
     Ok(())
 }
@@ -219,16 +234,16 @@ fn full_text(alloc: Global, last: &str) -> Result<String, AllocError> {
 
 // Asserts how a call over such a file ends, and that one byte more is too long.
 fn hold_full(
-    rt: &impl Abort,
+    rt: &impl Machine,
     alloc: Global,
     words: &str,
     out: &str,
     report: &str,
     code: &str,
 ) -> Result<(), Fail> {
-    let got = with_input(alloc, words, full_text(alloc, "")?)?;
+    let got = with_input(rt, alloc, words, full_text(alloc, "")?)?;
     assert_ended(rt, &got, words, out, report, code);
-    let got = with_input(alloc, words, full_text(alloc, "x")?)?;
+    let got = with_input(rt, alloc, words, full_text(alloc, "x")?)?;
     assert_ended(rt, &got, words, "", "too long x\n", "4");
     Ok(())
 }

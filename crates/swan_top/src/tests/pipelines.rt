@@ -14,25 +14,42 @@ const TEXTS: [&str; 5] = [
     "a\nb\tb\nc\n",
 ];
 
-/// Whole command lines; then the output, the report and the code.
+/// A command; then its input, the output, the report and the code.
 const CALLS: &str = "\
-index 1 cats|7up 3~a 2~cat 1~cat 2~cat 3~dog 2~the 1~the 2~|left input 0~faults 0~|0
-index 1 empty||left input 0~faults 0~|0
-index 1 words|a 2~b 2~b 3~z 1~|left input 0~faults 0~|0
-index 1 tabs|ab 1~c 1~w 4~x 2~y 2~z 2~|left input 0~faults 0~|0
-convert 1 tabs|2:ab,1:c,~0:,0:,~|left input 0~faults 2~fault /0/1 2 User 1~fault /0/3 4 User 1~|1
-convert 1 empty||left input 0~faults 0~|0
-convert 1 words|1:z,~3:b a,~1:b,~|left input 0~faults 0~|0
-convert 1 wide|1:a,~1:c,~|left input 0~faults 1~fault /0/1 2 User 1~|1
-index 1 missing||read failed missing~|4
-convert 1 missing||read failed missing~|4
+index cats|7up 3~a 2~cat 1~cat 2~cat 3~dog 2~the 1~the 2~|left input 0~faults 0~|0
+index empty||left input 0~faults 0~|0
+index words|a 2~b 2~b 3~z 1~|left input 0~faults 0~|0
+index tabs|ab 1~c 1~w 4~x 2~y 2~z 2~|left input 0~faults 0~|0
+convert tabs|2:ab,1:c,~0:,0:,~|left input 0~faults 2~fault /0/1 2 User 1~fault /0/3 4 User 1~|1
+convert empty||left input 0~faults 0~|0
+convert words|1:z,~3:b a,~1:b,~|left input 0~faults 0~|0
+convert wide|1:a,~1:c,~|left input 0~faults 1~fault /0/1 2 User 1~|1
+index missing||read failed missing~|4
+convert missing||read failed missing~|4";
+
+#[test]
+fn an_index_and_a_conversion_write_what_they_are(rt: HostRuntime) -> Result<(), Fail> {
+    for workers in [1u32, 2, 3, 4, 8, 64] {
+        for row in CALLS.lines() {
+            let (command, row) = row.split_once(' ').ok_or("no command")?;
+            let command = format!(in rt.alloc(); "{command} {workers}")?;
+            let files = files_of(rt.alloc(), NAMES, &TEXTS)?;
+            hold_row(&rt, rt.alloc(), files, command.as_str(), 0, row)?;
+        }
+    }
+    Ok(())
+}
+
+/// Whole command lines that are no commands.
+const NO_COMMANDS: &str = "\
 index||usage~|2
 index 1||usage~|2
 index 1 -||usage~|2
 index 1 cats words||usage~|2
 index 0 cats||usage~|2
-index 2 cats||usage~|2
+index 65 cats||usage~|2
 index 01 cats||usage~|2
+index +1 cats||usage~|2
 index cats||usage~|2
 Index 1 cats||usage~|2
 convert||usage~|2
@@ -40,11 +57,13 @@ convert 1||usage~|2
 convert 1 -||usage~|2
 convert 1 tabs tabs||usage~|2
 convert 0 tabs||usage~|2
-convert 2 tabs||usage~|2";
+convert 65 tabs||usage~|2
+convert 01 tabs||usage~|2
+convert +1 tabs||usage~|2";
 
 #[test]
-fn an_index_and_a_conversion_write_what_they_are(rt: HostRuntime) -> Result<(), Fail> {
-    hold(&rt, rt.alloc(), NAMES, &TEXTS, "", CALLS)
+fn other_words_are_no_index_and_no_conversion(rt: HostRuntime) -> Result<(), Fail> {
+    hold(&rt, rt.alloc(), NAMES, &TEXTS, "", NO_COMMANDS)
 }
 
 /// A text as its first bytes, then so many copies of some, and its last bytes; then the report and the code of its

@@ -1,4 +1,4 @@
-// What jobs write, with `run` by one worker and with `elide`.
+// What jobs write, with `run` by so many workers and with `elide`.
 use super::jobs::{NAMES, TEXTS};
 use super::*;
 
@@ -46,7 +46,10 @@ const RUNS: &str = "\
 
 #[test]
 fn run_writes_what_the_elision_writes(rt: HostRuntime) -> Result<(), Fail> {
-    hold(&rt, rt.alloc(), NAMES, &TEXTS, "run 1", RUNS)
+    for command in ["run 1", "run 2", "run 3", "run 4", "run 64"] {
+        hold(&rt, rt.alloc(), NAMES, &TEXTS, command, RUNS)?;
+    }
+    Ok(())
 }
 
 #[test]
@@ -72,10 +75,13 @@ Check a||usage~|2
 ||usage~|2
 run||usage~|2
 run 1||usage~|2
+run 64 5 a|hi~|faults 0~|0
 run 0 5 a||usage~|2
-run 2 5 a||usage~|2
-run 01 5 a||usage~|2
 run 65 5 a||usage~|2
+run 01 5 a||usage~|2
+run +1 5 a||usage~|2
+run -1 5 a||usage~|2
+run 4294967297 5 a||usage~|2
 --help --help||usage~|2
 --version a||usage~|2
 help||usage~|2
@@ -97,9 +103,8 @@ of fields than the first one, or with netstrings of more than 65535 bytes, is a 
 bulk NUMBER SIZE WORKERS
 --help
 --version
-FUEL is 1 to 10000000, and WORKERS is 1 in this version.
-NUMBER is 0 to 1000000000, and SIZE 0 to
-300000.
+FUEL is 1 to 10000000, and WORKERS 1 to 64.
+NUMBER is 0 to 1000000000, and SIZE 0 to 300000.
 0 where the run has no fault
 1 where it has one
 2 where the words are no
@@ -112,7 +117,7 @@ For example: swan run 1 100 examples/hello.swan";
 
 #[test]
 fn the_help_lists_each_command_range_and_status(rt: HostRuntime) -> Result<(), Fail> {
-    let got = called(rt.alloc(), Vec::new(rt.alloc()), "--help", 0)?;
+    let got = called(&rt, rt.alloc(), Vec::new(rt.alloc()), "--help", 0)?;
     for part in HELP_SAYS.lines() {
         assert!(rt; got.out.as_str().contains(part), "{part}");
     }

@@ -135,7 +135,7 @@ fn text_of(name: &str) -> Result<&'static str, Fail> {
 }
 
 // The job that has this name.
-fn job_of(alloc: Global, name: &str) -> Result<CheckedJob, Fail> {
+pub(super) fn job_of(alloc: Global, name: &str) -> Result<CheckedJob, Fail> {
     let job = accept(alloc, text_of(name)?.as_bytes().to_vec(alloc)?);
     Ok(job.ok().ok_or("no job")?)
 }
@@ -151,7 +151,12 @@ fn inputs_of(alloc: Global, names: &str) -> Result<Vec<Blob>, Fail> {
 }
 
 // The plan of a job over these inputs.
-fn plan_of_files(alloc: Global, fuel: u16, job: &str, inputs: &str) -> Result<Plan<JobBody>, Fail> {
+pub(super) fn plan_of_files(
+    alloc: Global,
+    fuel: u16,
+    job: &str,
+    inputs: &str,
+) -> Result<Plan<JobBody>, Fail> {
     let job = job_of(alloc, job)?;
     let inputs = inputs_of(alloc, inputs)?;
     let plan = plan_of(alloc, job, inputs, u64::from(fuel));

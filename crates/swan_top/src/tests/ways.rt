@@ -6,9 +6,17 @@ use super::*;
 const WAYS: &str = "\
 run 1 100 a|a core
 run 1 1 a|a core
+run 2 100 a|a core
+run 64 1 a|a core
 index 1 five|no core
 convert 1 five|no core
 bulk 7 3 1|no core
+index 2 five|a core
+convert 2 five|a core
+bulk 7 3 2|a core
+index 64 five|a core
+convert 64 five|a core
+bulk 7 3 64|a core
 elide 100 a|no core
 elide 1 a|no core
 check a|no core
@@ -26,12 +34,20 @@ fn way_of(status: &Status) -> &'static str {
 }
 
 // By which way a call with these words runs.
-fn way_of_words(alloc: Global, words: &str) -> Result<&'static str, AllocError> {
+fn way_of_words(rt: &impl Machine, alloc: Global, words: &str) -> Result<&'static str, AllocError> {
     let words = words_of(alloc, words)?;
     let mut files = MemoryFiles::new(files_of(alloc, NAMES, &TEXTS)?, Vec::new(alloc));
     let mut out = sink(alloc, 4_096, 0)?;
     let mut report = sink(alloc, 4_096, 0)?;
-    let status = swan(alloc, words.as_slice(), &mut files, &mut out, &mut report);
+    let status = swan(
+        rt,
+        alloc,
+        words.as_slice(),
+        &mut files,
+        &mut out,
+        &mut report,
+        &OpenGate,
+    );
     Ok(way_of(&status))
 }
 
@@ -39,7 +55,7 @@ fn way_of_words(alloc: Global, words: &str) -> Result<&'static str, AllocError> 
 fn a_status_shows_whether_a_core_ran_the_plan(rt: HostRuntime) -> Result<(), Fail> {
     for row in WAYS.lines() {
         let (words, way) = row.split_once('|').ok_or("no way")?;
-        assert_eq!(rt; way_of_words(rt.alloc(), words)?, way, "{row}");
+        assert_eq!(rt; way_of_words(&rt, rt.alloc(), words)?, way, "{row}");
     }
     Ok(())
 }
