@@ -3,6 +3,7 @@ import os
 import pathlib
 import subprocess
 import tempfile
+import time
 
 ROOT = pathlib.Path(__file__).resolve().parent.parent
 SWAN = ROOT / "crates" / "swan" / "out" / "swan"
@@ -31,6 +32,13 @@ def run(words, status=0):
             report.seek(0)
             raise SystemExit(f"swan {words} ended with {child.returncode}: {report.read(200)!r}")
     return seconds, usage.ru_maxrss * 1024
+
+
+def clock(words):
+    """The seconds by the clock that one run takes."""
+    began = time.monotonic()
+    run(words)
+    return time.monotonic() - began
 
 
 def least(words, times=5):

@@ -1,8 +1,12 @@
-"""How time and memory grow with inputs, with texts, with tasks, with the lines of a job and with its names."""
+"""How time and memory grow with inputs, with texts, with tasks, with the lines of a job and with its names, and with tasks that
+wait for each other, by four workers."""
 from itertools import repeat
 
 import jobs
-from common import folder, growth, least, written
+from common import clock, folder, growth, least, written
+
+# What several workers may take at most of what one takes, where tasks wait for each other.
+AIM = 5
 
 COPY = """swan 1
 input lines
@@ -77,6 +81,19 @@ with folder() as here:
     ]:
         made = {times: written(here, f"run{times}", [job(count * times)]) for times in (1, 2, 4)}
         series(f"run 1 of {name}", lambda times: ["run", 1, 10_000_000, made[times]])
+
+    for name, job, count in [
+        ("n inout children", jobs.chain, 50_000),
+        ("n poppers of one queue", jobs.poppers, 50_000),
+        ("n readers and a writer", jobs.readers, 50_000),
+        ("n items through 20 queues with a consumer each", jobs.consumers, 50_000),
+    ]:
+        made = {times: written(here, f"run{times}", [job(count * times)]) for times in (1, 2, 4)}
+        series(f"run 4 of {name}", lambda times: ["run", 4, 10_000_000, made[times]])
+        # in turns, so that both meet the same machine
+        runs = [[clock(["run", workers, 10_000_000, made[4]]) for workers in (1, 4)] for _ in range(3)]
+        ratio = min(four for _, four in runs) / min(one for one, _ in runs)
+        print(f"run 4 of {name}: {ratio:.2f} of run 1 by the clock, aim at most {AIM}")
 
     for name, text in [
         ("lines", lines_job),

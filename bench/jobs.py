@@ -59,6 +59,12 @@ def readers(count):
     return looped("object x int\n" + reader + writer, "", count, ["spawn 3 reader x"]) + "  spawn 3 writer x\nend\n"
 
 
+def poppers(count):
+    """A row of items in one queue, and after each a child that pops it."""
+    popper = "task popper\n  pop q int\n  var n int\n  do\n  pop n q\nend\n"
+    return looped(popper, "  queue q int\n", count, ["push q 1", "spawn 2 popper q"]) + "end\n"
+
+
 EATER = """task eater
   pop q int
   push sums int
@@ -123,6 +129,54 @@ end
     stages = "".join(f"  spawn {fuel} stage q{i} q{i + 1}\n" for i in range(3))
     queues = "".join(f"  queue q{i} int\n" for i in range(4))
     return f"swan 1\noutput sums int\n{source}{stage}{EATER}task main\n{queues}  do\n  spawn {fuel} source q0\n{stages}  spawn {fuel} eater q3 sums\nend\n"
+
+
+# So many queues have a consumer each.
+QUEUES = 20
+
+
+def consumers(count):
+    """A child that pushes so many items to QUEUES queues in turn, and then one for each of these that pops them all."""
+    turns = count // QUEUES
+    places = "".join(f"  push q{i} int\n" for i in range(QUEUES))
+    pushes = "".join(f"    push q{i} n\n" for i in range(QUEUES))
+    feeder = f"""task feeder
+{places}  var n int
+  var more int
+  do
+  more = lt n {turns}
+  while more
+{pushes}    n = add n 1
+    more = lt n {turns}
+  end
+end
+"""
+    queues = "".join(f"  queue q{i} int\n" for i in range(QUEUES))
+    names = " ".join(f"q{i}" for i in range(QUEUES))
+    eaters = "".join(f"  spawn {9 * turns + 9} eater q{i} sums\n" for i in range(QUEUES))
+    fuel = (QUEUES + 4) * turns + 9
+    return f"swan 1\noutput sums int\n{feeder}{EATER}task main\n{queues}  do\n  spawn {fuel} feeder {names}\n{eaters}end\n"
+
+
+def works(tasks, turns):
+    """Children that each go over a loop of int arithmetic so many times, and share nothing but the order of their results."""
+    child = f"""task child
+  push sums int
+  var i int
+  var s int
+  var more int
+  do
+  more = lt i {turns}
+  while more
+    i = add i 1
+    s = add s i
+    more = lt i {turns}
+  end
+  push sums s
+end
+"""
+    spawns = f"  spawn {5 * turns + 9} child sums\n" * tasks
+    return f"swan 1\noutput sums int\n{child}task main\n  do\n{spawns}end\n"
 
 
 # How many tasks stand one below the other in a dive.
