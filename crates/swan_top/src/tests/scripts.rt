@@ -186,7 +186,12 @@ fn show_value(text: &mut String, alloc: Global, value: &Value) -> Result<(), Fai
 }
 
 // Adds a line of a word and values.
-fn show_values(text: &mut String, alloc: Global, word: &str, values: &[Value]) -> Result<(), Fail> {
+pub(super) fn show_values(
+    text: &mut String,
+    alloc: Global,
+    word: &str,
+    values: &[Value],
+) -> Result<(), Fail> {
     text.push_str(word)?;
     for value in values {
         show_value(text, alloc, value)?;
