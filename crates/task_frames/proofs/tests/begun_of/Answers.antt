@@ -9,6 +9,7 @@ use Rattle.queues.specs.Asks.{LentEnds}
 use Rattle.task_frames.specs.contracts.asks.AsksBody.TheImpl.{ghosts}
 use Rattle.task_frames.specs.declared.asks.Asks.{Asks}
 use Rattle.task_frames.specs.declared.stage.Stage.TheVariants.{Ready}
+use Rattle.task_frames.specs.Cores.{AtCore}
 use Rattle.task_frames.specs.Frames.{AreEndsOf, IsFrame, IsPlan, Task, root_task}
 use Rattle.task_frames.proofs.Root.{begun-root, mode_of}
 use Rattle.task_frames.proofs.tests.begun_of.Goals as goal
@@ -31,5 +32,6 @@ given-requires-clause-frame c κs =
     let task : Plan Asks ℕ → List ℕ → ℕ → Task Asks ℕ = λ of path fuel. record { plan = of; number = 0; path = path; done = 1; since = 1; fuel = fuel - 1; holdings = c.in_ok-holdings.holdings.items; children = 0 } in
     let same : task plan List.[] plan.fuel ≡ task c.of-2.result.means c.root.result c.units-fuel.result =
     ap (λ of. task of List.[] plan.fuel) (sym c.of-2.ensures) ∙ ap (λ path. task c.of-2.result.means path plan.fuel) (sym c.root.ensures) ∙ ap (task c.of-2.result.means c.root.result) (sym c.units-fuel.ensures.units) in
-    subst (λ t. IsFrame ghosts t c.lend-ends.result.name ends (Ready c.in_ok-local.local answer.Nothing)) (same ∙ sym c.in_ok-boxed.ensures)
-    (begun-root ghosts plan is c.in_ok-holdings.holdings.items modes c.lend-ends.result.name ends own c.in_ok-local.local some step)
+    subst (λ (f : AtCore Asks ℕ). IsFrame ghosts f.task c.lend-ends.result.name ends f.stage) (sym c.in_ok-at.ensures)
+    (subst (λ t. IsFrame ghosts t c.lend-ends.result.name ends (Ready c.in_ok-local.local answer.Nothing)) same
+    (begun-root ghosts plan is c.in_ok-holdings.holdings.items modes c.lend-ends.result.name ends own c.in_ok-local.local some step))

@@ -5,7 +5,8 @@ use Rattle.swan_model.specs.QueueState.{ActiveFrame, QueueState, active, root_fr
 use Rattle.queues.specs.Asks.{LentEnds}
 use Rattle.task_frames.specs.contracts.asks.AsksBody.TheImpl.{ghosts}
 use Rattle.task_frames.specs.declared.asks.Asks.{Asks}
-use Rattle.task_frames.specs.Frames.{AreEndsOf, IsPlan, Task, root_task}
+use Rattle.task_frames.specs.Cores.{AtCore}
+use Rattle.task_frames.specs.Frames.{AreEndsOf, IsFrame, IsPlan, Task, root_task}
 use Rattle.task_frames.proofs.Root.{mode_of, root-is}
 use Rattle.task_frames.proofs.tests.root_of.Goals as goal
 
@@ -24,4 +25,5 @@ given-requires-clause-frame c κs =
     let task : Plan Asks ℕ → List ℕ → ℕ → Task Asks ℕ = λ of path fuel. record { plan = of; number = 0; path = path; done = 0; since = 0; fuel = fuel; holdings = c.in_ok-holdings.holdings.items; children = 0 } in
     let same : task c.of-2.result.means c.root.result c.units-fuel.result ≡ root_task plan c.in_ok-holdings.holdings.items =
     ap (λ of. task of c.root.result c.units-fuel.result) c.of-2.ensures ∙ ap (λ path. task plan path c.units-fuel.result) c.root.ensures ∙ ap (task plan List.[]) c.units-fuel.ensures.units in
-    root-is ghosts plan is c.in_ok-holdings.holdings.items modes c.lend-ends.result.name ends own _ _ (c.in_ok-boxed.ensures ∙ same) refl
+    subst (λ (f : AtCore Asks ℕ). IsFrame ghosts f.task c.lend-ends.result.name ends f.stage) (sym c.in_ok-at.ensures)
+    (root-is ghosts plan is c.in_ok-holdings.holdings.items modes c.lend-ends.result.name ends own _ _ same refl)
