@@ -4,3 +4,6 @@ pub mod Spending
 pub mod Turning
 pub mod Depth
 pub mod Bound
+mod Waking
+mod TurnsTold
+mod Crews

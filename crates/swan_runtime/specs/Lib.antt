@@ -1,3 +1,6 @@
 -- What the contracts of this crate cite: how frames stand on a stack.
 pub mod Stacks
 pub mod Turns
+pub mod Shared
+pub mod Turned
+pub mod Workers

@@ -6,7 +6,22 @@
 #![tactic(auto)]
 
 mod alone;
+mod asleep;
 mod laws;
+mod opening;
+mod row;
+mod shape;
+mod shared;
+mod threads;
+mod trying;
+mod turn;
+mod worker;
+mod worker_turns;
 
 pub use alone::run_alone;
 pub use laws::turns_are_few;
+pub use opening::{close, open};
+pub use shape::{RING_MOST, Shape, WORKERS_MOST};
+pub use threads::run;
+pub use turn::Turn;
+pub use worker::Worker;

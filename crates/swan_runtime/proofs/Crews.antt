@@ -1,0 +1,63 @@
+-- All workers of an opening, as they take turns.
+use Rattle.std.proofs.Common.{◌≡◌, ℕ, ◌<◌, false, IfOk, Result, Ok, Err, Some, List, [], ◌∷◌, ◌++◌, All, arith, ap, drop, length, refl, subst, sym, take, ◌∙◌}
+use Rattle.std.specs.Arc.{arc_value}
+use Rattle.std.proofs.Math.Seq.{take-append_seam}
+use Rattle.std.proofs.lemmas.List.Elements.{All-pop, All-push, All-same}
+use Rattle.named_lock.specs.Seats.{IsSeatOf, lock_name, lock_seats}
+use Rattle.named_lock.specs.declared.lock.NamedLock.{NamedLock}
+use Rattle.swan_model.specs.declared.plan.Plan.{Plan}
+use Rattle.task_frames.specs.declared.run.PlanRun.{PlanRun}
+use Rattle.task_frames.specs.Resumes.{EndsOf}
+use Rattle.swan_runtime.specs.declared.worker.Worker.{Worker}
+use Rattle.swan_runtime.specs.Shared.{SharedView}
+use Rattle.swan_runtime.specs.Workers.{AreDriven, AreWorkers, IsWorkerOf, OneHasMet, Run, own_of}
+
+pub all_popped : {X : Type 0} (P : X → Type 0) (xs left : List X) (x : X) → xs ≡ left ++ x ∷ [] → All P xs → All P left
+all_popped P xs left x is all = (All-pop P xs left (Some x) is all).0
+
+pub last_of_all : {X : Type 0} (P : X → Type 0) (xs left : List X) (x : X) → xs ≡ left ++ x ∷ [] → All P xs → P x
+last_of_all P xs left x is all = (All-pop P xs left (Some x) is all).1
+
+pub all_pushed : {X : Type 0} (P : X → Type 0) (xs more : List X) (x : X) → more ≡ xs ++ x ∷ [] → All P xs → P x → All P more
+all_pushed P xs more x is all one = All-same P more _ is (All-push P xs x all one)
+
+-- what was written over the whole of a list
+pub written : {X : Type 0} (xs ys : List X) (n : ℕ) → n ≡ length xs → length ys ≡ length xs → take n (ys ++ drop (length ys) xs) ≡ ys
+written xs ys n whole same =
+    ap (λ (k : ℕ). take k (ys ++ drop (length ys) xs)) (whole ∙ sym same) ∙ take-append_seam ys (drop (length ys) xs)
+
+none_here : (n : ℕ) → 0 < n → 0 ≡ n → ⊥
+none_here n some same = omega (arith, some, same)
+
+module _ {B Q L E : Type 0} (of : EndsOf E) where
+  pub seat_of_worker : (lock : NamedLock (SharedView B L E) (PlanRun B L)) (worker : Worker B Q L E) → IsWorkerOf of lock worker → IsSeatOf lock false (own_of worker).seat
+  seat_of_worker lock worker is = subst (λ (l : NamedLock (SharedView B L E) (PlanRun B L)). IsSeatOf l false (own_of worker).seat) is.lock_is is.own.seat
+
+  -- turns change neither whose they are, nor how many
+  pub driven_workers : (before after : List (Worker B Q L E)) → AreWorkers of before → length after ≡ length before → AreDriven of before after → AreWorkers of after
+  driven_workers before after are same driven = record {
+    lock = are.lock;
+    some = subst (λ (n : ℕ). 0 < n) (sym same) are.some;
+    all = same ∙ are.all;
+    each = λ k d below.
+        let within = subst (λ (n : ℕ). k < n) same below in
+        let it = driven k d within in
+        record { own = it.own; lock_is = ap arc_value it.same.0 ∙ (are.each k d within).lock_is };
+  }
+
+  pub driven_run : (plan : Plan B L) (before after : List (Worker B Q L E)) → length after ≡ length before → AreDriven of before after → Run plan before → Run plan after
+  driven_run plan before after same driven runs = λ k d below.
+      let within = subst (λ (n : ℕ). k < n) same below in
+      let it = driven k d within in
+      ap (λ (l : NamedLock (SharedView B L E) (PlanRun B L)). (lock_name l).plan) (ap arc_value it.same.0) ∙ runs k d within
+
+  pub one_has_met : (before after : List (Worker B Q L E)) → 0 < length before → length after ≡ length before → AreDriven of before after → OneHasMet after
+  one_has_met before [] some same driven = absurd (none_here (length before) some same)
+  one_has_met before (worker ∷ workers) some same driven = record { index = 0; worker = worker; stands = refl; met = (driven 0 worker some).met }
+
+  -- as many as the lock has seats
+  pub opened_workers : {V F : Type 0} (items : V → List (Worker B Q L E)) (lock : NamedLock (SharedView B L E) (PlanRun B L)) (n : ℕ) (result : Result V F)
+      → IfOk result (λ w. length (items w) ≡ n) → IfOk result (λ w. All (IsWorkerOf of lock) (items w)) → n ≡ lock_seats lock → 0 < n → IfOk result (λ w. AreWorkers of (items w))
+  opened_workers items lock n (Ok w) many each all some =
+      record { lock = lock; some = subst (λ (k : ℕ). 0 < k) (sym many) some; all = many ∙ all; each = each }
+  opened_workers items lock n (Err f) many each all some = tt

@@ -1,0 +1,18 @@
+use Rattle.std.proofs.Common.{◌≡◌, ◌≢◌, ℕ, ◌+◌, ◌-◌, ◌<◌, ◌≤◌, List, slice_index_or, vec_len}
+use Rattle.swan_model.specs.declared.plan.Plan.{Plan}
+use Rattle.task_frames.specs.Resumes.{ends_of}
+use Rattle.swan_runtime.specs.Shared.{AreOfRun, RowIsOfRun}
+use Rattle.swan_runtime.proofs.row.Row.wakes.Given as goal
+
+abbrev pub invariant-loop-place : goal.invariant-loop-place
+invariant-loop-place g l =
+    (l.place ≤ vec_len l.self.at_push)
+    × ((plan : Plan g.row.B.Denot g.row.B-Local.Denot) (run : List ℕ) → RowIsOfRun (ends_of g.Q.Ends.LocalEnds) plan run l.fn.self → RowIsOfRun (ends_of g.Q.Ends.LocalEnds) plan run l.self)
+    × ((plan : Plan g.row.B.Denot g.row.B-Local.Denot) (run : List ℕ) → RowIsOfRun (ends_of g.Q.Ends.LocalEnds) plan run l.fn.self
+    → AreOfRun (ends_of g.Q.Ends.LocalEnds) plan run l.fn.ready.items → AreOfRun (ends_of g.Q.Ends.LocalEnds) plan run l.ready.items)
+    × ((k : ℕ) (d : _) → k < l.place → (slice_index_or l.self.at_push.items k d).queue ≢ l.queue)
+    × (vec_len l.ready + vec_len l.self.at_push ≡ vec_len l.fn.ready + vec_len l.fn.self.at_push)
+    × (l.self.at_end ≡ l.fn.self.at_end) × (l.queue ≡ l.fn.queue)
+
+abbrev pub decreases-loop-place : goal.decreases-loop-place
+decreases-loop-place g l = vec_len l.self.at_push - l.place

@@ -1,0 +1,64 @@
+-- What workers share under the lock: the core, the frames that nobody runs, and those that sleep.
+use Rattle.std.specs.Prelude.{◌≡◌, ℕ, ◌+◌, ◌++◌, ◌∷◌, Option, Some, None, List, [], All, vec_len}
+use Rattle.std.specs.BTreeMap.{is_at}
+use Rattle.std.specs.Map.{lookup, values_of}
+use Rattle.std.specs.Ordering.{nat_cmp}
+use Rattle.swan_model.specs.declared.plan.Plan.{Plan}
+use Rattle.queues.specs.declared.answers.WaitFor.{WaitFor}
+use Rattle.queues.specs.declared.answers.WaitFor.TheVariants as wait
+use Rattle.task_frames.specs.Cores.{CoreView}
+use Rattle.task_frames.specs.Frames.{FrameView}
+use Rattle.task_frames.specs.Resumes.{EndsOf}
+use Rattle.swan_runtime.specs.declared.asleep.Asleep.{Asleep}
+use Rattle.swan_runtime.specs.declared.row.Popper.{Popper}
+use Rattle.swan_runtime.specs.declared.row.Row.{Row}
+
+module _ {B L E : Type 0} (of : EndsOf E) (plan : Plan B L) (run : List ℕ) where
+  -- The frame is one of this run of this plan.
+  pub record IsOfRun (frame : FrameView B L E) : Type 0 where
+    pub plan_is : frame.task.plan ≡ plan
+    pub run_is : of.run frame.ends ≡ run
+
+  -- So are all of these,
+  pub record AreOfRun (frames : List (FrameView B L E)) : Type 0 where
+    pub each : All IsOfRun frames
+
+  pub record ArePoppersOfRun {Q : Type 0} (poppers : List (Popper B Q L E)) : Type 0 where
+    pub each : All (λ (popper : Popper B Q L E). IsOfRun popper.frame) poppers
+
+  -- and all that sleep under a frame,
+  pub record RowIsOfRun {Q : Type 0} (row : Row B Q L E) : Type 0 where
+    pub at_end : AreOfRun row.at_end.items
+    pub at_push : ArePoppersOfRun row.at_push.items
+
+  -- or at all.
+  pub record SleepersAreOfRun {Q : Type 0} (asleep : Asleep B Q L E) : Type 0 where
+    pub each : All (λ (row : Row B Q L E). RowIsOfRun row) (values_of asleep.rows.entries)
+
+module _ {B Q L E : Type 0} where
+  -- what sleeps under a live frame
+  abbrev pub row_at : Asleep B Q L E → ℕ → Option (Row B Q L E)
+  row_at asleep number = lookup (is_at (nat_cmp number)) asleep.rows.entries
+
+  -- how many frames sleep there
+  abbrev pub sleepers : Option (Row B Q L E) → ℕ
+  sleepers None = 0
+  sleepers (Some row) = vec_len row.at_end + vec_len row.at_push
+
+  -- A frame was let sleep that has to wait for this, and asks about this queue: until it is pushed to, where that is awaited.
+  abbrev pub HasTakenIn : (before after : Row B Q L E) → FrameView B L E → WaitFor → Option ℕ → Type 0
+  HasTakenIn before after frame (wait.Pusher n) (Some queue) =
+      (after.at_end.items ≡ before.at_end.items) × (after.at_push.items ≡ before.at_push.items ++ (record { queue = queue; frame = frame }) ∷ [])
+  HasTakenIn before after frame wait_for asked =
+      (after.at_end.items ≡ before.at_end.items ++ frame ∷ []) × (after.at_push.items ≡ before.at_push.items)
+
+-- what is shared, but for who sleeps
+pub record SharedView (B L E : Type 0) : Type 0 where
+  pub core : CoreView B L
+  -- the frames that nobody runs and that may go on; the last goes on first
+  pub ready : List (FrameView B L E)
+
+-- All frames are those of the core's run.
+pub record IsShared {B Q L E : Type 0} (of : EndsOf E) (shared : SharedView B L E) (who : Asleep B Q L E) : Type 0 where
+  pub ready : AreOfRun of shared.core.plan shared.core.run shared.ready
+  pub asleep : SleepersAreOfRun of shared.core.plan shared.core.run who

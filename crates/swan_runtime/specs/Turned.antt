@@ -1,0 +1,54 @@
+-- What a worker's turn answers, and what shows it.
+use Rattle.std.specs.Prelude.{◌≡◌, ◌≢◌, ◌==◌, ◌+◌, ◌<◌, ◌≤◌, Bool, true, false, if◌then◌else◌}
+use Rattle.named_lock.specs.declared.rule.View.{View}
+use Rattle.named_lock.specs.declared.sign.Sign.TheVariants.{Runs, Stopped}
+use Rattle.task_frames.specs.declared.steps.Steps.{Steps}
+use Rattle.swan_runtime.specs.declared.turn.Turn.{Turn}
+use Rattle.swan_runtime.specs.declared.turn.Turn.TheVariants as turn
+
+-- A frame was tried by the core: it took one step, or has to wait, or is none of the core's.
+abbrev pub IsOneTry : Turn → Type 0
+IsOneTry (turn.Stepped steps) = steps.count ≡ 1
+IsOneTry (turn.NotYet waited) = Unit {0}
+IsOneTry (turn.Strange foreign) = Unit {0}
+IsOneTry _ = ⊥
+
+-- what a frame that is tried may be answered: that, or that the run was done
+abbrev pub IsTold : Turn → Type 0
+IsTold turn.Done = Unit {0}
+IsTold answer = IsOneTry answer
+
+-- what a turn answers that took these steps by itself before the frame was tried
+abbrev pub IsToldWith : Steps → Turn → Turn → Type 0
+IsToldWith local (turn.Stepped steps) answer = (sum : Steps) × (answer ≡ turn.Stepped sum) × (sum.count ≡ local.count + steps.count)
+IsToldWith local turn.Done answer = answer ≡ turn.Done
+IsToldWith local tried answer = answer ≡ (if local.count == 0 then tried else turn.Stepped local)
+
+module _ {N : Type 0} where
+  -- A seat later on: it holds nothing, and it has counted more at most.
+  pub record HasGoneOn (before after : View N) : Type 0 where
+    pub is : after ≡ record before { owes_done = after.owes_done; holds = after.holds; lost = after.lost }
+    pub holds : before.holds ≤ after.holds
+    pub lost : before.lost ≤ after.lost
+
+  -- What a worker's seat at the lock shows of an answer. A turn that took no step found the lock taken, or held it; a run is done where the
+  -- sign was seen Done, and stopped where it doesn't run any more.
+  abbrev pub IsShownBySeat : (before after : View N) → Turn → Type 0
+  IsShownBySeat before after (turn.Stepped steps) = 1 ≤ steps.count
+  IsShownBySeat before after (turn.NotYet waited) = before.holds < after.holds
+  IsShownBySeat before after turn.Busy = before.lost < after.lost
+  IsShownBySeat before after turn.Idle = before.holds < after.holds
+  IsShownBySeat before after (turn.Strange foreign) = before.holds < after.holds
+  IsShownBySeat before after turn.Done = after.saw_done ≡ true
+  IsShownBySeat before after turn.NoMemory = after.sign ≢ Runs
+
+  -- A turn was taken: it is shown by the seat, and no turn that found the run stopped answers anything but want of memory.
+  pub record IsTurn (before after : View N) (answer : Turn) : Type 0 where
+    pub shown : IsShownBySeat before after answer
+    pub stopped : after.sign ≡ Stopped → answer ≡ turn.NoMemory
+
+-- whether a turn is a worker's last one
+abbrev pub is_last : Turn → Bool
+is_last turn.Done = true
+is_last turn.NoMemory = true
+is_last _ = false

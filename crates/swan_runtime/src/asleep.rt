@@ -1,0 +1,212 @@
+// The frames of a run that sleep.
+ghost use Rattle.std.specs.Prelude.{◌≡◌, ◌+◌, ℕ, List, None, IfOk, OnOk, vec_len};
+ghost use Rattle.swan_model.specs.declared.plan.Plan.{Plan};
+ghost use Rattle.task_frames.specs.Resumes.{ends_of};
+ghost use Rattle.swan_runtime.specs.Shared.{AreOfRun, IsOfRun, SleepersAreOfRun, row_at, sleepers};
+
+use crate::row::Row;
+use queues::{Queues, WaitFor};
+use std::alloc::Global;
+use std::collections::BTreeMap;
+use swan_model::{Body, Mode, NoMemory};
+use task_frames::{Frame, Holding};
+
+/// What sleeps under each live frame, by its number.
+///
+/// A frame that has to wait sleeps under a live one that comes before it in serial order, and is ready again once that one has ended, or has
+/// pushed to the queue that the frame asks about. In costs, n counts the live frames.
+#[derive(Drop)]
+pub(crate) struct Asleep<B: Body, Q: Queues> {
+    pub rows: BTreeMap<u64, Row<B, Q>>,
+}
+
+impl<B: Body, Q: Queues> Asleep<B, Q> {
+    /// Nobody, under a root of this number. Err is want of memory. It allocates once.
+    pub fn new(alloc: Global, root: u64) -> Result<Asleep<B, Q>, NoMemory>
+        ensures own { (plan : Plan B B.Local) (run : List ℕ) → IfOk result (SleepersAreOfRun (ends_of Q.Ends.LocalEnds) plan run) }
+    {
+        let mut rows = BTreeMap::new(alloc);
+        rows.insert(root, Row::new(alloc, Vec::new(alloc)))?;
+        Ok(Asleep { rows })
+    }
+
+    /// Lets all that sleep under a frame be ready, which has ended. Err is want of memory. `O(log n)`, and `O(1)` amortised for each of them.
+    pub fn wake_all(&mut self, ready: &mut Vec<Frame<B, Q>>, number: u64) -> Result<(), NoMemory>
+        ensures own { (plan : Plan B B.Local) (run : List ℕ) → SleepersAreOfRun (ends_of Q.Ends.LocalEnds) plan run self.old → SleepersAreOfRun (ends_of Q.Ends.LocalEnds) plan run self.new }
+        ensures ready { (plan : Plan B B.Local) (run : List ℕ) → SleepersAreOfRun (ends_of Q.Ends.LocalEnds) plan run self.old
+            → AreOfRun (ends_of Q.Ends.LocalEnds) plan run ready.old.items → AreOfRun (ends_of Q.Ends.LocalEnds) plan run ready.new.items }
+        ensures none_lost { OnOk result (vec_len ready.new ≡ vec_len ready.old + sleepers (row_at self.old number)) }
+        ensures gone { row_at self.new number ≡ None }
+    {
+        match self.rows.remove(&number) {
+            Some(row) => row.wakes_all(ready),
+            None => Ok(()),
+        }
+    }
+
+    /// Lets those be ready that sleep under a frame until it pushes to this queue. Err is want of memory. `O(log n)`, and `O(1)` for each frame
+    /// that sleeps there until it pushes.
+    pub fn wake_poppers(
+        &mut self,
+        ready: &mut Vec<Frame<B, Q>>,
+        number: u64,
+        queue: u32,
+    ) -> Result<(), NoMemory>
+        ensures own { (plan : Plan B B.Local) (run : List ℕ) → SleepersAreOfRun (ends_of Q.Ends.LocalEnds) plan run self.old → SleepersAreOfRun (ends_of Q.Ends.LocalEnds) plan run self.new }
+        ensures ready { (plan : Plan B B.Local) (run : List ℕ) → SleepersAreOfRun (ends_of Q.Ends.LocalEnds) plan run self.old
+            → AreOfRun (ends_of Q.Ends.LocalEnds) plan run ready.old.items → AreOfRun (ends_of Q.Ends.LocalEnds) plan run ready.new.items }
+    {
+        match self.rows.get_mut(&number) {
+            Some(row) => row.wakes(ready, queue),
+            None => Ok(()),
+        }
+    }
+
+    /// Lets those be ready that sleep under a frame until it pushes to the queue about which it asked, where there is one. Err is want of
+    /// memory. It costs what `wake_poppers` costs.
+    pub fn wake_asked(
+        &mut self,
+        ready: &mut Vec<Frame<B, Q>>,
+        number: u64,
+        asked: Option<u32>,
+    ) -> Result<(), NoMemory>
+        ensures own { (plan : Plan B B.Local) (run : List ℕ) → SleepersAreOfRun (ends_of Q.Ends.LocalEnds) plan run self.old → SleepersAreOfRun (ends_of Q.Ends.LocalEnds) plan run self.new }
+        ensures ready { (plan : Plan B B.Local) (run : List ℕ) → SleepersAreOfRun (ends_of Q.Ends.LocalEnds) plan run self.old
+            → AreOfRun (ends_of Q.Ends.LocalEnds) plan run ready.old.items → AreOfRun (ends_of Q.Ends.LocalEnds) plan run ready.new.items }
+    {
+        match asked {
+            Some(queue) => self.wake_poppers(ready, number, queue),
+            None => Ok(()),
+        }
+    }
+
+    /// Notes a child of this parent that was given this. The answer is who was given to pop before what it pops, in the order of places. Err is
+    /// want of memory. `O(log n + k log k)` for k places of the child.
+    fn spawns(
+        &mut self,
+        alloc: Global,
+        parent: u64,
+        child: u64,
+        holdings: &[Holding],
+    ) -> Result<Vec<u64>, NoMemory>
+        ensures own { (plan : Plan B B.Local) (run : List ℕ) → SleepersAreOfRun (ends_of Q.Ends.LocalEnds) plan run self.old → SleepersAreOfRun (ends_of Q.Ends.LocalEnds) plan run self.new }
+    {
+        match self.rows.get_mut(&parent) {
+            Some(row) => row.spawns(alloc, child, holdings),
+            None => Ok(Vec::new(alloc)),
+        }
+    }
+
+    /// Lets those be ready that sleep under a frame until it pushes to the queue at a place, where that may be pushed to. Err is want of
+    /// memory. It costs what `wake_poppers` costs.
+    fn wake_at(
+        &mut self,
+        ready: &mut Vec<Frame<B, Q>>,
+        number: u64,
+        holding: Holding,
+    ) -> Result<(), NoMemory>
+        ensures own { (plan : Plan B B.Local) (run : List ℕ) → SleepersAreOfRun (ends_of Q.Ends.LocalEnds) plan run self.old → SleepersAreOfRun (ends_of Q.Ends.LocalEnds) plan run self.new }
+        ensures ready { (plan : Plan B B.Local) (run : List ℕ) → SleepersAreOfRun (ends_of Q.Ends.LocalEnds) plan run self.old
+            → AreOfRun (ends_of Q.Ends.LocalEnds) plan run ready.old.items → AreOfRun (ends_of Q.Ends.LocalEnds) plan run ready.new.items }
+    {
+        if holding.mode.allows(Mode::Push) {
+            self.wake_poppers(ready, number, holding.number)
+        } else {
+            Ok(())
+        }
+    }
+
+    /// Lets those be ready that sleep under a frame until it pushes to one of the queues that may be pushed to by one who holds this. Err is
+    /// want of memory. It costs what `wake_poppers` costs for each place.
+    fn wake_given(
+        &mut self,
+        ready: &mut Vec<Frame<B, Q>>,
+        number: u64,
+        holdings: &[Holding],
+    ) -> Result<(), NoMemory>
+        ensures own { (plan : Plan B B.Local) (run : List ℕ) → SleepersAreOfRun (ends_of Q.Ends.LocalEnds) plan run self.old → SleepersAreOfRun (ends_of Q.Ends.LocalEnds) plan run self.new }
+        ensures ready { (plan : Plan B B.Local) (run : List ℕ) → SleepersAreOfRun (ends_of Q.Ends.LocalEnds) plan run self.old
+            → AreOfRun (ends_of Q.Ends.LocalEnds) plan run ready.old.items → AreOfRun (ends_of Q.Ends.LocalEnds) plan run ready.new.items }
+    {
+        for holding in holdings {
+            self.wake_at(ready, number, *holding)?;
+        }
+        Ok(())
+    }
+
+    /// Enters a child of this parent that was given this. Who sleeps until the parent pushes to a queue that the child may push to is ready,
+    /// since the child may be whom it has to wait for. Err is want of memory. `O((k + 1) log n)` for k places of the child.
+    pub fn enter(
+        &mut self,
+        alloc: Global,
+        ready: &mut Vec<Frame<B, Q>>,
+        parent: u64,
+        child: u64,
+        holdings: &[Holding],
+    ) -> Result<(), NoMemory>
+        ensures own { (plan : Plan B B.Local) (run : List ℕ) → SleepersAreOfRun (ends_of Q.Ends.LocalEnds) plan run self.old → SleepersAreOfRun (ends_of Q.Ends.LocalEnds) plan run self.new }
+        ensures ready { (plan : Plan B B.Local) (run : List ℕ) → SleepersAreOfRun (ends_of Q.Ends.LocalEnds) plan run self.old
+            → AreOfRun (ends_of Q.Ends.LocalEnds) plan run ready.old.items → AreOfRun (ends_of Q.Ends.LocalEnds) plan run ready.new.items }
+    {
+        self.wake_given(ready, parent, holdings)?;
+        let before = self.spawns(alloc, parent, child, holdings)?;
+        self.rows.insert(child, Row::new(alloc, before))?;
+        Ok(())
+    }
+
+    /// Under which frame one sleeps that has to wait for this.
+    ///
+    /// Who waits for its children sleeps under the one spawned last, which mostly ends last. Who waits for its turn to pop sleeps under
+    /// the last one that was given a queue of its own before: so of many that pop one queue each wakes once. Where such a frame has ended,
+    /// it is the one that the wait names. `O(k log n)` for k places; it takes no memory.
+    fn bed(&self, number: u64, wait: WaitFor) -> u64 {
+        match wait {
+            WaitFor::Child(child) => self.newest_child(number).unwrap_or(child),
+            WaitFor::PopTurn(popper) => self.popper_before(number).unwrap_or(popper),
+            WaitFor::Version(owing) => owing,
+            WaitFor::Pusher(pusher) => pusher,
+        }
+    }
+
+    /// The child of a frame that was spawned last, where it is live. `O(log n)`; it takes no memory.
+    fn newest_child(&self, number: u64) -> Option<u64> {
+        let newest = self.rows.get(&number)?.newest?;
+        if self.rows.contains_key(&newest) {
+            Some(newest)
+        } else {
+            None
+        }
+    }
+
+    /// The first live frame of those that were given before what this one pops. `O(k log n)` for k places; it takes no memory.
+    fn popper_before(&self, number: u64) -> Option<u64> {
+        let row = self.rows.get(&number)?;
+        for popper in &row.before {
+            if self.rows.contains_key(popper) {
+                return Some(*popper);
+            }
+        }
+        None
+    }
+
+    /// Lets a frame sleep that has to wait for this; where the frame isn't live under which it would sleep, it is ready. Err is want of memory.
+    /// `O(k log n)` for k places.
+    pub fn sleep(
+        &mut self,
+        ready: &mut Vec<Frame<B, Q>>,
+        frame: Frame<B, Q>,
+        wait: WaitFor,
+    ) -> Result<(), NoMemory>
+        ensures own { (plan : Plan B B.Local) (run : List ℕ) → SleepersAreOfRun (ends_of Q.Ends.LocalEnds) plan run self.old
+            → IsOfRun (ends_of Q.Ends.LocalEnds) plan run frame → SleepersAreOfRun (ends_of Q.Ends.LocalEnds) plan run self.new }
+        ensures ready { (plan : Plan B B.Local) (run : List ℕ) → IsOfRun (ends_of Q.Ends.LocalEnds) plan run frame
+            → AreOfRun (ends_of Q.Ends.LocalEnds) plan run ready.old.items → AreOfRun (ends_of Q.Ends.LocalEnds) plan run ready.new.items }
+    {
+        let queue = frame.asked_queue();
+        let bed = self.bed(frame.number(), wait);
+        match self.rows.get_mut(&bed) {
+            Some(row) => row.takes_in(frame, wait, queue),
+            None => Ok(ready.push(frame)?),
+        }
+    }
+}

@@ -1,0 +1,165 @@
+// Opening and closing runs of workers.
+ghost use Rattle.std.specs.Prelude.{◌≡◌, ◌<◌, false, true, All, IfOk, length, vec_len};
+ghost use Rattle.std.specs.Arc.{arc_value};
+ghost use Rattle.swan_model.specs.declared.plan.Plan.{Plan as ThePlan};
+ghost use Rattle.swan_model.specs.Elision.{outcome};
+ghost use Rattle.swan_model.specs.Script.{script};
+ghost use Rattle.named_lock.specs.declared.lock.NamedLock.{NamedLock as TheLock};
+ghost use Rattle.task_frames.specs.declared.run.PlanRun.{PlanRun};
+ghost use Rattle.swan_runtime.specs.Shared.{SharedView};
+ghost use Rattle.named_lock.specs.Seats.{IsNewSeatOf, IsSeatOf, lock_name, lock_seats};
+ghost use Rattle.task_frames.specs.Resumes.{IsOpened, ends_of};
+ghost use Rattle.swan_runtime.specs.Workers.{AreWorkers, IsWorkerOf, OneHasMet, Run, has_met};
+
+use crate::shared::SharedRun;
+use crate::worker::Own;
+use crate::{Shape, Worker};
+use crossbeam_utils::CachePadded;
+use named_lock::{LockSeat, NamedLock};
+use queue_book::{BookQueues, NoEnds};
+use queues::{LocalEnds, Queues};
+use std::alloc::Global;
+use std::sync::Arc;
+use swan_model::{Body, NoMemory, Plan, RunName};
+use task_frames::{Core, Opened, RunOutcome};
+
+/// Opens a run of a plan, over hyperqueues in the plainest form, with as many workers as the shape says. None of them has met the end of the
+/// run. Err is want of memory. `O(workers)`, and `O(r log r)` for r queues and objects that the plan begins with.
+pub fn open<B: Body>(
+    alloc: Global,
+    plan: Plan<B>,
+    shape: &Shape,
+) -> Result<Vec<Worker<B, BookQueues>>, NoMemory>
+    ensures count { IfOk result (λ workers. vec_len workers ≡ shape.now.workers) }
+    ensures workers { IfOk result (λ workers. AreWorkers (ends_of ⟦<NoEnds as LocalEnds>⟧) workers.items) }
+    ensures plan { IfOk result (λ workers. Run plan workers.items) }
+    ensures met { IfOk result (λ workers. All (λ worker. has_met worker ≡ false) workers.items) }
+{
+    let queues = BookQueues::new(alloc, RunName::of(&plan));
+    let opened = Core::open(alloc, plan, queues)?;
+    workers_of(alloc, opened, shape.workers())
+}
+
+/// A worker of this number, with a seat of the lock, that has met nothing. `O(1)`.
+fn worker_of<B: Body, Q: Queues>(
+    lock: Arc<NamedLock<SharedRun<B, Q>>>,
+    body: Arc<B>,
+    seat: LockSeat<SharedRun<B, Q>>,
+    number: u32,
+) -> Worker<B, Q>
+    requires seat { IsNewSeatOf (arc_value lock) seat }
+    requires body { arc_value body ≡ (lock_name (arc_value lock)).plan.body }
+    ensures worker { IsWorkerOf (ends_of Q.Ends.LocalEnds) (arc_value lock) result }
+    ensures met { has_met result ≡ false }
+{
+    Worker {
+        own: CachePadded::new(Own {
+            lock,
+            seat,
+            body,
+            number,
+            frame: None,
+            met: false,
+        }),
+    }
+}
+
+/// A worker for each seat of the lock.
+fn workers_at<B: Body, Q: Queues>(
+    alloc: Global,
+    lock: &Arc<NamedLock<SharedRun<B, Q>>>,
+    body: &Arc<B>,
+    seats: Vec<LockSeat<SharedRun<B, Q>>>,
+) -> Result<Vec<Worker<B, Q>>, NoMemory>
+    requires seats { All (IsNewSeatOf (arc_value lock.now)) seats.items }
+    requires body { arc_value body.now ≡ (lock_name (arc_value lock.now)).plan.body }
+    ensures count { IfOk result (λ workers. length workers.items ≡ vec_len seats) }
+    ensures workers { IfOk result (λ workers. All (IsWorkerOf (ends_of Q.Ends.LocalEnds) (arc_value lock.now)) workers.items) }
+    ensures met { IfOk result (λ workers. All (λ worker. has_met worker ≡ false) workers.items) }
+{
+    let mut seats = seats;
+    let mut workers = Vec::new(alloc);
+    let mut number = 0u32;
+    while let Some(seat) = seats.pop() {
+        let own_lock = Arc::try_clone(lock)?;
+        let own_body = Arc::try_clone(body)?;
+        workers.push(worker_of(own_lock, own_body, seat, number))?;
+        number = number.saturating_add(1);
+    }
+    Ok(workers)
+}
+
+/// So many workers, one at least, over an opened core.
+fn workers_of<B: Body, Q: Queues>(
+    alloc: Global,
+    opened: Opened<B, Q>,
+    count: u32,
+) -> Result<Vec<Worker<B, Q>>, NoMemory>
+    requires opened { IsOpened (ends_of Q.Ends.LocalEnds) opened.core opened.root }
+    requires body { opened.body.value ≡ opened.core.plan.body }
+    requires some { 0 < count }
+    ensures count { IfOk result (λ workers. vec_len workers ≡ count) }
+    ensures workers { IfOk result (λ workers. AreWorkers (ends_of Q.Ends.LocalEnds) workers.items) }
+    ensures plan { IfOk result (λ workers. Run opened.core.plan workers.items) }
+    ensures met { IfOk result (λ workers. All (λ worker. has_met worker ≡ false) workers.items) }
+{
+    let Opened { core, body, root } = opened;
+    let shared = SharedRun::new(alloc, core, root)?;
+    let (lock, seats) = NamedLock::open(alloc, shared, count)?;
+    let lock = Arc::new(alloc, lock)?;
+    workers_at(alloc, &lock, &body, seats)
+}
+
+/// The lock of workers.
+fn lock_of<B: Body, Q: Queues>(
+    workers: &Vec<Worker<B, Q>>,
+) -> Result<Arc<NamedLock<SharedRun<B, Q>>>, NoMemory>
+    requires some { 0 < vec_len workers.now }
+    ensures lock { (lock : TheLock (SharedView B B.Local Q.Ends) (PlanRun B B.Local)) → All (IsWorkerOf (ends_of Q.Ends.LocalEnds) lock) workers.now.items
+        → IfOk result (λ own. arc_value own ≡ lock) }
+    ensures plan { (plan : ThePlan B B.Local) → Run plan workers.now.items → IfOk result (λ own. (lock_name (arc_value own)).plan ≡ plan) }
+{
+    let first = &workers[0];
+    Ok(Arc::try_clone(&first.own.lock)?)
+}
+
+/// The seats of workers.
+fn seats_of<B: Body, Q: Queues>(
+    alloc: Global,
+    lock: &Arc<NamedLock<SharedRun<B, Q>>>,
+    workers: Vec<Worker<B, Q>>,
+) -> Result<Vec<LockSeat<SharedRun<B, Q>>>, NoMemory>
+    requires workers { All (IsWorkerOf (ends_of Q.Ends.LocalEnds) (arc_value lock.now)) workers.items }
+    ensures count { IfOk result (λ seats. vec_len seats ≡ vec_len workers) }
+    ensures seats { IfOk result (λ seats. All (IsSeatOf (arc_value lock.now) false) seats.items) }
+{
+    let _ = lock;
+    let mut workers = workers;
+    let mut seats = Vec::new(alloc);
+    while let Some(worker) = workers.pop() {
+        let Own { seat, .. } = worker.own.into_inner();
+        seats.push(seat)?;
+    }
+    Ok(seats)
+}
+
+/// Closes a run, by all its workers, of which one has met its end: the outcome of the plan, where the run is done. Err is want of memory:
+/// of this call, or of the run, which was stopped then. `O(workers)`, and what the outcome takes.
+pub fn close<B: Body, Q: Queues>(
+    alloc: Global,
+    workers: Vec<Worker<B, Q>>,
+) -> Result<RunOutcome, NoMemory>
+    requires workers { AreWorkers (ends_of Q.Ends.LocalEnds) workers.items }
+    requires met { OneHasMet workers.items }
+    ensures outcome { (plan : ThePlan B B.Local) → Run plan workers.items → IfOk result (λ ran. ran.outcome ≡ outcome B.Body plan) }
+    ensures script { (plan : ThePlan B B.Local) → Run plan workers.items → IfOk result (λ ran. ran.script.means ≡ script B.Body plan) }
+{
+    let lock = lock_of(&workers)?;
+    let seats = seats_of(alloc, &lock, workers)?;
+    let shared = lock.close(seats);
+    if shared.is_done() {
+        shared.into_core().take_outcome(alloc)
+    } else {
+        Err(NoMemory)
+    }
+}

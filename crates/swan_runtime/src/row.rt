@@ -1,0 +1,131 @@
+// What sleeps under one live frame.
+ghost use Rattle.std.specs.Prelude.{◌≡◌, ◌≢◌, ◌+◌, [], ℕ, List, All, Some, OnOk, OnErr, vec_len};
+ghost use Rattle.swan_model.specs.declared.plan.Plan.{Plan};
+ghost use Rattle.task_frames.specs.Resumes.{ends_of};
+ghost use Rattle.swan_runtime.specs.Shared.{AreOfRun, HasTakenIn, RowIsOfRun, sleepers};
+
+use queues::{Queues, WaitFor};
+use std::alloc::Global;
+use std::collections::BTreeMap;
+use swan_model::{Body, Mode, NoMemory};
+use task_frames::{Frame, Holding};
+
+/// A frame that sleeps until an item is pushed to a queue.
+#[derive(Drop)]
+pub struct Popper<B: Body, Q: Queues> {
+    /// The queue.
+    pub queue: u32,
+    /// The frame.
+    pub frame: Frame<B, Q>,
+}
+
+/// What sleeps under one live frame, and what tells under whom others may sleep.
+#[derive(Drop)]
+pub struct Row<B: Body, Q: Queues> {
+    /// Who sleeps until it ends.
+    pub at_end: Vec<Frame<B, Q>>,
+    /// Who sleeps until it pushes, or ends.
+    pub at_push: Vec<Popper<B, Q>>,
+    /// Its child that was spawned last.
+    pub newest: Option<u64>,
+    /// For each queue that a child of it was given to pop, the last such child.
+    pub poppers: BTreeMap<u32, u64>,
+    /// For each queue that it was given to pop, who was given it before, in the order of places.
+    pub before: Vec<u64>,
+}
+
+impl<B: Body, Q: Queues> Row<B, Q> {
+    /// Nothing, for a frame before which these were given what it pops. It takes no memory. `O(1)`.
+    pub fn new(alloc: Global, before: Vec<u64>) -> Row<B, Q>
+        ensures frames { (result.at_end.items ≡ []) × (result.at_push.items ≡ []) }
+        ensures before { result.before ≡ before }
+    {
+        Row {
+            at_end: Vec::new(alloc),
+            at_push: Vec::new(alloc),
+            newest: None,
+            poppers: BTreeMap::new(alloc),
+            before,
+        }
+    }
+
+    /// Notes a child that was given this. The answer is who was given to pop before what it pops, in the order of places. Err is want of
+    /// memory. `O(k log k)` for k places.
+    pub fn spawns(
+        &mut self,
+        alloc: Global,
+        child: u64,
+        holdings: &[Holding],
+    ) -> Result<Vec<u64>, NoMemory>
+        ensures frames { (self.new.at_end ≡ self.old.at_end) × (self.new.at_push ≡ self.old.at_push) }
+    {
+        self.newest = Some(child);
+        let mut before = Vec::new(alloc);
+        for holding in holdings {
+            if holding.mode.allows(Mode::Pop) {
+                if let Some(older) = self.poppers.insert(holding.number, child)? {
+                    before.push(older)?;
+                }
+            }
+        }
+        Ok(before)
+    }
+
+    /// Lets a frame sleep here that has to wait for this, and asks about this queue. Err is want of memory. `O(1)`, amortised.
+    pub fn takes_in(
+        &mut self,
+        frame: Frame<B, Q>,
+        wait: WaitFor,
+        queue: Option<u32>,
+    ) -> Result<(), NoMemory>
+        ensures ok { OnOk result (HasTakenIn self.old self.new frame wait queue) }
+        ensures err { OnErr result ((self.new.at_end.items ≡ self.old.at_end.items) × (self.new.at_push.items ≡ self.old.at_push.items)) }
+    {
+        match (wait, queue) {
+            (WaitFor::Pusher(_), Some(queue)) => self.at_push.push(Popper { queue, frame })?,
+            _ => self.at_end.push(frame)?,
+        }
+        Ok(())
+    }
+
+    /// Lets those be ready that sleep here until this queue is pushed to. Err is want of memory. `O(1)` for each frame that sleeps here until
+    /// a queue is pushed to.
+    pub fn wakes(&mut self, ready: &mut Vec<Frame<B, Q>>, queue: u32) -> Result<(), NoMemory>
+        ensures own { (plan : Plan B B.Local) (run : List ℕ) → RowIsOfRun (ends_of Q.Ends.LocalEnds) plan run self.old
+            → RowIsOfRun (ends_of Q.Ends.LocalEnds) plan run self.new }
+        ensures ready { (plan : Plan B B.Local) (run : List ℕ) → RowIsOfRun (ends_of Q.Ends.LocalEnds) plan run self.old
+            → AreOfRun (ends_of Q.Ends.LocalEnds) plan run ready.old.items → AreOfRun (ends_of Q.Ends.LocalEnds) plan run ready.new.items }
+        ensures woken { OnOk result (All (λ popper. popper.queue ≢ queue) self.new.at_push.items) }
+        ensures none_lost { OnOk result (vec_len ready.new + vec_len self.new.at_push ≡ vec_len ready.old + vec_len self.old.at_push) }
+        ensures others { self.new.at_end ≡ self.old.at_end }
+    {
+        let mut place = 0;
+        while place < self.at_push.len() {
+            if self.at_push[place].queue == queue {
+                let popper = self.at_push.swap_remove(place);
+                ready.push(popper.frame)?;
+            } else {
+                place += 1;
+            }
+        }
+        Ok(())
+    }
+
+    /// Lets all that sleep here be ready. Err is want of memory. `O(1)`, amortised, for each of them.
+    pub fn wakes_all(self, ready: &mut Vec<Frame<B, Q>>) -> Result<(), NoMemory>
+        ensures ready { (plan : Plan B B.Local) (run : List ℕ) → RowIsOfRun (ends_of Q.Ends.LocalEnds) plan run self
+            → AreOfRun (ends_of Q.Ends.LocalEnds) plan run ready.old.items → AreOfRun (ends_of Q.Ends.LocalEnds) plan run ready.new.items }
+        ensures none_lost { OnOk result (vec_len ready.new ≡ vec_len ready.old + sleepers (Some self)) }
+    {
+        let Row {
+            mut at_end,
+            mut at_push,
+            ..
+        } = self;
+        ready.append(&mut at_end)?;
+        while let Some(popper) = at_push.pop() {
+            ready.push(popper.frame)?;
+        }
+        Ok(())
+    }
+}
