@@ -2,10 +2,13 @@
 //! several orders, in orders by chance, and from a stack.
 //!
 //! A plan is a table of tasks, each a list of asks in words. A test by hand is a table of turns: which frame is tried
-//! next, and what it comes to. Each turn goes through one function, so a table costs nothing to prove. What is left was
+//! next, and what it comes to. Each turn goes through one function, so a table costs nothing to prove. The same plans are run
+//! by 1, 2, 3, 4 and 64 workers in threads. What is left was
 //! worked out by hand from what each ask is to do, and is compared with the elision of the same plan too.
 #![tactic(auto)]
 
+#[cfg(test)]
+mod meeting;
 #[cfg(test)]
 mod order_tests;
 #[cfg(test)]
@@ -20,3 +23,5 @@ mod tests;
 mod turn;
 #[cfg(test)]
 mod turns;
+#[cfg(test)]
+mod worker_tests;

@@ -11,9 +11,13 @@ use queue_book::BookQueues;
 use queues::Queues;
 use serial_elision::{Printed, elide};
 use std::alloc::Global;
+use std::rt::Clock;
+use std::sync::Wait;
 use std::test::Fail;
+use std::thread::Threads;
 use swan_model::{Body, NoMemory, Outcome, Plan, RunName};
-use swan_runtime::run_alone;
+use swan_outside::OpenGate;
+use swan_runtime::{Shape, run, run_alone};
 use task_frames::{Core, Frame, Opened};
 
 /// How the frames of a run are tried.
@@ -191,4 +195,48 @@ pub fn stops(
         Some(_) => Err("the root has ended".into()),
         None => Ok(()),
     }
+}
+
+/// Runs of these tasks by several workers leave what the elision leaves.
+pub fn workers_leave_the_same<T: Threads + Wait + Clock + Sync>(
+    rt: &T,
+    alloc: Global,
+    tasks: &[&str],
+    fuel: u64,
+) -> Result<(), Fail> {
+    for workers in [1, 2, 3, 4, 64] {
+        let shape = Shape::new(workers, 16).ok_or("no shape")?;
+        let (outcome, _ran) = run(
+            rt,
+            alloc,
+            plan(alloc, tasks, fuel)?,
+            &shape,
+            &OpenGate,
+        )?.outcome();
+        is_elided(alloc, tasks, fuel, &printed(alloc, &outcome)?)?;
+    }
+    Ok(())
+}
+
+/// Runs of these tasks by several workers are stopped by want of memory, which is met at one index of the list of all asks.
+pub fn stops_by_workers<T: Threads + Wait + Clock + Sync>(
+    rt: &T,
+    alloc: Global,
+    tasks: &[&str],
+    fuel: u64,
+    fails: usize,
+) -> Result<(), Fail> {
+    for workers in [1, 2, 4, 64] {
+        let shape = Shape::new(workers, 16).ok_or("no shape")?;
+        if let Ok(_ran) = run(
+            rt,
+            alloc,
+            failing_plan(alloc, tasks, fuel, fails)?,
+            &shape,
+            &OpenGate,
+        ) {
+            return Err("the run has ended".into());
+        }
+    }
+    Ok(())
 }

@@ -1,0 +1,124 @@
+// Two tasks that wait for each other, so that both are under way at once.
+ghost use Rattle.std.specs.Prelude.{IfOk};
+
+use crate::plans::asks;
+use elision_tests::{AskList, roots};
+use std::alloc::Global;
+use std::marker::Model;
+use std::rt::Clock;
+use std::sync::atomic::{AtomicU64, Ordering};
+use std::sync::{Arc, Wait};
+use std::test::Fail;
+use std::thread::Threads;
+use swan_model::{Answer, Ask, Body, NoMemory, Plan, PlanFuel};
+use swan_outside::OpenGate;
+use swan_runtime::{Shape, run};
+
+/// How often one looks for the other.
+const TURNS_MOST: u64 = 1_000_000_000;
+
+/// What two tasks and the test share.
+#[derive(Drop)]
+struct Flags {
+    first: AtomicU64,
+    second: AtomicU64,
+    failures: AtomicU64,
+}
+
+impl Flags {
+    /// Sets the own flag, and waits for the other one. After too many turns it notes a failure.
+    fn wait(&self, own: &AtomicU64, other: &AtomicU64) {
+        own.store(1, Ordering::SeqCst);
+        for _ in 0..TURNS_MOST {
+            if other.load(Ordering::SeqCst) == 1 {
+                return;
+            }
+        }
+        self.failures.store(1, Ordering::SeqCst);
+    }
+}
+
+/// The steps of a list, at two of which the tasks meet.
+#[derive(Drop)]
+struct Meeting {
+    list: AskList,
+    first: usize,
+    second: usize,
+    flags: Arc<Flags>,
+}
+
+impl Model for Meeting {
+    ghost use Rattle.std.specs.Prelude.{List, ℕ};
+    ghost use Rattle.swan_model.specs.declared.body.Ask.{Ask as Asked};
+
+    ghost Value = { List (Asked ℕ) };
+
+    ghost view = { λ meeting. meeting.list };
+}
+
+impl Body for Meeting {
+    type Local = usize;
+
+    ghost next = { ⟦<AskList as Body>⟧.next };
+
+    ghost place_of = { ⟦<AskList as Body>⟧.place_of };
+
+    fn advance(
+        &self,
+        alloc: Global,
+        local: usize,
+        answer: Answer,
+        fuel: u64,
+    ) -> Result<(usize, Ask<usize>), NoMemory> {
+        if local == self.first {
+            self.flags.wait(&self.flags.first, &self.flags.second);
+        } else if local == self.second {
+            self.flags.wait(&self.flags.second, &self.flags.first);
+        }
+        self.list.advance(alloc, local, answer, fuel)
+    }
+
+    fn place(&self, local: &usize) -> u64 {
+        self.list.place(local)
+    }
+}
+
+/// The root spawns two children, of which each works twice. Both are in their second step of work at once.
+pub fn meet<T: Threads + Wait + Clock + Sync>(rt: &T, alloc: Global) -> Result<(), Fail> {
+    let flags = Arc::new(
+        alloc,
+        Flags {
+            first: AtomicU64::new(0),
+            second: AtomicU64::new(0),
+            failures: AtomicU64::new(0),
+        },
+    )?;
+    let list = asks(
+        alloc,
+        &["spawn:1:3: spawn:2:3:", "work work", "work work"],
+        usize::MAX,
+    )?;
+    let plan = Plan {
+        body: Meeting {
+            list,
+            first: 4,
+            second: 7,
+            flags: Arc::try_clone(&flags)?,
+        },
+        root_local: 0,
+        roots: roots(alloc)?,
+        fuel: PlanFuel::new(9),
+    };
+    let shape = Shape::new(2, 16).ok_or("no shape")?;
+    let (outcome, _ran) = run(rt, alloc, plan, &shape, &OpenGate)?.outcome();
+    if outcome.faults.len() != 0 {
+        return Err("a fault".into());
+    }
+    if flags.failures.load(Ordering::SeqCst) != 0 {
+        return Err("they haven't met".into());
+    }
+    if flags.first.load(Ordering::SeqCst) != 1 || flags.second.load(Ordering::SeqCst) != 1 {
+        return Err("one hasn't come".into());
+    }
+    Ok(())
+}
