@@ -3,6 +3,13 @@
 //! `run_alone` runs an opened core to its end on one thread. It keeps the live frames on a stack, with each child above its
 //! parent: the top is the earliest live frame in serial order, so it never has to wait. `turns_are_few` says how long such a run
 //! can be, and how many frames stand there.
+//!
+//! `run` runs a plan by several workers, each in a thread of its own, and answers the outcome of the serial elision for every number of
+//! them and every interleaving. `open`, `Worker::turn` and `close` are its parts. The core stands behind one lock, with the frames that
+//! are ready and those that sleep. A worker takes steps of a frame outside the lock, and then one in a hold. A frame that has to wait
+//! sleeps under a live one until that has ended, or has pushed to the queue that it asks about.
+//!
+//! Not promised: that a run with two workers or more returns, that its work is shared, and that a frame is woken as soon as it may go on.
 #![tactic(auto)]
 
 mod alone;
