@@ -71,6 +71,12 @@ with folder() as here:
     made = {times: written(here, f"queues{times}", [jobs.queues_of_children(200_000 * times)]) for times in (1, 2, 4)}
     series("elide of n spawned tasks", lambda times: ["elide", 10_000_000, made[times]])
 
+    def runs(workers, name, job, count):
+        """The growth of runs of a job by so many workers. The answer is the longest job."""
+        made = {times: written(here, f"run{times}", [job(count * times)]) for times in (1, 2, 4)}
+        series(f"run {workers} of {name}", lambda times: ["run", workers, 10_000_000, made[times]])
+        return made[4]
+
     for name, job, count in [
         ("n spawned tasks", jobs.queues_of_children, 100_000),
         ("n inout children", jobs.chain, 100_000),
@@ -79,8 +85,7 @@ with folder() as here:
         ("n items through five stages", jobs.pipeline, 50_000),
         ("n dives of 60 tasks", jobs.dives, 2_500),
     ]:
-        made = {times: written(here, f"run{times}", [job(count * times)]) for times in (1, 2, 4)}
-        series(f"run 1 of {name}", lambda times: ["run", 1, 10_000_000, made[times]])
+        runs(1, name, job, count)
 
     for name, job, count in [
         ("n inout children", jobs.chain, 50_000),
@@ -88,11 +93,10 @@ with folder() as here:
         ("n readers and a writer", jobs.readers, 50_000),
         ("n items through 20 queues with a consumer each", jobs.consumers, 50_000),
     ]:
-        made = {times: written(here, f"run{times}", [job(count * times)]) for times in (1, 2, 4)}
-        series(f"run 4 of {name}", lambda times: ["run", 4, 10_000_000, made[times]])
+        longest = runs(4, name, job, count)
         # in turns, so that both meet the same machine
-        runs = [[clock(["run", workers, 10_000_000, made[4]]) for workers in (1, 4)] for _ in range(3)]
-        ratio = min(four for _, four in runs) / min(one for one, _ in runs)
+        clocks = [[clock(["run", workers, 10_000_000, longest]) for workers in (1, 4)] for _ in range(3)]
+        ratio = min(four for _, four in clocks) / min(one for one, _ in clocks)
         print(f"run 4 of {name}: {ratio:.2f} of run 1 by the clock, aim at most {AIM}")
 
     for name, text in [

@@ -1,4 +1,5 @@
 """The jobs of tasks, queues and objects that the scripts run, by the number of their turns, tasks or items."""
+import loops
 
 # So many of the same lines stand in a row, so that a turn of the loop round them counts little.
 ROW = 20
@@ -160,23 +161,9 @@ end
 
 def works(tasks, turns):
     """Children that each go over a loop of int arithmetic so many times, and share nothing but the order of their results."""
-    child = f"""task child
-  push sums int
-  var i int
-  var s int
-  var more int
-  do
-  more = lt i {turns}
-  while more
-    i = add i 1
-    s = add s i
-    more = lt i {turns}
-  end
-  push sums s
-end
-"""
-    spawns = f"  spawn {5 * turns + 9} child sums\n" * tasks
-    return f"swan 1\noutput sums int\n{child}task main\n  do\n{spawns}end\n"
+    child = f"task child\n  push sum int\n{loops.summing(turns)}"
+    spawns = f"  spawn {5 * turns + 9} child sum\n" * tasks
+    return f"swan 1\noutput sum int\n{child}task main\n  do\n{spawns}end\n"
 
 
 # How many tasks stand one below the other in a dive.

@@ -1,12 +1,9 @@
 """The loops of jobs that the scripts run, by the number of their turns."""
 
 
-def ints(turns):
-    """Int arithmetic: two sums, a comparison, and the `while` and `end` that go round."""
-    return f"""swan 1
-output sum int
-task main
-  var i int
+def summing(turns):
+    """The lines of a task that sums so many numbers in a loop, and pushes the sum to its queue `sum`."""
+    return f"""  var i int
   var s int
   var more int
   do
@@ -19,6 +16,11 @@ task main
   push sum s
 end
 """
+
+
+def ints(turns):
+    """Int arithmetic: two sums, a comparison, and the `while` and `end` that go round."""
+    return f"swan 1\noutput sum int\ntask main\n{summing(turns)}"
 
 
 def texts(turns):
