@@ -18,6 +18,8 @@ mod plans;
 #[cfg(test)]
 mod runs;
 #[cfg(test)]
+mod stale;
+#[cfg(test)]
 mod tests;
 #[cfg(test)]
 mod turn;

@@ -32,7 +32,10 @@ pub enum Order<'a> {
 }
 
 /// The list of a root alone.
-fn alone<B: Body, Q: Queues>(alloc: Global, root: Frame<B, Q>) -> Result<Vec<Frame<B, Q>>, NoMemory>
+pub fn alone<B: Body, Q: Queues>(
+    alloc: Global,
+    root: Frame<B, Q>,
+) -> Result<Vec<Frame<B, Q>>, NoMemory>
     ensures { IfOk result (λ frames. frames.items ≡ root ∷ []) }
 {
     let mut frames = Vec::new(alloc);

@@ -1,0 +1,152 @@
+// Frames that come to a core which hasn't given them last.
+ghost use Rattle.std.specs.Prelude.{◌≡◌, [], IfOk, OnOk};
+ghost use Rattle.swan_model.specs.declared.body.Ask.TheVariants.{Sync};
+ghost use Rattle.task_frames.specs.Resumes.{IsOpened, ends_of};
+
+use crate::runs::alone;
+use crate::turn::Turn;
+use crate::turns::take_turns;
+use queue_book::BookQueues;
+use queues::Queues;
+use std::alloc::Global;
+use std::test::Fail;
+use swan_model::{Answer, Ask, Body, NoMemory, Plan, PlanFuel, Roots, RunName};
+use task_frames::{Core, Opened};
+
+/// A body whose tasks wait for their children at each step, until their fuel is used up.
+#[derive(Clone, Copy, Drop)]
+struct Waiting;
+
+impl Body for Waiting {
+    type Local = u64;
+
+    ghost next = { λ body local answer fuel. (local, Sync) };
+
+    ghost place_of = { λ body local. local };
+
+    fn advance(
+        &self,
+        _alloc: Global,
+        local: u64,
+        _answer: Answer,
+        _fuel: u64,
+    ) -> Result<(u64, Ask<u64>), NoMemory> {
+        Ok((local, Ask::Sync))
+    }
+
+    fn place(&self, local: &u64) -> u64 {
+        *local
+    }
+}
+
+/// A plan of three steps, of which the last one wants fuel.
+fn plan(alloc: Global) -> Plan<Waiting>
+    ensures { result ≡ record { body = Waiting; root_local = 0; roots = record { queues = []; objects = [] }; fuel = 2 } }
+{
+    Plan {
+        body: Waiting,
+        root_local: 0,
+        roots: Roots::new(alloc),
+        fuel: PlanFuel::new(2),
+    }
+}
+
+/// Turns of two runs of one plan.
+pub struct Turns<'a> {
+    /// Of the first run.
+    pub first: &'a [Turn],
+    /// Of the second one.
+    pub second: &'a [Turn],
+    /// The second run's frames come to the first core.
+    pub stale: &'a [Turn],
+    /// The first run goes on.
+    pub rest: &'a [Turn],
+}
+
+/// The turns of two opened runs come to what is said.
+fn come_so<B: Body, Q: Queues>(
+    alloc: Global,
+    first: Opened<B, Q>,
+    second: Opened<B, Q>,
+    turns: &Turns<'_>,
+) -> Result<(), Fail>
+    requires first { IsOpened (ends_of Q.Ends.LocalEnds) first.core first.root }
+    requires second { IsOpened (ends_of Q.Ends.LocalEnds) second.core second.root }
+    requires body { first.body.value ≡ first.core.plan.body }
+    requires plan { second.core.plan ≡ first.core.plan }
+    requires body_too { second.body.value ≡ second.core.plan.body }
+    requires run { second.core.run ≡ first.core.run }
+{
+    let Opened {
+        mut core,
+        body,
+        root,
+    } = first;
+    let Opened {
+        core: mut other,
+        body: same,
+        root: stale,
+    } = second;
+    let mut frames = alone(alloc, root)?;
+    let mut stale = alone(alloc, stale)?;
+    take_turns(alloc, &mut core, &body, &mut frames, turns.first)?;
+    take_turns(alloc, &mut other, &same, &mut stale, turns.second)?;
+    take_turns(alloc, &mut core, &body, &mut stale, turns.stale)?;
+    take_turns(alloc, &mut core, &body, &mut frames, turns.rest)
+}
+
+/// An opened run of the plan.
+fn opened(alloc: Global) -> Result<Opened<Waiting, BookQueues>, NoMemory>
+    ensures opened { IfOk result (λ it. IsOpened (ends_of (⟦<BookQueues as Queues>⟧.Ends.LocalEnds)) it.core it.root) }
+    ensures plan { IfOk result (λ it. it.core.plan ≡ record { body = Waiting; root_local = 0; roots = record { queues = []; objects = [] }; fuel = 2 }) }
+    ensures run { IfOk result (λ it. it.core.run ≡ []) }
+    ensures body { IfOk result (λ it. it.body.value ≡ Waiting) }
+{
+    let plan = plan(alloc);
+    let queues = BookQueues::new(alloc, RunName::of(&plan));
+    Core::open(alloc, plan, queues)
+}
+
+/// The turns of two runs of the plan come to what is said.
+fn table(alloc: Global, turns: &Turns<'_>) -> Result<(), Fail> {
+    come_so(alloc, opened(alloc)?, opened(alloc)?, turns)
+}
+
+#[test]
+fn a_stale_frame_is_strange(rt: HostRuntime) -> Result<(), Fail> {
+    table(
+        rt.alloc(),
+        &Turns {
+            first: &[Turn::Runs(0, 0)],
+            second: &[],
+            stale: &[Turn::Strange(0, 0), Turn::Strange(0, 0)],
+            rest: &[Turn::Runs(0, 0), Turn::Ends(0, 0)],
+        },
+    )
+}
+
+#[test]
+fn a_frame_from_ahead_is_strange(rt: HostRuntime) -> Result<(), Fail> {
+    table(
+        rt.alloc(),
+        &Turns {
+            first: &[],
+            second: &[Turn::Runs(0, 0), Turn::Runs(0, 0)],
+            stale: &[Turn::Strange(0, 0), Turn::Strange(0, 0)],
+            rest: &[Turn::Runs(0, 0), Turn::Runs(0, 0), Turn::Ends(0, 0)],
+        },
+    )
+}
+
+#[test]
+fn a_frame_that_has_ended_is_strange(rt: HostRuntime) -> Result<(), Fail> {
+    table(
+        rt.alloc(),
+        &Turns {
+            first: &[Turn::Runs(0, 0), Turn::Runs(0, 0), Turn::Ends(0, 0)],
+            second: &[Turn::Runs(0, 0)],
+            stale: &[Turn::Strange(0, 0), Turn::Strange(0, 0)],
+            rest: &[],
+        },
+    )
+}
