@@ -1,21 +1,20 @@
 -- Each step keeps the rule.
-use Rattle.std.proofs.Common.{◌≡◌, ◌≢◌, ℕ, zero, suc, ◌+◌, ◌-◌, ◌<◌, ◌≤◌, eqb, eq-eqb, ne_eqb, Bool, true, false, true≢false, ◌||◌, List, [], ◌∷◌, ◌++◌, length, set, get_or, sym, refl, ap, ◌∙◌, subst, inl, inr, ⊎_elim, ◌⊎◌, arith}
+use Rattle.std.proofs.Common.{◌≡◌, ◌≢◌, ℕ, zero, suc, ◌+◌, ◌<◌, ◌≤◌, eqb, Bool, true, false, true≢false, ◌||◌, List, [], ◌∷◌, ◌++◌, length, set, get_or, sym, refl, ap, ◌∙◌, subst, inl, inr, ⊎_elim, ◌⊎◌, arith}
 use Rattle.std.specs.Prelude.{Option, Some, None}
 use Rattle.std.proofs.Common.{All as AllOf}
 use Rattle.std.proofs.lemmas.Bool.{or_cases, or_left, or_right}
 use Rattle.std.proofs.lemmas.List.Elements.{All-append, All-take, All-drop}
 use lib.Seq.{take-append_seam, drop-append_seam}
 use Rattle.named_lock.specs.declared.seat.LockSeat.{LockSeat}
-use Rattle.named_lock.specs.declared.sign.Sign.{Sign}
-use Rattle.named_lock.specs.declared.sign.Sign.TheVariants.{Runs, Done, Stopped}
+use Rattle.named_lock.specs.declared.sign.Sign.TheVariants.{Done, Stopped}
 use Rattle.named_lock.specs.declared.lock.NamedLock.{NamedLock}
-use Rattle.named_lock.specs.Seats.{any_saw_done, is_done, IsNewSeatOf, knows, learnt, lock_id, lock_name, Sits}
+use Rattle.named_lock.specs.Seats.{any_saw_done, is_done, is_stopped, IsNewSeatOf, learnt, lock_id, lock_name, Sits}
 use mathlib.Core.Logic.{dite}
 use mathlib.Core.Option.{Option as Maybe, none, some, some-ne-none, some-injective}
 use native.Mathlib.Decide.{ℕ_discrete}
 use lib.ListN.{get_elem?}
 use prog.Atomic.{either}
-use Rattle.atomic_table.specs.Table.{State, Me, Step, Act, step, keeps, takes, gives, rest, stepped, homes_after, carried_after, Valid, Allows, Splits, Joins, opening}
+use Rattle.atomic_table.specs.Table.{State, Me, Act, step, keeps, takes, gives, homes_after, carried_after, Valid, Allows, Splits, Joins, opening}
 use Rattle.atomic_table.proofs.Lists.{at_set, at_snoc, at_longer, set_here, set_else, exchanged}
 use Rattle.atomic_table.specs.declared.shared.Seat.{Seat}
 use Rattle.named_lock.specs.declared.rule.View.{View}
@@ -26,6 +25,11 @@ done_is : (k : ℕ) → is_done (sign_of k) ≡ true → k ≡ 1
 done_is zero e = absurd (true≢false (sym e))
 done_is (suc zero) e = refl
 done_is (suc (suc k)) e = absurd (true≢false (sym e))
+
+stopped_is : (k : ℕ) → k ≤ 2 → is_stopped (sign_of k) ≡ true → k ≡ 2
+stopped_is zero m e = absurd (true≢false (sym e))
+stopped_is (suc zero) m e = absurd (true≢false (sym e))
+stopped_is (suc (suc k)) m e = omega arith
 
 stopped_as : (k : ℕ) → k ≢ 0 → stopped_from k ≡ sign_of k
 stopped_as zero e = absurd (e refl)
@@ -93,10 +97,10 @@ module _ {S N : Type 0} (name : S → N) (done : S → Bool) (n : N) (seats : �
       (subst (λ (hs : List (Maybe (Option S))). Can Rule id me i f then (lock_words r.0 r.1) hs s.views) (sym r.4) (go r.0 r.1 r.2 s.views r.5 at))
 
   -- the seats other than id know what they knew
-  others : (word sign word' sign' id holder : ℕ) (views : List (View N)) → (word ≢ 0 → word' ≢ 0) → (sign ≡ 1 → sign' ≡ 1) → ((u : View N) (j : ℕ) → j ≢ id → get_elem? views j ≡ some u → u.holding ≡ true → sign' ≡ 1 → sign ≡ 1)
+  others : (word sign word' sign' id holder : ℕ) (views : List (View N)) → (word ≢ 0 → word' ≢ 0) → (sign ≡ 1 → sign' ≡ 1) → (sign ≡ 2 → sign' ≡ 2) → ((u : View N) (j : ℕ) → j ≢ id → get_elem? views j ≡ some u → u.holding ≡ true → sign' ≡ 1 → sign ≡ 1)
       → ((j : ℕ) (u : View N) → get_elem? views j ≡ some u → Fits word sign n holder j u) → (j : ℕ) (u : View N) → j ≢ id → get_elem? views j ≡ some u → Fits word' sign' n holder j u
-  others word sign word' sign' id holder views more stays back fits j u ne at = let f = fits j u at in
-      (f.0, (λ h. let g = f.1 h in (g.0, g.1, more g.2, λ e. g.3 (back u j ne at h e))), λ s. stays (f.2 s))
+  others word sign word' sign' id holder views more stays ends back fits j u ne at = let f = fits j u at in
+      (f.0, (λ h. let g = f.1 h in (g.0, g.1, more g.2, λ e. g.3 (back u j ne at h e))), (λ s. stays (f.2 s)), λ s. ends (f.3 s))
 
   takes_free : (id : ℕ) (v : View N) (c : List (ℕ × Option S)) (sign : ℕ) (home : Maybe (Option S)) (vs : List (View N)) → 0 < v.parts → G 0 sign home vs → get_elem? vs id ≡ some v
       → (w : View N) × (a : Act (Option S)) × Valid (home ∷ []) c a × Rule record { words = lock_words 1 sign; homes = homes_after (home ∷ []) c a; views = set vs id w } × took name done (step 1 8 0 1 none) (v, c) 0 (w, carried_after c a)
@@ -117,8 +121,8 @@ module _ {S N : Type 0} (name : S → N) (done : S → Bool) (n : N) (seats : �
             sum = let t = total_set vs id v w at in let s = g.sum in omega arith;
             free = λ z. absurd (omega arith);
             taken = λ _. (w, set_here vs id w (omega (arith, inside vs id v at)), refl);
-            each = all_set (Fits 1 sign n id) vs id w (mine.0, (λ _. (refl, part, (λ z. omega arith), free.3)), mine.2)
-                (λ j u ne e. let f = g.each j u e in (f.0, (λ h. absurd ((f.1 h).2 refl)), f.2));
+            each = all_set (Fits 1 sign n id) vs id w (mine.0, (λ _. (refl, part, (λ z. omega arith), free.3)), mine.2, mine.3)
+                (λ j u ne e. let f = g.each j u e in (f.0, (λ h. absurd ((f.1 h).2 refl)), f.2, f.3));
           },
         ),
         ((λ _. (x, refl, mine.0 part ∙ ap Some (sym free.2), λ s. free.3 (mine.2 s))), λ z. absurd (z refl)),
@@ -142,7 +146,7 @@ module _ {S N : Type 0} (name : S → N) (done : S → Bool) (n : N) (seats : �
         sum = let t = total_set vs id v w at in let s = g.sum in omega arith;
         free = g.free;
         taken = λ z. still vs g.holder id v w at (λ h. h) (g.taken z);
-        each = all_set (Fits word sign n g.holder) vs id w (mine.0, mine.1, mine.2) (λ j u _ e. g.each j u e);
+        each = all_set (Fits word sign n g.holder) vs id w (mine.0, mine.1, mine.2, mine.3) (λ j u _ e. g.each j u e);
       },
     ),
     ((λ z. absurd (busy z)), λ _. refl),
@@ -189,8 +193,8 @@ module _ {S N : Type 0} (name : S → N) (done : S → Bool) (n : N) (seats : �
             sum = let t = total_set vs id v w at in let s = g.sum in omega arith;
             free = λ _. (x, refl, ap (name_of n) (sym named ∙ mine.0 h.1), λ e. owes (h.3 e));
             taken = λ z. absurd (z refl);
-            each = all_set (Fits 0 sign n g.holder) vs id w (mine.0, (λ z. absurd (true≢false (sym z))), mine.2)
-                (λ j u ne e. let f = g.each j u e in (f.0, (λ z. absurd (ne ((f.1 z).0 ∙ sym h.0))), f.2));
+            each = all_set (Fits 0 sign n g.holder) vs id w (mine.0, (λ z. absurd (true≢false (sym z))), mine.2, mine.3)
+                (λ j u ne e. let f = g.each j u e in (f.0, (λ z. absurd (ne ((f.1 z).0 ∙ sym h.0))), f.2, f.3));
           },
         ),
         refl,
@@ -202,10 +206,10 @@ module _ {S N : Type 0} (name : S → N) (done : S → Bool) (n : N) (seats : �
       (gives_back slots id v x c holds (named ∙ ap Some (sym same)) owes)
 
   -- a step on the sign alone, after which it is sign'
-  signs : (id word sign sign' : ℕ) (v w : View N) (home : Maybe (Option S)) (vs : List (View N)) → G word sign home vs → get_elem? vs id ≡ some v → sign' ≤ 2 → (sign ≡ 1 → sign' ≡ 1) → (sign' ≡ 1 → (sign ≡ 1) ⊎ (v.holding ≡ true))
-      → w.parts ≡ v.parts → w.name ≡ v.name → w.holding ≡ v.holding → (w.holding ≡ true → sign' ≡ 1 → w.owes_done ≡ true) → (w.saw_done ≡ true → sign' ≡ 1)
+  signs : (id word sign sign' : ℕ) (v w : View N) (home : Maybe (Option S)) (vs : List (View N)) → G word sign home vs → get_elem? vs id ≡ some v → sign' ≤ 2 → (sign ≡ 1 → sign' ≡ 1) → (sign ≡ 2 → sign' ≡ 2) → (sign' ≡ 1 → (sign ≡ 1) ⊎ (v.holding ≡ true))
+      → w.parts ≡ v.parts → w.name ≡ v.name → w.holding ≡ v.holding → (w.holding ≡ true → sign' ≡ 1 → w.owes_done ≡ true) → (w.saw_done ≡ true → sign' ≡ 1) → (w.saw_stopped ≡ true → sign' ≡ 2)
       → Rule record { words = lock_words word sign'; homes = home ∷ []; views = set vs id w }
-  signs id word sign sign' v w home vs g at small stays back parts named same owes saw = let mine = g.each id v at in (
+  signs id word sign sign' v w home vs g at small stays ends back parts named same owes saw met = let mine = g.each id v at in (
     word,
     sign',
     home,
@@ -217,44 +221,45 @@ module _ {S N : Type 0} (name : S → N) (done : S → Bool) (n : N) (seats : �
       sum = let t = total_set vs id v w at in let s = g.sum in omega arith;
       free = λ z. let f = g.free z in (f.0, f.1, f.2, λ e. ⊎_elim f.3 (λ h. absurd ((mine.1 h).2 z)) (back e));
       taken = λ z. still vs g.holder id v w at (λ h. same ∙ h) (g.taken z);
-      each = all_set (Fits word sign' n g.holder) vs id w ((λ p. named ∙ mine.0 (omega arith)), (λ h. let f = mine.1 (sym same ∙ h) in (f.0, omega (arith, f.1), f.2, owes h)), saw)
+      each = all_set (Fits word sign' n g.holder) vs id w ((λ p. named ∙ mine.0 (omega arith)), (λ h. let f = mine.1 (sym same ∙ h) in (f.0, omega (arith, f.1), f.2, owes h)), saw, met)
           (λ j u ne e. let f = g.each j u e in
-          (f.0, (λ h. let k = f.1 h in (k.0, k.1, k.2, λ e'. ⊎_elim k.3 (λ m. absurd (ne (k.0 ∙ sym (mine.1 m).0))) (back e'))), λ z. stays (f.2 z)));
+          (f.0, (λ h. let k = f.1 h in (k.0, k.1, k.2, λ e'. ⊎_elim k.3 (λ m. absurd (ne (k.0 ∙ sym (mine.1 m).0))) (back e'))), (λ z. stays (f.2 z)), λ z. ends (f.3 z)));
     },
   )
 
   -- a step on the sign, which the seat meets as it leaves it
-  meets : (id word sign sign' : ℕ) (v : View N) (w : View N) (home : Maybe (Option S)) (vs : List (View N)) → IsLock name done n seats word sign home vs → get_elem? vs id ≡ some v → sign' ≤ 2 → (sign ≡ 1 → sign' ≡ 1) → (sign' ≡ 1 → (sign ≡ 1) ⊎ (v.holding ≡ true))
-      → w.parts ≡ v.parts → w.name ≡ v.name → w.holding ≡ v.holding → (w.holding ≡ true → sign' ≡ 1 → w.owes_done ≡ true) → w.saw_done ≡ (v.saw_done || is_done (sign_of sign'))
+  meets : (id word sign sign' : ℕ) (v : View N) (w : View N) (home : Maybe (Option S)) (vs : List (View N)) → IsLock name done n seats word sign home vs → get_elem? vs id ≡ some v → sign' ≤ 2 → (sign ≡ 1 → sign' ≡ 1) → (sign ≡ 2 → sign' ≡ 2) → (sign' ≡ 1 → (sign ≡ 1) ⊎ (v.holding ≡ true))
+      → w.parts ≡ v.parts → w.name ≡ v.name → w.holding ≡ v.holding → (w.holding ≡ true → sign' ≡ 1 → w.owes_done ≡ true) → w.saw_done ≡ (v.saw_done || is_done (sign_of sign')) → w.saw_stopped ≡ (v.saw_stopped || is_stopped (sign_of sign'))
       → Rule record { words = lock_words word sign'; homes = home ∷ []; views = set vs id w }
-  meets id word sign sign' v w home vs g at small stays back parts named same owes saw =
-      signs id word sign sign' v w home vs g at small stays back parts named same owes
+  meets id word sign sign' v w home vs g at small stays ends back parts named same owes saw met =
+      signs id word sign sign' v w home vs g at small stays ends back parts named same owes
       (λ h. ⊎_elim (λ before. stays ((g.each id v at).2 before)) (done_is sign') (or_cases v.saw_done (is_done (sign_of sign')) (sym saw ∙ h)))
+      (λ h. ⊎_elim (λ before. ends ((g.each id v at).3 before)) (stopped_is sign' small) (or_cases v.saw_stopped (is_stopped (sign_of sign')) (sym met ∙ h)))
 
   pub finishes : (slots id : ℕ) (v : View N) (c : List (ℕ × Option S)) → v.holding ≡ true → Allows Rule slots id (v, c) 16 (λ k. either (eqb k 0) 1 k) (finished (step slots 16 0 1 none) (v, c))
   finishes slots id v c holds = allows slots id (v, c) 16 _ (finished (step slots 16 0 1 none) (v, c)) (λ word sign home vs g at.
       exchanged sign 0 1 (λ x. (w : View N) × (a : Act (Option S)) × Valid (home ∷ []) c a × Rule record { words = lock_words word x; homes = homes_after (home ∷ []) c a; views = set vs id w } × finished (step slots 16 0 1 none) (v, c) sign (w, carried_after c a))
       (λ z. let w : View N = record (learnt v Done) { owes_done = true } in
-      (w, keeps, tt, meets id word sign 1 v w home vs g at (omega arith) (λ _. refl) (λ _. inr holds) refl refl refl (λ _ _. refl) refl, ((λ _. refl), λ l. absurd (omega arith))))
+      (w, keeps, tt, meets id word sign 1 v w home vs g at (omega arith) (λ _. refl) (λ e. absurd (omega arith)) (λ _. inr holds) refl refl refl (λ _ _. refl) refl refl, ((λ _. refl), λ l. absurd (omega arith))))
       (λ nz. dite (ℕ_discrete sign 1)
       (λ one. let w : View N = record (learnt v Done) { owes_done = true } in
-      (w, keeps, tt, meets id word sign sign v w home vs g at g.small (λ e. e) inl refl refl refl (λ _ _. refl) (ap (λ k. v.saw_done || is_done (sign_of k)) (sym one)), ((λ _. refl), λ l. absurd (omega arith))))
+      (w, keeps, tt, meets id word sign sign v w home vs g at g.small (λ e. e) (λ e. e) inl refl refl refl (λ _ _. refl) (ap (λ k. v.saw_done || is_done (sign_of k)) (sym one)) (ap (λ k. v.saw_stopped || is_stopped (sign_of k)) (sym one)), ((λ _. refl), λ l. absurd (omega arith))))
       (λ other. let w : View N = record (learnt v Stopped) { owes_done = true } in let m = g.small in let two : sign ≡ 2 = omega arith in
-      (w, keeps, tt, meets id word sign sign v w home vs g at m (λ e. e) inl refl refl refl (λ _ _. refl) (ap (λ k. v.saw_done || is_done (sign_of k)) (sym two)), ((λ l. absurd (omega arith)), λ _. refl)))))
+      (w, keeps, tt, meets id word sign sign v w home vs g at m (λ e. e) (λ e. e) inl refl refl refl (λ _ _. refl) (ap (λ k. v.saw_done || is_done (sign_of k)) (sym two)) (ap (λ k. v.saw_stopped || is_stopped (sign_of k)) (sym two)), ((λ l. absurd (omega arith)), λ _. refl)))))
 
   pub stops : (slots id : ℕ) (v : View N) (c : List (ℕ × Option S)) → Allows Rule slots id (v, c) 16 (λ k. either (eqb k 0) 2 k) (stopped (step slots 16 0 2 none) (v, c))
   stops slots id v c = allows slots id (v, c) 16 _ (stopped (step slots 16 0 2 none) (v, c)) (λ word sign home vs g at. let mine = g.each id v at in let w : View N = record (learnt v (stopped_from sign)) { stops = v.stops + 1 } in
       exchanged sign 0 2 (λ x. (w : View N) × (a : Act (Option S)) × Valid (home ∷ []) c a × Rule record { words = lock_words word x; homes = homes_after (home ∷ []) c a; views = set vs id w } × stopped (step slots 16 0 2 none) (v, c) sign (w, carried_after c a))
-      (λ z. (w, keeps, tt, meets id word sign 2 v w home vs g at (omega arith) (λ e. absurd (omega arith)) (λ e. absurd (omega arith)) refl refl refl (λ _ e. absurd (omega arith)) (ap (λ k. v.saw_done || is_done (stopped_from k)) z), refl))
-      (λ nz. (w, keeps, tt, meets id word sign sign v w home vs g at g.small (λ e. e) inl refl refl refl (λ h. (mine.1 h).3) (ap (λ k. v.saw_done || is_done k) (stopped_as sign nz)), refl)))
+      (λ z. (w, keeps, tt, meets id word sign 2 v w home vs g at (omega arith) (λ e. absurd (omega arith)) (λ _. refl) (λ e. absurd (omega arith)) refl refl refl (λ _ e. absurd (omega arith)) (ap (λ k. v.saw_done || is_done (stopped_from k)) z) (ap (λ k. v.saw_stopped || is_stopped (stopped_from k)) z), refl))
+      (λ nz. (w, keeps, tt, meets id word sign sign v w home vs g at g.small (λ e. e) (λ e. e) inl refl refl refl (λ h. (mine.1 h).3) (ap (λ k. v.saw_done || is_done k) (stopped_as sign nz)) (ap (λ k. v.saw_stopped || is_stopped k) (stopped_as sign nz)), refl)))
 
   pub looks : (slots id : ℕ) (v : View N) (c : List (ℕ × Option S)) → Allows Rule slots id (v, c) 16 (λ k. k) (looked (step slots 16 0 0 none) (v, c))
   looks slots id v c = allows slots id (v, c) 16 _ (looked (step slots 16 0 0 none) (v, c)) (λ word sign home vs g at. let mine = g.each id v at in let w : View N = learnt v (sign_of sign) in
-      (w, keeps, tt, meets id word sign sign v w home vs g at g.small (λ e. e) inl refl refl refl (λ h. (mine.1 h).3) refl, (g.small, refl)))
+      (w, keeps, tt, meets id word sign sign v w home vs g at g.small (λ e. e) (λ e. e) inl refl refl refl (λ h. (mine.1 h).3) refl refl, (g.small, refl, mine.2, mine.3)))
 
   pub splits : (id : ℕ) (v : View N) → v.holding ≡ false → 0 < v.parts → Splits Rule id v (rest_of v) (one_of v)
   splits id v idle part s r at = let g = r.5 in let l : View N = rest_of v in let o : View N = one_of v in let mine = g.each id v at in let F = Fits r.0 r.1 n g.holder in
-      let left : All F (set s.views id l) = all_set F s.views id l ((λ _. mine.0 part), (λ h. absurd (true≢false (sym h ∙ idle))), mine.2) (λ j u _ e. g.each j u e) in (
+      let left : All F (set s.views id l) = all_set F s.views id l ((λ _. mine.0 part), (λ h. absurd (true≢false (sym h ∙ idle))), mine.2, mine.3) (λ j u _ e. g.each j u e) in (
         r.0,
         r.1,
         r.2,
@@ -266,14 +271,14 @@ module _ {S N : Type 0} (name : S → N) (done : S → Bool) (n : N) (seats : �
           sum = let t = total_set s.views id v l at in let k = g.sum in let m = total_snoc (set s.views id l) o in omega arith;
           free = g.free;
           taken = λ z. let t = still s.views g.holder id v l at (λ h. h) (g.taken z) in (t.0, at_longer (set s.views id l) (o ∷ []) g.holder t.0 t.1, t.2);
-          each = λ j u e. ⊎_elim (left j u) (λ (is : o ≡ u). subst (F j) is ((λ _. mine.0 part), (λ h. absurd (true≢false (sym h))), mine.2)) (at_snoc (set s.views id l) o u j e);
+          each = λ j u e. ⊎_elim (left j u) (λ (is : o ≡ u). subst (F j) is ((λ _. mine.0 part), (λ h. absurd (true≢false (sym h))), mine.2, mine.3)) (at_snoc (set s.views id l) o u j e);
         },
       )
 
   pub joins : (id : ℕ) (v : View N) (other : ℕ) (u : View N) → v.holding ≡ false → u.holding ≡ false → 0 < v.parts → Joins Rule id v other u (joined v u) spent
   joins id v other u idle idle' part s r at apart at' = let g = r.5 in let b : View N = joined v u in let mine = g.each id v at in let F = Fits r.0 r.1 n g.holder in
       let was : get_elem? s.views other ≡ some u = ⊎_elim (λ x. absurd (apart x.0)) (λ x. x.1) (at_set s.views id other b u at') in let theirs = g.each other u was in
-      let now : All F (set s.views id b) = all_set F s.views id b ((λ _. mine.0 part), (λ h. absurd (true≢false (sym h ∙ idle))), λ h. ⊎_elim mine.2 theirs.2 (or_cases v.saw_done u.saw_done h)) (λ j y _ e. g.each j y e) in (
+      let now : All F (set s.views id b) = all_set F s.views id b ((λ _. mine.0 part), (λ h. absurd (true≢false (sym h ∙ idle))), (λ h. ⊎_elim mine.2 theirs.2 (or_cases v.saw_done u.saw_done h)), λ h. ⊎_elim mine.3 theirs.3 (or_cases v.saw_stopped u.saw_stopped h)) (λ j y _ e. g.each j y e) in (
         r.0,
         r.1,
         r.2,
@@ -285,7 +290,7 @@ module _ {S N : Type 0} (name : S → N) (done : S → Bool) (n : N) (seats : �
           sum = let t = total_set s.views id v b at in let t' = total_set (set s.views id b) other u spent at' in let k = g.sum in omega arith;
           free = g.free;
           taken = λ z. still (set s.views id b) g.holder other u spent at' (λ h. absurd (true≢false (sym h ∙ idle'))) (still s.views g.holder id v b at (λ h. h) (g.taken z));
-          each = all_set F (set s.views id b) other spent ((λ p. absurd (omega arith)), (λ h. absurd (true≢false (sym h))), λ h. absurd (true≢false (sym h))) (λ j y _ e. now j y e);
+          each = all_set F (set s.views id b) other spent ((λ p. absurd (omega arith)), (λ h. absurd (true≢false (sym h))), (λ h. absurd (true≢false (sym h))), λ h. absurd (true≢false (sym h))) (λ j y _ e. now j y e);
         },
       )
 
@@ -306,7 +311,7 @@ module _ {S N : Type 0} (name : S → N) (done : S → Bool) (n : N) (seats : �
       sum = omega arith;
       free = λ _. (x, refl, is, λ e. absurd (omega arith));
       taken = λ z. absurd (z refl);
-      each = λ j u e. subst (Fits 0 0 n 0 j) (one_seat (seated seats n) j u e) ((λ _. refl), (λ h. absurd (true≢false (sym h))), λ h. absurd (true≢false (sym h)));
+      each = λ j u e. subst (Fits 0 0 n 0 j) (one_seat (seated seats n) j u e) ((λ _. refl), (λ h. absurd (true≢false (sym h))), (λ h. absurd (true≢false (sym h))), λ h. absurd (true≢false (sym h)));
     },
   )
 

@@ -2,13 +2,13 @@
 -- One word is 0 where the state is in its slot, and else a seat holds it. Another is the sign: 0 is Runs, 1 Done and 2
 -- Stopped. The words beside them are 0 for good, and keep the two a cache line apart, and from what lies around the table.
 use Rattle.std.specs.Prelude.{◌≡◌, ◌≢◌, ℕ, zero, suc, ◌+◌, ◌-◌, ◌<◌, ◌≤◌, Bool, true, false, ◌||◌, List, [], ◌∷◌, Option, Some, None}
-use mathlib.Core.Option.{Option as Maybe, none, some}
+use mathlib.Core.Option.{Option as Maybe, some}
 use lib.ListN.{get_elem?}
 use Rattle.atomic_table.specs.Table.{State, Me, Step, rest}
 use Rattle.named_lock.specs.declared.rule.View.{View}
 use Rattle.named_lock.specs.declared.sign.Sign.{Sign}
 use Rattle.named_lock.specs.declared.sign.Sign.TheVariants.{Runs, Done, Stopped}
-use Rattle.named_lock.specs.Seats.{learnt, is_done}
+use Rattle.named_lock.specs.Seats.{learnt}
 
 abbrev pub lock_words : (word sign : ℕ) → List ℕ
 lock_words word sign =
@@ -28,22 +28,22 @@ stopped_from (suc n) = sign_of (suc n)
 module _ {N : Type 0} where
   -- a seat that stands for so many, and has done nothing
   abbrev pub seated : ℕ → N → View N
-  seated parts name = record { parts = parts; name = Some name; holding = false; owes_done = false; saw_done = false; sign = Runs; holds = 0; lost = 0; stops = 0 }
+  seated parts name = record { parts = parts; name = Some name; holding = false; owes_done = false; saw_done = false; saw_stopped = false; sign = Runs; holds = 0; lost = 0; stops = 0 }
 
   -- what is left of a seat that another took in
   abbrev pub spent : View N
-  spent = record { parts = 0; name = None; holding = false; owes_done = false; saw_done = false; sign = Runs; holds = 0; lost = 0; stops = 0 }
+  spent = record { parts = 0; name = None; holding = false; owes_done = false; saw_done = false; saw_stopped = false; sign = Runs; holds = 0; lost = 0; stops = 0 }
 
   -- a seat that stands for several is cut in two, and the second stands for one
   abbrev pub rest_of : View N → View N
   rest_of v = record v { parts = v.parts - 1 }
 
   abbrev pub one_of : View N → View N
-  one_of v = record { parts = 1; name = v.name; holding = false; owes_done = false; saw_done = v.saw_done; sign = Runs; holds = 0; lost = 0; stops = 0 }
+  one_of v = record { parts = 1; name = v.name; holding = false; owes_done = false; saw_done = v.saw_done; saw_stopped = v.saw_stopped; sign = Runs; holds = 0; lost = 0; stops = 0 }
 
   -- a seat takes in another
   abbrev pub joined : View N → View N → View N
-  joined v w = record v { parts = v.parts + w.parts; saw_done = v.saw_done || w.saw_done }
+  joined v w = record v { parts = v.parts + w.parts; saw_done = v.saw_done || w.saw_done; saw_stopped = v.saw_stopped || w.saw_stopped }
 
   -- how many seats all of them stand for
   abbrev pub total : List (View N) → ℕ
@@ -56,6 +56,7 @@ module _ {N : Type 0} where
       (0 < v.parts → v.name ≡ Some name)
       × (v.holding ≡ true → (j ≡ holder) × (0 < v.parts) × (word ≢ 0) × (sign ≡ 1 → v.owes_done ≡ true))
       × (v.saw_done ≡ true → sign ≡ 1)
+      × (v.saw_stopped ≡ true → sign ≡ 2)
 
 module _ {S N : Type 0} (name : S → N) (done : S → Bool) where
   -- a lock of this name with so many seats: its words, what is in its slot, and what its seats know
@@ -92,4 +93,4 @@ module _ {S N : Type 0} where
   stopped st m found m' = m' ≡ (record (learnt m.0 (stopped_from found)) { stops = m.0.stops + 1 }, m.1)
 
   abbrev pub looked : Step (Option S) → Me (Option S) (View N) → ℕ → Me (Option S) (View N) → Type 0
-  looked st m found m' = (found ≤ 2) × (m' ≡ (learnt m.0 (sign_of found), m.1))
+  looked st m found m' = (found ≤ 2) × (m' ≡ (learnt m.0 (sign_of found), m.1)) × (m.0.saw_done ≡ true → found ≡ 1) × (m.0.saw_stopped ≡ true → found ≡ 2)

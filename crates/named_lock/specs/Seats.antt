@@ -14,9 +14,14 @@ is_done Runs = false
 is_done Done = true
 is_done Stopped = false
 
+abbrev pub is_stopped : Sign → Bool
+is_stopped Runs = false
+is_stopped Done = false
+is_stopped Stopped = true
+
 -- what a seat knows once it has met this sign
 abbrev pub learnt : {N : Type 0} → View N → Sign → View N
-learnt v sign = record v { sign = sign; saw_done = v.saw_done || is_done sign }
+learnt v sign = record v { sign = sign; saw_done = v.saw_done || is_done sign; saw_stopped = v.saw_stopped || is_stopped sign }
 
 module _ {S N : Type 0} where
   -- which lock it is, its name, and the number of its seats
@@ -45,7 +50,7 @@ module _ {S N : Type 0} where
   -- it is a seat of this lock that knows nothing yet
   abbrev pub IsNewSeatOf : NamedLock S N → LockSeat S N → Type 0
   IsNewSeatOf lock seat = IsSeatOf lock false seat
-      × (knows seat ≡ record { parts = 1; name = Some (lock_name lock); holding = false; owes_done = false; saw_done = false; sign = Runs; holds = 0; lost = 0; stops = 0 })
+      × (knows seat ≡ record { parts = 1; name = Some (lock_name lock); holding = false; owes_done = false; saw_done = false; saw_stopped = false; sign = Runs; holds = 0; lost = 0; stops = 0 })
 
   abbrev pub IsSameSeat : (old new : LockSeat S N) → Type 0
   IsSameSeat old new = (new.seat.table_id ≡ old.seat.table_id) × (new.seat.id ≡ old.seat.id)
@@ -53,6 +58,10 @@ module _ {S N : Type 0} where
   -- it was this seat that took the state
   abbrev pub IsHeldBy : LockSeat S N → Held S N → Type 0
   IsHeldBy seat held = (held.by.value.table_id ≡ seat.seat.table_id) × (held.by.value.id ≡ seat.seat.id)
+
+  -- A seat that has seen the sign Done, or Stopped, finds it so.
+  abbrev pub FindsAgain : (old new : LockSeat S N) → Type 0
+  FindsAgain old new = ((knows old).saw_done ≡ true → (knows new).sign ≡ Done) × ((knows old).saw_stopped ≡ true → (knows new).sign ≡ Stopped)
 
   -- some seat has seen the sign Done
   abbrev pub any_saw_done : List (LockSeat S N) → Bool

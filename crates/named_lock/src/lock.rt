@@ -38,7 +38,7 @@ pub struct NamedLock<S: Named> {
 
 impl<S: Named> NamedLock<S> {
     ghost use Rattle.named_lock.specs.Rule.{seated};
-    ghost use Rattle.named_lock.specs.Seats.{learnt, lock_id, lock_name, lock_seats, knows, any_saw_done, Sits, IsSeatOf, IsNewSeatOf, IsSameSeat, IsHeldBy};
+    ghost use Rattle.named_lock.specs.Seats.{learnt, lock_id, lock_name, lock_seats, knows, any_saw_done, Sits, IsSeatOf, IsNewSeatOf, IsSameSeat, IsHeldBy, FindsAgain};
 
     /// A lock with that many seats, of which there is at least one. The state's name is the lock's for good, and the sign
     /// is Runs. It allocates four times, whatever the number of seats, and keeps three of the blocks. `O(seats)`.
@@ -173,17 +173,19 @@ impl<S: Named> NamedLock<S> {
         ensures seat { IsSeatOf self.now (knows seat.old).holding seat.new }
         ensures knows { knows seat.new ≡ learnt (knows seat.old) (knows seat.new).sign }
         ensures sign { IsTrue result ↔ ((knows seat.new).sign ≡ Done) }
+        ensures again { FindsAgain seat.old seat.new }
     {
         self.table.shared.load::<Look>(&mut seat.seat, SIGN) == DONE
     }
 
-    /// Whether the sign is Stopped, by one load. It takes no memory. `O(1)`.
+    /// Whether the sign is Stopped, by one load. Once it is, it stays so. It takes no memory. `O(1)`.
     pub fn is_stopped(&self, seat: &mut LockSeat<S>) -> bool
         requires { IsSeatOf self.now (knows seat.old).holding seat.old }
         ensures same { IsSameSeat seat.old seat.new }
         ensures seat { IsSeatOf self.now (knows seat.old).holding seat.new }
         ensures knows { knows seat.new ≡ learnt (knows seat.old) (knows seat.new).sign }
         ensures sign { IsTrue result ↔ ((knows seat.new).sign ≡ Stopped) }
+        ensures again { FindsAgain seat.old seat.new }
     {
         self.table.shared.load::<Look>(&mut seat.seat, SIGN) == STOPPED
     }

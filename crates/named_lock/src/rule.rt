@@ -16,6 +16,8 @@ pub struct View<N> {
     pub owes_done: bool,
     /// Whether it has seen the sign Done.
     pub saw_done: bool,
+    /// Whether it has seen the sign Stopped.
+    pub saw_stopped: bool,
     /// The sign, as its last step there left it.
     pub sign: Sign,
     /// How often it took the state.
