@@ -3,10 +3,10 @@ use std::marker::Sync;
 use swan_model::Path;
 
 /// What a worker asks before it goes on with a task. It decides nothing: it may look on, or hold the
-/// worker for a while. Several workers may be in it at once.
+/// worker for a while. It takes nothing to wait by, so it returns. Several workers may be in it at once.
 pub trait Gate: Sync {
-    /// Lets the worker of this number go on with the task of this path, where it returns. It is asked before each
-    /// frame that the worker resumes, while nothing is locked.
+    /// Lets the worker of this number go on with the task of this path. It is asked before each turn of a
+    /// frame, while nothing is locked.
     fn enter(&self, worker: u32, path: &Path);
 }
 

@@ -38,5 +38,7 @@ command, 3 where the job is refused, 4 where a file can't be read or is too long
 can't be written, 6 where memory runs out, 7 where the inputs are refused.
 
 For example: swan run 1 100 examples/hello.swan
+Where four processors are free, swan run 4 10000000 examples/quarters.swan is done sooner than with
+one worker.
 The language of jobs is explained in docs/LANGUAGE.md, and docs/swan.1 is the manual page.
 ";
