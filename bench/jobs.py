@@ -132,6 +132,33 @@ end
     return f"swan 1\noutput sums int\n{source}{stage}{EATER}task main\n{queues}  do\n  spawn {fuel} source q0\n{stages}  spawn {fuel} eater q3 sums\nend\n"
 
 
+def bursts(count):
+    """Items that one task pushes ROW in a row, with a loop of 500 steps of work behind each row, and another one pops."""
+    pushes = "    push to i\n" * ROW
+    source = f"""task source
+  push to int
+  var i int
+  var j int
+  var more int
+  var busy int
+  do
+  more = lt i {count // ROW}
+  while more
+{pushes}    j = set 0
+    busy = lt j 125
+    while busy
+      j = add j 1
+      busy = lt j 125
+    end
+    i = add i 1
+    more = lt i {count // ROW}
+  end
+end
+"""
+    fuel = 40 * count + 9
+    return f"swan 1\noutput sums int\n{source}{EATER}task main\n  queue q int\n  do\n  spawn {fuel} source q\n  spawn {fuel} eater q sums\nend\n"
+
+
 # So many queues have a consumer each.
 QUEUES = 20
 

@@ -13,6 +13,9 @@ TASKS, TURNS = 32, 60_000
 # The least speed-up from one worker to four, where four processors are there.
 SPEED_UP = 3
 
+# Items that go through five stages, and items that come in bursts.
+ITEMS = 50_000
+
 # Tasks that end at once, and what one of them may take with two workers at most of what it takes with one.
 CHILDREN = 300_000
 COST = 3
@@ -40,6 +43,12 @@ with folder() as here:
     for workers, seconds in zip(numbers, taken):
         aim = f", aim at least {SPEED_UP} where four processors are there" if workers == 4 else ""
         print(f"{TASKS} tasks of {5 * TURNS} steps of work with {workers} workers: {seconds:.3g} s, {taken[0] / seconds:.2f} times as fast{aim}")
+
+    for name, text in [("items through five stages", jobs.pipeline(ITEMS)), ("items in bursts", jobs.bursts(ITEMS))]:
+        handed = written(here, "handed", [text])
+        taken = [seconds - base for seconds, base in zip(rounds(handed, numbers), start)]
+        for workers, seconds in zip(numbers, taken):
+            print(f"{ITEMS} {name} with {workers} workers: {seconds:.3g} s, {seconds / taken[0]:.2f} of one")
 
     children = written(here, "children", [jobs.children(CHILDREN)])
     taken = [(seconds - base) / CHILDREN for seconds, base in zip(rounds(children, numbers), start)]
