@@ -8,7 +8,7 @@ use Rattle.pop_order.proofs.Flags.{and_parts, eq_of, eq_same, not_true}
 use Rattle.pop_order.specs.Frames.{Frames, without}
 use Rattle.swan_model.specs.declared.script.Script.{Script}
 use Rattle.swan_model.specs.QueueFollows.{next_queue_deed, origin_in}
-use Rattle.swan_model.specs.QueueState.{ActiveFrame, QueueMaker, planned, made_by, QueueState, active, after_finish, IsOfRoot}
+use Rattle.swan_model.specs.QueueState.{ActiveFrame, QueueMaker, QueueState, active, after_finish}
 use Rattle.swan_model.specs.Readings.{end_time}
 use Rattle.swan_model.proofs.Lists.{some_within}
 use Rattle.queues.specs.Asks.{MayJoin, OnNext}

@@ -41,9 +41,6 @@ module _ (name : Option Script) (state : QueueState) (frames : LiveFrames) (head
   two : p ≢ child
   two same = let less = rising in omega arith
 
-  other_child : child ≢ p
-  other_child same = two (sym same)
-
   pub spawn_may : MayHandOn frames turns p child gives
   spawn_may =
       let was = kept_live state frames is.live p may.act.frame may.act.may.live in
@@ -98,15 +95,15 @@ module _ (name : Option Script) (state : QueueState) (frames : LiveFrames) (head
     -- ---- what is kept of the frames
 
     kept_child : kept_of after_frames child ≡ Some child_kept
-    kept_child = done.parent_now.others child other_child ∙ done.child_now.changed
+    kept_child = done.child_now.changed
 
     kept_parent : (kept : KeptFrame) → kept_of frames p ≡ Some kept → (one : KeptFrame) × (kept_of done.middle p ≡ Some one) × (kept_of after_frames p ≡ Some (counted one)) × IsMoved kept one
     kept_parent kept at =
         let was = done.given.moved kept at in
-        (was.0, was.1, done.parent_now.changed ∙ ap (option_map counted) (done.child_now.others p two ∙ was.1), was.2)
+        (was.0, was.1, done.child_now.others p two ∙ done.parent_now.changed ∙ ap (option_map counted) was.1, was.2)
 
     kept_other : (m : ℕ) → m ≢ p → m ≢ child → kept_of after_frames m ≡ kept_of done.middle m
-    kept_other m a b = done.parent_now.others m a ∙ done.child_now.others m b
+    kept_other m a b = done.child_now.others m b ∙ done.parent_now.others m a
 
     child_frame : IsFrame after child_kept (child_of may.act.frame child gives)
     child_frame = record {

@@ -1,6 +1,6 @@
 -- What is taken from the front of a chain.
 use Rattle.std.proofs.Common.{◌≡◌, ◌≢◌, ℕ, Bool, true, false, ◌==◌, Option, None, Some, List, [], ◌∷◌, drop, refl, sym, ap, subst, ◌∙◌, inl, inr, rules}
-use Rattle.std.proofs.lemmas.Bool.{cases_eq, false≢true}
+use Rattle.std.proofs.lemmas.Bool.{cases_eq}
 use Rattle.std.specs.Prelude.{slice_get, slice_set, if◌then◌else◌}
 use Rattle.slab.specs.Slab.{Slab, get, Updates}
 use Rattle.pop_order.proofs.Flags.{eq_same}

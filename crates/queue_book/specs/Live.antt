@@ -13,7 +13,8 @@ use Rattle.queue_book.specs.declared.live_frames.LiveFrames.{LiveFrames}
 
 -- the frame of a number
 abbrev pub kept_of : LiveFrames → ℕ → Option KeptFrame
-kept_of frames number = if number == 0 then frames.root else lookup (is_at (nat_cmp number)) frames.others.entries
+kept_of frames number =
+    if number == 0 then frames.root else (if number == frames.newest_number then frames.newest else lookup (is_at (nat_cmp number)) frames.others.entries)
 
 abbrev pub own_chunk_of : Option KeptFrame → ℕ → Option OwnChunk
 own_chunk_of None queue = None

@@ -32,6 +32,6 @@ pub record IsSpawnedIn (before after : LiveFrames) (parent child : ℕ) (gives :
   pub middle : LiveFrames
   pub places : OwnChunks
   pub given : AreGiven before middle parent child gives places heads nodes then_nodes turns then_turns
-  pub added : LiveFrames
-  pub child_now : IsOnlyChange (kept_of middle) (kept_of added) child (Some (record { deeds = 0; is_lent = false; places = places }))
-  pub parent_now : IsOnlyChange (kept_of added) (kept_of after) parent (option_map (λ (kept : KeptFrame). record kept { deeds = kept.deeds + 1 }) (kept_of added parent))
+  pub counted : LiveFrames
+  pub parent_now : IsOnlyChange (kept_of middle) (kept_of counted) parent (option_map (λ (kept : KeptFrame). record kept { deeds = kept.deeds + 1 }) (kept_of middle parent))
+  pub child_now : IsOnlyChange (kept_of counted) (kept_of after) child (Some (record { deeds = 0; is_lent = false; places = places }))

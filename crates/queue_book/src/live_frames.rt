@@ -11,11 +11,16 @@ use std::alloc::Global;
 use std::collections::BTreeMap;
 use swan_model::NoMemory;
 
-/// The active frames. The root, which is live before any memory is taken, stands beside the others.
+/// The active frames. The root, which is live before any memory is taken, stands beside the others, and so does the
+/// newest one: most frames come and go as the newest, and are found without a look-up then.
 #[derive(Drop)]
 pub struct LiveFrames {
     /// The root, where it is active.
     pub root: Option<LiveFrame>,
+    /// The number of the frame that was added last.
+    pub newest_number: u64,
+    /// That frame, where it is active.
+    pub newest: Option<LiveFrame>,
     /// The others.
     pub others: BTreeMap<u64, LiveFrame>,
 }
@@ -28,6 +33,8 @@ impl LiveFrames {
     {
         LiveFrames {
             root: Some(LiveFrame::new(alloc)),
+            newest_number: 0,
+            newest: None,
             others: BTreeMap::new(alloc),
         }
     }
@@ -38,6 +45,8 @@ impl LiveFrames {
     {
         if number == 0 {
             self.root.as_ref()
+        } else if number == self.newest_number {
+            self.newest.as_ref()
         } else {
             self.others.get(&number)
         }
@@ -72,6 +81,10 @@ impl LiveFrames {
             if let Some(frame) = &mut self.root {
                 frame.deeds += 1;
             }
+        } else if number == self.newest_number {
+            if let Some(frame) = &mut self.newest {
+                frame.deeds += 1;
+            }
         } else if let Some(frame) = self.others.get_mut(&number) {
             frame.deeds += 1;
         }
@@ -84,6 +97,11 @@ impl LiveFrames {
     {
         if number == 0 {
             match &mut self.root {
+                Some(frame) => frame.lend(),
+                None => 0,
+            }
+        } else if number == self.newest_number {
+            match &mut self.newest {
                 Some(frame) => frame.lend(),
                 None => 0,
             }
@@ -103,6 +121,10 @@ impl LiveFrames {
             if let Some(frame) = &mut self.root {
                 frame.is_lent = false;
             }
+        } else if number == self.newest_number {
+            if let Some(frame) = &mut self.newest {
+                frame.is_lent = false;
+            }
         } else if let Some(frame) = self.others.get_mut(&number) {
             frame.is_lent = false;
         }
@@ -118,18 +140,34 @@ impl LiveFrames {
             }
             return Ok(());
         }
+        if number == self.newest_number {
+            if let Some(frame) = &mut self.newest {
+                frame.put(queue, place)?;
+            }
+            return Ok(());
+        }
         if let Some(frame) = self.others.get_mut(&number) {
             frame.put(queue, place)?;
         }
         Ok(())
     }
 
-    /// Adds a frame. `O(log n)`. Err is want of memory.
+    /// Adds a frame, which is the newest then. `O(log n)`. Err is want of memory.
     pub fn add(&mut self, number: u64, frame: LiveFrame) -> Result<(), NoMemory>
         requires other { number ≢ 0 }
         ensures { OnOk result (IsOnlyChange (kept_of self.old) (kept_of self.new) number (Some frame)) }
     {
-        self.others.insert(number, frame)?;
+        match self.newest.take() {
+            Some(before) => {
+                self.others.insert(self.newest_number, before)?;
+            }
+            // It is gone, so that none of the others may show in its place.
+            None => {
+                self.others.remove(&self.newest_number);
+            }
+        }
+        self.newest_number = number;
+        self.newest = Some(frame);
         Ok(())
     }
 
@@ -140,6 +178,8 @@ impl LiveFrames {
     {
         if number == 0 {
             self.root.take()
+        } else if number == self.newest_number {
+            self.newest.take()
         } else {
             self.others.remove(&number)
         }
@@ -150,6 +190,7 @@ impl LiveFrames {
         ensures { (number : ℕ) → kept_of self.new number ≡ None }
     {
         self.root = None;
+        self.newest = None;
         self.others.clear();
     }
 }

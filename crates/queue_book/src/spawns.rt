@@ -28,8 +28,8 @@ impl Store {
         for one in gives {
             self.give(parent, child, *one, &mut frame.places)?;
         }
-        self.frames.add(child, frame)?;
         self.frames.count_deed(parent);
+        self.frames.add(child, frame)?;
         Ok(())
     }
 

@@ -1,28 +1,20 @@
 -- The record of live frames after a call, and its set of children.
-use Rattle.std.proofs.Common.{◌≡◌, ◌≢◌, inl, inr, ℕ, ◌||◌, Bool, true, false, cond, Option, None, Some, IsSome, IfSome, IfNone, List, [], refl, sym, ap, subst, ◌∙◌, arith}
+use Rattle.std.proofs.Common.{◌≡◌, ◌≢◌, inl, inr, ℕ, ◌||◌, Bool, true, false, cond, Option, None, Some, Result, Ok, Err, IsSome, IfSome, IfNone, OnOk, OnErr, List, [], refl, sym, ap, subst, ◌∙◌, arith}
 use Rattle.std.proofs.lemmas.Bool.{cases_eq, false≢true}
 use Rattle.std.proofs.lemmas.Bool.Decides.{nat_tests}
 use Rattle.std.proofs.lemmas.Cmp.{eq_by_cmp_equiv, nat_cmp_total}
-use Rattle.std.proofs.lemmas.Map.{lookup-set_value, lookup-remove_entry}
-use Rattle.std.proofs.lemmas.Map.Keys.{IsDistinct-from_sorted}
+use Rattle.std.proofs.lemmas.Map.{lookup-set_value}
 use Rattle.std.proofs.lemmas.Map.Steps.{set_value_same}
 use Rattle.std.proofs.lemmas.Option.{same_Some}
-use Rattle.std.specs.BTreeMap.{is_at, insert_entry}
-use Rattle.std.specs.List.Sorted.{IsStrictlySortedBy}
-use Rattle.std.specs.Map.{keys_of, remove_entry, set_value}
+use Rattle.std.specs.BTreeMap.{is_at}
+use Rattle.std.specs.Map.{set_value}
 use Rattle.std.specs.Option.{option_map}
 use Rattle.std.specs.Ordering.{nat_cmp, eq_by_cmp}
 use Rattle.swan_model.proofs.Lookups.{tied, untied, equal_at}
-use Rattle.queue_book.proofs.Lookups.{at_inserted, by_inserted}
-use Rattle.task_frames.specs.Records.{HasChildren, IsLiveChild, IsOldest, IsOldestChild, IsOnlyLive, IsWith, IsWithout, LiveFrame, LiveFrames, Pair, come_at, come_to, has, live_at}
+use Rattle.swan_model.specs.SerialState.{Holding}
+use Rattle.task_frames.specs.Records.{HasChildren, IsLiveChild, IsOldest, IsOldestChild, IsOnlyLive, IsWith, IsWithout, LiveFrame, LiveFrames, Pair, come_at, come_to, has, holding_too, live_at}
 
 -- ---- entries
-
-pub entered : (before after : LiveFrames) (number : ℕ) (frame : LiveFrame) → after ≡ insert_entry nat_cmp before number frame → IsOnlyLive before after number (Some frame)
-entered before after number frame is = record {
-  own = ap (λ es. live_at es number) is ∙ at_inserted before number frame;
-  others = λ other differs. ap (λ es. live_at es other) is ∙ by_inserted before number frame other differs;
-}
 
 one_key : (k x y : ℕ) → is_at (nat_cmp k) x ≡ true → is_at (nat_cmp k) y ≡ eq_by_cmp nat_cmp x y
 one_key k x y h = ap (λ z. is_at (nat_cmp z) y) (equal_at k x h)
@@ -43,19 +35,6 @@ changed before after number was frame there is = record {
       ∙ ap (λ b. cond b (Some frame) (live_at before other)) (untied number other differs);
 }
 
-removed_found : (es : LiveFrames) (k n : ℕ) → IsStrictlySortedBy nat_cmp (keys_of es)
-    → live_at (remove_entry (is_at (nat_cmp k)) es) n ≡ cond (is_at (nat_cmp k) n) None (live_at es n)
-removed_found es k n sorted =
-    lookup-remove_entry (eq_by_cmp_equiv nat_cmp_total) (is_at (nat_cmp k)) (one_key k) n es (IsDistinct-from_sorted nat_cmp (keys_of es) sorted)
-
-pub left : (before after : LiveFrames) (number : ℕ) → IsStrictlySortedBy nat_cmp (keys_of before)
-    → after ≡ remove_entry (is_at (nat_cmp number)) before → IsOnlyLive before after number None
-left before after number sorted is = record {
-  own = ap (λ es. live_at es number) is ∙ removed_found before number number sorted ∙ ap (λ b. cond b None (live_at before number)) (tied number number refl);
-  others = λ other differs. ap (λ es. live_at es other) is ∙ removed_found before number other sorted
-      ∙ ap (λ b. cond b None (live_at before other)) (untied number other differs);
-}
-
 -- a record that is the same
 pub same : (frames : LiveFrames) (number : ℕ) (frame : Option LiveFrame) → live_at frames number ≡ frame → IsOnlyLive frames frames number frame
 same frames number frame is = record { own = is; others = λ other differs. refl }
@@ -72,7 +51,7 @@ oldest_is frames pairs parent oldest kept is = record {
 pub none_is : (frames : LiveFrames) (pairs : List Pair) (parent : ℕ) → HasChildren frames pairs → ((child : ℕ) → has pairs parent child ≡ false) → (other : ℕ) → ¬ IsLiveChild frames parent other
 none_is frames pairs parent kept none other child = false≢true (sym (none other) ∙ kept.all parent other child)
 
-module _ (before after : LiveFrames) (pairs : List Pair) (number : ℕ) (kept : HasChildren before pairs) (sorted : IsStrictlySortedBy nat_cmp (keys_of after)) where
+module _ (before after : LiveFrames) (pairs : List Pair) (number : ℕ) (kept : HasChildren before pairs) where
   module _ (others : (other : ℕ) → other ≢ number → live_at after other ≡ live_at before other) where
     -- a child of another number is one before and after
     there : (parent other : ℕ) → other ≢ number → IsLiveChild before parent other → IsLiveChild after parent other
@@ -84,7 +63,6 @@ module _ (before after : LiveFrames) (pairs : List Pair) (number : ℕ) (kept : 
   -- a frame that is the child of the same parent as before
   pub changed_keeps : (was frame : LiveFrame) → live_at before number ≡ Some was → IsOnlyLive before after number (Some frame) → frame.parent ≡ was.parent → HasChildren after pairs
   changed_keeps was frame there_was only parent_is = record {
-    sorted = sorted;
     known = λ parent other in_set. elim (cases_eq other number) [
       | inl is ↦
           let child = kept.known parent other in_set in
@@ -103,7 +81,6 @@ module _ (before after : LiveFrames) (pairs : List Pair) (number : ℕ) (kept : 
   -- a frame that has no parent, where none was
   pub entered_root_keeps : (frame : LiveFrame) → live_at before number ≡ None → IsOnlyLive before after number (Some frame) → frame.parent ≡ None → HasChildren after pairs
   entered_root_keeps frame free only root = record {
-    sorted = sorted;
     known = λ parent other in_set. elim (cases_eq other number) [
       | inl is ↦ let child = kept.known parent other in_set in let no : None ≡ Some child.frame = sym free ∙ ap (live_at before) (sym is) ∙ child.live in absurd (cc)
       | inr differs ↦ there only.others parent other differs (kept.known parent other in_set)
@@ -124,7 +101,6 @@ module _ (before after : LiveFrames) (pairs : List Pair) (number : ℕ) (kept : 
     -- a child of a parent, where none was
     pub entered_keeps : (frame : LiveFrame) → live_at before number ≡ None → IsOnlyLive before after number (Some frame) → frame.parent ≡ Some own → IsWith pairs own number then_pairs → HasChildren after then_pairs
     entered_keeps frame free only of set = record {
-      sorted = sorted;
       known = λ parent other in_set. elim (cases_eq other number) [
         | inl is ↦ record {
           frame = frame;
@@ -153,7 +129,6 @@ module _ (before after : LiveFrames) (pairs : List Pair) (number : ℕ) (kept : 
     -- a child that goes
     pub left_keeps : (was : LiveFrame) → live_at before number ≡ Some was → IsOnlyLive before after number None → was.parent ≡ Some own → IsWithout pairs own number then_pairs → HasChildren after then_pairs
     left_keeps was there_was only of set = record {
-      sorted = sorted;
       known = λ parent other in_set. elim (cases_eq other number) [
         | inl is ↦
             let in_both : has pairs parent other ≡ true = grind (arith, nat_tests, set parent other, in_set) in
@@ -176,7 +151,6 @@ module _ (before after : LiveFrames) (pairs : List Pair) (number : ℕ) (kept : 
   -- a root that goes, or nobody
   pub left_root_keeps : IsOnlyLive before after number None → ((parent : ℕ) → ¬ IsLiveChild before parent number) → HasChildren after pairs
   left_root_keeps only root = record {
-    sorted = sorted;
     known = λ parent other in_set. elim (cases_eq other number) [
       | inl is ↦ absurd (root parent (subst (IsLiveChild before parent) is (kept.known parent other in_set)))
       | inr differs ↦ there only.others parent other differs (kept.known parent other in_set)
@@ -190,8 +164,8 @@ module _ (before after : LiveFrames) (pairs : List Pair) (number : ℕ) (kept : 
 -- ---- what the calls find
 
 nothing-live : HasChildren [] []
-unfolding has IsStrictlySortedBy
-nothing-live = record { sorted = tt; known = λ parent number in_set. absurd (cc); all = λ parent number child. let no : None ≡ Some child.frame = child.live in absurd (cc) }
+unfolding has
+nothing-live = record { known = λ parent number in_set. absurd (cc); all = λ parent number child. let no : None ≡ Some child.frame = child.live in absurd (cc) }
 
 -- no frames, no children
 pub none-live : (frames : LiveFrames) (pairs : List Pair) → frames ≡ [] → pairs ≡ [] → HasChildren frames pairs
@@ -226,16 +200,29 @@ child-comes before after number done parent other only child = elim (cases_eq ot
 ]
 
 pub come-keeps : (before after : LiveFrames) (pairs : List Pair) (number done : ℕ) (found : Option LiveFrame) → live_at before number ≡ found → HasChildren before pairs
-    → IsStrictlySortedBy nat_cmp (keys_of after) → after ≡ come_at before number done found → HasChildren after pairs
-come-keeps before after pairs number done None none kept sorted is = subst (λ fs. HasChildren fs pairs) (sym is) kept
-come-keeps before after pairs number done (Some was) there kept sorted is =
-    changed_keeps before after pairs number kept sorted was (come_to done was) there (changed before after number was (come_to done was) there is) refl
+    → after ≡ come_at before number done found → HasChildren after pairs
+come-keeps before after pairs number done None none kept is = subst (λ fs. HasChildren fs pairs) (sym is) kept
+come-keeps before after pairs number done (Some was) there kept is =
+    changed_keeps before after pairs number kept was (come_to done was) there (changed before after number was (come_to done was) there is) refl
 
-pub nobody-left : (before after : LiveFrames) (pairs : List Pair) (number : ℕ) → HasChildren before pairs → IsStrictlySortedBy nat_cmp (keys_of after)
-    → after ≡ remove_entry (is_at (nat_cmp number)) before → live_at before number ≡ None → HasChildren after pairs
-nobody-left before after pairs number kept sorted is none =
-    left_root_keeps before after pairs number kept sorted (left before after number kept.sorted is)
-    (λ parent child. let both : None ≡ Some child.frame = sym none ∙ child.live in absurd (cc))
+pub nobody-left : (before after : LiveFrames) (pairs : List Pair) (number : ℕ) → HasChildren before pairs → IsOnlyLive before after number None
+    → live_at before number ≡ None → HasChildren after pairs
+nobody-left before after pairs number kept only none =
+    left_root_keeps before after pairs number kept only (λ parent child. let both : None ≡ Some child.frame = sym none ∙ child.live in absurd (cc))
+
+-- a frame that may hold one place more, where there is one
+pub held-keeps : {T E : Type 0} (before after : LiveFrames) (pairs : List Pair) (number : ℕ) (holding : Holding) (found : Option LiveFrame) (result : Result T E) → live_at before number ≡ found → HasChildren before pairs
+    → OnOk result (IsOnlyLive before after number (option_map (holding_too holding) found)) → OnErr result (IsOnlyLive before after number found) → HasChildren after pairs
+held-keeps before after pairs number holding None (Ok done) none kept ok err = nobody-left before after pairs number kept ok none
+held-keeps before after pairs number holding None (Err want) none kept ok err = nobody-left before after pairs number kept err none
+held-keeps before after pairs number holding (Some was) (Ok done) there kept ok err = changed_keeps before after pairs number kept was (holding_too holding was) there ok refl
+held-keeps before after pairs number holding (Some was) (Err want) there kept ok err = changed_keeps before after pairs number kept was was there err refl
+
+-- a root that may be entered, where there is no frame
+pub root-keeps : {T E : Type 0} (before after : LiveFrames) (pairs : List Pair) (number : ℕ) (frame : LiveFrame) (result : Result T E) → before ≡ [] → HasChildren before pairs → frame.parent ≡ None
+    → OnOk result (IsOnlyLive before after number (Some frame)) → OnErr result (after ≡ []) → HasChildren after pairs
+root-keeps before after pairs number frame (Ok done) none kept root ok err = entered_root_keeps before after pairs number kept frame (ap (λ fs. live_at fs number) none) ok root
+root-keeps before after pairs number frame (Err want) none kept root ok err = subst (λ fs. HasChildren fs pairs) (none ∙ sym err) kept
 
 -- ---- a frame that is given as it was
 

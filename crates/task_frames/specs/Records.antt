@@ -2,8 +2,7 @@
 use Rattle.std.specs.Prelude.{◌≡◌, ◌≢◌, ℕ, ◌≤◌, ◌&&◌, ◌||◌, ◌==◌, not, Bool, true, false, Option, Some, None, List, [], ◌∷◌, ◌++◌}
 use Rattle.std.specs.BTreeMap.{is_at}
 use Rattle.std.specs.List.{list_any}
-use Rattle.std.specs.List.Sorted.{IsStrictlySortedBy}
-use Rattle.std.specs.Map.{keys_of, lookup, set_value}
+use Rattle.std.specs.Map.{lookup, set_value}
 use Rattle.std.specs.Ordering.{nat_cmp, ordering_then, is_gt}
 use Rattle.std.specs.declared.cmp.Ordering.{Ordering}
 use Rattle.swan_model.specs.SerialState.{Holding}
@@ -25,12 +24,17 @@ come_to done frame = record frame { done = done }
 abbrev pub holding_too : Holding → LiveFrame → LiveFrame
 holding_too holding frame = record frame { holdings = frame.holdings ++ holding ∷ [] }
 
--- by rising numbers
+-- each behind its number
 abbrev pub LiveFrames : Type 0
 LiveFrames = List (ℕ × LiveFrame)
 
 abbrev pub live_at : LiveFrames → ℕ → Option LiveFrame
 live_at frames number = lookup (is_at (nat_cmp number)) frames
+
+-- the frame that was entered last, where it is live, before the others
+abbrev pub with_newest : (number : ℕ) → Option LiveFrame → LiveFrames → LiveFrames
+with_newest number None older = older
+with_newest number (Some frame) older = (number, frame) ∷ older
 
 -- the record, once the frame at a number is given with so many steps done; it is the same where there is none
 abbrev pub come_at : LiveFrames → (number done : ℕ) → Option LiveFrame → LiveFrames
@@ -91,8 +95,7 @@ pub record IsOldest (pairs : List Pair) (parent oldest : ℕ) : Type 0 where
   pub known : has pairs parent oldest ≡ true
   pub least : (child : ℕ) → has pairs parent child ≡ true → oldest ≤ child
 
--- The frames stand in order, and a set has exactly those that have a parent, each behind it.
+-- A set has exactly the frames that have a parent, each behind it.
 pub record HasChildren (frames : LiveFrames) (pairs : List Pair) : Type 0 where
-  pub sorted : IsStrictlySortedBy nat_cmp (keys_of frames)
   pub known : (parent number : ℕ) → has pairs parent number ≡ true → IsLiveChild frames parent number
   pub all : (parent number : ℕ) → IsLiveChild frames parent number → has pairs parent number ≡ true

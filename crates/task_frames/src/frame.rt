@@ -370,7 +370,23 @@ fn same_path(path: &Path, other: &Path) -> bool
     ensures yes { result ≡ true → path.now ≡ other.now }
     ensures no { result ≡ false → path.now ≢ other.now }
 {
-    path.parts() == other.parts()
+    same_parts(path.parts(), other.parts())
+}
+
+/// Whether two lists of parts are the same. `O(d)` for d parts; it takes no memory.
+fn same_parts(parts: &[u32], others: &[u32]) -> bool
+    ensures yes { result ≡ true → parts.now ≡ others.now }
+    ensures no { result ≡ false → parts.now ≢ others.now }
+{
+    if parts.len() != others.len() {
+        return false;
+    }
+    for at in 0..parts.len() {
+        if parts[at] != others[at] {
+            return false;
+        }
+    }
+    true
 }
 
 /// What came of a turn of steps that a frame takes by itself.

@@ -46,6 +46,7 @@ mod child_gives;
 mod children;
 mod ending;
 mod frame;
+mod frames_by_number;
 mod holding;
 mod kept;
 mod laws;

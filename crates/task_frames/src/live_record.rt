@@ -1,14 +1,11 @@
 // The record of live frames.
 ghost use Rattle.std.specs.Prelude.{◌≡◌, ℕ, Some, None, [], OnOk, OnErr, IfSome, IfNone};
 ghost use Rattle.std.specs.Option.{option_map};
-ghost use Rattle.std.specs.List.Sorted.{IsStrictlySortedBy};
-ghost use Rattle.std.specs.Map.{keys_of};
-ghost use Rattle.std.specs.Ordering.{nat_cmp};
 ghost use Rattle.task_frames.specs.Records.{HasChildren, IsLiveChild, IsOldestChild, IsOnlyLive, LiveFrame as Live, come_at, come_to, holding_too, live_at};
 
+use crate::frames_by_number::FramesByNumber;
 use crate::{Children, Holding};
 use std::alloc::Global;
-use std::collections::BTreeMap;
 use std::marker::Model;
 use swan_model::{NoMemory, Path};
 
@@ -40,14 +37,14 @@ impl Model for LiveFrame {
 
 impl LiveFrame {
     /// Notes that so many steps are done. `O(1)`.
-    fn come_to(&mut self, done: u64)
+    pub(crate) fn come_to(&mut self, done: u64)
         ensures { self.new ≡ come_to done self.old }
     {
         self.done = done;
     }
 
     /// Notes one place more. Err is want of memory. `O(1)`, amortised.
-    fn hold(&mut self, holding: Holding) -> Result<(), NoMemory>
+    pub(crate) fn hold(&mut self, holding: Holding) -> Result<(), NoMemory>
         ensures ok { OnOk result (self.new ≡ holding_too holding self.old) }
         ensures err { OnErr result (self.new ≡ self.old) }
     {
@@ -61,22 +58,19 @@ impl LiveFrame {
 /// In costs, n counts the live frames.
 #[derive(Drop)]
 pub struct LiveRecord {
-    frames: BTreeMap<u64, LiveFrame>,
+    frames: FramesByNumber,
     // Each that has a parent, behind the parent.
     children: Children,
 }
 
 impl Model for LiveRecord {
-    ghost use Rattle.std.specs.List.Sorted.{IsStrictlySortedBy};
-    ghost use Rattle.std.specs.Map.{keys_of};
-    ghost use Rattle.std.specs.Ordering.{nat_cmp};
     ghost use Rattle.task_frames.specs.Records.{HasChildren, LiveFrames};
 
     ghost Value = { LiveFrames };
 
-    ghost view = { λ record_of. record_of.frames.entries };
+    ghost view = { λ record_of. record_of.frames };
 
-    ghost invariant = { λ record_of. HasChildren record_of.frames.entries record_of.children };
+    ghost invariant = { λ record_of. HasChildren record_of.frames record_of.children };
 }
 
 impl LiveRecord {
@@ -85,7 +79,7 @@ impl LiveRecord {
         ensures { result ≡ [] }
     {
         LiveRecord {
-            frames: BTreeMap::new(alloc),
+            frames: FramesByNumber::new(alloc),
             children: Children::new(alloc),
         }
     }
@@ -95,7 +89,7 @@ impl LiveRecord {
         ensures some { IfSome result (λ frame. live_at self.now number ≡ Some frame.now) }
         ensures none { IfNone result (live_at self.now number ≡ None) }
     {
-        self.frames.get(&number)
+        self.frames.get(number)
     }
 
     /// The oldest live child of a frame; None exactly where it has none. `O(log n)`; it takes no memory.
@@ -112,8 +106,7 @@ impl LiveRecord {
         requires root { frame.parent ≡ None }
         ensures { OnOk result (IsOnlyLive self.old self.new number (Some frame)) }
     {
-        self.frames.insert(number, frame)?;
-        Ok(())
+        self.frames.enter(number, frame)
     }
 
     /// Enters a child of this parent, whose number isn't there. Err is want of memory, and nothing is said of the record
@@ -139,7 +132,7 @@ impl LiveRecord {
         ensures come { self.new ≡ come_at self.old number done (live_at self.old number) }
         ensures only { IsOnlyLive self.old self.new number (option_map (come_to done) (live_at self.old number)) }
     {
-        come_to(&mut self.frames, number, done);
+        self.frames.come_to(number, done);
     }
 
     /// Notes that a frame which had so many steps done is given with so many done. Nothing is looked up where both are the
@@ -160,17 +153,14 @@ impl LiveRecord {
     pub fn hold(&mut self, number: u64, holding: Holding) -> Result<(), NoMemory>
         ensures { OnOk result (IsOnlyLive self.old self.new number (option_map (holding_too holding) (live_at self.old number))) }
     {
-        match self.frames.get_mut(&number) {
-            Some(frame) => frame.hold(holding),
-            None => Ok(()),
-        }
+        self.frames.hold(number, holding)
     }
 
     /// Takes a frame out. It changes nothing for one that isn't there. `O(log n)`; it takes no memory.
     pub fn leave(&mut self, number: u64)
         ensures { IsOnlyLive self.old self.new number None }
     {
-        let Some(frame) = self.frames.remove(&number) else {
+        let Some(frame) = self.frames.leave(number) else {
             return;
         };
         if let Some(parent) = frame.parent {
@@ -181,29 +171,19 @@ impl LiveRecord {
 
 /// Adds a child to the frames and to the children.
 fn add(
-    frames: &mut BTreeMap<u64, LiveFrame>,
+    frames: &mut FramesByNumber,
     children: &mut Children,
     parent: u64,
     number: u64,
     frame: LiveFrame,
 ) -> Result<(), NoMemory>
-    requires kept { HasChildren frames.old.entries children.old }
-    requires free { live_at frames.old.entries number ≡ None }
+    requires kept { HasChildren frames.old children.old }
+    requires free { live_at frames.old number ≡ None }
     requires child { frame.parent ≡ Some parent }
-    ensures entered { OnOk result (IsOnlyLive frames.old.entries frames.new.entries number (Some frame)) }
-    ensures kept { OnOk result (HasChildren frames.new.entries children.new) }
+    ensures entered { OnOk result (IsOnlyLive frames.old frames.new number (Some frame)) }
+    ensures kept { OnOk result (HasChildren frames.new children.new) }
 {
-    frames.insert(number, frame)?;
+    frames.enter(number, frame)?;
     children.insert(parent, number)?;
     Ok(())
-}
-
-/// Notes in the frames that one is given with so many steps done.
-fn come_to(frames: &mut BTreeMap<u64, LiveFrame>, number: u64, done: u64)
-    ensures come { frames.new.entries ≡ come_at frames.old.entries number done (live_at frames.old.entries number) }
-    ensures sorted { IsStrictlySortedBy nat_cmp (keys_of frames.new.entries) }
-{
-    if let Some(frame) = frames.get_mut(&number) {
-        frame.come_to(done);
-    }
 }

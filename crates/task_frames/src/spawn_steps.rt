@@ -266,8 +266,8 @@ impl<Q: Queues> Kept<Q> {
             done: 0,
             holdings: held.clone()?,
         };
-        self.live.enter(parent, child, frame)?;
         self.live.come_to(parent, done + 1);
+        self.live.enter(parent, child, frame)?;
         self.reading = self.reading.gone_on_by(parent, 1).with_frame(child, path);
         self.frames += 1;
         Ok(())

@@ -1,4 +1,4 @@
-use Rattle.std.proofs.Common.{◌≡◌, ◌≢◌, ℕ, ◌+◌, ◌<◌, false, Option, Some, List, [], ◌∷◌, ◌++◌, take, length, refl, sym, ap, subst, ◌∙◌, arith}
+use Rattle.std.proofs.Common.{◌≡◌, ℕ, ◌+◌, ◌<◌, false, Option, Some, List, [], ◌∷◌, ◌++◌, take, length, refl, sym, ap, subst, ◌∙◌, arith}
 use Rattle.std.proofs.lemmas.List.{take_more, take_all}
 use Rattle.std.proofs.lemmas.Option.{slice_get-get_or}
 use Rattle.std.specs.Prelude.{slice_get}
@@ -94,8 +94,7 @@ count_deed-requires c =
     let was = c.loop-one.invariant.given.moved may.kept may.live in
     record {
       room = λ kept at.
-          let two : c.args.parent ≢ c.args.child = λ same. let less = may.rising in omega arith in
-          let both : Some was.0 ≡ Some kept = sym was.1 ∙ sym (c.in_ok-add.ensures.others c.args.parent two) ∙ at in
+          let both : Some was.0 ≡ Some kept = sym was.1 ∙ at in
           let same : was.0 ≡ kept = cc in
           let deeds : kept.deeds ≡ may.kept.deeds = ap (λ (k : KeptFrame). k.deeds) (sym same) ∙ was.2.deeds in
           let room = may.room in
@@ -109,7 +108,7 @@ returns-clause-spawned c =
     let whole : take c.loop-one.one-index all ≡ all = take_all c.loop-one.one-index all (omega arith) in
     let Given : List QueueRight → Type 0 = λ gs. AreGiven c.args.self.now.frames c.loop-one.self.frames c.args.parent c.args.child gs places c.args.self.now.chains.heads.items
     c.args.self.now.chains.nodes c.loop-one.self.chains.nodes c.args.self.now.turns c.loop-one.self.turns in
-    let One : KeptFrame → Type 0 = λ k. IsOnlyChange (kept_of c.loop-one.self.frames) (kept_of c.add.new.self) c.args.child (Some k) in
+    let One : KeptFrame → Type 0 = λ k. IsOnlyChange (kept_of c.count_deed.new.self) (kept_of c.add.new.self) c.args.child (Some k) in
     let kept : record { deeds = c.loop-one.frame-inside.deeds; is_lent = c.loop-one.frame-inside.is_lent; places = places } ≡ record { deeds = 0; is_lent = false; places = places } =
     ap (λ d. record { deeds = d; is_lent = c.loop-one.frame-inside.is_lent; places = places }) c.loop-one.invariant.deeds
     ∙ ap (λ b. record { deeds = 0; is_lent = b; places = places }) c.loop-one.invariant.lent in
@@ -117,7 +116,7 @@ returns-clause-spawned c =
       middle = c.loop-one.self.frames;
       places = places;
       given = subst Given whole c.loop-one.invariant.given;
-      added = c.add.new.self;
-      child_now = subst One kept c.in_ok-add.ensures;
+      counted = c.count_deed.new.self;
       parent_now = c.count_deed.ensures;
+      child_now = subst One kept c.in_ok-add.ensures;
     }

@@ -5,9 +5,9 @@ use Rattle.task_frames.proofs.Lives.{come-keeps, come-only}
 use Rattle.task_frames.proofs.live_record.LiveRecord.come_to.Goals as goal
 
 pub invariant_of-self : goal.invariant_of-self
-invariant_of-self c = come-keeps _ _ _ _ _ _ refl c.self.invariant c.come_to.ensures.sorted c.come_to.ensures.come
+invariant_of-self c = come-keeps _ _ _ _ _ _ refl c.self.invariant c.come_to.ensures
 
 pub returns-clause-only : goal.returns-clause-only
 returns-clause-only c =
-    subst (λ (fs : LiveFrames). IsOnlyLive fs c.come_to.new.frames.entries c.args.number (option_map (come_to c.args.done) (live_at fs c.args.number))) c.self.view_is
-    (come-only c.self.inside.frames.entries c.come_to.new.frames.entries c.args.number c.args.done _ refl c.come_to.ensures.come)
+    subst (λ (fs : LiveFrames). IsOnlyLive fs c.come_to.new.self c.args.number (option_map (come_to c.args.done) (live_at fs c.args.number))) c.self.view_is
+    (come-only c.self.inside.frames c.come_to.new.self c.args.number c.args.done _ refl c.come_to.ensures)

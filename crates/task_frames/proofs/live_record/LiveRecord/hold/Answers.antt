@@ -1,0 +1,7 @@
+use Rattle.std.proofs.Common.{refl}
+use Rattle.task_frames.proofs.Lives.{held-keeps}
+use Rattle.task_frames.proofs.live_record.LiveRecord.hold.Goals as goal
+
+pub invariant_of-self : goal.invariant_of-self
+invariant_of-self c =
+    held-keeps c.self.inside.frames c.hold.new.self c.self.inside.children c.args.number c.args.holding _ c.hold.result refl c.self.invariant c.hold.ensures.ok c.hold.ensures.err
