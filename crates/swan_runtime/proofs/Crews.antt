@@ -1,8 +1,10 @@
 -- All workers of an opening, as they take turns.
-use Rattle.std.proofs.Common.{◌≡◌, ℕ, ◌<◌, false, IfOk, Result, Ok, Err, Some, List, [], ◌∷◌, ◌++◌, All, arith, ap, drop, length, refl, subst, sym, take, ◌∙◌}
+use Rattle.std.proofs.Common.{◌≡◌, ℕ, ◌<◌, false, IfOk, Result, Ok, Err, Some, List, [], ◌∷◌, ◌++◌, All, arith, ap, drop, length, refl, set, slice_get, slice_index_or, subst, sym, take, true, ◌∙◌}
 use Rattle.std.specs.Arc.{arc_value}
 use Rattle.std.proofs.Math.Seq.{take-append_seam}
-use Rattle.std.proofs.lemmas.List.Elements.{All-pop, All-push, All-same}
+use Rattle.std.proofs.lemmas.List.{get_or-set_same, length-set}
+use Rattle.std.proofs.lemmas.Option.{slice_get-get_or}
+use Rattle.std.proofs.lemmas.List.Elements.{All-pop, All-push, All-same, All-set}
 use Rattle.named_lock.specs.Seats.{IsSeatOf, lock_name, lock_seats}
 use Rattle.named_lock.specs.declared.lock.NamedLock.{NamedLock}
 use Rattle.swan_model.specs.declared.plan.Plan.{Plan}
@@ -10,7 +12,7 @@ use Rattle.task_frames.specs.declared.run.PlanRun.{PlanRun}
 use Rattle.task_frames.specs.Resumes.{EndsOf}
 use Rattle.swan_runtime.specs.declared.worker.Worker.{Worker}
 use Rattle.swan_runtime.specs.Shared.{SharedView}
-use Rattle.swan_runtime.specs.Workers.{AreDriven, AreWorkers, IsWorkerOf, OneHasMet, Run, own_of}
+use Rattle.swan_runtime.specs.Workers.{AreDriven, AreOfPlan, AreWorkers, IsSameWorker, IsWorker, IsWorkerOf, OneHasMet, has_met, own_of}
 
 pub all_popped : {X : Type 0} (P : X → Type 0) (xs left : List X) (x : X) → xs ≡ left ++ x ∷ [] → All P xs → All P left
 all_popped P xs left x is all = (All-pop P xs left (Some x) is all).0
@@ -25,6 +27,10 @@ all_pushed P xs more x is all one = All-same P more _ is (All-push P xs x all on
 pub written : {X : Type 0} (xs ys : List X) (n : ℕ) → n ≡ length xs → length ys ≡ length xs → take n (ys ++ drop (length ys) xs) ≡ ys
 written xs ys n whole same =
     ap (λ (k : ℕ). take k (ys ++ drop (length ys) xs)) (whole ∙ sym same) ∙ take-append_seam ys (drop (length ys) xs)
+
+found_there : {X : Type 0} (xs : List X) (i : ℕ) (x : X) → i < length xs → slice_get (set xs i x) i ≡ Some x
+found_there xs i x within =
+    slice_get-get_or (set xs i x) i x (subst (λ (n : ℕ). i < n) (sym (length-set xs i x)) within) ∙ ap Some (get_or-set_same xs i x x within)
 
 none_here : (n : ℕ) → 0 < n → 0 ≡ n → ⊥
 none_here n some same = omega (arith, some, same)
@@ -45,7 +51,7 @@ module _ {B Q L E : Type 0} (of : EndsOf E) where
         record { own = it.own; lock_is = ap arc_value it.same.0 ∙ (are.each k d within).lock_is };
   }
 
-  pub driven_run : (plan : Plan B L) (before after : List (Worker B Q L E)) → length after ≡ length before → AreDriven of before after → Run plan before → Run plan after
+  pub driven_run : (plan : Plan B L) (before after : List (Worker B Q L E)) → length after ≡ length before → AreDriven of before after → AreOfPlan plan before → AreOfPlan plan after
   driven_run plan before after same driven runs = λ k d below.
       let within = subst (λ (n : ℕ). k < n) same below in
       let it = driven k d within in
@@ -54,6 +60,26 @@ module _ {B Q L E : Type 0} (of : EndsOf E) where
   pub one_has_met : (before after : List (Worker B Q L E)) → 0 < length before → length after ≡ length before → AreDriven of before after → OneHasMet after
   one_has_met before [] some same driven = absurd (none_here (length before) some same)
   one_has_met before (worker ∷ workers) some same driven = record { index = 0; worker = worker; stands = refl; met = (driven 0 worker some).met }
+
+  pub worker_at : (workers : List (Worker B Q L E)) (i : ℕ) (worker : Worker B Q L E) → i < length workers → worker ≡ slice_index_or workers i worker → AreWorkers of workers → IsWorker of worker
+  worker_at workers i worker within stood are = (subst (IsWorkerOf of are.lock) (sym stood) (are.each i worker within)).own
+
+  -- One of them took a turn.
+  pub one_turned : (before after : List (Worker B Q L E)) (i : ℕ) (was now : Worker B Q L E) → i < length before → was ≡ slice_index_or before i was → after ≡ set before i now
+      → AreWorkers of before → IsWorker of now → IsSameWorker was now → AreWorkers of after
+  one_turned before after i was now within stood is are own same =
+      let it = subst (IsWorkerOf of are.lock) (sym stood) (are.each i was within) in
+      let many : length after ≡ length before = ap length is ∙ length-set before i now in
+      record {
+        lock = are.lock;
+        some = subst (λ (n : ℕ). 0 < n) (sym many) are.some;
+        all = many ∙ are.all;
+        each = All-same (IsWorkerOf of are.lock) after _ is
+            (All-set (IsWorkerOf of are.lock) before i now (record { own = own; lock_is = ap arc_value same.0 ∙ it.lock_is }) are.each);
+      }
+
+  pub this_has_met : (before after : List (Worker B Q L E)) (i : ℕ) (now : Worker B Q L E) → i < length before → after ≡ set before i now → has_met now ≡ true → OneHasMet after
+  this_has_met before after i now within is met = record { index = i; worker = now; stands = ap (λ (ws : List (Worker B Q L E)). slice_get ws i) is ∙ found_there before i now within; met = met }
 
   -- as many as the lock has seats
   pub opened_workers : {V F : Type 0} (items : V → List (Worker B Q L E)) (lock : NamedLock (SharedView B L E) (PlanRun B L)) (n : ℕ) (result : Result V F)

@@ -5,5 +5,6 @@ pub mod Turning
 pub mod Depth
 pub mod Bound
 mod Waking
+mod Bedding
 mod TurnsTold
-mod Crews
+pub mod Crews

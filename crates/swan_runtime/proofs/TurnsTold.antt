@@ -5,7 +5,7 @@ use Rattle.named_lock.specs.declared.sign.Sign.TheVariants.{Stopped}
 use Rattle.task_frames.specs.declared.steps.Steps.{Steps}
 use Rattle.swan_runtime.specs.declared.turn.Turn.{Turn}
 use Rattle.swan_runtime.specs.declared.turn.Turn.TheVariants as turn
-use Rattle.swan_runtime.specs.Turned.{IsShownBySeat, IsTold, IsToldWith, IsTurn}
+use Rattle.swan_runtime.specs.Turned.{IsShownBySeat, IsTold, IsToldWith, IsWorkersTurn}
 
 some_steps : (n : ℕ) → (n == 0) ≡ false → 1 ≤ n
 some_steps n is = grind arith
@@ -31,5 +31,5 @@ module _ {N : Type 0} (before after : View N) where
 
   -- A frame was tried in a hold, by a seat that then saw the run go on, or done where that was the answer.
   pub told_turn : (local : Steps) (tried answer : Turn) → IsToldWith local tried answer → IsTold tried → before.holds < after.holds → after.sign ≢ Stopped
-      → (tried ≡ turn.Done → after.saw_done ≡ true) → IsTurn before after answer
+      → (tried ≡ turn.Done → after.saw_done ≡ true) → IsWorkersTurn before after answer
   told_turn local tried answer told is held goes done = record { shown = shown_so local tried answer told is held done; stopped = λ stopped. absurd (goes stopped) }

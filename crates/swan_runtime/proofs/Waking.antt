@@ -16,7 +16,7 @@ use Rattle.task_frames.specs.Resumes.{EndsOf}
 use Rattle.swan_runtime.specs.declared.asleep.Asleep.{Asleep}
 use Rattle.swan_runtime.specs.declared.row.Popper.{Popper}
 use Rattle.swan_runtime.specs.declared.row.Row.{Row}
-use Rattle.swan_runtime.specs.Shared.{AreOfRun, ArePoppersOfRun, HasTakenIn, IsOfRun, IsShared, RowIsOfRun, SleepersAreOfRun}
+use Rattle.swan_runtime.specs.Shared.{AreOfRun, ArePoppersOfRun, HasTakenIn, IsOfRun, IsShared, KeepsOfRun, RowIsOfRun, SleepersAreOfRun}
 
 module _ {B L E : Type 0} (of : EndsOf E) (plan : Plan B L) (run : List ℕ) where
   pub none : AreOfRun of plan run []
@@ -32,6 +32,13 @@ module _ {B L E : Type 0} (of : EndsOf E) (plan : Plan B L) (run : List ℕ) whe
   pub popped : (frames left : List (FrameView B L E)) (frame : Option (FrameView B L E)) → frames ≡ left ++ option_to_list frame → AreOfRun of plan run frames
       → AreOfRun of plan run left × IfSome frame (IsOfRun of plan run)
   popped frames left frame is are = let both = All-pop (IsOfRun of plan run) frames left frame is are.each in (record { each = both.0 }, both.1)
+
+  -- one alone
+  pub alone : (frame : FrameView B L E) → IsOfRun of plan run frame → AreOfRun of plan run (frame ∷ [])
+  alone frame is = pushed [] frame none is
+
+  pub that_one : (frame : FrameView B L E) → AreOfRun of plan run (frame ∷ []) → IsOfRun of plan run frame
+  that_one frame are = All-head (IsOfRun of plan run) frame [] are.each
 
   module _ {Q : Type 0} where
     abbrev Sleeps : Popper B Q L E → Type 0
@@ -130,6 +137,18 @@ module _ {B L E : Type 0} (of : EndsOf E) (plan : Plan B L) (run : List ℕ) whe
   pub last_is_of_run : (frames left : List (FrameView B L E)) (frame : Option (FrameView B L E)) → frames ≡ left ++ option_to_list frame → AreOfRun of plan run frames
       → IfSome frame (IsOfRun of plan run)
   last_is_of_run frames left frame is are = (popped frames left frame is are).1
+
+module _ {B Q L E : Type 0} (of : EndsOf E) (came : List (FrameView B L E)) where
+  -- nothing moved
+  pub still_kept : (asleep : Asleep B Q L E) (ready : List (FrameView B L E)) → KeepsOfRun of came asleep asleep ready ready
+  still_kept asleep ready = record { asleep = λ plan run new are. are; ready = λ plan run new are too. too }
+
+  -- one after the other, of which the first takes nothing in
+  pub kept_on : (a b c : Asleep B Q L E) (r s t : List (FrameView B L E)) → KeepsOfRun of [] a b r s → KeepsOfRun of came b c s t → KeepsOfRun of came a c r t
+  kept_on a b c r s t first second = record {
+    asleep = λ plan run new are. second.asleep plan run new (first.asleep plan run (none of plan run) are);
+    ready = λ plan run new are too. second.ready plan run new (first.asleep plan run (none of plan run) are) (first.ready plan run (none of plan run) are too);
+  }
 
 -- nothing has no length
 pub nothing : {X : Type 0} (xs : List X) → length xs ≡ 0 → xs ≡ []

@@ -2,5 +2,6 @@
 pub mod Stacks
 pub mod Turns
 pub mod Shared
+pub mod Beds
 pub mod Turned
 pub mod Workers

@@ -35,6 +35,17 @@ module _ {B L E : Type 0} (of : EndsOf E) (plan : Plan B L) (run : List ℕ) whe
   pub record SleepersAreOfRun {Q : Type 0} (asleep : Asleep B Q L E) : Type 0 where
     pub each : All (λ (row : Row B Q L E). RowIsOfRun row) (values_of asleep.rows.entries)
 
+-- Frames went to sleep, woke or were taken, and these came in from outside. All are still of the run that they were of.
+pub record KeepsOfRun {B Q L E : Type 0} (of : EndsOf E) (came : List (FrameView B L E)) (before after : Asleep B Q L E) (were_ready are_ready : List (FrameView B L E)) : Type 0 where
+  pub asleep : (plan : Plan B L) (run : List ℕ) → AreOfRun of plan run came → SleepersAreOfRun of plan run before → SleepersAreOfRun of plan run after
+  pub ready : (plan : Plan B L) (run : List ℕ) → AreOfRun of plan run came → SleepersAreOfRun of plan run before → AreOfRun of plan run were_ready
+      → AreOfRun of plan run are_ready
+
+-- a ready frame that goes on first
+pub record IsOnTop {B L E : Type 0} (frame : FrameView B L E) (ready : List (FrameView B L E)) : Type 0 where
+  pub below : List (FrameView B L E)
+  pub is : ready ≡ below ++ frame ∷ []
+
 module _ {B Q L E : Type 0} where
   -- what sleeps under a live frame
   abbrev pub row_at : Asleep B Q L E → ℕ → Option (Row B Q L E)

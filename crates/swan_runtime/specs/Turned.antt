@@ -43,7 +43,7 @@ module _ {N : Type 0} where
   IsShownBySeat before after turn.NoMemory = after.sign ≢ Runs
 
   -- A turn was taken: it is shown by the seat, and no turn that found the run stopped answers anything but want of memory.
-  pub record IsTurn (before after : View N) (answer : Turn) : Type 0 where
+  pub record IsWorkersTurn (before after : View N) (answer : Turn) : Type 0 where
     pub shown : IsShownBySeat before after answer
     pub stopped : after.sign ≡ Stopped → answer ≡ turn.NoMemory
 

@@ -63,9 +63,9 @@ module _ {B Q L E : Type 0} where
     pub all : length workers ≡ lock_seats lock
     pub each : All (IsWorkerOf of lock) workers
 
-  -- They run this plan.
-  abbrev pub Run : Plan B L → List (Worker B Q L E) → Type 0
-  Run plan workers = All (λ worker. (name_of (own_of worker)).plan ≡ plan) workers
+  -- Their run is of this plan.
+  abbrev pub AreOfPlan : Plan B L → List (Worker B Q L E) → Type 0
+  AreOfPlan plan workers = All (λ worker. (name_of (own_of worker)).plan ≡ plan) workers
 
   -- One of them has met the end of the run.
   pub record OneHasMet (workers : List (Worker B Q L E)) : Type 0 where

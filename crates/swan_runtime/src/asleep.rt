@@ -1,8 +1,13 @@
 // The frames of a run that sleep.
-ghost use Rattle.std.specs.Prelude.{◌≡◌, ◌+◌, ℕ, List, None, IfOk, OnOk, vec_len};
+ghost use Rattle.std.specs.Prelude.{◌≡◌, ◌≢◌, ◌+◌, ◌∷◌, [], ℕ, List, None, IfOk, IfSome, IsSomeAnd, OnOk, true, vec_len};
+ghost use Rattle.std.specs.List.{find};
+ghost use Rattle.pop_order.specs.Frames.{holds};
+ghost use Rattle.swan_model.specs.Rights.{allows};
 ghost use Rattle.swan_model.specs.declared.plan.Plan.{Plan};
+ghost use Rattle.swan_model.specs.declared.rights.Mode.TheVariants.{Push};
 ghost use Rattle.task_frames.specs.Resumes.{ends_of};
-ghost use Rattle.swan_runtime.specs.Shared.{AreOfRun, IsOfRun, SleepersAreOfRun, row_at, sleepers};
+ghost use Rattle.swan_runtime.specs.Beds.{HasEntered, HasGoneToBed, HasNotedAt, IsNewRow, NoneAwaits, OnlyWoke, OthersStay, bed_of, before_child, is_live, newest_child, popper_before};
+ghost use Rattle.swan_runtime.specs.Shared.{KeepsOfRun, SleepersAreOfRun, row_at, sleepers};
 
 use crate::row::Row;
 use queues::{Queues, WaitFor};
@@ -24,6 +29,8 @@ impl<B: Body, Q: Queues> Asleep<B, Q> {
     /// Nobody, under a root of this number. Err is want of memory. It allocates once.
     pub fn new(alloc: Global, root: u64) -> Result<Asleep<B, Q>, NoMemory>
         ensures own { (plan : Plan B B.Local) (run : List ℕ) → IfOk result (SleepersAreOfRun (ends_of Q.Ends.LocalEnds) plan run) }
+        ensures root { IfOk result (λ asleep. IsSomeAnd (row_at asleep root) (λ row. IsNewRow row [])) }
+        ensures others { IfOk result (λ asleep. (other : ℕ) → other ≢ root → row_at asleep other ≡ None) }
     {
         let mut rows = BTreeMap::new(alloc);
         rows.insert(root, Row::new(alloc, Vec::new(alloc)))?;
@@ -32,11 +39,10 @@ impl<B: Body, Q: Queues> Asleep<B, Q> {
 
     /// Lets all that sleep under a frame be ready, which has ended. Err is want of memory. `O(log n)`, and `O(1)` amortised for each of them.
     pub fn wake_all(&mut self, ready: &mut Vec<Frame<B, Q>>, number: u64) -> Result<(), NoMemory>
-        ensures own { (plan : Plan B B.Local) (run : List ℕ) → SleepersAreOfRun (ends_of Q.Ends.LocalEnds) plan run self.old → SleepersAreOfRun (ends_of Q.Ends.LocalEnds) plan run self.new }
-        ensures ready { (plan : Plan B B.Local) (run : List ℕ) → SleepersAreOfRun (ends_of Q.Ends.LocalEnds) plan run self.old
-            → AreOfRun (ends_of Q.Ends.LocalEnds) plan run ready.old.items → AreOfRun (ends_of Q.Ends.LocalEnds) plan run ready.new.items }
+        ensures kept { KeepsOfRun (ends_of Q.Ends.LocalEnds) [] self.old self.new ready.old.items ready.new.items }
         ensures none_lost { OnOk result (vec_len ready.new ≡ vec_len ready.old + sleepers (row_at self.old number)) }
         ensures gone { row_at self.new number ≡ None }
+        ensures others { OthersStay self.old self.new number }
     {
         match self.rows.remove(&number) {
             Some(row) => row.wakes_all(ready),
@@ -52,9 +58,10 @@ impl<B: Body, Q: Queues> Asleep<B, Q> {
         number: u64,
         queue: u32,
     ) -> Result<(), NoMemory>
-        ensures own { (plan : Plan B B.Local) (run : List ℕ) → SleepersAreOfRun (ends_of Q.Ends.LocalEnds) plan run self.old → SleepersAreOfRun (ends_of Q.Ends.LocalEnds) plan run self.new }
-        ensures ready { (plan : Plan B B.Local) (run : List ℕ) → SleepersAreOfRun (ends_of Q.Ends.LocalEnds) plan run self.old
-            → AreOfRun (ends_of Q.Ends.LocalEnds) plan run ready.old.items → AreOfRun (ends_of Q.Ends.LocalEnds) plan run ready.new.items }
+        ensures kept { KeepsOfRun (ends_of Q.Ends.LocalEnds) [] self.old self.new ready.old.items ready.new.items }
+        ensures none_lost { OnOk result (vec_len ready.new + sleepers (row_at self.new number) ≡ vec_len ready.old + sleepers (row_at self.old number)) }
+        ensures woken { OnOk result (NoneAwaits queue (row_at self.new number)) }
+        ensures rows { OnlyWoke number self.old self.new }
     {
         match self.rows.get_mut(&number) {
             Some(row) => row.wakes(ready, queue),
@@ -70,9 +77,9 @@ impl<B: Body, Q: Queues> Asleep<B, Q> {
         number: u64,
         asked: Option<u32>,
     ) -> Result<(), NoMemory>
-        ensures own { (plan : Plan B B.Local) (run : List ℕ) → SleepersAreOfRun (ends_of Q.Ends.LocalEnds) plan run self.old → SleepersAreOfRun (ends_of Q.Ends.LocalEnds) plan run self.new }
-        ensures ready { (plan : Plan B B.Local) (run : List ℕ) → SleepersAreOfRun (ends_of Q.Ends.LocalEnds) plan run self.old
-            → AreOfRun (ends_of Q.Ends.LocalEnds) plan run ready.old.items → AreOfRun (ends_of Q.Ends.LocalEnds) plan run ready.new.items }
+        ensures kept { KeepsOfRun (ends_of Q.Ends.LocalEnds) [] self.old self.new ready.old.items ready.new.items }
+        ensures woken { OnOk result (IfSome asked (λ queue. NoneAwaits queue (row_at self.new number))) }
+        ensures rows { OnlyWoke number self.old self.new }
     {
         match asked {
             Some(queue) => self.wake_poppers(ready, number, queue),
@@ -90,6 +97,9 @@ impl<B: Body, Q: Queues> Asleep<B, Q> {
         holdings: &[Holding],
     ) -> Result<Vec<u64>, NoMemory>
         ensures own { (plan : Plan B B.Local) (run : List ℕ) → SleepersAreOfRun (ends_of Q.Ends.LocalEnds) plan run self.old → SleepersAreOfRun (ends_of Q.Ends.LocalEnds) plan run self.new }
+        ensures before { IfOk result (λ before. before.items ≡ before_child (row_at self.old parent) holdings.now) }
+        ensures noted { OnOk result (HasNotedAt (row_at self.old parent) (row_at self.new parent) child holdings.now) }
+        ensures others { OthersStay self.old self.new parent }
     {
         match self.rows.get_mut(&parent) {
             Some(row) => row.spawns(alloc, child, holdings),
@@ -105,9 +115,9 @@ impl<B: Body, Q: Queues> Asleep<B, Q> {
         number: u64,
         holding: Holding,
     ) -> Result<(), NoMemory>
-        ensures own { (plan : Plan B B.Local) (run : List ℕ) → SleepersAreOfRun (ends_of Q.Ends.LocalEnds) plan run self.old → SleepersAreOfRun (ends_of Q.Ends.LocalEnds) plan run self.new }
-        ensures ready { (plan : Plan B B.Local) (run : List ℕ) → SleepersAreOfRun (ends_of Q.Ends.LocalEnds) plan run self.old
-            → AreOfRun (ends_of Q.Ends.LocalEnds) plan run ready.old.items → AreOfRun (ends_of Q.Ends.LocalEnds) plan run ready.new.items }
+        ensures kept { KeepsOfRun (ends_of Q.Ends.LocalEnds) [] self.old self.new ready.old.items ready.new.items }
+        ensures woken { OnOk result (allows holding.mode Push ≡ true → NoneAwaits holding.number (row_at self.new number)) }
+        ensures rows { OnlyWoke number self.old self.new }
     {
         if holding.mode.allows(Mode::Push) {
             self.wake_poppers(ready, number, holding.number)
@@ -124,9 +134,9 @@ impl<B: Body, Q: Queues> Asleep<B, Q> {
         number: u64,
         holdings: &[Holding],
     ) -> Result<(), NoMemory>
-        ensures own { (plan : Plan B B.Local) (run : List ℕ) → SleepersAreOfRun (ends_of Q.Ends.LocalEnds) plan run self.old → SleepersAreOfRun (ends_of Q.Ends.LocalEnds) plan run self.new }
-        ensures ready { (plan : Plan B B.Local) (run : List ℕ) → SleepersAreOfRun (ends_of Q.Ends.LocalEnds) plan run self.old
-            → AreOfRun (ends_of Q.Ends.LocalEnds) plan run ready.old.items → AreOfRun (ends_of Q.Ends.LocalEnds) plan run ready.new.items }
+        ensures kept { KeepsOfRun (ends_of Q.Ends.LocalEnds) [] self.old self.new ready.old.items ready.new.items }
+        ensures woken { OnOk result ((queue : ℕ) → holds holdings.now queue Push ≡ true → NoneAwaits queue (row_at self.new number)) }
+        ensures rows { OnlyWoke number self.old self.new }
     {
         for holding in holdings {
             self.wake_at(ready, number, *holding)?;
@@ -144,9 +154,8 @@ impl<B: Body, Q: Queues> Asleep<B, Q> {
         child: u64,
         holdings: &[Holding],
     ) -> Result<(), NoMemory>
-        ensures own { (plan : Plan B B.Local) (run : List ℕ) → SleepersAreOfRun (ends_of Q.Ends.LocalEnds) plan run self.old → SleepersAreOfRun (ends_of Q.Ends.LocalEnds) plan run self.new }
-        ensures ready { (plan : Plan B B.Local) (run : List ℕ) → SleepersAreOfRun (ends_of Q.Ends.LocalEnds) plan run self.old
-            → AreOfRun (ends_of Q.Ends.LocalEnds) plan run ready.old.items → AreOfRun (ends_of Q.Ends.LocalEnds) plan run ready.new.items }
+        ensures kept { KeepsOfRun (ends_of Q.Ends.LocalEnds) [] self.old self.new ready.old.items ready.new.items }
+        ensures entered { OnOk result (HasEntered self.old self.new parent child holdings.now) }
     {
         self.wake_given(ready, parent, holdings)?;
         let before = self.spawns(alloc, parent, child, holdings)?;
@@ -157,9 +166,11 @@ impl<B: Body, Q: Queues> Asleep<B, Q> {
     /// Under which frame one sleeps that has to wait for this.
     ///
     /// Who waits for its children sleeps under the one spawned last, which mostly ends last. Who waits for its turn to pop sleeps under
-    /// the last one that was given a queue of its own before: so of many that pop one queue each wakes once. Where such a frame has ended,
-    /// it is the one that the wait names. `O(k log n)` for k places; it takes no memory.
-    fn bed(&self, number: u64, wait: WaitFor) -> u64 {
+    /// the first live one of those that were given before it what it may pop: so of many that pop one queue each wakes once. Where such a
+    /// frame has ended, it is the one that the wait names. `O(k log n)` for k places; it takes no memory.
+    fn bed(&self, number: u64, wait: WaitFor) -> u64
+        ensures { result ≡ bed_of self.now number wait }
+    {
         match wait {
             WaitFor::Child(child) => self.newest_child(number).unwrap_or(child),
             WaitFor::PopTurn(popper) => self.popper_before(number).unwrap_or(popper),
@@ -169,7 +180,9 @@ impl<B: Body, Q: Queues> Asleep<B, Q> {
     }
 
     /// The child of a frame that was spawned last, where it is live. `O(log n)`; it takes no memory.
-    fn newest_child(&self, number: u64) -> Option<u64> {
+    fn newest_child(&self, number: u64) -> Option<u64>
+        ensures { result ≡ newest_child self.now number }
+    {
         let newest = self.rows.get(&number)?.newest?;
         if self.rows.contains_key(&newest) {
             Some(newest)
@@ -178,12 +191,21 @@ impl<B: Body, Q: Queues> Asleep<B, Q> {
         }
     }
 
-    /// The first live frame of those that were given before what this one pops. `O(k log n)` for k places; it takes no memory.
-    fn popper_before(&self, number: u64) -> Option<u64> {
+    /// The first live frame of those that were given before it what this one may pop. `O(k log n)` for k places; it takes no memory.
+    fn popper_before(&self, number: u64) -> Option<u64>
+        ensures { result ≡ popper_before self.now number }
+    {
         let row = self.rows.get(&number)?;
-        for popper in &row.before {
-            if self.rows.contains_key(popper) {
-                return Some(*popper);
+        self.first_live(&row.before)
+    }
+
+    /// The first of these that is live. `O(k log n)` for k of them; it takes no memory.
+    fn first_live(&self, numbers: &[u64]) -> Option<u64>
+        ensures { result ≡ find (is_live self.now) numbers.now }
+    {
+        for number in numbers {
+            if self.rows.contains_key(number) {
+                return Some(*number);
             }
         }
         None
@@ -197,10 +219,8 @@ impl<B: Body, Q: Queues> Asleep<B, Q> {
         frame: Frame<B, Q>,
         wait: WaitFor,
     ) -> Result<(), NoMemory>
-        ensures own { (plan : Plan B B.Local) (run : List ℕ) → SleepersAreOfRun (ends_of Q.Ends.LocalEnds) plan run self.old
-            → IsOfRun (ends_of Q.Ends.LocalEnds) plan run frame → SleepersAreOfRun (ends_of Q.Ends.LocalEnds) plan run self.new }
-        ensures ready { (plan : Plan B B.Local) (run : List ℕ) → IsOfRun (ends_of Q.Ends.LocalEnds) plan run frame
-            → AreOfRun (ends_of Q.Ends.LocalEnds) plan run ready.old.items → AreOfRun (ends_of Q.Ends.LocalEnds) plan run ready.new.items }
+        ensures kept { KeepsOfRun (ends_of Q.Ends.LocalEnds) (frame ∷ []) self.old self.new ready.old.items ready.new.items }
+        ensures bed { OnOk result (HasGoneToBed (bed_of self.old frame.task.number wait) self.old self.new ready.old.items ready.new.items frame wait) }
     {
         let queue = frame.asked_queue();
         let bed = self.bed(frame.number(), wait);

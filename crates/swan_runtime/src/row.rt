@@ -1,7 +1,8 @@
 // What sleeps under one live frame.
-ghost use Rattle.std.specs.Prelude.{◌≡◌, ◌≢◌, ◌+◌, [], ℕ, List, All, Some, OnOk, OnErr, vec_len};
+ghost use Rattle.std.specs.Prelude.{◌≡◌, ◌+◌, ℕ, List, Some, IfOk, OnOk, OnErr, vec_len};
 ghost use Rattle.swan_model.specs.declared.plan.Plan.{Plan};
 ghost use Rattle.task_frames.specs.Resumes.{ends_of};
+ghost use Rattle.swan_runtime.specs.Beds.{HasNoted, HasSameNotes, HasSameSleepers, IsNewRow, NoneAwaits, popper_at, poppers_of};
 ghost use Rattle.swan_runtime.specs.Shared.{AreOfRun, HasTakenIn, RowIsOfRun, sleepers};
 
 use queues::{Queues, WaitFor};
@@ -37,8 +38,7 @@ pub struct Row<B: Body, Q: Queues> {
 impl<B: Body, Q: Queues> Row<B, Q> {
     /// Nothing, for a frame before which these were given what it pops. It takes no memory. `O(1)`.
     pub fn new(alloc: Global, before: Vec<u64>) -> Row<B, Q>
-        ensures frames { (result.at_end.items ≡ []) × (result.at_push.items ≡ []) }
-        ensures before { result.before ≡ before }
+        ensures { IsNewRow result before.items }
     {
         Row {
             at_end: Vec::new(alloc),
@@ -49,25 +49,60 @@ impl<B: Body, Q: Queues> Row<B, Q> {
         }
     }
 
-    /// Notes a child that was given this. The answer is who was given to pop before what it pops, in the order of places. Err is want of
-    /// memory. `O(k log k)` for k places.
+    /// The last child that was given what this is of, where that may be popped. It takes no memory. `O(log n)` for n queues that children
+    /// were given to pop.
+    fn popper_at(&self, holding: Holding) -> Option<u64>
+        ensures { result ≡ popper_at self.now holding }
+    {
+        if holding.mode.allows(Mode::Pop) {
+            self.poppers.get(&holding.number).copied()
+        } else {
+            None
+        }
+    }
+
+    /// Who was given last, as yet, what each of these may pop, in the order of places. Err is want of memory. `O(k log n)` for k places and
+    /// n queues that children were given to pop.
+    fn poppers_of(&self, alloc: Global, holdings: &[Holding]) -> Result<Vec<u64>, NoMemory>
+        ensures poppers { IfOk result (λ poppers. poppers.items ≡ poppers_of self.now holdings.now) }
+    {
+        let mut poppers = Vec::new(alloc);
+        for holding in holdings {
+            if let Some(popper) = self.popper_at(*holding) {
+                poppers.push(popper)?;
+            }
+        }
+        Ok(poppers)
+    }
+
+    /// Notes a child that was given these. Err is want of memory. `O(k log n)` for k places and n queues that children were given to pop.
+    fn notes(&mut self, child: u64, holdings: &[Holding]) -> Result<(), NoMemory>
+        ensures noted { OnOk result (HasNoted self.old self.new child holdings.now) }
+        ensures sleepers { HasSameSleepers self.old self.new }
+    {
+        self.newest = Some(child);
+        for holding in holdings {
+            if holding.mode.allows(Mode::Pop) {
+                self.poppers.insert(holding.number, child)?;
+            }
+        }
+        Ok(())
+    }
+
+    /// Notes a child that was given these. The answer is who was given before it what it may pop, in the order of places. Err is want of
+    /// memory. `O(k log n)` for k places and n queues that children were given to pop.
     pub fn spawns(
         &mut self,
         alloc: Global,
         child: u64,
         holdings: &[Holding],
     ) -> Result<Vec<u64>, NoMemory>
-        ensures frames { (self.new.at_end ≡ self.old.at_end) × (self.new.at_push ≡ self.old.at_push) }
+        ensures before { IfOk result (λ before. before.items ≡ poppers_of self.old holdings.now) }
+        ensures noted { OnOk result (HasNoted self.old self.new child holdings.now) }
+        ensures sleepers { HasSameSleepers self.old self.new }
     {
-        self.newest = Some(child);
-        let mut before = Vec::new(alloc);
-        for holding in holdings {
-            if holding.mode.allows(Mode::Pop) {
-                if let Some(older) = self.poppers.insert(holding.number, child)? {
-                    before.push(older)?;
-                }
-            }
-        }
+        let before = self.poppers_of(alloc, holdings)?;
+        self.notes(child, holdings)?;
         Ok(before)
     }
 
@@ -80,6 +115,7 @@ impl<B: Body, Q: Queues> Row<B, Q> {
     ) -> Result<(), NoMemory>
         ensures ok { OnOk result (HasTakenIn self.old self.new frame wait queue) }
         ensures err { OnErr result ((self.new.at_end.items ≡ self.old.at_end.items) × (self.new.at_push.items ≡ self.old.at_push.items)) }
+        ensures notes { HasSameNotes self.old self.new }
     {
         match (wait, queue) {
             (WaitFor::Pusher(_), Some(queue)) => self.at_push.push(Popper { queue, frame })?,
@@ -95,9 +131,11 @@ impl<B: Body, Q: Queues> Row<B, Q> {
             → RowIsOfRun (ends_of Q.Ends.LocalEnds) plan run self.new }
         ensures ready { (plan : Plan B B.Local) (run : List ℕ) → RowIsOfRun (ends_of Q.Ends.LocalEnds) plan run self.old
             → AreOfRun (ends_of Q.Ends.LocalEnds) plan run ready.old.items → AreOfRun (ends_of Q.Ends.LocalEnds) plan run ready.new.items }
-        ensures woken { OnOk result (All (λ popper. popper.queue ≢ queue) self.new.at_push.items) }
+        ensures woken { OnOk result (NoneAwaits queue (Some self.new)) }
+        ensures none_more { (other : ℕ) → NoneAwaits other (Some self.old) → NoneAwaits other (Some self.new) }
         ensures none_lost { OnOk result (vec_len ready.new + vec_len self.new.at_push ≡ vec_len ready.old + vec_len self.old.at_push) }
         ensures others { self.new.at_end ≡ self.old.at_end }
+        ensures notes { HasSameNotes self.old self.new }
     {
         let mut place = 0;
         while place < self.at_push.len() {

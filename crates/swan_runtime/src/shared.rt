@@ -7,7 +7,7 @@ ghost use Rattle.swan_runtime.specs.declared.turn.Turn.TheVariants as turn;
 
 use crate::Turn;
 use crate::asleep::Asleep;
-use crate::trying::{Tried, go_on};
+use crate::trying::{Tried, try_by_core};
 use named_lock::Named;
 use queues::Queues;
 use std::alloc::Global;
@@ -89,8 +89,8 @@ impl<B: Body, Q: Queues> SharedRun<B, Q> {
 
     /// Tries a frame by the core, where the run isn't done.
     ///
-    /// Done comes exactly where the run was done, and the frame comes back. Else it is what `go_on` answers. Err is want of memory, and the
-    /// run has to be stopped then. It costs what `go_on` costs.
+    /// Done comes exactly where the run was done, and the frame comes back. Else it is what `try_by_core` answers. Err is want of memory, and the
+    /// run has to be stopped then. It costs what `try_by_core` costs.
     pub fn try_frame(
         &mut self,
         alloc: Global,
@@ -113,7 +113,7 @@ impl<B: Body, Q: Queues> SharedRun<B, Q> {
                 frame: Some(frame),
             });
         }
-        go_on(
+        try_by_core(
             alloc,
             &mut self.core,
             &mut self.asleep,

@@ -1,8 +1,9 @@
 // Tries of frames by the core.
-ghost use Rattle.std.specs.Prelude.{◌≡◌, ◌≢◌, ℕ, List, Some, None, IfOk, IfSome, true};
+ghost use Rattle.std.specs.Prelude.{◌≡◌, ◌≢◌, ◌+◌, ◌++◌, ◌∷◌, [], ℕ, List, Some, None, IfOk, IfSome, OnOk, length, option_to_list, true};
 ghost use Rattle.swan_model.specs.declared.plan.Plan.{Plan};
 ghost use Rattle.task_frames.specs.Resumes.{ends_of};
-ghost use Rattle.swan_runtime.specs.Shared.{AreOfRun, IsOfRun, SleepersAreOfRun};
+ghost use Rattle.swan_runtime.specs.Beds.{HasEntered, HasGoneToBed, NoneAwaits, OnlyWoke, OthersStay, bed_of};
+ghost use Rattle.swan_runtime.specs.Shared.{AreOfRun, IsOfRun, IsOnTop, KeepsOfRun, SleepersAreOfRun, row_at, sleepers};
 ghost use Rattle.swan_runtime.specs.Turned.{IsOneTry};
 
 use crate::Turn;
@@ -32,9 +33,9 @@ fn has_run<B: Body, Q: Queues>(
     requires one { steps.count ≡ 1 }
     ensures tried { IfOk result (λ tried. IsOneTry tried.turn) }
     ensures frame { IfOk result (λ tried. tried.frame ≡ Some frame) }
-    ensures own { (plan : Plan B B.Local) (run : List ℕ) → SleepersAreOfRun (ends_of Q.Ends.LocalEnds) plan run asleep.old → SleepersAreOfRun (ends_of Q.Ends.LocalEnds) plan run asleep.new }
-    ensures ready { (plan : Plan B B.Local) (run : List ℕ) → SleepersAreOfRun (ends_of Q.Ends.LocalEnds) plan run asleep.old
-        → AreOfRun (ends_of Q.Ends.LocalEnds) plan run ready.old.items → AreOfRun (ends_of Q.Ends.LocalEnds) plan run ready.new.items }
+    ensures kept { KeepsOfRun (ends_of Q.Ends.LocalEnds) [] asleep.old asleep.new ready.old.items ready.new.items }
+    ensures woken { OnOk result (IfSome asked (λ queue. NoneAwaits queue (row_at asleep.new frame.task.number))) }
+    ensures rows { OnlyWoke frame.task.number asleep.old asleep.new }
 {
     asleep.wake_asked(ready, frame.number(), asked)?;
     Ok(Tried {
@@ -55,9 +56,9 @@ fn has_spawned<B: Body, Q: Queues>(
     requires one { steps.count ≡ 1 }
     ensures tried { IfOk result (λ tried. IsOneTry tried.turn) }
     ensures frame { IfOk result (λ tried. tried.frame ≡ Some child) }
-    ensures own { (plan : Plan B B.Local) (run : List ℕ) → SleepersAreOfRun (ends_of Q.Ends.LocalEnds) plan run asleep.old → SleepersAreOfRun (ends_of Q.Ends.LocalEnds) plan run asleep.new }
-    ensures ready { (plan : Plan B B.Local) (run : List ℕ) → SleepersAreOfRun (ends_of Q.Ends.LocalEnds) plan run asleep.old → IsOfRun (ends_of Q.Ends.LocalEnds) plan run parent
-        → AreOfRun (ends_of Q.Ends.LocalEnds) plan run ready.old.items → AreOfRun (ends_of Q.Ends.LocalEnds) plan run ready.new.items }
+    ensures kept { KeepsOfRun (ends_of Q.Ends.LocalEnds) (parent ∷ []) asleep.old asleep.new ready.old.items ready.new.items }
+    ensures entered { OnOk result (HasEntered asleep.old asleep.new parent.task.number child.task.number child.task.holdings) }
+    ensures ready { OnOk result (IsOnTop parent ready.new.items) }
 {
     asleep.enter(
         alloc,
@@ -84,9 +85,10 @@ fn has_ended<B: Body, Q: Queues>(
     ensures tried { IfOk result (λ tried. IsOneTry tried.turn) }
     ensures frame { (plan : Plan B B.Local) (run : List ℕ) → SleepersAreOfRun (ends_of Q.Ends.LocalEnds) plan run asleep.old
         → AreOfRun (ends_of Q.Ends.LocalEnds) plan run ready.old.items → IfOk result (λ tried. IfSome tried.frame (IsOfRun (ends_of Q.Ends.LocalEnds) plan run)) }
-    ensures own { (plan : Plan B B.Local) (run : List ℕ) → SleepersAreOfRun (ends_of Q.Ends.LocalEnds) plan run asleep.old → SleepersAreOfRun (ends_of Q.Ends.LocalEnds) plan run asleep.new }
-    ensures ready { (plan : Plan B B.Local) (run : List ℕ) → SleepersAreOfRun (ends_of Q.Ends.LocalEnds) plan run asleep.old
-        → AreOfRun (ends_of Q.Ends.LocalEnds) plan run ready.old.items → AreOfRun (ends_of Q.Ends.LocalEnds) plan run ready.new.items }
+    ensures kept { KeepsOfRun (ends_of Q.Ends.LocalEnds) [] asleep.old asleep.new ready.old.items ready.new.items }
+    ensures none_lost { IfOk result (λ tried. length (ready.new.items ++ option_to_list tried.frame) ≡ length ready.old.items + sleepers (row_at asleep.old number)) }
+    ensures gone { row_at asleep.new number ≡ None }
+    ensures others { OthersStay asleep.old asleep.new number }
 {
     asleep.wake_all(ready, number)?;
     let frame = ready.pop();
@@ -104,12 +106,11 @@ fn has_to_wait<B: Body, Q: Queues>(
     waited: Waited,
 ) -> Result<Tried<B, Q>, NoMemory>
     ensures tried { IfOk result (λ tried. IsOneTry tried.turn) }
-    ensures frame { (plan : Plan B B.Local) (run : List ℕ) → IsOfRun (ends_of Q.Ends.LocalEnds) plan run frame
+    ensures frame { (plan : Plan B B.Local) (run : List ℕ) → IsOfRun (ends_of Q.Ends.LocalEnds) plan run frame → SleepersAreOfRun (ends_of Q.Ends.LocalEnds) plan run asleep.old
         → AreOfRun (ends_of Q.Ends.LocalEnds) plan run ready.old.items → IfOk result (λ tried. IfSome tried.frame (IsOfRun (ends_of Q.Ends.LocalEnds) plan run)) }
-    ensures own { (plan : Plan B B.Local) (run : List ℕ) → SleepersAreOfRun (ends_of Q.Ends.LocalEnds) plan run asleep.old
-        → IsOfRun (ends_of Q.Ends.LocalEnds) plan run frame → SleepersAreOfRun (ends_of Q.Ends.LocalEnds) plan run asleep.new }
-    ensures ready { (plan : Plan B B.Local) (run : List ℕ) → IsOfRun (ends_of Q.Ends.LocalEnds) plan run frame
-        → AreOfRun (ends_of Q.Ends.LocalEnds) plan run ready.old.items → AreOfRun (ends_of Q.Ends.LocalEnds) plan run ready.new.items }
+    ensures kept { KeepsOfRun (ends_of Q.Ends.LocalEnds) (frame ∷ []) asleep.old asleep.new ready.old.items ready.new.items }
+    ensures bed { IfOk result (λ tried. HasGoneToBed (bed_of asleep.old frame.task.number waited.wait) asleep.old asleep.new ready.old.items
+        (ready.new.items ++ option_to_list tried.frame) frame waited.wait) }
 {
     asleep.sleep(ready, frame, waited.wait())?;
     let next = ready.pop();
@@ -125,7 +126,7 @@ fn has_to_wait<B: Body, Q: Queues>(
 ///
 /// Err is want of memory. It costs what the core's step costs, and `O(k log n)` for k places of the frame and its child, and `O(1)` amortised
 /// for each frame that wakes.
-pub(crate) fn go_on<B: Body, Q: Queues>(
+pub(crate) fn try_by_core<B: Body, Q: Queues>(
     alloc: Global,
     core: &mut Core<B, Q>,
     asleep: &mut Asleep<B, Q>,

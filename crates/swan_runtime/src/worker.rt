@@ -2,7 +2,7 @@
 ghost use Rattle.std.specs.Prelude.{◌≡◌, ◌||◌};
 ghost use Rattle.named_lock.specs.Seats.{knows};
 ghost use Rattle.task_frames.specs.Resumes.{ends_of};
-ghost use Rattle.swan_runtime.specs.Turned.{IsTurn, is_last};
+ghost use Rattle.swan_runtime.specs.Turned.{IsWorkersTurn, is_last};
 ghost use Rattle.swan_runtime.specs.Workers.{IsOwn, IsSameOwn, IsSameWorker, IsWorker, has_met, seat_of};
 
 use crate::Turn;
@@ -36,7 +36,7 @@ impl<B: Body, Q: Queues> Own<B, Q> {
         requires own { IsOwn (ends_of Q.Ends.LocalEnds) self.old }
         ensures own { IsOwn (ends_of Q.Ends.LocalEnds) self.new }
         ensures same { IsSameOwn self.old self.new }
-        ensures turn { IsTurn (knows self.old.seat) (knows self.new.seat) result }
+        ensures turn { IsWorkersTurn (knows self.old.seat) (knows self.new.seat) result }
         ensures met { self.new.met ≡ (self.old.met || is_last result) }
     {
         let turn = take_turn(
@@ -77,7 +77,7 @@ impl<B: Body, Q: Queues> Worker<B, Q> {
         requires worker { IsWorker (ends_of Q.Ends.LocalEnds) self.old }
         ensures worker { IsWorker (ends_of Q.Ends.LocalEnds) self.new }
         ensures same { IsSameWorker self.old self.new }
-        ensures turn { IsTurn (seat_of self.old) (seat_of self.new) result }
+        ensures turn { IsWorkersTurn (seat_of self.old) (seat_of self.new) result }
         ensures met { has_met self.new ≡ (has_met self.old || is_last result) }
     {
         let own = &mut *self.own;

@@ -4,7 +4,7 @@ ghost use Rattle.named_lock.specs.Seats.{IsHeldBy, IsSameSeat, IsSeatOf, knows, 
 ghost use Rattle.named_lock.specs.declared.sign.Sign.TheVariants.{Stopped};
 ghost use Rattle.task_frames.specs.Resumes.{ends_of};
 ghost use Rattle.swan_runtime.specs.Shared.{IsOfRun};
-ghost use Rattle.swan_runtime.specs.Turned.{HasGoneOn, IsShownBySeat, IsTold, IsToldWith, IsTurn, is_last};
+ghost use Rattle.swan_runtime.specs.Turned.{HasGoneOn, IsShownBySeat, IsTold, IsToldWith, IsWorkersTurn, is_last};
 ghost use Rattle.swan_runtime.specs.declared.turn.Turn.TheVariants as turn;
 ghost use Rattle.swan_runtime.specs.declared.worker_turns.TheConstants.{STEPS_A_TURN};
 
@@ -47,7 +47,7 @@ fn find<B: Body, Q: Queues>(
 }
 
 /// Tries a frame that has taken these steps by itself, where the lock is free. The frame that the worker goes on with is in the slot then.
-fn try_frame<B: Body, Q: Queues>(
+fn try_under_lock<B: Body, Q: Queues>(
     alloc: Global,
     lock: &NamedLock<SharedRun<B, Q>>,
     seat: &mut LockSeat<SharedRun<B, Q>>,
@@ -64,7 +64,7 @@ fn try_frame<B: Body, Q: Queues>(
     requires few { local.count < STEPS_A_TURN }
     ensures seat { IsSeatOf lock.now false seat.new × IsSameSeat seat.old seat.new }
     ensures frame { IfSome slot.new (IsOfRun (ends_of Q.Ends.LocalEnds) (lock_name lock.now).plan (lock_name lock.now).run) }
-    ensures turn { IsTurn (knows seat.old) (knows seat.new) result }
+    ensures turn { IsWorkersTurn (knows seat.old) (knows seat.new) result }
 {
     *slot = None;
     let Some(mut held) = lock.try_take(seat) else {
@@ -156,12 +156,12 @@ fn go_on<B: Body, Q: Queues>(
     requires body { body.now ≡ (lock_name lock.now).plan.body }
     ensures seat { IsSeatOf lock.now false seat.new × IsSameSeat seat.old seat.new }
     ensures frame { IfSome slot.new (IsOfRun (ends_of Q.Ends.LocalEnds) (lock_name lock.now).plan (lock_name lock.now).run) }
-    ensures turn { IsTurn (knows seat.old) (knows seat.new) result }
+    ensures turn { IsWorkersTurn (knows seat.old) (knows seat.new) result }
 {
     let mut frame = frame;
     *slot = None;
     match frame.run_local(alloc, body, STEPS_A_TURN) {
-        Paused::AtCore(local) => try_frame(alloc, lock, seat, body, slot, frame, local),
+        Paused::AtCore(local) => try_under_lock(alloc, lock, seat, body, slot, frame, local),
         Paused::Budget(local) => {
             *slot = Some(frame);
             Turn::Stepped(local)
@@ -188,7 +188,7 @@ pub(crate) fn take_turn<B: Body, Q: Queues, G: Gate>(
     requires body { body.now ≡ (lock_name lock.now).plan.body }
     ensures seat { IsSeatOf lock.now false seat.new × IsSameSeat seat.old seat.new }
     ensures frame { IfSome slot.new (IsOfRun (ends_of Q.Ends.LocalEnds) (lock_name lock.now).plan (lock_name lock.now).run) }
-    ensures turn { IsTurn (knows seat.old) (knows seat.new) result }
+    ensures turn { IsWorkersTurn (knows seat.old) (knows seat.new) result }
 {
     if lock.is_done(seat) {
         return Turn::Done;

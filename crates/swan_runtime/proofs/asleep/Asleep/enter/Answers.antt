@@ -1,18 +1,35 @@
+use Rattle.std.proofs.Common.{[], ap}
 use Rattle.task_frames.specs.Resumes.{ends_of}
+use Rattle.swan_runtime.proofs.Bedding.{has_entered}
 use Rattle.swan_runtime.proofs.Waking.{empty_row, row_inserted, rows_same}
 use Rattle.swan_runtime.proofs.asleep.Asleep.enter.Goals as goal
 
-pub returns-in_err-before-clause-own : goal.returns-in_err-before-clause-own
-returns-in_err-before-clause-own g c = λ plan run are. c.spawns.ensures.own plan run (c.wake_given.ensures.own plan run are)
+pub returns-in_err-before-clause-kept : goal.returns-in_err-before-clause-kept
+returns-in_err-before-clause-kept g c = record {
+  asleep = λ plan run new are. c.spawns.ensures.own plan run (c.wake_given.ensures.kept.asleep plan run new are);
+  ready = λ plan run new are too. c.wake_given.ensures.kept.ready plan run new are too;
+}
 
-pub returns-in_err-insert-clause-own : goal.returns-in_err-insert-clause-own
-returns-in_err-insert-clause-own g c = λ plan run are.
-    record { each = rows_same (ends_of g.Q.Ends.LocalEnds) plan run _ _ c.in_err-insert.ensures.err (c.spawns.ensures.own plan run (c.wake_given.ensures.own plan run are)).each }
+pub returns-in_err-insert-clause-kept : goal.returns-in_err-insert-clause-kept
+returns-in_err-insert-clause-kept g c = record {
+  asleep = λ plan run new are.
+      record { each = rows_same (ends_of g.Q.Ends.LocalEnds) plan run _ _ c.in_err-insert.ensures.err (c.spawns.ensures.own plan run (c.wake_given.ensures.kept.asleep plan run new are)).each };
+  ready = λ plan run new are too. c.wake_given.ensures.kept.ready plan run new are too;
+}
 
-pub returns-clause-own : goal.returns-clause-own
-returns-clause-own g c = λ plan run are.
+pub returns-clause-kept : goal.returns-clause-kept
+returns-clause-kept g c =
     let of = ends_of g.Q.Ends.LocalEnds in
     record {
-      each = row_inserted of plan run _ _ c.args.child c.new.result c.in_ok-insert.ensures.entries (c.spawns.ensures.own plan run (c.wake_given.ensures.own plan run are)).each
-          (empty_row of plan run c.new.result c.new.ensures.frames.0 c.new.ensures.frames.1);
+      asleep = λ plan run new are.
+          record {
+            each = row_inserted of plan run _ _ c.args.child c.new.result c.in_ok-insert.ensures.entries (c.spawns.ensures.own plan run (c.wake_given.ensures.kept.asleep plan run new are)).each
+                (empty_row of plan run c.new.result c.new.ensures.at_end c.new.ensures.at_push);
+          };
+      ready = λ plan run new are too. c.wake_given.ensures.kept.ready plan run new are too;
     }
+
+pub returns-clause-entered : goal.returns-clause-entered
+returns-clause-entered g c =
+    has_entered _ _ _ _ c.args.parent c.args.child c.args.holdings.now _ c.new.result c.wake_given.ensures.rows c.in_ok-wake_given.ensures.woken c.in_ok-before.ensures.noted c.spawns.ensures.others
+    c.in_ok-before.ensures.before c.new.ensures c.in_ok-insert.ensures.updates

@@ -1,13 +1,25 @@
+use Rattle.std.proofs.Common.{rules, [], refl}
+use Rattle.task_frames.specs.Resumes.{ends_of}
+use Rattle.swan_runtime.proofs.Bedding.{none_woke, woke_on, woken_more}
+use Rattle.swan_runtime.proofs.Waking.{kept_on, still_kept}
 use Rattle.swan_runtime.proofs.asleep.Asleep.wake_given.Goals as goal
 
+pub loop-holding-init : goal.loop-holding-init
+loop-holding-init g c = record {
+  kept = still_kept (ends_of g.Q.Ends.LocalEnds) [] _ _;
+  rows = none_woke c.args.number _ _ refl;
+  woken = λ queue held. absurd (cc);
+}
+
 pub loop-holding-preserved : goal.loop-holding-preserved
-loop-holding-preserved g c = (
-  λ plan run are. c.wake_at.ensures.own plan run (c.loop-holding.invariant.0 plan run are),
-  λ plan run are ready. c.wake_at.ensures.ready plan run (c.loop-holding.invariant.0 plan run are) (c.loop-holding.invariant.1 plan run are ready),
-)
+loop-holding-preserved g c = record {
+  kept = kept_on (ends_of g.Q.Ends.LocalEnds) [] _ _ _ _ _ _ c.loop-holding.invariant.kept c.wake_at.ensures.kept;
+  rows = woke_on c.args.number _ _ _ c.loop-holding.invariant.rows c.wake_at.ensures.rows;
+  woken = woken_more c.args.holdings.now c.loop-holding.holding-index _ _ _ (search rules) (search rules) c.wake_at.ensures.rows.none_more c.loop-holding.invariant.woken c.in_ok-wake_at.ensures.woken;
+}
 
-pub returns-in_err-wake_at-clause-own : goal.returns-in_err-wake_at-clause-own
-returns-in_err-wake_at-clause-own g c = λ plan run are. c.wake_at.ensures.own plan run (c.loop-holding.invariant.0 plan run are)
+pub returns-in_err-wake_at-clause-kept : goal.returns-in_err-wake_at-clause-kept
+returns-in_err-wake_at-clause-kept g c = kept_on (ends_of g.Q.Ends.LocalEnds) [] _ _ _ _ _ _ c.loop-holding.invariant.kept c.wake_at.ensures.kept
 
-pub returns-in_err-wake_at-clause-ready : goal.returns-in_err-wake_at-clause-ready
-returns-in_err-wake_at-clause-ready g c = λ plan run are ready. c.wake_at.ensures.ready plan run (c.loop-holding.invariant.0 plan run are) (c.loop-holding.invariant.1 plan run are ready)
+pub returns-in_err-wake_at-clause-rows : goal.returns-in_err-wake_at-clause-rows
+returns-in_err-wake_at-clause-rows g c = woke_on c.args.number _ _ _ c.loop-holding.invariant.rows c.wake_at.ensures.rows

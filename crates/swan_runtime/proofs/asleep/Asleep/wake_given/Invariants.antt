@@ -1,11 +1,14 @@
-use Rattle.std.proofs.Common.{List, ℕ}
-use Rattle.swan_model.specs.declared.plan.Plan.{Plan}
+use Rattle.std.proofs.Common.{◌≡◌, ℕ, [], take, true}
+use Rattle.pop_order.specs.Frames.{holds}
+use Rattle.swan_model.specs.declared.rights.Mode.TheVariants.{Push}
 use Rattle.task_frames.specs.Resumes.{ends_of}
-use Rattle.swan_runtime.specs.Shared.{AreOfRun, SleepersAreOfRun}
+use Rattle.swan_runtime.specs.Beds.{NoneAwaits, OnlyWoke}
+use Rattle.swan_runtime.specs.Shared.{KeepsOfRun, row_at}
 use Rattle.swan_runtime.proofs.asleep.Asleep.wake_given.Given as goal
 
 abbrev pub invariant-loop-holding : goal.invariant-loop-holding
-invariant-loop-holding g l =
-    ((plan : Plan g.row.B.Denot g.row.B-Local.Denot) (run : List ℕ) → SleepersAreOfRun (ends_of g.Q.Ends.LocalEnds) plan run l.fn.self → SleepersAreOfRun (ends_of g.Q.Ends.LocalEnds) plan run l.self)
-    × ((plan : Plan g.row.B.Denot g.row.B-Local.Denot) (run : List ℕ) → SleepersAreOfRun (ends_of g.Q.Ends.LocalEnds) plan run l.fn.self
-    → AreOfRun (ends_of g.Q.Ends.LocalEnds) plan run l.fn.ready.items → AreOfRun (ends_of g.Q.Ends.LocalEnds) plan run l.ready.items)
+invariant-loop-holding g l = record {
+  kept : KeepsOfRun (ends_of g.Q.Ends.LocalEnds) [] l.fn.self l.self l.fn.ready.items l.ready.items;
+  rows : OnlyWoke l.number l.fn.self l.self;
+  woken : (queue : ℕ) → holds (take l.holding-index l.holdings) queue Push ≡ true → NoneAwaits queue (row_at l.self l.number);
+}

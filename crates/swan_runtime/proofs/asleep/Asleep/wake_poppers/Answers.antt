@@ -1,15 +1,29 @@
+use Rattle.std.proofs.Common.{rules, ap}
 use Rattle.task_frames.specs.Resumes.{ends_of}
+use Rattle.swan_runtime.proofs.Bedding.{none_woke, others_stay, row_woke, woken_there}
 use Rattle.swan_runtime.proofs.Waking.{row_found, row_set}
 use Rattle.swan_runtime.proofs.asleep.Asleep.wake_poppers.Goals as goal
 
-pub returns-in-Some-clause-own : goal.returns-in-Some-clause-own
-returns-in-Some-clause-own g c = λ plan run are.
+pub returns-in-Some-clause-kept : goal.returns-in-Some-clause-kept
+returns-in-Some-clause-kept g c =
     let of = ends_of g.Q.Ends.LocalEnds in
-    let was = row_found of plan run c.args.self.now.rows.entries _ c.in-Some.row.now c.in-Some.ensures.value are.each in
     record {
-      each = row_set of plan run c.args.self.now.rows.entries _ _ c.wakes.new.self (c.get_mut.follows.holds c.wakes.new.self).0 are.each (c.wakes.ensures.own plan run was);
+      asleep = λ plan run new are.
+          let was = row_found of plan run c.args.self.now.rows.entries _ c.in-Some.row.now c.in-Some.ensures.value are.each in
+          record { each = row_set of plan run c.args.self.now.rows.entries _ _ c.wakes.new.self (c.get_mut.follows.holds c.wakes.new.self).0 are.each (c.wakes.ensures.own plan run was) };
+      ready = λ plan run new are ready.
+          c.wakes.ensures.ready plan run (row_found of plan run c.args.self.now.rows.entries _ c.in-Some.row.now c.in-Some.ensures.value are.each) ready;
     }
 
-pub returns-in-Some-clause-ready : goal.returns-in-Some-clause-ready
-returns-in-Some-clause-ready g c = λ plan run are ready.
-    c.wakes.ensures.ready plan run (row_found (ends_of g.Q.Ends.LocalEnds) plan run c.args.self.now.rows.entries _ c.in-Some.row.now c.in-Some.ensures.value are.each) ready
+pub returns-in-Some-clause-woken : goal.returns-in-Some-clause-woken
+returns-in-Some-clause-woken g c =
+    let updates = (c.get_mut.follows.holds c.wakes.new.self).3 (search rules) in
+    woken_there c.wakes.result c.args.queue _ c.wakes.new.self updates.1 c.wakes.ensures.woken
+
+pub returns-in-Some-clause-rows : goal.returns-in-Some-clause-rows
+returns-in-Some-clause-rows g c =
+    let updates = (c.get_mut.follows.holds c.wakes.new.self).3 (search rules) in
+    row_woke c.args.number _ _ c.in-Some.row.now c.wakes.new.self c.in-Some.ensures.value updates.1 c.wakes.ensures.notes c.wakes.ensures.none_more (others_stay _ _ c.args.number c.wakes.new.self updates)
+
+pub returns-in-None-clause-rows : goal.returns-in-None-clause-rows
+returns-in-None-clause-rows g c = none_woke c.args.number _ _ (ap (λ m. m.entries) c.get_mut.follows.holds-at-none)

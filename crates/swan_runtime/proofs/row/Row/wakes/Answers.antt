@@ -1,6 +1,7 @@
 use Rattle.std.proofs.Common.{rules, arith, ap, subst, sym, ◌∙◌}
 use Rattle.task_frames.specs.Resumes.{ends_of}
 use Rattle.swan_runtime.specs.Shared.{AreOfRun}
+use Rattle.swan_runtime.proofs.Bedding.{none_left_more}
 use Rattle.swan_runtime.proofs.Waking.{popper_taken, poppers_left, pushed}
 use Rattle.swan_runtime.proofs.row.Row.wakes.Goals as goal
 
@@ -15,7 +16,11 @@ loop-place-preserved-in-Continue-1 g c =
       λ plan run row ready. let was = c.loop-place.invariant.1 plan run row in
           subst (AreOfRun of plan run) (sym c.in_ok-push.ensures.items) (pushed of plan run _ _ (c.loop-place.invariant.2 plan run row ready)
           (popper_taken of plan run _ c.loop-place.place _ (search rules) c.swap_remove-popper.ensures.value was.at_push)),
-      λ k d below. λ same. c.loop-place.invariant.3 k d below (sym (ap (λ popper. popper.queue) (c.swap_remove-popper.ensures.by_index.1 k d (search arith) (search arith))) ∙ same),
+      λ other none. record {
+        each = none_left_more other _ _ c.loop-place.place _ (search rules) c.swap_remove-popper.ensures.value c.swap_remove-popper.ensures.items (c.loop-place.invariant.3 other none).each;
+      },
+      search rules,
+      λ k d below. λ same. c.loop-place.invariant.5 k d below (sym (ap (λ popper. popper.queue) (c.swap_remove-popper.ensures.by_index.1 k d (search arith) (search arith))) ∙ same),
       search rules,
       search rules,
       search rules,
@@ -30,3 +35,8 @@ returns-in_err-push-clause-own g c = λ plan run row. let was = c.loop-place.inv
 pub returns-in_err-push-clause-ready : goal.returns-in_err-push-clause-ready
 returns-in_err-push-clause-ready g c = λ plan run row ready.
     subst (AreOfRun (ends_of g.Q.Ends.LocalEnds) plan run) (sym c.in_err-push.ensures.items) (c.loop-place.invariant.2 plan run row ready)
+
+pub returns-in_err-push-clause-none_more : goal.returns-in_err-push-clause-none_more
+returns-in_err-push-clause-none_more g c = λ other none. record {
+  each = none_left_more other _ _ c.loop-place.place _ (search rules) c.swap_remove-popper.ensures.value c.swap_remove-popper.ensures.items (c.loop-place.invariant.3 other none).each;
+}

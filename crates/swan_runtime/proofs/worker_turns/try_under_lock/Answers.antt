@@ -1,6 +1,6 @@
 use Rattle.std.proofs.Common.{rules, ap, sym, ◌∙◌}
 use Rattle.swan_runtime.proofs.TurnsTold.{told_turn}
-use Rattle.swan_runtime.proofs.worker_turns.try_frame.Goals as goal
+use Rattle.swan_runtime.proofs.worker_turns.try_under_lock.Goals as goal
 
 pub returns-then-goes_on-clause-turn : goal.returns-then-goes_on-clause-turn
 returns-then-goes_on-clause-turn g c =

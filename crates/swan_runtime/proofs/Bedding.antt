@@ -1,0 +1,232 @@
+-- Rows as they are looked up, and as they change.
+use Rattle.std.proofs.Common.{◌≡◌, ◌≢◌, ◌==◌, ◌&&◌, ◌||◌, ℕ, ◌+◌, ◌<◌, Bool, true, false, cond, Option, Some, None, List, [], ◌∷◌, ◌++◌, All, IfSome, IsSomeAnd, MatchOption, OnOk, Result, ◌⊎◌, inl, inr, length, drop, take, get_or, slice_index_or, if◌then◌else◌, suc, refl, sym, ap, subst, ◌∙◌, arith}
+use Rattle.std.proofs.Math.Seq.{drop-cons}
+use Rattle.std.proofs.lemmas.Bool.{cases_eq}
+use Rattle.std.proofs.lemmas.Bool.Decides.{nat_tests}
+use Rattle.std.proofs.lemmas.List.{take-append-drop, take_more}
+use Rattle.std.proofs.lemmas.List.Elements.{All-same, All-tail, filter_map-append}
+use Rattle.std.proofs.lemmas.List.Folds.{find-append, list_any-append}
+use Rattle.std.proofs.lemmas.List.Sorted.{All-permutation, IsPermutation-swap_remove}
+use Rattle.std.proofs.lemmas.Result.{on_ok_weaker}
+use Rattle.std.specs.BTreeMap.{UpdatesBy, get, is_at}
+use Rattle.std.specs.List.{filter_map, find, swap_remove}
+use Rattle.std.specs.Map.{lookup}
+use Rattle.std.specs.Option.{option_or, option_to_list}
+use Rattle.std.specs.Ordering.{nat_cmp}
+use Rattle.pop_order.specs.Frames.{holds}
+use Rattle.pop_order.proofs.Holders.{holds_more as holds_one_more}
+use Rattle.swan_model.specs.Rights.{allows}
+use Rattle.swan_model.specs.SerialState.{Holding}
+use Rattle.swan_model.specs.declared.rights.Mode.TheVariants.{Pop, Push}
+use Rattle.swan_model.proofs.Lookups.{untied}
+use Rattle.queues.specs.declared.answers.WaitFor.{WaitFor}
+use Rattle.task_frames.specs.Asked.{asked_queue}
+use Rattle.task_frames.specs.Frames.{FrameView}
+use Rattle.swan_runtime.specs.declared.asleep.Asleep.{Asleep}
+use Rattle.swan_runtime.specs.declared.row.Popper.{Popper}
+use Rattle.swan_runtime.specs.declared.row.Row.{Row}
+use Rattle.swan_runtime.specs.Beds.{HasEntered, HasGoneToBed, HasNoted, HasNotedAt, HasSameNotes, HasSameNotesAt, IsNewRow, IsNoted, NoneAwaits, OnlyWoke, OthersStay, SleepsUnder, before_child, popper_at, poppers_of}
+use Rattle.swan_runtime.specs.Shared.{HasTakenIn, row_at}
+
+-- ---- one place more
+
+one_found : (found : Option ℕ) (P : Holding → Option ℕ) (h : Holding) → found ≡ P h → filter_map P (h ∷ []) ≡ option_to_list found
+one_found None P h is = grind arith
+one_found (Some x) P h is = grind arith
+
+next : {X : Type 0} (xs : List X) (i : ℕ) (x : X) → i < length xs → x ≡ get_or xs i x → take (i + 1) xs ≡ take i xs ++ x ∷ []
+next xs i x within is = take_more xs i x within ∙ ap (λ y. take i xs ++ y ∷ []) (sym is)
+
+pub poppers_more : {B Q L E : Type 0} (row : Row B Q L E) (hs : List Holding) (i : ℕ) (h : Holding) (found : Option ℕ) → i < length hs → h ≡ get_or hs i h
+    → found ≡ popper_at row h → poppers_of row (take (i + 1) hs) ≡ poppers_of row (take i hs) ++ option_to_list found
+poppers_more row hs i h found within is found_is =
+    ap (poppers_of row) (next hs i h within is) ∙ filter_map-append (popper_at row) (take i hs) (h ∷ [])
+    ∙ ap (λ o. poppers_of row (take i hs) ++ o) (one_found found (popper_at row) h found_is)
+
+at_is : (k q : ℕ) → is_at (nat_cmp k) q ≡ (k == q)
+at_is k q = grind (arith, nat_tests)
+
+-- what is noted of a queue, once this place is noted too
+chosen : (held own : Bool) (child : ℕ) (first : Option ℕ) → cond own (Some child) (if held then Some child else first) ≡ (if held || ((own && true) || false) then Some child else first)
+chosen true true child first = refl
+chosen true false child first = refl
+chosen false true child first = refl
+chosen false false child first = refl
+
+not_chosen : (held own : Bool) → (held || ((own && false) || false)) ≡ held
+not_chosen true own = refl
+not_chosen false true = refl
+not_chosen false false = refl
+
+holds_more : (hs : List Holding) (i : ℕ) (h : Holding) (q : ℕ) → i < length hs → h ≡ get_or hs i h
+    → holds (take (i + 1) hs) q Pop ≡ (holds (take i hs) q Pop || (((h.number == q) && allows h.mode Pop) || false))
+holds_more hs i h q within is =
+    ap (λ (some : List Holding). holds some q Pop) (next hs i h within is) ∙ list_any-append (λ (x : Holding). (x.number == q) && allows x.mode Pop) (take i hs) (h ∷ [])
+
+pub noted_more : (first was now : ℕ → Option ℕ) (child : ℕ) (hs : List Holding) (i : ℕ) (h : Holding) → i < length hs → h ≡ get_or hs i h → allows h.mode Pop ≡ true
+    → ((q : ℕ) → was q ≡ (if holds (take i hs) q Pop then Some child else first q)) → ((q : ℕ) → now q ≡ cond (is_at (nat_cmp h.number) q) (Some child) (was q))
+    → (q : ℕ) → now q ≡ (if holds (take (i + 1) hs) q Pop then Some child else first q)
+noted_more first was now child hs i h within is pops so moves q =
+    moves q ∙ ap (λ b. cond b (Some child) (was q)) (at_is h.number q) ∙ ap (λ o. cond (h.number == q) (Some child) o) (so q)
+    ∙ chosen (holds (take i hs) q Pop) (h.number == q) child (first q)
+    ∙ ap (λ b. if holds (take i hs) q Pop || (((h.number == q) && b) || false) then Some child else first q) (sym pops)
+    ∙ ap (λ b. if b then Some child else first q) (sym (holds_more hs i h q within is))
+
+pub noted_none : (first was : ℕ → Option ℕ) (child : ℕ) (hs : List Holding) (i : ℕ) (h : Holding) → i < length hs → h ≡ get_or hs i h → allows h.mode Pop ≡ false
+    → ((q : ℕ) → was q ≡ (if holds (take i hs) q Pop then Some child else first q))
+    → (q : ℕ) → was q ≡ (if holds (take (i + 1) hs) q Pop then Some child else first q)
+noted_none first was child hs i h within is pops so q =
+    so q ∙ ap (λ b. if b then Some child else first q)
+    (sym (holds_more hs i h q within is ∙ ap (λ b. holds (take i hs) q Pop || (((h.number == q) && b) || false)) pops ∙ not_chosen (holds (take i hs) q Pop) (h.number == q)))
+
+-- ---- the first that passes
+
+pub found_at : (test : ℕ → Bool) (xs : List ℕ) (i : ℕ) → find test (take i xs) ≡ None → i < length xs → test (get_or xs i 0) ≡ true → find test xs ≡ Some (get_or xs i 0)
+found_at test xs i none within passes =
+    ap (find test) (sym (take-append-drop i xs)) ∙ find-append test (take i xs) (drop i xs) ∙ ap (λ o. option_or o (find test (drop i xs))) none
+    ∙ ap (find test) (drop-cons xs i 0 within) ∙ ap (λ b. cond b (Some (get_or xs i 0)) (find test (drop (suc i) xs))) passes
+
+pub found_later : (test : ℕ → Bool) (xs : List ℕ) (i : ℕ) → find test (take i xs) ≡ None → i < length xs → test (get_or xs i 0) ≡ false → find test (take (i + 1) xs) ≡ None
+found_later test xs i none within fails =
+    ap (find test) (take_more xs i 0 within) ∙ find-append test (take i xs) (get_or xs i 0 ∷ []) ∙ ap (λ o. option_or o (find test (get_or xs i 0 ∷ []))) none
+    ∙ ap (λ b. cond b (Some (get_or xs i 0)) None) fails
+
+-- ---- what is in the rows
+
+module _ {B Q L E : Type 0} where
+  pub noted_at : {X F : Type 0} (result : Result X F) (old new : Option (Row B Q L E)) (before after : Row B Q L E) (child : ℕ) (hs : List Holding) → Some before ≡ old → new ≡ Some after
+      → OnOk result (HasNoted before after child hs) → OnOk result (HasNotedAt old new child hs)
+  noted_at result old new before after child hs was is noted = on_ok_weaker result
+      (λ (n : HasNoted before after child hs). subst (λ o. HasNotedAt o new child hs) was (subst (λ o. HasNotedAt (Some before) o child hs) (sym is) n)) noted
+
+  abbrev IsPut : ℕ → (before after : Asleep B Q L E) → (ready left : List (FrameView B L E)) → FrameView B L E → WaitFor → Option (Row B Q L E) → Type 0
+  IsPut bed before after ready left frame wait_for at = MatchOption at ((after.rows.entries ≡ before.rows.entries) × (left ≡ ready ++ frame ∷ []))
+      (λ row. SleepsUnder bed row before after frame wait_for × (left ≡ ready))
+
+  pub put_to_bed : {X F : Type 0} (result : Result X F) (found bed : ℕ) (before after : Asleep B Q L E) (ready : List (FrameView B L E)) (frame : FrameView B L E) (wait_for : WaitFor) (asked : Option ℕ)
+      (row within : Row B Q L E) → found ≡ bed → asked ≡ asked_queue frame → Some row ≡ row_at before found → row_at after found ≡ Some within → OthersStay before after found
+      → HasSameNotes row within → OnOk result (HasTakenIn row within frame wait_for asked) → OnOk result (HasGoneToBed bed before after ready ready frame wait_for)
+  put_to_bed result found bed before after ready frame wait_for asked row within same about was is others notes taken = on_ok_weaker result
+      (λ (in_row : HasTakenIn row within frame wait_for asked).
+      subst (λ (b : ℕ). HasGoneToBed b before after ready ready frame wait_for) same
+      (subst (IsPut found before after ready ready frame wait_for) was
+      (record { within = within; stands = is; taken_in = subst (HasTakenIn row within frame wait_for) about in_row; notes = notes; others = others }, refl))) taken
+
+  pub left_ready : (found bed : ℕ) (before after : Asleep B Q L E) (ready left : List (FrameView B L E)) (frame : FrameView B L E) (wait_for : WaitFor) → found ≡ bed → None ≡ row_at before found
+      → after.rows.entries ≡ before.rows.entries → left ≡ ready ++ frame ∷ [] → HasGoneToBed bed before after ready left frame wait_for
+  left_ready found bed before after ready left frame wait_for equal none same is =
+      subst (λ (b : ℕ). HasGoneToBed b before after ready left frame wait_for) equal (subst (IsPut found before after ready left frame wait_for) none (same, is))
+
+  -- a row was written
+  pub others_stay : (before after : Asleep B Q L E) (number : ℕ) (row : Row B Q L E) → UpdatesBy nat_cmp (nat_cmp number) before.rows after.rows (Some row) → OthersStay before after number
+  others_stay before after number row updates = record { same = λ other ne. updates.2 other (untied number other ne) }
+
+  -- a row was taken out
+  pub row_removed_alone : (before after : Asleep B Q L E) (number : ℕ) → UpdatesBy nat_cmp (nat_cmp number) before.rows after.rows None → OthersStay before after number
+  row_removed_alone before after number updates = record { same = λ other ne. updates.2 other (untied number other ne) }
+
+  pub none_moved : (before after : Asleep B Q L E) (number : ℕ) → after.rows.entries ≡ before.rows.entries → OthersStay before after number
+  none_moved before after number same = record { same = λ other ne. ap (lookup (is_at (nat_cmp other))) same }
+
+  -- ---- wakes
+
+  abbrev Awaits : ℕ → Popper B Q L E → Type 0
+  Awaits queue popper = popper.queue ≢ queue
+
+  -- one was taken out, and the last one came to its place
+  pub none_left_more : (queue : ℕ) (poppers left : List (Popper B Q L E)) (i : ℕ) (popper : Popper B Q L E) → i < length poppers → popper ≡ slice_index_or poppers i popper
+      → left ≡ swap_remove poppers i popper → All (Awaits queue) poppers → All (Awaits queue) left
+  none_left_more queue poppers left i popper within is same are =
+      All-same (Awaits queue) left _ same (All-tail (Awaits queue) popper _ (All-permutation (Awaits queue) poppers _ (IsPermutation-swap_remove poppers i popper within is) are))
+
+  pub same_notes : (row : Option (Row B Q L E)) → HasSameNotesAt row row
+  same_notes None = refl
+  same_notes (Some row) = record { newest = refl; poppers = refl; given_before = refl }
+
+  notes_on : (a b c : Option (Row B Q L E)) → HasSameNotesAt a b → HasSameNotesAt b c → HasSameNotesAt a c
+  notes_on None b c first second = lemma b first second where
+    lemma : (b : Option (Row B Q L E)) → b ≡ None → HasSameNotesAt b c → c ≡ None
+    lemma None is second = second
+    lemma (Some row) is second = absurd (cc)
+  notes_on (Some x) None c first second = absurd first
+  notes_on (Some x) (Some y) None first second = absurd second
+  notes_on (Some x) (Some y) (Some z) first second =
+      record { newest = second.newest ∙ first.newest; poppers = second.poppers ∙ first.poppers; given_before = second.given_before ∙ first.given_before }
+
+  pub none_woke : (number : ℕ) (before after : Asleep B Q L E) → after.rows.entries ≡ before.rows.entries → OnlyWoke number before after
+  none_woke number before after same = record {
+    notes = subst (λ (row : Option (Row B Q L E)). HasSameNotesAt (row_at before number) row) (sym (ap (lookup (is_at (nat_cmp number))) same)) (same_notes (row_at before number));
+    none_more = λ queue none. subst (NoneAwaits queue) (sym (ap (lookup (is_at (nat_cmp number))) same)) none;
+    others = none_moved before after number same;
+  }
+
+  pub woke_on : (number : ℕ) (a b c : Asleep B Q L E) → OnlyWoke number a b → OnlyWoke number b c → OnlyWoke number a c
+  woke_on number a b c first second = record {
+    notes = notes_on (row_at a number) (row_at b number) (row_at c number) first.notes second.notes;
+    none_more = λ queue none. second.none_more queue (first.none_more queue none);
+    others = record { same = λ other ne. second.others.same other ne ∙ first.others.same other ne };
+  }
+
+  -- in one row
+  pub row_woke : (number : ℕ) (before after : Asleep B Q L E) (was now : Row B Q L E) → Some was ≡ row_at before number → row_at after number ≡ Some now → HasSameNotes was now
+      → ((queue : ℕ) → NoneAwaits queue (Some was) → NoneAwaits queue (Some now)) → OthersStay before after number → OnlyWoke number before after
+  row_woke number before after was now stood is notes none_more others = record {
+    notes = subst (λ (row : Option (Row B Q L E)). HasSameNotesAt row (row_at after number)) stood (subst (HasSameNotesAt (Some was)) (sym is) notes);
+    none_more = λ queue none. subst (NoneAwaits queue) (sym is) (none_more queue (subst (NoneAwaits queue) (sym stood) none));
+    others = others;
+  }
+
+  pub woken_there : {X F : Type 0} (result : Result X F) (queue : ℕ) (at : Option (Row B Q L E)) (now : Row B Q L E) → at ≡ Some now → OnOk result (NoneAwaits queue (Some now))
+      → OnOk result (NoneAwaits queue at)
+  woken_there result queue at now is none = on_ok_weaker result (λ (n : NoneAwaits queue (Some now)). subst (NoneAwaits queue) (sym is) n) none
+
+  pub nobody : (queue : ℕ) (row : Option (Row B Q L E)) → None ≡ row → NoneAwaits queue row
+  nobody queue row is = subst (NoneAwaits queue) is (record { each = tt })
+
+  -- one place more of what a child was given
+  pub woken_more : (hs : List Holding) (i : ℕ) (h : Holding) (before after : Option (Row B Q L E)) → i < length hs → h ≡ get_or hs i h
+      → ((queue : ℕ) → NoneAwaits queue before → NoneAwaits queue after) → ((queue : ℕ) → holds (take i hs) queue Push ≡ true → NoneAwaits queue before)
+      → (allows h.mode Push ≡ true → NoneAwaits h.number after) → (queue : ℕ) → holds (take (i + 1) hs) queue Push ≡ true → NoneAwaits queue after
+  woken_more hs i h before after within is still so here queue held = elim (holds_one_more hs i queue Push h within is held) [
+    | inl earlier ↦ still queue (so queue earlier)
+    | inr now ↦ subst (λ (q : ℕ). NoneAwaits q after) now.0 (here now.1)
+  ]
+
+  -- ---- a child that comes in
+
+  same_before : (a b : Option (Row B Q L E)) (hs : List Holding) → HasSameNotesAt a b → before_child b hs ≡ before_child a hs
+  same_before None b hs notes = ap (λ (row : Option (Row B Q L E)). before_child row hs) notes
+  same_before (Some x) None hs notes = absurd notes
+  same_before (Some x) (Some y) hs notes = ap (λ m. filter_map (λ (h : Holding). if allows h.mode Pop then get nat_cmp m h.number else None) hs) notes.poppers
+
+  noted_on : (a b c : Option (Row B Q L E)) (child : ℕ) (hs : List Holding) → HasSameNotesAt a b → HasNotedAt b c child hs
+      → IfSome a (λ was. IsSomeAnd c (λ now. IsNoted was now child hs))
+  noted_on None b c child hs notes noted = tt
+  noted_on (Some x) None c child hs notes noted = absurd notes
+  noted_on (Some x) (Some y) None child hs notes noted = absurd noted
+  noted_on (Some x) (Some y) (Some z) child hs notes noted = record {
+    newest = noted.notes.newest;
+    poppers = λ queue. noted.notes.poppers queue ∙ ap (λ m. if holds hs queue Pop then Some child else get nat_cmp m queue) notes.poppers;
+    given_before = noted.notes.given_before ∙ notes.given_before;
+  }
+
+  awaits_on : (queue : ℕ) (b c : Option (Row B Q L E)) (child : ℕ) (hs : List Holding) → HasNotedAt b c child hs → NoneAwaits queue b → NoneAwaits queue c
+  awaits_on queue None c child hs noted none = subst (NoneAwaits queue) (sym noted) (record { each = tt })
+  awaits_on queue (Some y) None child hs noted none = absurd noted
+  awaits_on queue (Some y) (Some z) child hs noted none =
+      record { each = subst (λ v. All (Awaits queue) v.items) (sym noted.sleepers.at_push) none.each }
+
+  -- first some were woken, then the child was noted, and then its row was put in
+  pub has_entered : (a b c d : Asleep B Q L E) (parent child : ℕ) (hs : List Holding) (before : List ℕ) (row : Row B Q L E) → OnlyWoke parent a b
+      → ((queue : ℕ) → holds hs queue Push ≡ true → NoneAwaits queue (row_at b parent)) → HasNotedAt (row_at b parent) (row_at c parent) child hs → OthersStay b c parent
+      → before ≡ before_child (row_at b parent) hs → IsNewRow row before → UpdatesBy nat_cmp (nat_cmp child) c.rows d.rows (Some row) → HasEntered a d parent child hs
+  has_entered a b c d parent child hs before row woke woken noted others given is put =
+      let stays : (other : ℕ) → other ≢ child → row_at d other ≡ row_at c other = λ other ne. put.2 other (untied child other ne) in
+      record {
+        own = subst (λ (at : Option (Row B Q L E)). IsSomeAnd at (λ new. IsNewRow new (before_child (row_at a parent) hs))) (sym put.1)
+            (subst (IsNewRow row) (given ∙ same_before (row_at a parent) (row_at b parent) hs woke.notes) is);
+        noted = λ ne. subst (λ (at : Option (Row B Q L E)). IfSome (row_at a parent) (λ was. IsSomeAnd at (λ now. IsNoted was now child hs))) (sym (stays parent ne))
+            (noted_on (row_at a parent) (row_at b parent) (row_at c parent) child hs woke.notes noted);
+        woken = λ ne queue held. subst (NoneAwaits queue) (sym (stays parent ne)) (awaits_on queue (row_at b parent) (row_at c parent) child hs noted (woken queue held));
+        others = λ other not_parent not_child. stays other not_child ∙ others.same other not_parent ∙ woke.others.same other not_parent;
+      }
