@@ -1,7 +1,6 @@
 -- What a worker's turn answers, by what its parts found.
-use Rattle.std.proofs.Common.{◌≡◌, ◌≢◌, ◌==◌, ℕ, ◌+◌, ◌<◌, ◌≤◌, Bool, true, false, arith, if◌then◌else◌, refl, subst, sym}
+use Rattle.std.proofs.Common.{◌≡◌, ◌≢◌, ◌==◌, ℕ, ◌+◌, ◌<◌, ◌≤◌, Bool, true, false, true≢false, arith, if◌then◌else◌, refl, subst, sym, ◌∙◌}
 use Rattle.named_lock.specs.declared.rule.View.{View}
-use Rattle.named_lock.specs.declared.sign.Sign.TheVariants.{Stopped}
 use Rattle.task_frames.specs.declared.steps.Steps.{Steps}
 use Rattle.swan_runtime.specs.declared.turn.Turn.{Turn}
 use Rattle.swan_runtime.specs.declared.turn.Turn.TheVariants as turn
@@ -30,6 +29,10 @@ module _ {N : Type 0} (before after : View N) where
   shown_so local turn.NoMemory answer told is held done = absurd is
 
   -- A frame was tried in a hold, by a seat that then saw the run go on, or done where that was the answer.
-  pub told_turn : (local : Steps) (tried answer : Turn) → IsToldWith local tried answer → IsTold tried → before.holds < after.holds → after.sign ≢ Stopped
-      → (tried ≡ turn.Done → after.saw_done ≡ true) → IsWorkersTurn before after answer
-  told_turn local tried answer told is held goes done = record { shown = shown_so local tried answer told is held done; stopped = λ stopped. absurd (goes stopped) }
+  pub told_turn : (local : Steps) (tried answer : Turn) → IsToldWith local tried answer → IsTold tried → before.holds < after.holds → before.saw_stopped ≡ false
+      → after.saw_stopped ≡ before.saw_stopped → (tried ≡ turn.Done → after.saw_done ≡ true) → IsWorkersTurn before after answer
+  told_turn local tried answer told is held runs same done = record {
+    shown = shown_so local tried answer told is held done;
+    stopped = λ stopped. absurd (true≢false (sym stopped ∙ same ∙ runs));
+    lasts = λ stopped. absurd (true≢false (sym stopped ∙ runs));
+  }

@@ -1,7 +1,7 @@
 -- What a worker's turn answers, and what shows it.
 use Rattle.std.specs.Prelude.{◌≡◌, ◌≢◌, ◌==◌, ◌+◌, ◌<◌, ◌≤◌, Bool, true, false, if◌then◌else◌}
 use Rattle.named_lock.specs.declared.rule.View.{View}
-use Rattle.named_lock.specs.declared.sign.Sign.TheVariants.{Runs, Stopped}
+use Rattle.named_lock.specs.declared.sign.Sign.TheVariants.{Runs}
 use Rattle.task_frames.specs.declared.steps.Steps.{Steps}
 use Rattle.swan_runtime.specs.declared.turn.Turn.{Turn}
 use Rattle.swan_runtime.specs.declared.turn.Turn.TheVariants as turn
@@ -42,10 +42,12 @@ module _ {N : Type 0} where
   IsShownBySeat before after turn.Done = after.saw_done ≡ true
   IsShownBySeat before after turn.NoMemory = after.sign ≢ Runs
 
-  -- A turn was taken: it is shown by the seat, and no turn that found the run stopped answers anything but want of memory.
+  -- A turn was taken: it is shown by the seat. One that has seen the run stopped, in this turn or before, sees it so for good, and is answered
+  -- nothing but want of memory.
   pub record IsWorkersTurn (before after : View N) (answer : Turn) : Type 0 where
     pub shown : IsShownBySeat before after answer
-    pub stopped : after.sign ≡ Stopped → answer ≡ turn.NoMemory
+    pub stopped : after.saw_stopped ≡ true → answer ≡ turn.NoMemory
+    pub lasts : before.saw_stopped ≡ true → after.saw_stopped ≡ true
 
 -- whether a turn is a worker's last one
 abbrev pub is_last : Turn → Bool

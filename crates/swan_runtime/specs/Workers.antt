@@ -30,6 +30,10 @@ module _ {B Q L E : Type 0} where
   abbrev pub has_met : Worker B Q L E → Bool
   has_met worker = (own_of worker).met
 
+  -- whether it has seen the run stopped
+  abbrev pub saw_stopped : Worker B Q L E → Bool
+  saw_stopped worker = (seat_of worker).saw_stopped
+
   -- What one worker has for itself belongs together: its seat is one of the lock, its frame one of the run, and it has the plan's body.
   pub record IsOwn (of : EndsOf E) (own : Own B Q L E) : Type 0 where
     pub seat : IsSeatOf (arc_value own.lock) false own.seat

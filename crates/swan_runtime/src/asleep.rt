@@ -69,6 +69,22 @@ impl<B: Body, Q: Queues> Asleep<B, Q> {
         }
     }
 
+    /// Lets all be ready that sleep under a frame until it pushes. Err is want of memory. `O(log n)`, and `O(1)` amortised for each of them.
+    pub fn wake_all_poppers(
+        &mut self,
+        ready: &mut Vec<Frame<B, Q>>,
+        number: u64,
+    ) -> Result<(), NoMemory>
+        ensures kept { KeepsOfRun (ends_of Q.Ends.LocalEnds) [] self.old self.new ready.old.items ready.new.items }
+        ensures woken { OnOk result ((queue : ℕ) → NoneAwaits queue (row_at self.new number)) }
+        ensures rows { OnlyWoke number self.old self.new }
+    {
+        match self.rows.get_mut(&number) {
+            Some(row) => row.wakes_poppers(ready),
+            None => Ok(()),
+        }
+    }
+
     /// Lets those be ready that sleep under a frame until it pushes to the queue about which it asked, where there is one. Err is want of
     /// memory. It costs what `wake_poppers` costs.
     pub fn wake_asked(

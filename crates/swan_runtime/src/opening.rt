@@ -1,5 +1,5 @@
 // Opening and closing runs of workers.
-ghost use Rattle.std.specs.Prelude.{◌≡◌, ◌<◌, false, true, All, IfOk, length, vec_len};
+ghost use Rattle.std.specs.Prelude.{◌≡◌, ◌<◌, false, true, All, IfOk, OnOk, length, vec_len};
 ghost use Rattle.std.specs.Arc.{arc_value};
 ghost use Rattle.swan_model.specs.declared.plan.Plan.{Plan as ThePlan};
 ghost use Rattle.swan_model.specs.Elision.{outcome};
@@ -9,7 +9,7 @@ ghost use Rattle.task_frames.specs.declared.run.PlanRun.{PlanRun};
 ghost use Rattle.swan_runtime.specs.Shared.{SharedView};
 ghost use Rattle.named_lock.specs.Seats.{IsNewSeatOf, IsSeatOf, lock_name, lock_seats};
 ghost use Rattle.task_frames.specs.Resumes.{IsOpened, ends_of};
-ghost use Rattle.swan_runtime.specs.Workers.{AreWorkers, IsWorkerOf, OneHasMet, AreOfPlan, has_met};
+ghost use Rattle.swan_runtime.specs.Workers.{AreWorkers, IsWorkerOf, OneHasMet, AreOfPlan, has_met, saw_stopped};
 
 use crate::shared::SharedRun;
 use crate::worker::Own;
@@ -123,7 +123,7 @@ fn lock_of<B: Body, Q: Queues>(
     Ok(Arc::try_clone(&first.own.lock)?)
 }
 
-/// The seats of workers.
+/// The seats of workers, of which none finds the run stopped; else Err, which is want of memory too.
 fn seats_of<B: Body, Q: Queues>(
     alloc: Global,
     lock: &Arc<NamedLock<SharedRun<B, Q>>>,
@@ -132,19 +132,23 @@ fn seats_of<B: Body, Q: Queues>(
     requires workers { All (IsWorkerOf (ends_of Q.Ends.LocalEnds) (arc_value lock.now)) workers.items }
     ensures count { IfOk result (λ seats. vec_len seats ≡ vec_len workers) }
     ensures seats { IfOk result (λ seats. All (IsSeatOf (arc_value lock.now) false) seats.items) }
+    ensures stopped { OnOk result (All (λ worker. saw_stopped worker ≡ false) workers.items) }
 {
-    let _ = lock;
     let mut workers = workers;
     let mut seats = Vec::new(alloc);
     while let Some(worker) = workers.pop() {
-        let Own { seat, .. } = worker.own.into_inner();
+        let Own { mut seat, .. } = worker.own.into_inner();
+        if lock.is_stopped(&mut seat) {
+            return Err(NoMemory);
+        }
         seats.push(seat)?;
     }
     Ok(seats)
 }
 
 /// Closes a run, by all its workers, of which one has met its end: the outcome of the plan, where the run is done. Err is want of memory:
-/// of this call, or of the run, which was stopped then. `O(workers)`, and what the outcome takes.
+/// of this call, or of the run, which was stopped then; it comes where one of the workers has seen the run stopped. `O(workers)`, and what the
+/// outcome takes.
 pub fn close<B: Body, Q: Queues>(
     alloc: Global,
     workers: Vec<Worker<B, Q>>,
@@ -153,6 +157,7 @@ pub fn close<B: Body, Q: Queues>(
     requires met { OneHasMet workers.items }
     ensures outcome { (plan : ThePlan B B.Local) → AreOfPlan plan workers.items → IfOk result (λ ran. ran.outcome ≡ outcome B.Body plan) }
     ensures script { (plan : ThePlan B B.Local) → AreOfPlan plan workers.items → IfOk result (λ ran. ran.script.means ≡ script B.Body plan) }
+    ensures stopped { OnOk result (All (λ worker. saw_stopped worker ≡ false) workers.items) }
 {
     let lock = lock_of(&workers)?;
     let seats = seats_of(alloc, &lock, workers)?;

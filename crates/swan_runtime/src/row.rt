@@ -149,21 +149,33 @@ impl<B: Body, Q: Queues> Row<B, Q> {
         Ok(())
     }
 
+    /// Lets all be ready that sleep here until a queue is pushed to. Err is want of memory. `O(1)`, amortised, for each of them.
+    pub fn wakes_poppers(&mut self, ready: &mut Vec<Frame<B, Q>>) -> Result<(), NoMemory>
+        ensures own { (plan : Plan B B.Local) (run : List ℕ) → RowIsOfRun (ends_of Q.Ends.LocalEnds) plan run self.old
+            → RowIsOfRun (ends_of Q.Ends.LocalEnds) plan run self.new }
+        ensures ready { (plan : Plan B B.Local) (run : List ℕ) → RowIsOfRun (ends_of Q.Ends.LocalEnds) plan run self.old
+            → AreOfRun (ends_of Q.Ends.LocalEnds) plan run ready.old.items → AreOfRun (ends_of Q.Ends.LocalEnds) plan run ready.new.items }
+        ensures woken { OnOk result ((queue : ℕ) → NoneAwaits queue (Some self.new)) }
+        ensures none_more { (other : ℕ) → NoneAwaits other (Some self.old) → NoneAwaits other (Some self.new) }
+        ensures none_lost { OnOk result (vec_len ready.new ≡ vec_len ready.old + vec_len self.old.at_push) }
+        ensures others { self.new.at_end ≡ self.old.at_end }
+        ensures notes { HasSameNotes self.old self.new }
+    {
+        while let Some(popper) = self.at_push.pop() {
+            ready.push(popper.frame)?;
+        }
+        Ok(())
+    }
+
     /// Lets all that sleep here be ready. Err is want of memory. `O(1)`, amortised, for each of them.
     pub fn wakes_all(self, ready: &mut Vec<Frame<B, Q>>) -> Result<(), NoMemory>
         ensures ready { (plan : Plan B B.Local) (run : List ℕ) → RowIsOfRun (ends_of Q.Ends.LocalEnds) plan run self
             → AreOfRun (ends_of Q.Ends.LocalEnds) plan run ready.old.items → AreOfRun (ends_of Q.Ends.LocalEnds) plan run ready.new.items }
         ensures none_lost { OnOk result (vec_len ready.new ≡ vec_len ready.old + sleepers (Some self)) }
     {
-        let Row {
-            mut at_end,
-            mut at_push,
-            ..
-        } = self;
-        ready.append(&mut at_end)?;
-        while let Some(popper) = at_push.pop() {
-            ready.push(popper.frame)?;
-        }
+        let mut row = self;
+        row.wakes_poppers(ready)?;
+        ready.append(&mut row.at_end)?;
         Ok(())
     }
 }

@@ -1,5 +1,5 @@
 // Tries of frames by the core.
-ghost use Rattle.std.specs.Prelude.{◌≡◌, ◌≢◌, ◌+◌, ◌++◌, ◌∷◌, [], ℕ, List, Some, None, IfOk, IfSome, OnOk, length, option_to_list, true};
+ghost use Rattle.std.specs.Prelude.{◌≡◌, ◌≢◌, ◌+◌, ◌++◌, ◌∷◌, [], ℕ, List, Some, None, IfOk, IfSome, OnOk, length, option_to_list, false, true};
 ghost use Rattle.swan_model.specs.declared.plan.Plan.{Plan};
 ghost use Rattle.task_frames.specs.Resumes.{ends_of};
 ghost use Rattle.swan_runtime.specs.Beds.{HasEntered, HasGoneToBed, NoneAwaits, OnlyWoke, OthersStay, bed_of};
@@ -22,11 +22,13 @@ pub(crate) struct Tried<B: Body, Q: Queues> {
     pub frame: Option<Frame<B, Q>>,
 }
 
-/// After a step of a frame that asked about this queue, those are ready that waited for a push to it. Err is want of memory.
+/// After a step of a frame that asked about this queue, those are ready that waited for a push to it. After its first step, of which nobody
+/// knows before it is taken what it asks for, all are that waited for a push. Err is want of memory.
 fn has_run<B: Body, Q: Queues>(
     asleep: &mut Asleep<B, Q>,
     ready: &mut Vec<Frame<B, Q>>,
     frame: Frame<B, Q>,
+    had_begun: bool,
     asked: Option<u32>,
     steps: Steps,
 ) -> Result<Tried<B, Q>, NoMemory>
@@ -35,9 +37,14 @@ fn has_run<B: Body, Q: Queues>(
     ensures frame { IfOk result (λ tried. tried.frame ≡ Some frame) }
     ensures kept { KeepsOfRun (ends_of Q.Ends.LocalEnds) [] asleep.old asleep.new ready.old.items ready.new.items }
     ensures woken { OnOk result (IfSome asked (λ queue. NoneAwaits queue (row_at asleep.new frame.task.number))) }
+    ensures first { OnOk result (had_begun ≡ false → (queue : ℕ) → NoneAwaits queue (row_at asleep.new frame.task.number)) }
     ensures rows { OnlyWoke frame.task.number asleep.old asleep.new }
 {
-    asleep.wake_asked(ready, frame.number(), asked)?;
+    if had_begun {
+        asleep.wake_asked(ready, frame.number(), asked)?;
+    } else {
+        asleep.wake_all_poppers(ready, frame.number())?;
+    }
     Ok(Tried {
         turn: Turn::Stepped(steps),
         frame: Some(frame),
@@ -147,9 +154,10 @@ pub(crate) fn try_by_core<B: Body, Q: Queues>(
     ensures run { core.new.run ≡ core.old.run }
 {
     let number = frame.number();
+    let had_begun = frame.has_begun();
     let asked = frame.asked_queue();
     match core.resume(alloc, body, frame) {
-        Resumed::Runs(frame, steps) => has_run(asleep, ready, frame, asked, steps),
+        Resumed::Runs(frame, steps) => has_run(asleep, ready, frame, had_begun, asked, steps),
         Resumed::Spawned(parent, child, steps) => {
             has_spawned(alloc, asleep, ready, parent, child, steps)
         }

@@ -57,7 +57,7 @@ fn try_under_lock<B: Body, Q: Queues>(
     local: Steps,
 ) -> Turn
     requires seat { IsSeatOf lock.now false seat.old }
-    requires sign { (knows seat.old).sign ≢ Stopped }
+    requires runs { (knows seat.old).saw_stopped ≡ false }
     requires frame { IsOfRun (ends_of Q.Ends.LocalEnds) (lock_name lock.now).plan (lock_name lock.now).run frame }
     requires mark { frame.mark ≡ true }
     requires body { body.now ≡ (lock_name lock.now).plan.body }
@@ -99,7 +99,7 @@ fn settle<B: Body, Q: Queues>(
     ensures seat { IsSeatOf lock.now true seat.new × IsSameSeat seat.old seat.new × IsHeldBy seat.new held.new }
     ensures held { held.new ≡ held.old }
     ensures counts { ((knows seat.new).holds ≡ (knows seat.old).holds) × ((knows seat.new).lost ≡ (knows seat.old).lost) }
-    ensures yes { result ≡ true → (knows seat.old).sign ≢ Stopped → (knows seat.new).sign ≢ Stopped }
+    ensures yes { result ≡ true → (knows seat.new).saw_stopped ≡ (knows seat.old).saw_stopped }
     ensures done { result ≡ true → held.old.state.core.is_done ≡ true → (knows seat.new).saw_done ≡ true }
     ensures no { result ≡ false → (knows seat.new).sign ≡ Stopped }
     ensures owes { (knows seat.new).owes_done ≡ true → held.old.state.core.is_done ≡ true }
@@ -151,7 +151,7 @@ fn go_on<B: Body, Q: Queues>(
     frame: Frame<B, Q>,
 ) -> Turn
     requires seat { IsSeatOf lock.now false seat.old }
-    requires sign { (knows seat.old).sign ≢ Stopped }
+    requires runs { (knows seat.old).saw_stopped ≡ false }
     requires frame { IsOfRun (ends_of Q.Ends.LocalEnds) (lock_name lock.now).plan (lock_name lock.now).run frame }
     requires body { body.now ≡ (lock_name lock.now).plan.body }
     ensures seat { IsSeatOf lock.now false seat.new × IsSameSeat seat.old seat.new }

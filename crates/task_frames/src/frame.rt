@@ -1,5 +1,5 @@
 // Frames.
-ghost use Rattle.std.specs.Prelude.{◌≡◌, ◌≢◌, ◌+◌, ◌<◌, ◌≤◌, true, false, None, Some, IfOk, IfErr, OnOk, OnErr, if◌then◌else◌};
+ghost use Rattle.std.specs.Prelude.{◌≡◌, ◌≢◌, ◌+◌, ◌<◌, ◌≤◌, ◌↔◌, IsTrue, true, false, None, Some, IfOk, IfErr, OnOk, OnErr, if◌then◌else◌};
 ghost use Rattle.task_frames.specs.declared.paused.Paused.TheVariants as paused;
 ghost use Rattle.task_frames.specs.declared.stage.Stage.TheVariants.{Ready};
 ghost use Rattle.swan_model.specs.Lawful.{IsLawful};
@@ -151,6 +151,13 @@ impl<B: Body, Q: Queues> Frame<B, Q> {
             Some(Stage::Ready(_, _)) => None,
             None => None,
         }
+    }
+
+    /// Whether it has taken a step. It takes no memory. `O(1)`.
+    pub fn has_begun(&self) -> bool
+        ensures { IsTrue result ↔ (0 < self.now.task.done) }
+    {
+        self.staged.task.done > 0
     }
 
     /// Its number. Whatever frame it is, it is true for its plan where no want of memory was met; and where its mark stands,

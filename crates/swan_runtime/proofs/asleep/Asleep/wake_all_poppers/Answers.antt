@@ -1,0 +1,31 @@
+use Rattle.std.proofs.Common.{rules, ◌≡◌, ◌+◌, ◌∙◌, Some, ap, sym, vec_len}
+use Rattle.std.proofs.lemmas.Result.{on_ok_weaker}
+use Rattle.task_frames.specs.Resumes.{ends_of}
+use Rattle.swan_runtime.specs.Shared.{sleepers}
+use Rattle.swan_runtime.proofs.Bedding.{nobody, none_awaits, none_woke, others_stay, row_woke}
+use Rattle.swan_runtime.proofs.Waking.{row_found, row_set}
+use Rattle.swan_runtime.proofs.asleep.Asleep.wake_all_poppers.Goals as goal
+
+pub returns-in-Some-clause-kept : goal.returns-in-Some-clause-kept
+returns-in-Some-clause-kept g c =
+    let of = ends_of g.Q.Ends.LocalEnds in
+    record {
+      asleep = λ plan run new are.
+          let was = row_found of plan run c.args.self.now.rows.entries _ c.in-Some.row.now c.in-Some.ensures.value are.each in
+          record { each = row_set of plan run c.args.self.now.rows.entries _ _ c.wakes_poppers.new.self (c.get_mut.follows.holds c.wakes_poppers.new.self).0 are.each (c.wakes_poppers.ensures.own plan run was) };
+      ready = λ plan run new are ready.
+          c.wakes_poppers.ensures.ready plan run (row_found of plan run c.args.self.now.rows.entries _ c.in-Some.row.now c.in-Some.ensures.value are.each) ready;
+    }
+
+pub returns-in-Some-clause-woken : goal.returns-in-Some-clause-woken
+returns-in-Some-clause-woken g c =
+    let updates = (c.get_mut.follows.holds c.wakes_poppers.new.self).3 (search rules) in
+    on_ok_weaker c.wakes_poppers.result (λ none queue. none_awaits queue c.args.number _ c.wakes_poppers.new.self updates.1 (none queue)) c.wakes_poppers.ensures.woken
+
+pub returns-in-Some-clause-rows : goal.returns-in-Some-clause-rows
+returns-in-Some-clause-rows g c =
+    let updates = (c.get_mut.follows.holds c.wakes_poppers.new.self).3 (search rules) in
+    row_woke c.args.number _ _ c.in-Some.row.now c.wakes_poppers.new.self c.in-Some.ensures.value updates.1 c.wakes_poppers.ensures.notes c.wakes_poppers.ensures.none_more (others_stay _ _ c.args.number c.wakes_poppers.new.self updates)
+
+pub returns-in-None-clause-rows : goal.returns-in-None-clause-rows
+returns-in-None-clause-rows g c = none_woke c.args.number _ _ (ap (λ m. m.entries) c.get_mut.follows.holds-at-none)
