@@ -21,3 +21,18 @@ loop-popper-preserved g c =
       search rules,
       search rules,
     )
+
+pub returns-in_err-push-clause-own : goal.returns-in_err-push-clause-own
+returns-in_err-push-clause-own g c = λ plan run row. let was = c.loop-popper.invariant.0 plan run row in record {
+  at_end = was.at_end;
+  at_push = (popper_popped (ends_of g.Q.Ends.LocalEnds) plan run _ _ _ c.in-Some.ensures.items was.at_push).0;
+}
+
+pub returns-in_err-push-clause-ready : goal.returns-in_err-push-clause-ready
+returns-in_err-push-clause-ready g c = λ plan run row ready.
+    subst (AreOfRun (ends_of g.Q.Ends.LocalEnds) plan run) (sym c.in_err-push.ensures.items) (c.loop-popper.invariant.1 plan run row ready)
+
+pub returns-in_err-push-clause-none_more : goal.returns-in_err-push-clause-none_more
+returns-in_err-push-clause-none_more g c = λ other none. record {
+  each = (All-pop (λ popper. popper.queue ≢ other) _ _ (Some c.in-Some.popper) c.in-Some.ensures.items (c.loop-popper.invariant.2 other none).each).0;
+}
