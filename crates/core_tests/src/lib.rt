@@ -3,10 +3,12 @@
 //!
 //! A plan is a table of tasks, each a list of asks in words. A test by hand is a table of turns: which frame is tried
 //! next, and what it comes to. Each turn goes through one function, so a table costs nothing to prove. The same plans are run
-//! by 1, 2, 3, 4 and 64 workers in threads. What is left was
-//! worked out by hand from what each ask is to do, and is compared with the elision of the same plan too.
+//! by 1, 2, 3, 4 and 64 workers in threads, and one by two workers whose turns a table says. What is left was worked out by hand from
+//! what each ask is to do, and is compared with the elision of the same plan too.
 #![tactic(auto)]
 
+#[cfg(test)]
+mod hands;
 #[cfg(test)]
 mod meeting;
 #[cfg(test)]
@@ -19,6 +21,8 @@ mod plans;
 mod runs;
 #[cfg(test)]
 mod stale;
+#[cfg(test)]
+mod tables;
 #[cfg(test)]
 mod tests;
 #[cfg(test)]

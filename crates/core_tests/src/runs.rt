@@ -4,6 +4,7 @@ ghost use Rattle.task_frames.specs.Resumes.{IsOpened, ends_of};
 
 use crate::orders::take_turns_by_chance;
 use crate::plans::{failing_plan, plan};
+use crate::tables::Tasks;
 use crate::turn::Turn;
 use crate::turns::take_turns;
 use elision_tests::printed;
@@ -151,35 +152,33 @@ pub fn leaves(alloc: Global, row: &Row<'_>, order: Order<'_>) -> Result<(), Fail
     {
         return Err("something else is left".into());
     }
-    is_elided(alloc, row.tasks, row.fuel, &left)
+    let tasks = Tasks {
+        name: "a row",
+        tasks: row.tasks,
+        fuel: row.fuel,
+    };
+    is_elided(alloc, &tasks, &left)
 }
 
-/// These two texts are what the elision leaves.
-fn is_elided(alloc: Global, tasks: &[&str], fuel: u64, left: &Printed) -> Result<(), Fail> {
-    let elided = elided(alloc, tasks, fuel)?;
+/// These two texts are what the elision of these tasks leaves.
+pub fn is_elided(alloc: Global, tasks: &Tasks<'_>, left: &Printed) -> Result<(), Fail> {
+    let elided = elided(alloc, tasks.tasks, tasks.fuel)?;
     if left.out.as_slice() != elided.out.as_slice()
         || left.report.as_slice() != elided.report.as_slice()
     {
-        return Err("the elision leaves something else".into());
+        let name = tasks.name;
+        return Err(Fail::new(format_args!("the elision leaves something else of {name}")));
     }
     Ok(())
 }
 
 /// Runs of these tasks leave what the elision leaves, from a stack and in ten orders.
-pub fn leave_the_same(alloc: Global, tasks: &[&str], fuel: u64) -> Result<(), Fail> {
-    is_elided(
-        alloc,
-        tasks,
-        fuel,
-        &texts(alloc, tasks, fuel, Order::Stack)?,
-    )?;
+pub fn leave_the_same(alloc: Global, tasks: &Tasks<'_>) -> Result<(), Fail> {
+    let left = texts(alloc, tasks.tasks, tasks.fuel, Order::Stack)?;
+    is_elided(alloc, tasks, &left)?;
     for seed in 0..10 {
-        is_elided(
-            alloc,
-            tasks,
-            fuel,
-            &texts(alloc, tasks, fuel, Order::Chance(seed))?,
-        )?;
+        let left = texts(alloc, tasks.tasks, tasks.fuel, Order::Chance(seed))?;
+        is_elided(alloc, tasks, &left)?;
     }
     Ok(())
 }
@@ -204,19 +203,13 @@ pub fn stops(
 pub fn workers_leave_the_same<T: Threads + Wait + Clock + Sync>(
     rt: &T,
     alloc: Global,
-    tasks: &[&str],
-    fuel: u64,
+    tasks: &Tasks<'_>,
 ) -> Result<(), Fail> {
     for workers in [1, 2, 3, 4, 64] {
         let shape = Shape::new(workers, 16).ok_or("no shape")?;
-        let (outcome, _ran) = run(
-            rt,
-            alloc,
-            plan(alloc, tasks, fuel)?,
-            &shape,
-            &OpenGate,
-        )?.outcome();
-        is_elided(alloc, tasks, fuel, &printed(alloc, &outcome)?)?;
+        let plan = plan(alloc, tasks.tasks, tasks.fuel)?;
+        let (outcome, _ran) = run(rt, alloc, plan, &shape, &OpenGate)?.outcome();
+        is_elided(alloc, tasks, &printed(alloc, &outcome)?)?;
     }
     Ok(())
 }

@@ -1,84 +1,68 @@
-// Plans by several workers in threads.
+// Plans by several workers: in threads, and turn by turn.
+use crate::hands::{Hand, Told, leave_by_hands};
 use crate::meeting::meet;
 use crate::runs::{stops_by_workers, workers_leave_the_same};
+use crate::tables::{PLANS, Tasks};
+use queues::WaitFor;
 use std::test::Fail;
 
 #[test]
-fn pushers_beside_each_other_leave_what_the_elision_leaves(rt: HostRuntime) -> Result<(), Fail> {
-    workers_leave_the_same(
-        &rt,
-        rt.alloc(),
-        &[
-            "spawn:1:40:1.push spawn:1:40:1.push work push:1:1 sync push:1:2 spawn:2:20:1.push",
-            "spawn:2:9:0.push push:0:3 spawn:2:9:0.push work work push:0:4",
-            "work work push:0:5",
-        ],
-        200,
-    )
+fn each_plan_leaves_what_the_elision_leaves_by_workers(rt: HostRuntime) -> Result<(), Fail> {
+    for tasks in &PLANS {
+        workers_leave_the_same(&rt, rt.alloc(), tasks)?;
+    }
+    Ok(())
 }
 
+/// Two children pop one queue, and their parent waits for both. The first worker goes on with the first child, and the second one with its
+/// parent and the other child. That one sleeps under the first child, and the parent under the child that was spawned last, so each wakes once.
 #[test]
-fn a_pipeline_leaves_what_the_elision_leaves(rt: HostRuntime) -> Result<(), Fail> {
-    workers_leave_the_same(
-        &rt,
-        rt.alloc(),
-        &[
-            "queue queue spawn:1:30:4.push spawn:2:60:4.pop,5.push spawn:3:40:5.pop,1.push work pop:5",
-            "push:0:1 push:0:2 work push:0:3 work work push:0:4",
-            "pop:0 push:1:0 pop:0 push:1:0 spawn:4:20:0.pop,1.push empty:0 push:1:9",
-            "empty:0 push:1:0 pop:0 push:1:0 pop:0 push:1:0 pop:0 push:1:0",
-            "work pop:0 push:1:0 pop:0 push:1:0 pop:0",
+fn two_workers_take_turns(rt: HostRuntime) -> Result<(), Fail> {
+    let tasks = Tasks {
+        name: "two that pop one queue",
+        tasks: &[
+            "spawn:1:9:0.pop,1.push spawn:1:9:0.pop,1.push work work sync push:1:3",
+            "work pop:0 push:1:0",
         ],
-        300,
-    )
-}
-
-#[test]
-fn readers_and_writers_leave_what_the_elision_leaves(rt: HostRuntime) -> Result<(), Fail> {
-    workers_leave_the_same(
-        &rt,
+        fuel: 50,
+    };
+    let step = Told::Stepped(1);
+    leave_by_hands(
         rt.alloc(),
+        &tasks,
+        2,
         &[
-            "spawn:1:9:2.inout,1.push spawn:2:9:2.in,1.push spawn:2:9:2.in,1.push spawn:3:30:2.out,1.push read:2 push:1:0 spawn:2:9:2.in,1.push write:2:50 read:2 push:1:0",
-            "read:0 push:1:0 write:0:8 work",
-            "read:0 push:1:0",
-            "read:0 push:1:0 spawn:4:9:0.out write:0:30 spawn:2:9:0.in,1.push",
-            "work work write:0:40",
+            // the root spawns the first child
+            Hand::of(0, step),
+            // and the other one
+            Hand::of(1, step),
+            // whose first step is to wait for its turn
+            Hand::of(1, Told::NotYet(WaitFor::PopTurn(1))),
+            Hand::of(0, step),
+            // the root works twice, and has to wait
+            Hand::of(1, Told::Stepped(2)),
+            Hand::of(1, Told::Idle),
+            // the first child pops, pushes and ends
+            Hand::of(0, step),
+            Hand::of(0, step),
+            Hand::of(1, Told::Idle),
+            Hand::of(0, step),
+            // the other one was woken, and the worker has it
+            Hand::of(1, Told::Idle),
+            Hand::of(0, step),
+            Hand::of(0, step),
+            Hand::of(0, step),
+            Hand::of(1, Told::Idle),
+            Hand::of(0, step),
+            // so was the root, which goes on behind its sync
+            Hand::of(1, Told::Idle),
+            Hand::of(0, step),
+            Hand::of(0, step),
+            Hand::of(0, step),
+            Hand::of(1, Told::Done),
+            Hand::of(0, Told::Done),
+            Hand::of(1, Told::Done),
         ],
-        200,
-    )
-}
-
-#[test]
-fn faults_leave_what_the_elision_leaves(rt: HostRuntime) -> Result<(), Fail> {
-    workers_leave_the_same(
-        &rt,
-        rt.alloc(),
-        &[
-            "spawn:1:40:0.pop spawn:2:9:1.push spawn:1:40:0.pop spawn:3:3: pop:0 pop:0",
-            "spawn:4:9:0.pop pop:0 fail:4",
-            "push:0:7 read:0",
-            "work work work work",
-            "pop:0 spawn:4:3:0.pop overflow",
-        ],
-        200,
-    )
-}
-
-/// Each task spawns two of the next level, so there are 31 tasks, of which the last 16 push.
-#[test]
-fn a_tree_of_tasks_leaves_what_the_elision_leaves(rt: HostRuntime) -> Result<(), Fail> {
-    workers_leave_the_same(
-        &rt,
-        rt.alloc(),
-        &[
-            "spawn:1:70:1.push,2.inout spawn:1:70:1.push,2.inout",
-            "spawn:2:30:0.push,1.inout spawn:2:30:0.push,1.inout",
-            "spawn:3:12:0.push,1.inout sync spawn:3:12:0.push,1.inout",
-            "spawn:4:4:0.push,1.inout spawn:4:4:0.push,1.inout",
-            "read:1 push:0:0 write:1:6",
-        ],
-        200,
     )
 }
 

@@ -1,0 +1,122 @@
+// Turns of workers by hand.
+ghost use Rattle.std.specs.Prelude.{◌≡◌, ◌<◌, OnOk, length, true};
+ghost use Rattle.task_frames.specs.Resumes.{ends_of};
+ghost use Rattle.swan_runtime.specs.Turned.{is_last};
+ghost use Rattle.swan_runtime.specs.Workers.{AreWorkers, OneHasMet};
+
+use crate::plans::plan;
+use crate::runs::is_elided;
+use crate::tables::Tasks;
+use elision_tests::printed;
+use queues::{Queues, WaitFor};
+use std::alloc::Global;
+use std::test::Fail;
+use swan_model::{Body, NoMemory, Outcome};
+use swan_outside::OpenGate;
+use swan_runtime::{Shape, Turn, Worker, close, open};
+
+/// What a worker's turn tells.
+#[derive(Clone, Copy, Debug, PartialEq, Eq)]
+pub enum Told {
+    /// So many steps were taken.
+    Stepped(u64),
+    /// The frame has to wait for this.
+    NotYet(WaitFor),
+    /// Another worker has the run.
+    Busy,
+    /// No frame is ready.
+    Idle,
+    /// The frame is none that the core knows.
+    Strange,
+    /// The run is done.
+    Done,
+    /// The run is stopped.
+    NoMemory,
+}
+
+impl Told {
+    /// What this turn tells.
+    fn of(turn: &Turn) -> Told {
+        match turn {
+            Turn::Stepped(steps) => Told::Stepped(steps.count()),
+            Turn::NotYet(waited) => Told::NotYet(waited.wait()),
+            Turn::Busy => Told::Busy,
+            Turn::Idle => Told::Idle,
+            Turn::Strange(_) => Told::Strange,
+            Turn::Done => Told::Done,
+            Turn::NoMemory => Told::NoMemory,
+        }
+    }
+}
+
+/// A turn of the worker at this place, and what it tells.
+#[derive(Clone, Copy)]
+pub struct Hand {
+    at: usize,
+    told: Told,
+}
+
+impl Hand {
+    /// The turn of the worker at this place tells this.
+    pub fn of(at: usize, told: Told) -> Hand {
+        Hand { at, told }
+    }
+}
+
+/// Lets the worker at this place take a turn.
+fn turn_of<B: Body, Q: Queues>(alloc: Global, workers: &mut Vec<Worker<B, Q>>, at: usize) -> Turn
+    requires workers { AreWorkers (ends_of Q.Ends.LocalEnds) workers.old.items }
+    requires within { at < length workers.old.items }
+    ensures workers { AreWorkers (ends_of Q.Ends.LocalEnds) workers.new.items }
+    ensures met { is_last result ≡ true → OneHasMet workers.new.items }
+{
+    workers[at].turn(alloc, &OpenGate)
+}
+
+/// Takes these turns. Err names the first one that tells something else.
+fn take_turns<B: Body, Q: Queues>(
+    alloc: Global,
+    workers: &mut Vec<Worker<B, Q>>,
+    turns: &[Hand],
+) -> Result<(), Fail>
+    requires workers { AreWorkers (ends_of Q.Ends.LocalEnds) workers.old.items }
+    ensures workers { AreWorkers (ends_of Q.Ends.LocalEnds) workers.new.items }
+{
+    for index in 0..turns.len() {
+        let Hand { at, told } = turns[index];
+        if at >= workers.len() {
+            return Err(Fail::new(format_args!("no worker at turn {index}")));
+        }
+        let came = Told::of(&turn_of(alloc, workers, at));
+        if came != told {
+            return Err(Fail::new(format_args!("turn {index} told {came:?}")));
+        }
+    }
+    Ok(())
+}
+
+/// What a run leaves, of which the first worker meets the end in its next turn.
+fn left_by<B: Body, Q: Queues>(alloc: Global, workers: Vec<Worker<B, Q>>) -> Result<Outcome, Fail>
+    requires workers { AreWorkers (ends_of Q.Ends.LocalEnds) workers.items }
+{
+    let mut workers = workers;
+    if !turn_of(alloc, &mut workers, 0).is_last() {
+        return Err("the run goes on".into());
+    }
+    let (outcome, _ran) = close(alloc, workers)?.outcome();
+    Ok(outcome)
+}
+
+/// A run of these tasks by so many workers, in these turns, leaves what the elision leaves.
+pub fn leave_by_hands(
+    alloc: Global,
+    tasks: &Tasks<'_>,
+    workers: u32,
+    turns: &[Hand],
+) -> Result<(), Fail> {
+    let shape = Shape::new(workers, 16).ok_or("no shape")?;
+    let mut workers = open(alloc, plan(alloc, tasks.tasks, tasks.fuel)?, &shape)?;
+    take_turns(alloc, &mut workers, turns)?;
+    let outcome = left_by(alloc, workers)?;
+    is_elided(alloc, tasks, &printed(alloc, &outcome)?)
+}
