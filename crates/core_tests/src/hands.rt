@@ -4,7 +4,7 @@ ghost use Rattle.task_frames.specs.Resumes.{ends_of};
 ghost use Rattle.swan_runtime.specs.Turned.{is_last};
 ghost use Rattle.swan_runtime.specs.Workers.{AreWorkers, OneHasMet};
 
-use crate::plans::plan;
+use crate::plans::{failing_plan, plan};
 use crate::runs::is_elided;
 use crate::tables::Tasks;
 use elision_tests::printed;
@@ -119,4 +119,26 @@ pub fn leave_by_hands(
     take_turns(alloc, &mut workers, turns)?;
     let outcome = left_by(alloc, workers)?;
     is_elided(alloc, tasks, &printed(alloc, &outcome)?)
+}
+
+/// By these turns of so many workers a run of these tasks, in which no memory is found at one index of the list of all asks, is stopped. The
+/// next turn of the first worker tells so too, and the run has no outcome.
+pub fn stop_by_hands(
+    alloc: Global,
+    tasks: &Tasks<'_>,
+    fails: usize,
+    workers: u32,
+    turns: &[Hand],
+) -> Result<(), Fail> {
+    let shape = Shape::new(workers, 16).ok_or("no shape")?;
+    let plan = failing_plan(alloc, tasks.tasks, tasks.fuel, fails)?;
+    let mut workers = open(alloc, plan, &shape)?;
+    take_turns(alloc, &mut workers, turns)?;
+    if !turn_of(alloc, &mut workers, 0).is_last() {
+        return Err("the run goes on".into());
+    }
+    match close(alloc, workers) {
+        Ok(_) => Err("the run has an outcome".into()),
+        Err(NoMemory) => Ok(()),
+    }
 }

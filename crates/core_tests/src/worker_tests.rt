@@ -1,5 +1,5 @@
 // Plans by several workers: in threads, and turn by turn.
-use crate::hands::{Hand, Told, leave_by_hands};
+use crate::hands::{Hand, Told, leave_by_hands, stop_by_hands};
 use crate::meeting::meet;
 use crate::runs::{stops_by_workers, workers_leave_the_same};
 use crate::tables::{PLANS, Tasks};
@@ -62,6 +62,85 @@ fn two_workers_take_turns(rt: HostRuntime) -> Result<(), Fail> {
             Hand::of(1, Told::Done),
             Hand::of(0, Told::Done),
             Hand::of(1, Told::Done),
+        ],
+    )
+}
+
+/// The second child waits for the first one, which writes what it reads, and the third one for a push of the second. That push is the first
+/// step of the second child, and the third one goes on before that has ended.
+#[test]
+fn a_push_as_a_first_step_wakes_who_waits_for_it(rt: HostRuntime) -> Result<(), Fail> {
+    let tasks = Tasks {
+        name: "a push as a first step",
+        tasks: &[
+            "queue spawn:1:9:2.out spawn:2:9:2.in,4.push spawn:3:9:4.pop,1.push sync",
+            "work write:0:5",
+            "push:1:8 work",
+            "pop:0 push:1:0",
+        ],
+        fuel: 50,
+    };
+    let step = Told::Stepped(1);
+    leave_by_hands(
+        rt.alloc(),
+        &tasks,
+        2,
+        &[
+            // the root makes the queue and spawns the first child, with which the worker goes on
+            Hand::of(0, step),
+            Hand::of(0, step),
+            // the second one
+            Hand::of(1, step),
+            Hand::of(1, Told::NotYet(WaitFor::Version(1))),
+            // and the third one
+            Hand::of(1, step),
+            Hand::of(1, Told::NotYet(WaitFor::Pusher(2))),
+            Hand::of(1, Told::NotYet(WaitFor::Child(1))),
+            Hand::of(1, Told::Idle),
+            // the first child works, writes and ends
+            Hand::of(0, step),
+            Hand::of(0, step),
+            Hand::of(0, step),
+            // the second one pushes, and the third one pops
+            Hand::of(0, step),
+            Hand::of(1, step),
+            // the second one works and ends
+            Hand::of(0, Told::Stepped(2)),
+            Hand::of(1, step),
+            Hand::of(1, step),
+            Hand::of(0, Told::Idle),
+            // the root syncs and ends
+            Hand::of(1, step),
+            Hand::of(1, step),
+            Hand::of(0, Told::Done),
+            Hand::of(1, Told::Done),
+        ],
+    )
+}
+
+/// Of the list of all asks the root has the first three, with its end, and its child begins behind them. The second step of the child finds no
+/// memory.
+#[test]
+fn a_stopped_run_stays_stopped(rt: HostRuntime) -> Result<(), Fail> {
+    let tasks = Tasks {
+        name: "a child without memory",
+        tasks: &["spawn:1:9: sync", "work work work"],
+        fuel: 50,
+    };
+    let step = Told::Stepped(1);
+    stop_by_hands(
+        rt.alloc(),
+        &tasks,
+        4,
+        2,
+        &[
+            Hand::of(0, step),
+            Hand::of(0, step),
+            Hand::of(1, Told::NotYet(WaitFor::Child(1))),
+            Hand::of(0, Told::NoMemory),
+            Hand::of(1, Told::NoMemory),
+            Hand::of(1, Told::NoMemory),
+            Hand::of(0, Told::NoMemory),
         ],
     )
 }

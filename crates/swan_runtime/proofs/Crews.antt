@@ -1,5 +1,5 @@
 -- All workers of an opening, as they take turns.
-use Rattle.std.proofs.Common.{◌≡◌, ℕ, ◌<◌, Bool, true, false, true≢false, IsTrue, IfOk, Result, Ok, Err, Some, List, [], ◌∷◌, ◌++◌, All, arith, ap, drop, length, refl, set, slice_get, slice_index_or, subst, sym, take, true, ◌∙◌}
+use Rattle.std.proofs.Common.{◌≡◌, ℕ, ◌<◌, Bool, true, false, true≢false, IsTrue, IfOk, Result, Ok, Err, Some, List, [], ◌∷◌, ◌++◌, All, arith, ap, drop, length, refl, set, slice_get, slice_index_or, subst, sym, take, ◌∙◌}
 use Rattle.std.specs.Arc.{arc_value}
 use Rattle.std.proofs.Math.Seq.{take-append_seam}
 use Rattle.std.proofs.lemmas.List.{get_or-set_same, length-set}
@@ -40,12 +40,12 @@ none_here n some same = omega (arith, some, same)
 pub unseen : (seen : Bool) (Found : Type 0) (found : Bool) → (seen ≡ true → Found) → (Found → IsTrue found) → found ≡ false → seen ≡ false
 unseen false Found found again told isnt = refl
 unseen true Found true again told isnt = absurd (true≢false isnt)
-unseen true Found false again told isnt = absurd (told (again refl))
+unseen true Found false again told isnt = absurd (true≢false (sym (told (again refl))))
 
 -- a seat that doesn't hold the state doesn't after a look either
 pub still_free : {S N : Type 0} (lock other : NamedLock S N) (old new : LockSeat S N) → other ≡ lock → IsSeatOf lock false old → IsSeatOf other (knows old).holding new
     → IsSeatOf lock false new
-still_free lock other old new same was is = subst (λ (b : Bool). IsSeatOf lock b new) was.3 (subst (λ (l : NamedLock S N). IsSeatOf l (knows old).holding new) same is)
+still_free {S = S} {N = N} lock other old new same was is = subst (λ (b : Bool). IsSeatOf lock b new) was.3 (subst (λ (l : NamedLock S N). IsSeatOf l (knows old).holding new) same is)
 
 module _ {B Q L E : Type 0} (of : EndsOf E) where
   pub seat_of_worker : (lock : NamedLock (SharedView B L E) (PlanRun B L)) (worker : Worker B Q L E) → IsWorkerOf of lock worker → IsSeatOf lock false (own_of worker).seat

@@ -1,5 +1,5 @@
 // The frames of a run that sleep.
-ghost use Rattle.std.specs.Prelude.{◌≡◌, ◌≢◌, ◌+◌, ◌∷◌, [], ℕ, List, None, IfOk, IfSome, IsSomeAnd, OnOk, true, vec_len};
+ghost use Rattle.std.specs.Prelude.{◌≡◌, ◌≢◌, ◌+◌, ◌∷◌, [], ℕ, List, None, IfOk, IfSome, IsSomeAnd, OnOk, false, true, vec_len};
 ghost use Rattle.std.specs.List.{find};
 ghost use Rattle.pop_order.specs.Frames.{holds};
 ghost use Rattle.swan_model.specs.Rights.{allows};
@@ -52,7 +52,7 @@ impl<B: Body, Q: Queues> Asleep<B, Q> {
 
     /// Lets those be ready that sleep under a frame until it pushes to this queue. Err is want of memory. `O(log n)`, and `O(1)` for each frame
     /// that sleeps there until it pushes.
-    pub fn wake_poppers(
+    fn wake_poppers(
         &mut self,
         ready: &mut Vec<Frame<B, Q>>,
         number: u64,
@@ -70,7 +70,7 @@ impl<B: Body, Q: Queues> Asleep<B, Q> {
     }
 
     /// Lets all be ready that sleep under a frame until it pushes. Err is want of memory. `O(log n)`, and `O(1)` amortised for each of them.
-    pub fn wake_all_poppers(
+    fn wake_all_poppers(
         &mut self,
         ready: &mut Vec<Frame<B, Q>>,
         number: u64,
@@ -87,7 +87,7 @@ impl<B: Body, Q: Queues> Asleep<B, Q> {
 
     /// Lets those be ready that sleep under a frame until it pushes to the queue about which it asked, where there is one. Err is want of
     /// memory. It costs what `wake_poppers` costs.
-    pub fn wake_asked(
+    fn wake_asked(
         &mut self,
         ready: &mut Vec<Frame<B, Q>>,
         number: u64,
@@ -100,6 +100,28 @@ impl<B: Body, Q: Queues> Asleep<B, Q> {
         match asked {
             Some(queue) => self.wake_poppers(ready, number, queue),
             None => Ok(()),
+        }
+    }
+
+    /// Lets those be ready that a step of a frame may wake: those that sleep under it until it pushes to the queue about which it asked; or
+    /// until it pushes at all, where it was its first step, of which nobody knows before it is taken what it asks for. Err is want of memory. It
+    /// costs what `wake_poppers` costs.
+    pub fn wake_by_step(
+        &mut self,
+        ready: &mut Vec<Frame<B, Q>>,
+        number: u64,
+        had_begun: bool,
+        asked: Option<u32>,
+    ) -> Result<(), NoMemory>
+        ensures kept { KeepsOfRun (ends_of Q.Ends.LocalEnds) [] self.old self.new ready.old.items ready.new.items }
+        ensures woken { OnOk result (IfSome asked (λ queue. NoneAwaits queue (row_at self.new number))) }
+        ensures first { OnOk result (had_begun ≡ false → (queue : ℕ) → NoneAwaits queue (row_at self.new number)) }
+        ensures rows { OnlyWoke number self.old self.new }
+    {
+        if had_begun {
+            self.wake_asked(ready, number, asked)
+        } else {
+            self.wake_all_poppers(ready, number)
         }
     }
 

@@ -22,8 +22,8 @@ pub(crate) struct Tried<B: Body, Q: Queues> {
     pub frame: Option<Frame<B, Q>>,
 }
 
-/// After a step of a frame that asked about this queue, those are ready that waited for a push to it. After its first step, of which nobody
-/// knows before it is taken what it asks for, all are that waited for a push. Err is want of memory.
+/// After a step of a frame that asked about this queue, those are ready that waited for a push to it; after its first step all are that waited
+/// for a push of it. Err is want of memory.
 fn has_run<B: Body, Q: Queues>(
     asleep: &mut Asleep<B, Q>,
     ready: &mut Vec<Frame<B, Q>>,
@@ -40,11 +40,7 @@ fn has_run<B: Body, Q: Queues>(
     ensures first { OnOk result (had_begun ≡ false → (queue : ℕ) → NoneAwaits queue (row_at asleep.new frame.task.number)) }
     ensures rows { OnlyWoke frame.task.number asleep.old asleep.new }
 {
-    if had_begun {
-        asleep.wake_asked(ready, frame.number(), asked)?;
-    } else {
-        asleep.wake_all_poppers(ready, frame.number())?;
-    }
+    asleep.wake_by_step(ready, frame.number(), had_begun, asked)?;
     Ok(Tried {
         turn: Turn::Stepped(steps),
         frame: Some(frame),

@@ -1,8 +1,8 @@
-use Rattle.std.proofs.Common.{rules, ◌≡◌, ◌+◌, ◌∙◌, Some, ap, sym, vec_len}
+use Rattle.std.proofs.Common.{rules, ap, subst, sym}
 use Rattle.std.proofs.lemmas.Result.{on_ok_weaker}
 use Rattle.task_frames.specs.Resumes.{ends_of}
-use Rattle.swan_runtime.specs.Shared.{sleepers}
-use Rattle.swan_runtime.proofs.Bedding.{nobody, none_awaits, none_woke, others_stay, row_woke}
+use Rattle.swan_runtime.proofs.Bedding.{none_woke, others_stay, row_woke}
+use Rattle.swan_runtime.specs.Beds.{NoneAwaits}
 use Rattle.swan_runtime.proofs.Waking.{row_found, row_set}
 use Rattle.swan_runtime.proofs.asleep.Asleep.wake_all_poppers.Goals as goal
 
@@ -20,7 +20,7 @@ returns-in-Some-clause-kept g c =
 pub returns-in-Some-clause-woken : goal.returns-in-Some-clause-woken
 returns-in-Some-clause-woken g c =
     let updates = (c.get_mut.follows.holds c.wakes_poppers.new.self).3 (search rules) in
-    on_ok_weaker c.wakes_poppers.result (λ none queue. none_awaits queue c.args.number _ c.wakes_poppers.new.self updates.1 (none queue)) c.wakes_poppers.ensures.woken
+    on_ok_weaker c.wakes_poppers.result (λ none queue. subst (NoneAwaits queue) (sym updates.1) (none queue)) c.wakes_poppers.ensures.woken
 
 pub returns-in-Some-clause-rows : goal.returns-in-Some-clause-rows
 returns-in-Some-clause-rows g c =
