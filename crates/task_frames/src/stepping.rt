@@ -1,12 +1,13 @@
 // A frame's next step at the core.
 ghost use Rattle.std.specs.Prelude.{◌≡◌, IfOk, IfSome, OnOk, IfNone};
+ghost use Rattle.task_frames.specs.declared.stage.Stage.TheVariants.{Ready};
 ghost use Rattle.task_frames.specs.Cores.{HasIt, MayBegin, asking};
 ghost use Rattle.task_frames.specs.Resumes.{IsLiveBefore, IsShown, IsStep, waited_for};
 
-use crate::{FrameAtCore, Kept, MidStep, Stage, Step};
+use crate::{FrameAtCore, Kept, MidStep, Stage, StagedTask, Step};
 use queues::{Queues, WaitFor};
 use std::alloc::Global;
-use swan_model::{Ask, Body, FaultKind, NoMemory};
+use swan_model::{Answer, Ask, Body, FaultKind, NoMemory};
 
 impl<Q: Queues> Kept<Q> {
     /// Takes the next step of a frame, or tells what it has to wait for. Err is want of memory. It costs what the step costs.
@@ -27,19 +28,38 @@ impl<Q: Queues> Kept<Q> {
         let (staged, stage) = frame.apart();
         match stage {
             Stage::Asking(local, ask, at) => self.take(alloc, MidStep { staged, local, at }, ask),
-            Stage::Ready(local, answer) => {
-                let at = body.place(&local);
-                let fuel = staged.task.fuel();
-                if fuel == 0 {
-                    let stage = Stage::Ready(local, answer);
-                    return self.fault(FrameAtCore::of(staged, stage), at, FaultKind::Fuel);
-                }
-                let mut staged = staged;
-                let left = staged.task.pays();
-                let (local, ask) = body.advance(alloc, local, answer, left)?;
-                self.take(alloc, MidStep { staged, local, at }, ask)
-            }
+            Stage::Ready(local, answer) => self.ask(alloc, body, staged, local, answer),
         }
+    }
+
+    /// Asks the body for the next step of a task that stands so, and takes it. A task without fuel ends by that. Err is want of
+    /// memory. It costs what the step costs. It is apart, so that no room is cleared for what the body says where a frame has
+    /// asked already.
+    #[inline(never)]
+    fn ask<B: Body>(
+        &mut self,
+        alloc: Global,
+        body: &B,
+        staged: Box<StagedTask<B>>,
+        local: B::Local,
+        answer: Answer,
+    ) -> Result<Step<B>, NoMemory>
+        requires has { HasIt B.Body self.old (record { task = staged.value.task; stage = Ready local answer }) }
+        requires begun { MayBegin self.old staged.value.task.number }
+        requires body { body.now ≡ staged.value.task.plan.body }
+        ensures step { IfOk result (IsStep B.Body self.old self.new staged.value.task) }
+        ensures run { OnOk result (self.new.run ≡ self.old.run) }
+    {
+        let at = body.place(&local);
+        let fuel = staged.task.fuel();
+        if fuel == 0 {
+            let stage = Stage::Ready(local, answer);
+            return self.fault(FrameAtCore::of(staged, stage), at, FaultKind::Fuel);
+        }
+        let mut staged = staged;
+        let left = staged.task.pays();
+        let (local, ask) = body.advance(alloc, local, answer, left)?;
+        self.take(alloc, MidStep { staged, local, at }, ask)
     }
 
     /// What a frame has to wait for before its first step: a version that it was given to read and that is owed, or
