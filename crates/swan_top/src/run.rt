@@ -1,5 +1,5 @@
 // Running plans.
-ghost use Rattle.std.specs.Prelude.{◌≡◌, ◌≤◌, IfOk, IfErr, length};
+ghost use Rattle.std.specs.Prelude.{◌≡◌, ◌<◌, ◌≤◌, IfOk, IfErr, IfSome, IfNone, length};
 ghost use Rattle.job_body.specs.NamesOfJob.{IsNaming};
 ghost use Rattle.job_body.specs.PlanOfJob.{of_input};
 ghost use Rattle.swan_top.specs.Elisions.{elisions, end_by};
@@ -7,6 +7,8 @@ ghost use Rattle.swan_top.specs.Decision.{input_line, printed, ran, refuses, sta
 ghost use Rattle.swan_top.specs.declared.status.Status.TheVariants as status;
 ghost use Rattle.swan_top.specs.declared.way.Way.TheVariants as way;
 ghost use Rattle.swan_top.specs.Settled.{Is, Ran, Stops};
+ghost use Rattle.swan_runtime.specs.Workers.{IsShape};
+ghost use Rattle.swan_top.specs.declared.run.TheConstants.{RING};
 ghost use Rattle.swan_model.specs.Elision.{outcome};
 ghost use Rattle.swan_model.specs.Script.{script};
 ghost use Rattle.swan_model.specs.declared.plan.TheConstants.{FUEL_MOST};
@@ -49,8 +51,11 @@ fn input_line(alloc: Global, why: PlanAnswer) -> Result<Blob, AllocError>
     Ok(Blob::new(text.into_bytes()))
 }
 
-// The shape of a run by several workers. One has none, since it runs alone.
-fn shape_of(workers: u32) -> Option<Shape> {
+// The shape of a run by several workers. None comes exactly where there is one, since it runs alone, or more than a run may have.
+fn shape_of(workers: u32) -> Option<Shape>
+    ensures some { IfSome result (λ shape. (1 < workers) × (shape.workers ≡ workers) × (shape.ring ≡ RING)) }
+    ensures none { IfNone result (1 < workers → ¬ IsShape workers RING) }
+{
     if workers > 1 {
         Shape::new(workers, RING)
     } else {
