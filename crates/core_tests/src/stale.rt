@@ -6,8 +6,8 @@ ghost use Rattle.task_frames.specs.Resumes.{IsOpened, ends_of};
 use crate::runs::alone;
 use crate::turn::Turn;
 use crate::turns::take_turns;
-use queue_book::BookQueues;
-use queues::Queues;
+use queue_book::{BookQueues, NoEnds};
+use queues::{LocalEnds, Queues};
 use std::alloc::Global;
 use std::test::Fail;
 use swan_model::{Answer, Ask, Body, NoMemory, Plan, PlanFuel, Roots, RunName};
@@ -41,7 +41,7 @@ impl Body for Waiting {
 
 /// A plan of three steps, of which the last one wants fuel.
 fn plan(alloc: Global) -> Plan<Waiting>
-    ensures { result ≡ record { body = Waiting; root_local = 0; roots = record { queues = []; objects = [] }; fuel = 2 } }
+    ensures { result ≡ record { body = record {}; root_local = 0; roots = record { queues = []; objects = [] }; fuel = 2 } }
 {
     Plan {
         body: Waiting,
@@ -97,8 +97,8 @@ fn come_so<B: Body, Q: Queues>(
 
 /// An opened run of the plan.
 fn opened(alloc: Global) -> Result<Opened<Waiting, BookQueues>, NoMemory>
-    ensures opened { IfOk result (λ it. IsOpened (ends_of (⟦<BookQueues as Queues>⟧.Ends.LocalEnds)) it.core it.root) }
-    ensures plan { IfOk result (λ it. it.core.plan ≡ record { body = Waiting; root_local = 0; roots = record { queues = []; objects = [] }; fuel = 2 }) }
+    ensures opened { IfOk result (λ it. IsOpened (ends_of ⟦<NoEnds as LocalEnds>⟧) it.core it.root) }
+    ensures plan { IfOk result (λ it. it.core.plan ≡ record { body = record {}; root_local = 0; roots = record { queues = []; objects = [] }; fuel = 2 }) }
     ensures run { IfOk result (λ it. it.core.run ≡ []) }
     ensures body { IfOk result (λ it. it.body.value ≡ Waiting) }
 {
