@@ -10,6 +10,7 @@ use std::time::Clock;
 use swan_model::{Blob, Word, Words};
 use swan_outside::{FileBlob, MemoryFiles, MemorySink, OpenGate};
 
+mod by_hand;
 mod generated;
 mod honest;
 mod jobs;

@@ -21,7 +21,7 @@ fn number_of(word: Option<&str>) -> Result<u16, Fail> {
 }
 
 // What an outcome has.
-fn shown(alloc: Global, outcome: &Outcome) -> Result<String, Fail> {
+pub fn shown(alloc: Global, outcome: &Outcome) -> Result<String, Fail> {
     let mut text = String::new(alloc);
     for items in outcome.queues.as_slice() {
         show_values(&mut text, alloc, "queue", items.as_slice())?;
