@@ -1,16 +1,15 @@
 -- A key that goes to its place among rising keys.
 use Rattle.std.proofs.Common.{◌≡◌, ℕ, zero, suc, ◌<◌, ◌≤◌, List, [], ◌∷◌, length, get_or, refl, sym, ap, subst, ◌∙◌, ◌-◌, ◌⊎◌, inl, inr, arith}
-use Rattle.std.proofs.lemmas.Bool.{cases_lt}
+use Rattle.std.proofs.lemmas.Bool.{cases_lt, ltb-true}
 use Rattle.std.proofs.lemmas.List.Sorted.{searched}
 use Rattle.std.proofs.lemmas.Map.Keys.{below_from_sorted, non_decreasing_from_sorted}
-use Rattle.std.proofs.lemmas.List.Elements.{All-from_get_or, All-get_or}
-use Rattle.std.proofs.lemmas.Option.{get_or_from_slice_get, slice_get_within}
+use Rattle.std.proofs.lemmas.Option.{get_or_from_slice_get, slice_get-get_or}
 use Rattle.std.specs.BTreeSet.{insert_key}
 use Rattle.std.specs.Cmp.{IsTotalOrder, nat_cmp_is}
-use Rattle.std.specs.List.{All, AllByRecursion, insert}
+use Rattle.std.specs.List.{AllByRecursion, insert}
 use Rattle.std.specs.List.Sorted.{IsBinarySearchResult, IsStrictlySortedBy}
 use Rattle.std.specs.Ordering.{match_ordering, nat_cmp, ordering_reverse}
-use Rattle.std.specs.Prelude.{Result, Ok, Err, IfNone, IfSome, Some, slice_get}
+use Rattle.std.specs.Prelude.{true, nat_lt, Option, None, Some, Result, Ok, Err, IfNone, IfSome, MatchOption, slice_get}
 use Rattle.std.specs.Result.{result_err}
 use Rattle.std.specs.declared.cmp.Ordering.{Ordering}
 use Rattle.std.specs.declared.cmp.Ordering.TheVariants.{Less, Equal, Greater}
@@ -65,27 +64,24 @@ found (y ∷ xs) x (suc i) rise within is =
     ap (λ o. match_ordering o (x ∷ y ∷ xs) (y ∷ xs) (y ∷ insert_key nat_cmp xs x)) (sym (nat_cmp_is x y Greater (subst (λ n. y < n) is (below_from_sorted (y ∷ xs) 0 (suc i) 0 rise (omega arith) within))))
     ∙ ap (λ ys. y ∷ ys) (found xs x i rise.1 (omega arith) is)
 
--- a number above all
-pub at_end : (xs : List ℕ) (x : ℕ) → All (λ y. y < x) xs → insert_key nat_cmp xs x ≡ insert xs (length xs) x
-at_end xs x above = placed xs x (length xs) (omega arith) (λ k l. All-get_or (λ y. y < x) xs k 0 l above) (λ k l m. absurd (omega arith))
-
--- a number is above all where it is above the last one
-pub last_above : (xs : List ℕ) (x last : ℕ) → slice_get xs (length xs - 1) ≡ Some last → All (λ y. y < x) xs → last < x
-last_above xs x last is above =
-    subst (λ y. y < x) (get_or_from_slice_get xs (length xs - 1) last 0 is) (All-get_or (λ y. y < x) xs (length xs - 1) 0 (slice_get_within xs (length xs - 1) last is) above)
-
-pub all_above : (xs : List ℕ) (x last : ℕ) → IsStrictlySortedBy nat_cmp xs → slice_get xs (length xs - 1) ≡ Some last → last < x → All (λ y. y < x) xs
-all_above xs x last rise is less = All-from_get_or (λ y. y < x) xs 0 below
+-- a number above the last one
+pub at_end : (xs : List ℕ) (x : ℕ) → IsStrictlySortedBy nat_cmp xs
+    → MatchOption (slice_get xs (length xs - 1)) (true ≡ true) (λ last. true ≡ nat_lt last x) → insert_key nat_cmp xs x ≡ insert xs (length xs) x
+at_end xs x rise past = by (slice_get xs (length xs - 1)) refl past
   where
-    at_last : get_or xs (length xs - 1) 0 ≡ last
-    at_last = get_or_from_slice_get xs (length xs - 1) last 0 is
-
-    below : (k : ℕ) → k < length xs → get_or xs k 0 < x
-    below k l = by_case (cases_lt k (length xs - 1))
+    below : (last : ℕ) → slice_get xs (length xs - 1) ≡ Some last → last < x → (k : ℕ) → k < length xs → get_or xs k 0 < x
+    below last is less k l = by_case (cases_lt k (length xs - 1))
       where
+        at_last : get_or xs (length xs - 1) 0 ≡ last
+        at_last = get_or_from_slice_get xs (length xs - 1) last 0 is
+
         by_case : (k < length xs - 1) ⊎ (length xs - 1 ≤ k) → get_or xs k 0 < x
         by_case (inl fewer) = omega (arith, below_from_sorted xs k (length xs - 1) 0 rise fewer (omega arith), at_last, less)
         by_case (inr more) = let e : k ≡ length xs - 1 = omega arith in omega (arith, ap (λ n. get_or xs n 0) e, at_last, less)
+
+    by : (last : Option ℕ) → slice_get xs (length xs - 1) ≡ last → MatchOption last (true ≡ true) (λ n. true ≡ nat_lt n x) → insert_key nat_cmp xs x ≡ insert xs (length xs) x
+    by None none past = placed xs x (length xs) (omega arith) (λ k l. absurd (cc (sym none ∙ slice_get-get_or xs (length xs - 1) 0 (omega (arith, l))))) (λ k l m. absurd (omega arith))
+    by (Some last) is past = placed xs x (length xs) (omega arith) (below last is (ltb-true last x (sym past))) (λ k l m. absurd (omega arith))
 
 -- ---- what a search says
 

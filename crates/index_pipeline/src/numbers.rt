@@ -1,7 +1,7 @@
 // The numbers of a word.
-ghost use Rattle.std.specs.Prelude.{◌≡◌, ◌+◌, ◌^◌, ◌<◌, ◌≤◌, ◌∷◌, ◌↔◌, [], drop, length, slice_get, IfNone, IfSome, IsTrue, MatchOption, OnOk};
+ghost use Rattle.std.specs.Prelude.{◌≡◌, ◌+◌, ◌-◌, ◌^◌, ◌<◌, ◌≤◌, ◌∷◌, [], true, drop, length, nat_lt, slice_get, IfNone, IfSome, MatchOption, OnOk};
 ghost use Rattle.std.specs.BTreeSet.{insert_key};
-ghost use Rattle.std.specs.List.{All, insert};
+ghost use Rattle.std.specs.List.{insert};
 ghost use Rattle.std.specs.List.Sorted.{IsStrictlySortedBy};
 ghost use Rattle.std.specs.Ordering.{nat_cmp};
 
@@ -27,12 +27,11 @@ impl Model for Numbers {
     ghost invariant = { λ numbers. IsStrictlySortedBy nat_cmp numbers.rising.items };
 }
 
-/// Whether a number is above all of these. `O(1)`.
-fn is_above(rising: &[u64], number: u64) -> bool
-    requires { IsStrictlySortedBy nat_cmp rising.now }
-    ensures { IsTrue result ↔ All (λ other. other < number) rising.now }
+/// Whether a number is above the last one of these, and true where there is none. `O(1)`.
+fn is_past_last(numbers: &[u64], number: u64) -> bool
+    ensures { MatchOption (slice_get numbers.now (length numbers.now - 1)) (result ≡ true) (λ last. result ≡ nat_lt last number) }
 {
-    match rising.last() {
+    match numbers.last() {
         Some(last) => *last < number,
         None => true,
     }
@@ -46,7 +45,7 @@ fn place_of(rising: &[u64], number: u64) -> Option<usize>
     ensures within { IfSome result (λ place. place ≤ length rising.now) }
     ensures goes { IfSome result (λ place. insert_key nat_cmp rising.now number ≡ insert rising.now place number) }
 {
-    if is_above(rising, number) {
+    if is_past_last(rising, number) {
         return Some(rising.len());
     }
     rising.binary_search(&number).err()

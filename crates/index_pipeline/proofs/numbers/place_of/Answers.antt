@@ -7,8 +7,8 @@ use Rattle.std.specs.Prelude.{IfNone, IfSome}
 use Rattle.index_pipeline.proofs.SortedLists.{at_end, search_finds, search_places}
 use Rattle.index_pipeline.proofs.numbers.place_of.Goals as goal
 
-pub returns-then-is_above-clause-goes : goal.returns-then-is_above-clause-goes
-returns-then-is_above-clause-goes c = at_end c.args.rising.now c.args.number (c.is_above.ensures.0 (search rules))
+pub returns-then-is_past_last-clause-goes : goal.returns-then-is_past_last-clause-goes
+returns-then-is_past_last-clause-goes c = at_end c.args.rising.now c.args.number c.requires (search rules)
 
 pub returns-clause-there : goal.returns-clause-there
 returns-clause-there c =
