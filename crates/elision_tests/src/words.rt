@@ -28,6 +28,25 @@ pub fn ask_of(alloc: Global, word: &str) -> Result<Ask<usize>, Fail> {
     }
 }
 
+/// The words of what a task can't go on for.
+const TROUBLES: [(&str, Trouble); 5] = [
+    ("overflow", Trouble::Overflow),
+    ("divide", Trouble::DivideByZero),
+    ("range", Trouble::Range),
+    ("long", Trouble::TooLong),
+    ("number", Trouble::BadNumber),
+];
+
+/// What a task can't go on for, by its word.
+fn trouble_of(word: &str) -> Result<Trouble, Fail> {
+    for (name, trouble) in TROUBLES {
+        if name == word {
+            return Ok(trouble);
+        }
+    }
+    Err("no such ask".into())
+}
+
 /// The ask that a word without parts names.
 fn plain_ask_of(word: &str) -> Result<Ask<usize>, Fail> {
     match word {
@@ -35,12 +54,7 @@ fn plain_ask_of(word: &str) -> Result<Ask<usize>, Fail> {
         "queue" => Ok(Ask::NewQueue),
         "sync" => Ok(Ask::Sync),
         "finish" => Ok(Ask::Finish),
-        "overflow" => Ok(Ask::Fail(Trouble::Overflow)),
-        "divide" => Ok(Ask::Fail(Trouble::DivideByZero)),
-        "range" => Ok(Ask::Fail(Trouble::Range)),
-        "long" => Ok(Ask::Fail(Trouble::TooLong)),
-        "number" => Ok(Ask::Fail(Trouble::BadNumber)),
-        _ => Err("no such ask".into()),
+        _ => Ok(Ask::Fail(trouble_of(word)?)),
     }
 }
 
@@ -82,14 +96,21 @@ fn give_of(word: &str) -> Result<Give, Fail> {
     })
 }
 
+/// The words of modes.
+const MODES: [(&str, Mode); 6] = [
+    ("in", Mode::In),
+    ("out", Mode::Out),
+    ("push", Mode::Push),
+    ("pop", Mode::Pop),
+    ("inout", Mode::InOut),
+    ("pushpop", Mode::PushPop),
+];
+
 fn mode_of(word: &str) -> Result<Mode, Fail> {
-    match word {
-        "in" => Ok(Mode::In),
-        "out" => Ok(Mode::Out),
-        "push" => Ok(Mode::Push),
-        "pop" => Ok(Mode::Pop),
-        "inout" => Ok(Mode::InOut),
-        "pushpop" => Ok(Mode::PushPop),
-        _ => Err("no such mode".into()),
+    for (name, mode) in MODES {
+        if name == word {
+            return Ok(mode);
+        }
     }
+    Err("no such mode".into())
 }
