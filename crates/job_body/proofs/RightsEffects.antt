@@ -1,6 +1,6 @@
 -- What a step of a checked job does to the serial state: it meets no fault of rights, and each
 -- activation stands where it holds what the check knows there.
-use Rattle.std.proofs.Common.{◌≡◌, ℕ, zero, suc, ◌+◌, ◌-◌, ◌<◌, ◌≤◌, Bool, true, false, Option, Some, None, List, [], ◌∷◌, ◌++◌, length, slice_get, slice_set, nat_lt, nat_le, if◌then◌else◌, refl, sym, ap, ◌∙◌, subst, arith, length-append}
+use Rattle.std.proofs.Common.{◌≡◌, ℕ, zero, suc, ◌+◌, ◌-◌, ◌<◌, ◌≤◌, Bool, true, false, Option, Some, None, List, [], ◌∷◌, ◌++◌, length, slice_get, slice_set, nat_lt, nat_le, if◌then◌else◌, refl, sym, ap, ◌∙◌, subst, arith, length-append, length-set}
 use Rattle.swan_model.specs.declared.body.Answer.{Answer}
 use Rattle.swan_model.specs.declared.body.Answer.TheVariants as answer
 use Rattle.swan_model.specs.declared.body.Ask.TheVariants as ask
@@ -60,14 +60,9 @@ fits-grown job before after a grows fits =
       stored = in_store-grown (length before.cells) (length before.queues) (length after.cells) (length after.queues) a.holdings grows.cells grows.queues fits.stored;
     }
 
-length-slice_set : {A : Type 0} (xs : List A) (i : ℕ) (x : A) → length (slice_set xs i x) ≡ length xs
-length-slice_set [] i x = refl
-length-slice_set (y ∷ ys) zero x = refl
-length-slice_set (y ∷ ys) (suc i) x = ap suc (length-slice_set ys i x)
-
 length-zero_cell : (cells : List Cell) (n : ℕ) (cell : Option Cell) → length (zero_cell cells n cell) ≡ length cells
 length-zero_cell cells n None = refl
-length-zero_cell cells n (Some cell) = length-slice_set cells n (record cell { value = zero_of cell.kind })
+length-zero_cell cells n (Some cell) = length-set cells n (record cell { value = zero_of cell.kind })
 
 length-zeroed_by : (mode : Mode) (cells : List Cell) (n : ℕ) → length (zeroed_by mode cells n) ≡ length cells
 length-zeroed_by Out cells n = length-zero_cell cells n (slice_get cells n)
@@ -121,11 +116,11 @@ read-fits job n store a place h fits =
 
 set-cells : (store : Store) (number : ℕ) (cell : Cell) (value : Value) → Grows store (serial.with_value store number cell value)
 set-cells store number cell value =
-    record { cells = omega (arith, length-slice_set store.cells number (record cell { value = value })); queues = omega arith }
+    record { cells = omega (arith, length-set store.cells number (record cell { value = value })); queues = omega arith }
 
 set-items : (store : Store) (number : ℕ) (queue : Queue) (items : List Value) → Grows store (serial.with_items store number queue items)
 set-items store number queue items =
-    record { cells = omega arith; queues = omega (arith, length-slice_set store.queues number (record queue { items = items })) }
+    record { cells = omega arith; queues = omega (arith, length-set store.queues number (record queue { items = items })) }
 
 pub write-fits : (job : List Line) (n : ℕ) (store : Store) (a : Activation Standing) (place : ℕ) (value : Value) → HeldAt a.holdings place Out → Fits job store a → EffectFits job store (effect n store a (ask.Write place value))
 write-fits job n store a place value h fits =
