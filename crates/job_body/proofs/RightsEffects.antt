@@ -1,6 +1,6 @@
 -- What a step of a checked job does to the serial state: it meets no fault of rights, and each
 -- activation stands where it holds what the check knows there.
-use Rattle.std.proofs.Common.{◌≡◌, ℕ, zero, suc, ◌+◌, ◌-◌, ◌<◌, ◌≤◌, Bool, true, false, Option, Some, None, List, [], ◌∷◌, ◌++◌, length, slice_get, slice_set, nat_lt, nat_le, if◌then◌else◌, refl, sym, ap, ◌∙◌, subst, arith, length-append, length-set}
+use Rattle.std.proofs.Common.{◌≡◌, ℕ, zero, suc, ◌+◌, ◌-◌, ◌<◌, ◌≤◌, Bool, true, false, Option, Some, None, List, [], ◌∷◌, ◌++◌, length, slice_get, nat_lt, nat_le, if◌then◌else◌, refl, sym, ◌∙◌, subst, arith, length-append, length-set}
 use Rattle.swan_model.specs.declared.body.Answer.{Answer}
 use Rattle.swan_model.specs.declared.body.Answer.TheVariants as answer
 use Rattle.swan_model.specs.declared.body.Ask.TheVariants as ask
