@@ -2,6 +2,7 @@
 ghost use Rattle.std.specs.Prelude.{◌≡◌, [], IfOk, OnOk};
 ghost use Rattle.swan_model.specs.declared.body.Ask.TheVariants.{Sync};
 ghost use Rattle.task_frames.specs.Resumes.{IsOpened, ends_of};
+ghost use Rattle.core_tests.specs.Pools.{MayAllCome};
 
 use crate::runs::alone;
 use crate::turn::Turn;
@@ -11,7 +12,7 @@ use queues::{LocalEnds, Queues};
 use std::alloc::Global;
 use std::test::Fail;
 use swan_model::{Answer, Ask, Body, NoMemory, Plan, PlanFuel, Roots, RunName};
-use task_frames::{Core, Opened};
+use task_frames::{Core, Frame, Opened};
 
 /// A body whose tasks wait for their children at each step, until their fuel is used up.
 #[derive(Clone, Copy, Drop)]
@@ -63,36 +64,63 @@ pub struct Turns<'a> {
     pub rest: &'a [Turn],
 }
 
-/// The turns of two opened runs come to what is said.
-fn come_so<B: Body, Q: Queues>(
+/// The frames that an opened run has after these turns.
+fn frames_after<B: Body, Q: Queues>(
     alloc: Global,
-    first: Opened<B, Q>,
-    second: Opened<B, Q>,
-    turns: &Turns<'_>,
-) -> Result<(), Fail>
-    requires first { IsOpened (ends_of Q.Ends.LocalEnds) first.core first.root }
-    requires second { IsOpened (ends_of Q.Ends.LocalEnds) second.core second.root }
-    requires body { first.body.value ≡ first.core.plan.body }
-    requires plan { second.core.plan ≡ first.core.plan }
-    requires body_too { second.body.value ≡ second.core.plan.body }
-    requires run { second.core.run ≡ first.core.run }
+    opened: Opened<B, Q>,
+    turns: &[Turn],
+) -> Result<Vec<Frame<B, Q>>, Fail>
+    requires opened { IsOpened (ends_of Q.Ends.LocalEnds) opened.core opened.root }
+    requires body { opened.body.value ≡ opened.core.plan.body }
+    ensures frames { IfOk result (λ frames. MayAllCome Q.Ends.run opened.core frames.items) }
 {
     let Opened {
         mut core,
         body,
         root,
-    } = first;
-    let Opened {
-        core: mut other,
-        body: same,
-        root: stale,
-    } = second;
+    } = opened;
     let mut frames = alone(alloc, root)?;
-    let mut stale = alone(alloc, stale)?;
-    take_turns(alloc, &mut core, &body, &mut frames, turns.first)?;
-    take_turns(alloc, &mut other, &same, &mut stale, turns.second)?;
-    take_turns(alloc, &mut core, &body, &mut stale, turns.stale)?;
-    take_turns(alloc, &mut core, &body, &mut frames, turns.rest)
+    take_turns(alloc, &mut core, &body, &mut frames, turns)?;
+    Ok(frames)
+}
+
+/// Stale frames come to a core between turns of its own ones, and all come to what is said.
+fn take_all<B: Body, Q: Queues>(
+    alloc: Global,
+    core: &mut Core<B, Q>,
+    body: &B,
+    own: &mut Vec<Frame<B, Q>>,
+    stale: &mut Vec<Frame<B, Q>>,
+    turns: &Turns<'_>,
+) -> Result<(), Fail>
+    requires body { body.now ≡ core.old.plan.body }
+    requires own { MayAllCome Q.Ends.run core.old own.old.items }
+    requires stale { MayAllCome Q.Ends.run core.old stale.old.items }
+{
+    take_turns(alloc, core, body, own, turns.first)?;
+    take_turns(alloc, core, body, stale, turns.stale)?;
+    take_turns(alloc, core, body, own, turns.rest)
+}
+
+/// The turns of an opened run, to whose core stale frames come, come to what is said.
+fn come_so<B: Body, Q: Queues>(
+    alloc: Global,
+    opened: Opened<B, Q>,
+    stale: Vec<Frame<B, Q>>,
+    turns: &Turns<'_>,
+) -> Result<(), Fail>
+    requires opened { IsOpened (ends_of Q.Ends.LocalEnds) opened.core opened.root }
+    requires body { opened.body.value ≡ opened.core.plan.body }
+    requires stale { MayAllCome Q.Ends.run opened.core stale.items }
+{
+    let Opened {
+        mut core,
+        body,
+        root,
+    } = opened;
+    let mut own = alone(alloc, root)?;
+    let mut stale = stale;
+    take_all(alloc, &mut core, &body, &mut own, &mut stale, turns)
 }
 
 /// An opened run of the plan.
@@ -100,7 +128,7 @@ fn opened(alloc: Global) -> Result<Opened<Waiting, BookQueues>, NoMemory>
     ensures opened { IfOk result (λ it. IsOpened (ends_of ⟦<NoEnds as LocalEnds>⟧) it.core it.root) }
     ensures plan { IfOk result (λ it. it.core.plan ≡ record { body = record {}; root_local = 0; roots = record { queues = []; objects = [] }; fuel = 2 }) }
     ensures run { IfOk result (λ it. it.core.run ≡ []) }
-    ensures body { IfOk result (λ it. it.body.value ≡ Waiting) }
+    ensures body { IfOk result (λ it. it.body.value ≡ record {}) }
 {
     let plan = plan(alloc);
     let queues = BookQueues::new(alloc, RunName::of(&plan));
@@ -109,7 +137,8 @@ fn opened(alloc: Global) -> Result<Opened<Waiting, BookQueues>, NoMemory>
 
 /// The turns of two runs of the plan come to what is said.
 fn table(alloc: Global, turns: &Turns<'_>) -> Result<(), Fail> {
-    come_so(alloc, opened(alloc)?, opened(alloc)?, turns)
+    let stale = frames_after(alloc, opened(alloc)?, turns.second)?;
+    come_so(alloc, opened(alloc)?, stale, turns)
 }
 
 #[test]

@@ -17,6 +17,6 @@ loop-worker-preserved g c =
           (still_free lock c.deref.result.now c.into_inner-seat.result.seat c.is_stopped.new.seat (search rules) sits c.is_stopped.ensures.seat),
       all_popped (IsWorkerOf of lock) _ c.pop.new.self.items c.in-Some.worker c.in-Some.ensures.items c.loop-worker.invariant.2,
       λ rest. c.loop-worker.invariant.3 (all_pushed (λ worker. saw_stopped worker ≡ false) c.pop.new.self.items c.loop-worker.workers.items c.in-Some.worker c.in-Some.ensures.items rest
-          (ap (λ o. (knows o.seat).saw_stopped) (sym c.into_inner-seat.ensures) ∙ unseen _ _ _ c.is_stopped.ensures.again.1 c.is_stopped.ensures.sign.1 c.if-is_stopped.false)),
+          (ap (λ o. (knows o.seat).saw_stopped) (sym c.into_inner-seat.ensures) ∙ unseen _ _ _ c.is_stopped.ensures.again.1 c.is_stopped.ensures.sign.1 (search rules))),
       search rules,
     )
