@@ -15,12 +15,19 @@ use std::marker::Model;
 use swan_model::{Body, NoMemory};
 use task_frames::{Core, Frame, PlanRun};
 
-/// What the workers of a run share: its core, the frames that nobody runs, and those that sleep. In costs, n counts the live frames.
+/// What the workers of a run share: its core, the frames that nobody runs, and those that sleep.
 #[derive(Drop)]
-pub(crate) struct SharedRun<B: Body, Q: Queues> {
+pub(crate) struct Parts<B: Body, Q: Queues> {
     core: Core<B, Q>,
     ready: Vec<Frame<B, Q>>,
     asleep: Asleep<B, Q>,
+}
+
+/// What the workers of a run share, in one box, so that who takes the lock and gives it back moves a pointer. In costs, n counts the live
+/// frames.
+#[derive(Drop)]
+pub(crate) struct SharedRun<B: Body, Q: Queues> {
+    parts: Box<Parts<B, Q>>,
 }
 
 impl<B: Body, Q: Queues> Model for SharedRun<B, Q> {
@@ -29,9 +36,9 @@ impl<B: Body, Q: Queues> Model for SharedRun<B, Q> {
 
     ghost Value = { SharedView B B.Local Q.Ends };
 
-    ghost view = { λ shared. record { core = shared.core; ready = shared.ready.items } };
+    ghost view = { λ shared. record { core = shared.parts.value.core; ready = shared.parts.value.ready.items } };
 
-    ghost invariant = { λ shared. IsShared (ends_of Q.Ends.LocalEnds) (record { core = shared.core; ready = shared.ready.items }) shared.asleep };
+    ghost invariant = { λ shared. IsShared (ends_of Q.Ends.LocalEnds) (record { core = shared.parts.value.core; ready = shared.parts.value.ready.items }) shared.parts.value.asleep };
 }
 
 impl<B: Body, Q: Queues> Named for SharedRun<B, Q> {
@@ -43,7 +50,7 @@ impl<B: Body, Q: Queues> Named for SharedRun<B, Q> {
 }
 
 impl<B: Body, Q: Queues> SharedRun<B, Q> {
-    /// What is shared at first: the root is ready. Err is want of memory. It allocates twice.
+    /// What is shared at first: the root is ready. Err is want of memory. It allocates three times.
     pub fn new(
         alloc: Global,
         core: Core<B, Q>,
@@ -56,25 +63,30 @@ impl<B: Body, Q: Queues> SharedRun<B, Q> {
         let asleep = Asleep::new(alloc, root.number())?;
         let mut ready = Vec::new(alloc);
         ready.push(root)?;
-        Ok(SharedRun {
-            core,
-            ready,
-            asleep,
-        })
+        let parts = Box::new(
+            alloc,
+            Parts {
+                core,
+                ready,
+                asleep,
+            },
+        )?;
+        Ok(SharedRun { parts })
     }
 
     /// Whether the root has ended. It takes no memory. `O(1)`.
     pub fn is_done(&self) -> bool
         ensures done { result ≡ self.now.core.is_done }
     {
-        self.core.is_done()
+        self.parts.core.is_done()
     }
 
     /// The core, for its outcome. It takes no memory.
     pub fn into_core(self) -> Core<B, Q>
         ensures { result ≡ self.core }
     {
-        self.core
+        let Parts { core, .. } = Box::into_inner(self.parts);
+        core
     }
 
     /// Takes the ready frame that goes on first; None comes exactly where none is ready. It takes no memory. `O(1)`.
@@ -84,7 +96,7 @@ impl<B: Body, Q: Queues> SharedRun<B, Q> {
         ensures own { IfSome result (IsOfRun (ends_of Q.Ends.LocalEnds) self.old.core.plan self.old.core.run) }
         ensures core { self.new.core ≡ self.old.core }
     {
-        self.ready.pop()
+        self.parts.ready.pop()
     }
 
     /// Tries a frame by the core, where the run isn't done.
@@ -107,7 +119,8 @@ impl<B: Body, Q: Queues> SharedRun<B, Q> {
         ensures plan { self.new.core.plan ≡ self.old.core.plan }
         ensures run { self.new.core.run ≡ self.old.core.run }
     {
-        if self.core.is_done() {
+        let parts = &mut *self.parts;
+        if parts.core.is_done() {
             return Ok(Tried {
                 turn: Turn::Done,
                 frame: Some(frame),
@@ -115,9 +128,9 @@ impl<B: Body, Q: Queues> SharedRun<B, Q> {
         }
         try_by_core(
             alloc,
-            &mut self.core,
-            &mut self.asleep,
-            &mut self.ready,
+            &mut parts.core,
+            &mut parts.asleep,
+            &mut parts.ready,
             body,
             frame,
         )
