@@ -17,7 +17,6 @@ pub mod RightsEffects
 pub mod RightsSteps
 pub mod RightsRuns
 pub mod Namings
-pub mod FewLines
 pub mod Firsts
 pub mod Rows
 pub mod FewNames

@@ -20,6 +20,8 @@ use Rattle.job_reader.specs.declared.line.Line.{Line}
 use Rattle.job_body.specs.RightsKept.{is_of_rights}
 use Rattle.job_body.specs.Standing.{Standing}
 use Rattle.std.proofs.lemmas.List.{map-append}
+use Rattle.swan_model.proofs.Lists.{some_within}
+use Rattle.swan_model.proofs.ZeroedCells.{length-zeroed}
 use Rattle.job_body.proofs.RightsSpawns.{ChildHolds, HeldAt, InStore, held-stored, held_modes_of, number-held, room}
 use Rattle.job_body.proofs.RightsStands.{Stands}
 
@@ -60,41 +62,19 @@ fits-grown job before after a grows fits =
       stored = in_store-grown (length before.cells) (length before.queues) (length after.cells) (length after.queues) a.holdings grows.cells grows.queues fits.stored;
     }
 
-length-zero_cell : (cells : List Cell) (n : ℕ) (cell : Option Cell) → length (zero_cell cells n cell) ≡ length cells
-length-zero_cell cells n None = refl
-length-zero_cell cells n (Some cell) = length-set cells n (record cell { value = zero_of cell.kind })
-
-length-zeroed_by : (mode : Mode) (cells : List Cell) (n : ℕ) → length (zeroed_by mode cells n) ≡ length cells
-length-zeroed_by Out cells n = length-zero_cell cells n (slice_get cells n)
-length-zeroed_by In cells n = refl
-length-zeroed_by InOut cells n = refl
-length-zeroed_by Push cells n = refl
-length-zeroed_by Pop cells n = refl
-length-zeroed_by PushPop cells n = refl
-
-length-zeroed : (cells : List Cell) (holdings : List Holding) → length (zeroed cells holdings) ≡ length cells
-length-zeroed cells [] = refl
-length-zeroed cells (holding ∷ holdings) =
-    length-zeroed (zeroed_by holding.mode cells holding.number) holdings ∙ length-zeroed_by holding.mode cells holding.number
-
 -- ---- asks for what is held
-
-item-there : {A : Type 0} (xs : List A) (n : ℕ) → n < length xs → (x : A) × (slice_get xs n ≡ Some x)
-item-there [] n less = absurd (omega (arith, less))
-item-there (x ∷ xs) zero less = (x, refl)
-item-there (x ∷ xs) (suc n) less = item-there xs n (omega (arith, less))
 
 object-held : (P : Effect Standing → Type 0) (store : Store) (holdings : List Holding) (place : ℕ) (mode : Mode) (f : ℕ → Cell → Effect Standing) → is_queue_mode mode ≡ false → HeldAt holdings place mode → InStore (length store.cells) (length store.queues) holdings → ((n : ℕ) (cell : Cell) → P (f n cell)) → P (on_object store (number_at holdings place mode) f)
 object-held P store holdings place mode f sort h stored each =
     let n = h.holding.number in
-    let there = item-there store.cells n (subst (λ b. n < (if b then length store.queues else length store.cells)) sort (held-stored (length store.cells) (length store.queues) holdings place mode h stored)) in
+    let there = some_within store.cells n (subst (λ b. n < (if b then length store.queues else length store.cells)) sort (held-stored (length store.cells) (length store.queues) holdings place mode h stored)) in
     subst (λ at. P (on_object store at f)) (sym (number-held holdings place mode h))
     (subst (λ cell. P (on_cell cell (f n))) (sym there.1) (each n there.0))
 
 queue-held : (P : Effect Standing → Type 0) (store : Store) (holdings : List Holding) (place : ℕ) (mode : Mode) (f : ℕ → Queue → Effect Standing) → is_queue_mode mode ≡ true → HeldAt holdings place mode → InStore (length store.cells) (length store.queues) holdings → ((n : ℕ) (queue : Queue) → P (f n queue)) → P (on_queue store (number_at holdings place mode) f)
 queue-held P store holdings place mode f sort h stored each =
     let n = h.holding.number in
-    let there = item-there store.queues n (subst (λ b. n < (if b then length store.queues else length store.cells)) sort (held-stored (length store.cells) (length store.queues) holdings place mode h stored)) in
+    let there = some_within store.queues n (subst (λ b. n < (if b then length store.queues else length store.cells)) sort (held-stored (length store.cells) (length store.queues) holdings place mode h stored)) in
     subst (λ at. P (on_queue store at f)) (sym (number-held holdings place mode h))
     (subst (λ queue. P (on_list queue (f n))) (sym there.1) (each n there.0))
 

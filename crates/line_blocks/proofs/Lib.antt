@@ -1,4 +1,3 @@
 pub mod Counting
-pub mod FewLines
 pub mod Reading
 pub mod TextLines

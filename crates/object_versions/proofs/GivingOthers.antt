@@ -14,7 +14,8 @@ use Rattle.swan_model.proofs.Elements.{before_more}
 use Rattle.object_versions.proofs.Differ.{settled_not-owed}
 use Rattle.swan_model.proofs.MovedFrames.{gone_back}
 use Rattle.object_versions.proofs.GivingKept.{IsAboveKept, IsBelowKept, IsUngiven, begins_kept, giving_kept}
-use Rattle.object_versions.proofs.Lookups.{found_in, still_set, untied}
+use Rattle.object_versions.proofs.Lookups.{place_total, still_set, untied}
+use Rattle.swan_model.proofs.Lookups.{found_in}
 use Rattle.object_versions.proofs.Moves.{IsSameTask, Owes, same_task}
 use Rattle.object_versions.proofs.PlacesAfter.{after_placed, after_present}
 
@@ -29,7 +30,7 @@ unread_still r n number none = by (frame_of (gone_on r n) number) refl where
 
 placed_elsewhere : (state : VersionState) (frame place : ℕ) (object : Placed) (n p : ℕ) → frame ≢ n → placed_at (with_placed state frame place object) n p ≡ placed_at state n p
 placed_elsewhere state frame place object n p apart =
-    found_in (frame, place) object (n, p) state.places
+    found_in place_total (frame, place) object (n, p) state.places
     ∙ ap (λ b. cond b (Some object) (placed_at state n p)) (untied (n, p) (frame, place) (λ e. apart (ap (λ (k : ℕ × ℕ). k.0) e)))
 
 present_elsewhere : (state : VersionState) (frame place : ℕ) (object : Placed) (version : Version) (n p : ℕ) → placed_at state frame place ≡ Some object → frame ≢ n

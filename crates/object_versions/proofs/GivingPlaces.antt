@@ -5,7 +5,8 @@ use Rattle.std.specs.BTreeMap.{is_at}
 use Rattle.swan_model.specs.declared.rights.Mode.{Mode}
 use Rattle.swan_model.specs.declared.rights.Mode.TheVariants.{In, Out, InOut, Push, Pop, PushPop}
 use Rattle.swan_model.specs.Versions.{Version, settled, owed, Placed, VersionState, owing, place_cmp, placed_at, with_placed, with_present, after_access, given_from, got, left_with}
-use Rattle.object_versions.proofs.Lookups.{at_set, equal_by, found_in, found_set, untied}
+use Rattle.object_versions.proofs.Lookups.{at_set, equal_by, place_total, untied}
+use Rattle.swan_model.proofs.Lookups.{found_in, found_set}
 use Rattle.object_versions.proofs.PlacesAfter.{IsHere, IsThere, after_placed, after_present, at_placed, still_placed}
 
 -- ---- what is got
@@ -110,7 +111,7 @@ module _ (state : VersionState) (parent place child child_place : ℕ) (mode : M
   pub left : (f p : ℕ) (has : Placed) → placed_at state f p ≡ Some has → IsLeft given_now parent place f p has (λ was. left_with was child mode)
   left f p has is =
       by (is_at (place_cmp (parent, place)) (f, p)) refl
-      (found_set state.places (parent, place) object (record object { present = left_with object child mode }) (f, p) stands)
+      (found_set place_total state.places (parent, place) object (record object { present = left_with object child mode }) (f, p) stands)
     where
       by : (b : Bool) → is_at (place_cmp (parent, place)) (f, p) ≡ b
           → placed_at middle f p ≡ cond b (Some (record object { present = left_with object child mode })) (placed_at state f p)
@@ -145,9 +146,9 @@ access_others state parent place child child_place mode frame other not_parent n
       let new : Placed = record object { present = left_with object child mode } in
       let mid : VersionState = with_present state parent place object (left_with object child mode) in
       let gets : Placed = got object mode in
-      found_in (child, child_place) gets (frame, other) mid.places
+      found_in place_total (child, child_place) gets (frame, other) mid.places
       ∙ ap (λ b. cond b (Some gets) (placed_at mid frame other)) (untied (frame, other) (child, child_place) (λ e. not_child (ap (λ (k : ℕ × ℕ). k.0) (sym e))))
-      ∙ found_set state.places (parent, place) object new (frame, other) stands
+      ∙ found_set place_total state.places (parent, place) object new (frame, other) stands
       ∙ ap (λ b. cond b (Some new) (placed_at state frame other)) (untied (parent, place) (frame, other) (λ e. not_parent (ap (λ (k : ℕ × ℕ). k.0) e)))
 
 -- the same, in the shape of the call's clause

@@ -1,19 +1,15 @@
 -- What stands at a place after an entry came in, was changed, or went out.
-use Rattle.std.proofs.Common.{◌≡◌, ◌≢◌, ◌⊎◌, inl, inr, ℕ, Bool, true, false, cond, Option, None, Some, IsSome, List, [], ◌∷◌, refl, sym, ap, subst, ◌∙◌, arith}
+use Rattle.std.proofs.Common.{◌≡◌, ◌≢◌, ◌⊎◌, inl, inr, ℕ, Bool, true, false, cond, Option, None, Some, List, refl, sym, ap, ◌∙◌, arith}
 use Rattle.std.proofs.lemmas.Bool.{false≢true}
 use Rattle.std.proofs.lemmas.Bool.Decides.{nat_tests}
-use Rattle.std.proofs.lemmas.Map.{lookup-set_value, lookup-remove_entry}
-use Rattle.std.proofs.lemmas.Map.Keys.{IsDistinct-from_sorted}
-use Rattle.std.proofs.lemmas.Cmp.{eq_by_cmp_equiv, nat_cmp_total, on_total, then_total, tied_itself}
+use Rattle.std.proofs.lemmas.Cmp.{nat_cmp_total, on_total, then_total, tied_itself}
 use Rattle.std.specs.Cmp.{IsTotalOrder}
 use Rattle.std.specs.List.Sorted.{IsStrictlySortedBy}
 use Rattle.std.specs.Map.{lookup, set_value, remove_entry, keys_of}
 use Rattle.std.specs.BTreeMap.{is_at, insert_entry}
-use Rattle.std.specs.Ordering.{is_eq, match_ordering, eq_by_cmp}
-use Rattle.std.specs.declared.cmp.Ordering.{Ordering}
-use Rattle.std.specs.declared.cmp.Ordering.TheVariants.{Less, Equal, Greater}
+use Rattle.std.specs.Ordering.{is_eq}
 use Rattle.swan_model.specs.Versions.{place_cmp}
-use Rattle.swan_model.proofs.Lookups.{swapped, hidden}
+use Rattle.swan_model.proofs.Lookups.{found_in, found_set, found_without}
 
 pub place_total : IsTotalOrder place_cmp
 place_total = then_total (on_total (λ (k : ℕ × ℕ). k.0) nat_cmp_total) (on_total (λ (k : ℕ × ℕ). k.1) nat_cmp_total)
@@ -26,9 +22,6 @@ equal_by a b c d h = (grind (arith, nat_tests), grind (arith, nat_tests))
 
 pub equal_at : (k n : ℕ × ℕ) → is_at (place_cmp k) n ≡ true → k ≡ n
 equal_at k n h = let both = equal_by k.0 k.1 n.0 n.1 h in λ i. (both.0 i, both.1 i)
-
-pub one_key : (k x y : ℕ × ℕ) → is_at (place_cmp k) x ≡ true → is_at (place_cmp k) y ≡ eq_by_cmp place_cmp x y
-one_key k x y h = ap (λ z. is_at (place_cmp z) y) (equal_at k x h)
 
 pub untied : (k n : ℕ × ℕ) → n ≢ k → is_at (place_cmp k) n ≡ false
 untied k n apart = by (is_at (place_cmp k) n) refl where
@@ -47,34 +40,6 @@ module _ {X : Type 0} where
   -- what stands at a place
   abbrev pub here : List ((ℕ × ℕ) × X) → ℕ × ℕ → Option X
   here es n = lookup (is_at (place_cmp n)) es
-
-  pub found_in : (k : ℕ × ℕ) (v : X) (n : ℕ × ℕ) (es : List ((ℕ × ℕ) × X))
-      → here (insert_entry place_cmp es k v) n ≡ cond (is_at (place_cmp n) k) (Some v) (here es n)
-  found_in k v n [] = refl
-  found_in k v n (e ∷ es) = by (place_cmp k e.0) refl (found_in k v n es) where
-    by : (o : Ordering) → place_cmp k e.0 ≡ o
-        → here (insert_entry place_cmp es k v) n ≡ cond (is_at (place_cmp n) k) (Some v) (here es n)
-        → here (match_ordering o ((k, v) ∷ e ∷ es) ((e.0, v) ∷ es) (e ∷ insert_entry place_cmp es k v)) n
-        ≡ cond (is_at (place_cmp n) k) (Some v) (here (e ∷ es) n)
-    by Less is rest = refl
-    by Equal is rest = hidden (is_at (place_cmp n) e.0) (is_at (place_cmp n) k) (Some v) (Some e.1) (here es n)
-        (ap (λ z. is_at (place_cmp n) z) (sym (equal_at k e.0 (ap is_eq is))))
-    by Greater is rest = ap (cond (is_at (place_cmp n) e.0) (Some e.1)) rest
-        ∙ swapped (is_at (place_cmp n) e.0) (is_at (place_cmp n) k) (Some e.1) (Some v) (here es n)
-        (λ a b. false≢true (sym (ap is_eq is) ∙ ap (λ z. is_at (place_cmp z) e.0) (sym (equal_at n k b)) ∙ a))
-
-  some_is : (o : Option X) (f : X) → o ≡ Some f → IsSome o
-  some_is o f e = let P : Option X → Type 0 = λ x. IsSome x in subst P (sym e) refl
-
-  pub found_set : (es : List ((ℕ × ℕ) × X)) (k : ℕ × ℕ) (was v : X) (n : ℕ × ℕ) → here es k ≡ Some was
-      → here (set_value (is_at (place_cmp k)) es v) n ≡ cond (is_at (place_cmp k) n) (Some v) (here es n)
-  found_set es k was v n e =
-      lookup-set_value (eq_by_cmp_equiv place_total) (is_at (place_cmp k)) (one_key k) n v es (some_is (here es k) was e)
-
-  pub found_without : (es : List ((ℕ × ℕ) × X)) (k n : ℕ × ℕ) → IsStrictlySortedBy place_cmp (keys_of es)
-      → here (remove_entry (is_at (place_cmp k)) es) n ≡ cond (is_at (place_cmp k) n) None (here es n)
-  found_without es k n sorted =
-      lookup-remove_entry (eq_by_cmp_equiv place_total) (is_at (place_cmp k)) (one_key k) n es (IsDistinct-from_sorted place_cmp (keys_of es) sorted)
 
   -- what stands at a place is this entry
   pub record IsHere (k n : ℕ × ℕ) (value has : X) : Type 0 where
@@ -95,13 +60,13 @@ module _ {X : Type 0} where
       → here (insert_entry place_cmp es k value) n ≡ Some has → IsHere k n value has ⊎ IsThere es k n has
   after_insert es k value n has is =
       here_or_there (is_at (place_cmp n) k) es k n value has (λ e. ap (λ z. is_at (place_cmp z) k) e ∙ tied k) (equal_at n k)
-      (sym (found_in k value n es) ∙ is)
+      (sym (found_in place_total k value n es) ∙ is)
 
   pub after_set : (es : List ((ℕ × ℕ) × X)) (k : ℕ × ℕ) (was value : X) (n : ℕ × ℕ) (has : X) → here es k ≡ Some was
       → here (set_value (is_at (place_cmp k)) es value) n ≡ Some has → IsHere k n value has ⊎ IsThere es k n has
   after_set es k was value n has stands is =
       here_or_there (is_at (place_cmp k) n) es k n value has (λ e. ap (is_at (place_cmp k)) e ∙ tied k) (λ t. sym (equal_at k n t))
-      (sym (found_set es k was value n stands) ∙ is)
+      (sym (found_set place_total es k was value n stands) ∙ is)
 
   none_is : (has : X) → None ≡ Some has → ⊥
   none_is has e = cc
@@ -114,26 +79,26 @@ module _ {X : Type 0} where
   pub after_removal : (es : List ((ℕ × ℕ) × X)) (k n : ℕ × ℕ) (has : X) → IsStrictlySortedBy place_cmp (keys_of es)
       → here (remove_entry (is_at (place_cmp k)) es) n ≡ Some has → IsThere es k n has
   after_removal es k n has sorted is =
-      there_only (is_at (place_cmp k) n) es k n has (λ e. ap (is_at (place_cmp k)) e ∙ tied k) (sym (found_without es k n sorted) ∙ is)
+      there_only (is_at (place_cmp k) n) es k n has (λ e. ap (is_at (place_cmp k)) e ∙ tied k) (sym (found_without place_total es k n sorted) ∙ is)
 
   -- ---- what is there still
 
   pub at_inserted : (es : List ((ℕ × ℕ) × X)) (k : ℕ × ℕ) (value : X) → here (insert_entry place_cmp es k value) k ≡ Some value
-  at_inserted es k value = found_in k value k es ∙ ap (λ b. cond b (Some value) (here es k)) (tied k)
+  at_inserted es k value = found_in place_total k value k es ∙ ap (λ b. cond b (Some value) (here es k)) (tied k)
 
   pub at_set : (es : List ((ℕ × ℕ) × X)) (k : ℕ × ℕ) (was value : X) → here es k ≡ Some was → here (set_value (is_at (place_cmp k)) es value) k ≡ Some value
-  at_set es k was value stands = found_set es k was value k stands ∙ ap (λ b. cond b (Some value) (here es k)) (tied k)
+  at_set es k was value stands = found_set place_total es k was value k stands ∙ ap (λ b. cond b (Some value) (here es k)) (tied k)
 
   pub still_inserted : (es : List ((ℕ × ℕ) × X)) (k : ℕ × ℕ) (value : X) (n : ℕ × ℕ) (has : X) → here es k ≡ None
       → here es n ≡ Some has → here (insert_entry place_cmp es k value) n ≡ Some has
   still_inserted es k value n has free is =
       let apart : is_at (place_cmp n) k ≡ false = untied n k (λ e. none_is has (sym free ∙ ap (here es) e ∙ is)) in
-      found_in k value n es ∙ ap (λ b. cond b (Some value) (here es n)) apart ∙ is
+      found_in place_total k value n es ∙ ap (λ b. cond b (Some value) (here es n)) apart ∙ is
 
   pub still_set : (es : List ((ℕ × ℕ) × X)) (k : ℕ × ℕ) (was value : X) (n : ℕ × ℕ) → here es k ≡ Some was → n ≢ k
       → here (set_value (is_at (place_cmp k)) es value) n ≡ here es n
-  still_set es k was value n stands apart = found_set es k was value n stands ∙ ap (λ b. cond b (Some value) (here es n)) (untied k n apart)
+  still_set es k was value n stands apart = found_set place_total es k was value n stands ∙ ap (λ b. cond b (Some value) (here es n)) (untied k n apart)
 
   pub still_without : (es : List ((ℕ × ℕ) × X)) (k n : ℕ × ℕ) → IsStrictlySortedBy place_cmp (keys_of es) → n ≢ k
       → here (remove_entry (is_at (place_cmp k)) es) n ≡ here es n
-  still_without es k n sorted apart = found_without es k n sorted ∙ ap (λ b. cond b None (here es n)) (untied k n apart)
+  still_without es k n sorted apart = found_without place_total es k n sorted ∙ ap (λ b. cond b None (here es n)) (untied k n apart)

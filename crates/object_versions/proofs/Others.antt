@@ -2,7 +2,8 @@
 use Rattle.std.proofs.Common.{◌≡◌, ◌≢◌, ◌⊎◌, inl, inr, ℕ, Option, None, Some, cond, refl, sym, ap, ◌∙◌}
 use Rattle.swan_model.specs.declared.rights.Mode.{Mode}
 use Rattle.swan_model.specs.Versions.{Placed, VersionState, placed_at, with_present, after_access, given_from, got, left_with}
-use Rattle.object_versions.proofs.Lookups.{found_in, still_set, untied}
+use Rattle.object_versions.proofs.Lookups.{place_total, still_set, untied}
+use Rattle.swan_model.proofs.Lookups.{found_in}
 
 pub other_key : (k n : ℕ × ℕ) → (n.0 ≢ k.0) ⊎ (n.1 ≢ k.1) → k ≢ n
 other_key k n (inl differ) same = differ (sym (ap (λ (n : ℕ × ℕ). n.0) same))
@@ -16,6 +17,6 @@ others_keep state parent pp child cp mode frame place from to = by (placed_at st
   by (Some object) is =
       let left = left_with object child mode in
       let middle = with_present state parent pp object left in
-      found_in (child, cp) (got object mode) (frame, place) middle.places
+      found_in place_total (child, cp) (got object mode) (frame, place) middle.places
       ∙ ap (λ b. cond b (Some (got object mode)) (placed_at middle frame place)) (untied (frame, place) (child, cp) (other_key (child, cp) (frame, place) to))
       ∙ still_set state.places (parent, pp) object (record object { present = left }) (frame, place) is (λ e. from (ap (λ (n : ℕ × ℕ). n.0) e))

@@ -9,7 +9,8 @@ use Rattle.std.specs.BTreeMap.{is_at, insert_entry}
 use Rattle.std.specs.Ordering.{match_ordering, ordering_reverse}
 use Rattle.std.specs.declared.cmp.Ordering.{Ordering}
 use Rattle.std.specs.declared.cmp.Ordering.TheVariants.{Less, Equal, Greater}
-use Rattle.object_versions.proofs.Lookups.{equal_by, found_in, found_set, place_total, tied, untied}
+use Rattle.object_versions.proofs.Lookups.{equal_by, place_total, tied, untied}
+use Rattle.swan_model.proofs.Lookups.{found_in, found_set}
 use Rattle.swan_model.specs.Versions.{Version, Placed, Places, VersionState, place_cmp, placed_at, with_placed, with_present}
 
 -- the keys stay in order
@@ -77,7 +78,7 @@ pub after_placed : (state : VersionState) (frame place : ℕ) (object : Placed) 
 after_placed state frame place object f p has is =
     here_or_there (is_at (place_cmp (f, p)) (frame, place)) state frame place f p object has
     (λ a b. tied_by f p frame place (sym a) (sym b)) (λ t. equal_by f p frame place t)
-    (sym (found_in (frame, place) object (f, p) state.places) ∙ is)
+    (sym (found_in place_total (frame, place) object (f, p) state.places) ∙ is)
 
 pub after_present : (state : VersionState) (frame place : ℕ) (object : Placed) (version : Version) (f p : ℕ) (has : Placed) → placed_at state frame place ≡ Some object
     → placed_at (with_present state frame place object version) f p ≡ Some has
@@ -85,11 +86,11 @@ pub after_present : (state : VersionState) (frame place : ℕ) (object : Placed)
 after_present state frame place object version f p has stands is =
     here_or_there (is_at (place_cmp (frame, place)) (f, p)) state frame place f p (record object { present = version }) has
     (λ a b. tied_by frame place f p a b) (λ t. let both = equal_by frame place f p t in (sym both.0, sym both.1))
-    (sym (found_set state.places (frame, place) object (record object { present = version }) (f, p) stands) ∙ is)
+    (sym (found_set place_total state.places (frame, place) object (record object { present = version }) (f, p) stands) ∙ is)
 
 pub at_placed : (state : VersionState) (frame place : ℕ) (object : Placed) → placed_at (with_placed state frame place object) frame place ≡ Some object
 at_placed state frame place object =
-    found_in (frame, place) object (frame, place) state.places
+    found_in place_total (frame, place) object (frame, place) state.places
     ∙ ap (λ b. cond b (Some object) (placed_at state frame place)) (tied (frame, place))
 
 pub still_placed : (state : VersionState) (frame place : ℕ) (object : Placed) (f p : ℕ) (has : Placed) → placed_at state frame place ≡ None
@@ -97,7 +98,7 @@ pub still_placed : (state : VersionState) (frame place : ℕ) (object : Placed) 
 still_placed state frame place object f p has free is =
     let apart : is_at (place_cmp (f, p)) (frame, place) ≡ false = untied (f, p) (frame, place)
     (λ e. none_is has (sym free ∙ ap (λ (k : ℕ × ℕ). placed_at state k.0 k.1) e ∙ is)) in
-    found_in (frame, place) object (f, p) state.places ∙ ap (λ b. cond b (Some object) (placed_at state f p)) apart ∙ is
+    found_in place_total (frame, place) object (f, p) state.places ∙ ap (λ b. cond b (Some object) (placed_at state f p)) apart ∙ is
 
 -- a place is still there, with the same object and mode
 pub record IsStill (state : VersionState) (f p : ℕ) (has : Placed) : Type 0 where
@@ -110,7 +111,7 @@ pub still_present : (state : VersionState) (frame place : ℕ) (object : Placed)
     → placed_at state f p ≡ Some has → IsStill (with_present state frame place object version) f p has
 still_present state frame place object version f p has stands is =
     by (is_at (place_cmp (frame, place)) (f, p)) refl
-    (found_set state.places (frame, place) object (record object { present = version }) (f, p) stands)
+    (found_set place_total state.places (frame, place) object (record object { present = version }) (f, p) stands)
   where
     by : (b : Bool) → is_at (place_cmp (frame, place)) (f, p) ≡ b
         → placed_at (with_present state frame place object version) f p ≡ cond b (Some (record object { present = version })) (placed_at state f p)

@@ -8,7 +8,8 @@ use Rattle.swan_model.specs.declared.value.Value.{Value}
 use Rattle.swan_model.specs.Versions.{Placed, VersionState, settled, placed_at, with_placed, with_present, after_access, after_create, after_finish, after_write, given_from, got, left_with, settle_placed, written_at}
 use Rattle.swan_model.specs.Values.{kind_of}
 use Rattle.object_versions.proofs.FinishPlaces.{found_kept}
-use Rattle.object_versions.proofs.Lookups.{at_inserted, at_set, found_in, still_set, untied}
+use Rattle.object_versions.proofs.Lookups.{at_inserted, at_set, place_total, still_set, untied}
+use Rattle.swan_model.proofs.Lookups.{found_in}
 use Rattle.object_versions.proofs.Others.{other_key}
 
 apart : (frame place f p : ℕ) → (f ≢ frame) ⊎ (p ≢ place) → ◌≢◌ {A = ℕ × ℕ} (f, p) (frame, place)
@@ -17,7 +18,7 @@ apart frame place f p differ same = other_key (frame, place) (f, p) differ (sym 
 -- another place than that of an object which was put in
 placed_keeps : (state : VersionState) (frame place : ℕ) (object : Placed) (f p : ℕ) → (f ≢ frame) ⊎ (p ≢ place) → placed_at (with_placed state frame place object) f p ≡ placed_at state f p
 placed_keeps state frame place object f p differ =
-    found_in (frame, place) object (f, p) state.places
+    found_in place_total (frame, place) object (f, p) state.places
     ∙ ap (λ b. cond b (Some object) (placed_at state f p)) (untied (f, p) (frame, place) (other_key (frame, place) (f, p) differ))
 
 pub create_keeps : (state : VersionState) (frame place : ℕ) (value : Value) (f p : ℕ) → (f ≢ frame) ⊎ (p ≢ place) → placed_at (after_create state frame place value) f p ≡ placed_at state f p

@@ -18,7 +18,8 @@ use Rattle.pop_order.specs.Kept.{AreBelowParents, HasHolders, IsKeptFor, IsKept}
 use Rattle.pop_order.specs.Makers.{Maker}
 use Rattle.pop_order.specs.Steps.{IsGrown, IsShrunk}
 use Rattle.pop_order.proofs.Blocking.{same_frame}
-use Rattle.pop_order.proofs.Lookups.{at_inserted, by_inserted, at_set, by_set, at_removed, by_removed, found_passes}
+use Rattle.swan_model.proofs.Lookups.{at_inserted, by_inserted, at_set, by_set, at_removed, by_removed}
+use Rattle.pop_order.proofs.Lookups.{found_passes}
 use Rattle.pop_order.proofs.Meeting.{none_or_some}
 use Rattle.pop_order.proofs.Flags.{eq_of, eq_same, le_of, or_cases, or_left, or_right, and_parts, and_both, not_true}
 

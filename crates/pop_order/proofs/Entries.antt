@@ -9,11 +9,13 @@ use Rattle.pop_order.specs.Makers.{Maker, maker_cmp, IsNotAfter, is_maker}
 pub is_eq-entry_cmp : (parent queue child p q c : ℕ) → is_eq (entry_cmp (parent, queue, child) (p, q, c)) ≡ is_entry parent queue child p q c
 is_eq-entry_cmp parent queue child p q c = grind (arith, nat_tests)
 
-with_one : (b same was now : Bool) → b ≡ same → now ≡ cond b true was → now ≡ (same || was)
+-- whether one is in after it, or another, came in
+pub with_one : (b same was now : Bool) → b ≡ same → now ≡ cond b true was → now ≡ (same || was)
 with_one true same was now e h = cc (ap (λ x. x || was) e)
 with_one false same was now e h = cc (ap (λ x. x || was) e)
 
-without_one : (b same was now : Bool) → b ≡ same → now ≡ cond b false was → now ≡ (not same && was)
+-- whether one is in after it, or another, went out
+pub without_one : (b same was now : Bool) → b ≡ same → now ≡ cond b false was → now ≡ (not same && was)
 without_one true same was now e h = cc (ap (λ x. not x && was) e)
 without_one false same was now e h = cc (ap (λ x. not x && was) e)
 

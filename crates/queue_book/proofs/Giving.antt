@@ -25,7 +25,7 @@ use Rattle.queue_book.proofs.ChainLoops.{line_is}
 use Rattle.queue_book.proofs.GivenPushes.{push_now, push_other}
 use Rattle.queue_book.proofs.LiveKept.{kept_changed, key_of}
 use Rattle.queue_book.proofs.LivePut.{keys_put, place_elsewhere, place_here}
-use Rattle.queue_book.proofs.Lookups.{at_inserted, by_inserted}
+use Rattle.swan_model.proofs.Lookups.{at_inserted, by_inserted}
 
 pub given_now : (gives : List QueueRight) (give : QueueRight) → gives_queue (gives ++ give ∷ []) give.queue ≡ true
 given_now gives give = list_any-append (λ (r : QueueRight). r.queue == give.queue) gives (give ∷ []) ∙ or_right _ _ (or_left _ false (eq_same give.queue))

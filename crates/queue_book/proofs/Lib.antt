@@ -1,7 +1,6 @@
 -- Lemmas on hyperqueues in the plainest form. Each group stands on those before it; what a file is for stands at its head.
 
 -- entries by numbers
-pub mod Lookups
 -- chunks in chains of nodes
 pub mod ChainKept
 pub mod ChainChanges

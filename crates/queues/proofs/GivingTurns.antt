@@ -6,7 +6,7 @@ use Rattle.std.proofs.Common.{Option, ◌≡◌, ◌≢◌, ℕ, true, false, �
 use Rattle.std.specs.List.{list_any}
 use Rattle.std.specs.Prelude.{◌&&◌, slice_get}
 use Rattle.pop_order.proofs.Flags.{and_both, eq_same, or_left, or_right}
-use Rattle.pop_order.proofs.Lookups.{at_inserted, at_set, by_inserted, by_set}
+use Rattle.swan_model.proofs.Lookups.{at_inserted, at_set, by_inserted, by_set}
 use Rattle.pop_order.specs.Frames.{Frame, Frames, enlisted, enlisted_at, frame_at, may_get, AreUpTo, MayGet}
 use Rattle.swan_model.specs.QueueState.{QueueRight, ActiveFrame, MayGive}
 use Rattle.queues.specs.Turned.{holding_of, gives_queue, turn_of, AreApart, AreGivenTurns}

@@ -2,7 +2,7 @@
 use Rattle.std.proofs.Common.{◌≡◌, ℕ, true, Option, None, Some, List, refl, sym, ap, ◌∙◌, inl, inr}
 use Rattle.std.proofs.lemmas.Bool.{cases_eq}
 use Rattle.std.proofs.lemmas.Option.{same_Some}
-use Rattle.pop_order.proofs.Lookups.{at_set, by_set}
+use Rattle.swan_model.proofs.Lookups.{at_set, by_set}
 use Rattle.pop_order.specs.Frames.{Frame, Frames, frame_at, holds, lent_at, lent_to, without}
 use Rattle.swan_model.specs.QueueState.{ActiveFrame, LentEnd, QueueState, active, after_back, after_deed, after_finish, after_lend, after_take_rest}
 use Rattle.queues.specs.Asks.{MayDo}

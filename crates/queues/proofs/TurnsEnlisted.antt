@@ -10,11 +10,10 @@ use Rattle.std.specs.declared.cmp.Ordering.{Ordering}
 use Rattle.std.specs.declared.cmp.Ordering.TheVariants.{Less, Equal, Greater}
 use Rattle.std.specs.Prelude.{nat_le}
 use Rattle.pop_order.proofs.Flags.{and_both}
-use Rattle.pop_order.proofs.Lookups.{by_inserted}
 use Rattle.pop_order.specs.Frames.{Frame, Frames, enlisted, enlisted_at, frame_at, AreUpTo}
 use Rattle.swan_model.specs.SerialState.{Holding}
 use Rattle.queues.specs.Turned.{AreApart}
-use Rattle.swan_model.proofs.Lookups.{tied, untied}
+use Rattle.swan_model.proofs.Lookups.{by_inserted, tied, untied}
 
 apart_inserted : (es : Frames) (k : ℕ) (v : Frame) → frame_at es k ≡ None → AreApart es → AreApart (insert_entry nat_cmp es k v)
 apart_inserted [] k v fresh apart = (refl, tt)

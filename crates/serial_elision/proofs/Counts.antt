@@ -15,6 +15,7 @@ use Rattle.swan_model.specs.Elision.{serial, final, outcome, most_steps}
 use Rattle.swan_model.specs.Rights.{is_aliased}
 use Rattle.swan_model.specs.SerialState.{Activation, Cell, Holding, Queue, Store, State}
 use Rattle.swan_model.specs.SerialStep.{Effect, goes_on, spawns, ends, faults, after, effect, effect_of, step_on, moved, number_at, on_object, on_cell, on_queue, on_list, popped, spawned, given, zeroed, zeroed_by, zero_cell}
+use Rattle.swan_model.proofs.ZeroedCells.{length-zeroed}
 use Rattle.serial_elision.proofs.RootLists.{length-first_queues, length-first_cells}
 
 -- a store has all objects and queues of an earlier one
@@ -59,23 +60,6 @@ with_queue-keeps store n queue =
 popped-keeps : {L : Type 0} (store : Store) (a : Activation L) (n : ℕ) (queue : Queue) (items : List Value) → Keeps store (popped store a n queue items)
 popped-keeps store a n queue [] = tt
 popped-keeps store a n queue (item ∷ items) = with_queue-keeps store n (record queue { items = items })
-
-length-zero_cell : (cells : List Cell) (n : ℕ) (cell : Option Cell) → length (zero_cell cells n cell) ≡ length cells
-length-zero_cell cells n None = refl
-length-zero_cell cells n (Some cell) = length-set cells n _
-
-length-zeroed_by : (mode : Mode) (cells : List Cell) (n : ℕ) → length (zeroed_by mode cells n) ≡ length cells
-length-zeroed_by Out cells n = length-zero_cell cells n (slice_get cells n)
-length-zeroed_by In cells n = refl
-length-zeroed_by InOut cells n = refl
-length-zeroed_by Push cells n = refl
-length-zeroed_by Pop cells n = refl
-length-zeroed_by PushPop cells n = refl
-
-length-zeroed : (cells : List Cell) (holdings : List Holding) → length (zeroed cells holdings) ≡ length cells
-length-zeroed cells [] = refl
-length-zeroed cells (holding ∷ holdings) =
-    omega (arith, length-zeroed (zeroed_by holding.mode cells holding.number) holdings, length-zeroed_by holding.mode cells holding.number)
 
 if-keeps : {L : Type 0} (store : Store) (b : Bool) (x y : Effect L) → Keeps store x → Keeps store y → Keeps store (cond b x y)
 if-keeps store true x y then_kept else_kept = then_kept

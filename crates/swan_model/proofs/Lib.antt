@@ -1,4 +1,5 @@
 pub mod Elements
+pub mod FewLines
 pub mod FirstLine
 pub mod ScriptLength
 pub mod Lists
@@ -18,3 +19,4 @@ pub mod TaskEntries
 pub mod Times
 pub mod Uses
 pub mod Working
+pub mod ZeroedCells

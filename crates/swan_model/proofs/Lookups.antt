@@ -1,9 +1,19 @@
--- Tests of numbers as keys, and choices one after the other: what look-ups in lists of entries by numbers are proved from.
-use Rattle.std.proofs.Common.{◌≡◌, ◌≢◌, ℕ, Bool, true, false, cond, refl, sym, arith}
+-- What is found in a list of entries after one came in, was changed, or went out: for any order of keys, and for keys that are numbers.
+use Rattle.std.proofs.Common.{◌≡◌, ◌≢◌, ℕ, Bool, true, false, cond, Option, None, Some, IsSome, List, [], ◌∷◌, refl, sym, ap, subst, ◌∙◌, arith}
 use Rattle.std.proofs.lemmas.Bool.{false≢true}
 use Rattle.std.proofs.lemmas.Bool.Decides.{nat_tests}
-use Rattle.std.specs.BTreeMap.{is_at}
-use Rattle.std.specs.Ordering.{nat_cmp}
+use Rattle.std.proofs.lemmas.Cmp.{alike_right, eq_by_cmp_equiv, nat_cmp_total, tied_itself}
+use Rattle.std.proofs.lemmas.Map.{lookup-set_value, lookup-remove_entry}
+use Rattle.std.proofs.lemmas.Map.Keys.{IsDistinct-from_sorted}
+use Rattle.std.specs.BTreeMap.{is_at, insert_entry}
+use Rattle.std.specs.Cmp.{IsTotalOrder}
+use Rattle.std.specs.List.Sorted.{IsStrictlySortedBy}
+use Rattle.std.specs.Map.{lookup, set_value, remove_entry, keys_of}
+use Rattle.std.specs.Ordering.{nat_cmp, is_eq, match_ordering, eq_by_cmp}
+use Rattle.std.specs.declared.cmp.Ordering.{Ordering}
+use Rattle.std.specs.declared.cmp.Ordering.TheVariants.{Less, Equal, Greater}
+
+-- ---- numbers as keys
 
 pub tied : (k n : ℕ) → k ≡ n → is_at (nat_cmp k) n ≡ true
 tied k n e = grind (arith, nat_tests)
@@ -14,15 +24,88 @@ untied k n apart = grind (arith, nat_tests)
 pub equal_at : (k n : ℕ) → is_at (nat_cmp k) n ≡ true → k ≡ n
 equal_at k n h = grind (arith, nat_tests)
 
+-- ---- choices one after the other
+
 -- two choices in the other order, where both never hold
-pub swapped : {A : Type 0} (a b : Bool) (x y z : A) → (a ≡ true → b ≡ true → ⊥) → cond a x (cond b y z) ≡ cond b y (cond a x z)
+swapped : {A : Type 0} (a b : Bool) (x y z : A) → (a ≡ true → b ≡ true → ⊥) → cond a x (cond b y z) ≡ cond b y (cond a x z)
 swapped true true x y z never = absurd (never refl refl)
 swapped true false x y z never = refl
 swapped false b x y z never = refl
 
 -- a choice that hides the one below it
-pub hidden : {A : Type 0} (a b : Bool) (x y z : A) → a ≡ b → cond a x z ≡ cond b x (cond a y z)
+hidden : {A : Type 0} (a b : Bool) (x y z : A) → a ≡ b → cond a x z ≡ cond b x (cond a y z)
 hidden true true x y z e = refl
 hidden true false x y z e = absurd (false≢true (sym e))
 hidden false true x y z e = absurd (false≢true e)
 hidden false false x y z e = refl
+
+-- ---- any order of keys
+
+is_tie : (o : Ordering) → is_eq o ≡ true → o ≡ Equal
+is_tie Less h = absurd (false≢true h)
+is_tie Equal h = refl
+is_tie Greater h = absurd (false≢true h)
+
+module _ {K : Type 0} {cmp : K → K → Ordering} (total : IsTotalOrder cmp) where
+  -- keys that tie with one key are found alike
+  pub one_key : (k x y : K) → is_at (cmp k) x ≡ true → is_at (cmp k) y ≡ eq_by_cmp cmp x y
+  one_key k x y h = ap is_eq (total.congr k x y (is_tie (cmp k x) h))
+
+  module _ {X : Type 0} where
+    -- an entry that comes in is found at its key, and all others as before
+    pub found_in : (k : K) (v : X) (n : K) (es : List (K × X))
+        → lookup (is_at (cmp n)) (insert_entry cmp es k v) ≡ cond (is_at (cmp n) k) (Some v) (lookup (is_at (cmp n)) es)
+    found_in k v n [] = refl
+    found_in k v n (e ∷ es) = by (cmp k e.0) refl (found_in k v n es) where
+      by : (o : Ordering) → cmp k e.0 ≡ o
+          → lookup (is_at (cmp n)) (insert_entry cmp es k v) ≡ cond (is_at (cmp n) k) (Some v) (lookup (is_at (cmp n)) es)
+          → lookup (is_at (cmp n)) (match_ordering o ((k, v) ∷ e ∷ es) ((e.0, v) ∷ es) (e ∷ insert_entry cmp es k v))
+          ≡ cond (is_at (cmp n) k) (Some v) (lookup (is_at (cmp n)) (e ∷ es))
+      by Less is rest = refl
+      by Equal is rest = hidden (is_at (cmp n) e.0) (is_at (cmp n) k) (Some v) (Some e.1) (lookup (is_at (cmp n)) es)
+          (ap is_eq (sym (alike_right total k e.0 n is)))
+      by Greater is rest = ap (cond (is_at (cmp n) e.0) (Some e.1)) rest
+          ∙ swapped (is_at (cmp n) e.0) (is_at (cmp n) k) (Some e.1) (Some v) (lookup (is_at (cmp n)) es)
+          (λ a b. false≢true (sym (ap is_eq is) ∙ sym (one_key n k e.0 b) ∙ a))
+
+    some_is : (o : Option X) (v : X) → o ≡ Some v → IsSome o
+    some_is o v e = let P : Option X → Type 0 = λ x. IsSome x in subst P (sym e) refl
+
+    -- an entry that is changed is found as it is now, and all others as before
+    pub found_set : (es : List (K × X)) (k : K) (was v : X) (n : K) → lookup (is_at (cmp k)) es ≡ Some was
+        → lookup (is_at (cmp n)) (set_value (is_at (cmp k)) es v) ≡ cond (is_at (cmp k) n) (Some v) (lookup (is_at (cmp n)) es)
+    found_set es k was v n e =
+        lookup-set_value (eq_by_cmp_equiv total) (is_at (cmp k)) (one_key k) n v es (some_is (lookup (is_at (cmp k)) es) was e)
+
+    -- an entry that goes out isn't found, and all others as before
+    pub found_without : (es : List (K × X)) (k n : K) → IsStrictlySortedBy cmp (keys_of es)
+        → lookup (is_at (cmp n)) (remove_entry (is_at (cmp k)) es) ≡ cond (is_at (cmp k) n) None (lookup (is_at (cmp n)) es)
+    found_without es k n sorted =
+        lookup-remove_entry (eq_by_cmp_equiv total) (is_at (cmp k)) (one_key k) n es (IsDistinct-from_sorted cmp (keys_of es) sorted)
+
+-- ---- entries by numbers
+
+module _ {X : Type 0} where
+  -- what is found at a number
+  abbrev pub at_number : List (ℕ × X) → ℕ → Option X
+  at_number es n = lookup (is_at (nat_cmp n)) es
+
+  pub at_inserted : (es : List (ℕ × X)) (k : ℕ) (v : X) → at_number (insert_entry nat_cmp es k v) k ≡ Some v
+  at_inserted es k v = found_in nat_cmp_total k v k es ∙ ap (λ b. cond b (Some v) (at_number es k)) (tied k k refl)
+
+  pub by_inserted : (es : List (ℕ × X)) (k : ℕ) (v : X) (n : ℕ) → n ≢ k → at_number (insert_entry nat_cmp es k v) n ≡ at_number es n
+  by_inserted es k v n apart = found_in nat_cmp_total k v n es ∙ ap (λ b. cond b (Some v) (at_number es n)) (untied n k (λ e. apart (sym e)))
+
+  pub at_set : (es : List (ℕ × X)) (k : ℕ) (was v : X) → at_number es k ≡ Some was → at_number (set_value (is_at (nat_cmp k)) es v) k ≡ Some v
+  at_set es k was v e = found_set nat_cmp_total es k was v k e ∙ ap (λ b. cond b (Some v) (at_number es k)) (tied k k refl)
+
+  pub by_set : (es : List (ℕ × X)) (k : ℕ) (was v : X) (n : ℕ) → at_number es k ≡ Some was → n ≢ k
+      → at_number (set_value (is_at (nat_cmp k)) es v) n ≡ at_number es n
+  by_set es k was v n e apart = found_set nat_cmp_total es k was v n e ∙ ap (λ b. cond b (Some v) (at_number es n)) (untied k n apart)
+
+  pub at_removed : (es : List (ℕ × X)) (k : ℕ) → IsStrictlySortedBy nat_cmp (keys_of es) → at_number (remove_entry (is_at (nat_cmp k)) es) k ≡ None
+  at_removed es k sorted = found_without nat_cmp_total es k k sorted ∙ ap (λ b. cond b None (at_number es k)) (tied k k refl)
+
+  pub by_removed : (es : List (ℕ × X)) (k n : ℕ) → IsStrictlySortedBy nat_cmp (keys_of es) → n ≢ k
+      → at_number (remove_entry (is_at (nat_cmp k)) es) n ≡ at_number es n
+  by_removed es k n sorted apart = found_without nat_cmp_total es k n sorted ∙ ap (λ b. cond b None (at_number es n)) (untied k n apart)

@@ -10,29 +10,17 @@ use Rattle.std.specs.BTreeMap.{is_at}
 use Rattle.std.specs.Map.{set_value}
 use Rattle.std.specs.Option.{option_map}
 use Rattle.std.specs.Ordering.{nat_cmp, eq_by_cmp}
-use Rattle.swan_model.proofs.Lookups.{tied, untied, equal_at}
+use Rattle.swan_model.proofs.Lookups.{at_set, by_set}
 use Rattle.swan_model.specs.SerialState.{Holding}
 use Rattle.task_frames.specs.Records.{HasChildren, IsLiveChild, IsOldest, IsOldestChild, IsOnlyLive, IsWith, IsWithout, LiveFrame, LiveFrames, Pair, come_at, come_to, has, holding_too, live_at}
 
 -- ---- entries
 
-one_key : (k x y : ℕ) → is_at (nat_cmp k) x ≡ true → is_at (nat_cmp k) y ≡ eq_by_cmp nat_cmp x y
-one_key k x y h = ap (λ z. is_at (nat_cmp z) y) (equal_at k x h)
-
-some_is : (o : Option LiveFrame) (f : LiveFrame) → o ≡ Some f → IsSome o
-some_is o f e = let P : Option LiveFrame → Type 0 = λ x. IsSome x in subst P (sym e) refl
-
-set_found : (es : LiveFrames) (k : ℕ) (was v : LiveFrame) (n : ℕ) → live_at es k ≡ Some was
-    → live_at (set_value (is_at (nat_cmp k)) es v) n ≡ cond (is_at (nat_cmp k) n) (Some v) (live_at es n)
-set_found es k was v n e =
-    lookup-set_value (eq_by_cmp_equiv nat_cmp_total) (is_at (nat_cmp k)) (one_key k) n v es (some_is (live_at es k) was e)
-
 pub changed : (before after : LiveFrames) (number : ℕ) (was frame : LiveFrame) → live_at before number ≡ Some was
     → after ≡ set_value (is_at (nat_cmp number)) before frame → IsOnlyLive before after number (Some frame)
 changed before after number was frame there is = record {
-  own = ap (λ es. live_at es number) is ∙ set_found before number was frame number there ∙ ap (λ b. cond b (Some frame) (live_at before number)) (tied number number refl);
-  others = λ other differs. ap (λ es. live_at es other) is ∙ set_found before number was frame other there
-      ∙ ap (λ b. cond b (Some frame) (live_at before other)) (untied number other differs);
+  own = ap (λ es. live_at es number) is ∙ at_set before number was frame there;
+  others = λ other differs. ap (λ es. live_at es other) is ∙ by_set before number was frame other there differs;
 }
 
 -- a record that is the same

@@ -2,18 +2,11 @@
 use Rattle.std.proofs.Common.{◌≡◌, ℕ, ◌≤◌, Bool, true, false, ◌&&◌, ◌||◌, not, cond, ap, arith}
 use Rattle.std.specs.Ordering.{is_gt, is_eq}
 use Rattle.std.proofs.lemmas.Bool.Decides.{nat_tests}
+use Rattle.pop_order.proofs.Entries.{with_one, without_one}
 use Rattle.task_frames.specs.Records.{Pair, pair_cmp, IsUpTo, is_pair}
 
 is_eq-pair_cmp : (parent child p c : ℕ) → is_eq (pair_cmp (parent, child) (p, c)) ≡ is_pair parent child p c
 is_eq-pair_cmp parent child p c = grind (arith, nat_tests)
-
-with_one : (b same was now : Bool) → b ≡ same → now ≡ cond b true was → now ≡ (same || was)
-with_one true same was now e h = cc (ap (λ x. x || was) e)
-with_one false same was now e h = cc (ap (λ x. x || was) e)
-
-without_one : (b same was now : Bool) → b ≡ same → now ≡ cond b false was → now ≡ (not same && was)
-without_one true same was now e h = cc (ap (λ x. not x && was) e)
-without_one false same was now e h = cc (ap (λ x. not x && was) e)
 
 -- what is in after a pair came in
 pub inserted : (parent child p c : ℕ) (was now : Bool) → now ≡ cond (is_eq (pair_cmp (parent, child) (p, c))) true was → now ≡ (is_pair parent child p c || was)

@@ -3,7 +3,7 @@ use Rattle.std.proofs.lemmas.List.{length-map}
 use Rattle.swan_model.specs.Lines.{lines, refusal_of}
 use Rattle.swan_model.specs.declared.lines.TheConstants.{LINES_MOST}
 use Rattle.swan_model.specs.declared.value.Value.TheVariants.{Bytes}
-use Rattle.job_body.proofs.FewLines.{few_lines}
+use Rattle.swan_model.proofs.FewLines.{few_lines}
 use Rattle.job_body.proofs.plan.items_of.Goals as goal
 
 pub returns-in-Ok-clause-few : goal.returns-in-Ok-clause-few
