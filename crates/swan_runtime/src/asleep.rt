@@ -183,7 +183,8 @@ impl<B: Body, Q: Queues> Asleep<B, Q> {
     }
 
     /// Enters a child of this parent that was given this. Who sleeps until the parent pushes to a queue that the child may push to is ready,
-    /// since the child may be whom it has to wait for. Err is want of memory. `O((k + 1) log n)` for k places of the child.
+    /// since the child may be whom it has to wait for. Err is want of memory. `O((k + 1) log n)` for k places of the child, and for each place to
+    /// push to `O(1)` for each frame that sleeps under the parent until it pushes.
     pub fn enter(
         &mut self,
         alloc: Global,

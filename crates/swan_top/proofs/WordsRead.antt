@@ -5,7 +5,8 @@ use Rattle.std.specs.List.{list_all}
 use Rattle.bulk_workload.specs.declared.texts.TheConstants.{BULK_MOST}
 use Rattle.job_reader.specs.Atoms.{number as job_number}
 use Rattle.swan_top.specs.Command.{Command, bulk, number, within, is_file, generated_by, job_and_inputs, fueled, manned, one_input, over_input, run, three_numbers, with_workers}
-use Rattle.swan_top.specs.declared.command.TheConstants.{FUEL_WORD_MOST, NUMBER_WORD_MOST, WORKERS_MOST}
+use Rattle.swan_runtime.specs.declared.shape.TheConstants.{WORKERS_MOST}
+use Rattle.swan_top.specs.declared.command.TheConstants.{FUEL_WORD_MOST, NUMBER_WORD_MOST}
 
 chosen : (a b : Bool) (n m : ℕ) → cond (a && b) (Some n) None ≡ Some m → (b ≡ true) × (n ≡ m)
 chosen true true n m is = (refl, cc)

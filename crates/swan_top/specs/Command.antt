@@ -6,7 +6,8 @@ use Rattle.bulk_workload.specs.declared.texts.TheConstants.{BULK_MOST}
 use Rattle.job_reader.specs.Atoms.{number as job_number}
 use Rattle.swan_top.specs.declared.command.Command.{Command as Asked}
 use Rattle.swan_top.specs.declared.command.Command.TheVariants as code
-use Rattle.swan_top.specs.declared.command.TheConstants.{FUEL_WORD_MOST, NUMBER_WORD_MOST, WORKERS_MOST}
+use Rattle.swan_runtime.specs.declared.shape.TheConstants.{WORKERS_MOST}
+use Rattle.swan_top.specs.declared.command.TheConstants.{FUEL_WORD_MOST, NUMBER_WORD_MOST}
 
 pub data Command : Type 0 where
   help : Command

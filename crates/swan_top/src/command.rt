@@ -1,5 +1,6 @@
 // The command that words are.
 ghost use Rattle.std.specs.Prelude.{◌≡◌, ◌^◌, ◌<◌, ◌∷◌, [], bytes_eq, IfOk, OnErr, Some, None};
+ghost use Rattle.swan_runtime.specs.declared.shape.TheConstants.{WORKERS_MOST};
 ghost use Rattle.swan_top.specs.Command.{command, number, is_file, alone, asked, job_alone, fueled, manned, over_input, elide, run, index, convert, three_numbers, IsWithinLimits};
 ghost use Rattle.swan_top.specs.Forms.{Reads, FilesOf, JobOf, WorkersOf, InputOf};
 ghost use Rattle.std.specs.List.{list_all};
@@ -7,15 +8,13 @@ ghost use Rattle.std.specs.List.{list_all};
 use bulk_workload::BULK_MOST;
 use job_reader::read_number;
 use swan_model::Word;
+use swan_runtime::WORKERS_MOST;
 
 /// The largest fuel that words can ask for.
 pub const FUEL_WORD_MOST: u64 = 10_000_000;
 
 /// The largest number that words can begin a generated input with.
 pub const NUMBER_WORD_MOST: u64 = 1_000_000_000;
-
-/// The largest number of workers that words can ask for.
-pub const WORKERS_MOST: u64 = 64;
 
 /// What the program is asked to do.
 #[derive(Clone, Copy)]
@@ -179,7 +178,7 @@ fn elide_command(words: &[Word]) -> Result<Command<'_>, Usage>
 fn workers_of(word: &Word) -> Option<u32>
     ensures { result ≡ number 1 WORKERS_MOST word.now }
 {
-    match number(1, WORKERS_MOST, word) {
+    match number(1, WORKERS_MOST as u64, word) {
         Some(workers) => Some(workers as u32),
         None => None,
     }

@@ -41,7 +41,7 @@ mod verdict;
 mod way;
 mod write;
 
-pub use command::{Command, FUEL_WORD_MOST, NUMBER_WORD_MOST, Usage, WORKERS_MOST, read_words};
+pub use command::{Command, FUEL_WORD_MOST, NUMBER_WORD_MOST, Usage, read_words};
 pub use help::{HELP, VERSION};
 pub use honest::{honest_call, honest_calls_end_well};
 pub use how::How;

@@ -1,6 +1,7 @@
 // The limits of words, each with its number.
 ghost use Rattle.std.specs.Prelude.{◌≡◌};
-ghost use Rattle.swan_top.specs.declared.command.TheConstants.{FUEL_WORD_MOST, NUMBER_WORD_MOST, WORKERS_MOST};
+ghost use Rattle.swan_runtime.specs.declared.shape.TheConstants.{WORKERS_MOST};
+ghost use Rattle.swan_top.specs.declared.command.TheConstants.{FUEL_WORD_MOST, NUMBER_WORD_MOST};
 
 /// The law that says of each limit of words which number it is. The definition of commands names the limits, so
 /// without it another number would change what words mean. The limit of lines of a generated input is told by
