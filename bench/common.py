@@ -4,6 +4,7 @@ import pathlib
 import subprocess
 import tempfile
 import time
+from concurrent.futures import ThreadPoolExecutor
 
 ROOT = pathlib.Path(__file__).resolve().parent.parent
 SWAN = ROOT / "crates" / "swan" / "out" / "swan"
@@ -34,11 +35,13 @@ def run(words, status=0):
     return seconds, usage.ru_maxrss * 1024
 
 
-def clock(words):
-    """The seconds by the clock that one run takes."""
-    began = time.monotonic()
-    run(words)
-    return time.monotonic() - began
+def clock(words, number=1):
+    """The seconds by the clock that so many runs take that begin at once."""
+    with ThreadPoolExecutor(number) as pool:
+        began = time.monotonic()
+        for _ in pool.map(run, [words] * number):
+            pass
+        return time.monotonic() - began
 
 
 def least(words, times=5):
