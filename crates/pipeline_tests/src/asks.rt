@@ -4,14 +4,19 @@ use swan_model::{Answer, Ask, Body, NoMemory, Plan, Value};
 
 /// An answer, by its word.
 fn answer_of(word: &str) -> Answer {
-    match word {
-        "start" => Answer::Start,
-        "item" => Answer::Item(Value::Int(7)),
-        "true" => Answer::Flag(true),
-        "false" => Answer::Flag(false),
-        "place" => Answer::Place(2),
-        _ => Answer::Nothing,
+    let answers = [
+        ("start", Answer::Start),
+        ("item", Answer::Item(Value::Int(7))),
+        ("true", Answer::Flag(true)),
+        ("false", Answer::Flag(false)),
+        ("place", Answer::Place(2)),
+    ];
+    for (name, answer) in answers {
+        if name == word {
+            return answer;
+        }
     }
+    Answer::Nothing
 }
 
 /// The word of an ask, with a space after it.
@@ -38,10 +43,8 @@ fn child_of<L: Drop>(ask: Ask<L>) -> Option<L> {
 
 /// An answer, by its word in a row: a star stands for another word.
 fn told_by(word: &str, other: &str) -> Answer {
-    if word == "*" {
-        return answer_of(other);
-    }
-    answer_of(word)
+    let is_star = word == "*";
+    answer_of(if is_star { other } else { word })
 }
 
 /// Adds what a task asks for that is told these words one by one. It answers the local of the child that it asks for

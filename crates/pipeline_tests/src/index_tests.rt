@@ -129,18 +129,34 @@ fn a_word_stands_on_as_many_lines_as_there_are(rt: HostRuntime) -> Result<(), Fa
     Ok(())
 }
 
+/// On how many lines `w` stands: its pairs have 65,509 bytes then, so that a word of 5 has just room beside them.
+const LINES: usize = 10_945;
+
+/// Bytes, and others after them.
+fn followed(bytes: Vec<u8>, others: &[u8]) -> Result<Vec<u8>, AllocError> {
+    let mut all = bytes;
+    all.extend_from_slice(others)?;
+    Ok(all)
+}
+
+/// The lines of `w`, and a line of another word.
+fn text_of_pairs(alloc: Global, word: &[u8]) -> Result<Vec<u8>, AllocError> {
+    followed(repeated(alloc, b"w\n", LINES)?, word)
+}
+
+/// What the index has of that text.
+fn index_of_pairs(alloc: Global, word: &[u8]) -> Result<Vec<u8>, Fail> {
+    let all = followed(on_each_line(alloc, "w", LINES)?, word)?;
+    Ok(followed(all, b" 10946\n")?)
+}
+
 #[test]
 fn no_pair_is_lost_where_the_pairs_fill_a_buffer(rt: HostRuntime) -> Result<(), Fail> {
     let alloc = rt.alloc();
-    // the pairs of `w` have 65,509 bytes, so that a word of 5 has just room beside them
-    let lines = 10_945;
     for length in [1, 4, 5, 6, 64] {
-        let mut text = repeated(alloc, b"w\n", lines)?;
-        let long = repeated(alloc, b"x", length)?;
-        text.extend_from_slice(&long)?;
-        let mut index = on_each_line(alloc, "w", lines)?;
-        index.extend_from_slice(&long)?;
-        index.extend_from_slice(b" 10946\n")?;
+        let word = repeated(alloc, b"x", length)?;
+        let text = text_of_pairs(alloc, &word)?;
+        let index = index_of_pairs(alloc, &word)?;
         assert!(rt; is_index(&rt, alloc, &text, &index)?, "at {length}");
     }
     Ok(())

@@ -28,21 +28,30 @@ struct Row {
     asks: &'static str,
 }
 
-/// What the two tasks of a row ask for, where the star stands for this word.
+/// What the two tasks of a row ask for in the plan of the index, where the star stands for this word.
+fn asked_in_index(alloc: Global, row: &Row, other: &str) -> Result<String, Fail> {
+    let plan = index_plan(alloc, b"").ok().ok_or("refused")?;
+    Ok(asks(alloc, plan, row.told, row.child_told, other)?)
+}
+
+/// The same in the plan of the conversion.
+fn asked_in_conversion(alloc: Global, row: &Row, other: &str) -> Result<String, Fail> {
+    let plan = record_plan(alloc, b"").ok().ok_or("refused")?;
+    Ok(asks(alloc, plan, row.told, row.child_told, other)?)
+}
+
+/// The same in the plan of the fold.
+fn asked_in_fold(alloc: Global, row: &Row, other: &str) -> Result<String, Fail> {
+    let plan = fold_plan(alloc, SumReducer, b"").ok().ok_or("refused")?;
+    Ok(asks(alloc, plan, row.told, row.child_told, other)?)
+}
+
+/// The same in the plan that the row is of.
 fn asked(alloc: Global, row: &Row, other: &str) -> Result<String, Fail> {
     match row.of {
-        Of::Index => {
-            let plan = index_plan(alloc, b"").ok().ok_or("refused")?;
-            Ok(asks(alloc, plan, row.told, row.child_told, other)?)
-        }
-        Of::Conversion => {
-            let plan = record_plan(alloc, b"").ok().ok_or("refused")?;
-            Ok(asks(alloc, plan, row.told, row.child_told, other)?)
-        }
-        Of::Fold => {
-            let plan = fold_plan(alloc, SumReducer, b"").ok().ok_or("refused")?;
-            Ok(asks(alloc, plan, row.told, row.child_told, other)?)
-        }
+        Of::Index => asked_in_index(alloc, row, other),
+        Of::Conversion => asked_in_conversion(alloc, row, other),
+        Of::Fold => asked_in_fold(alloc, row, other),
     }
 }
 
