@@ -14,12 +14,25 @@ use swan_model::{
 /// the number 7, and `name`, two bytes. So the root's places are 0 to 3.
 pub fn roots(alloc: Global) -> Result<Roots, Fail> {
     let mut roots = Roots::new(alloc);
-    add_queue(&mut roots, Mode::Pop, jobs(alloc)?)?;
-    add_queue(&mut roots, Mode::Push, Values::new(alloc))?;
-    add_object(&mut roots, Value::Int(7))?;
-    let name = Record::of(alloc, b"\xab\x0c").ok().ok_or("no memory")?;
-    add_object(&mut roots, Value::Bytes(name))?;
+    add_queues(alloc, &mut roots)?;
+    add_objects(alloc, &mut roots)?;
     Ok(roots)
+}
+
+fn add_queues(alloc: Global, roots: &mut Roots) -> Result<(), Fail> {
+    add_queue(roots, Mode::Pop, jobs(alloc)?)?;
+    add_queue(roots, Mode::Push, Values::new(alloc))
+}
+
+fn add_objects(alloc: Global, roots: &mut Roots) -> Result<(), Fail> {
+    add_object(roots, Value::Int(7))?;
+    add_object(roots, name_bytes(alloc)?)
+}
+
+/// The value of `name`.
+fn name_bytes(alloc: Global) -> Result<Value, Fail> {
+    let name = Record::of(alloc, b"\xab\x0c").ok().ok_or("no memory")?;
+    Ok(Value::Bytes(name))
 }
 
 fn jobs(alloc: Global) -> Result<Values, Fail> {

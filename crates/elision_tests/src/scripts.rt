@@ -4,10 +4,18 @@ use serial_elision::script_of;
 use std::test::Fail;
 use swan_model::{Deed, Script, Value};
 
+/// The word of an object's first value.
+fn word_of_value(value: &Value) -> &'static str {
+    match value {
+        Value::Int(5) => "object",
+        _ => "other",
+    }
+}
+
 /// The word of a deed.
 fn word_of(deed: &Deed) -> &'static str {
     match deed {
-        Deed::MakeObject(Value::Int(5)) => "object",
+        Deed::MakeObject(value) => word_of_value(value),
         Deed::Sync => "sync",
         Deed::Pop(_) => "pop",
         Deed::Quiet => "quiet",

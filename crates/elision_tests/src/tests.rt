@@ -126,36 +126,44 @@ fn fuel_moves_to_the_child(rt: HostRuntime) -> Result<(), Fail> {
     )
 }
 
+/// The end of a report: this, and the fault of a root that has no fuel for a step.
+fn report_of_fuel(alloc: Global, before: &str, step: u64) -> Result<String, Fail> {
+    Ok(format!(in alloc; "{before}faults 1\nfault / {step} Fuel\n")?)
+}
+
 /// Fuel that ends inside a run of steps of work, or between asks, is a fault at the step that has none.
 #[test]
 fn fuel_ends_at_each_step(rt: HostRuntime) -> Result<(), Fail> {
     for fuel in 0..7 {
-        let report = format!(in rt.alloc(); "faults 1\nfault / {fuel} Fuel\n")?;
+        let report = report_of_fuel(rt.alloc(), "", fuel)?;
         let words = "work work empty:0 read:2 work write:2:1 work";
         assert!(rt; leaves(rt.alloc(), words, fuel, b"", report.as_str())?);
     }
     Ok(())
 }
 
+/// Whether pushes and pops with this much fuel leave this output, and a report of that fuel with this line before it.
+fn pushes_and_pops_leave(alloc: Global, fuel: u64, out: &str, left: &str) -> Result<bool, Fail> {
+    let words = "work push:1:1 work work push:1:2 pop:0 work push:1:3 empty:0 pop:0";
+    let report = report_of_fuel(alloc, left, fuel)?;
+    leaves(alloc, words, fuel, out.as_bytes(), report.as_str())
+}
+
 /// What fuel leaves that ends between pushes and pops: of each row the fuels, the output, and how many jobs are left.
 #[test]
 fn fuel_ends_between_pushes_and_pops(rt: HostRuntime) -> Result<(), Fail> {
-    let words = "work push:1:1 work work push:1:2 pop:0 work push:1:3 empty:0 pop:0";
     let rows = [
-        (0..2, "", 2),
-        (2..5, "1\n", 2),
-        (5..6, "1\n2\n", 2),
-        (6..8, "1\n2\n", 1),
-        (8..10, "1\n2\n3\n", 1),
-        (10..11, "1\n2\n3\n", 0),
+        (0..2, "", "left jobs 2\n"),
+        (2..5, "1\n", "left jobs 2\n"),
+        (5..6, "1\n2\n", "left jobs 2\n"),
+        (6..8, "1\n2\n", "left jobs 1\n"),
+        (8..10, "1\n2\n3\n", "left jobs 1\n"),
+        (10..11, "1\n2\n3\n", "left jobs 0\n"),
     ];
     for (fuels, out, left) in rows {
         for fuel in fuels {
-            let report = format!(in rt.alloc();
-                "left jobs {left}\nfaults 1\nfault / {fuel} Fuel\n"
-            )?;
             assert!(rt;
-                leaves(rt.alloc(), words, fuel, out.as_bytes(), report.as_str())?,
+                pushes_and_pops_leave(rt.alloc(), fuel, out, left)?,
                 "{fuel}"
             );
         }
@@ -163,20 +171,43 @@ fn fuel_ends_between_pushes_and_pops(rt: HostRuntime) -> Result<(), Fail> {
     Ok(())
 }
 
-#[test]
-fn no_path_has_more_than_64_parts(rt: HostRuntime) -> Result<(), Fail> {
-    let alloc = rt.alloc();
+/// The word of a spawn, up to its fuel: its child begins at this index of the list.
+fn spawn_at(alloc: Global, index: u64) -> Result<String, Fail> {
+    Ok(format!(in alloc; "spawn:{index}:")?)
+}
+
+/// The words of a task that spawns such a child with this much fuel, and finishes.
+fn spawn_and_finish(alloc: Global, spawn: &str, fuel: u64) -> Result<String, Fail> {
+    Ok(format!(in alloc; "{spawn}{fuel}: finish ")?)
+}
+
+/// The words of 64 tasks of which each spawns the next, and of a spawn by the last.
+fn words_of_65_spawns(alloc: Global) -> Result<String, Fail> {
     let mut words = String::new(alloc);
-    let mut faults = format!(in alloc; "faults 1\nfault ")?;
     for depth in 0..64_u64 {
-        let next = 2 * (depth + 1);
-        let fuel = 900 - 10 * depth;
-        words.push_str(format!(in alloc; "spawn:{next}:{fuel}: finish ")?.as_str())?;
-        faults.push_str("/0")?;
+        let spawn = spawn_at(alloc, 2 * (depth + 1))?;
+        let task = spawn_and_finish(alloc, spawn.as_str(), 900 - 10 * depth)?;
+        words.push_str(task.as_str())?;
     }
     words.push_str("spawn:0:1000:")?;
-    faults.push_str(" 128 Depth\n")?;
-    assert!(rt; leaves(alloc, words.as_str(), 1_000, b"", faults.as_str())?);
+    Ok(words)
+}
+
+/// The report that the last of them has no child, for its path.
+fn report_of_depth(alloc: Global) -> Result<String, Fail> {
+    let mut report = String::from_str(alloc, "faults 1\nfault ")?;
+    for _ in 0..64 {
+        report.push_str("/0")?;
+    }
+    report.push_str(" 128 Depth\n")?;
+    Ok(report)
+}
+
+#[test]
+fn no_path_has_more_than_64_parts(rt: HostRuntime) -> Result<(), Fail> {
+    let words = words_of_65_spawns(rt.alloc())?;
+    let report = report_of_depth(rt.alloc())?;
+    assert!(rt; leaves(rt.alloc(), words.as_str(), 1_000, b"", report.as_str())?);
     Ok(())
 }
 

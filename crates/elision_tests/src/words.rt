@@ -28,18 +28,16 @@ pub fn ask_of(alloc: Global, word: &str) -> Result<Ask<usize>, Fail> {
     }
 }
 
-/// The words of what a task can't go on for.
-const TROUBLES: [(&str, Trouble); 5] = [
-    ("overflow", Trouble::Overflow),
-    ("divide", Trouble::DivideByZero),
-    ("range", Trouble::Range),
-    ("long", Trouble::TooLong),
-    ("number", Trouble::BadNumber),
-];
-
 /// What a task can't go on for, by its word.
 fn trouble_of(word: &str) -> Result<Trouble, Fail> {
-    for (name, trouble) in TROUBLES {
+    let troubles = [
+        ("overflow", Trouble::Overflow),
+        ("divide", Trouble::DivideByZero),
+        ("range", Trouble::Range),
+        ("long", Trouble::TooLong),
+        ("number", Trouble::BadNumber),
+    ];
+    for (name, trouble) in troubles {
         if name == word {
             return Ok(trouble);
         }
@@ -96,18 +94,16 @@ fn give_of(word: &str) -> Result<Give, Fail> {
     })
 }
 
-/// The words of modes.
-const MODES: [(&str, Mode); 6] = [
-    ("in", Mode::In),
-    ("out", Mode::Out),
-    ("push", Mode::Push),
-    ("pop", Mode::Pop),
-    ("inout", Mode::InOut),
-    ("pushpop", Mode::PushPop),
-];
-
 fn mode_of(word: &str) -> Result<Mode, Fail> {
-    for (name, mode) in MODES {
+    let modes = [
+        ("in", Mode::In),
+        ("out", Mode::Out),
+        ("push", Mode::Push),
+        ("pop", Mode::Pop),
+        ("inout", Mode::InOut),
+        ("pushpop", Mode::PushPop),
+    ];
+    for (name, mode) in modes {
         if name == word {
             return Ok(mode);
         }
