@@ -1,9 +1,11 @@
 -- What the core answers of a step.
-use Rattle.std.proofs.Common.{◌≡◌, ◌≢◌, ℕ, ◌+◌, Some, None, is_some, refl, sym, ap, subst, ◌∙◌}
+use Rattle.std.proofs.Common.{◌≡◌, ◌≢◌, ◌<◌, ℕ, ◌+◌, Some, None, is_some, length, refl, sym, ap, subst, ◌∙◌, arith}
 use Rattle.std.proofs.lemmas.Option.{same_Some}
 use Rattle.swan_model.specs.declared.body.Body.{Ghosts}
 use Rattle.swan_model.specs.declared.plan.Plan.{Plan}
 use Rattle.swan_model.specs.QueueState.{active}
+use Rattle.swan_model.specs.Script.{script}
+use Rattle.swan_model.specs.SerialTime.{times}
 use Rattle.queues.proofs.ActiveAfter.{one_goes_on}
 use Rattle.task_frames.specs.declared.resumed.Resumed.{Resumed}
 use Rattle.task_frames.specs.declared.resumed.Resumed.TheVariants as resumed
@@ -13,7 +15,7 @@ use Rattle.task_frames.specs.declared.steps.Steps.{Steps}
 use Rattle.task_frames.specs.Cores.{MayBegin, AtCore, CoreView, HasIt, IsCore, KeptView, come_in}
 use Rattle.task_frames.specs.Frames.{FrameView, Task}
 use Rattle.task_frames.specs.Records.{HasNoLiveChild, IsLiveChild, come_at, live_at}
-use Rattle.task_frames.specs.Resumes.{MayStep, AreOfPlan, EndsOf, HasLent, HasNoChild, HaveCome, IsAnswered, IsChildOf, IsGivenAs, IsGivenBy, IsLiveBefore, IsResumed, IsShown, IsStep, OthersKept, OthersStay, waited_for}
+use Rattle.task_frames.specs.Resumes.{MayStep, AreOfPlan, EndsOf, HasLent, HasNoChild, HaveCome, IsAnswered, IsChildOf, IsGivenAs, IsGivenBy, IsLast, IsLiveBefore, IsOneOn, IsResumed, IsShown, IsStep, OnGoneOn, OthersKept, OthersStay, waited_for}
 use Rattle.task_frames.proofs.Given.{given-stays, has-stays}
 use Rattle.task_frames.proofs.Lives.{child-comes, come-only}
 
@@ -214,6 +216,30 @@ module _ {B L E : Type 0} (G : Ghosts B L) (of : EndsOf E) (before after : CoreV
 
   pub resumed-so : (Q : Type 0) (its : Step B L) (answer : Resumed B Q L E) → IsStep G taken stepped at.task its → IsAnswered {Q = Q} of stepped given its answer → IsResumed {Q = Q} G of before after frame answer
   resumed-so Q its answer so answered = resumed-cases Q its answer (subst (λ x. IsStep G taken stepped x its) task so) answered
+
+-- ---- steps that aren't the last
+
+not-last : {B L : Type 0} (G : Ghosts B L) (after : KeptView) (task : Task B L) (next : AtCore B L) → HasIt G after next → IsOneOn task next.task → ¬ IsLast G task
+not-last {B} {L} G after task next has on last =
+    let left : task.done + 1 < length (times (script G task.plan) task.path) =
+    subst (λ (t : Task B L). t.done < length (times (script G t.plan) t.path)) on has.is.alone.stands.left in
+    omega (arith, left, last)
+
+-- a step that leaves its task more of them isn't the last
+pub gone-on : {B L E : Type 0} (Q : Type 0) (G : Ghosts B L) (of : EndsOf E) (before after given : KeptView) (task : Task B L) (its : Step B L) (answer : Resumed B Q L E)
+    → IsStep G before after task its → IsAnswered of after given its answer → OnGoneOn answer (¬ IsLast G task)
+gone-on Q G of before after given task (step.Runs next) (resumed.Runs frame steps) so answered = not-last G after task next so.0 so.1
+gone-on Q G of before after given task (step.Spawned parent new) (resumed.Runs frame steps) so answered = absurd answered
+gone-on Q G of before after given task (step.Waits same wait_for) (resumed.Runs frame steps) so answered = absurd answered
+gone-on Q G of before after given task step.Ended (resumed.Runs frame steps) so answered = absurd answered
+gone-on Q G of before after given task (step.Spawned parent new) (resumed.Spawned frame spawned steps) so answered = not-last G after task parent so.0 so.2
+gone-on Q G of before after given task (step.Runs next) (resumed.Spawned frame spawned steps) so answered = absurd answered
+gone-on Q G of before after given task (step.Waits same wait_for) (resumed.Spawned frame spawned steps) so answered = absurd answered
+gone-on Q G of before after given task step.Ended (resumed.Spawned frame spawned steps) so answered = absurd answered
+gone-on Q G of before after given task its (resumed.Waits frame waited) so answered = tt
+gone-on Q G of before after given task its (resumed.Ended steps) so answered = tt
+gone-on Q G of before after given task its (resumed.Strange frame foreign) so answered = tt
+gone-on Q G of before after given task its resumed.NoMemory so answered = tt
 
 -- what a step leaves is still kept for the plan
 pub step-core : {B L : Type 0} (G : Ghosts B L) (before after : KeptView) (task : Task B L) (its : Step B L) → IsStep G before after task its → IsCore G task.plan after

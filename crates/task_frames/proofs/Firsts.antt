@@ -15,7 +15,7 @@ use Rattle.swan_model.specs.declared.script.Deed.TheVariants as deed
 use Rattle.task_frames.specs.declared.step.Step.TheVariants as step
 use Rattle.task_frames.specs.Cores.{AtCore, AwaitsNone, HasIt, KeptView, MayBegin}
 use Rattle.task_frames.specs.Records.{IsOldestChild, LiveFrame}
-use Rattle.task_frames.specs.Resumes.{AsksOf, IsLast, IsLiveBefore, IsShown, IsStep, deed_now, WaitsForVersion, at_first, at_pop, waited_for}
+use Rattle.task_frames.specs.Resumes.{AsksOf, IsLast, IsLiveBefore, IsShown, IsStep, deed_now, IsFirstToBlock, WaitsForTurn, WaitsForVersion, at_first, at_pop, at_start, waited_for}
 use Rattle.task_frames.proofs.Endings.{child-before}
 use Rattle.task_frames.proofs.Goings.{done-is, lawful, own}
 use Rattle.task_frames.proofs.Waiting as waiting
@@ -49,6 +49,10 @@ module _ {B L : Type 0} (G : Ghosts B L) (kept : KeptView) (frame : AtCore B L) 
 
   pub waits-awaited : (done m : ℕ) → done ≡ frame.task.done → nat_lt 0 done ≡ false → (place : ℕ) → Awaits kept.versions frame.task.number place m → WaitsForVersion G kept frame m
   waits-awaited done m same not_so place awaits = at_first place (sym same ∙ not-less done not_so) awaits
+
+  pub waits-blocked : (done m : ℕ) → done ≡ frame.task.done → nat_lt 0 done ≡ false → AwaitsNone kept.versions frame.task.number → IsFirstToBlock kept.turns frame.task.number m
+      → WaitsForTurn G kept frame m
+  waits-blocked done m same not_so ready first = at_start (sym same ∙ not-less done not_so) ready first
 
   pub awaited-before : (m place : ℕ) → Awaits kept.versions frame.task.number place m → IsLiveBefore kept frame.task.path m
   awaited-before m place awaits =

@@ -1,5 +1,5 @@
 -- What the core makes of a frame that comes to it, and what it answers.
-use Rattle.std.specs.Prelude.{◌≡◌, ◌≢◌, ℕ, ◌+◌, ◌⊎◌, true, false, Some, None, List, [], ◌∷◌, ◌++◌, is_some, length}
+use Rattle.std.specs.Prelude.{◌≡◌, ◌≢◌, ◌≤◌, ℕ, ◌+◌, ◌⊎◌, true, false, Some, None, List, [], ◌∷◌, ◌++◌, is_some, length}
 use Rattle.std.specs.Option.{ForSome}
 use Rattle.swan_model.specs.declared.body.Answer.TheVariants as answer
 use Rattle.swan_model.specs.declared.body.Ask.{Ask}
@@ -21,6 +21,7 @@ use Rattle.swan_model.specs.SerialTime.{time, times}
 use Rattle.swan_model.specs.Told.{deed_at}
 use Rattle.swan_model.specs.TrueFrames.{StandsAt}
 use Rattle.swan_model.specs.Versions.{Awaits, Placed, owed, placed_at}
+use Rattle.pop_order.specs.Frames.{Frames}
 use Rattle.pop_order.specs.Turns.{Blocks}
 use Rattle.queues.specs.declared.ends.LocalEnds.{Ghosts as EndsMeaning}
 use Rattle.queues.specs.Asks.{LentEnds}
@@ -33,7 +34,7 @@ use Rattle.task_frames.specs.declared.resumed.Resumed.{Resumed}
 use Rattle.task_frames.specs.declared.resumed.Resumed.TheVariants as resumed
 use Rattle.task_frames.specs.declared.step.Step.{Step}
 use Rattle.task_frames.specs.declared.step.Step.TheVariants as step
-use Rattle.task_frames.specs.Cores.{MayBegin, AtCore, CoreView, HasIt, IsCore, IsGiven, KeptView, come_in}
+use Rattle.task_frames.specs.Cores.{AwaitsNone, MayBegin, AtCore, CoreView, HasIt, IsCore, IsGiven, KeptView, come_in}
 use Rattle.task_frames.specs.Frames.{FrameView, Task, is_whole, root_task}
 use Rattle.task_frames.specs.Records.{HasNoLiveChild, IsOldestChild, LiveFrame, live_at}
 
@@ -58,6 +59,11 @@ pub data AsksOf {B L : Type 0} (frame : AtCore B L) (queue : ℕ) : Type 0 where
       → number_at frame.task.holdings place Pop ≡ Some queue → AsksOf frame queue
   to_test : (local : L) (place at : ℕ) → frame.stage ≡ Asking local (ask.Empty place) at
       → number_at frame.task.holdings place Pop ≡ Some queue → AsksOf frame queue
+
+-- the oldest of those that pop what a frame may not pop yet
+pub record IsFirstToBlock (turns : Frames) (number older : ℕ) : Type 0 where
+  pub blocks : Blocks turns number older
+  pub oldest : (other : ℕ) → Blocks turns number other → older ≤ other
 
 -- what the queues answered a frame about the queue of which it asks
 pub record IsToldToWait {B L : Type 0} (kept : KeptView) (frame : AtCore B L) (wait_for : WaitFor) : Type 0 where
@@ -89,9 +95,10 @@ module _ {B L : Type 0} (G : Ghosts B L) where
       at_read : (local : L) (place at : ℕ) (object : Placed) → frame.stage ≡ Asking local (ask.Read place) at
           → placed_at kept.versions frame.task.number place ≡ Some object → object.present ≡ owed number → WaitsForVersion number
 
-    -- A turn to pop is waited for before the first step, by an older sibling that pops what the frame pops; or where a child pops it.
+    -- A turn to pop is waited for before the first step, where no version is, of the oldest sibling that pops what the frame pops; or
+    -- where a child pops it.
     pub data WaitsForTurn (number : ℕ) : Type 0 where
-      at_start : frame.task.done ≡ 0 → Blocks kept.turns frame.task.number number → WaitsForTurn number
+      at_start : frame.task.done ≡ 0 → AwaitsNone kept.versions frame.task.number → IsFirstToBlock kept.turns frame.task.number number → WaitsForTurn number
       at_pop : IsToldToWait kept frame (wait.PopTurn number) → WaitsForTurn number
 
     -- What is kept shows a wait.
@@ -273,6 +280,12 @@ abbrev pub OnTried : {B Q L E : Type 0} → Resumed B Q L E → Type 0 → Type 
 OnTried (resumed.Strange same foreign) Holds = Unit {0}
 OnTried resumed.NoMemory Holds = Unit {0}
 OnTried _ Holds = Holds
+
+-- what holds where a step was taken that leaves its task more of them
+abbrev pub OnGoneOn : {B Q L E : Type 0} → Resumed B Q L E → Type 0 → Type 0
+OnGoneOn (resumed.Runs next steps) Holds = Holds
+OnGoneOn (resumed.Spawned parent new steps) Holds = Holds
+OnGoneOn _ Holds = Unit {0}
 
 -- ---- the beginning
 

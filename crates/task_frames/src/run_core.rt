@@ -2,7 +2,7 @@
 ghost use Rattle.std.specs.Prelude.{◌≡◌, None, Some, true};
 ghost use Rattle.std.specs.Option.{ForSome};
 ghost use Rattle.task_frames.specs.Cores.{IsCoreView, IsGiven};
-ghost use Rattle.task_frames.specs.Resumes.{IsResumed, OnTried, ends_of};
+ghost use Rattle.task_frames.specs.Resumes.{IsLast, IsResumed, OnGoneOn, OnTried, ends_of};
 ghost use Rattle.task_frames.specs.declared.resumed.Resumed.TheVariants as resumed;
 
 use crate::{Foreign, Frame, Kept, PlanRun, Resumed, Run, Step, Steps, Waited};
@@ -51,7 +51,7 @@ impl<B: Body, Q: Queues> Model for Core<B, Q> {
 impl<B: Body, Q: Queues> Core<B, Q> {
     /// Takes the frame's next step, which needs the core, or tells why not.
     ///
-    /// - Runs comes with each step that is no spawn and doesn't end the frame, and gives the frame. The wait for all
+    /// - Runs comes exactly with each step that is no spawn and not the frame's last, and gives the frame. The wait for all
     ///   children isn't taken while one is active.
     /// - Spawned comes with each spawn, and gives the frame and its child.
     /// - Ended comes with each step that ends the frame: the end that it asks for, its own trouble, a step without fuel, or
@@ -73,6 +73,7 @@ impl<B: Body, Q: Queues> Core<B, Q> {
 
         // what is answered, and what it leaves
         ensures resumed { IsResumed B.Body (ends_of Q.Ends.LocalEnds) self.old self.new frame result }
+        ensures gone_on { OnGoneOn result (¬ IsLast B.Body frame.task) }
         ensures given { OnTried result (ForSome self.old.kept (λ kept. IsGiven kept frame.task (Q.Ends.ends frame.ends))) }
         ensures dead { self.old.kept ≡ None → result ≡ resumed.NoMemory }
         ensures plan { self.new.plan ≡ self.old.plan }

@@ -1,8 +1,8 @@
 use Rattle.std.proofs.Common.{refl, sym, subst, ap, ◌∙◌, Some}
 use Rattle.task_frames.specs.Cores.{CoreView, IsCore}
 use Rattle.task_frames.specs.Frames.{Task}
-use Rattle.task_frames.specs.Resumes.{ends_of}
-use Rattle.task_frames.proofs.Answered.{resumed-so, step-core}
+use Rattle.task_frames.specs.Resumes.{IsLast, OnGoneOn, ends_of}
+use Rattle.task_frames.proofs.Answered.{gone-on, resumed-so, step-core}
 use Rattle.task_frames.proofs.run_core.Core.resume.Goals as goal
 
 pub take_in-requires-clause-core : goal.take_in-requires-clause-core
@@ -36,3 +36,9 @@ returns-in-Ok-step-clause-resumed g c =
     (ap (λ (v : View). v.kept) (sym c.self.view_is) ∙ is) refl
     (c.requires.name.0 ∙ ap (λ (v : View). v.plan) (sym c.self.view_is)) (runs ∙ (c.self.invariant.0 c.in-Some.kept is).1) c.in-Ok.ensures.task c.in-Ok.ensures.come c.take_in.ensures.others
     _ c.in-Ok-step.step c.answer-resumed.result c.in-Ok-step.ensures.step c.answer-resumed.ensures.answered
+
+pub returns-in-Ok-step-clause-gone_on : goal.returns-in-Ok-step-clause-gone_on
+returns-in-Ok-step-clause-gone_on g c =
+    subst (λ task. OnGoneOn c.answer-resumed.result (¬ IsLast g.B.Body task)) c.in-Ok.ensures.task
+    (gone-on g.row.Q.Denot g.B.Body (ends_of g.Q.Ends.LocalEnds) c.take_in.new.self c.step.new.self c.answer-resumed.new.self _ c.in-Ok-step.step c.answer-resumed.result
+    c.in-Ok-step.ensures.step c.answer-resumed.ensures.answered)
