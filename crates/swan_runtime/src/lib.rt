@@ -9,7 +9,7 @@
 //! are ready and those that sleep. A worker takes steps of a frame outside the lock, and then one in a hold. A frame that has to wait
 //! sleeps under a live one until that has ended, or has pushed to the queue that it asks about.
 //!
-//! Not promised: that a run with two workers or more returns, that its work is shared, and that a frame is woken as soon as it may go on.
+//! Not promised: that `run` returns, that its work is shared, and that a frame is woken as soon as it may go on.
 #![tactic(auto)]
 
 mod alone;

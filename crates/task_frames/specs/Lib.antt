@@ -1,5 +1,6 @@
--- What the contracts of this crate cite: what a frame is, wherever it is, and how it goes on by itself; and what the core of a
--- run keeps, and what holds of it.
+-- What the contracts of this crate cite, in the order to read: what a frame is, wherever it is, what it asks for and how it goes on by
+-- itself; the record of live frames, what the core of a run keeps and what holds of it, and what a resume answers; which frame is the
+-- earliest; and what a spawn gives and with what a core opens.
 pub mod Frames
 pub mod Asked
 pub mod Going

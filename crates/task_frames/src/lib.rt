@@ -18,12 +18,12 @@
 //! - Where its mark stands, no want of memory was met.
 //!
 //! Promised of `run_local`: it stops before the budget only where the next step needs the core, by one of the causes that
-//! it names; and it counts its steps in a `Steps`, which nobody else can make. A frame has as its name the plan and the
+//! it names; and it counts its steps in a `Steps`, which it and the core alone make. A frame has as its name the plan and the
 //! run of its queues (`PlanRun`), which no call changes; it is never done, and may move to another thread.
 //!
 //! Promised by the type of the core between any two calls, up to want of memory (definition `IsCore`): its queues and its
 //! objects are those of the elision's script at one reading of the whole run, its record has the live frames and who
-//! spawned each, and each fault of a task that has ended is booked.
+//! spawned each, and the booked faults are those of the tasks that have ended, each once.
 //!
 //! Promised of `resume` (definition `IsResumed`): the core takes the next step of the frame that it gave last under this number,
 //! and of no other one; or it shows what the frame has to wait for, which is a live frame earlier in serial order. All other
