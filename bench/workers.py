@@ -8,7 +8,7 @@ import os
 from statistics import median
 
 import jobs
-from common import clock, folder, run, written
+from common import ROOT, clock, folder, run, written
 
 FUEL = 10_000_000
 
@@ -50,7 +50,7 @@ def by_shares(found, bounds=(0, 2, 2.5, 3, FREE, 5)):
     for least, below in zip(bounds, bounds[1:]):
         gains = [gain for share, gain in found if least <= share < below]
         if gains:
-            aim = f", aim at least {SPEED_UP}" if least == FREE else ""
+            aim = f", aim of tasks that work alone at least {SPEED_UP}" if least == FREE else ""
             print(f"  where four runs at once got {least} to {below} processors, {len(gains)} of {len(found)} rounds: {median(gains):.2f} times as fast{aim}")
 
 
@@ -69,8 +69,9 @@ with folder() as here:
     taken = [seconds - base for seconds, base in zip(rounds(coarse, numbers), start)]
     for workers, seconds in zip(numbers, taken):
         print(f"{TASKS} tasks of {5 * TURNS} steps of work with {workers} workers: {seconds:.3g} s, {taken[0] / seconds:.2f} times as fast")
-    print("with 4 workers, by the median of rounds")
-    by_shares(list(shares(coarse)))
+    for name, job in [("these tasks", coarse), ("examples/quarters.swan", ROOT / "examples" / "quarters.swan")]:
+        print(f"{name} with 4 workers, by the median of rounds")
+        by_shares(list(shares(job)))
 
     for name, text in [("items through five stages", jobs.pipeline(ITEMS)), ("items in bursts", jobs.bursts(ITEMS))]:
         handed = written(here, "handed", [text])
