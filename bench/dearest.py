@@ -1,21 +1,27 @@
-"""Which functions and tests of a crate take longest to check.
+"""Which functions, tests and wrong bodies of a crate take longest to check.
 
-    python3 bench/dearest.py CRATE [NUMBER]      runs the check of the crate with its tests, one job
-    rt .. | python3 bench/dearest.py - [NUMBER]  reads what such a command writes
+    python3 bench/dearest.py CRATE [NUMBER]           runs the check of the crate with its tests, one job
+    rt .. | python3 bench/dearest.py - [NUMBER]       reads what such a command writes
+    python3 bench/dearest.py --edits CRATE [NUMBER]   tries each wrong body of the crate by a check of a copy, one job
 
-Prints the NUMBER longest, ten where none is said: seconds by the clock from one line of the log to the next. On a machine that does
-other work too only their order means something. What an earlier check kept isn't checked again, so begin with an empty `out/` where all is
-to be measured. Wrong bodies aren't timed: `rt must-fail` tells of all of them at its end.
+Prints the NUMBER longest, ten where none is said. Of functions and tests it tells seconds by the clock from one line of the log to the next:
+on a machine that does other work too only their order means something. What an earlier check kept isn't checked again, so begin with an
+empty `out/` where all is to be measured. Of wrong bodies it tells seconds of processors, and first those of a check in which nothing has
+changed: each wrong body costs that at least. The crate has to be proved before, since they begin with what its check kept.
 """
 import pathlib
 import re
+import resource
+import shutil
 import subprocess
 import sys
+import tempfile
 import time
 
 ROOT = pathlib.Path(__file__).resolve().parent.parent
 CHECKED = re.compile(r"checked (\S+), \d+ of \d+")
 STARTS = re.compile(r"(?:library|statements|crate) ")
+CHECK = ["rt", "check", "--jobs", "1"]
 
 
 def timed(lines):
@@ -32,18 +38,79 @@ def timed(lines):
 
 def of_crate(crate):
     """What the check of a crate and its tests writes, line by line."""
-    command = ["rt", "check", "--test", "--jobs", "1"]
-    with subprocess.Popen(command, cwd=ROOT / "crates" / crate, stdout=subprocess.PIPE, stderr=subprocess.STDOUT, text=True) as child:
+    with subprocess.Popen([*CHECK, "--test"], cwd=ROOT / "crates" / crate, stdout=subprocess.PIPE, stderr=subprocess.STDOUT, text=True) as child:
         yield from child.stdout
+
+
+def copied(here, crate):
+    """The crate's folder in a copy of the repository there. The others' files are shared, since no check of it writes them."""
+    for name in ("crates.txt", "HANDLES"):
+        shutil.copy(ROOT / name, here)
+    (here / ".git").mkdir()
+    (here / "crates").mkdir()
+    for folder in sorted((ROOT / "crates").iterdir()):
+        subprocess.run(["cp", "-a" if folder.name == crate else "-al", folder, here / "crates"], check=True)
+    return here / "crates" / crate
+
+
+def changed(edit, own):
+    """The texts of the files that a wrong body changes, by their paths."""
+    texts, path, old = {}, None, None
+    for line in edit.read_text().split("\n"):
+        if line.startswith("file: "):
+            path = own / line[len("file: "):].strip()
+        elif line.startswith("old: "):
+            old = line[len("old: "):]
+        elif line.startswith("new:"):
+            texts.setdefault(path, path.read_text())
+            if texts[path].count(old) != 1:
+                raise SystemExit(f"{edit.name}: what it changes isn't there exactly once")
+            texts[path] = texts[path].replace(old, line[len("new:"):].removeprefix(" "))
+    return texts
+
+
+def spent(own):
+    """The seconds of processors of a check in this folder, and its status."""
+    before = resource.getrusage(resource.RUSAGE_CHILDREN)
+    status = subprocess.run(CHECK, cwd=own, stdout=subprocess.DEVNULL, stderr=subprocess.DEVNULL).returncode
+    after = resource.getrusage(resource.RUSAGE_CHILDREN)
+    return after.ru_utime + after.ru_stime - before.ru_utime - before.ru_stime, status
+
+
+def tried(crate):
+    """The seconds that each wrong body of a crate takes, by name."""
+    with tempfile.TemporaryDirectory(prefix="swan-edits-", dir=ROOT.parent) as folder:
+        own = copied(pathlib.Path(folder), crate)
+        if spent(own)[1]:
+            raise SystemExit(f"{crate} isn't proved")
+        print(f"{spent(own)[0]:8.1f} s  where nothing has changed")
+        kept = own.parent.parent / "kept"
+        subprocess.run(["cp", "-a", own / "out", kept], check=True)
+        for edit in sorted((own / "must-fail").glob("*.edit")):
+            texts = changed(edit, own)
+            was = {path: path.read_text() for path in texts}
+            for path, text in texts.items():
+                path.write_text(text)
+            seconds, status = spent(own)
+            yield seconds, edit.stem + ("" if status else ", which is NOT refused")
+            for path, text in was.items():
+                path.write_text(text)
+            shutil.rmtree(own / "out")
+            subprocess.run(["cp", "-a", kept, own / "out"], check=True)
 
 
 def main(words):
     """Prints the longest of what the words name."""
+    edits = words[:1] == ["--edits"]
+    words = words[1:] if edits else words
     if not words:
         raise SystemExit(__doc__)
-    lines = sys.stdin if words[0] == "-" else of_crate(words[0])
+    if edits:
+        found = tried(words[0])
+    else:
+        found = timed(sys.stdin if words[0] == "-" else of_crate(words[0]))
     most = int(words[1]) if len(words) > 1 else 10
-    for seconds, name in sorted(timed(lines), reverse=True)[:most]:
+    for seconds, name in sorted(found, reverse=True)[:most]:
         print(f"{seconds:8.1f} s  {name}")
 
 
