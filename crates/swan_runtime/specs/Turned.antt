@@ -1,7 +1,7 @@
 -- What a worker's turn answers, and what shows it.
-use Rattle.std.specs.Prelude.{◌≡◌, ◌≢◌, ◌==◌, ◌+◌, ◌<◌, ◌≤◌, Bool, true, false, if◌then◌else◌}
+use Rattle.std.specs.Prelude.{◌≡◌, ◌==◌, ◌+◌, ◌<◌, ◌≤◌, Bool, true, false, if◌then◌else◌}
 use Rattle.named_lock.specs.declared.rule.View.{View}
-use Rattle.named_lock.specs.declared.sign.Sign.TheVariants.{Runs}
+use Rattle.named_lock.specs.declared.sign.Sign.TheVariants.{Stopped}
 use Rattle.task_frames.specs.declared.steps.Steps.{Steps}
 use Rattle.swan_runtime.specs.declared.turn.Turn.{Turn}
 use Rattle.swan_runtime.specs.declared.turn.Turn.TheVariants as turn
@@ -32,7 +32,7 @@ module _ {N : Type 0} where
     pub lost : before.lost ≤ after.lost
 
   -- What a worker's seat at the lock shows of an answer. A turn that took no step found the lock taken, or held it; a run is done where the
-  -- sign was seen Done, and stopped where it doesn't run any more.
+  -- seat has seen the sign Done, and stopped where it has seen it Stopped, and did so last.
   abbrev pub IsShownBySeat : (before after : View N) → Turn → Type 0
   IsShownBySeat before after (turn.Stepped steps) = 1 ≤ steps.count
   IsShownBySeat before after (turn.NotYet waited) = before.holds < after.holds
@@ -40,7 +40,7 @@ module _ {N : Type 0} where
   IsShownBySeat before after turn.Idle = before.holds < after.holds
   IsShownBySeat before after (turn.Strange foreign) = before.holds < after.holds
   IsShownBySeat before after turn.Done = after.saw_done ≡ true
-  IsShownBySeat before after turn.NoMemory = after.sign ≢ Runs
+  IsShownBySeat before after turn.NoMemory = (after.sign ≡ Stopped) × (after.saw_stopped ≡ true)
 
   -- A turn was taken: it is shown by the seat. One that has seen the run stopped, in this turn or before, sees it so for good, and is answered
   -- nothing but want of memory.

@@ -19,7 +19,7 @@ pub enum Turn {
     Strange(Foreign),
     /// The run is done.
     Done,
-    /// Want of memory, of this worker or of another one. The run is stopped.
+    /// Want of memory, of this worker or of another one. The run is stopped for good.
     NoMemory,
 }
 

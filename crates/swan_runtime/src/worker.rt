@@ -68,8 +68,9 @@ impl<B: Body, Q: Queues> Worker<B, Q> {
     /// - Busy comes where the lock was taken at this call's try. The worker keeps its frame.
     /// - Idle comes where it had no frame, took the lock, and no frame was ready.
     /// - Strange comes where the core doesn't know the frame as one that it gave. The worker keeps it.
-    /// - Done comes where the run is done.
-    /// - NoMemory comes where memory ran out, of this worker or of another one: the run is stopped for good.
+    /// - Done comes where the run is done, even if memory ran out in this turn.
+    /// - NoMemory comes where memory ran out, of this worker or of another one: the run is stopped for good, and each later turn of this worker
+    ///   answers so too.
     ///
     /// The gate is asked before the frame goes on, while nothing is locked. It never waits for another worker. It costs what its steps cost,
     /// of which there are at most 257.

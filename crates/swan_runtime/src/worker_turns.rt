@@ -73,8 +73,7 @@ fn try_under_lock<B: Body, Q: Queues>(
     };
     let Ok(Tried { turn, frame }) = held.state().try_frame(alloc, body, frame) else {
         lock.give(seat, held);
-        lock.stop(seat);
-        return Turn::NoMemory;
+        return stopped(lock, seat);
     };
     *slot = frame;
     let goes_on = settle(lock, seat, &mut held);
@@ -101,13 +100,32 @@ fn settle<B: Body, Q: Queues>(
     ensures counts { ((knows seat.new).holds ≡ (knows seat.old).holds) × ((knows seat.new).lost ≡ (knows seat.old).lost) }
     ensures yes { result ≡ true → (knows seat.new).saw_stopped ≡ (knows seat.old).saw_stopped }
     ensures done { result ≡ true → held.old.state.core.is_done ≡ true → (knows seat.new).saw_done ≡ true }
-    ensures no { result ≡ false → (knows seat.new).sign ≡ Stopped }
+    ensures no { result ≡ false → ((knows seat.new).sign ≡ Stopped) × ((knows seat.new).saw_stopped ≡ true) }
     ensures owes { (knows seat.new).owes_done ≡ true → held.old.state.core.is_done ≡ true }
 {
     if held.state().is_done() {
         lock.finish(seat, held)
     } else {
         true
+    }
+}
+
+/// What a turn answers whose memory ran out: the run is stopped, where it wasn't done before.
+fn stopped<B: Body, Q: Queues>(
+    lock: &NamedLock<SharedRun<B, Q>>,
+    seat: &mut LockSeat<SharedRun<B, Q>>,
+) -> Turn
+    requires seat { IsSeatOf lock.now false seat.old }
+    requires runs { (knows seat.old).saw_stopped ≡ false }
+    ensures seat { IsSeatOf lock.now false seat.new × IsSameSeat seat.old seat.new }
+    ensures turn { IsWorkersTurn (knows seat.old) (knows seat.new) result }
+    ensures last { is_last result ≡ true }
+{
+    lock.stop(seat);
+    if lock.is_done(seat) {
+        Turn::Done
+    } else {
+        Turn::NoMemory
     }
 }
 
@@ -166,10 +184,7 @@ fn go_on<B: Body, Q: Queues>(
             *slot = Some(frame);
             Turn::Stepped(local)
         }
-        Paused::NoMemory => {
-            lock.stop(seat);
-            Turn::NoMemory
-        }
+        Paused::NoMemory => stopped(lock, seat),
     }
 }
 
