@@ -18,8 +18,8 @@ use task_frames::{Frame, Holding};
 
 /// What sleeps under each live frame, by its number.
 ///
-/// A frame that has to wait sleeps under a live one that comes before it in serial order, and is ready again once that one has ended, or has
-/// pushed to the queue that the frame asks about. In costs, n counts the live frames.
+/// A frame that has to wait sleeps under a live one, and is ready again once that one has ended, or has pushed to the queue that the frame asks
+/// about. In costs, n counts the live frames.
 #[derive(Drop)]
 pub(crate) struct Asleep<B: Body, Q: Queues> {
     pub rows: BTreeMap<u64, Row<B, Q>>,

@@ -73,7 +73,7 @@ impl<B: Body, Q: Queues> Worker<B, Q> {
     ///   answers so too.
     ///
     /// The gate is asked before the frame goes on, while nothing is locked. It never waits for another worker. It costs what its steps cost,
-    /// of which there are at most 257.
+    /// of which there are at most 256.
     pub fn turn<G: Gate>(&mut self, alloc: Global, gate: &G) -> Turn
         requires worker { IsWorker (ends_of Q.Ends.LocalEnds) self.old }
         ensures worker { IsWorker (ends_of Q.Ends.LocalEnds) self.new }
