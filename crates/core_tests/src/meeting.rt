@@ -2,7 +2,7 @@
 ghost use Rattle.std.specs.Prelude.{IfOk};
 
 use crate::plans::asks;
-use elision_tests::{AskList, roots};
+use elision_tests::AskList;
 use std::alloc::Global;
 use std::marker::Model;
 use std::rt::Clock;
@@ -10,7 +10,7 @@ use std::sync::atomic::{AtomicU64, Ordering};
 use std::sync::{Arc, Wait};
 use std::test::Fail;
 use std::thread::Threads;
-use swan_model::{Answer, Ask, Body, NoMemory, Plan, PlanFuel};
+use swan_model::{Answer, Ask, Body, NoMemory, Plan, PlanFuel, Roots};
 use swan_outside::OpenGate;
 use swan_runtime::{Shape, run};
 
@@ -83,7 +83,7 @@ impl Body for Meeting {
     }
 }
 
-/// The root spawns two children, of which each works twice. Both are in their second step of work at once.
+/// A root with no queues and no objects spawns two children, of which each works twice. Both are in their second step of work at once.
 pub fn meet<T: Threads + Wait + Clock + Sync>(rt: &T, alloc: Global) -> Result<(), Fail> {
     let flags = Arc::new(
         alloc,
@@ -106,7 +106,7 @@ pub fn meet<T: Threads + Wait + Clock + Sync>(rt: &T, alloc: Global) -> Result<(
             flags: Arc::try_clone(&flags)?,
         },
         root_local: 0,
-        roots: roots(alloc)?,
+        roots: Roots::new(alloc),
         fuel: PlanFuel::new(9),
     };
     let shape = Shape::new(2, 16).ok_or("no shape")?;
