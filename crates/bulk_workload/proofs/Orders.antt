@@ -29,22 +29,15 @@ use Rattle.bulk_workload.specs.Bulk.{fold_fuel, fold_line, lines_before, number_
 use Rattle.bulk_workload.specs.NeverRefused.{IsNeverRefused}
 use Rattle.bulk_workload.proofs.BulkLines.{bulk_lines}
 use Rattle.bulk_workload.proofs.Digits.{AreDigits, all_digits, is_atom, isnt_equals, may_stand, no_space, of_decimal}
+use Rattle.job_reader.proofs.ReadsBack.{line_break}
 
 -- ---- the lines of a text that is made of lines
 
 abbrev are_allowed : List (List ℕ) → Bool
 are_allowed ls = list_all (list_all is_allowed) ls
 
-line_ends : (text rest : List ℕ) → list_all is_allowed text ≡ true → lines (text ++ 10 ∷ rest) ≡ text ∷ lines rest
-line_ends [] rest may = refl
-line_ends (byte ∷ text) rest may =
-    let parts = and_parts (is_allowed byte) (list_all is_allowed text) may in
-    let range = and_parts (nat_le 32 byte) (nat_le byte 126) parts.0 in
-    let isnt : (byte == 10) ≡ false = ne_eqb byte 10 (λ is. let low = leb-true 32 byte range.0 in omega arith) in
-    cond-false (byte == 10) ([] ∷ lines (text ++ 10 ∷ rest)) (before_lines byte (lines (text ++ 10 ∷ rest))) isnt ∙ ap (before_lines byte) (line_ends text rest parts.1)
-
 next_line : (text rest : List ℕ) → list_all is_allowed text ≡ true → lines (line text ++ rest) ≡ text ∷ lines rest
-next_line text rest may = ap lines (append_assoc text (10 ∷ []) rest) ∙ line_ends text rest may
+next_line text rest may = ap lines (append_assoc text (10 ∷ []) rest) ∙ line_break text rest may
 
 all_lines : (ls : List (List ℕ)) (rest : List ℕ) → are_allowed ls ≡ true → lines (flat_map line ls ++ rest) ≡ ls ++ lines rest
 all_lines [] rest may = refl

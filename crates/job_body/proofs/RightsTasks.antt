@@ -1,5 +1,6 @@
 -- What each task takes, as the check knows it and as its lines say.
 use Rattle.std.proofs.Common.{◌≡◌, ℕ, suc, ◌+◌, Bool, true, false, cond, not, Option, Some, None, Result, Ok, Err, List, [], ◌∷◌, ◌++◌, map, flat_map, drop, bytes_eq, slice_get, option_map, codes, if◌then◌else◌, refl, sym, ap, ◌∙◌, append_assoc, arith}
+use Rattle.std.proofs.lemmas.Option.{same_Some}
 use Rattle.std.proofs.lemmas.List.{append-nil}
 use Rattle.swan_model.specs.declared.rights.Mode.{Mode}
 use Rattle.swan_model.specs.declared.rights.Mode.TheVariants.{InOut, Push, Pop, PushPop}
@@ -22,9 +23,6 @@ use Rattle.job_body.proofs.RightsEntries.{access_entry}
 use Rattle.job_body.proofs.RightsKnown.{fresh_is}
 use Rattle.job_body.proofs.RightsNames.{modes, same_name}
 use Rattle.job_body.proofs.RightsPlaces.{before_from, Passes}
-
-some_same : {A : Type 0} {a b : A} → Some a ≡ Some b → a ≡ b
-some_same e = cc
 
 -- what the lines of a task take
 abbrev pub meaning_of : Line → List Declaration
@@ -90,7 +88,7 @@ task-found (line.Task other ∷ lines) name taken is = go (bytes_eq other name) 
       let next : k + 1 ≡ suc 0 = omega (arith, first) in
       record {
         at = ap (slice_get (line.Task other ∷ lines)) first ∙ ap (λ n. Some (line.Task n)) same;
-        takes = ap (λ j. meanings (before_task (drop j (line.Task other ∷ lines)))) next ∙ some_same here;
+        takes = ap (λ j. meanings (before_task (drop j (line.Task other ∷ lines)))) next ∙ same_Some _ _ here;
       }
   go false e here k first later = later-task (line.Task other) lines (task_index lines name) k name taken (omega (arith, first)) (later here)
 task-found (line ∷ lines) name taken is = later-task line lines (task_index lines name) _ name taken (omega arith) (task-found lines name taken is)
@@ -275,7 +273,7 @@ pub main-found : (lines : List Line) (before : Before) (taken : List Declaration
 main-found [] before taken passes is = absurd (cc)
 main-found (line.Task other ∷ lines) before taken passes is = go (bytes_eq other (codes "main")) refl is (main-found lines (opened other before) taken passes.1) where
   go : (b : Bool) → bytes_eq other (codes "main") ≡ b → cond b (Some (meanings (before_task lines))) (found lines (codes "main")) ≡ Some taken → (found lines (codes "main") ≡ Some taken → taken ≡ []) → taken ≡ []
-  go true e here later = sym (some_same here) ∙ main-takes lines (opened other before) other refl e passes.1
+  go true e here later = sym (same_Some _ _ here) ∙ main-takes lines (opened other before) other refl e passes.1
   go false e here later = later here
 main-found (line ∷ lines) before taken passes is = main-found lines (checks.after before line) taken passes.1 is
 

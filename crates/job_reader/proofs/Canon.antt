@@ -20,6 +20,7 @@ use Rattle.job_reader.specs.declared.atom.Atom.TheVariants.{Int, Bytes, Name}
 use Rattle.job_reader.specs.declared.fault.JobKind.{JobKind}
 use Rattle.job_reader.specs.declared.fault.JobKind.TheVariants as kind
 use Rattle.job_reader.proofs.Parses.{own, natural_digits}
+use Rattle.std.proofs.lemmas.Option.{cond_some}
 
 pub bind_ok : {A B : Type 0} (r : Result A JobKind) (f : A → Result B JobKind) (y : B) → (r >>= f) ≡ Ok y → (x : A) × (r ≡ Ok x) × (f x ≡ Ok y)
 bind_ok (Ok x) f y is = (x, refl, is)
@@ -51,11 +52,6 @@ unquoted_stays byte bytes isnt = cond-false (byte == 34) _ _ isnt
 unquoted_is_fine : (byte : ℕ) (bytes : List ℕ) → (byte == 34) ≡ false → is_fine (byte ∷ bytes) ≡ true
 unquoted_is_fine byte bytes isnt = cond-false (byte == 34) _ _ isnt
 
--- a choice between an answer and none
-chosen : {A : Type 0} (b : Bool) (x y : A) → cond b (Some x) None ≡ Some y → (b ≡ true) × (x ≡ y)
-chosen true x y is = (refl, cc)
-chosen false x y is = cc
-
 alone : (bytes : List ℕ) → is_alone bytes ≡ true → length bytes ≡ 0
 alone [] is = refl
 alone (byte ∷ bytes) is = cc
@@ -84,7 +80,7 @@ number_text (byte ∷ bytes) n is =
     ⊎_elim
     (λ (minus : (byte == 45) ≡ true).
     let v = digits_value 10 bytes in
-    let found = chosen (is_natural bytes && nat_lt 0 v && nat_le v (2 ^ 63)) (neg_ℤ (pos v)) n (sym (cond-true (byte == 45) (negative_number bytes) (plain_number (byte ∷ bytes)) minus) ∙ is) in
+    let found = cond_some (is_natural bytes && nat_lt 0 v && nat_le v (2 ^ 63)) (neg_ℤ (pos v)) n (sym (cond-true (byte == 45) (negative_number bytes) (plain_number (byte ∷ bytes)) minus) ∙ is) in
     let tests = and_parts (is_natural bytes && nat_lt 0 v) (nat_le v (2 ^ 63)) found.0 in
     let front = and_parts (is_natural bytes) (nat_lt 0 v) tests.0 in
     let most : v ≤ 2 ^ 63 = leb-true v (2 ^ 63) tests.1 in
@@ -92,7 +88,7 @@ number_text (byte ∷ bytes) n is =
     sym (ap signed_decimal found.1) ∙ minus_text v (ltb-true 0 v front.1) ∙ ap (λ ds. 45 ∷ ds) (natural_text bytes front.0 (omega arith)) ∙ ap (λ b. b ∷ bytes) (sym first))
     (λ (plain : (byte == 45) ≡ false).
     let v = digits_value 10 (byte ∷ bytes) in
-    let found = chosen (is_natural (byte ∷ bytes) && nat_lt v (2 ^ 63)) (pos v) n (sym (cond-false (byte == 45) (negative_number bytes) (plain_number (byte ∷ bytes)) plain) ∙ is) in
+    let found = cond_some (is_natural (byte ∷ bytes) && nat_lt v (2 ^ 63)) (pos v) n (sym (cond-false (byte == 45) (negative_number bytes) (plain_number (byte ∷ bytes)) plain) ∙ is) in
     let tests = and_parts (is_natural (byte ∷ bytes)) (nat_lt v (2 ^ 63)) found.0 in
     let below : v < 2 ^ 63 = ltb-true v (2 ^ 63) tests.1 in
     sym (ap signed_decimal found.1) ∙ natural_text (byte ∷ bytes) tests.0 (omega arith))

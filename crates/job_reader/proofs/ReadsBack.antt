@@ -186,7 +186,7 @@ indented_again number k position bytes l is =
     alone_again number position (replicate k 32 ++ line_text l) (line_text l) l (all_append (replicate k 32) (line_text l) (spaces_may k) again.reads.allowed) (trimmed_again k (line_text l) again.begins again.ends) again.reads
 
 -- a line ends at its line feed
-line_break : (text rest : List ℕ) → list_all is_allowed text ≡ true → lines (text ++ 10 ∷ rest) ≡ text ∷ lines rest
+pub line_break : (text rest : List ℕ) → list_all is_allowed text ≡ true → lines (text ++ 10 ∷ rest) ≡ text ∷ lines rest
 line_break [] rest may = refl
 line_break (byte ∷ text) rest may =
     let parts = and_parts (is_allowed byte) (list_all is_allowed text) may in

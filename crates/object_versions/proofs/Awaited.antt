@@ -1,6 +1,6 @@
 -- Which versions a frame waits for.
 use Rattle.std.proofs.Common.{◌≡◌, ℕ, ◌<◌, Option, None, Some, IsSome, Result, Ok, Err, IfOk, IfErr, true, refl, sym, ap, ◌∙◌, subst, arith}
-use Rattle.swan_model.proofs.Elements.{some_same}
+use Rattle.std.proofs.lemmas.Option.{none-some, same_Some}
 use Rattle.slab.specs.Slab.{Slab}
 use Rattle.swan_model.specs.declared.rights.Mode.{Mode}
 use Rattle.swan_model.specs.declared.rights.Mode.TheVariants.{In, Out}
@@ -21,7 +21,7 @@ is_some {A} o x e = let P : Option A → Type 0 = λ y. IsSome y in subst P (sym
 
 owed_by : (version : Version) (frame : ℕ) → owing_of version ≡ Some frame → version ≡ owed frame
 owed_by (settled value) frame e = absurd (cc)
-owed_by (owed other) frame e = ap owed (some_same other frame e)
+owed_by (owed other) frame e = ap owed (same_Some other frame e)
 
 given_key : (entries : Entries) (nodes : Slab Node) (frame place owing : ℕ) (has : PlacedObject) (o : Option ℕ) → has.given ≡ o → place_at entries frame place ≡ Some has
     → given_of nodes o ≡ Some owing → AwaitsAt entries nodes frame place owing
@@ -33,15 +33,12 @@ given_key entries nodes frame place owing has (Some key) given stands owes =
 abbrev pub NoneOwes : Slab Node → PlacedObject → Type 0
 NoneOwes nodes has = given_of nodes has.given ≡ None
 
-none_some : (owing : ℕ) → None ≡ Some owing → ⊥
-none_some owing e = cc
-
 pub awaits_here : (entries : Entries) (nodes : Slab Node) (frame place owing : ℕ) (has : PlacedObject) → place_at entries frame place ≡ Some has
     → given_of nodes has.given ≡ Some owing → AwaitsAt entries nodes frame place owing
 awaits_here entries nodes frame place owing has stands owes = given_key entries nodes frame place owing has has.given refl stands owes
 
 pub awaits_none : (entries : Entries) (nodes : Slab Node) (frame place owing : ℕ) (waits : AwaitsAt entries nodes frame place owing) → NoneOwes nodes waits.has → ⊥
-awaits_none entries nodes frame place owing waits none = none_some owing (sym none ∙ ap (given_of nodes) waits.given ∙ ap owing_of waits.owes)
+awaits_none entries nodes frame place owing waits none = none-some owing (sym none ∙ ap (given_of nodes) waits.given ∙ ap owing_of waits.owes)
 
 -- ---- as contracts see it
 
@@ -81,7 +78,7 @@ module _ (entries : Entries) (nodes : Slab Node) (made : ℕ) (whole : IsWhole e
   given_owes frame place owing awaits =
       let kept = kept_of entries nodes made frame place awaits.object awaits.stands in
       let waits = given_key entries nodes frame place owing kept.has kept.has.given refl kept.stands (sym (ap (λ o. o.given) kept.is) ∙ awaits.owes) in
-      let this : waits.has ≡ kept.has = some_same waits.has kept.has (sym waits.stands ∙ kept.stands) in
+      let this : waits.has ≡ kept.has = same_Some waits.has kept.has (sym waits.stands ∙ kept.stands) in
       let some : 0 < uses waits.key entries = let most = uses_at entries waits.key frame place waits.has waits.stands in let here = given_used waits.has waits.key waits.given in omega arith in
       writes waits.key owing awaits.object.object some waits.owes
       ((whole.fits frame place waits.has waits.stands).given waits.key waits.given ∙ ap (λ h. h.object) this ∙ sym (ap (λ o. o.object) kept.is))
@@ -108,16 +105,16 @@ pub present_by : (entries : Entries) (nodes : Slab Node) (made frame place : ℕ
     → (object : Placed) → placed_at (versions_of entries nodes made) frame place ≡ Some object → object.present ≡ version
 present_by entries nodes made frame place has version stands reads object seen =
     let kept = kept_of entries nodes made frame place object seen in
-    let this : kept.has ≡ has = some_same kept.has has (sym kept.stands ∙ stands) in
+    let this : kept.has ≡ has = same_Some kept.has has (sym kept.stands ∙ stands) in
     ap (λ o. o.present) kept.is ∙ ap (λ h. version_at nodes h.present) this ∙ reads
 
 pub absent : (entries : Entries) (nodes : Slab Node) (made frame place : ℕ) (object : Placed) → place_at entries frame place ≡ None
     → placed_at (versions_of entries nodes made) frame place ≡ Some object → ⊥
 absent entries nodes made frame place object none seen =
-    let kept = kept_of entries nodes made frame place object seen in none_some kept.has (sym none ∙ kept.stands)
+    let kept = kept_of entries nodes made frame place object seen in none-some kept.has (sym none ∙ kept.stands)
   where
-    none_some : (has : PlacedObject) → None ≡ Some has → ⊥
-    none_some has e = cc
+    none-some : (has : PlacedObject) → None ≡ Some has → ⊥
+    none-some has e = cc
 
 -- ---- what a parent may give
 

@@ -1,11 +1,11 @@
 -- A parent gives a child an object to read: the child's version is the parent's.
 use Rattle.std.proofs.Common.{◌≡◌, ◌⊎◌, inl, ℕ, ◌+◌, ◌<◌, None, Some, refl, map, sym, ap, ◌∙◌, subst, arith, ⊎_elim}
+use Rattle.std.proofs.lemmas.Option.{same_Some}
 use Rattle.std.proofs.lemmas.Bool.{cases_eq}
 use Rattle.std.proofs.lemmas.Map.Steps.{set_value_same}
 use Rattle.std.specs.BTreeMap.{is_at, insert_entry}
 use Rattle.std.specs.Map.{set_value, keys_of}
 use Rattle.std.specs.List.Sorted.{IsStrictlySortedBy}
-use Rattle.swan_model.proofs.Elements.{some_same}
 use Rattle.slab.specs.Slab.{Slab, get, Updates}
 use Rattle.swan_model.specs.declared.rights.Mode.TheVariants.{In}
 use Rattle.swan_model.specs.Versions.{owed, owing, place_cmp, after_access, given_from}
@@ -47,7 +47,7 @@ module _ (entries later : Entries) (old new : Slab Node) (made parent pp child c
       record {
         known = before.known;
         present = before.present;
-        given = λ k is. ap (λ n. (told_at new n).0) (sym (some_same was.present k is)) ∙ before.present;
+        given = λ k is. ap (λ n. (told_at new n).0) (sym (same_Some was.present k is)) ∙ before.present;
         reads = λ k is. refl;
         owes = λ k is. absurd (cc);
       }

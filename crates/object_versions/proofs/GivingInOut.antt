@@ -1,10 +1,10 @@
 -- A parent gives a child an object to read and write: the child's version is the parent's.
 use Rattle.std.proofs.Common.{◌≡◌, ◌≢◌, ◌⊎◌, inl, inr, ℕ, ◌+◌, ◌<◌, None, Some, refl, sym, ap, ◌∙◌, subst, arith, ⊎_elim}
+use Rattle.std.proofs.lemmas.Option.{same_Some}
 use Rattle.std.proofs.lemmas.Bool.{cases_eq}
 use Rattle.std.specs.BTreeMap.{is_at, insert_entry}
 use Rattle.std.specs.Map.{set_value, keys_of}
 use Rattle.std.specs.List.Sorted.{IsStrictlySortedBy}
-use Rattle.swan_model.proofs.Elements.{some_same}
 use Rattle.slab.specs.Slab.{Slab, get, Updates}
 use Rattle.swan_model.specs.declared.rights.Mode.TheVariants.{InOut}
 use Rattle.swan_model.specs.Versions.{owed, owing, place_cmp, after_access, given_from, with_placed, with_present}
@@ -66,9 +66,9 @@ module _ (entries with_child later : Entries) (old shared middle new : Slab Node
       record {
         known = before.known;
         present = before.present;
-        given = λ k is. ap (λ n. (told_at middle n).0) (sym (some_same was.present k is)) ∙ before.present;
+        given = λ k is. ap (λ n. (told_at middle n).0) (sym (same_Some was.present k is)) ∙ before.present;
         reads = λ k is. refl;
-        owes = λ k is. let e = some_same key k is in record {
+        owes = λ k is. let e = same_Some key k is in record {
           same = ap (λ n. (told_at middle n).0) (sym e) ∙ ap (λ t. t.0) told_key;
           may = refl;
           by = λ other h. sym (owed_same child other (sym (ap (λ t. t.1) told_key) ∙ ap (version_at middle) e ∙ h));

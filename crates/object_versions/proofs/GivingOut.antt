@@ -1,10 +1,10 @@
 -- A parent gives a child an object to write: the child's version has the zero of the object's kind.
 use Rattle.std.proofs.Common.{◌≡◌, ◌≢◌, ◌⊎◌, inr, ℕ, ◌+◌, ◌<◌, None, Some, refl, sym, ap, ◌∙◌, arith, ⊎_elim}
+use Rattle.std.proofs.lemmas.Option.{same_Some}
 use Rattle.std.proofs.lemmas.Bool.{cases_eq}
 use Rattle.std.specs.BTreeMap.{is_at, insert_entry}
 use Rattle.std.specs.Map.{set_value, keys_of}
 use Rattle.std.specs.List.Sorted.{IsStrictlySortedBy}
-use Rattle.swan_model.proofs.Elements.{some_same}
 use Rattle.slab.specs.Slab.{Slab, get, Updates}
 use Rattle.swan_model.specs.declared.rights.Mode.TheVariants.{Out}
 use Rattle.swan_model.specs.declared.value.Value.{Value}
@@ -83,7 +83,7 @@ module _ (entries with_child later : Entries) (old first middle new : Slab Node)
     present = ap (λ t. t.0) told_own;
     given = λ k is. absurd (cc);
     reads = λ k is. absurd (cc);
-    owes = λ k is. let e = some_same key k is in record {
+    owes = λ k is. let e = same_Some key k is in record {
       same = ap (λ n. (told_at middle n).0) (sym e) ∙ ap (λ t. t.0) told_key;
       may = refl;
       by = λ other h. sym (owed_same child other (sym (ap (λ t. t.1) told_key) ∙ ap (version_at middle) e ∙ h));

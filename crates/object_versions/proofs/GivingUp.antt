@@ -1,9 +1,9 @@
 -- A parent that gives an object keeps, of what it was given, only what is owed still, and whoever reads the object has
 -- the parent's version.
 use Rattle.std.proofs.Common.{◌≡◌, ◌≢◌, ℕ, Option, None, Some, IsSome, Result, Ok, Err, OnOk, refl, sym, ap, ◌∙◌, subst, ⊎_elim}
+use Rattle.std.proofs.lemmas.Option.{same_Some}
 use Rattle.std.specs.BTreeMap.{is_at, insert_entry}
 use Rattle.std.specs.Map.{set_value}
-use Rattle.swan_model.proofs.Elements.{some_same}
 use Rattle.slab.specs.Slab.{Slab}
 use Rattle.swan_model.specs.declared.rights.Mode.{Mode}
 use Rattle.swan_model.specs.Versions.{Placed, VersionState, place_cmp, placed_at, after_access, given_from, got, left_with, with_present}
@@ -27,24 +27,24 @@ module _ (entries with_child : Entries) (parent pp child cp : ℕ) (was gets : P
   came = ap (λ es. place_at es child cp) put ∙ at_inserted entries (child, cp) gets
 
   pub put_keeps : (has : PlacedObject) → place_at with_child parent pp ≡ Some has → has.given ≡ was.given
-  put_keeps has is = ap (λ o. o.given) (some_same has was (sym is ∙ there))
+  put_keeps has is = ap (λ o. o.given) (same_Some has was (sym is ∙ there))
 
   pub put_shares : (has : PlacedObject) → place_at with_child child cp ≡ Some has → has.present ≡ gets.present
-  put_shares has is = ap (λ o. o.present) (some_same has gets (sym is ∙ came))
+  put_shares has is = ap (λ o. o.present) (same_Some has gets (sym is ∙ came))
 
   module _ (later : Entries) (key : ℕ) (set : later ≡ set_value (is_at (place_cmp (parent, pp))) with_child (record was { present = key })) where
     pub set_keeps : (has : PlacedObject) → place_at later parent pp ≡ Some has → has.given ≡ was.given
     set_keeps has is =
         let changed : PlacedObject = record was { present = key } in
         let now = ap (λ es. place_at es parent pp) set ∙ at_set with_child (parent, pp) was changed there in
-        ap (λ o. o.given) (some_same has changed (sym is ∙ now))
+        ap (λ o. o.given) (same_Some has changed (sym is ∙ now))
 
     pub set_shares : parent ≢ child → (has : PlacedObject) → place_at later child cp ≡ Some has → has.present ≡ gets.present
     set_shares differ has is =
         let changed : PlacedObject = record was { present = key } in
         let now = ap (λ es. place_at es child cp) set
         ∙ still_set with_child (parent, pp) was changed (child, cp) there (λ e. differ (sym (ap (λ (n : ℕ × ℕ). n.0) e))) ∙ came in
-        ap (λ o. o.present) (some_same has gets (sym is ∙ now))
+        ap (λ o. o.present) (same_Some has gets (sym is ∙ now))
 
 -- ---- as contracts see it
 

@@ -1,5 +1,6 @@
 -- Entries by index.
 use Rattle.std.proofs.Common.{◌≡◌, ℕ, zero, suc, Bool, true, false, cond, ◌&&◌, ◌==◌, None, Some, List, [], ◌∷◌, map, find, slice_get, refl, sym, ap, ◌∙◌, arith, ⊎_elim}
+use Rattle.std.proofs.lemmas.Option.{none-some, same_Some}
 use Rattle.std.proofs.lemmas.Bool.{false≢true, cases_eq}
 use Rattle.std.proofs.lemmas.Bool.Decides.{nat_tests}
 use Rattle.std.proofs.lemmas.Cmp.{eq_by_cmp_equiv}
@@ -8,7 +9,6 @@ use Rattle.std.proofs.lemmas.Map.Keys.{IsDistinct-from_sorted}
 use Rattle.std.specs.BTreeMap.{is_at}
 use Rattle.std.specs.Map.{keys_of}
 use Rattle.std.specs.Option.{option_map}
-use Rattle.swan_model.proofs.Elements.{some_same}
 use Rattle.slab.specs.Slab.{Slab}
 use Rattle.swan_model.specs.declared.rights.Mode.TheVariants.{Out}
 use Rattle.swan_model.specs.declared.value.Value.{Value}
@@ -26,18 +26,15 @@ pub place_of : (entries : Entries) (nodes : Slab Node) (made : ℕ) (held : ℕ 
 place_of entries nodes made held whole i e is =
     lookup_from_place (eq_by_cmp_equiv place_total) entries i e.0 e.1 (IsDistinct-from_sorted place_cmp (keys_of entries) whole.sorted) is
 
-none_is : {A : Type 0} (x : A) → None ≡ Some x → ⊥
-none_is x e = cc
-
 -- the first that passes a test, where all that pass it have the same version
 pub find_only : {A B : Type 0} (p : B → Bool) (f : B → Version) (g : A → B) (xs : List A) (v : Version)
     → ((i : ℕ) (x : A) → slice_get xs i ≡ Some x → p (g x) ≡ true → f (g x) ≡ v)
     → (i : ℕ) (x : A) → slice_get xs i ≡ Some x → p (g x) ≡ true → option_map f (find p (map g xs)) ≡ Some v
-find_only p f g [] v all i x is passes = absurd (none_is x is)
+find_only p f g [] v all i x is passes = absurd (none-some x is)
 find_only {A} {B} p f g (y ∷ ys) v all zero x is passes = by (p (g y)) refl where
   by : (b : Bool) → p (g y) ≡ b → option_map f (cond b (Some (g y)) (find p (map g ys))) ≡ Some v
   by true e = ap Some (all zero y refl e)
-  by false e = absurd (false≢true (sym e ∙ ap (λ z. p (g z)) (some_same y x is) ∙ passes))
+  by false e = absurd (false≢true (sym e ∙ ap (λ z. p (g z)) (same_Some y x is) ∙ passes))
 find_only {A} {B} p f g (y ∷ ys) v all (suc i) x is passes = by (p (g y)) refl (find_only p f g ys v (λ j z at. all (suc j) z at) i x is passes) where
   by : (b : Bool) → p (g y) ≡ b → option_map f (find p (map g ys)) ≡ Some v → option_map f (cond b (Some (g y)) (find p (map g ys))) ≡ Some v
   by true e rest = ap Some (all zero y refl e)
@@ -87,6 +84,6 @@ left_of entries nodes made held n q has value whole stands may is =
         let writes = and_second (e.1.object == has.object) (allows e.1.mode Out) rest in
         let here : place_at entries n e.0.1 ≡ Some e.1 = ap (λ m. place_at entries m e.0.1) (sym owner) ∙ place_of entries nodes made held whole i e there in
         ⊎_elim
-        (λ same. let this : e.1 ≡ has = some_same e.1 has (sym here ∙ ap (place_at entries n) same ∙ stands) in ap (λ o. version_at nodes o.present) this ∙ is)
+        (λ same. let this : e.1 ≡ has = same_Some e.1 has (sym here ∙ ap (place_at entries n) same ∙ stands) in ap (λ o. version_at nodes o.present) this ∙ is)
         (λ apart. absurd (false≢true (sym (ap (λ m. allows m Out) (whole.alone n e.0.1 q e.1 has here stands apart object).0) ∙ writes)))
         (cases_eq e.0.1 q)

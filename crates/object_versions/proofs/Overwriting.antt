@@ -1,10 +1,10 @@
 -- An object is written where one place alone refers to its version: the version gets the value.
 use Rattle.std.proofs.Common.{◌≡◌, ◌≢◌, ℕ, ◌+◌, ◌<◌, Bool, true, false, cond, Option, None, Some, IsSome, List, [], ◌∷◌, map, refl, sym, ap, ◌∙◌, subst, arith, ⊎_elim}
+use Rattle.std.proofs.lemmas.Option.{same_Some}
 use Rattle.std.proofs.lemmas.Bool.{cases_eq}
 use Rattle.std.proofs.lemmas.Map.Steps.{set_value_same}
 use Rattle.std.specs.BTreeMap.{is_at}
 use Rattle.std.specs.Map.{set_value}
-use Rattle.swan_model.proofs.Elements.{some_same}
 use Rattle.slab.specs.Slab.{Slab, get, Updates}
 use Rattle.swan_model.specs.declared.value.Value.{Value}
 use Rattle.swan_model.specs.Versions.{settled, owed, owing, place_cmp, with_present, after_write, written_at}
@@ -73,7 +73,7 @@ module _ (entries : Entries) (old new : Slab Node) (made f p : ℕ) (was : Place
     counted = counted_after old new was.present _ update (λ k. uses k entries + 0) (λ k. uses k entries + 0) whole.counted (λ k apart. refl)
         (sym (ap uses_in found.is) ∙ whole.counted.exact was.present)
         (λ other is. let P : Node → Type 0 = λ o. 0 < o.uses in
-        subst P (some_same (record found.node { state = Settled value }) other is) (whole.counted.live was.present found.node found.is));
+        subst P (same_Some (record found.node { state = Settled value }) other is) (whole.counted.live was.present found.node found.is));
     fits = λ frame place other is. let fit = whole.fits frame place other is in record {
       known = fit.known;
       present = same_object other.present ∙ fit.present;

@@ -1,5 +1,6 @@
 -- What a frame has at a place after an object came to a place, or its version there was changed.
 use Rattle.std.proofs.Common.{◌≡◌, ◌⊎◌, inl, inr, ℕ, Bool, true, false, cond, None, Some, List, [], ◌∷◌, refl, sym, ap, subst, ◌∙◌}
+use Rattle.std.proofs.lemmas.Option.{none-some}
 use Rattle.std.proofs.lemmas.Bool.{false≢true}
 use Rattle.std.proofs.lemmas.Map.{keys-set_value}
 use Rattle.std.specs.List.{AllByRecursion}
@@ -57,9 +58,6 @@ pub record IsThere (state : VersionState) (frame place f p : ℕ) (has : Placed)
   pub apart : f ≡ frame → p ≡ place → ⊥
   pub was : placed_at state f p ≡ Some has
 
-none_is : (object : Placed) → None ≡ Some object → ⊥
-none_is object e = cc
-
 here_or_there : (b : Bool) (state : VersionState) (frame place f p : ℕ) (object has : Placed) → ((f ≡ frame → p ≡ place → b ≡ true)) → (b ≡ true → (f ≡ frame) × (p ≡ place))
     → cond b (Some object) (placed_at state f p) ≡ Some has → IsHere frame place object f p has ⊎ IsThere state frame place f p has
 here_or_there true state frame place f p object has back same is =
@@ -97,7 +95,7 @@ pub still_placed : (state : VersionState) (frame place : ℕ) (object : Placed) 
     → placed_at state f p ≡ Some has → placed_at (with_placed state frame place object) f p ≡ Some has
 still_placed state frame place object f p has free is =
     let apart : is_at (place_cmp (f, p)) (frame, place) ≡ false = untied (f, p) (frame, place)
-    (λ e. none_is has (sym free ∙ ap (λ (k : ℕ × ℕ). placed_at state k.0 k.1) e ∙ is)) in
+    (λ e. none-some has (sym free ∙ ap (λ (k : ℕ × ℕ). placed_at state k.0 k.1) e ∙ is)) in
     found_in place_total (frame, place) object (f, p) state.places ∙ ap (λ b. cond b (Some object) (placed_at state f p)) apart ∙ is
 
 -- a place is still there, with the same object and mode

@@ -1,8 +1,8 @@
 -- What becomes of the nodes in mid-call, and that kept versions stay whole.
 use Rattle.std.proofs.Common.{◌≡◌, ◌≢◌, ℕ, ◌+◌, ◌-◌, ◌<◌, Bool, true, false, cond, nat_lt, None, Some, refl, sym, ap, ◌∙◌, subst, arith, ⊎_elim}
+use Rattle.std.proofs.lemmas.Option.{same_Some}
 use Rattle.std.proofs.lemmas.Bool.{cases_eq}
 use Rattle.std.proofs.lemmas.Bool.Decides.{nat_tests}
-use Rattle.swan_model.proofs.Elements.{some_same}
 use Rattle.slab.specs.Slab.{Slab, get, Updates}
 use Rattle.object_versions.specs.declared.node.Node.{Node}
 use Rattle.object_versions.specs.Store.{Entries, told_of, told_at, uses, uses_in, released}
@@ -32,7 +32,7 @@ module _ (entries : Entries) (old new : Slab Node) (made : ℕ) (held later : �
       (counted_after old new key (Some node) change (λ k. uses k entries + held k) (λ k. uses k entries + later k) whole.counted
       (λ k apart. ap (λ n. uses k entries + n) (now.others k apart))
       (let none = no_use in let count = now.here in omega (arith, none, count))
-      (λ other is. let P : Node → Type 0 = λ n. 0 < n.uses in subst P (some_same node other is) some))
+      (λ other is. let P : Node → Type 0 = λ n. 0 < n.uses in subst P (same_Some node other is) some))
       (λ k h. made_told k (omega arith))
 
 -- ---- one more who refers to a node
@@ -58,7 +58,7 @@ module _ (entries : Entries) (old new : Slab Node) (made : ℕ) (held later : �
       (λ other is.
       let P : Node → Type 0 = λ o. 0 < o.uses in
       let positive : 0 < n.uses + more = omega (arith, count, some) in
-      subst P (some_same (record n { uses = n.uses + more }) other is) positive))
+      subst P (same_Some (record n { uses = n.uses + more }) other is) positive))
       (λ k h. shared_told k)
 
 -- ---- one less who refers to a node
@@ -75,7 +75,7 @@ released_live node other e = by (nat_lt 1 node.uses) refl e where
   by true is e =
       let P : Node → Type 0 = λ o. 0 < o.uses in
       let positive : 0 < node.uses - 1 = grind (arith, nat_tests) in
-      subst P (some_same (record node { uses = node.uses - 1 }) other e) positive
+      subst P (same_Some (record node { uses = node.uses - 1 }) other e) positive
   by false is e = absurd (cc)
 
 released_told : (node : Node) → 1 < node.uses → told_of (released node) ≡ told_of (Some node)

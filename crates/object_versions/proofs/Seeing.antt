@@ -1,5 +1,6 @@
 -- What contracts see of kept versions.
 use Rattle.std.proofs.Common.{◌≡◌, ℕ, ◌<◌, Option, None, Some, [], ◌∷◌, map, refl, sym, ap, ◌∙◌, arith}
+use Rattle.std.proofs.lemmas.Option.{none-some}
 use Rattle.std.proofs.lemmas.List.Sums.{sum_by-cons}
 use Rattle.std.proofs.lemmas.Map.Made.{lookup-map_values}
 use Rattle.std.specs.BTreeMap.{is_at, insert_entry}
@@ -58,14 +59,11 @@ pub record IsKept (entries : Entries) (nodes : Slab Node) (frame place : ℕ) (o
   pub stands : place_at entries frame place ≡ Some has
   pub is : object ≡ placed_of nodes has
 
-none_is : (object : Placed) → None ≡ Some object → ⊥
-none_is object e = cc
-
 pub kept_of : (entries : Entries) (nodes : Slab Node) (made frame place : ℕ) (object : Placed) → placed_at (versions_of entries nodes made) frame place ≡ Some object
     → IsKept entries nodes frame place object
 kept_of entries nodes made frame place object stands = by (place_at entries frame place) refl where
   by : (o : Option PlacedObject) → place_at entries frame place ≡ o → IsKept entries nodes frame place object
-  by None is = absurd (none_is object (sym (seen_at entries nodes made frame place ∙ ap (option_map (placed_of nodes)) is) ∙ stands))
+  by None is = absurd (none-some object (sym (seen_at entries nodes made frame place ∙ ap (option_map (placed_of nodes)) is) ∙ stands))
   by (Some has) is =
       let same : Some object ≡ Some (placed_of nodes has) = sym stands ∙ seen_some entries nodes made frame place has is in
       let e : object ≡ placed_of nodes has = cc in
@@ -75,7 +73,7 @@ pub free_of : (entries : Entries) (nodes : Slab Node) (made frame place : ℕ) �
 free_of entries nodes made frame place free = by (place_at entries frame place) refl where
   by : (o : Option PlacedObject) → place_at entries frame place ≡ o → place_at entries frame place ≡ None
   by None is = is
-  by (Some has) is = absurd (none_is (placed_of nodes has) (sym free ∙ seen_some entries nodes made frame place has is))
+  by (Some has) is = absurd (none-some (placed_of nodes has) (sym free ∙ seen_some entries nodes made frame place has is))
 
 -- an object comes to a place
 pub seen_insert : (entries : Entries) (nodes : Slab Node) (frame place : ℕ) (has : PlacedObject)

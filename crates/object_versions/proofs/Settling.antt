@@ -1,8 +1,8 @@
 -- A version that a frame owes gets the frame's value.
 use Rattle.std.proofs.Common.{◌≡◌, ℕ, ◌+◌, ◌<◌, true, cond, ◌==◌, Some, refl, sym, ap, ◌∙◌, subst, arith, ⊎_elim}
+use Rattle.std.proofs.lemmas.Option.{same_Some}
 use Rattle.std.proofs.lemmas.Bool.{cases_eq}
 use Rattle.std.specs.Option.{unwrap_or}
-use Rattle.swan_model.proofs.Elements.{some_same}
 use Rattle.slab.specs.Slab.{Slab, get, Updates}
 use Rattle.swan_model.specs.declared.value.Value.{Value}
 use Rattle.swan_model.specs.Versions.{settled, owed, VersionState, settle, left_by, IsSettled}
@@ -19,9 +19,6 @@ use Rattle.object_versions.proofs.Listing.{left_of, equal_to}
 
 settled_owes : (value : Value) (frame : ℕ) → settled value ≡ owed frame → ⊥
 settled_owes value frame e = cc
-
-key_is : (a b : ℕ) → Some a ≡ Some b → a ≡ b
-key_is a b e = cc
 
 -- what has a value is not said to be owed
 pub reads_no_owing : (nodes : Slab Node) (key : ℕ) (value : Value) (frame : ℕ) → version_at nodes key ≡ settled value
@@ -141,7 +138,7 @@ module _ (entries : Entries) (start now next : Slab Node) (made n q : ℕ) (has 
     counted = counted_after now next key _ update (λ k. uses k entries + 0) (λ k. uses k entries + 0) begun.whole.counted (λ k apart. refl)
         (sym (ap uses_in found.is) ∙ begun.whole.counted.exact key)
         (λ other is. let P : Node → Type 0 = λ o. 0 < o.uses in
-        subst P (some_same (record found.node { state = state_settled found.node.state value }) other is) (begun.whole.counted.live key found.node found.is));
+        subst P (same_Some (record found.node { state = state_settled found.node.state value }) other is) (begun.whole.counted.live key found.node found.is));
     fits = fit_next;
     owing = λ k m h is. begun.whole.owing k m h (owed_before k m is);
     alone = begun.whole.alone;
@@ -163,7 +160,7 @@ module _ (entries : Entries) (start now next : Slab Node) (made n q : ℕ) (has 
   pub is_paid : IsPaid next has
   is_paid = record {
     settled = λ k m is e. never_owes found.node.state value m
-        (sym version_next ∙ ap (version_at next) (key_is key k (sym owes ∙ is)) ∙ e);
+        (sym version_next ∙ ap (version_at next) (same_Some key k (sym owes ∙ is)) ∙ e);
   }
 
 -- before the first step

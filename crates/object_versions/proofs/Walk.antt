@@ -1,5 +1,6 @@
 -- One walk over the places of a frame, in rising order.
 use Rattle.std.proofs.Common.{◌≡◌, ◌≢◌, ◌⊎◌, inl, inr, ℕ, ◌≤◌, Bool, true, false, cond, Option, None, Some, List, [], ◌∷◌, filter, refl, sym, ap, subst, ◌∙◌, arith}
+use Rattle.std.proofs.lemmas.Option.{none-some, same_Some}
 use Rattle.std.proofs.lemmas.Bool.Decides.{nat_tests}
 use Rattle.std.proofs.lemmas.List.Kept.{IsStrictlySortedBy-filter}
 use Rattle.std.proofs.lemmas.Map.Entries.{lookup-filter-keys}
@@ -11,7 +12,6 @@ use Rattle.std.specs.BTreeMap.Range.{entries_between, range_contains}
 use Rattle.std.specs.declared.cmp.Ordering.TheVariants.{Less}
 use Rattle.std.specs.declared.ops.Bound.TheVariants.{Included, Unbounded}
 use Rattle.swan_model.specs.Versions.{place_cmp}
-use Rattle.swan_model.proofs.Elements.{some_same}
 use Rattle.object_versions.specs.declared.placed_object.PlacedObject.{PlacedObject}
 use Rattle.object_versions.specs.Store.{Entries, place_at}
 use Rattle.object_versions.proofs.Lookups.{equal_at, tied}
@@ -24,12 +24,9 @@ pub record IsWalk (entries left : Entries) (frame : ℕ) (Done : PlacedObject �
   pub there : (owner place : ℕ) (has : PlacedObject) → place_at left owner place ≡ Some has → place_at entries owner place ≡ Some has
   pub done : (place : ℕ) (has : PlacedObject) → place_at entries frame place ≡ Some has → Done has ⊎ (place_at left frame place ≡ Some has)
 
-none_is : (has : PlacedObject) → None ≡ Some has → ⊥
-none_is has e = cc
-
 -- what is true of all keys is true of one that is found
 all_found : (P : ℕ × ℕ → Type 0) (es : Entries) (n : ℕ × ℕ) (has : PlacedObject) → AllByRecursion P (keys_of es) → place_at es n.0 n.1 ≡ Some has → P n
-all_found P [] n has all is = absurd (none_is has is)
+all_found P [] n has all is = absurd (none-some has is)
 all_found P (e ∷ es) n has all is = by (is_at (place_cmp n) e.0) refl is (all_found P es n has all.1) where
   by : (b : Bool) → is_at (place_cmp n) e.0 ≡ b → cond b (Some e.1) (place_at es n.0 n.1) ≡ Some has → (place_at es n.0 n.1 ≡ Some has → P n) → P n
   by true same at rest = subst P (sym (equal_at n e.0 same)) all.0
@@ -69,7 +66,7 @@ module _ (entries left : Entries) (frame : ℕ) (Done : PlacedObject → Type 0)
   found : (n : ℕ × ℕ) (has : PlacedObject) → place_at (e ∷ left) n.0 n.1 ≡ Some has → Found n has
   found n has is = by (is_at (place_cmp n) e.0) refl is where
     by : (b : Bool) → is_at (place_cmp n) e.0 ≡ b → cond b (Some e.1) (place_at left n.0 n.1) ≡ Some has → Found n has
-    by true same at = here (equal_at n e.0 same) (some_same e.1 has at)
+    by true same at = here (equal_at n e.0 same) (same_Some e.1 has at)
     by false other at = after at
 
   -- the next entry is what stands in the map
@@ -128,7 +125,7 @@ module _ (entries left : Entries) (frame : ℕ) (Done : PlacedObject → Type 0)
 pub ends : (entries : Entries) (frame : ℕ) (Done : PlacedObject → Type 0) → IsWalk entries [] frame Done → (place : ℕ) (has : PlacedObject) → place_at entries frame place ≡ Some has → Done has
 ends entries frame Done walk place has is = elim (walk.done place has is) [
   | inl done ↦ done
-  | inr still_left ↦ absurd (none_is has still_left)
+  | inr still_left ↦ absurd (none-some has still_left)
 ]
 
 -- ---- the first entry
@@ -147,7 +144,7 @@ from_later frame owner place is = grind (arith, nat_tests)
 
 kept : (b : Bool) (o : Option PlacedObject) (has : PlacedObject) → cond b o None ≡ Some has → (b ≡ true) × (o ≡ Some has)
 kept true o has is = (refl, is)
-kept false o has is = absurd (none_is has is)
+kept false o has is = absurd (none-some has is)
 
 keys_kept : (p : ℕ × ℕ → Bool) (es : Entries) → keys_of (filter (λ e. p e.0) es) ≡ filter p (keys_of es)
 keys_kept p [] = refl

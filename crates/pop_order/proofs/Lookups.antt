@@ -1,5 +1,6 @@
 -- What every entry passes, one that is found passes.
 use Rattle.std.proofs.Common.{◌≡◌, ℕ, Bool, true, false, cond, None, Some, [], ◌∷◌, refl, sym, ap, ◌∙◌}
+use Rattle.std.proofs.lemmas.Option.{none-some}
 use Rattle.std.specs.BTreeMap.{is_at}
 use Rattle.std.specs.List.{list_all}
 use Rattle.std.specs.Ordering.{nat_cmp}
@@ -7,11 +8,8 @@ use Rattle.pop_order.proofs.Flags.{and_parts}
 use Rattle.pop_order.specs.Frames.{Frame, Frames, frame_at}
 use Rattle.swan_model.proofs.Lookups.{equal_at}
 
-none_is : (f : Frame) → None ≡ Some f → ⊥
-none_is f e = cc
-
 pub found_passes : (p : ℕ × Frame → Bool) (es : Frames) (n : ℕ) (f : Frame) → list_all p es ≡ true → frame_at es n ≡ Some f → p (n, f) ≡ true
-found_passes p [] n f all found = absurd (none_is f found)
+found_passes p [] n f all found = absurd (none-some f found)
 found_passes p (e ∷ es) n f all found = by (is_at (nat_cmp n) e.0) refl found (found_passes p es n f (and_parts (p e) (list_all p es) all).1) where
   by : (b : Bool) → is_at (nat_cmp n) e.0 ≡ b → cond b (Some e.1) (frame_at es n) ≡ Some f → (frame_at es n ≡ Some f → p (n, f) ≡ true) → p (n, f) ≡ true
   by true is h rest =

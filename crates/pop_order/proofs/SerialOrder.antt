@@ -3,7 +3,7 @@ use Rattle.std.proofs.Common.{inl, inr, ◌≡◌, ◌≢◌, ℕ, suc, zero, �
 use Rattle.std.proofs.lemmas.Bool.{and_parts, cases_eq}
 use Rattle.std.proofs.lemmas.Bool.Decides.{nat_tests}
 use Rattle.std.proofs.lemmas.List.{append-nil}
-use Rattle.std.proofs.lemmas.Option.{slice_get-get_or}
+use Rattle.std.proofs.lemmas.Option.{slice_get-get_or, same_Some, none-some}
 use Rattle.std.specs.Prelude.{slice_get}
 use Rattle.swan_model.specs.declared.script.Entry.{Entry}
 use Rattle.swan_model.specs.declared.script.Script.{Script}
@@ -28,12 +28,6 @@ below_is x y h = grind (arith, nat_tests)
 below_itself : (x : ℕ) → x < x → ⊥
 below_itself x h = omega arith
 
-one_some : (a b : ℕ) → Some a ≡ Some b → a ≡ b
-one_some a b e = cc
-
-none_some : (t : ℕ) → None ≡ Some t → ⊥
-none_some t e = cc
-
 -- what stands at a place of those that pass a test
 record StandsAt (test : Entry → Bool) (n : ℕ) (es : List Entry) (t : ℕ) : Type 0 where
   step : ℕ
@@ -46,18 +40,18 @@ further : (test : Entry → Bool) (n : ℕ) (e : Entry) (es : List Entry) (t : �
 further test n e es t s = record { step = suc s.step; place = omega (arith, s.place); entry = s.entry; stands = s.stands; passes = s.passes }
 
 at_place : (test : Entry → Bool) (n : ℕ) (es : List Entry) (k t : ℕ) → slice_get (places_from test n es) k ≡ Some t → StandsAt test n es t
-at_place test n [] k t h = absurd (none_some t h)
+at_place test n [] k t h = absurd (none-some t h)
 at_place test n (e ∷ es) k t h = by (test e) refl k h (λ j g. at_place test (n + 1) es j t g) where
   by : (b : Bool) → test e ≡ b → (k : ℕ) → slice_get (cond b (n ∷ places_from test (n + 1) es) (places_from test (n + 1) es)) k ≡ Some t
       → ((j : ℕ) → slice_get (places_from test (n + 1) es) j ≡ Some t → StandsAt test (n + 1) es t) → StandsAt test n (e ∷ es) t
-  by true is zero h rest = let same = one_some n t h in record { step = 0; place = omega arith; entry = e; stands = refl; passes = is }
+  by true is zero h rest = let same = same_Some n t h in record { step = 0; place = omega arith; entry = e; stands = refl; passes = is }
   by true is (suc k) h rest = further test n e es t (rest k h)
   by false is k h rest = further test n e es t (rest k h)
 
 -- places rise
 rising_places : (test : Entry → Bool) (n : ℕ) (es : List Entry) (i j a b : ℕ) → i < j
     → slice_get (places_from test n es) i ≡ Some a → slice_get (places_from test n es) j ≡ Some b → a < b
-rising_places test n [] i j a b lt h k = absurd (none_some a h)
+rising_places test n [] i j a b lt h k = absurd (none-some a h)
 rising_places test n (e ∷ es) i j a b lt h k = by (test e) i j lt h k (λ p q l x y. rising_places test (n + 1) es p q a b l x y) where
   by : (t : Bool) (i j : ℕ) → i < j
       → slice_get (cond t (n ∷ places_from test (n + 1) es) (places_from test (n + 1) es)) i ≡ Some a
@@ -65,7 +59,7 @@ rising_places test n (e ∷ es) i j a b lt h k = by (test e) i j lt h k (λ p q 
       → ((p q : ℕ) → p < q → slice_get (places_from test (n + 1) es) p ≡ Some a → slice_get (places_from test (n + 1) es) q ≡ Some b → a < b) → a < b
   by true zero zero l h k rest = absurd (omega arith)
   by true zero (suc j) l h k rest =
-      let first = one_some n a h in
+      let first = same_Some n a h in
       let later = at_place test (n + 1) es j b k in
       omega (arith, later.place)
   by true (suc i) zero l h k rest = absurd (omega arith)

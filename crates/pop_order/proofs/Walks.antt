@@ -216,6 +216,3 @@ module _ (frames : Frames) (queue : ℕ) (set : List Entry) (makers : List Maker
               | inr is_first ↦ is_first differ
             ],
           )
-
-pub same_number : (a b : ℕ) → Some a ≡ Some b → a ≡ b
-same_number a b e = cc

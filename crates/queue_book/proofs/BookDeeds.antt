@@ -1,5 +1,6 @@
 -- What holds of hyperqueues in plain form after a push, a pop and a test.
 use Rattle.std.proofs.Common.{◌≡◌, ℕ, ◌+◌, Bool, true, false, Option, Some, None, List, [], length, refl, sym, ap, ◌∙◌}
+use Rattle.std.proofs.lemmas.Option.{none-some}
 use Rattle.std.specs.Option.{option_map}
 use Rattle.std.specs.Prelude.{slice_get, if◌then◌else◌}
 use Rattle.slab.specs.Slab.{Slab}
@@ -33,15 +34,12 @@ use Rattle.queues.proofs.TurnsCalls.{turns_deed}
 abbrev pub counted : KeptFrame → KeptFrame
 counted kept = record kept { deeds = kept.deeds + 1 }
 
-none_lent : (lent : Lent) → None ≡ Some lent → ⊥
-none_lent lent e = cc
-
 -- ends that are back
 pub not_lent : (kept : KeptFrame) (lent : Option Lent) → lent ≡ lent_of kept → lent ≡ None → kept.is_lent ≡ false
 not_lent kept lent is back = by kept.is_lent refl where
   by : (b : Bool) → kept.is_lent ≡ b → b ≡ false
   by true e =
-      absurd (none_lent (record { deeds = kept.deeds; ends = [] }) (sym back ∙ is ∙ ap (λ b. if b then Some (record { deeds = kept.deeds; ends = [] }) else None) e))
+      absurd (none-some (record { deeds = kept.deeds; ends = [] }) (sym back ∙ is ∙ ap (λ b. if b then Some (record { deeds = kept.deeds; ends = [] }) else None) e))
   by false e = refl
 
 pub lent_none : (kept : KeptFrame) → kept.is_lent ≡ false → lent_of kept ≡ None

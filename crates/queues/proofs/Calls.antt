@@ -1,5 +1,6 @@
 -- Calls that make no queue and no frame leave hyperqueues that follow.
 use Rattle.queues.proofs.ActiveAfter.{KeepsTask}
+use Rattle.std.proofs.lemmas.Option.{same_Some}
 use Rattle.std.proofs.Common.{◌≡◌, inl, ℕ, zero, suc, ◌+◌, ◌-◌, ◌≤◌, true, false, nat_eq, List, [], ◌∷◌, length, Some, None, refl, sym, ap, subst, ◌∙◌, arith}
 use Rattle.std.proofs.lemmas.Bool.{eqb-true}
 use Rattle.std.specs.Prelude.{slice_get, filter}
@@ -13,7 +14,7 @@ use Rattle.swan_model.specs.QueueFollows.{AreByEnds, IsTask, QueuesFollow, is_by
 use Rattle.swan_model.specs.QueueState.{ActiveFrame, LentEnd, QueueState, active, after_back, after_deed, after_lend, after_take_rest, new_state, root_frame, with_deed}
 use Rattle.swan_model.proofs.Lists.{some_within}
 use Rattle.queues.proofs.Changing.{changed_follows, made_on, task_on}
-use Rattle.swan_model.proofs.Elements.{found_is, some_same}
+use Rattle.swan_model.proofs.Elements.{found_is}
 use Rattle.queues.proofs.Lineage.{is_spawn_time}
 use Rattle.queues.proofs.Moving.{is_making, point_next, used_task}
 use Rattle.queues.proofs.Places.{take-none}
@@ -130,7 +131,7 @@ rest_follows s state follows queue =
 -- ---- before the first call
 
 pub at_root : (i : ℕ) (frame : ActiveFrame) → slice_get (root_frame ∷ []) i ≡ Some frame → root_frame ≡ frame
-at_root zero frame is = some_same root_frame frame is
+at_root zero frame is = same_Some root_frame frame is
 at_root (suc i) frame is = absurd (cc)
 
 pub only_root : (n : ℕ) (frame : ActiveFrame) → active new_state n ≡ Some frame → (root_frame ≡ frame) × (n ≡ 0)

@@ -2,7 +2,7 @@
 use Rattle.queues.proofs.ActiveAfter.{KeepsTask}
 use Rattle.std.proofs.Common.{◌≡◌, ◌⊎◌, inl, inr, ℕ, ◌≤◌, Bool, true, false, nat_eq, nat_lt, cond, List, [], ◌∷◌, ◌++◌, length, map, Option, Some, None, refl, sym, ap, subst, ◌∙◌, arith}
 use Rattle.std.proofs.lemmas.Bool.{cases_eq, eq-eqb, eqb-true, lt-ltb, ltb-true, ne_eqb, or_cases, or_left, or_right}
-use Rattle.std.proofs.lemmas.Option.{slice_get-map}
+use Rattle.std.proofs.lemmas.Option.{slice_get-map, same_Some}
 use Rattle.std.specs.List.{find, list_all}
 use Rattle.std.specs.Option.{option_map, option_map_or}
 use Rattle.std.specs.Prelude.{not, slice_get}
@@ -12,7 +12,7 @@ use Rattle.swan_model.specs.declared.script.Script.{Script}
 use Rattle.swan_model.specs.PathOrder.{is_under}
 use Rattle.swan_model.specs.QueueFollows.{IsChildOf, IsMade, IsTask, QueuesFollow, is_done_among, is_reached, queue_origin, queue_point, queue_time}
 use Rattle.swan_model.specs.QueueState.{ActiveFrame, QueueMaker, planned, made_by, QueueState, active, changed}
-use Rattle.swan_model.proofs.Elements.{all_each, all_from, find_map, mapped_is, some_same}
+use Rattle.swan_model.proofs.Elements.{all_each, all_from, find_map, mapped_is}
 use Rattle.queues.proofs.Frames.{active_number}
 
 kept : {Y : Type 0} (get : ActiveFrame → Y) (change : ActiveFrame → ActiveFrame) → ((f : ActiveFrame) → get (change f) ≡ get f) → (b : Bool) (f : ActiveFrame) → get (cond b (change f) f) ≡ get f
@@ -107,7 +107,7 @@ module _ (s : Script) (state : QueueState) (follows : QueuesFollow s state) (new
       by false other = omega arith
       by true same =
           let at : active state number ≡ Some x = ap (active state) (sym (eqb-true x.number number same)) ∙ here in
-          let one : frame ≡ x = some_same frame x (sym live ∙ at) in
+          let one : frame ≡ x = same_Some frame x (sym live ∙ at) in
           subst (λ (f : ActiveFrame). queue_point s f.path f.deeds ≤ queue_point s (change f).path (change f).deeds) one later
 
   pub done_on : (t : ℕ) → is_done_among s state t ≡ true → is_done_among s new t ≡ true
@@ -127,7 +127,7 @@ module _ (s : Script) (state : QueueState) (follows : QueuesFollow s state) (new
     task_now n old before = elim (cases_eq n number) [
       | inl same ↦
           let at : active state number ≡ Some old = ap (active state) (sym same) ∙ before in
-          let one : frame ≡ old = some_same frame old (sym live ∙ at) in
+          let one : frame ≡ old = same_Some frame old (sym live ∙ at) in
           let own : nat_eq old.number number ≡ true = eq-eqb old.number number (active_number state n old before ∙ same) in
           let here : IsTask s new (change old) = subst (λ f. IsTask s new (change f)) one task in
           subst (λ b. IsTask s new (cond b (change old) old)) (sym own) here

@@ -1,7 +1,7 @@
 -- A reading in which one frame has gone on fits a state in which that frame has.
 use Rattle.std.proofs.Common.{◌≡◌, inl, inr, ℕ, ◌+◌, ◌<◌, ◌≤◌, Bool, true, false, nat_eq, cond, length, map, Option, Some, None, refl, sym, ap, subst, ◌∙◌, arith}
 use Rattle.std.proofs.lemmas.Bool.{cases_eq, eq-eqb, ne_eqb}
-use Rattle.std.proofs.lemmas.Option.{slice_get-map}
+use Rattle.std.proofs.lemmas.Option.{slice_get-map, same_Some}
 use Rattle.std.specs.List.{find}
 use Rattle.std.specs.Option.{option_map}
 use Rattle.std.specs.Prelude.{slice_get}
@@ -12,7 +12,7 @@ use Rattle.swan_model.specs.QueueState.{ActiveFrame, QueueState, active, changed
 use Rattle.swan_model.specs.Readings.{more_by}
 use Rattle.swan_model.specs.SerialTime.{Progress, Reading, frame_of, point, times}
 use Rattle.queues.proofs.Advancing.{fits_same}
-use Rattle.swan_model.proofs.Elements.{find_map, mapped_is, some_same}
+use Rattle.swan_model.proofs.Elements.{find_map, mapped_is}
 use Rattle.queues.proofs.Refitting.{GoesTo, refits}
 use Rattle.queues.proofs.Frames.{active_number}
 use Rattle.queues.proofs.SerialPoints.{frame_number}
@@ -95,7 +95,7 @@ module _ (s : Script) (state : QueueState) (r : Reading) (fits : Fits s state r)
   after = record p { done = p.done + many }
 
   pub its : (index : ℕ) (x : Progress) → slice_get r.frames index ≡ Some x → x.number ≡ number → p ≡ x
-  its index x at same = some_same p x (sym known ∙ ap (frame_of r) (sym same) ∙ fits.numbers index x at)
+  its index x at same = same_Some p x (sym known ∙ ap (frame_of r) (sym same) ∙ fits.numbers index x at)
 
   pub own_more : more_by number many p ≡ after
   own_more = ap (λ b. cond b after p) (eq-eqb p.number number (frame_number r number p known))

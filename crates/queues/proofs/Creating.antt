@@ -2,7 +2,7 @@
 use Rattle.queues.proofs.ActiveAfter.{KeepsTask}
 use Rattle.std.proofs.Common.{◌≡◌, inl, inr, ℕ, ◌+◌, ◌<◌, Bool, true, false, nat_eq, nat_lt, cond, List, [], ◌∷◌, ◌++◌, length, map, Some, refl, sym, ap, subst, ◌∙◌, append-nil, arith, length-append}
 use Rattle.std.proofs.lemmas.Bool.{and_parts, cases_Bool, cases_eq, eq-eqb, ne_eqb, false_from_ne_true, lt-ltb, ltb-true, or_cases, or_left, or_right}
-use Rattle.std.proofs.lemmas.Option.{slice_get-map, slice_get_within}
+use Rattle.std.proofs.lemmas.Option.{slice_get-map, slice_get_within, same_Some}
 use Rattle.std.specs.Option.{option_map}
 use Rattle.std.specs.Prelude.{◌&&◌, not, slice_get}
 use Rattle.swan_model.specs.declared.origin.Origin.{Origin}
@@ -27,7 +27,7 @@ use Rattle.swan_model.proofs.ScriptSteps.{deed_is, own_under}
 use Rattle.swan_model.proofs.Uses.{may_use-less}
 use Rattle.queues.proofs.Between.{point_left, queue_point-own}
 use Rattle.queues.proofs.Changing.{changed_follows, done_from}
-use Rattle.swan_model.proofs.Elements.{all_from, as_number, found_is, mapped_is, more_cases, some_same}
+use Rattle.swan_model.proofs.Elements.{all_from, as_number, found_is, mapped_is, more_cases}
 use Rattle.queues.proofs.Holders.{all_allowed, maker_above, root_may}
 use Rattle.queues.proofs.Kept.{use_kept}
 use Rattle.queues.proofs.Lineage.{child_spawned, entries_before}
@@ -178,7 +178,7 @@ module _ (s : Script) (lawful : IsLawful s) (state : QueueState) (follows : Queu
 
         own : (x : ActiveFrame) → active state x.number ≡ Some x → x.number ≡ frame.number → is_reached s here own_here.entry.path (changed frame.number change x) ≡ true
         own x known same =
-            let one : frame ≡ x = some_same frame x (sym live ∙ ap (active state) (sym same) ∙ known) in
+            let one : frame ≡ x = same_Some frame x (sym live ∙ ap (active state) (sym same) ∙ known) in
             let reached : is_reached s here own_here.entry.path (change frame) ≡ true = or_right (not (is_under frame.path own_here.entry.path)) (nat_lt here beyond) (lt-ltb here beyond after_here) in
             let moved : is_reached s here own_here.entry.path (change x) ≡ true = subst (λ f. is_reached s here own_here.entry.path (change f) ≡ true) one reached in
             subst (λ b. is_reached s here own_here.entry.path (cond b (change x) x) ≡ true) (sym (eq-eqb x.number frame.number same)) moved

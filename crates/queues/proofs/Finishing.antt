@@ -1,5 +1,6 @@
 -- A state without a frame that has finished follows.
 use Rattle.std.proofs.Common.{◌≡◌, ℕ, zero, suc, Bool, true, false, nat_eq, cond, List, [], ◌∷◌, Some, refl, sym, ap, ◌∙◌, arith}
+use Rattle.std.proofs.lemmas.Option.{same_Some}
 use Rattle.std.proofs.lemmas.Bool.{both_ways, cond-false, false_from_ne_true, eq-eqb, eqb-true, ne_eqb, not-true}
 use Rattle.std.specs.List.{find}
 use Rattle.std.specs.Prelude.{not, slice_get, filter}
@@ -7,7 +8,7 @@ use Rattle.swan_model.specs.declared.script.Script.{Script}
 use Rattle.swan_model.specs.QueueFollows.{IsChildOf, QueuesFollow, is_done_among, is_reached}
 use Rattle.swan_model.specs.QueueState.{ActiveFrame, IsActiveChild, QueueState, active, after_finish}
 use Rattle.queues.proofs.Changing.{done_from, done_is, made_on, task_on}
-use Rattle.swan_model.proofs.Elements.{all_each, all_from, found_is, some_same}
+use Rattle.swan_model.proofs.Elements.{all_each, all_from, found_is}
 
 -- what stands among those that pass a test stands in the list
 record Stood {X : Type 0} (test : X → Bool) (xs : List X) (x : X) : Type 0 where
@@ -24,7 +25,7 @@ stood_in {X = X} test (y ∷ xs) i x is = by (test y) refl i is (λ j rest. stoo
   where
     by : (b : Bool) → test y ≡ b → (i : ℕ) → slice_get (cond b (y ∷ filter test xs) (filter test xs)) i ≡ Some x → ((j : ℕ) → slice_get (filter test xs) j ≡ Some x → Stood test xs x) → Stood test (y ∷ xs) x
     by true passes zero is rest =
-        let same : y ≡ x = some_same y x is in
+        let same : y ≡ x = same_Some y x is in
         record { index = 0; at = is; passes = ap test (sym same) ∙ passes }
     by true passes (suc i) is rest = further test y xs x (rest i is)
     by false fails i is rest = further test y xs x (rest i is)

@@ -10,6 +10,7 @@ use Rattle.swan_model.specs.QueueState.{ActiveFrame, QueueRight, QueueState, act
 use Rattle.swan_model.specs.Rights.{allows, is_queue_mode}
 use Rattle.queues.specs.Tree.{has_queue}
 use Rattle.swan_model.proofs.Elements.{found_is}
+use Rattle.swan_model.proofs.Uses.{allows-more}
 
 -- the active frame of a number has that number
 pub active_number : (state : QueueState) (number : ℕ) (frame : ActiveFrame) → active state number ≡ Some frame → frame.number ≡ number
@@ -36,10 +37,6 @@ allows_own Push = refl
 allows_own Pop = refl
 allows_own PushPop = refl
 
--- the rights of a mode that another one has among its rights are among those too
-pub allows_through : (own between mode : Mode) → allows own between ≡ true → allows between mode ≡ true → allows own mode ≡ true
-allows_through own between mode first second = grind arith
-
 -- who may use a queue has it
 pub has_held : (frame : ActiveFrame) (queue : ℕ) (mode : Mode) → holds_queue frame queue mode ≡ true → has_queue frame queue ≡ true
 has_held frame queue mode held =
@@ -51,7 +48,7 @@ pub held_through : (frame : ActiveFrame) (queue : ℕ) (mode other : Mode) → h
 held_through frame queue mode other held allowed =
     any_too (λ right. (right.queue == queue) && allows right.mode mode) (λ right. (right.queue == queue) && allows right.mode other)
     (λ right both. let parts = and_parts (right.queue == queue) (allows right.mode mode) both in
-    and_from (right.queue == queue) (allows right.mode other) parts.0 (allows_through right.mode mode other parts.1 allowed)) frame.rights held
+    and_from (right.queue == queue) (allows right.mode other) parts.0 (allows-more right.mode mode other parts.1 allowed)) frame.rights held
 
 -- a mode by which a frame has a queue
 pub some_mode : (rights : List QueueRight) (queue : ℕ) → list_any (λ right. right.queue == queue) rights ≡ true

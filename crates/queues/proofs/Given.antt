@@ -1,7 +1,7 @@
 -- What a child may use of the queues that it is given.
 use Rattle.std.proofs.Common.{◌≡◌, inl, inr, ℕ, ◌<◌, Bool, true, false, nat_eq, cond, List, [], ◌∷◌, length, map, Some, refl, sym, ap, subst, ◌∙◌}
 use Rattle.std.proofs.lemmas.Bool.{and_parts, eq-eqb, eqb-true, or_cases}
-use Rattle.std.proofs.lemmas.Option.{slice_get_within}
+use Rattle.std.proofs.lemmas.Option.{slice_get_within, same_Some}
 use Rattle.std.specs.List.{list_any}
 use Rattle.std.specs.Prelude.{◌&&◌, ◌||◌, slice_get, filter}
 use Rattle.swan_model.specs.declared.origin.Origin.{Origin}
@@ -16,7 +16,7 @@ use Rattle.swan_model.specs.Rights.{allows, is_queue_mode}
 use Rattle.swan_model.specs.Told.{is_same}
 use Rattle.swan_model.proofs.Origins.{is_same-equal, is_same-self}
 use Rattle.queues.proofs.Making.{is_right}
-use Rattle.swan_model.proofs.Elements.{answers_same, mapped_is, some_same}
+use Rattle.swan_model.proofs.Elements.{answers_same, mapped_is}
 
 -- a mode of objects allows no use of a queue
 object_allows : (has mode : Mode) → is_queue_mode has ≡ false → is_queue_mode mode ≡ true → allows has mode ≡ false
@@ -78,7 +78,7 @@ module _ (s : Script) (state : QueueState) (follows : QueuesFollow s state) (que
   same_queue right origin of known made =
       answers_same (nat_eq right.queue queue) (is_same of origin)
       (λ is.
-      let same : of ≡ origin = some_same of origin (sym known ∙ ap (queue_origin s state) (eqb-true right.queue queue is) ∙ made) in
+      let same : of ≡ origin = same_Some of origin (sym known ∙ ap (queue_origin s state) (eqb-true right.queue queue is) ∙ made) in
       ap (λ o. is_same o origin) same ∙ is_same-self origin)
       (λ is.
       let same = is_same-equal of origin is in

@@ -1,5 +1,6 @@
 -- A state with one frame more follows, where that frame is a new task of the script.
 use Rattle.std.proofs.Common.{◌≡◌, ◌⊎◌, inl, inr, ℕ, zero, suc, ◌+◌, Bool, true, false, nat_eq, cond, List, [], ◌∷◌, ◌++◌, length, Option, Some, None, refl, sym, ap, subst, ◌∙◌, arith, length-append}
+use Rattle.std.proofs.lemmas.Option.{same_Some}
 use Rattle.std.proofs.lemmas.Bool.{cases_eq, eq-eqb, eqb-true}
 use Rattle.std.proofs.lemmas.List.Folds.{find-append}
 use Rattle.std.specs.List.{find}
@@ -10,7 +11,7 @@ use Rattle.swan_model.specs.declared.script.Script.{Script}
 use Rattle.swan_model.specs.QueueFollows.{IsChildOf, IsMade, IsTask, QueuesFollow, is_reached, queue_time}
 use Rattle.swan_model.specs.QueueState.{ActiveFrame, QueueMaker, planned, made_by, QueueState, active}
 use Rattle.queues.proofs.Changing.{done_from, done_is, task_on}
-use Rattle.swan_model.proofs.Elements.{all_each, all_from, more_cases, some_same}
+use Rattle.swan_model.proofs.Elements.{all_each, all_from, more_cases}
 
 module _ (s : Script) (state : QueueState) (follows : QueuesFollow s state) where
   -- while any frame is active the root is
@@ -56,7 +57,7 @@ module _ (s : Script) (state : QueueState) (follows : QueuesFollow s state) (chi
       by (active state n) refl (sym (find-append (λ (f : ActiveFrame). nat_eq f.number n) state.frames (child ∷ [])) ∙ now)
     where
       own : (b : Bool) → nat_eq child.number n ≡ b → cond b (Some child) None ≡ Some y → (n ≡ child.number) × (child ≡ y)
-      own true same is = (sym (eqb-true child.number n same), some_same child y is)
+      own true same is = (sym (eqb-true child.number n same), same_Some child y is)
       own false same is = absurd (cc)
 
       by : (o : Option ActiveFrame) → active state n ≡ o → option_or o (find (λ (f : ActiveFrame). nat_eq f.number n) (child ∷ [])) ≡ Some y → (active state n ≡ Some y) ⊎ ((n ≡ child.number) × (child ≡ y))
@@ -121,7 +122,7 @@ module _ (s : Script) (state : QueueState) (follows : QueuesFollow s state) (chi
             | inl before ↦ child_on y p (follows.children n p y before up)
             | inr here ↦
                 let parents : Some parent ≡ Some p = sym of ∙ ap (λ (f : ActiveFrame). f.parent) here.1 ∙ up in
-                let one : parent ≡ p = some_same parent p parents in
+                let one : parent ≡ p = same_Some parent p parents in
                 subst (λ f. IsChildOf s grown f p) here.1 (subst (IsChildOf s grown child) one (child_on child parent spawned))
           ];
           different = different_now;

@@ -1,7 +1,7 @@
 -- Active frames below others: their spawns are done.
 use Rattle.std.proofs.Common.{◌≡◌, inl, inr, ℕ, zero, suc, ◌+◌, ◌-◌, ◌<◌, ◌≤◌, Bool, true, false, cond, List, [], ◌∷◌, ◌++◌, length, take, Some, refl, sym, ap, subst, ◌∙◌, append_assoc, arith, take_all}
 use Rattle.std.proofs.lemmas.Bool.{and_parts, cases_eq, cases_lt, false_from_ne_true}
-use Rattle.std.proofs.lemmas.Option.{slice_get-get_or, slice_get_within}
+use Rattle.std.proofs.lemmas.Option.{slice_get-get_or, slice_get_within, same_Some}
 use Rattle.std.specs.Prelude.{◌&&◌, slice_index, filter}
 use Rattle.swan_model.specs.declared.script.Entry.{Entry}
 use Rattle.swan_model.specs.declared.script.Script.{Script}
@@ -19,7 +19,7 @@ use Rattle.swan_model.proofs.Places.{passing, passing-rises, passing-stays, plac
 use Rattle.swan_model.proofs.ScriptSteps.{deed_is}
 use Rattle.swan_model.proofs.TaskEntries.{is_spawn_of}
 use Rattle.queues.proofs.Between.{deed_left, deeds_before, is_queue_deed_of, no_spawn, own_last, point_left, point_over, queue_point-own, last_own}
-use Rattle.swan_model.proofs.Elements.{some_same, taken_stands}
+use Rattle.swan_model.proofs.Elements.{taken_stands}
 use Rattle.queues.proofs.Places.{Tells, both_places, places-many, places-take}
 use Rattle.queues.proofs.QueuePoints.{spawn-gives, spawn_at}
 
@@ -147,7 +147,7 @@ module _ (s : Script) (lawful : IsLawful s) where
         let parent = has_parent number frame live (λ root. not_root above.path [] child (sym is ∙ root)) in
         let both = last_same parent.of.above.path above.path parent.of.index child (sym parent.of.path ∙ is) in
         let same : parent.parent ≡ top = follows.different parent.parent top parent.of.above above parent.of.live there both.0 in
-        let frames : parent.of.above ≡ above = some_same parent.of.above above (sym parent.of.live ∙ ap (active state) same ∙ there) in
+        let frames : parent.of.above ≡ above = same_Some parent.of.above above (sym parent.of.live ∙ ap (active state) same ∙ there) in
         let spawned : parent.of.index < above.children = subst (λ (f : ActiveFrame). parent.of.index < f.children) frames parent.of.spawned in
         omega (arith, spawned, both.1)
     child_spawned zero number top frame above child (x ∷ xs) long live there is = absurd (omega arith)

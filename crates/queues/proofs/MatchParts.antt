@@ -1,5 +1,6 @@
 -- What a match says of the first chunk, and of a chunk further on.
 use Rattle.std.proofs.Common.{◌≡◌, ℕ, zero, suc, ◌<◌, ◌≤◌, inl, inr, true, false, cond, List, [], ◌∷◌, ◌++◌, length, Option, Some, None, refl, sym, ap, subst, ◌∙◌, arith}
+use Rattle.std.proofs.lemmas.Option.{same_Some}
 use Rattle.std.proofs.lemmas.Bool.{cases_lt}
 use Rattle.std.specs.Option.{option_and_then}
 use Rattle.std.specs.Prelude.{slice_get}
@@ -16,7 +17,6 @@ use Rattle.queues.specs.Chunks.{Chunk, Chunks, HasItems, HasTaken, IsOwner, ends
 use Rattle.queues.specs.Chunks.HasItems.{chunk as items_chunk}
 use Rattle.queues.specs.Chunks.HasTaken.{chunk as taken_chunk}
 use Rattle.queues.proofs.Between.{deed_left, own_last, point_left, point_over}
-use Rattle.swan_model.proofs.Elements.{some_same}
 use Rattle.queues.proofs.Segments.{segment}
 
 -- a task's point among queues is not after its end
@@ -56,7 +56,7 @@ owns_at state chunks index number frame is live =
 
 pub owns_first : (state : QueueState) (first : Chunk) (chunks : Chunks) (frame : ActiveFrame) → OwnsAt state (first ∷ chunks) 0 frame → owner_of state first ≡ Some frame
 owns_first state first chunks frame is =
-    let same : first ≡ is.chunk = some_same first is.chunk is.stands in
+    let same : first ≡ is.chunk = same_Some first is.chunk is.stands in
     ap (owner_of state) same ∙ is.owner
 
 pub owns_rest : (state : QueueState) (first : Chunk) (chunks : Chunks) (index : ℕ) (frame : ActiveFrame) → OwnsAt state (first ∷ chunks) (suc index) frame → OwnsAt state chunks index frame

@@ -1,5 +1,6 @@
 -- A pop takes the first item of the first chunk.
 use Rattle.std.proofs.Common.{◌≡◌, ℕ, zero, suc, ◌+◌, true, false, cond, [], ◌∷◌, drop, Option, Some, None, refl, sym, ap, subst, ◌∙◌, arith}
+use Rattle.std.proofs.lemmas.Option.{same_Some}
 use Rattle.std.specs.Prelude.{slice_get}
 use Rattle.swan_model.specs.declared.origin.Origin.{Origin}
 use Rattle.swan_model.specs.declared.rights.Mode.TheVariants.{Pop}
@@ -15,7 +16,6 @@ use Rattle.swan_model.proofs.ScriptCounts.{taken_rises}
 use Rattle.queues.specs.Chunks.{Chunk, Chunks, HasItems, HasTaken, IsOwner, Matches, goes_on_popping, owner_of, pops_at, without_first}
 use Rattle.queues.specs.Chunks.HasItems.{chunk as items_chunk}
 use Rattle.queues.specs.Chunks.HasTaken.{chunk as taken_chunk}
-use Rattle.swan_model.proofs.Elements.{some_same}
 use Rattle.queues.proofs.MatchDeed.{HasDone, counts_stay, does, takes_later}
 use Rattle.queues.proofs.MatchFront.{as_left, holds_now}
 use Rattle.queues.proofs.MatchOwners.{OtherOwnersStay, IsOnce, none_changed, own_same}
@@ -32,7 +32,7 @@ module _ (s : Script) (state after : QueueState) (number : ℕ) (queue : Origin)
   taken_moved [] at to index has others once own none is_at = absurd (cc (own.stands))
   taken_moved (first ∷ chunks) at to zero has others once own none is_at =
       let parts = taken_from s state number queue end first chunks at has in
-      let owns : first.owner ≡ Some n = ap (λ (c : Chunk). c.owner) (some_same first own.chunk own.stands) ∙ own.owns in
+      let owns : first.owner ≡ Some n = ap (λ (c : Chunk). c.owner) (same_Some first own.chunk own.stands) ∙ own.owns in
       let was = owner_at state first n frame owns live in
       let is : owner_of after first ≡ Some later = owner_at after first n later owns now in
       let behind = none_changed state after n chunks (λ index chunk stands not. others (suc index) chunk stands not) (PopsSame s number queue) (pops_itself s number queue)

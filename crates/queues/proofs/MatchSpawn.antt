@@ -1,5 +1,6 @@
 -- A spawn: the child goes on in the chunk of its parent, and the parent gets an empty one behind it.
 use Rattle.std.proofs.Common.{◌≡◌, inl, inr, ℕ, ◌+◌, Bool, true, false, cond, List, [], ◌∷◌, ◌++◌, Option, Some, None, refl, sym, ap, subst, ◌∙◌, arith}
+use Rattle.std.proofs.lemmas.Option.{same_Some}
 use Rattle.std.proofs.lemmas.Bool.{both_ways, cases_Bool, false_from_ne_true}
 use Rattle.std.specs.List.{list_any}
 use Rattle.std.specs.Prelude.{◌==◌}
@@ -25,7 +26,6 @@ use Rattle.queues.specs.Chunks.HasItems.{chunk as items_chunk}
 use Rattle.queues.specs.Chunks.HasTaken.{chunk as taken_chunk}
 use Rattle.queues.specs.Tree.{IsTree, has_queue}
 use Rattle.queues.proofs.ActiveAfter.{child_spawned, others_spawned, parent_spawned}
-use Rattle.swan_model.proofs.Elements.{some_same}
 use Rattle.queues.proofs.Frames.{has_held, some_mode}
 use Rattle.queues.proofs.Given.{child_rights}
 use Rattle.queues.proofs.Gives.{gives_held}
@@ -205,7 +205,7 @@ module _ (s : Script) (lawful : IsLawful s) (state : QueueState) (follows : Queu
       has_chunk : has_queue frame number ≡ false → (index : ℕ) → IsOwner state chunks index n → ⊥
       has_chunk none index is =
           let owner = owners.owners index n is in
-          let same : owner.0 ≡ frame = some_same owner.0 frame (sym owner.1 ∙ live) in
+          let same : owner.0 ≡ frame = same_Some owner.0 frame (sym owner.1 ∙ live) in
           both_ways (has_queue frame number) none (ap (λ f. has_queue f number) (sym same) ∙ owner.2)
 
       pub taken_spawn_other : (at : ℕ) → HasTaken s state number queue end chunks at → HasTaken s (after_spawn state frame c gives) number queue end chunks at

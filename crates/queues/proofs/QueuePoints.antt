@@ -1,7 +1,7 @@
 -- What one queue deed makes of a task's point among queues: what was pushed to each queue by then, and what was taken.
 use Rattle.std.proofs.Common.{◌≡◌, ◌⊎◌, ℕ, zero, suc, ◌+◌, ◌-◌, ◌<◌, ◌≤◌, inl, inr, Bool, true, false, nat_lt, cond, List, [], ◌∷◌, length, Some, None, refl, sym, ap, subst, ◌∙◌, arith, append_assoc}
 use Rattle.std.proofs.lemmas.Bool.{and_parts, both_ways, cases_Bool, cases_lt, false_from_ne_true, lt-ltb, ltb-true}
-use Rattle.std.proofs.lemmas.Option.{slice_get_within}
+use Rattle.std.proofs.lemmas.Option.{slice_get_within, cond_some}
 use Rattle.std.specs.Prelude.{slice_get}
 use Rattle.swan_model.specs.declared.origin.Origin.{Origin}
 use Rattle.swan_model.specs.declared.script.Deed.{Deed}
@@ -87,10 +87,6 @@ module _ (s : Script) where
   pub still_same : (queue : Origin) (path : List ℕ) (n m : ℕ) → IsStill s path n m → IsSame s queue m n
   still_same queue path n m still = still_same-by queue path n m still (m - n) m (omega (arith, still.order)) (omega arith)
 
-deed-parts : (b : Bool) (does d : Deed) → cond b (Some does) None ≡ Some d → (b ≡ true) × (does ≡ d)
-deed-parts true does d is = (refl, cc)
-deed-parts false does d is = absurd (cc)
-
 none-parts : (b : Bool) (does : Deed) → cond b (Some does) None ≡ None → b ≡ false
 none-parts true does is = absurd (cc)
 none-parts false does is = refl
@@ -103,7 +99,7 @@ pub record IsNextDeed (s : Script) (path : List ℕ) (deeds : ℕ) (d : Deed) : 
 
 pub next_is : (s : Script) (path : List ℕ) (deeds : ℕ) (d : Deed) → next_queue_deed s path deeds ≡ Some d → IsNextDeed s path deeds d
 next_is s path deeds d next =
-    let both = deed-parts (nat_lt deeds (length (queue_times s path))) (deed_at s (queue_time s path deeds)) d next in
+    let both = cond_some (nat_lt deeds (length (queue_times s path))) (deed_at s (queue_time s path deeds)) d next in
     let left = ltb-true deeds (length (queue_times s path)) both.0 in
     let here = sym (point_left s path deeds left) in
     record { left = left; at = subst (IsQueueDeed s path deeds) here (deed_left s path deeds left); does = ap (deed_at s) (sym here) ∙ both.1 }

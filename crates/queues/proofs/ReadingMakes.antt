@@ -1,7 +1,7 @@
 -- A reading that goes on by a queue that is made fits, and one that goes on by the deeds of lent ends.
 use Rattle.std.proofs.Common.{◌≡◌, inl, inr, ℕ, ◌+◌, ◌<◌, ◌≤◌, true, length, Some, None, refl, sym, ap, subst, ◌∙◌, arith}
 use Rattle.std.proofs.lemmas.Bool.{both_ways, cases_lt}
-use Rattle.std.proofs.lemmas.Option.{get_or_from_slice_get}
+use Rattle.std.proofs.lemmas.Option.{get_or_from_slice_get, same_Some}
 use Rattle.swan_model.specs.declared.origin.Origin.TheVariants.{Step}
 use Rattle.swan_model.specs.declared.script.Deed.TheVariants as deed
 use Rattle.swan_model.specs.declared.script.Script.{Script}
@@ -20,7 +20,6 @@ use Rattle.queues.proofs.Advancing.{does_now, fits_next, fits_same, more_left}
 use Rattle.queues.proofs.Between.{deed-more, deed-place, deeds_before, is_queue_deed_of, point_left}
 use Rattle.queues.proofs.Calls.{by_end_makes}
 use Rattle.queues.proofs.Continuing.{became, changed_gone, fits_by, goes_by, others_kept}
-use Rattle.swan_model.proofs.Elements.{some_same}
 use Rattle.queues.proofs.Done.{spawn_deed}
 use Rattle.queues.proofs.Fitting.{fits_comes}
 use Rattle.queues.proofs.Moving.{making_parts}
@@ -109,7 +108,7 @@ module _ (s : Script) (lawful : IsLawful s) (state : QueueState) (r : Reading) (
       fits_by s state r fits number many p known other (goes_by s state r fits number many p known other refl come_later no_spawn_by) new (others_kept state new number change (λ f. refl) refl)
       (λ f now.
       let b = became state new number change (λ f. refl) refl f now in
-      let same : b.was ≡ frame = some_same b.was frame (sym b.live ∙ live) in
+      let same : b.was ≡ frame = same_Some b.was frame (sym b.live ∙ live) in
       fits_same s (record frame { deeds = deeds }) f come fit
       (ap (λ (x : ActiveFrame). x.path) (sym b.is) ∙ ap (λ (x : ActiveFrame). x.path) same) (ap (λ (x : ActiveFrame). x.deeds) (sym b.is)))
       (λ gone.

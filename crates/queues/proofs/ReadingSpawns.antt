@@ -3,7 +3,7 @@ use Rattle.std.proofs.Common.{◌≡◌, ◌⊎◌, inl, inr, ℕ, ◌+◌, ◌<
 use Rattle.std.proofs.lemmas.Bool.{cases_eq, cases_lt, eq-eqb, eqb-true}
 use Rattle.std.proofs.lemmas.List.{length-map}
 use Rattle.std.proofs.lemmas.List.Folds.{find-append}
-use Rattle.std.proofs.lemmas.Option.{slice_get-map}
+use Rattle.std.proofs.lemmas.Option.{slice_get-map, same_Some}
 use Rattle.std.specs.List.{find}
 use Rattle.std.specs.Option.{option_map, option_or}
 use Rattle.std.specs.Prelude.{slice_get, filter}
@@ -25,7 +25,7 @@ use Rattle.swan_model.proofs.ScriptSteps.{IsSpawnOf, spawn_moves}
 use Rattle.swan_model.proofs.TaskEntries.{is_spawn_of, spawn_own}
 use Rattle.queues.proofs.Advancing.{fits_next, fits_same, more_left, own_now}
 use Rattle.queues.proofs.Continuing.{became, changed_gone, its, more_number, more_path, other_more, others_kept, own_more}
-use Rattle.swan_model.proofs.Elements.{before_more, find_map, last_more, mapped_is, more_cases, some_same}
+use Rattle.swan_model.proofs.Elements.{before_more, find_map, last_more, mapped_is, more_cases}
 use Rattle.queues.proofs.Fitting.{fits_comes, is_queue_time}
 use Rattle.queues.proofs.Lineage.{spawns_by}
 use Rattle.queues.proofs.Places.{take-none}
@@ -53,7 +53,7 @@ module _ {X : Type 0} (number : X → ℕ) (xs : List X) (x : X) where
   found_cases n y now = by (find (has n) xs) refl (sym (find-append (has n) xs (x ∷ [])) ∙ now)
     where
       own : (b : Bool) → nat_eq (number x) n ≡ b → cond b (Some x) None ≡ Some y → (n ≡ number x) × (x ≡ y)
-      own true same is = (sym (eqb-true (number x) n same), some_same x y is)
+      own true same is = (sym (eqb-true (number x) n same), same_Some x y is)
       own false same is = absurd (cc)
 
       by : (o : Option X) → find (has n) xs ≡ o → option_or o (find (has n) (x ∷ [])) ≡ Some y → (find (has n) xs ≡ Some y) ⊎ ((n ≡ number x) × (x ≡ y))
@@ -124,7 +124,7 @@ module _ (s : Script) (lawful : IsLawful s) (state : QueueState) (follows : Queu
       let place = frame_in r p.number p known in
       let one = same_frame s r fits.tasks up.index place.index up.parent p up.stands place.stands up.own in
       let past : up.spawn < point s p = subst (λ f. up.spawn < point s f) one up.past in
-      let time = some_same up.spawn (point s p) (sym up.known ∙ moves.known) in
+      let time = same_Some up.spawn (point s p) (sym up.known ∙ moves.known) in
       omega (arith, past, time)
 
   spawn_done : IsSpawned s other p.path (children_before s p.path (point s p))
@@ -167,13 +167,13 @@ module _ (s : Script) (lawful : IsLawful s) (state : QueueState) (follows : Queu
               let still : spawn < point s x = subst (λ y. spawn < point s y) (other_more s state r fits p.number 1 p known x apart) before in
               absurd (omega (arith, still, from))
         ];
-        apart = λ now is i x at path. not_yet i x at (path ∙ ap (λ (y : Progress). y.path) (sym (some_same born now is)));
-        known = λ now is. subst (λ (y : Progress). frame_of other y.number ≡ Some y) (some_same born now is) born_known;
+        apart = λ now is i x at path. not_yet i x at (path ∙ ap (λ (y : Progress). y.path) (sym (same_Some born now is)));
+        known = λ now is. subst (λ (y : Progress). frame_of other y.number ≡ Some y) (same_Some born now is) born_known;
         spawned = λ now is path number ends.
-            let both = last_same p.path path (children_before s p.path (point s p)) number (ap (λ (y : Progress). y.path) (some_same born now is) ∙ ends) in
+            let both = last_same p.path path (children_before s p.path (point s p)) number (ap (λ (y : Progress). y.path) (same_Some born now is) ∙ ends) in
             subst (λ q. IsSpawned s other q number) both.0 (subst (IsSpawned s other p.path) both.1 spawn_done);
         first = λ now is v own before.
-            let one = sym (some_same born now is) in
+            let one = sym (same_Some born now is) in
             let mine : IsEntryOf s born.path v = subst (λ (y : Progress). IsEntryOf s y.path v) one own in
             let early : v < point s born = subst (λ y. v < point s y) one before in
             let starts = moves.starts child in
@@ -241,7 +241,7 @@ module _ (s : Script) (lawful : IsLawful s) (state : QueueState) (follows : Queu
       let apart : x.number ≡ p.number → ⊥ = λ is. live_left s lawful state r fits p.number p known (let left = left_then in omega (arith, left)) (ap (active state) (sym is) ∙ gone) in
       ap (λ (y : Progress). y.done) (other_more s state r fits p.number 1 p known x apart) ∙ fits.ended i x at gone)
       (λ now is none.
-      let gone = subst (λ (y : Progress). active new y.number ≡ None) (sym (some_same born now is)) none in
+      let gone = subst (λ (y : Progress). active new y.number ≡ None) (sym (same_Some born now is)) none in
       let before = changed_gone state grown parent.number more_children (λ f. refl) refl child (found_none (λ (f : ActiveFrame). f.number) grown.frames (child_of parent child queues) child gone) in
       let there = found_last (λ (f : ActiveFrame). f.number) grown.frames (child_of parent child queues) (found_none (λ (f : ActiveFrame). f.number) grown.frames (child_of parent child queues) child gone) in
       let both : Some (child_of parent child queues) ≡ None = sym there ∙ gone in

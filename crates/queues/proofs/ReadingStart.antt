@@ -1,5 +1,6 @@
 -- The reading of a run before its first step fits new hyperqueues.
 use Rattle.std.proofs.Common.{◌≡◌, ℕ, zero, suc, ◌<◌, true, List, [], ◌∷◌, ◌++◌, length, Some, None, refl, sym, ap, subst, ◌∙◌, arith}
+use Rattle.std.proofs.lemmas.Option.{same_Some}
 use Rattle.std.specs.Prelude.{slice_get, filter}
 use Rattle.swan_model.specs.declared.origin.Origin.{Origin}
 use Rattle.swan_model.specs.declared.script.Script.{Script}
@@ -13,7 +14,6 @@ use Rattle.swan_model.proofs.Lists.{some_within}
 use Rattle.swan_model.proofs.Points.{is_past-child}
 use Rattle.swan_model.proofs.TaskEntries.{first_time, point_at}
 use Rattle.queues.proofs.Calls.{only_root}
-use Rattle.swan_model.proofs.Elements.{some_same}
 use Rattle.queues.proofs.Fitting.{is_queue_time}
 use Rattle.queues.proofs.Places.{take-none}
 use Rattle.queues.proofs.QueuePoints.{some_own}
@@ -23,7 +23,7 @@ root_progress = record { number = 0; path = []; done = 0 }
 
 -- the only frame
 is_root : (i : ℕ) (p : Progress) → slice_get (root_progress ∷ []) i ≡ Some p → (root_progress ≡ p) × (i ≡ 0)
-is_root zero p is = (some_same root_progress p is, refl)
+is_root zero p is = (same_Some root_progress p is, refl)
 is_root (suc i) p is = absurd (cc)
 
 no_child : (path : List ℕ) (child : ℕ) → [] ≡ path ++ child ∷ [] → ⊥

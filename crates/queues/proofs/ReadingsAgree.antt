@@ -1,7 +1,7 @@
 -- A reading fits that differs from one that fits only in what queues aren't told of.
 use Rattle.std.proofs.Common.{◌≡◌, inl, inr, ℕ, zero, suc, Bool, true, false, nat_eq, nat_lt, cond, List, [], ◌∷◌, Some, None, refl, sym, ap, subst, ◌∙◌, arith}
 use Rattle.std.proofs.lemmas.Bool.{eq-eqb, eqb-true, lt-ltb, ltb-true}
-use Rattle.std.proofs.lemmas.Option.{slice_get_within}
+use Rattle.std.proofs.lemmas.Option.{slice_get_within, same_Some}
 use Rattle.std.specs.List.{find}
 use Rattle.std.specs.Option.{option_map_or}
 use Rattle.std.specs.Prelude.{slice_get}
@@ -14,7 +14,7 @@ use Rattle.swan_model.specs.Told.{deed_at}
 use Rattle.swan_model.proofs.Lists.{some_within}
 use Rattle.queues.specs.Reads.{DiffersIdly}
 use Rattle.queues.proofs.Done.{spawn_deed}
-use Rattle.swan_model.proofs.Elements.{found_is, option_cases, some_same}
+use Rattle.swan_model.proofs.Elements.{found_is, option_cases}
 use Rattle.queues.proofs.Fitting.{fits_still, same_side}
 use Rattle.queues.proofs.Refitting.{GoesTo, refits}
 use Rattle.queues.proofs.SerialPoints.{frame_in, frame_number}
@@ -22,7 +22,7 @@ use Rattle.queues.proofs.SerialPoints.{frame_in, frame_number}
 -- one that passes is found
 find_some : {X : Type 0} (test : X → Bool) (xs : List X) (i : ℕ) (x : X) → slice_get xs i ≡ Some x → test x ≡ true → (y : X) × (find test xs ≡ Some y)
 find_some test [] i x at passes = absurd (cc)
-find_some test (z ∷ xs) zero x at passes = (z, ap (λ b. cond b (Some z) (find test xs)) (ap test (some_same z x at) ∙ passes))
+find_some test (z ∷ xs) zero x at passes = (z, ap (λ b. cond b (Some z) (find test xs)) (ap test (same_Some z x at) ∙ passes))
 find_some {X = X} test (z ∷ xs) (suc i) x at passes = by (test z) (find_some test xs i x at passes)
   where
     by : (b : Bool) → (y : X) × (find test xs ≡ Some y) → (y : X) × (cond b (Some z) (find test xs) ≡ Some y)
@@ -53,9 +53,9 @@ module _ (s : Script) (lawful : IsLawful s) (state : QueueState) (r other : Read
   same_place : (index : ℕ) (a b : Progress) → slice_get r.frames index ≡ Some a → slice_get other.frames index ≡ Some b → (at : ℕ) (c d : Progress) → slice_get r.frames at ≡ Some c → slice_get other.frames at ≡ Some d → d.number ≡ a.number → d ≡ b
   same_place index a b stands also at c d there found number =
       let own : c.number ≡ a.number = sym (differs.frames at c d there found).0 ∙ number in
-      let one : c ≡ a = some_same c a (sym (fits.numbers at c there) ∙ ap (frame_of r) own ∙ fits.numbers index a stands) in
+      let one : c ≡ a = same_Some c a (sym (fits.numbers at c there) ∙ ap (frame_of r) own ∙ fits.numbers index a stands) in
       let place : at ≡ index = fits.tasks.different at index c a there stands (ap (λ (q : Progress). q.path) one) in
-      some_same d b (sym found ∙ ap (slice_get other.frames) place ∙ also)
+      same_Some d b (sym found ∙ ap (slice_get other.frames) place ∙ also)
 
   found_there : (index : ℕ) (a b : Progress) → slice_get r.frames index ≡ Some a → slice_get other.frames index ≡ Some b → b.number ≡ a.number → frame_of other a.number ≡ Some b
   found_there index a b stands also number =
@@ -85,7 +85,7 @@ module _ (s : Script) (lawful : IsLawful s) (state : QueueState) (r other : Read
         | inr found ↦
             let frame = found.0 in
             let q = fits.frames a.number frame found.1 in
-            let fit : FitsFrame s frame a = subst (FitsFrame s frame) (some_same q.0 a (sym q.1 ∙ fits.numbers index a at)) q.2 in
+            let fit : FitsFrame s frame a = subst (FitsFrame s frame) (same_Some q.0 a (sym q.1 ∙ fits.numbers index a at)) q.2 in
             let m = queue_point s frame.path frame.deeds in
             sym (same_side s frame.path (point s a) m v (fits_still s lawful frame a fit) deed)
             ∙ same_side s frame.path (point s two.b) m v (fits_still s lawful frame two.b (two.live frame found.1)) deed
@@ -102,7 +102,7 @@ module _ (s : Script) (lawful : IsLawful s) (state : QueueState) (r other : Read
             let many = differs.many in
             let a = some_within r.frames i (omega (arith, within, many)) in
             let two = pair i a.0 a.1 in
-            inl (record { was = a.0; stood = a.1; is = two.is ∙ some_same two.b now (sym two.stands ∙ at) });
+            inl (record { was = a.0; stood = a.1; is = two.is ∙ same_Some two.b now (sym two.stands ∙ at) });
         found = λ n a is.
             let place = frame_in r n a is in
             let two = pair place.index a place.stands in

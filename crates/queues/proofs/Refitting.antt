@@ -1,5 +1,6 @@
 -- A reading whose frames have gone on, and which may have one frame more, fits.
 use Rattle.std.proofs.Common.{◌≡◌, ◌⊎◌, inl, inr, ℕ, ◌<◌, ◌≤◌, true, false, nat_lt, List, [], ◌∷◌, ◌++◌, length, Option, Some, None, sym, ap, subst, ◌∙◌}
+use Rattle.std.proofs.lemmas.Option.{same_Some}
 use Rattle.std.proofs.lemmas.Bool.{and_from, cases_lt, lt-ltb}
 use Rattle.std.specs.List.{list_any}
 use Rattle.std.specs.Option.{option_map_or}
@@ -12,7 +13,7 @@ use Rattle.swan_model.specs.SerialTime.{Progress, Reading, frame_of, is_done, is
 use Rattle.swan_model.proofs.Points.{is_past-child}
 use Rattle.swan_model.proofs.TaskEntries.{spawn_own}
 use Rattle.queues.proofs.Between.{own_is}
-use Rattle.swan_model.proofs.Elements.{any_from, some_same}
+use Rattle.swan_model.proofs.Elements.{any_from}
 
 -- what a frame of a reading has come past is done
 pub past_done : (s : Script) (r : Reading) (index : ℕ) (p : Progress) (v : ℕ) → slice_get r.frames index ≡ Some p → IsEntryOf s p.path v → v < point s p → is_done s r v ≡ true
@@ -78,7 +79,7 @@ module _ (s : Script) (state : QueueState) (r other : Reading) (fits : Fits s st
       → (at : ℕ) × (q : Progress) × (slice_get other.frames at ≡ Some q) × (q.path ≡ path ++ child ∷ [])
   all_go path child spawn known done =
       let up = is_past-child s other tasks_go path child (record { spawn = spawn; known = known; done = done }) in
-      let same : up.spawn ≡ spawn = some_same up.spawn spawn (sym up.known ∙ known) in
+      let same : up.spawn ≡ spawn = same_Some up.spawn spawn (sym up.known ∙ known) in
       let past : spawn < point s up.parent = subst (λ t. t < point s up.parent) same up.past in
       let own = spawn_own s path child spawn known in
       elim (goes.from up.index up.parent up.stands) [

@@ -1,5 +1,6 @@
 -- Readings that fit as a run begins, as calls are made that are no deeds, and as frames do their entries.
 use Rattle.std.proofs.Common.{◌≡◌, inl, ℕ, zero, suc, ◌+◌, ◌<◌, true, false, List, [], ◌∷◌, ◌++◌, length, map, Some, None, refl, sym, ap, subst, ◌∙◌, arith}
+use Rattle.std.proofs.lemmas.Option.{same_Some}
 use Rattle.std.proofs.lemmas.Bool.{and_parts, both_ways}
 use Rattle.std.specs.Option.{option_map}
 use Rattle.std.specs.Prelude.{slice_get}
@@ -22,7 +23,7 @@ use Rattle.swan_model.proofs.TaskEntries.{is_spawn_of}
 use Rattle.queues.proofs.Advancing.{does_now, fits_next, fits_same}
 use Rattle.queues.proofs.Between.{no_spawn}
 use Rattle.queues.proofs.Continuing.{KeepsOthers, WasActive, all_kept, became, changed_gone, fits_by, goes_by, others_kept}
-use Rattle.swan_model.proofs.Elements.{as_number, some_same}
+use Rattle.swan_model.proofs.Elements.{as_number}
 use Rattle.queues.proofs.Finishing.{not_active, still_active}
 use Rattle.queues.proofs.Refitting.{GoesTo, refits}
 use Rattle.queues.proofs.SerialPoints.{frame_in, frame_number}
@@ -104,7 +105,7 @@ module _ (s : Script) (lawful : IsLawful s) (state : QueueState) (r : Reading) (
   pub fit_of : (frame : ActiveFrame) → active state n ≡ Some frame → FitsFrame s frame p
   fit_of frame live =
       let found = fits.frames n frame live in
-      subst (FitsFrame s frame) (some_same found.0 p (sym found.1 ∙ known)) found.2
+      subst (FitsFrame s frame) (same_Some found.0 p (sym found.1 ∙ known)) found.2
 
   -- a frame with an entry left is active
   pub live_left : p.done < length (times s p.path) → active state n ≡ None → ⊥

@@ -1,8 +1,8 @@
 -- The elements of a list from one index up to another.
 use Rattle.std.proofs.Common.{◌≡◌, ℕ, zero, suc, ◌+◌, ◌-◌, ◌<◌, ◌≤◌, List, [], ◌∷◌, ◌++◌, length, take, drop, Some, refl, sym, ap, ◌∙◌, arith, length-take, length-drop, take-add, take_at, drop-drop}
+use Rattle.std.proofs.lemmas.Option.{same_Some}
 use Rattle.std.proofs.lemmas.List.{drop-take}
 use Rattle.std.specs.Prelude.{slice_get}
-use Rattle.swan_model.proofs.Elements.{some_same}
 
 abbrev pub segment : {X : Type 0} → (from upto : ℕ) → List X → List X
 segment from upto xs = take (upto - from) (drop from xs)
@@ -20,8 +20,8 @@ first_taken (suc n) (y ∷ xs) x is = (omega arith, is)
 
 take_one : {X : Type 0} (xs : List X) (x : X) → slice_get xs 0 ≡ Some x → take 1 xs ≡ x ∷ []
 take_one [] x is = absurd (cc)
-take_one (y ∷ []) x is = ap (λ z. z ∷ []) (some_same y x is)
-take_one (y ∷ z ∷ ys) x is = ap (λ w. w ∷ []) (some_same y x is)
+take_one (y ∷ []) x is = ap (λ z. z ∷ []) (same_Some y x is)
+take_one (y ∷ z ∷ ys) x is = ap (λ w. w ∷ []) (same_Some y x is)
 
 pub take_none : {X : Type 0} (xs : List X) → take 0 xs ≡ []
 take_none [] = refl

@@ -1,5 +1,6 @@
 -- The points of active frames among queues stand in serial order, as their points do.
 use Rattle.std.proofs.Common.{◌≡◌, inl, inr, ℕ, ◌<◌, true, nat_eq, nat_lt, List, [], ◌∷◌, ◌++◌, length, Some, refl, sym, ap, subst, ◌∙◌, append-nil, append_assoc, ◌⊎◌, arith}
+use Rattle.std.proofs.lemmas.Option.{same_Some}
 use Rattle.std.proofs.lemmas.Bool.{eqb-true, le-ltb, lt-ltb, ltb-true}
 use Rattle.std.specs.Prelude.{slice_get}
 use Rattle.swan_model.specs.declared.script.Script.{Script}
@@ -13,7 +14,7 @@ use Rattle.swan_model.proofs.PathOrder.{IsAside, IsBelow, either_before, how_bef
 use Rattle.swan_model.proofs.Points.{past_above, same_frame, spawns_rise}
 use Rattle.swan_model.proofs.TaskEntries.{point_own, spawn_own}
 use Rattle.queues.proofs.Between.{IsStill}
-use Rattle.swan_model.proofs.Elements.{answers_same, found_is, some_same}
+use Rattle.swan_model.proofs.Elements.{answers_same, found_is}
 use Rattle.queues.proofs.Fitting.{fits_still}
 
 -- ---- frames by their numbers
@@ -96,7 +97,7 @@ module _ (s : Script) (lawful : IsLawful s) (state : QueueState) (r : Reading) (
   pub is_read : (number : ℕ) (frame : ActiveFrame) (progress : Progress) → active state number ≡ Some frame → frame_of r number ≡ Some progress → IsRead number frame progress
   is_read number frame progress live known =
       let found = fits.frames number frame live in
-      let same : found.0 ≡ progress = some_same found.0 progress (sym found.1 ∙ known) in
+      let same : found.0 ≡ progress = same_Some found.0 progress (sym found.1 ∙ known) in
       let fit : FitsFrame s frame progress = subst (FitsFrame s frame) same found.2 in
       record { live = live; known = known; fit = fit; still = fits_still s lawful frame progress fit }
 
@@ -125,7 +126,7 @@ module _ (s : Script) (lawful : IsLawful s) (state : QueueState) (r : Reading) (
         let there = frame_in r other b two.known in
         let same : a ≡ b = same_frame s r fits.tasks here.index there.index a b here.stands there.stands path in
         let numbers : number ≡ other = sym (frame_number r number a one.known) ∙ ap (λ (p : Progress). p.number) same ∙ frame_number r other b two.known in
-        (some_same frame also (sym one.live ∙ ap (active state) numbers ∙ two.live), same)
+        (same_Some frame also (sym one.live ∙ ap (active state) numbers ∙ two.live), same)
 
     -- the order of the points among queues is that of the points
     pub earlier_same : nat_lt (queue_point s frame.path frame.deeds) (queue_point s also.path also.deeds) ≡ is_earlier s a b

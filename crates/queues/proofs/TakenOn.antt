@@ -1,5 +1,6 @@
 -- What has left a queue goes on with the calls, apart from its items.
 use Rattle.std.proofs.Common.{◌≡◌, ◌≢◌, ℕ, zero, suc, ◌+◌, ◌-◌, ◌<◌, ◌≤◌, true, false, None, Some, List, length, refl, sym, ap, ◌∙◌, arith}
+use Rattle.std.proofs.lemmas.Option.{same_Some}
 use Rattle.std.proofs.lemmas.Bool.{false_from_ne_true}
 use Rattle.swan_model.specs.declared.origin.Origin.{Origin}
 use Rattle.swan_model.specs.declared.rights.Mode.TheVariants.{Pop}
@@ -12,7 +13,6 @@ use Rattle.swan_model.specs.QueueFollows.{AreByEnds, is_by_end, next_queue_deed,
 use Rattle.swan_model.specs.QueueState.{ActiveFrame, LentEnd, QueueState, active, after_back, after_create, after_create_root, after_deed, after_finish, after_lend, after_take_rest, holds_queue, with_deed, with_made}
 use Rattle.swan_model.specs.SerialTime.{times}
 use Rattle.swan_model.specs.Told.{is_pop_of, taken}
-use Rattle.swan_model.proofs.Elements.{some_same}
 use Rattle.swan_model.proofs.Origins.{is_same-equal}
 use Rattle.swan_model.proofs.ScriptCounts.{taken_kept, taken_rises}
 use Rattle.queues.specs.Chunks.{Chunks, HasOwners, HasTaken, IsOwner, after_close}
@@ -134,7 +134,7 @@ module _ (s : Script) (state : QueueState) (number : ℕ) (queue : Origin) (end 
       let after = after_finish state n in
       taken_unowned s state after number queue end n chunks at has (other_owners state after n None chunks (one_gone state n)) (λ index is.
       let owner = owners.owners index n is in
-      let same : owner.0 ≡ frame = some_same owner.0 frame (sym owner.1 ∙ live) in
+      let same : owner.0 ≡ frame = same_Some owner.0 frame (sym owner.1 ∙ live) in
       let both : true ≡ false = sym owner.2 ∙ ap (λ f. has_queue f number) same ∙ lacks in
       absurd (cc))
 

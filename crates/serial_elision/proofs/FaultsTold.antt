@@ -20,17 +20,13 @@ use Rattle.serial_elision.proofs.At.{get-append-before}
 use Rattle.serial_elision.proofs.FaultOrder.{serial-in_order}
 use Rattle.serial_elision.proofs.Finals.{final-past}
 use Rattle.serial_elision.proofs.TaskSteps.{ends_last, next-state, stands-now, top_path}
+use Rattle.swan_model.proofs.PathOrder.{never_before-both}
 
 -- ---- lists in serial order
 
 pub not_before-itself : (path : List ℕ) → comes_before path path ≡ true → ⊥
 not_before-itself [] is = absurd (cc)
 not_before-itself (part ∷ parts) is = grind (arith, not_before-itself parts)
-
-pub not_before-both : (path other : List ℕ) → comes_before path other ≡ true → comes_before other path ≡ true → ⊥
-not_before-both [] other is also = absurd (cc)
-not_before-both (part ∷ parts) [] is also = absurd (cc)
-not_before-both (part ∷ parts) (other ∷ others) is also = grind (arith, not_before-both parts others)
 
 -- a list has this somewhere
 abbrev HasFault : List Fault → Fault → Type 0
@@ -72,7 +68,7 @@ same-faults (x ∷ xs) (y ∷ ys) one two among also =
       | inl is ↦ is
       | inr after_y ↦ elim (first-or-later x xs y one (also 0 y refl)) [
         | inl is ↦ sym is
-        | inr after_x ↦ absurd (not_before-both x.path y.path after_x.0 after_y.0)
+        | inr after_x ↦ absurd (never_before-both x.path y.path after_x.0 after_y.0)
       ]
     ] in
     let rest = same-faults xs ys (rest-ordered x xs one) (rest-ordered y ys two) (tail-among x y xs ys first one two among) (tail-among y x ys xs (sym first) two one also) in

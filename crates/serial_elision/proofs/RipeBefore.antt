@@ -29,9 +29,11 @@ use Rattle.swan_model.proofs.Places.{one_if, passing, passing-more, passing-rise
 use Rattle.swan_model.proofs.Points.{IsPast, past_above, same_frame}
 use Rattle.swan_model.proofs.TaskEntries.{point_own, spawn_own}
 use Rattle.serial_elision.proofs.PointsRise.{point-over}
-use Rattle.serial_elision.proofs.RipeStays.{done-by, done_under, IsPushAt, push-at, pusher-holds}
+use Rattle.serial_elision.proofs.RipeStays.{done-by, done_under, IsPushAt, push-at}
 use Rattle.swan_model.proofs.Times.{times_rise, times_all}
 use Rattle.swan_model.proofs.Elements.{any_from, filtered_each}
+use Rattle.swan_model.proofs.ScriptDeeds.{push-right}
+use Rattle.swan_model.proofs.ScriptCounts.{more-pushed}
 
 -- ---- what is done, and what is left
 
@@ -67,25 +69,10 @@ left-by s frame u own late = elim (cases_lt frame.done (length (times s frame.pa
 
 -- ---- how many are pushed
 
-one-pushed : (queue : Origin) (does : Deed) (entry : Entry) (xs : List Value) (es : List Entry) → length xs ≡ length es → length (cons_option (pushed_by queue does) xs) ≡ length (cond (is_push_to queue does) (entry ∷ es) es)
-one-pushed queue (deed.Push origin value) entry xs es same = by (is_same origin queue) where
-  by : (b : Bool) → length (cons_option (cond b (Some value) None) xs) ≡ length (cond b (entry ∷ es) es)
-  by true = ap suc same
-  by false = same
-one-pushed queue deed.MakeQueue entry xs es same = same
-one-pushed queue (deed.MakeObject value) entry xs es same = same
-one-pushed queue (deed.Spawn gives) entry xs es same = same
-one-pushed queue (deed.Pop origin) entry xs es same = same
-one-pushed queue (deed.Test origin) entry xs es same = same
-one-pushed queue (deed.Read origin) entry xs es same = same
-one-pushed queue (deed.Write origin value) entry xs es same = same
-one-pushed queue deed.Sync entry xs es same = same
-one-pushed queue deed.Quiet entry xs es same = same
-
 length-pushed : (queue : Origin) (es : List Entry) → length (pushed queue es) ≡ length (filter (λ (entry : Entry). is_push_to queue entry.deed) es)
 length-pushed queue [] = refl
 length-pushed queue (entry ∷ es) =
-    one-pushed queue entry.deed entry (pushed queue es) (filter (λ (e : Entry). is_push_to queue e.deed) es) (length-pushed queue es)
+    more-pushed queue entry.deed (pushed queue es) entry (filter (λ (e : Entry). is_push_to queue e.deed) es) (length-pushed queue es)
 
 -- no item that is pushed from a frame's point on comes before the next one that it takes
 none-since : (s : Script) (queue : Origin) (n t u : ℕ) → IsPushAt s queue u → n ≤ u → u < t → length (first_items s queue) ≤ taken s queue n → push_time s queue (taken s queue n) ≡ Some t → ⊥
@@ -106,7 +93,7 @@ module _ (s : Script) (r : Reading) (lawful : IsLawful s) (tasks : HasTasks s r)
     (others : list_all (λ (other : Progress). nat_lt t (point s other)) (filter (may_push_too s frame queue) active) ≡ true)
     (more : length (first_items s queue) ≤ taken s queue (point s frame)) (next : push_time s queue (taken s queue (point s frame)) ≡ Some t) (u : ℕ) (earlier : IsPushAt s queue u) (less : u < t) where
   pushes : may_use (holds s push.entry.path t) Push queue ≡ true
-  pushes = pusher-holds (holds s push.entry.path t) queue push.entry.deed push.pushes (lawful.within t push.entry push.stands)
+  pushes = push-right queue (holds s push.entry.path t) push.entry.deed push.pushes (lawful.within t push.entry push.stands)
 
   -- no frame that may push to the queue at its point has a push left before the item
   held-none : (index n : ℕ) (other : Progress) → slice_get r.frames index ≡ Some other → other.done < length (times s other.path) → point s other ≤ n → n ≤ u → may_use (holds s other.path (point s other)) Push queue ≡ true → ⊥
@@ -165,7 +152,7 @@ module _ (s : Script) (r : Reading) (lawful : IsLawful s) (tasks : HasTasks s r)
       (past_above s r tasks (length (rest ++ above.rest)) other.path (rest ++ above.rest) child by.index by.frame refl by.stands path)
 
   may-earlier : may_use (holds s earlier.entry.path u) Push queue ≡ true
-  may-earlier = pusher-holds (holds s earlier.entry.path u) queue earlier.entry.deed earlier.pushes (lawful.within u earlier.entry earlier.stands)
+  may-earlier = push-right queue (holds s earlier.entry.path u) earlier.entry.deed earlier.pushes (lawful.within u earlier.entry earlier.stands)
 
   unspawned : (index : ℕ) (other : Progress) (child k : ℕ) (rest : List ℕ) → slice_get r.frames index ≡ Some other → earlier.entry.path ≡ other.path ++ child ∷ rest → spawn_time s other.path child ≡ Some k → point s other ≤ k → ⊥
   unspawned index other child k rest stands is known late =

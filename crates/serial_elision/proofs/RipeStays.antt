@@ -27,6 +27,7 @@ use Rattle.swan_model.proofs.Places.{placed}
 use Rattle.swan_model.proofs.Points.{some_of, past_above, same_frame}
 use Rattle.swan_model.proofs.TaskEntries.{point_own}
 use Rattle.serial_elision.proofs.PointsRise.{further, held_further, point_rises, point_stays}
+use Rattle.swan_model.proofs.ScriptDeeds.{push-right}
 
 -- ---- lists
 
@@ -111,25 +112,12 @@ push-at s queue index t is =
     let here : found.i ≡ t = omega (arith, found.is) in
     record { entry = found.entry; stands = ap (slice_get s.entries) (sym here) ∙ found.stands; pushes = found.passes }
 
-pub pusher-holds : (held : _) (queue : Origin) (does : Deed) → is_push_to queue does ≡ true → is_within held does ≡ true → may_use held Push queue ≡ true
-pusher-holds held queue (deed.Push origin value) is within =
-    subst (λ o. may_use held Push o ≡ true) (is_same-equal origin queue is) within
-pusher-holds held queue deed.MakeQueue is within = absurd (cc)
-pusher-holds held queue (deed.MakeObject value) is within = absurd (cc)
-pusher-holds held queue (deed.Spawn gives) is within = absurd (cc)
-pusher-holds held queue (deed.Pop origin) is within = absurd (cc)
-pusher-holds held queue (deed.Test origin) is within = absurd (cc)
-pusher-holds held queue (deed.Read origin) is within = absurd (cc)
-pusher-holds held queue (deed.Write origin value) is within = absurd (cc)
-pusher-holds held queue deed.Sync is within = absurd (cc)
-pusher-holds held queue deed.Quiet is within = absurd (cc)
-
 -- where a push to a queue is done, the queue isn't one that a frame makes by its next entry
 made-already : (s : Script) (r : Reading) → IsLawful s → HasTasks s r → (index : ℕ) (frame : Progress) → slice_get r.frames index ≡ Some frame → frame.done < length (times s frame.path) → (queue : Origin) (t : ℕ) → IsPushAt s queue t → is_done s r t ≡ true → queue ≡ Step (point s frame) → ⊥
 made-already s r lawful tasks index frame stands left queue t push done made =
     let n = point s frame in
     let held = holds s push.entry.path t in
-    let may : may_use held Push (Step n) ≡ true = subst (λ o. may_use held Push o ≡ true) made (pusher-holds held queue push.entry.deed push.pushes (lawful.within t push.entry push.stands)) in
+    let may : may_use held Push (Step n) ≡ true = subst (λ o. may_use held Push o ≡ true) made (push-right queue held push.entry.deed push.pushes (lawful.within t push.entry push.stands)) in
     let above = made_above s lawful t push.entry.path Push n may in
     let own = point_own s frame left in
     let same : Some above.entry ≡ Some own.entry = sym above.stands ∙ own.stands in

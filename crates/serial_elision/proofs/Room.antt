@@ -21,7 +21,7 @@ use Rattle.swan_model.specs.SerialState.{Activation, Holding}
 use Rattle.swan_model.specs.SerialTime.{is_of, is_queue_deed, places_from, time}
 use Rattle.swan_model.specs.Told.{deed_at}
 use Rattle.swan_model.specs.TrueFrames.{FrameState, IsTrueAlone, StandsAt}
-use Rattle.swan_model.proofs.Places.{one_if}
+use Rattle.swan_model.proofs.Places.{one_if, first-passes}
 use Rattle.swan_model.proofs.ScriptSteps.{deed_is}
 use Rattle.serial_elision.specs.Laws.{AreEachOnce, IsQueueOf}
 use Rattle.serial_elision.proofs.FewHeld.{few-children, few-places}
@@ -51,12 +51,6 @@ makers-once s state follows =
 
 -- ---- spawns among a task's first deeds
 
-first-more : {X : Type 0} (test : X → Bool) (x : X) (xs : List X) → length (filter test (x ∷ xs)) ≡ one_if (test x) + length (filter test xs)
-first-more test x xs = by (test x) where
-  by : (b : Bool) → length (cond b (x ∷ filter test xs) (filter test xs)) ≡ one_if b + length (filter test xs)
-  by true = omega arith
-  by false = omega arith
-
 abbrev spawns_there : Script → List ℕ → ℕ
 spawns_there s ts = length (filter (λ t. is_spawn (deed_at s t)) ts)
 
@@ -73,12 +67,12 @@ spawns-among s own n (e ∷ es) tells k =
     later = places_from own (n + 1) es
 
     by : (b : Bool) (k : ℕ) → ((m : ℕ) → spawns_there s (take m later) ≤ spawns_in es) → spawns_there s (take k (cond b (n ∷ later) later)) ≤ spawns_in (e ∷ es)
-    by false k each = omega (arith, each k, first-more (λ (x : Entry). is_spawn x.deed) e es)
+    by false k each = omega (arith, each k, first-passes (λ (x : Entry). is_spawn x.deed) e es)
     by true zero each = omega arith
     by true (suc k) each =
         let here : n ≡ n + 0 = omega arith in
         let same : one_if (is_spawn (deed_at s n)) ≡ one_if (is_spawn e.deed) = ap (λ d. one_if (is_spawn d)) (ap (deed_at s) here ∙ tells 0 e refl) in
-        omega (arith, same, each k, first-more (λ t. is_spawn (deed_at s t)) n (take k later), first-more (λ (x : Entry). is_spawn x.deed) e es)
+        omega (arith, same, each k, first-passes (λ t. is_spawn (deed_at s t)) n (take k later), first-passes (λ (x : Entry). is_spawn x.deed) e es)
 
 module _ {B L : Type 0} (G : Ghosts B L) (plan : Plan B L) where
   few-spawned : (path : List ℕ) (k : ℕ) → spawns_there (script G plan) (take k (queue_times (script G plan) path)) ≤ plan.fuel

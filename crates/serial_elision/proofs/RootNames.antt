@@ -18,6 +18,7 @@ use Rattle.serial_elision.proofs.Held.{give-of}
 use Rattle.serial_elision.proofs.RightsTold.{root-object_stands, root-queue_stands}
 use Rattle.serial_elision.proofs.RootLists.{length-queue_holdings}
 use Rattle.serial_elision.proofs.TaskSteps.{root-time}
+use Rattle.swan_model.proofs.Lists.{get-after}
 
 held-queue : (k : ℕ) (queues : List RootQueue) (more : List Holding) (i : ℕ) (queue : RootQueue) → slice_get queues i ≡ Some queue
     → slice_get (queue_holdings k queues ++ more) i ≡ Some (record { mode = queue.mode; number = k + i })
@@ -40,10 +41,6 @@ held-object k (v ∷ values) (suc i) value is =
     let later : (k + 1) + i ≡ k + suc i = omega arith in
     held-object (k + 1) values i value is ∙ ap (λ n. Some (let h : Holding = record { mode = InOut; number = n } in h)) later
 
-past-first : {X : Type 0} (xs ys : List X) (i : ℕ) → slice_get (xs ++ ys) (length xs + i) ≡ slice_get ys i
-past-first [] ys i = ap (slice_get ys) (let e : 0 + i ≡ i = omega arith in e)
-past-first (x ∷ xs) ys i = let e : suc (length xs) + i ≡ suc (length xs + i) = omega arith in ap (slice_get (x ∷ (xs ++ ys))) e ∙ past-first xs ys i
-
 module _ {B L : Type 0} (G : Ghosts B L) (plan : Plan B L) (bounds : IsWithinBounds plan.roots.queues plan.roots.objects) where
   name-at : (i : ℕ) (h : Holding) → slice_get (root_holdings plan.roots) i ≡ Some h → slice_get (gives_at G plan [] 0 (root plan)) i ≡ Some (give_of (first_store plan.roots) h)
   name-at i h is =
@@ -63,5 +60,5 @@ module _ {B L : Type 0} (G : Ghosts B L) (plan : Plan B L) (bounds : IsWithinBou
       let h : Holding = record { mode = InOut; number = 0 + i } in
       let place : length (queue_holdings 0 plan.roots.queues) + i ≡ length plan.roots.queues + i = omega (arith, length-queue_holdings 0 plan.roots.queues) in
       name-at (length plan.roots.queues + i) h
-      (ap (slice_get (root_holdings plan.roots)) (sym place) ∙ past-first (queue_holdings 0 plan.roots.queues) (object_holdings 0 plan.roots.objects) i ∙ held-object 0 plan.roots.objects i value is)
+      (ap (slice_get (root_holdings plan.roots)) (sym place) ∙ get-after (queue_holdings 0 plan.roots.queues) (object_holdings 0 plan.roots.objects) i ∙ held-object 0 plan.roots.objects i value is)
       ∙ ap Some (give-of (first_store plan.roots) h (Root i) (root-object_stands G plan i value is))

@@ -1,5 +1,6 @@
 -- What stands in a list: what is found there, and what holds of all of it.
 use Rattle.std.proofs.Common.{◌≡◌, ◌⊎◌, inl, inr, ℕ, zero, suc, ◌+◌, Bool, true, false, cond, List, [], ◌∷◌, ◌++◌, length, map, take, Option, Some, None, refl, sym, ap, ◌∙◌, arith}
+use Rattle.std.proofs.lemmas.Option.{same_Some}
 use Rattle.std.proofs.lemmas.Bool.{and_from, and_parts, false_from_ne_true, or_left, or_right}
 use Rattle.std.specs.List.{find, list_all, list_any}
 use Rattle.std.specs.Option.{option_map}
@@ -17,9 +18,6 @@ pub option_cases : {X : Type 0} (o : Option X) → (o ≡ None) ⊎ ((x : X) × 
 option_cases None = inl refl
 option_cases (Some x) = inr (x, refl)
 
-pub some_same : {X : Type 0} (x y : X) → Some x ≡ Some y → x ≡ y
-some_same x y is = cc
-
 -- what is found
 pub record IsFound {X : Type 0} (test : X → Bool) (xs : List X) (x : X) : Type 0 where
   pub index : ℕ
@@ -35,7 +33,7 @@ found_is test (y ∷ xs) x is = by (test y) refl is (λ later. found_is test xs 
   where
     by : (b : Bool) → test y ≡ b → cond b (Some y) (find test xs) ≡ Some x → (find test xs ≡ Some x → IsFound test xs x) → IsFound test (y ∷ xs) x
     by true passes is rest =
-        let same : y ≡ x = some_same y x is in
+        let same : y ≡ x = same_Some y x is in
         record { index = 0; stands = is; passes = ap test (sym same) ∙ passes }
     by false fails is rest = found-later test y xs x (rest is)
 
@@ -43,7 +41,7 @@ found_is test (y ∷ xs) x is = by (test y) refl is (λ later. found_is test xs 
 pub all_each : {X : Type 0} (test : X → Bool) (xs : List X) (i : ℕ) (x : X) → list_all test xs ≡ true → slice_get xs i ≡ Some x → test x ≡ true
 all_each test [] i x all is = absurd (cc)
 all_each test (y ∷ xs) zero x all is =
-    let same : y ≡ x = some_same y x is in
+    let same : y ≡ x = same_Some y x is in
     ap test (sym same) ∙ (and_parts (test y) (list_all test xs) all).0
 all_each test (y ∷ xs) (suc i) x all is = all_each test xs i x (and_parts (test y) (list_all test xs) all).1 is
 
@@ -55,7 +53,7 @@ all_from test (x ∷ xs) each =
 pub any_from : {X : Type 0} (test : X → Bool) (xs : List X) (i : ℕ) (x : X) → slice_get xs i ≡ Some x → test x ≡ true → list_any test xs ≡ true
 any_from test [] i x is passes = absurd (cc)
 any_from test (y ∷ xs) zero x is passes =
-    let same : y ≡ x = some_same y x is in
+    let same : y ≡ x = same_Some y x is in
     or_left (test y) (list_any test xs) (ap test same ∙ passes)
 any_from test (y ∷ xs) (suc i) x is passes = or_right (test y) (list_any test xs) (any_from test xs i x is passes)
 
@@ -63,7 +61,7 @@ any_from test (y ∷ xs) (suc i) x is passes = or_right (test y) (list_any test 
 pub filtered_each : {X : Type 0} (first test : X → Bool) (xs : List X) (i : ℕ) (x : X) → list_all test (filter first xs) ≡ true → slice_get xs i ≡ Some x → first x ≡ true → test x ≡ true
 filtered_each first test [] i x all is passes = absurd (cc)
 filtered_each first test (y ∷ xs) zero x all is passes =
-    let same : y ≡ x = some_same y x is in
+    let same : y ≡ x = same_Some y x is in
     let yes : first y ≡ true = ap first same ∙ passes in
     let whole : list_all test (y ∷ filter first xs) ≡ true = ap (λ b. list_all test (cond b (y ∷ filter first xs) (filter first xs))) (sym yes) ∙ all in
     ap test (sym same) ∙ (and_parts (test y) (list_all test (filter first xs)) whole).0
@@ -91,7 +89,7 @@ taken_stands (suc n) (y ∷ xs) (suc i) x is = taken_stands n xs i x is
 
 -- an element more
 pub more_cases : {X : Type 0} (xs : List X) (x : X) (i : ℕ) (y : X) → slice_get (xs ++ x ∷ []) i ≡ Some y → (slice_get xs i ≡ Some y) ⊎ ((i ≡ length xs) × (y ≡ x))
-more_cases [] x zero y is = inr (refl, sym (some_same x y is))
+more_cases [] x zero y is = inr (refl, sym (same_Some x y is))
 more_cases [] x (suc i) y is = absurd (cc)
 more_cases (z ∷ xs) x zero y is = inl is
 more_cases (z ∷ xs) x (suc i) y is = elim (more_cases xs x i y is) [
@@ -137,7 +135,7 @@ filtered_more {X = X} test xs n x is =
     by : (xs : List X) (n : ℕ) → slice_get xs n ≡ Some x → length (filter test (take (suc n) xs)) ≡ length (filter test (take n xs)) + as_number (test x)
     by [] n is = absurd (cc)
     by (y ∷ ys) zero is =
-        let same : y ≡ x = some_same y x is in
+        let same : y ≡ x = same_Some y x is in
         let shown = ap (λ z. as_number (test z)) same in
         omega (arith, first y [], shown)
     by (y ∷ ys) (suc n) is = omega (arith, first y (take (suc n) ys), first y (take n ys), by ys n is)
@@ -153,4 +151,4 @@ find_map test g same (x ∷ xs) = ap (λ b. cond b (Some (g x)) (find test (map 
 
 pub mapped_is : {X Y : Type 0} (g : X → Y) (o : Option X) (y : Y) → option_map g o ≡ Some y → (x : X) × (o ≡ Some x) × (g x ≡ y)
 mapped_is g None y is = absurd (cc)
-mapped_is g (Some x) y is = (x, refl, some_same (g x) y is)
+mapped_is g (Some x) y is = (x, refl, same_Some (g x) y is)

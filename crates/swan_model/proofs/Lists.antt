@@ -1,5 +1,5 @@
 -- Lists: their last element, and what stands within them.
-use Rattle.std.proofs.Common.{◌≡◌, ℕ, zero, suc, ◌<◌, List, [], ◌∷◌, ◌++◌, length, Some, refl, ap, arith}
+use Rattle.std.proofs.Common.{◌≡◌, ℕ, zero, suc, ◌<◌, List, [], ◌∷◌, ◌++◌, length, Some, refl, ap, arith, ◌∙◌, ◌+◌}
 use Rattle.std.specs.Prelude.{slice_get}
 
 -- a list is empty, or it has a last element
@@ -34,3 +34,10 @@ pub some_within : {X : Type 0} (xs : List X) (n : ℕ) → n < length xs → (x 
 some_within [] n less = absurd (omega arith)
 some_within (x ∷ xs) zero less = (x, refl)
 some_within (x ∷ xs) (suc n) less = some_within xs n (omega arith)
+
+-- what stands after the first of two lists
+pub get-after : {X : Type 0} (xs ys : List X) (n : ℕ) → slice_get (xs ++ ys) (length xs + n) ≡ slice_get ys n
+get-after [] ys n = let e : 0 + n ≡ n = omega arith in ap (slice_get ys) e
+get-after (x ∷ xs) ys n =
+    let e : suc (length xs) + n ≡ suc (length xs + n) = omega arith in
+    ap (slice_get (x ∷ (xs ++ ys))) e ∙ get-after xs ys n

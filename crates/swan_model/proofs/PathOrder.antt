@@ -1,6 +1,6 @@
 -- The serial order of paths.
 use Rattle.std.proofs.Common.{◌≡◌, ◌⊎◌, inl, inr, ℕ, ◌<◌, ◌≤◌, Bool, true, false, nat_eq, nat_lt, cond, List, [], ◌∷◌, ◌++◌, refl, sym, ap, ◌∙◌, arith, rules, tests}
-use Rattle.std.proofs.lemmas.Bool.{cases_order, eq-eqb, eqb-false, eqb-true, lt-ltb, ltb-false, ltb-true, ne_eqb}
+use Rattle.std.proofs.lemmas.Bool.{cases_order, eq-eqb, eqb-false, eqb-true, lt-ltb, ltb-false, ltb-true, ne_eqb, false≢true}
 use Rattle.swan_model.specs.PathOrder.{comes_before}
 use Rattle.swan_model.proofs.Paths.{same_part}
 
@@ -165,6 +165,9 @@ pub before-one_way : (path other : List ℕ) → comes_before path other ≡ tru
 before-one_way [] other is = absurd (cc)
 before-one_way (part ∷ parts) [] is = refl
 before-one_way (part ∷ parts) (other ∷ others) is = grind (arith, before-one_way parts others)
+
+pub never_before-both : (path other : List ℕ) → comes_before path other ≡ true → comes_before other path ≡ true → ⊥
+never_before-both path other is also = false≢true (sym (before-one_way path other is) ∙ also)
 
 -- where one path is not before another, which is not before a third, it is not before that one
 pub before-chain : (path other last : List ℕ) → comes_before path other ≡ false → comes_before other last ≡ false → comes_before path last ≡ false

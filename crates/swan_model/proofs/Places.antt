@@ -12,7 +12,7 @@ passing test n es = length (filter test (take n es))
 abbrev pub one_if : Bool → ℕ
 one_if b = cond b 1 0
 
-first-passes : (test : Entry → Bool) (e : Entry) (es : List Entry) → length (filter test (e ∷ es)) ≡ one_if (test e) + length (filter test es)
+pub first-passes : {X : Type 0} (test : X → Bool) (e : X) (es : List X) → length (filter test (e ∷ es)) ≡ one_if (test e) + length (filter test es)
 first-passes test e es = by (test e) where
   by : (b : Bool) → length (cond b (e ∷ filter test es) (filter test es)) ≡ one_if b + length (filter test es)
   by true = omega arith

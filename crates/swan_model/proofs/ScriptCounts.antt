@@ -25,6 +25,7 @@ use Rattle.swan_model.proofs.Places.{one_if, passing, passing-more, passing-none
 use Rattle.swan_model.proofs.ScriptDeeds.{not_before, not_through, pop_needs, push_needs}
 use Rattle.swan_model.proofs.ScriptRights.{is_older}
 use Rattle.swan_model.proofs.ScriptSteps.{deed_is, spawn_moves}
+use Rattle.swan_model.proofs.Lists.{get-after}
 
 -- whether an entry is a push to this queue
 abbrev pub is_push : Origin → Entry → Bool
@@ -32,7 +33,7 @@ is_push queue entry = is_push_to queue entry.deed
 
 -- ---- the pushes are the entries that push
 
-more-pushed : (queue : Origin) (d : Deed) (items : List Value) (entry : Entry) (entries : List Entry) → length items ≡ length entries → length (cons_option (pushed_by queue d) items) ≡ length (cond (is_push_to queue d) (entry ∷ entries) entries)
+pub more-pushed : (queue : Origin) (d : Deed) (items : List Value) (entry : Entry) (entries : List Entry) → length items ≡ length entries → length (cons_option (pushed_by queue d) items) ≡ length (cond (is_push_to queue d) (entry ∷ entries) entries)
 more-pushed queue (deed.Push origin value) items entry entries same = by (is_same origin queue) where
   by : (b : Bool) → length (cons_option (cond b (Some value) None) items) ≡ length (cond b (entry ∷ entries) entries)
   by true = omega (arith, same)
@@ -64,14 +65,6 @@ item-at queue (x ∷ entries) (suc n) entry value is pushes =
     by : (o : Option Value) → slice_get (cons_option o (pushed queue entries)) (length (cons_option o (pushed queue (take n entries)))) ≡ slice_get (pushed queue entries) (length (pushed queue (take n entries)))
     by None = refl
     by (Some first) = refl
-
-get-after : (xs ys : List Value) (n : ℕ) → slice_get (xs ++ ys) (length xs + n) ≡ slice_get ys n
-get-after [] ys n =
-    let e : 0 + n ≡ n = omega arith in
-    ap (slice_get ys) e
-get-after (x ∷ xs) ys n =
-    let e : suc (length xs) + n ≡ suc (length xs + n) = omega arith in
-    ap (slice_get (x ∷ (xs ++ ys))) e ∙ get-after xs ys n
 
 -- what is done at a time is done by an entry, where it isn't nothing
 entry-at : (s : Script) (t : ℕ) (d : Deed) → deed_at s t ≡ d → (d ≡ deed.Quiet → ⊥) → (entry : Entry) × (slice_get s.entries t ≡ Some entry) × (entry.deed ≡ d)

@@ -87,7 +87,8 @@ change-right object held deed.Quiet is within = absurd (cc)
 pub change_needs : (object : Origin) → Needs (is_change_of object) Out object
 change_needs object = record { quiet = refl; right = change-right object; gives = given-out object }
 
-push-right : (queue : Origin) (held : List OriginGive) (d : Deed) → is_push_to queue d ≡ true → is_within held d ≡ true → may_use held Push queue ≡ true
+-- who pushes may
+pub push-right : (queue : Origin) (held : List OriginGive) (d : Deed) → is_push_to queue d ≡ true → is_within held d ≡ true → may_use held Push queue ≡ true
 push-right queue held (deed.Push origin value) is within = same-use held Push origin queue is within
 push-right queue held deed.MakeQueue is within = absurd (cc)
 push-right queue held (deed.MakeObject value) is within = absurd (cc)

@@ -2,7 +2,7 @@
 use Rattle.std.proofs.Common.{◌≡◌, ℕ, zero, suc, ◌+◌, ◌-◌, ◌<◌, ◌≤◌, ◌⊎◌, inl, inr, Bool, true, false, nat_lt, cond, List, [], ◌∷◌, ◌++◌, Some, None, length, refl, sym, ap, subst, ◌∙◌, append_assoc, arith}
 use Rattle.std.proofs.lemmas.Bool.{both_ways, false_from_ne_true, cases_Bool, cases_lt, ltb-true}
 use Rattle.std.proofs.lemmas.List.{append-nil}
-use Rattle.std.proofs.lemmas.Option.{slice_get-get_or, slice_get_within}
+use Rattle.std.proofs.lemmas.Option.{slice_get-get_or, slice_get_within, cond_some}
 use Rattle.std.specs.Option.{option_map_or}
 use Rattle.std.specs.Prelude.{slice_get}
 use Rattle.swan_model.specs.declared.script.Deed.{Deed}
@@ -30,17 +30,13 @@ pub record IsStepOf (s : Script) (p : Progress) (d : Deed) : Type 0 where
   pub does : entry.deed ≡ d
   pub at : point s p ≡ time s p.path p.done
 
-next-parts : (b : Bool) (does d : Deed) → cond b (Some does) None ≡ Some d → (b ≡ true) × (does ≡ d)
-next-parts true does d is = (refl, cc)
-next-parts false does d is = absurd (cc)
-
 -- what stands at a time is what is done there
 pub deed_is : (s : Script) (t : ℕ) (entry : Entry) → slice_get s.entries t ≡ Some entry → deed_at s t ≡ entry.deed
 deed_is s t entry stands = ap (λ found. option_map_or (λ (e : Entry). e.deed) found deed.Quiet) stands
 
 pub at_next : (s : Script) (p : Progress) (d : Deed) → next_deed s p ≡ Some d → IsStepOf s p d
 at_next s p d next =
-    let both = next-parts (nat_lt p.done (length (times s p.path))) (deed_at s (point s p)) d next in
+    let both = cond_some (nat_lt p.done (length (times s p.path))) (deed_at s (point s p)) d next in
     let left = ltb-true p.done (length (times s p.path)) both.0 in
     let own = point_own s p left in
     record { left = left; entry = own.entry; stands = own.stands; own = own.own; does = sym (deed_is s (point s p) own.entry own.stands) ∙ both.1; at = point_is s p left }

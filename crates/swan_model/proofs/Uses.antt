@@ -1,5 +1,5 @@
 -- What one who holds this may use, and what the entries of a script grant.
-use Rattle.std.proofs.Common.{◌≡◌, ℕ, suc, ◌⊎◌, inl, inr, Bool, true, false, ◌&&◌, nat_eq, cond, List, [], ◌∷◌, ◌++◌, Option, Some, None, refl, sym, ap, subst, ◌∙◌}
+use Rattle.std.proofs.Common.{◌≡◌, ℕ, suc, ◌⊎◌, inl, inr, Bool, true, false, ◌&&◌, nat_eq, cond, List, [], ◌∷◌, ◌++◌, Option, Some, None, refl, sym, ap, subst, ◌∙◌, arith}
 use Rattle.std.proofs.lemmas.Bool.{and_from, and_parts, or_cases, or_left, or_right}
 use Rattle.std.proofs.lemmas.List.Folds.{list_any-append}
 use Rattle.std.specs.Cmp.Lexicographic.{pointwise}
@@ -47,18 +47,9 @@ may_use-either held more mode origin is =
     or_cases (may_use held mode origin) (may_use more mode origin)
     (sym (list_any-append (λ (has : OriginGive). allows has.mode mode && is_same has.origin origin) held more) ∙ is)
 
-allows-more : (mode right less : Mode) → allows mode right ≡ true → allows right less ≡ true → allows mode less ≡ true
-allows-more In In less is also = also
-allows-more Out Out less is also = also
-allows-more InOut In In is also = refl
-allows-more InOut Out Out is also = refl
-allows-more InOut InOut less is also = also
-allows-more Push Push less is also = also
-allows-more Pop Pop less is also = also
-allows-more PushPop Push Push is also = refl
-allows-more PushPop Pop Pop is also = refl
-allows-more PushPop PushPop less is also = also
-allows-more _ _ _ is also = absurd (cc)
+-- what allows a mode allows what that allows
+pub allows-more : (mode right less : Mode) → allows mode right ≡ true → allows right less ≡ true → allows mode less ≡ true
+allows-more mode right less is also = grind arith
 
 -- who may use by a mode may use by each that it allows
 pub may_use-less : (held : List OriginGive) (mode less : Mode) (origin : Origin) → allows mode less ≡ true → may_use held mode origin ≡ true → may_use held less origin ≡ true

@@ -12,10 +12,6 @@ use Rattle.task_frames.specs.declared.stage.Stage.TheVariants.{Ready, Asking}
 use Rattle.task_frames.specs.Frames.{FrameView, IsAnyFrame, Task, is_whole, stage_of}
 use Rattle.swan_runtime.specs.Stacks.{fuel_of, turns_left}
 
-pub some_is : {X : Type 0} (o : Option X) → is_some o ≡ true → (x : X) × (o ≡ Some x)
-some_is None is = absurd (cc)
-some_is (Some x) is = (x, refl)
-
 -- one frame more has its own
 pub left-more : {B L E : Type 0} (stack : List (FrameView B L E)) (top : FrameView B L E) → turns_left (stack ++ top ∷ []) ≡ turns_left stack + (2 * fuel_of top.task.fuel top.stage + 1)
 left-more [] top = omega arith

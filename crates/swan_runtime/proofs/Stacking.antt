@@ -1,26 +1,23 @@
 -- How the frames of a stack stand once its top has taken a turn.
 use Rattle.std.proofs.Common.{◌≡◌, ◌≢◌, inl, inr, ℕ, ◌<◌, true, false, nat_eq, Some, None, List, [], ◌∷◌, ◌++◌, length, refl, sym, ap, ◌∙◌, subst, arith, append-nil}
 use Rattle.std.proofs.lemmas.Bool.{cases_Bool, eq-eqb, eqb-true}
-use Rattle.std.proofs.lemmas.Option.{slice_get_within}
+use Rattle.std.proofs.lemmas.Option.{slice_get_within, same_Some}
 use Rattle.std.specs.Prelude.{slice_get}
 use Rattle.swan_model.specs.PathOrder.{comes_before}
-use Rattle.swan_model.proofs.Elements.{before_more, last_more, more_cases, some_same}
+use Rattle.swan_model.proofs.Elements.{before_more, last_more, more_cases}
 use Rattle.swan_model.proofs.PathOrder.{not_before-under}
 use Rattle.task_frames.specs.Cores.{CoreView, KeptView}
 use Rattle.task_frames.specs.Frames.{FrameView}
 use Rattle.task_frames.specs.Records.{LiveFrame, live_at}
 use Rattle.task_frames.specs.Resumes.{EndsOf, HasNone, IsGivenBy, OthersKept}
 use Rattle.swan_runtime.specs.Stacks.{AreStacked, IsAbove, IsOn, IsStack}
+use Rattle.swan_model.proofs.Paths.{not_below-itself}
 
 -- ---- paths
 
 -- no task is above itself
-not_above-itself : (path rest : List ℕ) (child : ℕ) → path ≡ path ++ child ∷ rest → ⊥
-not_above-itself [] rest child is = absurd (cc)
-not_above-itself (part ∷ parts) rest child is = let less : parts ≡ parts ++ child ∷ rest = cc in not_above-itself parts rest child less
-
 pub not_itself : (path : List ℕ) → IsAbove path path → ⊥
-not_itself path above = not_above-itself path above.rest above.child above.is
+not_itself path above = not_below-itself path above.rest above.child above.is
 
 -- who is above a task is above its children
 append-one : (path : List ℕ) (child : ℕ) (rest : List ℕ) (last : ℕ) → (path ++ child ∷ rest) ++ last ∷ [] ≡ path ++ child ∷ (rest ++ last ∷ [])
@@ -44,10 +41,10 @@ module _ {B L E : Type 0} (of : EndsOf E) where
   -- a frame that the core gave stands in its record, by its number
   pub given-path : (core : CoreView B L) (a b : FrameView B L E) → IsGivenBy of core a → IsGivenBy of core b → a.task.number ≡ b.task.number → a.task.path ≡ b.task.path
   given-path core a b one two same =
-      let kept : one.kept ≡ two.kept = some_same one.kept two.kept (sym one.keeps ∙ two.keeps) in
+      let kept : one.kept ≡ two.kept = same_Some one.kept two.kept (sym one.keeps ∙ two.keeps) in
       let live : Some one.given.of.frame ≡ Some two.given.of.frame =
       sym one.given.of.live ∙ ap (λ (k : KeptView). live_at k.live a.task.number) kept ∙ ap (live_at two.kept.live) same ∙ two.given.of.live in
-      sym one.given.of.path ∙ ap (λ (f : LiveFrame). f.path) (some_same _ _ live) ∙ two.given.of.path
+      sym one.given.of.path ∙ ap (λ (f : LiveFrame). f.path) (same_Some _ _ live) ∙ two.given.of.path
 
   module _ (core after : CoreView B L) where
     -- a frame that a call left alone is as the core gave it last
@@ -230,21 +227,21 @@ module _ {B L E : Type 0} (of : EndsOf E) where
         → comes_before live.path top.task.path ≡ true → ⊥
     none-before number live stands stay same given own path before = elim (cases_Bool (nat_eq number top.task.number)) [
       | inl is-top ↦
-          let kept : given.kept ≡ now = some_same given.kept now (sym given.keeps ∙ keeps) in
+          let kept : given.kept ≡ now = same_Some given.kept now (sym given.keeps ∙ keeps) in
           let both : Some live ≡ Some given.given.of.frame =
           sym stands ∙ ap (live_at now.live) (eqb-true number top.task.number is-top ∙ sym own) ∙ ap (λ (k : KeptView). live_at k.live same.task.number) (sym kept) ∙ given.given.of.live in
-          let it : live.path ≡ top.task.path = ap (λ (f : LiveFrame). f.path) (some_same _ _ both) ∙ given.given.of.path ∙ path in
+          let it : live.path ≡ top.task.path = ap (λ (f : LiveFrame). f.path) (same_Some _ _ both) ∙ given.given.of.path ∙ path in
           not_before-under top.task.path []
           (ap (comes_before top.task.path) (append-nil top.task.path) ∙ ap (λ p. comes_before p top.task.path) (sym it) ∙ before)
       | inr apart ↦
           let other : number ≢ top.task.number = λ e. let no : true ≡ false = sym (eq-eqb number top.task.number e) ∙ apart in absurd (cc) in
           let on = on-cases core stack top number (is.all number live (others-were (λ o. o ≢ top.task.number) stay number other live stands)) other in
           let there = below-given core stack top is.stacked on.index on.frame on.stands in
-          let kept : there.kept ≡ is.kept = some_same there.kept is.kept (sym there.keeps ∙ is.keeps) in
+          let kept : there.kept ≡ is.kept = same_Some there.kept is.kept (sym there.keeps ∙ is.keeps) in
           let both : Some there.given.of.frame ≡ Some live =
           sym there.given.of.live ∙ ap (λ (k : KeptView). live_at k.live on.frame.task.number) kept ∙ ap (live_at is.kept.live) on.same
           ∙ others-were (λ o. o ≢ top.task.number) stay number other live stands in
-          let path-is : on.frame.task.path ≡ live.path = sym there.given.of.path ∙ ap (λ (f : LiveFrame). f.path) (some_same _ _ both) in
+          let path-is : on.frame.task.path ≡ live.path = sym there.given.of.path ∙ ap (λ (f : LiveFrame). f.path) (same_Some _ _ both) in
           not_before on.frame.task.path top.task.path (below-top core stack top is.stacked on.index on.frame on.stands)
           (ap (λ p. comes_before p top.task.path) path-is ∙ before)
     ]

@@ -11,8 +11,8 @@ use Rattle.swan_model.specs.Nested.{IsLeft}
 use Rattle.swan_model.specs.PathOrder.{comes_before}
 use Rattle.swan_model.specs.Script.{script}
 use Rattle.swan_model.specs.SerialTime.{Progress, is_earlier}
-use Rattle.swan_model.proofs.Elements.{found_is, option_cases}
-use Rattle.swan_model.proofs.PathOrder.{before-one_way, before-through, either_before}
+use Rattle.swan_model.proofs.Elements.{found_is, option_cases, answers_same}
+use Rattle.swan_model.proofs.PathOrder.{before-one_way, before-through, either_before, never_before-both}
 use Rattle.swan_model.proofs.Points.{before_earlier, earlier_before, same_frame}
 use Rattle.queues.specs.declared.answers.WaitFor.{WaitFor}
 use Rattle.serial_elision.proofs.Lawful as elision
@@ -31,14 +31,6 @@ one-before path other differ = elim (either_before path other) [
   | inl same ↦ absurd (differ same)
   | inr one ↦ one
 ]
-
-never-both : (path other : List ℕ) → comes_before path other ≡ true → comes_before other path ≡ true → ⊥
-never-both path other one two = false≢true (sym (before-one_way path other one) ∙ two)
-
-same-bool : (a b : Bool) → (a ≡ true → b ≡ true) → (b ≡ true → a ≡ true) → a ≡ b
-same-bool true b one two = sym (one refl)
-same-bool false true one two = two refl
-same-bool false false one two = refl
 
 module _ {B L : Type 0} (G : Ghosts B L) (plan : Plan B L) (kept : KeptView) (core : IsCore G plan kept) where
   abbrev s : Script
@@ -60,7 +52,7 @@ module _ {B L : Type 0} (G : Ghosts B L) (plan : Plan B L) (kept : KeptView) (co
   serial-so number other a b here there =
       let one = left number a here in
       let two = left other b there in
-      same-bool (comes_before a.path b.path) (is_earlier s (progress_of number a) (progress_of other b))
+      answers_same (comes_before a.path b.path) (is_earlier s (progress_of number a) (progress_of other b))
       (before_earlier s kept.reading lawful.nested core.queues.fit.tasks one.0 two.0 (progress_of number a) (progress_of other b) one.1 two.1)
       (earlier_before s kept.reading lawful.nested core.queues.fit.tasks one.0 two.0 (progress_of number a) (progress_of other b) one.1 two.1)
 
@@ -190,10 +182,10 @@ module _ {B L E : Type 0} (of : EndsOf E) (kept : KeptView) (frame : FrameView B
             let come : Some (come_to frame.task.done first.frame) ≡ Some other = sym (ap (option_map (come_to frame.task.done)) first.there) ∙ sym only.own ∙ ap (live_at then-live) (sym same) ∙ there in
             let path : other.path ≡ frame.task.path = ap (λ (x : LiveFrame). x.path) (sym (same_Some (come_to frame.task.done first.frame) other come)) ∙ path-is in
             let itself : comes_before frame.task.path frame.task.path ≡ true = ap (λ q. comes_before q frame.task.path) (sym path) ∙ before in
-            never-both frame.task.path frame.task.path itself itself
+            never_before-both frame.task.path frame.task.path itself itself
         | inr differs ↦
             let after = first.first m other (sym (only.others m differs) ∙ there) differs in
-            never-both other.path first.frame.path (ap (comes_before other.path) path-is ∙ before) after
+            never_before-both other.path first.frame.path (ap (comes_before other.path) path-is ∙ before) after
       ]
 
   module _ (G : Ghosts B L) (before after : CoreView B L) (keeps : before.kept ≡ Some kept) where

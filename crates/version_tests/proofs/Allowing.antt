@@ -1,5 +1,6 @@
 -- Where a step is allowed, its call is.
 use Rattle.std.proofs.Common.{◌≡◌, ◌≢◌, ℕ, Bool, true, false, ◌&&◌, ◌||◌, ◌==◌, not, cond, Option, None, Some, [], ◌∷◌, is_none, refl, sym, ap, subst, ◌∙◌}
+use Rattle.std.proofs.lemmas.Option.{none-some}
 use Rattle.std.specs.List.{list_all}
 use Rattle.std.specs.BTreeMap.{is_at}
 use Rattle.std.specs.Map.{lookup}
@@ -42,12 +43,9 @@ value_by_test (owed frame) e = absurd (false≢true e)
 
 -- ---- what all entries pass, a found one passes
 
-nothing : (object : Placed) → None ≡ Some object → ⊥
-nothing object e = cc
-
 found_passes : (p : (ℕ × ℕ) × Placed → Bool) (es : Places) (k : ℕ × ℕ) (object : Placed) → list_all p es ≡ true
     → lookup (is_at (place_cmp k)) es ≡ Some object → p (k, object) ≡ true
-found_passes p [] k object all found = absurd (nothing object found)
+found_passes p [] k object all found = absurd (none-some object found)
 found_passes p (e ∷ es) k object all found = by (is_at (place_cmp k) e.0) refl found (found_passes p es k object (and_parts (p e) (list_all p es) all).1) where
   by : (b : Bool) → is_at (place_cmp k) e.0 ≡ b → cond b (Some e.1) (lookup (is_at (place_cmp k)) es) ≡ Some object
       → (lookup (is_at (place_cmp k)) es ≡ Some object → p (k, object) ≡ true) → p (k, object) ≡ true

@@ -12,6 +12,7 @@ use Rattle.swan_model.specs.SerialState.{Activation, Holding}
 use Rattle.swan_model.specs.SerialStep.{number_at}
 use Rattle.whole_runs.specs.Whole.{Contents, with_queue, RunsWhole}
 use Rattle.whole_runs.proofs.WholeSteps.{pushes, finishes}
+use Rattle.serial_elision.proofs.Pops.{set-found}
 
 -- what stands in a list at the index at which it was set
 pub get-set_same : {X : Type 0} (xs : List X) (n : ℕ) (x y : X) → slice_get xs n ≡ Some x → slice_get (slice_set xs n y) n ≡ Some y
@@ -19,18 +20,13 @@ get-set_same [] n x y is = absurd (cc)
 get-set_same (z ∷ zs) zero x y is = refl
 get-set_same (z ∷ zs) (suc n) x y is = get-set_same zs n x y is
 
-pub set-same : {X : Type 0} (xs : List X) (n : ℕ) (x : X) → slice_get xs n ≡ Some x → slice_set xs n x ≡ xs
-set-same [] n x is = refl
-set-same (z ∷ zs) zero x is = let e : x ≡ z = cc in ap (λ y. y ∷ zs) e
-set-same (z ∷ zs) (suc n) x is = ap (λ ys. z ∷ ys) (set-same zs n x is)
-
 pub set-set : {X : Type 0} (xs : List X) (n : ℕ) (x y : X) → slice_set (slice_set xs n x) n y ≡ slice_set xs n y
 set-set [] n x y = refl
 set-set (z ∷ zs) zero x y = refl
 set-set (z ∷ zs) (suc n) x y = ap (λ ys. z ∷ ys) (set-set zs n x y)
 
 pub with_queue-same : (c : Contents) (n : ℕ) (items : List Value) → slice_get c.queues n ≡ Some items → with_queue c n items ≡ c
-with_queue-same c n items is = ap {B = Contents} (λ qs. record c { queues = qs }) (set-same c.queues n items is)
+with_queue-same c n items is = ap {B = Contents} (λ qs. record c { queues = qs }) (set-found c.queues n items is)
 
 pub with_queue-twice : (c : Contents) (n : ℕ) (items now : List Value) → with_queue (with_queue c n items) n now ≡ with_queue c n now
 with_queue-twice c n items now = ap {B = Contents} (λ qs. record c { queues = qs }) (set-set c.queues n items now)

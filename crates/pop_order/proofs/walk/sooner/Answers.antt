@@ -1,7 +1,7 @@
 use Rattle.std.proofs.Common.{ℕ, refl, sym, subst, ◌∙◌}
 use Rattle.pop_order.specs.Order.{ComesBefore}
 use Rattle.pop_order.specs.Walk.{late, second, taken}
-use Rattle.pop_order.proofs.Walks.{same_number}
+use Rattle.std.proofs.lemmas.Option.{same_Some}
 use Rattle.pop_order.proofs.walk.sooner.Goals as goal
 
 pub returns-then-not-comes_before : goal.returns-then-not-comes_before
@@ -17,5 +17,5 @@ pub returns-else-comes_before : goal.returns-else-comes_before
 returns-else-comes_before c = taken (c.if-not-comes_before.ensures.before refl)
     (λ first is.
     let P : ℕ → Type 0 = λ k. ComesBefore c.args.frames.now.entries k c.args.pusher in
-    λ sooner. c.if-comes_before.ensures.not_before refl (subst P (same_number first c.in-Some.first (sym is ∙ c.in-Some.is)) sooner))
+    λ sooner. c.if-comes_before.ensures.not_before refl (subst P (same_Some first c.in-Some.first (sym is ∙ c.in-Some.is)) sooner))
     refl

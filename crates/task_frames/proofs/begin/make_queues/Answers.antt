@@ -1,4 +1,5 @@
 use Rattle.std.proofs.Common.{◌≡◌, [], length, drop, refl, sym, ap, ◌∙◌, subst, arith}
+use Rattle.std.proofs.lemmas.Option.{same_Some}
 use Rattle.std.specs.Prelude.{slice_get}
 use Rattle.swan_model.specs.declared.script.Script.{Script}
 use Rattle.swan_model.specs.QueueState.{QueueState}
@@ -6,7 +7,6 @@ use Rattle.swan_model.specs.declared.origin.Origin.TheVariants.{Root}
 use Rattle.swan_model.specs.Readings.{at_start, with_queue}
 use Rattle.swan_model.specs.Script.{script}
 use Rattle.swan_model.specs.SerialTime.{Reading}
-use Rattle.swan_model.proofs.Elements.{some_same}
 use Rattle.serial_elision.proofs.Lawful.{lawful}
 use Rattle.task_frames.specs.Opened.{AreFirstQueues}
 use Rattle.task_frames.proofs.Beginning.{all-of, items-at, next-of, roots-more}
@@ -35,7 +35,7 @@ create_root-requires-clause-next g c = λ s is.
     let inv = c.loop-root.invariant in
     let next = next-of c.args.roots c.loop-root.made c.in-Some.root _ (sym inv.left ∙ c.in-Some.ensures.steps.0) in
     let roots = ap (λ rs. slice_get rs c.loop-root.made) (sym c.requires.roots) ∙ next.stands in
-    let named : script g.B.Body plan ≡ s = some_same _ s (sym c.requires.name ∙ sym inv.same.0 ∙ is) in
+    let named : script g.B.Body plan ≡ s = same_Some _ s (sym c.requires.name ∙ sym inv.same.0 ∙ is) in
     ap (λ (x : Script). slice_get x.queues (length (g.Q.Queues.state c.loop-root.queues).makers)) (sym named)
     ∙ ap (slice_get (script g.B.Body plan).queues) inv.queues.many
     ∙ items-at plan.roots.queues c.loop-root.made c.in-Some.root roots
