@@ -1,54 +1,68 @@
-// Frames that come to a core which hasn't given them last.
+// Frames that come to a core that hasn't given them last.
 ghost use Rattle.std.specs.Prelude.{◌≡◌, [], IfOk, OnOk};
-ghost use Rattle.swan_model.specs.declared.body.Ask.TheVariants.{Sync};
 ghost use Rattle.task_frames.specs.Resumes.{IsOpened, ends_of};
 ghost use Rattle.core_tests.specs.Pools.{MayAllCome};
 
+use crate::plans::asks;
 use crate::runs::alone;
 use crate::turn::Turn;
 use crate::turns::take_turns;
+use elision_tests::AskList;
 use queue_book::{BookQueues, NoEnds};
-use queues::{LocalEnds, Queues};
+use queues::{LocalEnds, Queues, WaitFor};
 use std::alloc::Global;
+use std::marker::Model;
+use std::sync::Arc;
 use std::test::Fail;
 use swan_model::{Answer, Ask, Body, NoMemory, Plan, PlanFuel, Roots, RunName};
 use task_frames::{Core, Frame, Opened};
 
-/// A body whose tasks wait for their children at each step, until their fuel is used up.
-#[derive(Clone, Copy, Drop)]
-struct Waiting;
+/// A list of asks that the plans of two runs share. Contracts see it as the list.
+#[derive(Drop)]
+struct Shared {
+    list: Arc<AskList>,
+}
 
-impl Body for Waiting {
-    type Local = u64;
+impl Model for Shared {
+    ghost use Rattle.std.specs.Prelude.{List, ℕ};
+    ghost use Rattle.swan_model.specs.declared.body.Ask.{Ask as Asked};
 
-    ghost next = { λ body local answer fuel. (local, Sync) };
+    ghost Value = { List (Asked ℕ) };
 
-    ghost place_of = { λ body local. local };
+    ghost view = { λ shared. shared.list.value };
+}
+
+impl Body for Shared {
+    type Local = usize;
+
+    ghost next = { ⟦<AskList as Body>⟧.next };
+
+    ghost place_of = { ⟦<AskList as Body>⟧.place_of };
 
     fn advance(
         &self,
-        _alloc: Global,
-        local: u64,
-        _answer: Answer,
-        _fuel: u64,
-    ) -> Result<(u64, Ask<u64>), NoMemory> {
-        Ok((local, Ask::Sync))
+        alloc: Global,
+        local: usize,
+        answer: Answer,
+        fuel: u64,
+    ) -> Result<(usize, Ask<usize>), NoMemory> {
+        self.list.advance(alloc, local, answer, fuel)
     }
 
-    fn place(&self, local: &u64) -> u64 {
-        *local
+    fn place(&self, local: &usize) -> u64 {
+        self.list.place(local)
     }
 }
 
-/// A plan of three steps, of which the last one wants fuel.
-fn plan(alloc: Global) -> Plan<Waiting>
-    ensures { result ≡ record { body = record {}; root_local = 0; roots = record { queues = []; objects = [] }; fuel = 2 } }
+/// The plan that goes through these asks, with nothing at first.
+fn plan_of(alloc: Global, list: Arc<AskList>) -> Plan<Shared>
+    ensures { result ≡ record { body = list.value; root_local = 0; roots = record { queues = []; objects = [] }; fuel = 50 } }
 {
     Plan {
-        body: Waiting,
+        body: Shared { list },
         root_local: 0,
         roots: Roots::new(alloc),
-        fuel: PlanFuel::new(2),
+        fuel: PlanFuel::new(50),
     }
 }
 
@@ -123,33 +137,35 @@ fn come_so<B: Body, Q: Queues>(
     take_all(alloc, &mut core, &body, &mut own, &mut stale, turns)
 }
 
-/// An opened run of the plan.
-fn opened(alloc: Global) -> Result<Opened<Waiting, BookQueues>, NoMemory>
+/// An opened run of the plan that goes through these asks.
+fn opened(alloc: Global, list: &Arc<AskList>) -> Result<Opened<Shared, BookQueues>, Fail>
     ensures opened { IfOk result (λ it. IsOpened (ends_of ⟦<NoEnds as LocalEnds>⟧) it.core it.root) }
-    ensures plan { IfOk result (λ it. it.core.plan ≡ record { body = record {}; root_local = 0; roots = record { queues = []; objects = [] }; fuel = 2 }) }
+    ensures plan { IfOk result (λ it. it.core.plan ≡ record { body = list.now.value; root_local = 0; roots = record { queues = []; objects = [] }; fuel = 50 }) }
     ensures run { IfOk result (λ it. it.core.run ≡ []) }
-    ensures body { IfOk result (λ it. it.body.value ≡ record {}) }
+    ensures body { IfOk result (λ it. it.body.value ≡ list.now.value) }
 {
-    let plan = plan(alloc);
+    let plan = plan_of(alloc, Arc::try_clone(list)?);
     let queues = BookQueues::new(alloc, RunName::of(&plan));
-    Core::open(alloc, plan, queues)
+    Ok(Core::open(alloc, plan, queues)?)
 }
 
-/// The turns of two runs of the plan come to what is said.
-fn table(alloc: Global, turns: &Turns<'_>) -> Result<(), Fail> {
-    let stale = frames_after(alloc, opened(alloc)?, turns.second)?;
-    come_so(alloc, opened(alloc)?, stale, turns)
+/// The turns of two runs of these tasks, of which the first is the root, come to what is said.
+fn table(alloc: Global, tasks: &[&str], turns: &Turns<'_>) -> Result<(), Fail> {
+    let list = Arc::new(alloc, asks(alloc, tasks, usize::MAX)?)?;
+    let stale = frames_after(alloc, opened(alloc, &list)?, turns.second)?;
+    come_so(alloc, opened(alloc, &list)?, stale, turns)
 }
 
 #[test]
 fn a_stale_frame_is_strange(rt: HostRuntime) -> Result<(), Fail> {
     table(
         rt.alloc(),
+        &["sync"],
         &Turns {
             first: &[Turn::Runs(0, 0)],
             second: &[],
             stale: &[Turn::Strange(0, 0), Turn::Strange(0, 0)],
-            rest: &[Turn::Runs(0, 0), Turn::Ends(0, 0)],
+            rest: &[Turn::Ends(0, 0)],
         },
     )
 }
@@ -158,6 +174,7 @@ fn a_stale_frame_is_strange(rt: HostRuntime) -> Result<(), Fail> {
 fn a_frame_from_ahead_is_strange(rt: HostRuntime) -> Result<(), Fail> {
     table(
         rt.alloc(),
+        &["sync sync"],
         &Turns {
             first: &[],
             second: &[Turn::Runs(0, 0), Turn::Runs(0, 0)],
@@ -171,11 +188,151 @@ fn a_frame_from_ahead_is_strange(rt: HostRuntime) -> Result<(), Fail> {
 fn a_frame_that_has_ended_is_strange(rt: HostRuntime) -> Result<(), Fail> {
     table(
         rt.alloc(),
+        &["sync sync"],
         &Turns {
             first: &[Turn::Runs(0, 0), Turn::Runs(0, 0), Turn::Ends(0, 0)],
             second: &[Turn::Runs(0, 0)],
             stale: &[Turn::Strange(0, 0), Turn::Strange(0, 0)],
             rest: &[],
+        },
+    )
+}
+
+/// The first two turns of each run spawn the children, which go on in the same order until each has its own place. The child that spawns
+/// first has the child 3 in its run.
+#[test]
+fn a_frame_of_another_path_is_strange(rt: HostRuntime) -> Result<(), Fail> {
+    table(
+        rt.alloc(),
+        &["spawn:1:9: spawn:1:9: sync", "spawn:2:2: sync", ""],
+        &Turns {
+            first: &[
+                Turn::Spawns(0, 0, 1),
+                Turn::Spawns(0, 0, 2),
+                Turn::Spawns(1, 0, 3),
+                Turn::Spawns(2, 0, 4),
+            ],
+            second: &[
+                Turn::Spawns(0, 0, 1),
+                Turn::Spawns(0, 0, 2),
+                Turn::Spawns(2, 0, 3),
+                Turn::Spawns(1, 0, 4),
+            ],
+            stale: &[
+                Turn::Strange(3, 0),
+                Turn::Strange(4, 0),
+                Turn::Strange(3, 0),
+            ],
+            rest: &[
+                Turn::Waits(0, 0, WaitFor::Child(1)),
+                Turn::Waits(1, 0, WaitFor::Child(3)),
+                Turn::Waits(2, 0, WaitFor::Child(4)),
+                Turn::Ends(3, 0),
+                Turn::Runs(1, 0),
+                Turn::Ends(1, 0),
+                Turn::Waits(0, 0, WaitFor::Child(2)),
+                Turn::Ends(4, 0),
+                Turn::Runs(2, 0),
+                Turn::Ends(2, 0),
+                Turn::Runs(0, 0),
+                Turn::Ends(0, 0),
+            ],
+        },
+    )
+}
+
+/// Each child makes a queue, or an object, for a place of its own, and spawns a child. They make them in another order in the second run.
+fn other_places(alloc: Global, child: &str) -> Result<(), Fail> {
+    table(
+        alloc,
+        &["spawn:1:9: spawn:1:9: sync", child, ""],
+        &Turns {
+            first: &[
+                Turn::Spawns(0, 0, 1),
+                Turn::Spawns(0, 0, 2),
+                Turn::Runs(1, 0),
+                Turn::Runs(2, 0),
+                Turn::Spawns(1, 0, 3),
+            ],
+            second: &[
+                Turn::Spawns(0, 0, 1),
+                Turn::Spawns(0, 0, 2),
+                Turn::Runs(2, 0),
+                Turn::Runs(1, 0),
+                Turn::Spawns(1, 0, 3),
+            ],
+            stale: &[
+                Turn::Strange(1, 0),
+                Turn::Strange(2, 0),
+                Turn::Strange(1, 0),
+            ],
+            rest: &[
+                Turn::Ends(3, 0),
+                Turn::Runs(1, 0),
+                Turn::Ends(1, 0),
+                Turn::Spawns(2, 0, 4),
+                Turn::Waits(2, 0, WaitFor::Child(4)),
+                Turn::Ends(4, 0),
+                Turn::Runs(2, 0),
+                Turn::Ends(2, 0),
+                Turn::Runs(0, 0),
+                Turn::Ends(0, 0),
+            ],
+        },
+    )
+}
+
+#[test]
+fn a_frame_that_holds_another_queue_is_strange(rt: HostRuntime) -> Result<(), Fail> {
+    other_places(rt.alloc(), "queue spawn:2:2: sync")
+}
+
+#[test]
+fn a_frame_that_holds_another_object_is_strange(rt: HostRuntime) -> Result<(), Fail> {
+    other_places(rt.alloc(), "object:5 spawn:2:2: sync")
+}
+
+/// In the second run the other child goes first. Only the root stands as in the first run.
+#[test]
+fn each_frame_of_the_other_order_is_strange(rt: HostRuntime) -> Result<(), Fail> {
+    table(
+        rt.alloc(),
+        &["spawn:1:9: spawn:1:9: sync", "queue spawn:2:2: sync", ""],
+        &Turns {
+            first: &[
+                Turn::Spawns(0, 0, 1),
+                Turn::Spawns(0, 0, 2),
+                Turn::Runs(1, 0),
+                Turn::Spawns(1, 0, 3),
+                Turn::Runs(2, 0),
+                Turn::Spawns(2, 0, 4),
+            ],
+            second: &[
+                Turn::Spawns(0, 0, 1),
+                Turn::Spawns(0, 0, 2),
+                Turn::Runs(2, 0),
+                Turn::Spawns(2, 0, 3),
+                Turn::Runs(1, 0),
+                Turn::Spawns(1, 0, 4),
+            ],
+            stale: &[
+                Turn::Strange(1, 0),
+                Turn::Strange(2, 0),
+                Turn::Strange(3, 0),
+                Turn::Strange(4, 0),
+            ],
+            rest: &[
+                Turn::Waits(2, 0, WaitFor::Child(4)),
+                Turn::Ends(3, 0),
+                Turn::Ends(4, 0),
+                Turn::Runs(2, 0),
+                Turn::Runs(1, 0),
+                Turn::Ends(2, 0),
+                Turn::Waits(0, 0, WaitFor::Child(1)),
+                Turn::Ends(1, 0),
+                Turn::Runs(0, 0),
+                Turn::Ends(0, 0),
+            ],
         },
     )
 }
