@@ -28,8 +28,18 @@ fn budget(chance: u64) -> u64 {
     }
 }
 
-/// Takes turns until no frame is left: each is that of any frame, with any budget. Once the core has found no memory, it
-/// finds none for each frame that comes to it. Err says what went wrong.
+/// The root has ended exactly where no want of memory was met.
+fn ends_so<B: Body, Q: Queues>(core: &Core<B, Q>, is_dead: bool) -> Result<(), Fail> {
+    if core.is_done() == is_dead {
+        Err("the root has ended, and hasn't".into())
+    } else {
+        Ok(())
+    }
+}
+
+/// Takes turns until no frame is left, or one is torn by want of memory in a step of its own: each is that of any frame, with any budget. Once
+/// the core has found no memory, it finds none for each frame that comes to it. The root has ended exactly where no want of memory was met. Err
+/// says what went wrong.
 pub fn take_turns_by_chance<B: Body, Q: Queues>(
     alloc: Global,
     core: &mut Core<B, Q>,
@@ -45,18 +55,14 @@ pub fn take_turns_by_chance<B: Body, Q: Queues>(
     let mut is_dead = false;
     for _turn in 0..TURNS_MOST {
         if frames.is_empty() {
-            return if is_dead {
-                Err("no memory".into())
-            } else {
-                Ok(())
-            };
+            return ends_so(core, is_dead);
         }
         chance = next(chance);
         let at = (chance >> 33) as usize % frames.len();
         let frame = frames.swap_remove(at);
         match take_turn(alloc, core, body, frames, frame, budget(chance))? {
             Turn::Works(_, _) => {}
-            Turn::Torn(_) => return Err("no memory".into()),
+            Turn::Torn(_) => return ends_so(core, true),
             Turn::NoMemory(_, _) => is_dead = true,
             Turn::Strange(_, _) => return Err("a frame is strange".into()),
             _ if is_dead => return Err("a core without memory goes on".into()),

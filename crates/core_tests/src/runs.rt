@@ -3,7 +3,7 @@ ghost use Rattle.std.specs.Prelude.{◌≡◌, ◌∷◌, [], IfOk};
 ghost use Rattle.task_frames.specs.Resumes.{IsOpened, ends_of};
 
 use crate::orders::take_turns_by_chance;
-use crate::plans::{failing_plan, plan};
+use crate::plans::{asks, failing_plan, plan};
 use crate::tables::Tasks;
 use crate::turn::Turn;
 use crate::turns::take_turns;
@@ -91,16 +91,15 @@ fn left_by_chance<B: Body, Q: Queues>(
     Ok(left(alloc, core)?)
 }
 
-/// What an opened run leaves on a stack.
-fn left_alone<B: Body, Q: Queues>(
-    alloc: Global,
-    opened: Opened<B, Q>,
-) -> Result<Option<Outcome>, NoMemory>
+/// What an opened run leaves on a stack, and None where it has met want of memory.
+fn left_alone<B: Body, Q: Queues>(alloc: Global, opened: Opened<B, Q>) -> Option<Outcome>
     requires opened { IsOpened (ends_of Q.Ends.LocalEnds) opened.core opened.root }
     requires body { opened.body.value ≡ opened.core.plan.body }
 {
-    let (outcome, _ran) = run_alone(alloc, opened)?.outcome();
-    Ok(Some(outcome))
+    match run_alone(alloc, opened) {
+        Ok(ran) => Some(ran.outcome().0),
+        Err(NoMemory) => None,
+    }
 }
 
 /// What a run of a plan leaves, and None where its root hasn't ended.
@@ -114,13 +113,13 @@ fn left_of<B: Body>(
     match order {
         Order::Turns(turns) => left_by_turns(alloc, opened, turns),
         Order::Chance(seed) => left_by_chance(alloc, opened, seed),
-        Order::Stack => Ok(left_alone(alloc, opened)?),
+        Order::Stack => Ok(left_alone(alloc, opened)),
     }
 }
 
-/// The two texts of what a run of these tasks leaves.
-fn texts(alloc: Global, tasks: &[&str], fuel: u64, order: Order<'_>) -> Result<Printed, Fail> {
-    match left_of(alloc, plan(alloc, tasks, fuel)?, order)? {
+/// The two texts of what a run of a plan leaves.
+fn texts<B: Body>(alloc: Global, plan: Plan<B>, order: Order<'_>) -> Result<Printed, Fail> {
+    match left_of(alloc, plan, order)? {
         Some(outcome) => printed(alloc, &outcome),
         None => Err("the root hasn't ended".into()),
     }
@@ -146,7 +145,13 @@ pub struct Row<'a> {
 
 /// A run of the row's plan leaves what the row says, and what the elision leaves.
 pub fn leaves(alloc: Global, row: &Row<'_>, order: Order<'_>) -> Result<(), Fail> {
-    let left = texts(alloc, row.tasks, row.fuel, order)?;
+    leaves_past(alloc, row, usize::MAX, order)
+}
+
+/// A run of the row's plan leaves what the row says, and what the elision leaves, since no ask stands at the index where no memory is found.
+fn leaves_past(alloc: Global, row: &Row<'_>, fails: usize, order: Order<'_>) -> Result<(), Fail> {
+    let plan = failing_plan(alloc, row.tasks, row.fuel, fails)?;
+    let left = texts(alloc, plan, order)?;
     if left.out.as_slice() != row.out.as_bytes()
         || !left.report.as_slice().ends_with(row.report.as_bytes())
     {
@@ -174,29 +179,42 @@ pub fn is_elided(alloc: Global, tasks: &Tasks<'_>, left: &Printed) -> Result<(),
 
 /// Runs of these tasks leave what the elision leaves, from a stack and in ten orders.
 pub fn leave_the_same(alloc: Global, tasks: &Tasks<'_>) -> Result<(), Fail> {
-    let left = texts(alloc, tasks.tasks, tasks.fuel, Order::Stack)?;
+    let left = texts(alloc, plan(alloc, tasks.tasks, tasks.fuel)?, Order::Stack)?;
     is_elided(alloc, tasks, &left)?;
     for seed in 0..10 {
-        let left = texts(alloc, tasks.tasks, tasks.fuel, Order::Chance(seed))?;
+        let left = texts(
+            alloc,
+            plan(alloc, tasks.tasks, tasks.fuel)?,
+            Order::Chance(seed),
+        )?;
         is_elided(alloc, tasks, &left)?;
     }
     Ok(())
 }
 
-/// Turns of a run of these tasks, in which no memory is found at one index of the list of all asks. The root hasn't ended
-/// then.
+/// A run of these tasks, in which no memory is found at one index of the list of all asks, leaves nothing: its root hasn't ended.
 pub fn stops(
     alloc: Global,
     tasks: &[&str],
     fuel: u64,
     fails: usize,
-    turns: &[Turn],
+    order: Order<'_>,
 ) -> Result<(), Fail> {
     let plan = failing_plan(alloc, tasks, fuel, fails)?;
-    match left_of(alloc, plan, Order::Turns(turns))? {
-        Some(_) => Err("the root has ended".into()),
+    match left_of(alloc, plan, order)? {
+        Some(_) => Err(Fail::new(format_args!("the root has ended past {fails}"))),
         None => Ok(()),
     }
+}
+
+/// Runs of the row's plan leave nothing where no memory is found at one of the asks, whichever it is. Where that is behind them all, the run
+/// leaves what the row says.
+pub fn stops_at_each_ask(alloc: Global, row: &Row<'_>, order: Order<'_>) -> Result<(), Fail> {
+    let count = asks(alloc, row.tasks, usize::MAX)?.asks.len();
+    for fails in 0..count {
+        stops(alloc, row.tasks, row.fuel, fails, order)?;
+    }
+    leaves_past(alloc, row, count, order)
 }
 
 /// Runs of these tasks by several workers leave what the elision leaves.

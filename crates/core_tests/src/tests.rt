@@ -1,5 +1,5 @@
 // Tables of turns, with what they come to and what is left worked out by hand.
-use crate::runs::{Order, Row, leaves, stops};
+use crate::runs::{Order, Row, leaves, stops, stops_at_each_ask};
 use crate::turn::Turn;
 use queues::WaitFor;
 use std::alloc::Global;
@@ -576,7 +576,7 @@ fn after_want_of_memory_at_the_core_nothing_goes_on(rt: HostRuntime) -> Result<(
         Turn::NoMemory(2, 2),
         Turn::NoMemory(0, 1),
     ];
-    stops(rt.alloc(), &tasks, 50, 4, &turns)
+    stops(rt.alloc(), &tasks, 50, 4, Order::Turns(&turns))
 }
 
 #[test]
@@ -592,5 +592,15 @@ fn after_want_of_memory_of_a_frame_the_others_go_on(rt: HostRuntime) -> Result<(
         Turn::Ends(1, 0),
         Turn::Waits(0, 0, WaitFor::Child(2)),
     ];
-    stops(rt.alloc(), &tasks, 50, 8, &turns)
+    stops(rt.alloc(), &tasks, 50, 8, Order::Turns(&turns))
+}
+
+/// Each task of the plan comes to its end, so each ask is met.
+#[test]
+fn want_of_memory_at_any_ask_stops_a_run(rt: HostRuntime) -> Result<(), Fail> {
+    stops_at_each_ask(rt.alloc(), &each_mode(), Order::Stack)?;
+    for seed in 0..10 {
+        stops_at_each_ask(rt.alloc(), &each_mode(), Order::Chance(seed))?;
+    }
+    Ok(())
 }

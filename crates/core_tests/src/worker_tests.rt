@@ -145,16 +145,19 @@ fn a_stopped_run_stays_stopped(rt: HostRuntime) -> Result<(), Fail> {
     )
 }
 
-/// Of the list of all asks the root has the first three, with its end, and each child begins behind them.
+/// Of the list of all asks the root has the first four, with its end, and each child begins behind them. Each is met.
 #[test]
 fn want_of_memory_of_one_task_stops_all_workers(rt: HostRuntime) -> Result<(), Fail> {
-    stops_by_workers(
-        &rt,
-        rt.alloc(),
-        &["spawn:1:9: spawn:1:9: sync", "work work work"],
-        100,
-        5,
-    )
+    for fails in 0..8 {
+        stops_by_workers(
+            &rt,
+            rt.alloc(),
+            &["spawn:1:9: spawn:1:9: sync", "work work work"],
+            100,
+            fails,
+        )?;
+    }
+    Ok(())
 }
 
 /// Each of two children waits in its second step of work until the other one is there too.
