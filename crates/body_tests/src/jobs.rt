@@ -1,38 +1,50 @@
 // Jobs of tests, and what their first task does.
 use job_body::{JobBody, JobLocal, plan_of};
-use job_reader::read_job;
+use job_reader::{Job, read_job};
 use privilege_check::{CheckedJob, check};
 use std::alloc::Global;
-use swan_model::{Answer, Ask, Blob, Body, NoMemory, Plan, Record, Value};
+use std::process::Abort;
+use std::test::Fail;
+use swan_model::{Answer, Ask, Blob, Body, NoMemory, Plan, Record, Trouble, Value};
 
-/// The checked job of a text, which has no fault.
-pub fn job_of(alloc: Global, text: &str) -> Result<CheckedJob, NoMemory> {
-    let Ok(job) = read_job(alloc, text.as_bytes()) else {
-        return Err(NoMemory);
-    };
+/// The job that a text is, which is not refused.
+fn read(alloc: Global, text: &str) -> Result<Job, NoMemory> {
+    match read_job(alloc, text.as_bytes()) {
+        Ok(job) => Ok(job),
+        Err(_) => Err(NoMemory),
+    }
+}
+
+/// The same job, checked, which has no fault.
+fn checked(alloc: Global, job: Job) -> Result<CheckedJob, NoMemory> {
     match check(alloc, job) {
         Ok(job) => Ok(job),
         Err(_) => Err(NoMemory),
     }
 }
 
+/// The checked job of a text, which has no fault.
+pub fn job_of(alloc: Global, text: &str) -> Result<CheckedJob, NoMemory> {
+    checked(alloc, read(alloc, text)?)
+}
+
 /// The plan of a job with no inputs.
-pub fn plan_of_text(alloc: Global, text: &str) -> Result<Plan<JobBody>, NoMemory> {
-    match plan_of(alloc, job_of(alloc, text)?, Vec::<Blob>::new(alloc), 1000) {
+fn plan_of_job(alloc: Global, job: CheckedJob) -> Result<Plan<JobBody>, NoMemory> {
+    match plan_of(alloc, job, Vec::<Blob>::new(alloc), 1000) {
         Ok(plan) => Ok(plan),
         Err(_) => Err(NoMemory),
     }
 }
 
+/// The plan of the job that a text is, with no inputs.
+pub fn plan_of_text(alloc: Global, text: &str) -> Result<Plan<JobBody>, NoMemory> {
+    plan_of_job(alloc, job_of(alloc, text)?)
+}
+
 /// The text of a job with these lines first, then these statements, and `push out v` after them.
 pub fn text_of(alloc: Global, head: &str, statements: &str) -> Result<String, NoMemory> {
-    let mut text = String::from_str(alloc, head)?;
-    for statement in statements.split("; ") {
-        text.push_str(statement)?;
-        text.push_str("\n")?;
-    }
-    text.push_str("push out v\nend\n")?;
-    Ok(text)
+    let lines = statements.replace(alloc, "; ", "\n")?;
+    Ok(format!(in alloc; "{head}{lines}\npush out v\nend\n")?)
 }
 
 /// What an ask is answered in tests: 7 to a read, the bytes `ab` to a pop, and to a test that the queue is
@@ -49,20 +61,49 @@ pub fn answer_to(alloc: Global, ask: &Ask<JobLocal>, steps: u64) -> Result<Answe
     }
 }
 
+/// A number that is pushed, as text.
+fn text_of_number(alloc: Global, number: i64) -> Result<String, NoMemory> {
+    Ok(format!(in alloc; "{number}")?)
+}
+
+/// A trouble and the line of its step, as text.
+fn text_of_trouble(alloc: Global, trouble: Trouble, line: u64) -> Result<String, NoMemory> {
+    Ok(format!(in alloc; "{trouble:?} at {line}")?)
+}
+
+/// What number an ask pushes, or the trouble by which it ends its task and the line of that step, as text; nothing of
+/// another ask.
+pub fn told_by(alloc: Global, ask: &Ask<JobLocal>, line: u64) -> Result<Option<String>, NoMemory> {
+    match ask {
+        Ask::Push(_, Value::Int(number)) => Ok(Some(text_of_number(alloc, *number)?)),
+        Ask::Fail(trouble) => Ok(Some(text_of_trouble(alloc, *trouble, line)?)),
+        _ => Ok(None),
+    }
+}
+
+/// Takes a step of a task.
+pub fn step(
+    alloc: Global,
+    body: &JobBody,
+    local: JobLocal,
+    answer: Answer,
+    fuel: u64,
+) -> Result<(JobLocal, Ask<JobLocal>), NoMemory> {
+    body.advance(alloc, local, answer, fuel)
+}
+
 /// What number a task pushes first, or the trouble by which it ends and the line of that step, as text.
 fn first_push(alloc: Global, body: &JobBody, root: JobLocal) -> Result<String, NoMemory> {
     let mut local = root;
     let mut answer = Answer::Start;
     for steps in 0..200u64 {
         let line = body.place(&local);
-        let (moved, ask) = body.advance(alloc, local, answer, 199 - steps)?;
+        let (moved, ask) = step(alloc, body, local, answer, 199 - steps)?;
+        if let Some(told) = told_by(alloc, &ask, line)? {
+            return Ok(told);
+        }
         local = moved;
         answer = answer_to(alloc, &ask, steps)?;
-        match ask {
-            Ask::Push(_, Value::Int(number)) => return Ok(format!(in alloc; "{number}")?),
-            Ask::Fail(trouble) => return Ok(format!(in alloc; "{trouble:?} at {line}")?),
-            _ => {}
-        }
     }
     Err(NoMemory)
 }
@@ -87,7 +128,7 @@ pub fn told(alloc: Global, statements: &str) -> Result<String, NoMemory> {
 
 /// The first row of a table that isn't so, if there is one. A row has statements, which come after `prefix`,
 /// ` => `, and what is told of them.
-pub fn first_wrong<'a>(
+fn first_wrong<'a>(
     alloc: Global,
     table: &'a str,
     prefix: &str,
@@ -103,4 +144,10 @@ pub fn first_wrong<'a>(
         }
     }
     Ok(None)
+}
+
+/// Asserts the rows of such a table.
+pub fn hold(rt: &impl Abort, alloc: Global, table: &str, prefix: &str) -> Result<(), Fail> {
+    assert_eq!(rt; first_wrong(alloc, table, prefix)?, None);
+    Ok(())
 }

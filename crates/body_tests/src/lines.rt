@@ -1,9 +1,9 @@
 // Each line, in one task and in a child.
-use crate::jobs::{first_wrong, plan_of_text, told};
+use crate::jobs::{hold, plan_of_text, step, told};
 use job_body::{JobBody, JobLocal};
 use std::alloc::Global;
 use std::test::Fail;
-use swan_model::{Answer, Ask, Body, Child, NoMemory, Plan, Value};
+use swan_model::{Answer, Ask, Body, Child, NoMemory, Plan, Record, Value};
 
 /// Statements of a task that has a number `v`, bytes `b` and an object `x`, and what `v` is then. A read is
 /// answered by 7, a pop by `ab`, and a test in the first statement by yes and in a later one by no.
@@ -41,14 +41,34 @@ fail 1; # a note => User(1) at 12
 
 #[test]
 fn lines_do_what_they_say(rt: HostRuntime) -> Result<(), Fail> {
-    assert_eq!(rt; first_wrong(rt.alloc(), STATEMENTS, "")?, None);
-    Ok(())
+    hold(&rt, rt.alloc(), STATEMENTS, "")
 }
 
 #[test]
 fn blocks_go_on_where_they_should(rt: HostRuntime) -> Result<(), Fail> {
-    assert_eq!(rt; first_wrong(rt.alloc(), BLOCKS, "")?, None);
-    Ok(())
+    hold(&rt, rt.alloc(), BLOCKS, "")
+}
+
+/// A statement so many times, with a separator before each.
+fn repeated(alloc: Global, statement: &str, count: u32) -> Result<String, NoMemory> {
+    let mut all = String::new(alloc);
+    for _ in 0..count {
+        all.push_str("; ")?;
+        all.push_str(statement)?;
+    }
+    Ok(all)
+}
+
+/// The heads of blocks 32 deep: the outermost, and the others.
+fn heads_32_deep(alloc: Global, outermost: &str, others: &str) -> Result<String, NoMemory> {
+    let others = repeated(alloc, others, 31)?;
+    Ok(format!(in alloc; "{outermost}{others}")?)
+}
+
+/// A statement in blocks with these heads, 32 deep.
+fn in_blocks(alloc: Global, heads: &str, statement: &str) -> Result<String, NoMemory> {
+    let ends = repeated(alloc, "end", 32)?;
+    Ok(format!(in alloc; "{heads}; {statement}{ends}")?)
 }
 
 /// Whether this is told of blocks 32 deep round a statement, the outermost and the others of these forms.
@@ -59,16 +79,8 @@ fn is_told_32_deep(
     statement: &str,
     want: &str,
 ) -> Result<bool, NoMemory> {
-    let mut statements = String::from_str(alloc, outermost)?;
-    for _ in 0..31 {
-        statements.push_str("; ")?;
-        statements.push_str(others)?;
-    }
-    statements.push_str("; ")?;
-    statements.push_str(statement)?;
-    for _ in 0..32 {
-        statements.push_str("; end")?;
-    }
+    let heads = heads_32_deep(alloc, outermost, others)?;
+    let statements = in_blocks(alloc, heads.as_str(), statement)?;
     let told = told(alloc, statements.as_str())?;
     Ok(told.as_str() == want)
 }
@@ -128,26 +140,61 @@ task main
 end
 ";
 
+/// A number, in words.
+fn words_of_number(alloc: Global, number: i64) -> Result<String, NoMemory> {
+    Ok(format!(in alloc; "{number}")?)
+}
+
+/// A record, in words.
+fn words_of_bytes(alloc: Global, record: &Record) -> Result<String, NoMemory> {
+    let length = record.as_slice().len();
+    Ok(format!(in alloc; "of {length} bytes")?)
+}
+
+/// A value, in words.
+fn words_of_value(alloc: Global, value: &Value) -> Result<String, NoMemory> {
+    match value {
+        Value::Int(number) => words_of_number(alloc, *number),
+        Value::Bytes(record) => words_of_bytes(alloc, record),
+    }
+}
+
+/// A push, in words.
+fn words_of_push(alloc: Global, place: u32, value: &Value) -> Result<String, NoMemory> {
+    let value = words_of_value(alloc, value)?;
+    Ok(format!(in alloc; "push {place} {value}")?)
+}
+
+/// An object that is asked for with a number, in words.
+fn words_of_object(alloc: Global, number: i64) -> Result<String, NoMemory> {
+    Ok(format!(in alloc; "object {number}")?)
+}
+
+/// A child's fuel, and how many gives it has, in words.
+fn words_of_spawn(alloc: Global, child: &Child<JobLocal>) -> Result<String, NoMemory> {
+    let fuel = child.fuel;
+    let count = child.gives.len();
+    Ok(format!(in alloc; "spawn {fuel} {count}")?)
+}
+
+/// The word of any other ask.
+fn word_of(ask: &Ask<JobLocal>) -> &'static str {
+    match ask {
+        Ask::Work => "work",
+        Ask::NewQueue => "queue",
+        Ask::Finish => "finish",
+        _ => "other",
+    }
+}
+
 /// What an ask is, in words.
 fn words_of(alloc: Global, ask: &Ask<JobLocal>) -> Result<String, NoMemory> {
-    let words = match ask {
-        Ask::Work => String::from_str(alloc, "work")?,
-        Ask::Push(place, Value::Int(number)) => format!(in alloc; "push {place} {number}")?,
-        Ask::Push(place, Value::Bytes(record)) => {
-            let length = record.as_slice().len();
-            format!(in alloc; "push {place} of {length} bytes")?
-        }
-        Ask::NewQueue => String::from_str(alloc, "queue")?,
-        Ask::NewObject(Value::Int(number)) => format!(in alloc; "object {number}")?,
-        Ask::Spawn(child) => {
-            let fuel = child.fuel;
-            let count = child.gives.len();
-            format!(in alloc; "spawn {fuel} {count}")?
-        }
-        Ask::Finish => String::from_str(alloc, "finish")?,
-        _ => String::from_str(alloc, "other")?,
-    };
-    Ok(words)
+    match ask {
+        Ask::Push(place, value) => words_of_push(alloc, *place, value),
+        Ask::NewObject(Value::Int(number)) => words_of_object(alloc, *number),
+        Ask::Spawn(child) => words_of_spawn(alloc, child),
+        ask => Ok(String::from_str(alloc, word_of(ask))?),
+    }
 }
 
 /// The local of the child that was spawned, or else the task's own.
@@ -170,7 +217,7 @@ fn descend(alloc: Global, body: &JobBody, root: JobLocal, steps: u32) -> Result<
     let mut local = root;
     for _ in 0..steps {
         let line = body.place(&local);
-        let (moved, ask) = body.advance(alloc, local, Answer::Nothing, 9)?;
+        let (moved, ask) = step(alloc, body, local, Answer::Nothing, 9)?;
         let words = words_of(alloc, &ask)?;
         let words = format!(in alloc; "{line} {words}; ")?;
         asks.push_str(words.as_str())?;

@@ -7,8 +7,11 @@ use crate::rows::{HEAD, LOOPS};
 use job_body::{JobBody, JobLocal};
 use serial_elision::elide;
 use std::alloc::Global;
+use std::process::Abort;
 use std::test::Fail;
-use swan_model::{Answer, Ask, Body, FUEL_MOST, NoMemory, Outcome, Plan, PlanFuel, Value};
+use swan_model::{
+    Answer, Ask, Body, FUEL_MOST, Fault, NoMemory, Outcome, Plan, PlanFuel, Record, Value,
+};
 
 /// The body of a job, of which each step is asked for alone.
 #[derive(Drop)]
@@ -40,35 +43,51 @@ impl Body for OneByOne {
     }
 }
 
-/// Adds a value's text.
-fn push_value(alloc: Global, all: &mut String, value: &Value) -> Result<(), NoMemory> {
-    let text = match value {
-        Value::Int(number) => format!(in alloc; "{number} ")?,
-        Value::Bytes(record) => {
-            let len = record.as_slice().len();
-            format!(in alloc; "{len} bytes ")?
-        }
-    };
-    all.push_str(text.as_str())?;
+/// A number, and a space after it.
+fn text_of_number(alloc: Global, number: i64) -> Result<String, NoMemory> {
+    Ok(format!(in alloc; "{number} ")?)
+}
+
+/// How many bytes a record has.
+fn text_of_bytes(alloc: Global, record: &Record) -> Result<String, NoMemory> {
+    let len = record.as_slice().len();
+    Ok(format!(in alloc; "{len} bytes ")?)
+}
+
+/// A value's text.
+fn text_of_value(alloc: Global, value: &Value) -> Result<String, NoMemory> {
+    match value {
+        Value::Int(number) => text_of_number(alloc, *number),
+        Value::Bytes(record) => text_of_bytes(alloc, record),
+    }
+}
+
+/// A fault's kind and line.
+fn text_of_fault(alloc: Global, fault: &Fault) -> Result<String, NoMemory> {
+    let kind = fault.kind;
+    let place = fault.place;
+    Ok(format!(in alloc; "{kind:?} at {place} ")?)
+}
+
+/// Adds the texts of values.
+fn push_values(alloc: Global, all: &mut String, values: &[Value]) -> Result<(), NoMemory> {
+    for value in values {
+        let text = text_of_value(alloc, value)?;
+        all.push_str(text.as_str())?;
+    }
     Ok(())
 }
 
 /// What an outcome tells: the objects, what is left of the queues, and each fault with its line.
 fn told(alloc: Global, outcome: &Outcome) -> Result<String, NoMemory> {
     let mut all = String::new(alloc);
-    for value in outcome.objects.as_slice() {
-        push_value(alloc, &mut all, value)?;
-    }
+    push_values(alloc, &mut all, outcome.objects.as_slice())?;
     for queue in outcome.queues.as_slice() {
         all.push_str("| ")?;
-        for value in queue.as_slice() {
-            push_value(alloc, &mut all, value)?;
-        }
+        push_values(alloc, &mut all, queue.as_slice())?;
     }
     for fault in outcome.faults.as_slice() {
-        let kind = fault.kind;
-        let place = fault.place;
-        let text = format!(in alloc; "{kind:?} at {place} ")?;
+        let text = text_of_fault(alloc, fault)?;
         all.push_str(text.as_str())?;
     }
     Ok(all)
@@ -153,12 +172,17 @@ fn a_job_in_rows_leaves_what_it_leaves_step_by_step(rt: HostRuntime) -> Result<(
     Ok(())
 }
 
+/// Asserts that a sum of 6 is left, and nothing in the object.
+fn hold_sum(rt: &impl Abort, left: &str) {
+    assert_eq!(rt; left, "0 | 6 ");
+}
+
 #[test]
 fn a_loop_leaves_its_sum(rt: HostRuntime) -> Result<(), Fail> {
     let sum = "n = set 3; while n; n = sub n 1; v = add v 2; end";
     let rows = left_in_rows(rt.alloc(), sum, 200)?;
     let alone = left_one_by_one(rt.alloc(), sum, 200)?;
-    assert_eq!(rt; rows.as_str(), "0 | 6 ");
-    assert_eq!(rt; alone.as_str(), "0 | 6 ");
+    hold_sum(&rt, rows.as_str());
+    hold_sum(&rt, alone.as_str());
     Ok(())
 }

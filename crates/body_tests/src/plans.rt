@@ -34,15 +34,18 @@ fn inputs_are_counted(rt: HostRuntime) -> Result<(), Fail> {
 
 #[test]
 fn the_first_input_with_a_long_line_is_named(rt: HostRuntime) -> Result<(), Fail> {
-    let alloc = rt.alloc();
-    let fitting = inputs_of(alloc, b'x', 65_535, 65_535)?;
-    assert!(rt; refusal_of(alloc, fitting)? == None);
-    let both = inputs_of(alloc, b'x', 65_536, 65_536)?;
-    assert!(rt; refusal_of(alloc, both)? == Some(PlanAnswer::RecordTooLong { input: 1, line: 1 }));
-    let second = inputs_of(alloc, b'x', 65_535, 65_536)?;
-    assert!(rt;
-        refusal_of(alloc, second)? == Some(PlanAnswer::RecordTooLong { input: 2, line: 1 })
-    );
+    let long = |input: u64| Some(PlanAnswer::RecordTooLong { input, line: 1 });
+    for (first, second, wanted) in [
+        (65_535, 65_535, None),
+        (65_536, 65_536, long(1)),
+        (65_535, 65_536, long(2)),
+    ] {
+        let inputs = inputs_of(rt.alloc(), b'x', first, second)?;
+        assert!(rt;
+            refusal_of(rt.alloc(), inputs)? == wanted,
+            "{first} and {second}"
+        );
+    }
     Ok(())
 }
 
@@ -69,15 +72,20 @@ fn bodies_and_locals_go_to_threads(rt: HostRuntime) -> Result<(), Fail> {
     Ok(())
 }
 
+/// How a queue is shown.
+fn words_of(shown: Shown) -> &'static str {
+    match shown {
+        Shown::Left => " Left; ",
+        Shown::Out => " Out; ",
+    }
+}
+
 /// Each queue's name and how it is shown, and then each object's name.
 fn listed(alloc: Global, names: &Names) -> Result<String, NoMemory> {
     let mut all = String::new(alloc);
     for queue in names.queues.as_slice() {
         all.push_str(queue.name.as_str())?;
-        all.push_str(match queue.shown {
-            Shown::Left => " Left; ",
-            Shown::Out => " Out; ",
-        })?;
+        all.push_str(words_of(queue.shown))?;
     }
     for name in names.objects.as_slice() {
         all.push_str(name.as_str())?;

@@ -1,11 +1,12 @@
 // Steps of work in a row.
 ghost use Rattle.std.specs.Prelude.{◌<◌};
 
-use crate::jobs::{answer_to, plan_of_text, text_of};
+use crate::jobs::{answer_to, plan_of_text, step, text_of, told_by};
 use job_body::{JobBody, JobLocal};
 use std::alloc::Global;
+use std::process::Abort;
 use std::test::Fail;
-use swan_model::{Answer, Ask, Body, NoMemory, Plan, Stop, Value, Worked};
+use swan_model::{Answer, Body, NoMemory, Plan, Stop, Worked};
 
 /// What stands before the statements, which begin at line 13. The first step makes the queue.
 pub const HEAD: &str = "\
@@ -56,6 +57,78 @@ struct Run {
     steps: u64,
 }
 
+/// What is told where the fuel ends before the step of this line.
+fn text_of_fuel(alloc: Global, line: u64) -> Result<String, NoMemory> {
+    Ok(format!(in alloc; "Fuel at {line}")?)
+}
+
+/// Takes steps of work in a row.
+fn work<B: Body>(
+    alloc: Global,
+    body: &B,
+    local: B::Local,
+    answer: Answer,
+    fuel: u64,
+    budget: u64,
+) -> Result<Worked<B::Local>, NoMemory>
+    requires { 0 < budget }
+{
+    body.work(alloc, local, answer, fuel, budget)
+}
+
+/// What the ask that ends a row is answered after so many steps, and what is told of it.
+fn told_at(
+    alloc: Global,
+    stop: Stop<JobLocal>,
+    steps: u64,
+) -> Result<(Answer, Option<String>), NoMemory> {
+    let Stop { ask, place } = stop;
+    let answer = answer_to(alloc, &ask, steps)?;
+    let what = told_by(alloc, &ask, place)?;
+    Ok((answer, what))
+}
+
+/// What a row of steps leaves: what the task is answered next, the fuel, and what is told of its ask.
+#[derive(Drop)]
+struct Taken {
+    local: JobLocal,
+    answer: Answer,
+    left: u64,
+    what: Option<String>,
+}
+
+/// Takes a row of steps by this budget, with what is left of the fuel.
+fn take_row(
+    alloc: Global,
+    body: &JobBody,
+    local: JobLocal,
+    answer: Answer,
+    fuel: u64,
+    left: u64,
+    budget: u64,
+) -> Result<Taken, NoMemory>
+    requires { 0 < budget }
+{
+    let Worked { local, works, stop } = work(alloc, body, local, answer, left, budget)?;
+    let left = left.saturating_sub(works);
+    let Some(stop) = stop else {
+        return Ok(Taken {
+            local,
+            answer: Answer::Nothing,
+            left,
+            what: None,
+        });
+    };
+    let left = left.saturating_sub(1);
+    let (answer, what) = told_at(alloc, stop, fuel.saturating_sub(left))?;
+    Ok(Taken {
+        local,
+        answer,
+        left,
+        what,
+    })
+}
+
 /// What a task pushes first that takes its steps in rows by this budget; or the trouble by which it ends; or
 /// `Fuel` where the fuel ends. With the last two the line of the step is told.
 fn told_of(
@@ -71,36 +144,24 @@ fn told_of(
     let mut answer = Answer::Start;
     let mut left = fuel;
     for _ in 0..fuel.saturating_add(1) {
-        let Worked {
+        let Taken {
             local: moved,
-            works,
-            stop,
-        } = body.work(alloc, local, answer, left, budget)?;
-        local = moved;
-        left = left.saturating_sub(works);
-        answer = Answer::Nothing;
-        if let Some(Stop { ask, place }) = stop {
-            left = left.saturating_sub(1);
-            let steps = fuel.saturating_sub(left);
-            answer = answer_to(alloc, &ask, steps)?;
-            match ask {
-                Ask::Push(_, Value::Int(number)) => {
-                    let what = format!(in alloc; "{number}")?;
-                    return Ok(Run { what, steps });
-                }
-                Ask::Fail(trouble) => {
-                    let what = format!(in alloc; "{trouble:?} at {place}")?;
-                    return Ok(Run { what, steps });
-                }
-                _ => {}
-            }
+            answer: next,
+            left: rest,
+            what,
+        } = take_row(alloc, body, local, answer, fuel, left, budget)?;
+        if let Some(what) = what {
+            let steps = fuel.saturating_sub(rest);
+            return Ok(Run { what, steps });
         }
+        local = moved;
+        answer = next;
+        left = rest;
         if left == 0 {
             break;
         }
     }
-    let line = body.place(&local);
-    let what = format!(in alloc; "Fuel at {line}")?;
+    let what = text_of_fuel(alloc, body.place(&local))?;
     Ok(Run { what, steps: fuel })
 }
 
@@ -150,12 +211,19 @@ fn first_wrong_past_its_steps(alloc: Global) -> Result<Option<&'static str>, NoM
     Ok(None)
 }
 
+/// Asserts the loops of the table by this budget.
+fn hold(rt: &impl Abort, alloc: Global, budget: u64) -> Result<(), Fail>
+    requires { 0 < budget }
+{
+    assert_eq!(rt; first_wrong(alloc, budget)?, None);
+    Ok(())
+}
+
 #[test]
 fn rows_of_one_two_and_a_million_steps_tell_the_same(rt: HostRuntime) -> Result<(), Fail> {
-    assert_eq!(rt; first_wrong(rt.alloc(), 1)?, None);
-    assert_eq!(rt; first_wrong(rt.alloc(), 2)?, None);
-    assert_eq!(rt; first_wrong(rt.alloc(), 1_000_000)?, None);
-    Ok(())
+    hold(&rt, rt.alloc(), 1)?;
+    hold(&rt, rt.alloc(), 2)?;
+    hold(&rt, rt.alloc(), 1_000_000)
 }
 
 #[test]
@@ -182,14 +250,32 @@ const ENDS: &str =
     "Fuel at 11; Fuel at 13; Fuel at 14; Fuel at 15; Fuel at 16; Fuel at 17; Fuel at 14; Fuel at 15; \
 Fuel at 16; Fuel at 17; Fuel at 14; Fuel at 15; Fuel at 16; Fuel at 17; Fuel at 14; Fuel at 18; ";
 
+/// Asserts these lines by this budget.
+fn hold_ends(rt: &impl Abort, alloc: Global, statements: &str, budget: u64) -> Result<(), Fail>
+    requires { 0 < budget }
+{
+    assert_eq!(rt; ends(alloc, statements, budget)?.as_str(), ENDS);
+    Ok(())
+}
+
 #[test]
 fn fuel_ends_at_each_line_of_a_loop(rt: HostRuntime) -> Result<(), Fail> {
     for statements in [COUNT, PUSHES] {
-        assert_eq!(rt; ends(rt.alloc(), statements, 1)?.as_str(), ENDS);
-        assert_eq!(rt; ends(rt.alloc(), statements, 2)?.as_str(), ENDS);
-        assert_eq!(rt; ends(rt.alloc(), statements, 1_000_000)?.as_str(), ENDS);
+        hold_ends(&rt, rt.alloc(), statements, 1)?;
+        hold_ends(&rt, rt.alloc(), statements, 2)?;
+        hold_ends(&rt, rt.alloc(), statements, 1_000_000)?;
     }
     Ok(())
+}
+
+/// How many steps of work a row has.
+fn text_of_row(alloc: Global, works: u64) -> Result<String, NoMemory> {
+    Ok(format!(in alloc; "{works}")?)
+}
+
+/// How many steps of work a row has, and the line of the ask that ends it.
+fn text_of_ended_row(alloc: Global, works: u64, place: u64) -> Result<String, NoMemory> {
+    Ok(format!(in alloc; "{works}, and an ask at {place}")?)
 }
 
 /// How many steps of work a row has by this budget once the queue is made, and the line of the ask that ends it, if one does.
@@ -203,16 +289,16 @@ fn row(alloc: Global, budget: u64) -> Result<String, NoMemory>
         roots: _,
         fuel: _,
     } = plan_of_text(alloc, text.as_str())?;
-    let (local, _ask) = body.advance(alloc, root_local, Answer::Start, 199)?;
+    let (local, _ask) = step(alloc, &body, root_local, Answer::Start, 199)?;
     let Worked {
         local: _,
         works,
         stop,
-    } = body.work(alloc, local, Answer::Nothing, 199, budget)?;
-    if let Some(Stop { ask: _, place }) = stop {
-        return Ok(format!(in alloc; "{works}, and an ask at {place}")?);
+    } = work(alloc, &body, local, Answer::Nothing, 199, budget)?;
+    match stop {
+        Some(Stop { ask: _, place }) => text_of_ended_row(alloc, works, place),
+        None => text_of_row(alloc, works),
     }
-    Ok(format!(in alloc; "{works}")?)
 }
 
 #[test]
