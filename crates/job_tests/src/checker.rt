@@ -1,5 +1,5 @@
 // What is said of jobs, from tables of which each row is a text and what is wrong with it.
-use job_reader::{JobFault, ReadJob, read_job};
+use job_reader::{Job, JobFault, JobKind, ReadJob, read_job};
 use privilege_check::{CheckJob, check};
 use std::alloc::Global;
 use std::process::Abort;
@@ -15,21 +15,35 @@ mod rights;
 mod spawns;
 mod statements;
 
+/// The first fault of a job that was read, if it has one.
+fn fault_of_job(alloc: Global, job: Job) -> Result<Option<JobFault>, Fail> {
+    match check(alloc, job) {
+        Ok(_) => Ok(None),
+        Err(CheckJob::Refused(fault)) => Ok(Some(fault)),
+        Err(CheckJob::NoMemory) => Err("no memory".into()),
+    }
+}
+
+/// The first fault of a text, if it has one.
+fn fault_of(alloc: Global, text: &str) -> Result<Option<JobFault>, Fail> {
+    match read_job(alloc, text.as_bytes()) {
+        Ok(job) => fault_of_job(alloc, job),
+        Err(ReadJob::Refused(fault)) => Ok(Some(fault)),
+        Err(ReadJob::NoMemory) => Err("no memory".into()),
+    }
+}
+
+/// A line and a kind.
+fn text_of_fault(alloc: Global, line: u64, kind: JobKind) -> Result<String, Fail> {
+    Ok(format!(in alloc; "{line} {kind:?}")?)
+}
+
 /// The line and kind of the first fault of a text, or `accepted`.
 fn said_of(alloc: Global, text: &str) -> Result<String, Fail> {
-    let fault = match read_job(alloc, text.as_bytes()) {
-        Err(ReadJob::NoMemory) => return Err("no memory".into()),
-        Err(ReadJob::Refused(fault)) => Some(fault),
-        Ok(job) => match check(alloc, job) {
-            Err(CheckJob::NoMemory) => return Err("no memory".into()),
-            Err(CheckJob::Refused(fault)) => Some(fault),
-            Ok(_) => None,
-        },
-    };
-    Ok(match fault {
-        None => String::from_str(alloc, "accepted")?,
-        Some(JobFault { line, kind }) => format!(in alloc; "{line} {kind:?}")?,
-    })
+    match fault_of(alloc, text)? {
+        None => Ok(String::from_str(alloc, "accepted")?),
+        Some(JobFault { line, kind }) => text_of_fault(alloc, line, kind),
+    }
 }
 
 /// Asserts what is said of a text.
@@ -148,11 +162,21 @@ task main
 end
 ";
 
+/// Texts one after another.
+fn joined(alloc: Global, texts: &[&str]) -> Result<String, Fail> {
+    let mut all = String::new(alloc);
+    for text in texts {
+        all.push_str(*text)?;
+    }
+    Ok(all)
+}
+
 /// Asserts rows of what is said of statements, and of the lines after them up to the end of their block.
 fn hold_statements(rt: &impl Abort, alloc: Global, table: &str) -> Result<(), Fail> {
     for row in table.lines() {
         let (said, statement) = parts_of(alloc, row)?;
-        let text = format!(in alloc; "swan 1\n{CHILDREN}{HOLDER}{statement}\n{MAIN}")?;
+        let texts = ["swan 1\n", CHILDREN, HOLDER, statement.as_str(), "\n", MAIN];
+        let text = joined(alloc, &texts)?;
         let wanted = wanted_of(alloc, "72", said)?;
         hold(rt, alloc, text.as_str(), wanted.as_str(), row)?;
     }

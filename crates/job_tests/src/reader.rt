@@ -33,16 +33,21 @@ impl At {
 
 /// The kind with this name, if it is one of the text's.
 pub fn kind_named(name: &str) -> Option<JobKind> {
-    match name {
-        "BadByte" => Some(JobKind::BadByte),
-        "BadHeader" => Some(JobKind::BadHeader),
-        "BadLine" => Some(JobKind::BadLine),
-        "BadName" => Some(JobKind::BadName),
-        "BadNumber" => Some(JobKind::BadNumber),
-        "Unbalanced" => Some(JobKind::Unbalanced),
-        "Limit" => Some(JobKind::Limit),
-        _ => None,
+    let kinds = [
+        ("BadByte", JobKind::BadByte),
+        ("BadHeader", JobKind::BadHeader),
+        ("BadLine", JobKind::BadLine),
+        ("BadName", JobKind::BadName),
+        ("BadNumber", JobKind::BadNumber),
+        ("Unbalanced", JobKind::Unbalanced),
+        ("Limit", JobKind::Limit),
+    ];
+    for (word, kind) in kinds {
+        if word == name {
+            return Some(kind);
+        }
     }
+    None
 }
 
 /// A text with a line at a place.
@@ -253,6 +258,15 @@ fn bytes(rt: HostRuntime) -> Result<(), Fail> {
     Ok(())
 }
 
+/// This many copies of a line.
+fn copies(alloc: Global, line: &str, count: usize) -> Result<String, AllocError> {
+    let mut text = String::new(alloc);
+    for _ in 0..count {
+        text.push_str(line)?;
+    }
+    Ok(text)
+}
+
 /// A text with this many copies of a line after its first lines, and then its last lines.
 fn repeated(
     alloc: Global,
@@ -260,68 +274,87 @@ fn repeated(
     line: &str,
     count: usize,
     last: &str,
-) -> Result<String, AllocError> {
-    let mut text = String::from_str(alloc, first)?;
-    for _ in 0..count {
-        text.push_str(line)?;
-    }
-    text.push_str(last)?;
-    Ok(text)
+) -> Result<String, Fail> {
+    let lines = copies(alloc, line, count)?;
+    Ok(format!(in alloc; "{first}{lines}{last}")?)
 }
 
-/// The limits, and what is past them.
+/// Asserts what is refused of such a text, if anything.
+fn hold_repeated(
+    rt: &impl Abort,
+    alloc: Global,
+    first: &str,
+    line: &str,
+    count: usize,
+    last: &str,
+    expected: Option<(u64, JobKind)>,
+) -> Result<(), Fail> {
+    let text = repeated(alloc, first, line, count, last)?;
+    let found = refusal(rt, alloc, text.as_str().as_bytes());
+    assert_eq!(rt; found, expected, "{count}");
+    Ok(())
+}
+
+/// A limit that is met at a line.
+fn limit(line: u64) -> Option<(u64, JobKind)> {
+    Some((line, JobKind::Limit))
+}
+
 #[test]
-fn limits(rt: HostRuntime) -> Result<(), Fail> {
-    let limit = |line: u64| Some((line, JobKind::Limit));
-    let blocks = "swan 1\ntask t\ndo\n";
-    let ends = "end\nend\nend\nend\nend\nend\nend\nend\n";
-    let closed = repeated(rt.alloc(), "", ends, 4, "end\n")?;
-    let closed = closed.as_str();
-    let main = "task main\ndo\nend\n";
-    let rows = [
+fn a_job_has_at_most_20000_lines_of_at_most_4096_bytes(rt: HostRuntime) -> Result<(), Fail> {
+    let byte = Some((20_001, JobKind::BadByte));
+    for (first, line, count, last, expected) in [
         (JOBS[0], "\n", 19_994, "", None),
         (JOBS[0], "\n", 19_995, "", limit(20_001)),
-        (
-            JOBS[0],
-            "\n",
-            19_994,
-            "\t",
-            Some((20_001, JobKind::BadByte)),
-        ),
+        (JOBS[0], "\n", 19_994, "\t", byte),
         ("swan 1\n#", "x", 4_095, "   \n", None),
         ("swan 1\n  #", "x", 4_096, "\n", limit(2)),
         ("swan 1", " ", 5_000, "\n", None),
         ("swan 1 ", "x", 4_096, "\n", limit(1)),
-        ("swan 1\n", "input a\n", 16, main, None),
-        ("swan 1\n", "input a\n", 17, main, limit(18)),
-        ("swan 1\n", "input a\n", 16, "input 1 2 \"\n", limit(18)),
-        ("swan 1\n", "input a\n", 16, "object a int\n#input", None),
-        (
+    ] {
+        hold_repeated(&rt, rt.alloc(), first, line, count, last, expected)?;
+    }
+    Ok(())
+}
+
+#[test]
+fn a_job_has_at_most_16_inputs(rt: HostRuntime) -> Result<(), Fail> {
+    let main = "task main\ndo\nend\n";
+    let byte = Some((18, JobKind::BadByte));
+    for (count, last, expected) in [
+        (16, main, None),
+        (17, main, limit(18)),
+        (16, "input 1 2 \"\n", limit(18)),
+        (16, "object a int\n#input", None),
+        (16, "input \t\n", byte),
+    ] {
+        hold_repeated(
+            &rt,
+            rt.alloc(),
             "swan 1\n",
             "input a\n",
-            16,
-            "input \t\n",
-            Some((18, JobKind::BadByte)),
-        ),
-        (blocks, "if 1\n", 32, closed, None),
-        (blocks, "if 1\n", 33, "", limit(36)),
-        (blocks, "while 1\n", 32, "if\n", limit(36)),
-        (blocks, "if 1\nelse\n", 32, "while \"\n", limit(68)),
-        (
-            blocks,
-            "while 1\n",
-            32,
-            "if = set 1\n",
-            Some((36, JobKind::Unbalanced)),
-        ),
-    ];
-    for (first, line, count, last, expected) in rows {
-        let text = repeated(rt.alloc(), first, line, count, last)?;
-        assert_eq!(rt;
-            refusal(&rt, rt.alloc(), text.as_str().as_bytes()),
+            count,
+            last,
             expected,
-            "{count}"
-        );
+        )?;
+    }
+    Ok(())
+}
+
+#[test]
+fn blocks_stand_at_most_32_deep(rt: HostRuntime) -> Result<(), Fail> {
+    let ends = "end\nend\nend\nend\nend\nend\nend\nend\n";
+    let closed = repeated(rt.alloc(), "", ends, 4, "end\n")?;
+    let unbalanced = Some((36, JobKind::Unbalanced));
+    for (line, count, last, expected) in [
+        ("if 1\n", 32, closed.as_str(), None),
+        ("if 1\n", 33, "", limit(36)),
+        ("while 1\n", 32, "if\n", limit(36)),
+        ("if 1\nelse\n", 32, "while \"\n", limit(68)),
+        ("while 1\n", 32, "if = set 1\n", unbalanced),
+    ] {
+        let first = "swan 1\ntask t\ndo\n";
+        hold_repeated(&rt, rt.alloc(), first, line, count, last, expected)?;
     }
     Ok(())
 }
@@ -330,25 +363,20 @@ fn limits(rt: HostRuntime) -> Result<(), Fail> {
 /// `if` whose second token is a literal is no assignment.
 #[test]
 fn limits_go_by_what_would_be_one_more(rt: HostRuntime) -> Result<(), Fail> {
-    let inputs = repeated(
+    let inputs = "task main\ndo\nend\ninput x\n";
+    let line = Some((21, JobKind::BadLine));
+    hold_repeated(&rt, rt.alloc(), "swan 1\n", "input a\n", 16, inputs, line)?;
+    let blocks = "swan 1\ntask t\ndo\n";
+    let condition = "if \"=\" 1\n";
+    hold_repeated(
+        &rt,
         rt.alloc(),
-        "swan 1\n",
-        "input a\n",
-        16,
-        "task main\ndo\nend\ninput x\n",
-    )?;
-    let found = refusal(&rt, rt.alloc(), inputs.as_str().as_bytes());
-    assert_eq!(rt; found, Some((21, JobKind::BadLine)));
-    let blocks = repeated(
-        rt.alloc(),
-        "swan 1\ntask t\ndo\n",
+        blocks,
         "while 1\n",
         32,
-        "if \"=\" 1\n",
-    )?;
-    let found = refusal(&rt, rt.alloc(), blocks.as_str().as_bytes());
-    assert_eq!(rt; found, Some((36, JobKind::Limit)));
-    Ok(())
+        condition,
+        limit(36),
+    )
 }
 
 /// Notes, indentation and spaces, with a mistake or without one where @ stands.

@@ -30,7 +30,17 @@ fn said_of_both(alloc: Global, top: &str, task: &str, own: &str) -> Result<Strin
     } else {
         "task main\ndo\nend\n"
     };
-    let text = format!(in alloc; "swan 1\n{top}\ntask {task}\n{own}\ndo\nend\n{main}")?;
+    let texts = [
+        "swan 1\n",
+        top,
+        "\ntask ",
+        task,
+        "\n",
+        own,
+        "\ndo\nend\n",
+        main,
+    ];
+    let text = joined(alloc, &texts)?;
     said_of(alloc, text.as_str())
 }
 
@@ -55,7 +65,8 @@ fn hold_below_top(
 fn a_name_of_the_top_level_is_declared_once_there(rt: HostRuntime) -> Result<(), Fail> {
     for first in OF_TOP.lines() {
         for second in OF_TOP.lines() {
-            let text = format!(in rt.alloc(); "swan 1\n{first}\n{second}\ntask main\ndo\nend\n")?;
+            let texts = ["swan 1\n", first, "\n", second, "\ntask main\ndo\nend\n"];
+            let text = joined(rt.alloc(), &texts)?;
             let said = said_of(rt.alloc(), text.as_str())?;
             assert_eq!(rt; said.as_str(), "3 Duplicate", "{second} after {first}");
         }
@@ -77,7 +88,16 @@ fn other_tasks_may_declare_names_of_the_top_level(rt: HostRuntime) -> Result<(),
 
 /// What is said of two declarations in a task.
 fn said_of_two(alloc: Global, task: &str, first: &str, second: &str) -> Result<String, Fail> {
-    let text = format!(in alloc; "swan 1\ntask {task}\n{first}\n{second}\ndo\nend\n")?;
+    let texts = [
+        "swan 1\ntask ",
+        task,
+        "\n",
+        first,
+        "\n",
+        second,
+        "\ndo\nend\n",
+    ];
+    let text = joined(alloc, &texts)?;
     said_of(alloc, text.as_str())
 }
 

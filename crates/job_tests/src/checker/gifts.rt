@@ -30,10 +30,16 @@ fn hold_twice(rt: &impl Abort, alloc: Global, row: &str) -> Result<(), Fail> {
     let first = words.next().ok_or("no first")?;
     let second = words.next().ok_or("no second")?;
     let given = words.next().ok_or("nothing")?;
-    let text = format!(in alloc;
-        "swan 1\ntask two\n{first} a int\n{second} b int\ndo\nend\n\
-        task main\n{given} x int\ndo\nspawn 1 two x x\nend\n"
-    )?;
+    let texts = [
+        "swan 1\ntask two\n",
+        first,
+        " a int\n",
+        second,
+        " b int\ndo\nend\ntask main\n",
+        given,
+        " x int\ndo\nspawn 1 two x x\nend\n",
+    ];
+    let text = joined(alloc, &texts)?;
     let wanted = wanted_of(alloc, "10", said)?;
     hold(rt, alloc, text.as_str(), wanted.as_str(), row)
 }

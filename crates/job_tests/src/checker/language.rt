@@ -30,17 +30,23 @@ task main
 end
 ";
 
+/// Adds a line and a line feed.
+fn push_line(text: &mut String, line: &str) -> Result<(), Fail> {
+    for part in [line, "\n"] {
+        text.push_str(part)?;
+    }
+    Ok(())
+}
+
 /// The job with a line put before the line of a number.
 fn job_with(alloc: Global, line: &str, number: u64) -> Result<String, Fail> {
     let mut text = String::new(alloc);
     let mut next = 1u64;
     for own in JOB.split('\n') {
         if next == number {
-            text.push_str(line)?;
-            text.push_str("\n")?;
+            push_line(&mut text, line)?;
         }
-        text.push_str(own)?;
-        text.push_str("\n")?;
+        push_line(&mut text, own)?;
         next = next.saturating_add(1);
     }
     Ok(text)

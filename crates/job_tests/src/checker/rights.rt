@@ -66,9 +66,15 @@ Unknown i = set n";
 fn main_uses_the_names_of_the_top_level_as_they_may_be(rt: HostRuntime) -> Result<(), Fail> {
     for row in OF_MAIN.lines() {
         let (said, statement) = parts_of(rt.alloc(), row)?;
-        let text = format!(in rt.alloc();
-            "swan 1\n{TOP}{CHILDREN}task main\nvar i int\nvar t bytes\ndo\n{statement}\nend\n"
-        )?;
+        let texts = [
+            "swan 1\n",
+            TOP,
+            CHILDREN,
+            "task main\nvar i int\nvar t bytes\ndo\n",
+            statement.as_str(),
+            "\nend\n",
+        ];
+        let text = joined(rt.alloc(), &texts)?;
         let wanted = wanted_of(rt.alloc(), "62", said)?;
         hold(&rt, rt.alloc(), text.as_str(), wanted.as_str(), row)?;
     }
