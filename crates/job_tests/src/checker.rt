@@ -53,18 +53,33 @@ fn hold(rt: &impl Abort, alloc: Global, text: &str, wanted: &str, row: &str) -> 
     Ok(())
 }
 
+/// Texts one after another.
+fn joined(alloc: Global, texts: &[&str]) -> Result<String, Fail> {
+    Ok(texts.concat(alloc)?)
+}
+
+/// A text with line feeds in the place of each /.
+fn with_line_feeds(alloc: Global, text: &str) -> Result<String, Fail> {
+    Ok(text.replace(alloc, "/", "\n")?)
+}
+
 /// A row: what is said, and a text with / in the place of line feeds.
 fn parts_of<'a>(alloc: Global, row: &'a str) -> Result<(&'a str, String), Fail> {
     let (said, text) = row.split_once(' ').ok_or("no text")?;
-    Ok((said, text.replace(alloc, "/", "\n")?))
+    Ok((said, with_line_feeds(alloc, text)?))
+}
+
+/// What is said of a line.
+fn text_at(alloc: Global, line: &str, said: &str) -> Result<String, Fail> {
+    Ok(format!(in alloc; "{line} {said}")?)
 }
 
 /// What is wanted of a line with this number.
 fn wanted_of(alloc: Global, line: &str, said: &str) -> Result<String, Fail> {
-    Ok(match said {
-        "accepted" => String::from_str(alloc, said)?,
-        _ => format!(in alloc; "{line} {said}")?,
-    })
+    match said {
+        "accepted" => Ok(String::from_str(alloc, said)?),
+        _ => text_at(alloc, line, said),
+    }
 }
 
 /// Asserts rows of what is said of whole texts after their first line: `accepted`, or the line and the
@@ -162,21 +177,17 @@ task main
 end
 ";
 
-/// Texts one after another.
-fn joined(alloc: Global, texts: &[&str]) -> Result<String, Fail> {
-    let mut all = String::new(alloc);
-    for text in texts {
-        all.push_str(*text)?;
-    }
-    Ok(all)
+/// A job with a statement of the holder.
+fn text_of_statement(alloc: Global, statement: &str) -> Result<String, Fail> {
+    let texts = ["swan 1\n", CHILDREN, HOLDER, statement, "\n", MAIN];
+    joined(alloc, &texts)
 }
 
 /// Asserts rows of what is said of statements, and of the lines after them up to the end of their block.
 fn hold_statements(rt: &impl Abort, alloc: Global, table: &str) -> Result<(), Fail> {
     for row in table.lines() {
         let (said, statement) = parts_of(alloc, row)?;
-        let texts = ["swan 1\n", CHILDREN, HOLDER, statement.as_str(), "\n", MAIN];
-        let text = joined(alloc, &texts)?;
+        let text = text_of_statement(alloc, statement.as_str())?;
         let wanted = wanted_of(alloc, "72", said)?;
         hold(rt, alloc, text.as_str(), wanted.as_str(), row)?;
     }

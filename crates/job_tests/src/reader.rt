@@ -1,6 +1,6 @@
 // The rows of the text: what is accepted, what is refused with which line and kind, and how it is
 // written.
-use example_texts::{EVERY_LINE, JOBS};
+use example_texts::{EVERY_LINE, FIRST_JOB, JOBS};
 use job_reader::{
     Job, JobFault, JobKind, Line, ReadJob, lines_are_pieces, literals_are_pieces, read_job,
     text_reads_back, tokens_are_pieces, write_job,
@@ -50,14 +50,18 @@ pub fn kind_named(name: &str) -> Option<JobKind> {
     None
 }
 
-/// A text with a line at a place.
-pub fn text_with(alloc: Global, at: At, line: &str) -> Result<String, AllocError> {
-    let text = match at {
+/// A text with @ at a place.
+fn text_at(at: At) -> &'static str {
+    match at {
         At::Top => "swan 1\n@\ntask t\n  do\nend\n",
         At::Task => "swan 1\ntask t\n@\n  do\nend\n",
         At::Do => "swan 1\ntask t\n  do\n@\nend\n",
-    };
-    text.replace(alloc, "@", line)
+    }
+}
+
+/// A text with a line at a place.
+pub fn text_with(alloc: Global, at: At, line: &str) -> Result<String, AllocError> {
+    text_at(at).replace(alloc, "@", line)
 }
 
 /// The number of that line.
@@ -94,25 +98,43 @@ pub fn rewritten(rt: &impl Abort, alloc: Global, text: &str) -> Vec<u8> {
     }
 }
 
+/// Asserts what is written of a text.
+pub fn hold_written(rt: &impl Abort, alloc: Global, text: &str, wanted: &str) {
+    let written = rewritten(rt, alloc, text);
+    assert_eq!(rt; written.as_slice(), wanted.as_bytes(), "{text}");
+}
+
+/// Asserts what is refused of a text, if anything.
+pub fn hold_refused(
+    rt: &impl Abort,
+    alloc: Global,
+    text: &str,
+    expected: Option<(u64, JobKind)>,
+    row: &str,
+) {
+    let found = refusal(rt, alloc, text.as_bytes());
+    assert_eq!(rt; found, expected, "{row}");
+}
+
 #[test]
-fn example_jobs(rt: HostRuntime) -> Result<(), Fail> {
+fn example_jobs_are_written_back(rt: HostRuntime) {
     for text in JOBS {
-        let again = rewritten(&rt, rt.alloc(), text);
-        assert_eq!(rt; again.as_slice(), text.as_bytes(), "{text}");
+        hold_written(&rt, rt.alloc(), text, text);
     }
-    let job = job_of(&rt, rt.alloc(), JOBS[0].as_bytes());
-    assert_eq!(rt; job.len(), 6);
-    assert_eq!(rt; job.as_slice().len(), 6);
+}
+
+#[test]
+fn a_job_has_its_first_line_at_0_and_none_past_its_last(rt: HostRuntime) {
+    let job = job_of(&rt, rt.alloc(), FIRST_JOB.as_bytes());
+    assert_eq!(rt; (job.len(), job.as_slice().len()), (6, 6));
     assert!(rt; matches!(job.line(0), Some(Line::Header)));
     assert!(rt; matches!(job.line(5), Some(Line::End)));
     assert!(rt; matches!(job.line(6), None));
-    Ok(())
 }
 
 #[test]
 fn a_job_with_every_kind_of_line_is_written_back(rt: HostRuntime) {
-    let again = rewritten(&rt, rt.alloc(), EVERY_LINE);
-    assert_eq!(rt; str::from_utf8(again.as_slice()).ok(), Some(EVERY_LINE));
+    hold_written(&rt, rt.alloc(), EVERY_LINE, EVERY_LINE);
 }
 
 /// The laws are calls that do nothing.
@@ -214,12 +236,8 @@ const PREFIXES: &str = r#"1 BadHeader
 0 Ok swan 1/output out bytes/task main/  do/  push out "hi"/end/"#;
 
 /// A text with line feeds in the place of each /.
-fn with_line_feeds(alloc: Global, text: &str) -> Result<Vec<u8>, AllocError> {
-    let mut bytes = Vec::new(alloc);
-    for byte in text.as_bytes() {
-        bytes.push(if *byte == b'/' { b'\n' } else { *byte })?;
-    }
-    Ok(bytes)
+fn with_line_feeds(alloc: Global, text: &str) -> Result<String, Fail> {
+    Ok(text.replace(alloc, "/", "\n")?)
 }
 
 /// Checks each row of a table of texts.
@@ -228,9 +246,9 @@ fn check_texts(rt: &impl Abort, alloc: Global, table: &str) -> Result<(), Fail> 
         let (line, rest) = row.split_once(' ').ok_or("row")?;
         let (kind, text) = rest.split_once(' ').ok_or("row")?;
         let line = line.parse::<u64>().ok().ok_or("row")?;
-        let bytes = with_line_feeds(alloc, text)?;
+        let text = with_line_feeds(alloc, text)?;
         let expected = kind_named(kind).map(|kind| (line, kind));
-        assert_eq!(rt; refusal(rt, alloc, bytes.as_slice()), expected, "{row}");
+        hold_refused(rt, alloc, text.as_str(), expected, row);
     }
     Ok(())
 }
@@ -243,7 +261,7 @@ fn texts(rt: HostRuntime) -> Result<(), Fail> {
 
 /// Bytes that may not stand in a line.
 #[test]
-fn bytes(rt: HostRuntime) -> Result<(), Fail> {
+fn bytes(rt: HostRuntime) {
     for text in [
         "swan 1\n\t#\n",
         "swan 1\ninput\ta\n",
@@ -252,19 +270,15 @@ fn bytes(rt: HostRuntime) -> Result<(), Fail> {
         "swan 1\n# caf\u{e9}",
         "swan 1\n\u{7f}\u{0}",
     ] {
-        let found = refusal(&rt, rt.alloc(), text.as_bytes());
-        assert_eq!(rt; found, Some((2, JobKind::BadByte)), "{text}");
+        let expected = Some((2, JobKind::BadByte));
+        hold_refused(&rt, rt.alloc(), text, expected, text);
     }
-    Ok(())
 }
 
 /// This many copies of a line.
 fn copies(alloc: Global, line: &str, count: usize) -> Result<String, AllocError> {
-    let mut text = String::new(alloc);
-    for _ in 0..count {
-        text.push_str(line)?;
-    }
-    Ok(text)
+    let lines = vec![in alloc; line; count]?;
+    lines.as_slice().concat(alloc)
 }
 
 /// A text with this many copies of a line after its first lines, and then its last lines.
@@ -290,8 +304,7 @@ fn hold_repeated(
     expected: Option<(u64, JobKind)>,
 ) -> Result<(), Fail> {
     let text = repeated(alloc, first, line, count, last)?;
-    let found = refusal(rt, alloc, text.as_str().as_bytes());
-    assert_eq!(rt; found, expected, "{count}");
+    hold_refused(rt, alloc, text.as_str(), expected, last);
     Ok(())
 }
 
@@ -304,9 +317,9 @@ fn limit(line: u64) -> Option<(u64, JobKind)> {
 fn a_job_has_at_most_20000_lines_of_at_most_4096_bytes(rt: HostRuntime) -> Result<(), Fail> {
     let byte = Some((20_001, JobKind::BadByte));
     for (first, line, count, last, expected) in [
-        (JOBS[0], "\n", 19_994, "", None),
-        (JOBS[0], "\n", 19_995, "", limit(20_001)),
-        (JOBS[0], "\n", 19_994, "\t", byte),
+        (FIRST_JOB, "\n", 19_994, "", None),
+        (FIRST_JOB, "\n", 19_995, "", limit(20_001)),
+        (FIRST_JOB, "\n", 19_994, "\t", byte),
         ("swan 1\n#", "x", 4_095, "   \n", None),
         ("swan 1\n  #", "x", 4_096, "\n", limit(2)),
         ("swan 1", " ", 5_000, "\n", None),
@@ -341,22 +354,26 @@ fn a_job_has_at_most_16_inputs(rt: HostRuntime) -> Result<(), Fail> {
     Ok(())
 }
 
-#[test]
-fn blocks_stand_at_most_32_deep(rt: HostRuntime) -> Result<(), Fail> {
-    let ends = "end\nend\nend\nend\nend\nend\nend\nend\n";
-    let closed = repeated(rt.alloc(), "", ends, 4, "end\n")?;
+/// Asserts what is refused of blocks, with this after those that are all closed.
+fn hold_blocks(rt: &impl Abort, alloc: Global, closed: &str) -> Result<(), Fail> {
     let unbalanced = Some((36, JobKind::Unbalanced));
     for (line, count, last, expected) in [
-        ("if 1\n", 32, closed.as_str(), None),
+        ("if 1\n", 32, closed, None),
         ("if 1\n", 33, "", limit(36)),
         ("while 1\n", 32, "if\n", limit(36)),
         ("if 1\nelse\n", 32, "while \"\n", limit(68)),
         ("while 1\n", 32, "if = set 1\n", unbalanced),
     ] {
         let first = "swan 1\ntask t\ndo\n";
-        hold_repeated(&rt, rt.alloc(), first, line, count, last, expected)?;
+        hold_repeated(rt, alloc, first, line, count, last, expected)?;
     }
     Ok(())
+}
+
+#[test]
+fn blocks_stand_at_most_32_deep(rt: HostRuntime) -> Result<(), Fail> {
+    let closed = copies(rt.alloc(), "end\n", 33)?;
+    hold_blocks(&rt, rt.alloc(), closed.as_str())
 }
 
 /// Past a limit only what would be one more is Limit: an input after a task stands where none may, and an
@@ -392,14 +409,18 @@ const CANONICAL: &str =
     #else next\n  else\n\n    # after else\n  end\n  spawn 1 t \"  \" -10\n  #last\nend\n\
     #between\ntask u\n  do\nend\n#end\n";
 
+/// Those with this at the end of a number.
+fn spaced(alloc: Global, end: &str) -> Result<String, Fail> {
+    Ok(SPACED.replace(alloc, "@", end)?)
+}
+
 /// What is refused names its line, and what is accepted is written in one way.
 #[test]
 fn canonical_text(rt: HostRuntime) -> Result<(), Fail> {
-    let text = SPACED.replace(rt.alloc(), "@", "0x")?;
-    let refused = refusal(&rt, rt.alloc(), text.as_str().as_bytes());
-    assert_eq!(rt; refused, Some((23, JobKind::BadNumber)));
-    let text = SPACED.replace(rt.alloc(), "@", "10")?;
-    let written = rewritten(&rt, rt.alloc(), text.as_str());
-    assert_eq!(rt; str::from_utf8(written.as_slice()).ok(), Some(CANONICAL));
+    let text = spaced(rt.alloc(), "0x")?;
+    let expected = Some((23, JobKind::BadNumber));
+    hold_refused(&rt, rt.alloc(), text.as_str(), expected, "0x");
+    let text = spaced(rt.alloc(), "10")?;
+    hold_written(&rt, rt.alloc(), text.as_str(), CANONICAL);
     Ok(())
 }

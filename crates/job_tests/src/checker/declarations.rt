@@ -23,13 +23,18 @@ push a int
 pop a bytes
 pushpop a int";
 
-/// What is said of a job with a declaration at the top level and one in a task.
-fn said_of_both(alloc: Global, top: &str, task: &str, own: &str) -> Result<String, Fail> {
-    let main = if task == "main" {
+/// What follows a task, so that there is a main.
+fn end_of(task: &str) -> &str {
+    if task == "main" {
         ""
     } else {
         "task main\ndo\nend\n"
-    };
+    }
+}
+
+/// A job with a declaration at the top level and one in a task.
+fn text_of_both(alloc: Global, top: &str, task: &str, own: &str) -> Result<String, Fail> {
+    let end = end_of(task);
     let texts = [
         "swan 1\n",
         top,
@@ -38,10 +43,9 @@ fn said_of_both(alloc: Global, top: &str, task: &str, own: &str) -> Result<Strin
         "\n",
         own,
         "\ndo\nend\n",
-        main,
+        end,
     ];
-    let text = joined(alloc, &texts)?;
-    said_of(alloc, text.as_str())
+    joined(alloc, &texts)
 }
 
 /// Asserts what is said of each declaration of a table in a task, after each of the top level.
@@ -54,21 +58,25 @@ fn hold_below_top(
 ) -> Result<(), Fail> {
     for top in OF_TOP.lines() {
         for own in table.lines() {
-            let said = said_of_both(alloc, top, task, own)?;
-            assert_eq!(rt; said.as_str(), wanted, "{own} in {task} after {top}");
+            let text = text_of_both(alloc, top, task, own)?;
+            hold(rt, alloc, text.as_str(), wanted, text.as_str())?;
         }
     }
     Ok(())
+}
+
+/// A job with two declarations at the top level.
+fn text_of_top(alloc: Global, first: &str, second: &str) -> Result<String, Fail> {
+    let texts = ["swan 1\n", first, "\n", second, "\ntask main\ndo\nend\n"];
+    joined(alloc, &texts)
 }
 
 #[test]
 fn a_name_of_the_top_level_is_declared_once_there(rt: HostRuntime) -> Result<(), Fail> {
     for first in OF_TOP.lines() {
         for second in OF_TOP.lines() {
-            let texts = ["swan 1\n", first, "\n", second, "\ntask main\ndo\nend\n"];
-            let text = joined(rt.alloc(), &texts)?;
-            let said = said_of(rt.alloc(), text.as_str())?;
-            assert_eq!(rt; said.as_str(), "3 Duplicate", "{second} after {first}");
+            let text = text_of_top(rt.alloc(), first, second)?;
+            hold(&rt, rt.alloc(), text.as_str(), "3 Duplicate", text.as_str())?;
         }
     }
     Ok(())
@@ -86,8 +94,8 @@ fn other_tasks_may_declare_names_of_the_top_level(rt: HostRuntime) -> Result<(),
     hold_below_top(&rt, rt.alloc(), "t", TAKEN, "accepted")
 }
 
-/// What is said of two declarations in a task.
-fn said_of_two(alloc: Global, task: &str, first: &str, second: &str) -> Result<String, Fail> {
+/// A task with two declarations.
+fn text_of_two(alloc: Global, task: &str, first: &str, second: &str) -> Result<String, Fail> {
     let texts = [
         "swan 1\ntask ",
         task,
@@ -97,8 +105,20 @@ fn said_of_two(alloc: Global, task: &str, first: &str, second: &str) -> Result<S
         second,
         "\ndo\nend\n",
     ];
-    let text = joined(alloc, &texts)?;
-    said_of(alloc, text.as_str())
+    joined(alloc, &texts)
+}
+
+/// Asserts what is said of two declarations in a task.
+fn hold_two(
+    rt: &impl Abort,
+    alloc: Global,
+    task: &str,
+    first: &str,
+    second: &str,
+    wanted: &str,
+) -> Result<(), Fail> {
+    let text = text_of_two(alloc, task, first, second)?;
+    hold(rt, alloc, text.as_str(), wanted, text.as_str())
 }
 
 #[test]
@@ -106,8 +126,7 @@ fn a_name_is_declared_once_in_a_task(rt: HostRuntime) -> Result<(), Fail> {
     let all = format!(in rt.alloc(); "{OF_MAIN}\n{TAKEN}")?;
     for first in all.as_str().lines() {
         for second in all.as_str().lines() {
-            let said = said_of_two(rt.alloc(), "t", first, second)?;
-            assert_eq!(rt; said.as_str(), "4 Duplicate", "{second} after {first}");
+            hold_two(&rt, rt.alloc(), "t", first, second, "4 Duplicate")?;
         }
     }
     Ok(())
@@ -118,8 +137,7 @@ fn a_name_is_declared_once_in_main(rt: HostRuntime) -> Result<(), Fail> {
     let all = format!(in rt.alloc(); "{OF_MAIN}\n{TAKEN}")?;
     for first in OF_MAIN.lines() {
         for second in all.as_str().lines() {
-            let said = said_of_two(rt.alloc(), "main", first, second)?;
-            assert_eq!(rt; said.as_str(), "4 Duplicate", "{second} after {first}");
+            hold_two(&rt, rt.alloc(), "main", first, second, "4 Duplicate")?;
         }
     }
     Ok(())
@@ -128,10 +146,8 @@ fn a_name_is_declared_once_in_main(rt: HostRuntime) -> Result<(), Fail> {
 #[test]
 fn main_takes_nothing(rt: HostRuntime) -> Result<(), Fail> {
     for taken in TAKEN.lines() {
-        let said = said_of_two(rt.alloc(), "main", taken, "var b int")?;
-        assert_eq!(rt; said.as_str(), "3 MainParams", "{taken}");
-        let said = said_of_two(rt.alloc(), "main", "var b int", taken)?;
-        assert_eq!(rt; said.as_str(), "4 MainParams", "{taken}");
+        hold_two(&rt, rt.alloc(), "main", taken, "var b int", "3 MainParams")?;
+        hold_two(&rt, rt.alloc(), "main", "var b int", taken, "4 MainParams")?;
     }
     Ok(())
 }

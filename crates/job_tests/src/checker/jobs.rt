@@ -44,13 +44,23 @@ fn a_holder_of_push_gives_no_pop(rt: HostRuntime) -> Result<(), Fail> {
     hold(&rt, rt.alloc(), GIVES_POP_FROM_PUSH, "9 Privilege", row)
 }
 
+/// The job without the spawn that gives a queue twice.
+fn only_readers(alloc: Global) -> Result<String, Fail> {
+    Ok(GIVES_TWICE.replace(alloc, "  spawn 1 two q q\n", "")?)
+}
+
+/// How many lines the checked job of a text has.
+fn checked_len(alloc: Global, text: &str) -> Result<usize, Fail> {
+    let checked = check(alloc, read_job(alloc, text.as_bytes())?)?;
+    Ok(checked.job().len())
+}
+
 #[test]
 fn two_may_read_an_object_and_one_may_push(rt: HostRuntime) -> Result<(), Fail> {
     hold(&rt, rt.alloc(), GIVES_TWICE, "17 Alias", "two")?;
-    let readers = GIVES_TWICE.replace(rt.alloc(), "  spawn 1 two q q\n", "")?;
+    let readers = only_readers(rt.alloc())?;
     hold(&rt, rt.alloc(), readers.as_str(), "accepted", "both")?;
-    let checked = check(rt.alloc(), read_job(rt.alloc(), readers.as_bytes())?)?;
-    assert_eq!(rt; checked.job().len(), 17);
+    assert_eq!(rt; checked_len(rt.alloc(), readers.as_str())?, 17);
     Ok(())
 }
 
@@ -81,8 +91,8 @@ const FRONTS: &str = "\
 58 59 accepted";
 
 /// A number of a row.
-fn number_of(text: &str) -> Result<usize, Fail> {
-    Ok(text.parse::<usize>().ok().ok_or("no number")?)
+fn number_of(text: &str) -> Result<u64, Fail> {
+    Ok(text.parse::<u64>().ok().ok_or("no number")?)
 }
 
 #[test]
@@ -93,7 +103,7 @@ fn each_front_of_a_job_is_refused_at_its_last_line_or_accepted(
         let (from, rest) = row.split_once(' ').ok_or("no length")?;
         let (to, wanted) = rest.split_once(' ').ok_or("no length")?;
         for len in number_of(from)?..=number_of(to)? {
-            let front = HELLO.get(..len).ok_or("too long")?;
+            let front = HELLO.get(..len as usize).ok_or("too long")?;
             hold(&rt, rt.alloc(), front, wanted, front)?;
         }
     }
@@ -112,7 +122,7 @@ const TEXTS: &str = "\
 fn the_text_is_read_before_it_is_checked(rt: HostRuntime) -> Result<(), Fail> {
     for row in TEXTS.lines() {
         let (wanted, text) = row.split_once(',').ok_or("no text")?;
-        let text = text.replace(rt.alloc(), "/", "\n")?;
+        let text = with_line_feeds(rt.alloc(), text)?;
         hold(&rt, rt.alloc(), text.as_str(), wanted, row)?;
     }
     Ok(())

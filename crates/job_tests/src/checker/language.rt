@@ -31,10 +31,9 @@ end
 ";
 
 /// Adds a line and a line feed.
-fn push_line(text: &mut String, line: &str) -> Result<(), Fail> {
-    for part in [line, "\n"] {
-        text.push_str(part)?;
-    }
+fn push_line(alloc: Global, text: &mut String, line: &str) -> Result<(), Fail> {
+    let line = joined(alloc, &[line, "\n"])?;
+    text.push_str(line.as_str())?;
     Ok(())
 }
 
@@ -44,9 +43,9 @@ fn job_with(alloc: Global, line: &str, number: u64) -> Result<String, Fail> {
     let mut next = 1u64;
     for own in JOB.split('\n') {
         if next == number {
-            push_line(&mut text, line)?;
+            push_line(alloc, &mut text, line)?;
         }
-        push_line(&mut text, own)?;
+        push_line(alloc, &mut text, own)?;
         next = next.saturating_add(1);
     }
     Ok(text)

@@ -62,19 +62,20 @@ Kind spawn t main
 Unknown push q 1
 Unknown i = set n";
 
+/// What stands before the statement.
+const BEFORE: &str = "task main\nvar i int\nvar t bytes\ndo\n";
+
+/// A job with a statement of main.
+fn text_of_main(alloc: Global, statement: &str) -> Result<String, Fail> {
+    let texts = ["swan 1\n", TOP, CHILDREN, BEFORE, statement, "\nend\n"];
+    joined(alloc, &texts)
+}
+
 #[test]
 fn main_uses_the_names_of_the_top_level_as_they_may_be(rt: HostRuntime) -> Result<(), Fail> {
     for row in OF_MAIN.lines() {
         let (said, statement) = parts_of(rt.alloc(), row)?;
-        let texts = [
-            "swan 1\n",
-            TOP,
-            CHILDREN,
-            "task main\nvar i int\nvar t bytes\ndo\n",
-            statement.as_str(),
-            "\nend\n",
-        ];
-        let text = joined(rt.alloc(), &texts)?;
+        let text = text_of_main(rt.alloc(), statement.as_str())?;
         let wanted = wanted_of(rt.alloc(), "62", said)?;
         hold(&rt, rt.alloc(), text.as_str(), wanted.as_str(), row)?;
     }

@@ -46,15 +46,18 @@ task main
 end
 ";
 
-/// Whole jobs. The last two stand in docs/LANGUAGE.md.
-pub const JOBS: [&str; 18] = [
-    "swan 1
+/// The first of the whole jobs.
+pub const FIRST_JOB: &str = "swan 1
 output out bytes
 task main
   do
   push out \"hi\"
 end
-",
+";
+
+/// Whole jobs. The last two stand in docs/LANGUAGE.md.
+pub const JOBS: [&str; 18] = [
+    FIRST_JOB,
     "swan 1
 input text
 task main

@@ -1,6 +1,7 @@
 // Lines, operations and literals: what is accepted, and what is refused.
-use super::{At, kind_named, number_of, refusal, rewritten, text_with};
+use super::{At, hold_refused, hold_written, kind_named, number_of, text_with};
 use job_reader::read_number;
+use std::alloc::Global;
 use std::test::Fail;
 
 /// Lines: where they stand, what is wrong with them, and their text.
@@ -200,23 +201,25 @@ fn lines(rt: HostRuntime) -> Result<(), Fail> {
         let (kind, line) = rest.split_once(' ').ok_or("row")?;
         let at = At::named(place);
         let text = text_with(rt.alloc(), at, line)?;
-        let found = refusal(&rt, rt.alloc(), text.as_str().as_bytes());
         let expected = kind_named(kind).map(|kind| (number_of(at), kind));
-        assert_eq!(rt; found, expected, "{row}");
+        hold_refused(&rt, rt.alloc(), text.as_str(), expected, row);
     }
     Ok(())
+}
+
+/// A text with a literal in a line that begins with these spaces.
+fn text_of_literal(alloc: Global, spaces: &str, literal: &str) -> Result<String, Fail> {
+    let line = format!(in alloc; "{spaces}v = set {literal}")?;
+    Ok(text_with(alloc, At::Do, line.as_str())?)
 }
 
 #[test]
 fn literals(rt: HostRuntime) -> Result<(), Fail> {
     for row in LITERALS.lines() {
         let (given, expected) = row.split_once(" => ").ok_or("row")?;
-        let line = format!(in rt.alloc(); "v = set {given}")?;
-        let text = text_with(rt.alloc(), At::Do, line.as_str())?;
-        let written = rewritten(&rt, rt.alloc(), text.as_str());
-        let line = format!(in rt.alloc(); "  v = set {expected}")?;
-        let wanted = text_with(rt.alloc(), At::Do, line.as_str())?;
-        assert_eq!(rt; written.as_slice(), wanted.as_str().as_bytes(), "{row}");
+        let text = text_of_literal(rt.alloc(), "", given)?;
+        let wanted = text_of_literal(rt.alloc(), "  ", expected)?;
+        hold_written(&rt, rt.alloc(), text.as_str(), wanted.as_str());
     }
     Ok(())
 }
