@@ -79,12 +79,11 @@ fn work<B: Body>(
 /// What the ask that ends a row is answered after so many steps, and what is told of it.
 fn told_at(
     alloc: Global,
-    stop: Stop<JobLocal>,
+    stop: &Stop<JobLocal>,
     steps: u64,
 ) -> Result<(Answer, Option<String>), NoMemory> {
-    let Stop { ask, place } = stop;
-    let answer = answer_to(alloc, &ask, steps)?;
-    let what = told_by(alloc, &ask, place)?;
+    let answer = answer_to(alloc, &stop.ask, steps)?;
+    let what = told_by(alloc, &stop.ask, stop.place)?;
     Ok((answer, what))
 }
 
@@ -120,7 +119,7 @@ fn take_row(
         });
     };
     let left = left.saturating_sub(1);
-    let (answer, what) = told_at(alloc, stop, fuel.saturating_sub(left))?;
+    let (answer, what) = told_at(alloc, &stop, fuel.saturating_sub(left))?;
     Ok(Taken {
         local,
         answer,
