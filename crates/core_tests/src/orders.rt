@@ -31,7 +31,7 @@ fn budget(chance: u64) -> u64 {
 /// The root has ended exactly where no want of memory was met.
 fn ends_so<B: Body, Q: Queues>(core: &Core<B, Q>, is_dead: bool) -> Result<(), Fail> {
     if core.is_done() == is_dead {
-        Err("the root has ended, and hasn't".into())
+        Err("want of memory and an end, or neither".into())
     } else {
         Ok(())
     }

@@ -217,6 +217,33 @@ pub fn stops_at_each_ask(alloc: Global, row: &Row<'_>, order: Order<'_>) -> Resu
     leaves_past(alloc, row, count, order)
 }
 
+/// A run of these tasks, in which no memory is found at one index of the list of all asks, leaves nothing where that stops the elision, and
+/// else what the elision leaves.
+fn stops_where_the_elision_stops(
+    alloc: Global,
+    tasks: &Tasks<'_>,
+    fails: usize,
+    order: Order<'_>,
+) -> Result<(), Fail> {
+    let plan = failing_plan(alloc, tasks.tasks, tasks.fuel, fails)?;
+    if elide(alloc, plan).is_err() {
+        return stops(alloc, tasks.tasks, tasks.fuel, fails, order);
+    }
+    let plan = failing_plan(alloc, tasks.tasks, tasks.fuel, fails)?;
+    is_elided(alloc, tasks, &texts(alloc, plan, order)?)
+}
+
+/// So do runs of these tasks from a stack and in ten orders, for each index of the list of all asks.
+pub fn stop_where_the_elision_stops(alloc: Global, tasks: &Tasks<'_>) -> Result<(), Fail> {
+    for fails in 0..asks(alloc, tasks.tasks, usize::MAX)?.asks.len() {
+        stops_where_the_elision_stops(alloc, tasks, fails, Order::Stack)?;
+        for seed in 0..10 {
+            stops_where_the_elision_stops(alloc, tasks, fails, Order::Chance(seed))?;
+        }
+    }
+    Ok(())
+}
+
 /// Runs of these tasks by several workers leave what the elision leaves.
 pub fn workers_leave_the_same<T: Threads + Wait + Clock + Sync>(
     rt: &T,
