@@ -1,6 +1,6 @@
 -- What a step of a checked job does to the serial state: it meets no fault of rights, and each
 -- activation stands where it holds what the check knows there.
-use Rattle.std.proofs.Common.{◌≡◌, ℕ, zero, suc, ◌+◌, ◌-◌, ◌<◌, ◌≤◌, Bool, true, false, Option, Some, None, List, [], ◌∷◌, ◌++◌, length, slice_get, nat_lt, nat_le, if◌then◌else◌, refl, sym, ◌∙◌, subst, arith, length-append, length-set}
+use Rattle.std.proofs.Common.{◌≡◌, ℕ, ◌+◌, ◌-◌, ◌<◌, ◌≤◌, Bool, true, false, List, [], ◌∷◌, ◌++◌, length, nat_lt, nat_le, if◌then◌else◌, refl, sym, subst, arith, length-append, length-set}
 use Rattle.swan_model.specs.declared.body.Answer.{Answer}
 use Rattle.swan_model.specs.declared.body.Answer.TheVariants as answer
 use Rattle.swan_model.specs.declared.body.Ask.TheVariants as ask
@@ -15,7 +15,7 @@ use Rattle.swan_model.specs.Rights.{is_aliased, is_queue_mode}
 use Rattle.swan_model.specs.SerialState.{Activation, Cell, Holding, Queue, Store}
 use Rattle.swan_model.specs.SerialStep as serial
 use Rattle.swan_model.specs.SerialStep.{Effect, goes_on, spawns, ends, faults, effect, number_at, on_cell, on_list, on_object, on_queue, popped, spawned, told, zero_cell, zeroed, zeroed_by}
-use Rattle.swan_model.specs.Values.{kind_of, zero_of}
+use Rattle.swan_model.specs.Values.{kind_of}
 use Rattle.job_reader.specs.declared.line.Line.{Line}
 use Rattle.job_body.specs.RightsKept.{is_of_rights}
 use Rattle.job_body.specs.Standing.{Standing}

@@ -2,7 +2,7 @@
 use Rattle.std.proofs.Common.{◌≡◌, ℕ, true, false, List, [], ◌∷◌, ◌++◌, refl, sym, ap, subst, ◌∙◌}
 use Rattle.std.specs.Prelude.{◌==◌, not}
 use Rattle.std.specs.List.{list_all}
-use Rattle.std.proofs.lemmas.Bool.{cond-false, cond_both, and_from, and_parts, eqb-true, not-true}
+use Rattle.std.proofs.lemmas.Bool.{cond_both, and_from, and_parts, eqb-true, not-true}
 use Rattle.swan_model.specs.Lines.{lines, before_lines}
 use Rattle.job_reader.specs.Pieces.{HasNoLineFeed, AreLines}
 use Rattle.job_reader.specs.Pieces.AreLines.{no_lines, ended, last_line}

@@ -1,5 +1,5 @@
 -- The active frame of a number, and what its rights let it do.
-use Rattle.std.proofs.Common.{◌≡◌, ◌⊎◌, inl, inr, ℕ, Bool, true, nat_eq, Option, Some, List, [], ◌∷◌, refl, sym, ◌∙◌, arith}
+use Rattle.std.proofs.Common.{◌≡◌, ◌⊎◌, inl, inr, ℕ, Bool, true, nat_eq, Option, Some, List, [], ◌∷◌, refl, sym, ◌∙◌}
 use Rattle.std.proofs.lemmas.Bool.{and_from, and_parts, eqb-true, false≢true, or_cases, or_left, or_right}
 use Rattle.std.proofs.lemmas.Option.{same_Some}
 use Rattle.std.specs.List.{list_any}

@@ -1,25 +1,22 @@
 -- Where the next item of a queue is ripe, all that is pushed to the queue before it is pushed already.
-use Rattle.std.proofs.Common.{◌≡◌, ℕ, suc, ◌-◌, ◌<◌, ◌≤◌, inl, inr, Bool, true, false, ◌&&◌, nat_eq, nat_lt, cond, List, [], ◌∷◌, ◌++◌, length, take, Some, None, refl, sym, ap, subst, ◌∙◌, append_assoc, arith, length-append}
+use Rattle.std.proofs.Common.{◌≡◌, ℕ, suc, ◌-◌, ◌<◌, ◌≤◌, inl, inr, Bool, true, false, ◌&&◌, nat_eq, nat_lt, List, [], ◌∷◌, ◌++◌, length, take, Some, refl, sym, ap, subst, ◌∙◌, append_assoc, arith, length-append}
 use Rattle.std.proofs.lemmas.Bool.{and_from, and_parts, cases_eq, cases_lt, cases_order, lt-ltb, ltb-true, ne_eqb, not_from_false, or_cases}
 use Rattle.std.proofs.lemmas.List.{append-nil}
 use Rattle.std.specs.Cmp.Lexicographic.{pointwise}
-use Rattle.std.specs.List.{cons_option, list_any, list_all}
+use Rattle.std.specs.List.{list_any, list_all}
 use Rattle.std.specs.Option.{option_map_or}
 use Rattle.std.specs.Prelude.{filter, not, slice_get}
 use Rattle.swan_model.specs.declared.origin.Origin.{Origin}
 use Rattle.swan_model.specs.declared.origin.Origin.TheVariants.{Step}
 use Rattle.swan_model.specs.declared.rights.Mode.TheVariants.{Push}
-use Rattle.swan_model.specs.declared.script.Deed.{Deed}
-use Rattle.swan_model.specs.declared.script.Deed.TheVariants as deed
 use Rattle.swan_model.specs.declared.script.Entry.{Entry}
 use Rattle.swan_model.specs.declared.script.Script.{Script}
-use Rattle.swan_model.specs.declared.value.Value.{Value}
 use Rattle.swan_model.specs.Granted.{holds, may_use}
 use Rattle.swan_model.specs.Lawful.{IsLawful}
 use Rattle.swan_model.specs.Nested.{HasTasks, IsEntryOf, IsEntryUnder, spawn_time}
 use Rattle.swan_model.specs.Ripe.{is_push_to, is_ripe, may_push_too, push_time}
 use Rattle.swan_model.specs.SerialTime.{Progress, Reading, is_done, is_of, is_past, point, time, times}
-use Rattle.swan_model.specs.Told.{first_items, is_same, pushed, pushed_by, taken}
+use Rattle.swan_model.specs.Told.{first_items, pushed, taken}
 use Rattle.serial_elision.specs.Laws.{HasActive}
 use Rattle.serial_elision.proofs.Holders.{IsHeldSince, before_it, made_since, held_at, known_above, IsPushedFrom, from_above, made_below, pushed_from}
 use Rattle.serial_elision.proofs.ItemsTold.{le-taken}

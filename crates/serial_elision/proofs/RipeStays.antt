@@ -8,11 +8,9 @@ use Rattle.std.specs.Prelude.{filter, not, slice_get}
 use Rattle.swan_model.specs.declared.origin.Origin.{Origin}
 use Rattle.swan_model.specs.declared.origin.Origin.TheVariants.{Step}
 use Rattle.swan_model.specs.declared.rights.Mode.TheVariants.{Push}
-use Rattle.swan_model.specs.declared.script.Deed.{Deed}
-use Rattle.swan_model.specs.declared.script.Deed.TheVariants as deed
 use Rattle.swan_model.specs.declared.script.Entry.{Entry}
 use Rattle.swan_model.specs.declared.script.Script.{Script}
-use Rattle.swan_model.specs.Granted.{holds, is_within, may_use}
+use Rattle.swan_model.specs.Granted.{holds, may_use}
 use Rattle.swan_model.specs.Lawful.{IsLawful}
 use Rattle.swan_model.specs.Nested.{HasTasks, IsEntryUnder}
 use Rattle.swan_model.specs.Readings.{gone_on, one_more}
@@ -21,7 +19,6 @@ use Rattle.swan_model.specs.SerialTime.{Progress, Reading, is_done, is_of, is_pa
 use Rattle.swan_model.specs.Told.{first_items, taken}
 use Rattle.serial_elision.specs.Laws.{AreFramesOf}
 use Rattle.serial_elision.proofs.MadeAbove.{made_above}
-use Rattle.swan_model.proofs.Origins.{is_same-equal}
 use Rattle.swan_model.proofs.Paths.{same_path}
 use Rattle.swan_model.proofs.Places.{placed}
 use Rattle.swan_model.proofs.Points.{some_of, past_above, same_frame}
