@@ -1,5 +1,5 @@
 -- What a worker's turn answers, by what its parts found.
-use Rattle.std.proofs.Common.{◌≡◌, ◌≢◌, ◌==◌, ℕ, ◌+◌, ◌<◌, ◌≤◌, Bool, true, false, true≢false, arith, if◌then◌else◌, refl, subst, sym, ◌∙◌}
+use Rattle.std.proofs.Common.{◌≡◌, ◌==◌, ℕ, ◌+◌, ◌<◌, ◌≤◌, Bool, true, false, true≢false, arith, if◌then◌else◌, refl, subst, sym, ◌∙◌}
 use Rattle.named_lock.specs.declared.rule.View.{View}
 use Rattle.task_frames.specs.declared.steps.Steps.{Steps}
 use Rattle.swan_runtime.specs.declared.turn.Turn.{Turn}

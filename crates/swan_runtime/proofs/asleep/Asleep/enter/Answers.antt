@@ -1,4 +1,3 @@
-use Rattle.std.proofs.Common.{[], ap}
 use Rattle.task_frames.specs.Resumes.{ends_of}
 use Rattle.swan_runtime.proofs.Bedding.{has_entered}
 use Rattle.swan_runtime.proofs.Waking.{empty_row, row_inserted, rows_same}

@@ -1,4 +1,4 @@
-use Rattle.std.proofs.Common.{◌≡◌, ℕ, Some, if◌then◌else◌, take}
+use Rattle.std.proofs.Common.{take}
 use Rattle.swan_runtime.specs.Beds.{HasSameSleepers, IsNoted}
 use Rattle.swan_runtime.proofs.row.Row.notes.Given as goal
 
