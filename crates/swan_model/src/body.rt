@@ -123,9 +123,13 @@ pub trait Body: Drop + Send + Sync {
         budget: u64,
     ) -> Result<Worked<Self::Local>, NoMemory>
         requires { 0 < budget }
+
+        // the row, and what it leaves where no other step ended it
         ensures works { IfOk result (λ w. AreWork (next self.now) local answer fuel w.works) }
         ensures all { IfOk result (λ w. IfNone w.stop (w.works ≡ min budget fuel)) }
         ensures last { IfOk result (λ w. IfNone w.stop (w.local ≡ local_after (next self.now) local answer fuel w.works)) }
+
+        // what it leaves where another step ended it
         ensures stopped { IfOk result (λ w. IfSome w.stop (λ stop. w.works < min budget fuel)) }
         ensures moved { IfOk result (λ w. IfSome w.stop (λ stop. w.local ≡ local_after (next self.now) local answer fuel (suc w.works))) }
         ensures ask { IfOk result (λ w. IfSome w.stop (λ stop. stop.ask ≡ ask_after (next self.now) local answer fuel w.works)) }

@@ -127,13 +127,18 @@ impl<B: Body, Q: Queues> Row<B, Q> {
     /// Lets those be ready that sleep here until this queue is pushed to. Err is want of memory. `O(1)` for each frame that sleeps here until
     /// a queue is pushed to.
     pub fn wakes(&mut self, ready: &mut Vec<Frame<B, Q>>, queue: u32) -> Result<(), NoMemory>
+        // that all frames stay of their run
         ensures own { (plan : Plan B B.Local) (run : List ℕ) → RowIsOfRun (ends_of Q.Ends.LocalEnds) plan run self.old
             → RowIsOfRun (ends_of Q.Ends.LocalEnds) plan run self.new }
         ensures ready { (plan : Plan B B.Local) (run : List ℕ) → RowIsOfRun (ends_of Q.Ends.LocalEnds) plan run self.old
             → AreOfRun (ends_of Q.Ends.LocalEnds) plan run ready.old.items → AreOfRun (ends_of Q.Ends.LocalEnds) plan run ready.new.items }
+
+        // who wakes, and that none is lost
         ensures woken { OnOk result (NoneAwaits queue (Some self.new)) }
         ensures none_more { (other : ℕ) → NoneAwaits other (Some self.old) → NoneAwaits other (Some self.new) }
         ensures none_lost { OnOk result (vec_len ready.new + vec_len self.new.at_push ≡ vec_len ready.old + vec_len self.old.at_push) }
+
+        // what stays
         ensures others { self.new.at_end ≡ self.old.at_end }
         ensures notes { HasSameNotes self.old self.new }
     {
@@ -151,13 +156,18 @@ impl<B: Body, Q: Queues> Row<B, Q> {
 
     /// Lets all be ready that sleep here until a queue is pushed to. Err is want of memory. `O(1)`, amortised, for each of them.
     pub fn wakes_poppers(&mut self, ready: &mut Vec<Frame<B, Q>>) -> Result<(), NoMemory>
+        // that all frames stay of their run
         ensures own { (plan : Plan B B.Local) (run : List ℕ) → RowIsOfRun (ends_of Q.Ends.LocalEnds) plan run self.old
             → RowIsOfRun (ends_of Q.Ends.LocalEnds) plan run self.new }
         ensures ready { (plan : Plan B B.Local) (run : List ℕ) → RowIsOfRun (ends_of Q.Ends.LocalEnds) plan run self.old
             → AreOfRun (ends_of Q.Ends.LocalEnds) plan run ready.old.items → AreOfRun (ends_of Q.Ends.LocalEnds) plan run ready.new.items }
+
+        // who wakes, and that none is lost
         ensures woken { OnOk result ((queue : ℕ) → NoneAwaits queue (Some self.new)) }
         ensures none_more { (other : ℕ) → NoneAwaits other (Some self.old) → NoneAwaits other (Some self.new) }
         ensures none_lost { OnOk result (vec_len ready.new ≡ vec_len ready.old + vec_len self.old.at_push) }
+
+        // what stays
         ensures others { self.new.at_end ≡ self.old.at_end }
         ensures notes { HasSameNotes self.old self.new }
     {

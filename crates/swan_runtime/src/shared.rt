@@ -109,12 +109,17 @@ impl<B: Body, Q: Queues> SharedRun<B, Q> {
         body: &B,
         frame: Frame<B, Q>,
     ) -> Result<Tried<B, Q>, NoMemory>
+        // how the frame stands
         requires own { IsOfRun (ends_of Q.Ends.LocalEnds) self.old.core.plan self.old.core.run frame }
         requires mark { frame.mark ≡ true }
         requires body { body.now ≡ self.old.core.plan.body }
+
+        // what is answered
         ensures told { IfOk result (λ tried. IsTold tried.turn) }
         ensures finished { IfOk result (λ tried. tried.turn ≡ turn.Done → self.new.core.is_done ≡ true) }
         ensures own { IfOk result (λ tried. IfSome tried.frame (IsOfRun (ends_of Q.Ends.LocalEnds) self.old.core.plan self.old.core.run)) }
+
+        // what it leaves
         ensures done { self.old.core.is_done ≡ true → self.new.core.is_done ≡ true }
         ensures plan { self.new.core.plan ≡ self.old.core.plan }
         ensures run { self.new.core.run ≡ self.old.core.run }

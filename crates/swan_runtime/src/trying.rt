@@ -33,9 +33,13 @@ fn has_run<B: Body, Q: Queues>(
     steps: Steps,
 ) -> Result<Tried<B, Q>, NoMemory>
     requires one { steps.count ≡ 1 }
+
+    // what is answered, and that all frames stay of their run
     ensures tried { IfOk result (λ tried. IsOneTry tried.turn) }
     ensures frame { IfOk result (λ tried. tried.frame ≡ Some frame) }
     ensures kept { KeepsOfRun (ends_of Q.Ends.LocalEnds) [] asleep.old asleep.new ready.old.items ready.new.items }
+
+    // whom the step wakes
     ensures woken { OnOk result (IfSome asked (λ queue. NoneAwaits queue (row_at asleep.new frame.task.number))) }
     ensures first { OnOk result (had_begun ≡ false → (queue : ℕ) → NoneAwaits queue (row_at asleep.new frame.task.number)) }
     ensures rows { OnlyWoke frame.task.number asleep.old asleep.new }
@@ -85,10 +89,14 @@ fn has_ended<B: Body, Q: Queues>(
     steps: Steps,
 ) -> Result<Tried<B, Q>, NoMemory>
     requires one { steps.count ≡ 1 }
+
+    // what is answered, and that all frames stay of their run
     ensures tried { IfOk result (λ tried. IsOneTry tried.turn) }
     ensures frame { (plan : Plan B B.Local) (run : List ℕ) → SleepersAreOfRun (ends_of Q.Ends.LocalEnds) plan run asleep.old
         → AreOfRun (ends_of Q.Ends.LocalEnds) plan run ready.old.items → IfOk result (λ tried. IfSome tried.frame (IsOfRun (ends_of Q.Ends.LocalEnds) plan run)) }
     ensures kept { KeepsOfRun (ends_of Q.Ends.LocalEnds) [] asleep.old asleep.new ready.old.items ready.new.items }
+
+    // whom the end wakes, and what stays
     ensures none_lost { IfOk result (λ tried. length (ready.new.items ++ option_to_list tried.frame) ≡ length ready.old.items + sleepers (row_at asleep.old number)) }
     ensures gone { row_at asleep.new number ≡ None }
     ensures others { OthersStay asleep.old asleep.new number }
@@ -137,13 +145,18 @@ pub(crate) fn try_by_core<B: Body, Q: Queues>(
     body: &B,
     frame: Frame<B, Q>,
 ) -> Result<Tried<B, Q>, NoMemory>
+    // that all of them are of the run of the core
     requires frame { IsOfRun (ends_of Q.Ends.LocalEnds) core.old.plan core.old.run frame }
     requires mark { frame.mark ≡ true }
     requires body { body.now ≡ core.old.plan.body }
     requires asleep { SleepersAreOfRun (ends_of Q.Ends.LocalEnds) core.old.plan core.old.run asleep.old }
     requires ready { AreOfRun (ends_of Q.Ends.LocalEnds) core.old.plan core.old.run ready.old.items }
+
+    // what is answered
     ensures tried { IfOk result (λ tried. IsOneTry tried.turn) }
     ensures frame { IfOk result (λ tried. IfSome tried.frame (IsOfRun (ends_of Q.Ends.LocalEnds) core.old.plan core.old.run)) }
+
+    // what it leaves
     ensures asleep { SleepersAreOfRun (ends_of Q.Ends.LocalEnds) core.old.plan core.old.run asleep.new }
     ensures ready { AreOfRun (ends_of Q.Ends.LocalEnds) core.old.plan core.old.run ready.new.items }
     ensures plan { core.new.plan ≡ core.old.plan }

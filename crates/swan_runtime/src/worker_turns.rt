@@ -56,12 +56,15 @@ fn try_under_lock<B: Body, Q: Queues>(
     frame: Frame<B, Q>,
     local: Steps,
 ) -> Turn
+    // what the seat knows, and how the frame stands
     requires seat { IsSeatOf lock.now false seat.old }
     requires runs { (knows seat.old).saw_stopped ≡ false }
     requires frame { IsOfRun (ends_of Q.Ends.LocalEnds) (lock_name lock.now).plan (lock_name lock.now).run frame }
     requires mark { frame.mark ≡ true }
     requires body { body.now ≡ (lock_name lock.now).plan.body }
     requires few { local.count < STEPS_A_TURN }
+
+    // what is answered, and what it leaves
     ensures seat { IsSeatOf lock.now false seat.new × IsSameSeat seat.old seat.new }
     ensures frame { IfSome slot.new (IsOfRun (ends_of Q.Ends.LocalEnds) (lock_name lock.now).plan (lock_name lock.now).run) }
     ensures turn { IsWorkersTurn (knows seat.old) (knows seat.new) result }
@@ -91,13 +94,18 @@ fn settle<B: Body, Q: Queues>(
     seat: &mut LockSeat<SharedRun<B, Q>>,
     held: &mut Held<SharedRun<B, Q>>,
 ) -> bool
+    // whose seat it is, and what is held
     requires seat { IsSeatOf lock.now true seat.old × IsHeldBy seat.old held.old }
     requires plan { held.old.state.core.plan ≡ (lock_name lock.now).plan }
     requires run { held.old.state.core.run ≡ (lock_name lock.now).run }
     requires owes { (knows seat.old).owes_done ≡ true → held.old.state.core.is_done ≡ true }
+
+    // what stays
     ensures seat { IsSeatOf lock.now true seat.new × IsSameSeat seat.old seat.new × IsHeldBy seat.new held.new }
     ensures held { held.new ≡ held.old }
     ensures counts { ((knows seat.new).holds ≡ (knows seat.old).holds) × ((knows seat.new).lost ≡ (knows seat.old).lost) }
+
+    // what the seat knows by the answer, and what it owes
     ensures yes { result ≡ true → (knows seat.new).saw_stopped ≡ (knows seat.old).saw_stopped }
     ensures done { result ≡ true → held.old.state.core.is_done ≡ true → (knows seat.new).saw_done ≡ true }
     ensures no { result ≡ false → ((knows seat.new).sign ≡ Stopped) × ((knows seat.new).saw_stopped ≡ true) }
@@ -168,10 +176,13 @@ fn go_on<B: Body, Q: Queues>(
     slot: &mut Option<Frame<B, Q>>,
     frame: Frame<B, Q>,
 ) -> Turn
+    // what the seat knows, and how the frame stands
     requires seat { IsSeatOf lock.now false seat.old }
     requires runs { (knows seat.old).saw_stopped ≡ false }
     requires frame { IsOfRun (ends_of Q.Ends.LocalEnds) (lock_name lock.now).plan (lock_name lock.now).run frame }
     requires body { body.now ≡ (lock_name lock.now).plan.body }
+
+    // what is answered, and what it leaves
     ensures seat { IsSeatOf lock.now false seat.new × IsSameSeat seat.old seat.new }
     ensures frame { IfSome slot.new (IsOfRun (ends_of Q.Ends.LocalEnds) (lock_name lock.now).plan (lock_name lock.now).run) }
     ensures turn { IsWorkersTurn (knows seat.old) (knows seat.new) result }

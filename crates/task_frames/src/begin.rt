@@ -100,10 +100,13 @@ fn make_queues<B: Body, Q: Queues>(
     queues: &mut Q,
     roots: RootQueues,
 ) -> Result<KeptReading, NoMemory>
+    // for which plan, and over which queues
     requires plan { IsPlan plan.now.means }
     requires new { Q.state queues.old ≡ new_state }
     requires name { Q.name queues.old ≡ Some (script B.Body plan.now.means) }
     requires roots { roots ≡ plan.now.means.roots.queues }
+
+    // what it leaves
     ensures queues { OnOk result (AreFirstQueues (script B.Body plan.now.means) (Q.state queues.new) (length roots)) }
     ensures reading { IfOk result (λ reading. reading ≡ at_start (roots_to (length roots)) []) }
     ensures same { IsSameRun Q.name Q.run queues.old queues.new }
@@ -136,10 +139,13 @@ fn make_objects<B: Body>(
     reading: KeptReading,
     roots: Values,
 ) -> Result<FirstObjects, NoMemory>
+    // for which plan, and behind which queues
     requires plan { IsPlan plan.now.means }
     requires first { first ≡ length plan.now.means.roots.queues }
     requires reading { reading ≡ at_start (roots_to first) [] }
     requires roots { roots ≡ plan.now.means.roots.objects }
+
+    // what is answered
     ensures objects { IfOk result (λ made. AreFirstObjects (script B.Body plan.now.means) made.versions first (length roots)) }
     ensures reading { IfOk result (λ made. made.reading ≡ at_start (roots_to first) (roots_to (length roots))) }
     ensures count { IfOk result (λ made. made.made ≡ length roots) }

@@ -174,15 +174,20 @@ impl<B: Body, Q: Queues> Frame<B, Q> {
     /// step that asks for something else, of which it is in the middle then, or with all its fuel. The answer is how many
     /// steps were work. Err is want of memory: the frame has no local then. It costs what the steps cost.
     fn work(&mut self, alloc: Global, body: &B, budget: u64) -> Result<u64, NoMemory>
+        // how the frame stands
         requires body { body.now ≡ self.old.task.plan.body }
         requires whole { is_whole self.old ≡ true }
         requires unmarked { self.old.mark ≡ false }
         requires begun { 0 < self.old.task.done }
         requires budget { 0 < budget }
+
+        // what it leaves
         ensures same { IsSameFrame Q.Ends.name Q.Ends.run Q.Ends.ends Q.Ends.counts self.old self.new }
         ensures mark { self.new.mark ≡ self.old.mark }
         ensures whole { OnOk result (is_whole self.new ≡ true) }
         ensures torn { OnErr result (self.new.stage ≡ None) }
+
+        // how many steps were work
         ensures done { IfOk result (λ works. self.new.task.done ≡ self.old.task.done + works) }
         ensures most { IfOk result (λ works. works ≤ budget) }
         ensures amid { IfOk result (λ works. works < budget → stands_still self.new ≡ true) }
@@ -211,9 +216,12 @@ impl<B: Body, Q: Queues> Frame<B, Q> {
     /// Takes the step in whose middle the frame is, where its ends serve the ask. Else nothing is done. It takes no
     /// memory. `O(1)`.
     fn step(&mut self) -> bool
+        // how the frame stands
         requires whole { is_whole self.old ≡ true }
         requires begun { 0 < self.old.task.done }
         requires amid { stands_still self.old ≡ true }
+
+        // what it leaves, and why nothing is done
         ensures same { IsSameFrame Q.Ends.name Q.Ends.run Q.Ends.ends Q.Ends.counts self.old self.new }
         ensures mark { self.new.mark ≡ self.old.mark }
         ensures whole { is_whole self.new ≡ true }
@@ -237,15 +245,20 @@ impl<B: Body, Q: Queues> Frame<B, Q> {
     /// Takes a row of steps of work, at most so many steps together, and after it the step that is asked for, where the
     /// frame's ends serve it. Err is want of memory: the frame has no local then. It costs what the steps cost.
     fn turn(&mut self, alloc: Global, body: &B, budget: u64) -> Result<Turn, NoMemory>
+        // how the frame stands
         requires body { body.now ≡ self.old.task.plan.body }
         requires whole { is_whole self.old ≡ true }
         requires unmarked { self.old.mark ≡ false }
         requires begun { 0 < self.old.task.done }
         requires budget { 0 < budget }
+
+        // what it leaves
         ensures same { IsSameFrame Q.Ends.name Q.Ends.run Q.Ends.ends Q.Ends.counts self.old self.new }
         ensures mark { self.new.mark ≡ self.old.mark }
         ensures whole { OnOk result (is_whole self.new ≡ true) }
         ensures torn { OnErr result (self.new.stage ≡ None) }
+
+        // how many steps were taken, and why the next one needs the core
         ensures done { IfOk result (λ turn. self.new.task.done ≡ self.old.task.done + turn.taken) }
         ensures most { IfOk result (λ turn. turn.taken ≤ budget) }
         ensures some { IfOk result (λ turn. turn.at_core ≡ false → 0 < turn.taken) }
@@ -274,14 +287,19 @@ impl<B: Body, Q: Queues> Frame<B, Q> {
 
     /// Takes steps as `run_local` does, of a frame that has taken some already, and leaves its mark as it is.
     fn run_on(&mut self, alloc: Global, body: &B, budget: u64) -> Paused
+        // how the frame stands
         requires body { body.now ≡ self.old.task.plan.body }
         requires whole { is_whole self.old ≡ true }
         requires unmarked { self.old.mark ≡ false }
         requires begun { 0 < self.old.task.done }
+
+        // what it leaves
         ensures same { IsSameFrame Q.Ends.name Q.Ends.run Q.Ends.ends Q.Ends.counts self.old self.new }
         ensures mark { self.new.mark ≡ self.old.mark }
         ensures whole { OnSteps result (λ k. is_whole self.new ≡ true) }
         ensures done { OnSteps result (λ k. self.new.task.done ≡ self.old.task.done + k) }
+
+        // when each answer comes, and what want of memory leaves
         ensures at_core { OnAtCore result (λ k. k < budget) }
         ensures cause { OnAtCore result (λ k. NeedsCore Q.Ends.ends Q.Ends.counts self.old self.new) }
         ensures budget { OnBudget result (λ k. k ≡ budget) }

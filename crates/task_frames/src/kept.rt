@@ -115,7 +115,11 @@ impl<Q: Queues> Kept<Q> {
         requires core { IsCore B.Body plan.now.means self.old }
         requires come { HaveCome B.Body self.old step }
         requires plan { AreOfPlan plan.now.means step }
+
+        // the frames
         ensures answered { IsAnswered (ends_of Q.Ends.LocalEnds) self.old self.new step result }
+
+        // what is kept
         ensures core { IsCore B.Body plan.now.means self.new }
         ensures live { self.new.live ≡ self.old.live }
         ensures run { self.new.run ≡ self.old.run }

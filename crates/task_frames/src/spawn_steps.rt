@@ -173,10 +173,14 @@ impl<Q: Queues> Kept<Q> {
     ) -> Result<Step<B>, NoMemory>
         requires has { HasIt B.Body self.old (asking mid (ask.Spawn child)) }
         requires begun { MayBegin self.old mid.task.number }
+
+        // why the child is no fault
         requires given { given mid.task.holdings child.gives ≡ Some held.items }
         requires alone { is_aliased child.gives ≡ false }
         requires shallow { length mid.task.path < DEPTH }
         requires cheap { child.fuel ≤ mid.task.fuel }
+
+        // what it leaves
         ensures step { IfOk result (IsStep B.Body self.old self.new mid.task) }
         ensures run { OnOk result (self.new.run ≡ self.old.run) }
     {
@@ -243,10 +247,13 @@ impl<Q: Queues> Kept<Q> {
         path: &Path,
         held: &Vec<Holding>,
     ) -> Result<(), NoMemory>
+        // that there is room for the step and for the child
         requires few { done < STEPS_MOST }
         requires room { self.old.frames < 18446744073709551615 }
         requires rising { parent < self.old.frames }
         requires free { live_at self.old.live self.old.frames ≡ None }
+
+        // what is noted of the frames, and what else is kept
         ensures parent { OnOk result (live_at self.new.live parent ≡ option_map (come_to (done + 1)) (live_at self.old.live parent)) }
         ensures child { OnOk result (live_at self.new.live self.old.frames
             ≡ Some (record { parent = Some parent; path = path.now; done = 0; holdings = held.now.items })) }
