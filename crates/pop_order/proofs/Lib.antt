@@ -1,17 +1,24 @@
+-- Lemmas on the turns of poppers. Each group stands on those before it; what a file is for stands at its head.
+
+-- tests as facts, no frames, and the sets of children
 pub mod Flags
 pub mod Blocking
 pub mod Empty
 pub mod Entries
 pub mod Holders
+-- the order of the frames of a tree, and the way to the first earlier pusher
 pub mod Lineage
 pub mod Before
 pub mod Meeting
 pub mod Walks
+-- the sets as a child was given a queue, and as it was given back
 pub mod Changes
 pub mod Growing
 pub mod Shrinking
 pub mod Noted
+-- the frames as one is enlisted, lent to and given back
 pub mod Lookups
 pub mod Enlisting
 pub mod Returning
+-- the law: the order of a tree is the serial order
 pub mod SerialOrder

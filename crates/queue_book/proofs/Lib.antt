@@ -1,6 +1,5 @@
 -- Lemmas on hyperqueues in the plainest form. Each group stands on those before it; what a file is for stands at its head.
 
--- entries by numbers
 -- chunks in chains of nodes
 pub mod ChainKept
 pub mod ChainChanges

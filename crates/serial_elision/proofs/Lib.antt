@@ -1,3 +1,15 @@
+-- Lemmas on the elision and its scripts; what a file is for stands at its head. Eight groups, in the order to read them: no group
+-- stands on a later one.
+-- what one step does, and that the steps end: `Asks`, `Pops`, `Spawns`, `Aliases`, `StepLaws`, `Steps`, `Works`, `Still`, `At`, `RootLists`,
+-- `Counts`, `Runs`, `Ends`, `Finals`;
+-- a script has an entry for each step: `Scripts`, `Entries`;
+-- the order of tasks and of faults, and how a task goes on: `Turns`, `FaultOrder`, `Passing`, `Nesting`, `Endings`, `TaskSteps`, `FaultsTold`;
+-- the script tells items and values, and what is left: `ItemsTold`, `Becomes`, `StateTold`, `Zeroed`, `AsksTold`, `SerialTold`, `OutcomeTold`,
+-- `EndDeeds`;
+-- what is held, and by which rights: `Rights`, `Held`, `Granting`, `RightsTold`, `NamesStay`, `RootNames`, `SpawnGives`;
+-- scripts are lawful, and a run has room: `Lawful`, `FewMade`, `FewHeld`, `Room`;
+-- each ask in the words of the script: `AskSteps`, `AskMakes`;
+-- what is ripe, and stays so: `MadeAbove`, `ChildFirst`, `PointsRise`, `Holders`, `RipeStays`, `RipeBefore`, `RipeSpawns`.
 pub mod Aliases
 pub mod AskMakes
 pub mod AskSteps

@@ -1,10 +1,15 @@
+-- Lemmas on runs out of order. Each group stands by itself; what a file is for stands at its head.
+
+-- a run on a stack: how its frames stand, what a turn costs them, and how many turns and frames there are
 pub mod Fuel
 pub mod Stacking
 pub mod Spending
 pub mod Turning
 pub mod Depth
 pub mod Bound
+-- frames that sleep, and those that are ready
 mod Waking
 mod Bedding
+-- what a worker's turn answers, and the workers of an opening
 mod TurnsTold
 pub mod Crews

@@ -1,3 +1,7 @@
+-- Lemmas on frames and the core; what a file is for stands at its head. The first groups are about one frame, those from `GoneOn` on
+-- about what the core keeps, and those from `Given` on about its steps. `Names` and `QueueUse` are read before `Live` and `Rights`, and
+-- `LeftOver` before `Opening`.
+
 -- what a frame's ends serve, and what they show of it
 pub mod Shown
 -- a frame in the middle of a step, and after steps of its own
@@ -28,6 +32,7 @@ pub mod EndsLent
 pub mod MayEnd
 pub mod Giving
 pub mod Spawning
+-- how many frames there are, and a run that opens
 pub mod FewFrames
 pub mod Opening
 -- the order of faults
@@ -45,11 +50,13 @@ pub mod Asked
 pub mod Firsts
 pub mod Answered
 pub mod Tried
+-- steps at the core, by what they ask for: of objects, of queues, a child, a new place
 pub mod ObjectSteps
 pub mod AtQueues
 pub mod ChildGiven
 pub mod SpawnStep
 pub mod AtPlaces
+-- a core that begins, and what is left at the end
 pub mod Beginning
 pub mod Leaving
 -- the earliest live frame

@@ -1,2 +1,2 @@
--- What the contracts of this crate cite.
+-- What the tests' harness is stated by: when the objects allow a step's call, and which objects it leaves.
 pub mod Steps
