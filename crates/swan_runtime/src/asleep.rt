@@ -230,7 +230,8 @@ impl<B: Body, Q: Queues> Asleep<B, Q> {
         }
     }
 
-    /// The first live frame of those that were given before it what this one may pop. `O(k log n)` for k places; it takes no memory.
+    /// The first live frame of those that were given before it what this one may pop; None where there is none. `O(k log n)` for k places; it
+    /// takes no memory.
     fn popper_before(&self, number: u64) -> Option<u64>
         ensures { result ≡ popper_before self.now number }
     {
@@ -238,7 +239,7 @@ impl<B: Body, Q: Queues> Asleep<B, Q> {
         self.first_live(&row.before)
     }
 
-    /// The first of these that is live. `O(k log n)` for k of them; it takes no memory.
+    /// The first of these that is live; None where none is. `O(k log n)` for k of them; it takes no memory.
     fn first_live(&self, numbers: &[u64]) -> Option<u64>
         ensures { result ≡ find (is_live self.now) numbers.now }
     {

@@ -64,7 +64,7 @@ fn worker_of<B: Body, Q: Queues>(
     }
 }
 
-/// A worker for each seat of the lock.
+/// A worker for each seat of the lock. Err is want of memory. `O(seats)`, amortised.
 fn workers_at<B: Body, Q: Queues>(
     alloc: Global,
     lock: &Arc<NamedLock<SharedRun<B, Q>>>,
@@ -89,7 +89,7 @@ fn workers_at<B: Body, Q: Queues>(
     Ok(workers)
 }
 
-/// So many workers, one at least, over an opened core.
+/// So many workers, one at least, over an opened core. Err is want of memory. `O(workers)`.
 fn workers_of<B: Body, Q: Queues>(
     alloc: Global,
     opened: Opened<B, Q>,
@@ -110,7 +110,7 @@ fn workers_of<B: Body, Q: Queues>(
     workers_at(alloc, &lock, &body, seats)
 }
 
-/// The lock of workers.
+/// The lock of workers. Err is want of memory. `O(1)`.
 fn lock_of<B: Body, Q: Queues>(
     workers: &Vec<Worker<B, Q>>,
 ) -> Result<Arc<NamedLock<SharedRun<B, Q>>>, NoMemory>

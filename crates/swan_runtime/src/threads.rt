@@ -25,8 +25,8 @@ const SLEEP: u64 = 50;
 /// Runs a plan by as many workers as the shape says, each in a thread of its own where one can be made, and answers the outcome of the plan:
 /// that of the serial elision, for every number of workers and every interleaving. Err is want of memory.
 ///
-/// The gate is asked before each turn of a frame. How long it holds a worker isn't promised. It costs what the steps cost, and a hold
-/// of the run's lock for each step that a task can't take by itself.
+/// The gate is asked before each turn of a frame. How long it holds a worker isn't promised, nor that the call returns. It costs what the
+/// steps cost, and a hold of the run's lock for each step that a task can't take by itself.
 pub fn run<T: Threads + Wait + Clock + Sync, B: Body, G: Gate>(
     rt: &T,
     alloc: Global,

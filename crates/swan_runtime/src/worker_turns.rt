@@ -199,7 +199,8 @@ fn go_on<B: Body, Q: Queues>(
     }
 }
 
-/// Takes a turn with the frame in the slot, or with one that is ready.
+/// Takes a turn with the frame in the slot, or with one that is ready. What it answers, and when, `Worker::turn` says. It costs what its steps
+/// cost.
 pub(crate) fn take_turn<B: Body, Q: Queues, G: Gate>(
     alloc: Global,
     lock: &NamedLock<SharedRun<B, Q>>,

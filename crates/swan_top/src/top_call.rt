@@ -41,6 +41,8 @@ use swan_outside::{Files, Gate, Sink};
 /// never Faulted; a conversion has written its conversion, and the faults of the lines that are left out.
 ///
 /// A generated run reads no file, and its job is never refused: the call ends as the run does, or WriteFailed or NoMemory.
+/// A check ends after the job's rights: it writes the job in its canonical form, and runs nothing. The help and the version
+/// read nothing and run nothing.
 ///
 /// Where the words are a command, the texts that `files` tells are in order for it, and no count of faults
 /// rises, the call ends Done or Faulted as the elision says, or NoMemory.
@@ -52,7 +54,8 @@ use swan_outside::{Files, Gate, Sink};
 ///
 /// The contents are those that `files` tells, and what is said of written bytes holds where the sinks
 /// tell them. With one worker it starts no thread, asks no gate and returns. With several, they run in
-/// threads of `rt`, each asks `gate` before it goes on with a task, and no clause says that it returns.
+/// threads of `rt`, each asks `gate` before it goes on with a task, and no clause says that it returns. It costs what the
+/// reads, the run and the writes cost. Each file is read whole, and each text is made whole before any of it is written.
 #[tactic(auto, using(crate::proofs::Completeness::completes))]
 pub fn swan<T: Threads + Wait + Clock + Sync, F: Files, O: Sink, R: Sink, G: Gate>(
     rt: &T,

@@ -54,7 +54,7 @@ impl<Q: Queues> Means<Run> for RunOf<'_, Q> {
     ghost means = { λ of. Q.run of.queues.now };
 }
 
-/// Adds what the root holds of queues.
+/// Adds what the root holds of queues. Err is want of memory.
 fn hold_queues(holdings: &mut Vec<Holding>, queues: &[RootQueue]) -> Result<(), NoMemory>
     requires few { length queues.now ≤ ROOTS_MOST }
     ensures { OnOk result (holdings.new.items ≡ holdings.old.items ++ queue_holdings 0 queues.now) }
@@ -68,7 +68,7 @@ fn hold_queues(holdings: &mut Vec<Holding>, queues: &[RootQueue]) -> Result<(), 
     Ok(())
 }
 
-/// Adds what the root holds of objects.
+/// Adds what the root holds of objects. Err is want of memory.
 fn hold_objects(holdings: &mut Vec<Holding>, objects: &[Value]) -> Result<(), NoMemory>
     requires few { length objects.now ≤ ROOTS_MOST }
     ensures { OnOk result (holdings.new.items ≡ holdings.old.items ++ object_holdings 0 objects.now) }
@@ -82,7 +82,7 @@ fn hold_objects(holdings: &mut Vec<Holding>, objects: &[Value]) -> Result<(), No
     Ok(())
 }
 
-/// What the root holds: the queues, and then the objects. `O(roots)`.
+/// What the root holds: the queues, and then the objects. Err is want of memory. `O(roots)`, one allocation.
 fn held(alloc: Global, queues: &RootQueues, objects: &Values) -> Result<Vec<Holding>, NoMemory>
     requires few { length queues.now + length objects.now ≤ ROOTS_MOST }
     ensures { IfOk result (λ holdings. holdings.items ≡ queue_holdings 0 queues.now ++ object_holdings 0 objects.now) }

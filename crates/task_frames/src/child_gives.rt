@@ -13,8 +13,8 @@ use queues::QueueGive;
 use std::alloc::Global;
 use swan_model::{Gives, NoMemory};
 
-/// What a child holds by its gives, and None exactly where one who holds this may not give one of them so. `O(gives)`, one
-/// allocation.
+/// What a child holds by its gives, and None exactly where one who holds this may not give one of them so. Err is want of
+/// memory. `O(gives)`, one allocation.
 pub fn given(
     alloc: Global,
     holdings: &[Holding],
@@ -35,7 +35,7 @@ pub fn given(
     Ok(Some(held))
 }
 
-/// The queues among what is held, each with its mode. `O(holdings)`, amortised.
+/// The queues among what is held, each with its mode. Err is want of memory. `O(holdings)`, amortised.
 pub fn queue_gives(alloc: Global, holdings: &[Holding]) -> Result<Vec<QueueGive>, NoMemory>
     ensures { IfOk result (λ list. list.items ≡ queue_rights holdings.now) }
 {

@@ -56,7 +56,7 @@ impl Children {
         self.pairs.clear();
     }
 
-    /// The oldest child of the parent. `O(log n)`; it takes no memory.
+    /// The oldest child of the parent; None exactly where it has none. `O(log n)`; it takes no memory.
     #[tactic(auto, using(crate::proofs::Pairs::of_one_parent))]
     pub fn oldest(&self, parent: u64) -> Option<u64>
         ensures oldest { IfSome result (IsOldest self.now parent) }

@@ -378,7 +378,8 @@ impl<B: Body, Q: Queues> Frame<B, Q> {
     pub fn tear(self) {}
 }
 
-/// The queue that an ask is about, for one who holds this and may use it so. It takes no memory. `O(1)`.
+/// The queue that an ask is about, where that is a push, a pop or a test for emptiness of what one who holds this may use
+/// so. It takes no memory. `O(1)`.
 fn queue_of<L>(holdings: &[Holding], ask: &Ask<L>) -> Option<u32>
     ensures { result ≡ queue_of holdings.now ask.now }
 {

@@ -45,7 +45,7 @@ impl FramesByNumber {
         }
     }
 
-    /// The frame of a number. `O(log n)`, and `O(1)` for the newest one; it takes no memory.
+    /// The frame of a number; None exactly where there is none. `O(log n)`, and `O(1)` for the newest one; it takes no memory.
     pub fn get(&self, number: u64) -> Option<&LiveFrame>
         ensures { option_copied result ≡ live_at self.now number }
     {
@@ -103,7 +103,8 @@ impl FramesByNumber {
         }
     }
 
-    /// Takes a frame out. `O(log n)`, and `O(1)` for the newest one; it takes no memory.
+    /// Takes a frame out; None comes exactly where there is none, and nothing is changed then. `O(log n)`, and `O(1)` for the
+    /// newest one; it takes no memory.
     pub fn leave(&mut self, number: u64) -> Option<LiveFrame>
         ensures frame { result ≡ live_at self.old number }
         ensures gone { IsOnlyLive self.old self.new number None }
@@ -134,7 +135,7 @@ fn come_to(older: &mut BTreeMap<u64, LiveFrame>, number: u64, done: u64)
     }
 }
 
-/// Notes in the older frames that one holds one place more. `O(log n)`, amortised.
+/// Notes in the older frames that one holds one place more. Err is want of memory, and changes nothing. `O(log n)`, amortised.
 fn hold(older: &mut BTreeMap<u64, LiveFrame>, number: u64, holding: Holding) -> Result<(), NoMemory>
     ensures ok { OnOk result (IsOnlyLive older.old.entries older.new.entries number (option_map (holding_too holding) (live_at older.old.entries number))) }
     ensures err { OnErr result (IsOnlyLive older.old.entries older.new.entries number (live_at older.old.entries number)) }

@@ -84,7 +84,7 @@ impl LiveRecord {
         }
     }
 
-    /// The live frame of a number. `O(log n)`; it takes no memory.
+    /// The live frame of a number; None exactly where there is none. `O(log n)`; it takes no memory.
     pub fn get(&self, number: u64) -> Option<&LiveFrame>
         ensures some { IfSome result (λ frame. live_at self.now number ≡ Some frame.now) }
         ensures none { IfNone result (live_at self.now number ≡ None) }
@@ -169,7 +169,7 @@ impl LiveRecord {
     }
 }
 
-/// Adds a child to the frames and to the children.
+/// Adds a child to the frames and to the children. Err is want of memory.
 fn add(
     frames: &mut FramesByNumber,
     children: &mut Children,

@@ -18,7 +18,7 @@ pub struct Row<L> {
 }
 
 /// Takes steps of work in a row, of a task that is told this answer first and has so much fuel: so many as the budget,
-/// or up to a step that asks for something else, or with all the fuel. It costs what the steps cost.
+/// or up to a step that asks for something else, or with all the fuel. Err is want of memory. It costs what the steps cost.
 pub fn take_row<B: Body>(
     alloc: Global,
     body: &B,

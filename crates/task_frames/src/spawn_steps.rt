@@ -41,15 +41,15 @@ impl<B: Body> MidStep<B> {
         self.staged.task.path.parts().len()
     }
 
-    /// What a child holds by these gives, and None exactly where the frame may not give one of them so. `O(gives)`, one
-    /// allocation.
+    /// What a child holds by these gives, and None exactly where the frame may not give one of them so. Err is want of
+    /// memory. `O(gives)`, one allocation.
     fn given(&self, alloc: Global, gives: &Gives) -> Result<Option<Vec<Holding>>, NoMemory>
         ensures { IfOk result (λ held. option_map (λ list. list.items) held ≡ given self.now.task.holdings gives.now) }
     {
         given(alloc, self.staged.task.holdings.as_slice(), gives)
     }
 
-    /// The path of its next child. `O(depth)`.
+    /// The path of its next child. Err is want of memory. `O(depth)`.
     fn child_path(&self) -> Result<Path, NoMemory>
         requires { length self.now.task.path < DEPTH }
         ensures { IfOk result (λ path. path ≡ self.now.task.path ++ self.now.task.children ∷ []) }

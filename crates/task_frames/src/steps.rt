@@ -1,7 +1,7 @@
 // Numbers of serial steps.
 ghost use Rattle.std.specs.Prelude.{◌≡◌, ◌+◌, ◌<◌, ◌^◌};
 
-/// A number of serial steps that were taken. Only the calls of this crate that take steps make one.
+/// A number of serial steps that were taken. Only the calls of this crate that take steps make one, and `add` puts two together.
 #[derive(Drop)]
 pub struct Steps {
     count: u64,
