@@ -26,9 +26,5 @@ pub use book::BookQueues;
 use live_frame::{LiveFrame, OwnChunk};
 pub use no_ends::NoEnds;
 use node::ChunkNode;
-pub use queues::{
-    LocalEnds, Popped, QueueGive, Queues, Tested, WaitFor, a_turn_stays, active_frames_stay,
-    calls_follow, counts_go_on, frames_stay_a_tree, next_deeds_agree, owners_stay,
-    points_of_queues_agree, readings_go_on, spawners_have_their_turns, turns_stay,
-    turns_tell_who_may_pop, what_is_taken_goes_on,
-};
+pub use queues::Queues;
+use queues::{LocalEnds, Popped, QueueGive, Tested, WaitFor};
