@@ -62,9 +62,8 @@ module _ (frames : Frames) (parent child : ℕ) (holding : Holding) (rising : Ar
   grown_at : (found : Option Frame) → frame_at frames child ≡ found → may_get found parent holding.number ≡ true
       → IsGrown frames (enlisted_at frames parent child holding found) parent child holding
   grown_at None e fits = record {
-    others = λ n apart. by_inserted frames child _ n apart;
     frame = record { parent = parent; holdings = holding ∷ []; lent = false };
-    active = at_inserted frames child _;
+    one = record { changed = at_inserted frames child _; others = λ n apart. by_inserted frames child _ n apart };
     of = refl;
     was_of = λ other is. absurd (none_or_some e is);
     held = λ queue mode held. inr (lets_parts queue mode holding (one_lets queue mode holding held));
@@ -73,9 +72,8 @@ module _ (frames : Frames) (parent child : ℕ) (holding : Holding) (rising : Ar
     childless = childless frames child rising newest;
   }
   grown_at (Some f) e fits = record {
-    others = λ n apart. by_set frames child f _ n e apart;
     frame = record f { holdings = f.holdings ++ holding ∷ [] };
-    active = at_set frames child f _ e;
+    one = record { changed = at_set frames child f _ e; others = λ n apart. by_set frames child f _ n e apart };
     of = eq_of f.parent parent (and_parts _ _ fits).0;
     was_of = λ other is. sym is.of ∙ ap (λ (g : Frame). g.parent) (same_frame (frame_at frames child) is.frame f is.active e) ∙ eq_of f.parent parent (and_parts _ _ fits).0;
     held = λ queue mode held. elim (more_lets f.holdings queue mode holding held) [
@@ -99,9 +97,9 @@ module _ (frames : Frames) (parent child : ℕ) (holding : Holding) (rising : Ar
         | inl same ↦
             let P : ℕ → Type 0 = λ k. IsChild (enlisted frames parent child holding) p k in
             let is_child = subst P same is in
-            let one : p ≡ parent = sym is_child.of ∙ ap (λ (g : Frame). g.parent) (same_frame (frame_at (enlisted frames parent child holding) child) is_child.frame grown.frame is_child.active grown.active) ∙ grown.of in
+            let one : p ≡ parent = sym is_child.of ∙ ap (λ (g : Frame). g.parent) (same_frame (frame_at (enlisted frames parent child holding) child) is_child.frame grown.frame is_child.active grown.one.changed) ∙ grown.of in
             omega arith
-        | inr apart ↦ rising p n (record { frame = is.frame; active = sym (grown.others n apart) ∙ is.active; of = is.of })
+        | inr apart ↦ rising p n (record { frame = is.frame; active = sym (grown.one.others n apart) ∙ is.active; of = is.of })
       ]
 
 -- ---- giving back
@@ -109,8 +107,7 @@ module _ (frames : Frames) (parent child : ℕ) (holding : Holding) (rising : Ar
 pub shrunk_without : (frames : Frames) (parent child : ℕ) → IsStrictlySortedBy nat_cmp (keys_of frames) → IsChild frames parent child → HasNoChild frames child
     → IsShrunk frames (without frames child) parent child
 shrunk_without frames parent child sorted is none = record {
-  others = λ n apart. by_removed frames child n sorted apart;
-  gone = at_removed frames child sorted;
+  one = record { changed = at_removed frames child sorted; others = λ n apart. by_removed frames child n sorted apart };
   was = is;
   childless = λ n below. not_true (below.frame.parent == child) (found_passes (λ f. not (f.1.parent == child)) frames n below.frame none below.active)
       (let P : ℕ → Type 0 = λ k. (below.frame.parent == k) ≡ true in subst P below.of (eq_same below.frame.parent));
@@ -119,8 +116,8 @@ shrunk_without frames parent child sorted is none = record {
 pub below_shrunk : (before after : Frames) (parent child : ℕ) → IsShrunk before after parent child → AreBelowParents before → AreBelowParents after
 below_shrunk before after parent child shrunk rising p n is =
     elim (cases_eq n child) [
-      | inl same ↦ absurd (none_or_some shrunk.gone (let P : ℕ → Type 0 = λ k. IsChild after p k in subst P same is))
-      | inr apart ↦ rising p n (record { frame = is.frame; active = sym (shrunk.others n apart) ∙ is.active; of = is.of })
+      | inl same ↦ absurd (none_or_some shrunk.one.changed (let P : ℕ → Type 0 = λ k. IsChild after p k in subst P same is))
+      | inr apart ↦ rising p n (record { frame = is.frame; active = sym (shrunk.one.others n apart) ∙ is.active; of = is.of })
     ]
 
 -- ---- lending

@@ -38,41 +38,41 @@ module _ (before after : Frames) (parent child : ℕ) (holding : Holding) (grown
         let P : ℕ → Type 0 = λ k. IsChild before p k in
         let one = grown.was_of p (subst P same is) in
         let Q : ℕ → Type 0 = λ k. frame_at after k ≡ Some grown.frame in
-        record { frame = grown.frame; active = subst Q (sym same) grown.active; of = grown.of ∙ sym one }
-    | inr apart ↦ record { frame = is.frame; active = grown.others n apart ∙ is.active; of = is.of }
+        record { frame = grown.frame; active = subst Q (sym same) grown.one.changed; of = grown.of ∙ sym one }
+    | inr apart ↦ record { frame = is.frame; active = grown.one.others n apart ∙ is.active; of = is.of }
   ]
 
   child_before : (p n : ℕ) → n ≢ child → IsChild after p n → IsChild before p n
-  child_before p n apart is = record { frame = is.frame; active = sym (grown.others n apart) ∙ is.active; of = is.of }
+  child_before p n apart is = record { frame = is.frame; active = sym (grown.one.others n apart) ∙ is.active; of = is.of }
 
   holder_after : (q : ℕ) (m : Mode) (n : ℕ) → IsHolder before q m n → IsHolder after q m n
   holder_after q m n is = elim (cases_eq n child) [
     | inl same ↦
         let P : ℕ → Type 0 = λ k. IsHolder before q m k in
         let Q : ℕ → Type 0 = λ k. frame_at after k ≡ Some grown.frame in
-        record { frame = grown.frame; active = subst Q (sym same) grown.active; held = grown.still q m (subst P same is) }
-    | inr apart ↦ record { frame = is.frame; active = grown.others n apart ∙ is.active; held = is.held }
+        record { frame = grown.frame; active = subst Q (sym same) grown.one.changed; held = grown.still q m (subst P same is) }
+    | inr apart ↦ record { frame = is.frame; active = grown.one.others n apart ∙ is.active; held = is.held }
   ]
 
   holder_before : (q : ℕ) (m : Mode) (n : ℕ) → n ≢ child → IsHolder after q m n → IsHolder before q m n
-  holder_before q m n apart is = record { frame = is.frame; active = sym (grown.others n apart) ∙ is.active; held = is.held }
+  holder_before q m n apart is = record { frame = is.frame; active = sym (grown.one.others n apart) ∙ is.active; held = is.held }
 
   its_parent : (p : ℕ) → IsChild after p child → p ≡ parent
   its_parent p is =
-      sym is.of ∙ ap (λ (f : Frame). f.parent) (same_frame (frame_at after child) is.frame grown.frame is.active grown.active) ∙ grown.of
+      sym is.of ∙ ap (λ (f : Frame). f.parent) (same_frame (frame_at after child) is.frame grown.frame is.active grown.one.changed) ∙ grown.of
 
   -- what the child holds, it held before or was given now
   its_queues : (q : ℕ) (m : Mode) → IsHolder after q m child → IsHolder before q m child ⊎ ((holding.number ≡ q) × (allows holding.mode m ≡ true))
   its_queues q m is =
       let P : Frame → Type 0 = λ f. holds f.holdings q m ≡ true in
-      grown.held q m (subst P (same_frame (frame_at after child) is.frame grown.frame is.active grown.active) is.held)
+      grown.held q m (subst P (same_frame (frame_at after child) is.frame grown.frame is.active grown.one.changed) is.held)
 
   was_child : (q : ℕ) (m : Mode) → IsHolder before q m child → IsChild before parent child
   was_child q m is =
       record { frame = is.frame; active = is.active; of = grown.was_of is.frame.parent (record { frame = is.frame; active = is.active; of = refl }) }
 
   child_now : IsChild after parent child
-  child_now = record { frame = grown.frame; active = grown.active; of = grown.of }
+  child_now = record { frame = grown.frame; active = grown.one.changed; of = grown.of }
 
   pub holders_with : (m : Mode) (q : ℕ) (set more : List Entry) → HasHolders before m q set → allows holding.mode m ≡ true
       → IsWith set parent holding.number child more → HasHolders after m q more
@@ -84,7 +84,7 @@ module _ (before after : Frames) (parent child : ℕ) (holding : Holding) (grown
           let R : ℕ → Type 0 = λ k. IsHolder after k m child in
           subst P same.parents (subst Q same.children (
             child_now,
-            subst R same.queues (record { frame = grown.frame; active = grown.active; held = grown.new m allowed }),
+            subst R same.queues (record { frame = grown.frame; active = grown.one.changed; held = grown.new m allowed }),
           ))
       | inr was ↦ let h = holders.holders p c was in (child_after p c h.0, holder_after q m c h.1)
     ];
@@ -172,7 +172,7 @@ module _ (before after : Frames) (parent child : ℕ) (holding : Holding) (grown
             subst S same.1 (
               child,
               now_pushes.all parent child child_now
-                  (subst H same.0 (record { frame = grown.frame; active = grown.active; held = grown.new Push may })),
+                  (subst H same.0 (record { frame = grown.frame; active = grown.one.changed; held = grown.new Push may })),
             )
         | inr was ↦ let c = kept.made n was in (c.0, grew n c.0 c.1)
       ];

@@ -16,21 +16,21 @@ use Rattle.pop_order.proofs.Meeting.{none_or_some}
 
 module _ (before after : Frames) (parent child : ℕ) (shrunk : IsShrunk before after parent child) where
   not_child : (p n : ℕ) → IsChild after p n → n ≢ child
-  not_child p n is same = none_or_some shrunk.gone (let P : ℕ → Type 0 = λ k. IsChild after p k in subst P same is)
+  not_child p n is same = none_or_some shrunk.one.changed (let P : ℕ → Type 0 = λ k. IsChild after p k in subst P same is)
 
   child_after : (p n : ℕ) → n ≢ child → IsChild before p n → IsChild after p n
-  child_after p n apart is = record { frame = is.frame; active = shrunk.others n apart ∙ is.active; of = is.of }
+  child_after p n apart is = record { frame = is.frame; active = shrunk.one.others n apart ∙ is.active; of = is.of }
 
   child_before : (p n : ℕ) → IsChild after p n → IsChild before p n
-  child_before p n is = record { frame = is.frame; active = sym (shrunk.others n (not_child p n is)) ∙ is.active; of = is.of }
+  child_before p n is = record { frame = is.frame; active = sym (shrunk.one.others n (not_child p n is)) ∙ is.active; of = is.of }
 
   holder_after : (q : ℕ) (m : Mode) (n : ℕ) → n ≢ child → IsHolder before q m n → IsHolder after q m n
-  holder_after q m n apart is = record { frame = is.frame; active = shrunk.others n apart ∙ is.active; held = is.held }
+  holder_after q m n apart is = record { frame = is.frame; active = shrunk.one.others n apart ∙ is.active; held = is.held }
 
   holder_before : (q : ℕ) (m : Mode) (n : ℕ) → IsHolder after q m n → IsHolder before q m n
   holder_before q m n is =
       let as_child : IsChild after is.frame.parent n = record { frame = is.frame; active = is.active; of = refl } in
-      record { frame = is.frame; active = sym (shrunk.others n (not_child is.frame.parent n as_child)) ∙ is.active; held = is.held }
+      record { frame = is.frame; active = sym (shrunk.one.others n (not_child is.frame.parent n as_child)) ∙ is.active; held = is.held }
 
   -- an entry of the child is the one that names its parent
   its_entry : (p q c : ℕ) → c ≡ child → IsChild before p c → IsSame parent q child p q c

@@ -1,5 +1,6 @@
 -- What the contracts of this crate cite, in the order to read it. First what the calls and the law say: the frames, their order
 -- in a tree, how a reading sees them, and who may pop.
+pub mod OneChange
 pub mod Frames
 pub mod Order
 pub mod Readings

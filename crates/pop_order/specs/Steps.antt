@@ -1,20 +1,20 @@
 -- How the frames differ after a child was given a queue, and after it was given back.
-use Rattle.std.specs.Prelude.{◌≡◌, ◌≢◌, ℕ, Bool, true, None, Some, List, ◌==◌, ◌⊎◌}
+use Rattle.std.specs.Prelude.{◌≡◌, ℕ, Bool, true, None, Some, List, ◌==◌, ◌⊎◌}
 use Rattle.std.specs.List.{list_any}
 use Rattle.swan_model.specs.Rights.{allows}
 use Rattle.swan_model.specs.SerialState.{Holding}
 use Rattle.swan_model.specs.declared.rights.Mode.{Mode}
 use Rattle.swan_model.specs.declared.rights.Mode.TheVariants.{Push}
 use Rattle.pop_order.specs.Frames.{Frame, Frames, frame_at, holds}
+use Rattle.pop_order.specs.OneChange.{IsOnlyChange}
 use Rattle.pop_order.specs.Order.{IsChild}
 use Rattle.pop_order.specs.Turns.{IsHolder}
 use Rattle.pop_order.specs.Makers.{Maker, IsMakerIn}
 
 -- A child without children was given one more queue, and all other frames are as they were.
 pub record IsGrown (before after : Frames) (parent child : ℕ) (holding : Holding) : Type 0 where
-  pub others : (number : ℕ) → number ≢ child → frame_at after number ≡ frame_at before number
   pub frame : Frame
-  pub active : frame_at after child ≡ Some frame
+  pub one : IsOnlyChange (frame_at before) (frame_at after) child (Some frame)
   pub of : frame.parent ≡ parent
   pub was_of : (other : ℕ) → IsChild before other child → other ≡ parent
   pub held : (queue : ℕ) (mode : Mode) → holds frame.holdings queue mode ≡ true
@@ -25,8 +25,7 @@ pub record IsGrown (before after : Frames) (parent child : ℕ) (holding : Holdi
 
 -- A child without children is gone, and all other frames are as they were.
 pub record IsShrunk (before after : Frames) (parent child : ℕ) : Type 0 where
-  pub others : (number : ℕ) → number ≢ child → frame_at after number ≡ frame_at before number
-  pub gone : frame_at after child ≡ None
+  pub one : IsOnlyChange (frame_at before) (frame_at after) child None
   pub was : IsChild before parent child
   pub childless : (number : ℕ) → ¬ IsChild before child number
 

@@ -17,7 +17,7 @@ use Rattle.queue_book.specs.Chains.{Link, AreChained, in_line}
 use Rattle.queue_book.specs.Fronts.{IsFrontTold, IsTurnTold}
 use Rattle.queue_book.specs.KeptFrames.{KeptFrame}
 use Rattle.queue_book.specs.Live.{kept_of, key_at, lent_of, IsFrame}
-use Rattle.queues.specs.OneChange.{IsOnlyChange}
+use Rattle.pop_order.specs.OneChange.{IsOnlyChange}
 use Rattle.queue_book.specs.Whole.{IsBook, IsPlain}
 use Rattle.queues.specs.declared.answers.Tested.TheVariants as tested
 use Rattle.queue_book.specs.declared.live_frames.LiveFrames.{LiveFrames}

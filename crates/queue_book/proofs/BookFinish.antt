@@ -17,7 +17,7 @@ use Rattle.queue_book.specs.Chains.{Link, AreChained}
 use Rattle.queue_book.specs.Ended.{line_after_end, lines_after_end, own_keys, IsAlone}
 use Rattle.queue_book.specs.KeptFrames.{KeptFrame, own_chunk_in}
 use Rattle.queue_book.specs.Live.{kept_of, key_at, key_in, IsFrame}
-use Rattle.queues.specs.OneChange.{IsOnlyChange}
+use Rattle.pop_order.specs.OneChange.{IsOnlyChange}
 use Rattle.queues.specs.Tree.{IsTree, has_queue, maker_path, IsInUse}
 use Rattle.queue_book.specs.Whole.{IsBook, IsLine, IsPlain}
 use Rattle.queue_book.specs.declared.live_frame.OwnChunk.{OwnChunk}

@@ -17,7 +17,7 @@ use Rattle.queues.specs.Chunks.{own}
 use Rattle.queue_book.specs.Chains.{Link, AreChained, in_line, put_at}
 use Rattle.queue_book.specs.KeptFrames.{KeptFrame, own_chunk_in}
 use Rattle.queue_book.specs.Live.{kept_of, key_at, lent_of, with_own_chunk, IsFrame}
-use Rattle.queues.specs.OneChange.{IsOnlyChange}
+use Rattle.pop_order.specs.OneChange.{IsOnlyChange}
 use Rattle.queue_book.specs.Made.{IsMadeIn}
 use Rattle.queues.specs.Tree.{has_queue, maker_path}
 use Rattle.queue_book.specs.Whole.{IsBook, IsPlain}

@@ -9,7 +9,7 @@ use Rattle.queue_book.specs.declared.live_frame.OwnChunk.{OwnChunk}
 use Rattle.queue_book.specs.declared.live_frames.LiveFrames.{LiveFrames}
 use Rattle.queue_book.specs.KeptFrames.{KeptFrame, own_chunk_in}
 use Rattle.queue_book.specs.Live.{kept_of, key_in, key_at, own_chunk_at, own_chunk_of, Agrees, AreLive, IsFrame}
-use Rattle.queues.specs.OneChange.{IsOnlyChange}
+use Rattle.pop_order.specs.OneChange.{IsOnlyChange}
 
 -- the makers of older queues are the same
 abbrev pub SameMakers : QueueState → QueueState → Type 0

@@ -9,7 +9,7 @@ use Rattle.swan_model.specs.QueueState.{ActiveFrame, QueueRight, with_made}
 use Rattle.queue_book.specs.Chains.{put_at}
 use Rattle.queue_book.specs.KeptFrames.{KeptFrame, own_chunk_in}
 use Rattle.queue_book.specs.Live.{kept_of, key_at, key_in, with_own_chunk}
-use Rattle.queues.specs.OneChange.{IsOnlyChange}
+use Rattle.pop_order.specs.OneChange.{IsOnlyChange}
 use Rattle.queues.specs.Tree.{has_queue}
 use Rattle.queue_book.specs.declared.live_frame.OwnChunk.{OwnChunk}
 use Rattle.queue_book.specs.declared.live_frames.LiveFrames.{LiveFrames}

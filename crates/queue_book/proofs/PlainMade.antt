@@ -15,7 +15,7 @@ use Rattle.queues.specs.Chunks.{Chunks, own, HasOwners, Matches}
 use Rattle.queue_book.specs.Chains.{in_line}
 use Rattle.queues.specs.Tree.{SpawnersHaveTurns, IsTree, has_queue, maker_path, IsInUse}
 use Rattle.queue_book.specs.Whole.{IsLine, IsPlain}
-use Rattle.queues.specs.OneChange.{IsOnlyChange}
+use Rattle.pop_order.specs.OneChange.{IsOnlyChange}
 use Rattle.queues.proofs.ActiveAfter.{one_changed, one_goes_on}
 use Rattle.queues.proofs.Creating.{created_follows, root_created_follows}
 use Rattle.queues.proofs.Frames.{same_frame}

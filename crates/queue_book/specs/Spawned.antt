@@ -10,7 +10,7 @@ use Rattle.queue_book.specs.Handed.{AreGiven}
 use Rattle.queues.specs.Turned.{gives_queue, AreApart}
 use Rattle.queue_book.specs.KeptFrames.{KeptFrame, OwnChunks, own_chunk_in}
 use Rattle.queue_book.specs.Live.{kept_of}
-use Rattle.queues.specs.OneChange.{IsOnlyChange}
+use Rattle.pop_order.specs.OneChange.{IsOnlyChange}
 use Rattle.queue_book.specs.declared.live_frames.LiveFrames.{LiveFrames}
 
 -- The parent is kept and has a place for each queue that it gives; each is given once, by a mode of queues; and the child is

@@ -6,7 +6,7 @@ ghost use Rattle.queue_book.specs.Chains.{in_line, put_at, AreChained};
 ghost use Rattle.queue_book.specs.Ended.{line_after_end, lines_after_end, own_keys, IsAlone};
 ghost use Rattle.queue_book.specs.KeptFrames.{KeptFrame, own_chunk_in};
 ghost use Rattle.queue_book.specs.Live.{kept_of};
-ghost use Rattle.queues.specs.OneChange.{IsOnlyChange};
+ghost use Rattle.pop_order.specs.OneChange.{IsOnlyChange};
 ghost use Rattle.queue_book.specs.declared.live_frame.OwnChunk.{OwnChunk as Held};
 
 use crate::OwnChunk;

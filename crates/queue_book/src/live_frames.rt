@@ -3,7 +3,7 @@ ghost use Rattle.std.specs.Prelude.{◌≡◌, ◌≢◌, ℕ, ◌+◌, ◌<◌,
 ghost use Rattle.std.specs.Option.{option_copied, option_map};
 ghost use Rattle.queues.specs.Asks.{DEEDS_MOST};
 ghost use Rattle.queue_book.specs.Live.{is_lent_with, kept_of, own_chunk_at, with_own_chunk};
-ghost use Rattle.queues.specs.OneChange.{IsOnlyChange};
+ghost use Rattle.pop_order.specs.OneChange.{IsOnlyChange};
 ghost use Rattle.queue_book.specs.KeptFrames.{KeptFrame};
 
 use crate::{LiveFrame, OwnChunk};

@@ -5,7 +5,7 @@ use Rattle.std.specs.List.{find}
 use Rattle.std.specs.Option.{option_map}
 use Rattle.swan_model.specs.QueueState.{ActiveFrame, QueueRight, QueueState, active, after_finish, after_spawn, changed, changing, child_of, with_deed}
 use Rattle.swan_model.proofs.Elements.{find_map}
-use Rattle.queues.specs.OneChange.{IsOnlyChange}
+use Rattle.pop_order.specs.OneChange.{IsOnlyChange}
 use Rattle.queues.proofs.FramesChanged.{find_last, find_others, find_gone}
 use Rattle.queues.proofs.Frames.{active_number}
 

@@ -76,25 +76,27 @@ no_turn turns child newest = by (frame_at turns child) refl where
 
 -- before the first give
 pub turns_given_none : (turns : Frames) (parent child : ℕ) → ((number : ℕ) (turn : Frame) → frame_at turns number ≡ Some turn → number < child) → AreGivenTurns turns turns parent child []
-turns_given_none turns parent child newest = record { turn = no_turn turns child newest; others = λ other apart. refl; apart = λ apart. apart }
+turns_given_none turns parent child newest = record { one = record { changed = no_turn turns child newest; others = λ other apart. refl }; apart = λ apart. apart }
 
 module _ (before now : Frames) (parent child : ℕ) (gives : List QueueRight) where
   -- the child is still the newest
   pub turns_newest : ((number : ℕ) (turn : Frame) → frame_at before number ≡ Some turn → number < child) → AreApart before → AreGivenTurns before now parent child gives → AreUpTo now child
   turns_newest newest apart is = up_to now child (is.apart apart) (λ m turn found. elim (cases_eq m child) [
     | inl same ↦ omega arith
-    | inr other ↦ let less = newest m turn (sym (is.others m other) ∙ found) in omega arith
+    | inr other ↦ let less = newest m turn (sym (is.one.others m other) ∙ found) in omega arith
   ])
 
   module _ (is : AreGivenTurns before now parent child gives) where
     -- it may get a queue that it wasn't given yet
     pub turns_may_get : (queue : ℕ) → gives_queue gives queue ≡ false → MayGet now parent child queue
-    turns_may_get queue fresh = ap (λ o. may_get o parent queue) is.turn ∙ may_get_more parent gives queue fresh
+    turns_may_get queue fresh = ap (λ o. may_get o parent queue) is.one.changed ∙ may_get_more parent gives queue fresh
 
     -- and then it was given one more
     pub turns_given_more : (give : QueueRight) → AreGivenTurns before (enlisted now parent child (holding_of give)) parent child (gives ++ give ∷ [])
     turns_given_more give = record {
-      turn = turn_now now parent child gives give is.turn;
-      others = λ other apart. turn_others now parent child gives give is.turn other apart ∙ is.others other apart;
+      one = record {
+        changed = turn_now now parent child gives give is.one.changed;
+        others = λ other apart. turn_others now parent child gives give is.one.changed other apart ∙ is.one.others other apart;
+      };
       apart = λ apart. apart_enlisted now parent child (holding_of give) (is.apart apart);
     }

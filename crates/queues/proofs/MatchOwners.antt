@@ -10,7 +10,7 @@ use Rattle.swan_model.specs.QueueState.{ActiveFrame, QueueState, active}
 use Rattle.queues.specs.Chunks.{Chunk, Chunks, HasItems, HasOwners, HasTaken, IsOwner, ends_at, goes_on_at, goes_on_popping, is_owned, owner_of, pops_at}
 use Rattle.queues.specs.Chunks.HasItems.{over as items_over, chunk as items_chunk}
 use Rattle.queues.specs.Chunks.HasTaken.{over as taken_over, chunk as taken_chunk}
-use Rattle.queues.specs.OneChange.{IsOnlyChange}
+use Rattle.pop_order.specs.OneChange.{IsOnlyChange}
 use Rattle.queues.proofs.MatchParts.{ItemsFrom, TakenFrom, owner_at}
 use Rattle.queues.proofs.MatchSame.{AreSame, Tell, counts_itself, items_same, pops_itself, taken_same, tell_equal}
 

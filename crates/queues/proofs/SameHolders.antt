@@ -4,7 +4,7 @@ use Rattle.std.proofs.lemmas.Bool.{cases_eq}
 use Rattle.std.specs.List.{list_any}
 use Rattle.std.specs.Prelude.{◌==◌, true}
 use Rattle.swan_model.specs.QueueState.{ActiveFrame, QueueMaker, QueueState, QueueRight, LentEnd, active, after_back, after_deed, after_lend, after_take_rest, with_deed}
-use Rattle.queues.specs.OneChange.{IsOnlyChange}
+use Rattle.pop_order.specs.OneChange.{IsOnlyChange}
 use Rattle.queues.specs.Tree.{IsInUse}
 use Rattle.queues.proofs.ActiveAfter.{one_changed, one_goes_on}
 

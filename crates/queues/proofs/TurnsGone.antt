@@ -9,7 +9,7 @@ use Rattle.pop_order.proofs.Flags.{and_both}
 use Rattle.pop_order.specs.Frames.{Frame, Frames, frame_at, without, HasNoChild}
 use Rattle.swan_model.specs.QueueState.{QueueMaker, QueueState, active, IsActiveChild}
 use Rattle.queues.specs.Turned.{AreApart, AreTurns}
-use Rattle.queues.specs.OneChange.{IsOnlyChange}
+use Rattle.pop_order.specs.OneChange.{IsOnlyChange}
 use Rattle.swan_model.proofs.Lookups.{tied, untied, equal_at}
 
 gone_at : (es : Frames) (k : ℕ) → AreApart es → frame_at (without es k) k ≡ None

@@ -9,7 +9,7 @@ use Rattle.swan_model.proofs.Elements.{last_more}
 use Rattle.queues.specs.Asks.{MayDo}
 use Rattle.queues.specs.Tree.{IsTree, maker_path}
 use Rattle.queues.specs.Turned.{AreTurns}
-use Rattle.queues.specs.OneChange.{IsOnlyChange}
+use Rattle.pop_order.specs.OneChange.{IsOnlyChange}
 use Rattle.queues.proofs.ActiveAfter.{one_changed, one_goes_on}
 use Rattle.queues.proofs.Frames.{has_held, same_frame}
 use Rattle.queues.proofs.FramesChanged.{get_front}

@@ -75,14 +75,14 @@ module _ (state : QueueState) (tree : IsTree state) (turns : Frames) (is : AreTu
             → (frame : ActiveFrame) × (active after m ≡ Some frame) × (frame.parent ≡ Some turn.parent)
             × ((queue : ℕ) (mode : Mode) → holds turn.holdings queue mode ≡ true → holds_queue frame queue mode ≡ true)
         by (inl is_child) c =
-            let told = turn_known p gives turn (sym given.turn ∙ ap (frame_at then_turns) (sym is_child) ∙ at) in (
+            let told = turn_known p gives turn (sym given.one.changed ∙ ap (frame_at then_turns) (sym is_child) ∙ at) in (
               child_of may.act.frame child gives,
               ap (active after) is_child ∙ child_live,
               ap Some (active_number state p may.act.frame may.act.may.live ∙ sym told.0),
               told.1,
             )
         by (inr apart) (inl is_parent) =
-            let was = is.known m turn (sym (given.others m apart) ∙ at) in
+            let was = is.known m turn (sym (given.one.others m apart) ∙ at) in
             let same : was.0 ≡ may.act.frame = same_frame (active state p) was.0 may.act.frame (ap (active state) (sym is_parent) ∙ was.1) may.act.may.live in (
               parent_now,
               ap (active after) is_parent ∙ parent_live,
@@ -90,7 +90,7 @@ module _ (state : QueueState) (tree : IsTree state) (turns : Frames) (is : AreTu
               λ queue mode held. ap (λ (g : ActiveFrame). holds_queue g queue mode) (sym same) ∙ was.3 queue mode held,
             )
         by (inr apart) (inr other) =
-            let was = is.known m turn (sym (given.others m apart) ∙ at) in
+            let was = is.known m turn (sym (given.one.others m apart) ∙ at) in
             (was.0, other_live m other apart ∙ was.1, was.2, was.3)
 
       all_now : (m above q : ℕ) (mode : Mode) (one : ActiveFrame) → active after m ≡ Some one → one.parent ≡ Some above
@@ -105,13 +105,13 @@ module _ (state : QueueState) (tree : IsTree state) (turns : Frames) (is : AreTu
             let told = turn_some p gives q mode (ap (λ (g : ActiveFrame). holds_queue g q mode) (sym same) ∙ held) in
             let both : Some may.act.frame.number ≡ Some above = ap (λ (g : ActiveFrame). g.parent) (sym same) ∙ of in
             let number : may.act.frame.number ≡ above = cc in
-            (told.0, ap (frame_at then_turns) is_child ∙ given.turn ∙ told.1, told.2 ∙ sym (active_number state p may.act.frame may.act.may.live) ∙ number, told.3)
+            (told.0, ap (frame_at then_turns) is_child ∙ given.one.changed ∙ told.1, told.2 ∙ sym (active_number state p may.act.frame may.act.may.live) ∙ number, told.3)
         by (inr apart) (inl is_parent) =
             let same : one ≡ parent_now =
             same_frame (active after p) one parent_now (ap (active after) (sym is_parent) ∙ live) parent_live in
             let turn = is.all m above q mode may.act.frame (ap (active state) is_parent ∙ may.act.may.live) (ap (λ (g : ActiveFrame). g.parent) (sym same) ∙ of)
             (ap (λ (g : ActiveFrame). holds_queue g q mode) (sym same) ∙ held) (λ maker made own. foreign maker made (ap (λ (g : ActiveFrame). g.path) same ∙ own)) in
-            (turn.0, given.others m apart ∙ turn.1, turn.2, turn.3)
+            (turn.0, given.one.others m apart ∙ turn.1, turn.2, turn.3)
         by (inr apart) (inr other) =
             let turn = is.all m above q mode one (sym (other_live m other apart) ∙ live) of held foreign in
-            (turn.0, given.others m apart ∙ turn.1, turn.2, turn.3)
+            (turn.0, given.one.others m apart ∙ turn.1, turn.2, turn.3)

@@ -4,9 +4,8 @@ pub mod Asks
 pub mod Ends
 pub mod Tells
 pub mod Reads
--- What each form has to show of a state, whatever it is kept in: what a call changes of what is known by numbers, what the
--- frames keep of each other, their turns, and a queue as its chunks in serial order, whose they are and what stands in them.
-pub mod OneChange
+-- What each form has to show of a state, whatever it is kept in: what the frames keep of each other, their turns, and a queue
+-- as its chunks in serial order, whose they are and what stands in them.
 pub mod Tree
 pub mod Turned
 pub mod Chunks

@@ -8,7 +8,7 @@ use Rattle.swan_model.specs.declared.script.Script.{Script}
 use Rattle.swan_model.specs.Lawful.{IsLawful}
 use Rattle.swan_model.specs.QueueFollows.{NextSpawnGivesQueues, QueuesFollow, queue_origin}
 use Rattle.swan_model.specs.QueueState.{ActiveFrame, QueueMaker, planned, made_by, QueueState, active, holds_queue, HasTurn, IsOfRoot, MayGive, QueueRight, child_of}
-use Rattle.queues.specs.OneChange.{IsOnlyChange}
+use Rattle.pop_order.specs.OneChange.{IsOnlyChange}
 
 -- the path of the frame that made a queue
 abbrev pub maker_path : QueueMaker → List ℕ

@@ -5,6 +5,7 @@ use Rattle.swan_model.specs.declared.rights.Mode.{Mode}
 use Rattle.swan_model.specs.QueueState.{ActiveFrame, QueueMaker, QueueState, active, holds_queue, QueueRight, IsEarlierPusher, IsPoppingChild}
 use Rattle.swan_model.specs.SerialState.{Holding}
 use Rattle.pop_order.specs.Frames.{Frame, Frames, frame_at, holds}
+use Rattle.pop_order.specs.OneChange.{IsOnlyChange}
 use Rattle.pop_order.specs.declared.certain.Certain.{Certain}
 use Rattle.pop_order.specs.declared.certain.Certain.TheVariants.{Yes, EarlierPusher, PoppingChild}
 use Rattle.queues.specs.Tells.{IsFirstPusher}
@@ -40,8 +41,7 @@ turn_of parent (give ∷ gives) = Some (record { parent = parent; holdings = map
 
 -- The turns once a child was given these queues, where all other turns are as before.
 pub record AreGivenTurns (before now : Frames) (parent child : ℕ) (gives : List QueueRight) : Type 0 where
-  pub turn : frame_at now child ≡ turn_of parent gives
-  pub others : (other : ℕ) → other ≢ child → frame_at now other ≡ frame_at before other
+  pub one : IsOnlyChange (frame_at before) (frame_at now) child (turn_of parent gives)
   pub apart : AreApart before → AreApart now
 
 -- What an answer of the turns says of the frames: the frame's oldest popping child; or where there is none, its first earlier

@@ -24,7 +24,7 @@ use Rattle.task_frames.specs.Frames.{FrameView}
 use Rattle.swan_runtime.specs.declared.asleep.Asleep.{Asleep}
 use Rattle.swan_runtime.specs.declared.row.Popper.{Popper}
 use Rattle.swan_runtime.specs.declared.row.Row.{Row}
-use Rattle.swan_runtime.specs.Beds.{HasEntered, HasGoneToBed, HasNoted, HasNotedAt, HasSameNotes, HasSameNotesAt, IsNewRow, IsNoted, NoneAwaits, OnlyWoke, OthersStay, SleepsUnder, before_child, popper_at, poppers_of}
+use Rattle.swan_runtime.specs.Beds.{HasEntered, HasGoneToBed, HasNoted, HasNotedAt, HasSameNotes, HasSameNotesAt, IsNewRow, IsNoted, NoneAwaits, OnlyWoke, OtherRowsStay, SleepsUnder, before_child, popper_at, poppers_of}
 use Rattle.swan_runtime.specs.Shared.{HasTakenIn, row_at}
 
 -- ---- one place more
@@ -103,7 +103,7 @@ module _ {B Q L E : Type 0} where
       (λ row. SleepsUnder bed row before after frame wait_for × (left ≡ ready))
 
   pub put_to_bed : {X F : Type 0} (result : Result X F) (found bed : ℕ) (before after : Asleep B Q L E) (ready : List (FrameView B L E)) (frame : FrameView B L E) (wait_for : WaitFor) (asked : Option ℕ)
-      (row within : Row B Q L E) → found ≡ bed → asked ≡ asked_queue frame → Some row ≡ row_at before found → row_at after found ≡ Some within → OthersStay before after found
+      (row within : Row B Q L E) → found ≡ bed → asked ≡ asked_queue frame → Some row ≡ row_at before found → row_at after found ≡ Some within → OtherRowsStay before after found
       → HasSameNotes row within → OnOk result (HasTakenIn row within frame wait_for asked) → OnOk result (HasGoneToBed bed before after ready ready frame wait_for)
   put_to_bed result found bed before after ready frame wait_for asked row within same about was is others notes taken = on_ok_weaker result
       (λ (in_row : HasTakenIn row within frame wait_for asked).
@@ -117,14 +117,14 @@ module _ {B Q L E : Type 0} where
       subst (λ (b : ℕ). HasGoneToBed b before after ready left frame wait_for) equal (subst (IsPut found before after ready left frame wait_for) none (same, is))
 
   -- a row was written
-  pub others_stay : (before after : Asleep B Q L E) (number : ℕ) (row : Row B Q L E) → UpdatesBy nat_cmp (nat_cmp number) before.rows after.rows (Some row) → OthersStay before after number
+  pub others_stay : (before after : Asleep B Q L E) (number : ℕ) (row : Row B Q L E) → UpdatesBy nat_cmp (nat_cmp number) before.rows after.rows (Some row) → OtherRowsStay before after number
   others_stay before after number row updates = record { same = λ other ne. updates.2 other (untied number other ne) }
 
   -- a row was taken out
-  pub row_removed_alone : (before after : Asleep B Q L E) (number : ℕ) → UpdatesBy nat_cmp (nat_cmp number) before.rows after.rows None → OthersStay before after number
+  pub row_removed_alone : (before after : Asleep B Q L E) (number : ℕ) → UpdatesBy nat_cmp (nat_cmp number) before.rows after.rows None → OtherRowsStay before after number
   row_removed_alone before after number updates = record { same = λ other ne. updates.2 other (untied number other ne) }
 
-  pub none_moved : (before after : Asleep B Q L E) (number : ℕ) → after.rows.entries ≡ before.rows.entries → OthersStay before after number
+  pub none_moved : (before after : Asleep B Q L E) (number : ℕ) → after.rows.entries ≡ before.rows.entries → OtherRowsStay before after number
   none_moved before after number same = record { same = λ other ne. ap (lookup (is_at (nat_cmp other))) same }
 
   -- ---- wakes
@@ -168,7 +168,7 @@ module _ {B Q L E : Type 0} where
 
   -- in one row
   pub row_woke : (number : ℕ) (before after : Asleep B Q L E) (was now : Row B Q L E) → Some was ≡ row_at before number → row_at after number ≡ Some now → HasSameNotes was now
-      → ((queue : ℕ) → NoneAwaits queue (Some was) → NoneAwaits queue (Some now)) → OthersStay before after number → OnlyWoke number before after
+      → ((queue : ℕ) → NoneAwaits queue (Some was) → NoneAwaits queue (Some now)) → OtherRowsStay before after number → OnlyWoke number before after
   row_woke number before after was now stood is notes none_more others = record {
     notes = subst (λ (row : Option (Row B Q L E)). HasSameNotesAt row (row_at after number)) stood (subst (HasSameNotesAt (Some was)) (sym is) notes);
     none_more = λ queue none. subst (NoneAwaits queue) (sym is) (none_more queue (subst (NoneAwaits queue) (sym stood) none));
@@ -217,7 +217,7 @@ module _ {B Q L E : Type 0} where
 
   -- first some were woken, then the child was noted, and then its row was put in
   pub has_entered : (a b c d : Asleep B Q L E) (parent child : ℕ) (hs : List Holding) (before : List ℕ) (row : Row B Q L E) → OnlyWoke parent a b
-      → ((queue : ℕ) → holds hs queue Push ≡ true → NoneAwaits queue (row_at b parent)) → HasNotedAt (row_at b parent) (row_at c parent) child hs → OthersStay b c parent
+      → ((queue : ℕ) → holds hs queue Push ≡ true → NoneAwaits queue (row_at b parent)) → HasNotedAt (row_at b parent) (row_at c parent) child hs → OtherRowsStay b c parent
       → before ≡ before_child (row_at b parent) hs → IsNewRow row before → UpdatesBy nat_cmp (nat_cmp child) c.rows d.rows (Some row) → HasEntered a d parent child hs
   has_entered a b c d parent child hs before row woke woken noted others given is put =
       let stays : (other : ℕ) → other ≢ child → row_at d other ≡ row_at c other = λ other ne. put.2 other (untied child other ne) in

@@ -88,7 +88,7 @@ module _ {B Q L E : Type 0} where
   -- ---- what is changed
 
   -- no row has changed but this one
-  pub record OthersStay (before after : Asleep B Q L E) (number : ℕ) : Type 0 where
+  pub record OtherRowsStay (before after : Asleep B Q L E) (number : ℕ) : Type 0 where
     pub same : (other : ℕ) → other ≢ number → row_at after other ≡ row_at before other
 
   -- A frame sleeps under this one, in its row.
@@ -97,7 +97,7 @@ module _ {B Q L E : Type 0} where
     pub stands : row_at after bed ≡ Some within
     pub taken_in : HasTakenIn row within frame wait_for (asked_queue frame)
     pub notes : HasSameNotes row within
-    pub others : OthersStay before after bed
+    pub others : OtherRowsStay before after bed
 
   -- A frame that has to wait for this sleeps under that one, or is ready where that one isn't live.
   abbrev pub HasGoneToBed : (bed : ℕ) (before after : Asleep B Q L E) (were_ready are_ready : List (FrameView B L E)) → FrameView B L E → WaitFor → Type 0
@@ -125,7 +125,7 @@ module _ {B Q L E : Type 0} where
   pub record OnlyWoke (number : ℕ) (before after : Asleep B Q L E) : Type 0 where
     pub notes : HasSameNotesAt (row_at before number) (row_at after number)
     pub none_more : (queue : ℕ) → NoneAwaits queue (row_at before number) → NoneAwaits queue (row_at after number)
-    pub others : OthersStay before after number
+    pub others : OtherRowsStay before after number
 
   -- the row of a frame that has just been spawned
   pub record IsNewRow (row : Row B Q L E) (given_before : List ℕ) : Type 0 where

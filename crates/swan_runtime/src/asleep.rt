@@ -6,7 +6,7 @@ ghost use Rattle.swan_model.specs.Rights.{allows};
 ghost use Rattle.swan_model.specs.declared.plan.Plan.{Plan};
 ghost use Rattle.swan_model.specs.declared.rights.Mode.TheVariants.{Push};
 ghost use Rattle.task_frames.specs.Resumes.{ends_of};
-ghost use Rattle.swan_runtime.specs.Beds.{HasEntered, HasGoneToBed, HasNotedAt, IsNewRow, NoneAwaits, OnlyWoke, OthersStay, bed_of, before_child, is_live, newest_child, popper_before};
+ghost use Rattle.swan_runtime.specs.Beds.{HasEntered, HasGoneToBed, HasNotedAt, IsNewRow, NoneAwaits, OnlyWoke, OtherRowsStay, bed_of, before_child, is_live, newest_child, popper_before};
 ghost use Rattle.swan_runtime.specs.Shared.{KeepsOfRun, SleepersAreOfRun, row_at, sleepers};
 
 use crate::row::Row;
@@ -42,7 +42,7 @@ impl<B: Body, Q: Queues> Asleep<B, Q> {
         ensures kept { KeepsOfRun (ends_of Q.Ends.LocalEnds) [] self.old self.new ready.old.items ready.new.items }
         ensures none_lost { OnOk result (vec_len ready.new ≡ vec_len ready.old + sleepers (row_at self.old number)) }
         ensures gone { row_at self.new number ≡ None }
-        ensures others { OthersStay self.old self.new number }
+        ensures others { OtherRowsStay self.old self.new number }
     {
         match self.rows.remove(&number) {
             Some(row) => row.wakes_all(ready),
@@ -137,7 +137,7 @@ impl<B: Body, Q: Queues> Asleep<B, Q> {
         ensures own { (plan : Plan B B.Local) (run : List ℕ) → SleepersAreOfRun (ends_of Q.Ends.LocalEnds) plan run self.old → SleepersAreOfRun (ends_of Q.Ends.LocalEnds) plan run self.new }
         ensures before { IfOk result (λ before. before.items ≡ before_child (row_at self.old parent) holdings.now) }
         ensures noted { OnOk result (HasNotedAt (row_at self.old parent) (row_at self.new parent) child holdings.now) }
-        ensures others { OthersStay self.old self.new parent }
+        ensures others { OtherRowsStay self.old self.new parent }
     {
         match self.rows.get_mut(&parent) {
             Some(row) => row.spawns(alloc, child, holdings),

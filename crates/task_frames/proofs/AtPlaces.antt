@@ -167,7 +167,7 @@ module _ {B L : Type 0} (G : Ghosts B L) (kept : KeptView) (mid : Mid B L) (asks
         is = is-next;
         of = record {
           frame = record has.of.frame { done = mid.task.done + 1; holdings = has.of.frame.holdings ++ h ∷ [] };
-          live = only.own;
+          live = only.changed;
           path = has.of.path;
           done = refl;
           holdings = ap (λ hs. hs ++ h ∷ []) has.of.holdings;

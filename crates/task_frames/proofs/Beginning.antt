@@ -104,20 +104,20 @@ module _ {B L : Type 0} (G : Ghosts B L) (plan : Plan B L) (sound : IsPlan plan)
           sound = sound;
           name = name;
           queues = subst (λ t. AreQueues s kept.reading kept.state t) (sym turns)
-              (subst (λ r. AreQueues s r kept.state []) reading-is (queues-open G plan sound lawful-is kept.state kept.versions kept.live first-queues first-objects live.own none));
+              (subst (λ r. AreQueues s r kept.state []) reading-is (queues-open G plan sound lawful-is kept.state kept.versions kept.live first-queues first-objects live.changed none));
           objects = subst (AreObjects s kept.reading kept.versions kept.live) (sym count)
-              (subst (λ r. AreObjects s r kept.versions kept.live (length s.objects)) reading-is (objects-open G plan sound lawful-is kept.state kept.versions kept.live first-queues first-objects live.own none));
+              (subst (λ r. AreObjects s r kept.versions kept.live (length s.objects)) reading-is (objects-open G plan sound lawful-is kept.state kept.versions kept.live first-queues first-objects live.changed none));
           frames = subst (AreFrames G plan kept.reading kept.state kept.live) (sym frames)
-              (subst (λ r. AreFrames G plan r kept.state kept.live 1) reading-is (frames-open G plan sound lawful-is kept.state kept.versions kept.live first-queues first-objects live.own none));
+              (subst (λ r. AreFrames G plan r kept.state kept.live 1) reading-is (frames-open G plan sound lawful-is kept.state kept.versions kept.live first-queues first-objects live.changed none));
           booked = subst (AreBooked G plan kept.reading) (sym faults)
-              (subst (λ r. AreBooked G plan r []) reading-is (booked-open G plan sound lawful-is kept.state kept.versions kept.live first-queues first-objects live.own none));
+              (subst (λ r. AreBooked G plan r []) reading-is (booked-open G plan sound lawful-is kept.state kept.versions kept.live first-queues first-objects live.changed none));
         }
 
     root-here : (fuel : ℕ) → fuel ≡ plan.fuel → HasIt G kept (record { task = record (root_task plan (root_holdings plan.roots)) { fuel = fuel }; stage = Ready plan.root_local answer.Start })
     root-here fuel same = record {
       core = root-kept;
       is = root-at-core fuel same;
-      of = record { frame = record { parent = None; path = []; done = 0; holdings = root_holdings plan.roots }; live = live.own; path = refl; done = refl; holdings = refl };
+      of = record { frame = record { parent = None; path = []; done = 0; holdings = root_holdings plan.roots }; live = live.changed; path = refl; done = refl; holdings = refl };
       back = λ own active-is.
           let it = same_Some queues.untouched.root own (sym queues.untouched.live ∙ active-is) in
           ap (λ (f : ActiveFrame). f.lent) (sym it) ∙ queues.untouched.back;

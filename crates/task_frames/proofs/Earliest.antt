@@ -179,7 +179,7 @@ module _ {B L E : Type 0} (of : EndsOf E) (kept : KeptView) (frame : FrameView B
       let only = come-only kept.live then-live n frame.task.done (live_at kept.live n) refl refl in
       elim (cases_eq m n) [
         | inl same ↦
-            let come : Some (come_to frame.task.done first.frame) ≡ Some other = sym (ap (option_map (come_to frame.task.done)) first.there) ∙ sym only.own ∙ ap (live_at then-live) (sym same) ∙ there in
+            let come : Some (come_to frame.task.done first.frame) ≡ Some other = sym (ap (option_map (come_to frame.task.done)) first.there) ∙ sym only.changed ∙ ap (live_at then-live) (sym same) ∙ there in
             let path : other.path ≡ frame.task.path = ap (λ (x : LiveFrame). x.path) (sym (same_Some (come_to frame.task.done first.frame) other come)) ∙ path-is in
             let itself : comes_before frame.task.path frame.task.path ≡ true = ap (λ q. comes_before q frame.task.path) (sym path) ∙ before in
             never_before-both frame.task.path frame.task.path itself itself

@@ -79,7 +79,7 @@ module _ {B L : Type 0} (G : Ghosts B L) (kept : KeptView) (frame : AtCore B L) 
       }
 
       pub ends-so : IsStep G kept after task step.Ended
-      ends-so = (core-ended, last, ap is_spawn is ∙ no_spawn, only.own, record { live = only.others; active_are = gone.others }, alone, begun)
+      ends-so = (core-ended, last, ap is_spawn is ∙ no_spawn, only.changed, record { live = only.others; active_are = gone.others }, alone, begun)
 
     pub is-fault : (fault : Fault) → effect_at G task.plan task.path task.done has.is.alone.top ≡ faults fault.kind → fault.path ≡ task.path
         → fault.place ≡ G.place_of task.plan.body has.is.alone.top.local → IsFaultOf G task.plan fault

@@ -141,7 +141,7 @@ module _ {B L : Type 0} (G : Ghosts B L) (kept : KeptView) (mid : Mid B L) (asks
       has-next = record {
         core = core-next;
         is = is-next;
-        of = record { frame = record has.of.frame { done = mid.task.done + 1 }; live = only.own; path = has.of.path; done = refl; holdings = has.of.holdings };
+        of = record { frame = record has.of.frame { done = mid.task.done + 1 }; live = only.changed; path = has.of.path; done = refl; holdings = has.of.holdings };
         back = λ c live_now. ap (λ (x : ActiveFrame). x.lent) (same_Some c b (sym live_now ∙ changed.changed)) ∙ back;
       }
 

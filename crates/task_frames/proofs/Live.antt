@@ -221,7 +221,7 @@ module _ {B L : Type 0} (G : Ghosts B L) (plan : Plan B L) where
             | inl same ↦
                 inl (subst (IsNewAt then_r after then_live) (sym same) (record {
                   frame = g;
-                  live_now = only.own;
+                  live_now = only.changed;
                   told = told;
                   own = b;
                   active_now = changed.changed;
@@ -414,7 +414,7 @@ module _ {B L : Type 0} (G : Ghosts B L) (plan : Plan B L) where
     leaves n after then_live only changed latest turns =
         let each : (m : ℕ) → IsNewAt (gone_on_by r n 1) after then_live m ⊎ (IsGoneAt (gone_on_by r n 1) after then_live m ⊎ IsSameAt (gone_on_by r n 1) after then_live m) =
         λ m. elim (cases_eq m n) [
-          | inl same ↦ inr (inl (record { live_none = ap (live_at then_live) same ∙ only.own; active_none = ap (active after) same ∙ changed.changed }))
+          | inl same ↦ inr (inl (record { live_none = ap (live_at then_live) same ∙ only.changed; active_none = ap (active after) same ∙ changed.changed }))
           | inr other ↦ inr (inr (record { live_same = only.others m other; active_same = changed.others m other; read_same = other-gone_by r n 1 m other }))
         ] in
         frames-then (gone_on_by r n 1) after then_live each turns (λ m frame at. refl) frames

@@ -19,13 +19,13 @@ use Rattle.task_frames.specs.Records.{HasChildren, IsLiveChild, IsOldest, IsOlde
 pub changed : (before after : LiveFrames) (number : ℕ) (was frame : LiveFrame) → live_at before number ≡ Some was
     → after ≡ set_value (is_at (nat_cmp number)) before frame → IsOnlyLive before after number (Some frame)
 changed before after number was frame there is = record {
-  own = ap (λ es. live_at es number) is ∙ at_set before number was frame there;
+  changed = ap (λ es. live_at es number) is ∙ at_set before number was frame there;
   others = λ other differs. ap (λ es. live_at es other) is ∙ by_set before number was frame other there differs;
 }
 
 -- a record that is the same
 pub same : (frames : LiveFrames) (number : ℕ) (frame : Option LiveFrame) → live_at frames number ≡ frame → IsOnlyLive frames frames number frame
-same frames number frame is = record { own = is; others = λ other differs. refl }
+same frames number frame is = record { changed = is; others = λ other differs. refl }
 
 -- ---- children
 
@@ -55,12 +55,12 @@ module _ (before after : LiveFrames) (pairs : List Pair) (number : ℕ) (kept : 
       | inl is ↦
           let child = kept.known parent other in_set in
           let one : was ≡ child.frame = same_Some was child.frame (sym there_was ∙ ap (live_at before) (sym is) ∙ child.live) in
-          record { frame = frame; live = ap (live_at after) is ∙ only.own; of = parent_is ∙ ap (λ (f : LiveFrame). f.parent) one ∙ child.of }
+          record { frame = frame; live = ap (live_at after) is ∙ only.changed; of = parent_is ∙ ap (λ (f : LiveFrame). f.parent) one ∙ child.of }
       | inr differs ↦ there only.others parent other differs (kept.known parent other in_set)
     ];
     all = λ parent other child. elim (cases_eq other number) [
       | inl is ↦
-          let one : frame ≡ child.frame = same_Some frame child.frame (sym only.own ∙ ap (live_at after) (sym is) ∙ child.live) in
+          let one : frame ≡ child.frame = same_Some frame child.frame (sym only.changed ∙ ap (live_at after) (sym is) ∙ child.live) in
           kept.all parent other (record { frame = was; live = ap (live_at before) is ∙ there_was; of = sym parent_is ∙ ap (λ (f : LiveFrame). f.parent) one ∙ child.of })
       | inr differs ↦ kept.all parent other (back only.others parent other differs child)
     ];
@@ -75,7 +75,7 @@ module _ (before after : LiveFrames) (pairs : List Pair) (number : ℕ) (kept : 
     ];
     all = λ parent other child. elim (cases_eq other number) [
       | inl is ↦
-          let one : frame ≡ child.frame = same_Some frame child.frame (sym only.own ∙ ap (live_at after) (sym is) ∙ child.live) in
+          let one : frame ≡ child.frame = same_Some frame child.frame (sym only.changed ∙ ap (live_at after) (sym is) ∙ child.live) in
           let no : None ≡ Some parent = sym root ∙ ap (λ (f : LiveFrame). f.parent) one ∙ child.of in absurd (cc)
       | inr differs ↦ kept.all parent other (back only.others parent other differs child)
     ];
@@ -92,7 +92,7 @@ module _ (before after : LiveFrames) (pairs : List Pair) (number : ℕ) (kept : 
       known = λ parent other in_set. elim (cases_eq other number) [
         | inl is ↦ record {
           frame = frame;
-          live = ap (live_at after) is ∙ only.own;
+          live = ap (live_at after) is ∙ only.changed;
           of = of ∙ ap Some (elim (cases_eq own parent) [
             | inl e ↦ e
             | inr differs ↦
@@ -106,7 +106,7 @@ module _ (before after : LiveFrames) (pairs : List Pair) (number : ℕ) (kept : 
       ];
       all = λ parent other child. elim (cases_eq other number) [
         | inl is ↦
-            let one : frame ≡ child.frame = same_Some frame child.frame (sym only.own ∙ ap (live_at after) (sym is) ∙ child.live) in
+            let one : frame ≡ child.frame = same_Some frame child.frame (sym only.changed ∙ ap (live_at after) (sym is) ∙ child.live) in
             let same_parent : Some own ≡ Some parent = sym of ∙ ap (λ (f : LiveFrame). f.parent) one ∙ child.of in
             let e : own ≡ parent = same_Some own parent same_parent in
             grind (arith, nat_tests, set parent other, e, is)
@@ -131,7 +131,7 @@ module _ (before after : LiveFrames) (pairs : List Pair) (number : ℕ) (kept : 
             there only.others parent other differs (kept.known parent other in_both)
       ];
       all = λ parent other child. elim (cases_eq other number) [
-        | inl is ↦ let no : None ≡ Some child.frame = sym only.own ∙ ap (live_at after) (sym is) ∙ child.live in absurd (cc)
+        | inl is ↦ let no : None ≡ Some child.frame = sym only.changed ∙ ap (live_at after) (sym is) ∙ child.live in absurd (cc)
         | inr differs ↦ let in_set = kept.all parent other (back only.others parent other differs child) in grind (arith, nat_tests, set parent other, in_set, differs)
       ];
     }
@@ -144,7 +144,7 @@ module _ (before after : LiveFrames) (pairs : List Pair) (number : ℕ) (kept : 
       | inr differs ↦ there only.others parent other differs (kept.known parent other in_set)
     ];
     all = λ parent other child. elim (cases_eq other number) [
-      | inl is ↦ let no : None ≡ Some child.frame = sym only.own ∙ ap (live_at after) (sym is) ∙ child.live in absurd (cc)
+      | inl is ↦ let no : None ≡ Some child.frame = sym only.changed ∙ ap (live_at after) (sym is) ∙ child.live in absurd (cc)
       | inr differs ↦ kept.all parent other (back only.others parent other differs child)
     ];
   }
@@ -181,7 +181,7 @@ pub child-comes : (before after : LiveFrames) (number done parent other : ℕ) �
 child-comes before after number done parent other only child = elim (cases_eq other number) [
   | inl same ↦ record {
     frame = come_to done child.frame;
-    live = ap (live_at after) same ∙ only.own ∙ ap (option_map (come_to done)) (ap (live_at before) (sym same) ∙ child.live);
+    live = ap (live_at after) same ∙ only.changed ∙ ap (option_map (come_to done)) (ap (live_at before) (sym same) ∙ child.live);
     of = child.of;
   }
   | inr differs ↦ record { frame = child.frame; live = only.others other differs ∙ child.live; of = child.of }
@@ -234,4 +234,4 @@ come_same frames number done is = same-at frames number done (live_at frames num
 
 pub only_same : (frames : LiveFrames) (number done : ℕ) → ((live : LiveFrame) → live_at frames number ≡ Some live → live.done ≡ done)
     → IsOnlyLive frames frames number (option_map (come_to done) (live_at frames number))
-only_same frames number done is = record { own = same-found (live_at frames number) done is; others = λ other differs. refl }
+only_same frames number done is = record { changed = same-found (live_at frames number) done is; others = λ other differs. refl }

@@ -20,7 +20,7 @@ use Rattle.swan_model.proofs.Lists.{last_same}
 use Rattle.object_versions.proofs.EndedChildren.{ended_children}
 use Rattle.pop_order.specs.Frames.{Frames}
 use Rattle.queues.specs.Asks.{MayJoin}
-use Rattle.queues.specs.OneChange.{IsOnlyChange}
+use Rattle.pop_order.specs.OneChange.{IsOnlyChange}
 use Rattle.queues.proofs.ActiveAfter.{one_changed}
 use Rattle.queues.proofs.NextDeeds.{none_after, none_then}
 use Rattle.queues.proofs.Rereading.{fit_of}

@@ -99,12 +99,12 @@ module _ (s : Script) (lawful : IsLawful s) (r : Reading) (versions : VersionSta
   -- who is not in the record then was not there before
   gone-before : (g : LiveFrame) → IsOnlyLive live then_live n (Some g) → (m : ℕ) → live_at then_live m ≡ None → live_at live m ≡ None
   gone-before g only m none = elim (cases_eq m n) [
-    | inl own ↦ let both : None ≡ Some g = sym none ∙ ap (live_at then_live) own ∙ only.own in absurd (cc)
+    | inl own ↦ let both : None ≡ Some g = sym none ∙ ap (live_at then_live) own ∙ only.changed in absurd (cc)
     | inr other ↦ sym (only.others m other) ∙ none
   ]
 
   not-root : (g : LiveFrame) → IsOnlyLive live then_live n (Some g) → live_at then_live 0 ≡ None → 0 ≢ n
-  not-root g only none same = let both : None ≡ Some g = sym none ∙ ap (live_at then_live) same ∙ only.own in absurd (cc)
+  not-root g only none same = let both : None ≡ Some g = sym none ∙ ap (live_at then_live) same ∙ only.changed in absurd (cc)
 
   -- a call that leaves every place with its object
   keeps-by : (g : LiveFrame) → IsOnlyLive live then_live n (Some g) → (then_r : Reading) (after : VersionState) → ObjectsFollow s then_r after
@@ -116,13 +116,13 @@ module _ (s : Script) (lawful : IsLawful s) (r : Reading) (versions : VersionSta
     count = made ∙ are.count;
     each = λ m frame at. elim (cases_eq m n) [
       | inl own ↦
-          let it : g ≡ frame = same_Some g frame (sym only.own ∙ ap (live_at then_live) (sym own) ∙ at) in
+          let it : g ≡ frame = same_Some g frame (sym only.changed ∙ ap (live_at then_live) (sym own) ∙ at) in
           subst (λ (x : LiveFrame). HasObjects after m x.holdings) it (subst (λ j. HasObjects after j g.holdings) (sym own) held)
       | inr other ↦ objects-kept versions after m frame.holdings keep (are.each m frame (sym (only.others m other) ∙ at))
     ];
     begun = λ m frame at some. elim (cases_eq m n) [
       | inl own ↦
-          let it : g ≡ frame = same_Some g frame (sym only.own ∙ ap (live_at then_live) (sym own) ∙ at) in
+          let it : g ≡ frame = same_Some g frame (sym only.changed ∙ ap (live_at then_live) (sym own) ∙ at) in
           waits m (subst (AwaitsNone versions) (sym own) (begun (subst (λ (x : LiveFrame). 0 < x.done) (sym it) some)))
       | inr other ↦ waits m (are.begun m frame (sym (only.others m other) ∙ at) some)
     ];
@@ -284,7 +284,7 @@ module _ (s : Script) (lawful : IsLawful s) (r : Reading) (versions : VersionSta
       count = ap (λ (v : VersionState). v.made) same ∙ ap (λ m. m + 1) are.count;
       each = λ m frame at. subst (λ v. HasObjects v m frame.holdings) (sym same) (elim (cases_eq m n) [
         | inl own ↦
-            let it : g ≡ frame = same_Some g frame (sym only.own ∙ ap (live_at then_live) (sym own) ∙ at) in
+            let it : g ≡ frame = same_Some g frame (sym only.changed ∙ ap (live_at then_live) (sym own) ∙ at) in
             subst (λ (x : LiveFrame). HasObjects made m x.holdings) it (subst (λ j. HasObjects made j g.holdings) (sym own) own-objects)
         | inr other ↦ other-objects m frame.holdings other (are.each m frame (sym (only.others m other) ∙ at))
       ]);
@@ -293,7 +293,7 @@ module _ (s : Script) (lawful : IsLawful s) (r : Reading) (versions : VersionSta
         | inr other ↦ are.begun m frame (sym (only.others m other) ∙ at) some
       ]));
       gone = λ m place object absent some at. elim (cases_eq m n) [
-        | inl own ↦ let both : None ≡ Some g = sym absent ∙ ap (live_at then_live) own ∙ only.own in absurd (cc)
+        | inl own ↦ let both : None ≡ Some g = sym absent ∙ ap (live_at then_live) own ∙ only.changed in absurd (cc)
         | inr other ↦
             are.gone m place object (gone-before g only m absent) some
             (sym (create_keeps versions n (length f.holdings) value m place (inl other)) ∙ ap (λ v. placed_at v m place) (sym same) ∙ at)
@@ -347,11 +347,11 @@ module _ (s : Script) (lawful : IsLawful s) (r : Reading) (versions : VersionSta
       known = are.known;
       count = ap (λ (v : VersionState). v.made) same ∙ are.count;
       each = λ m frame at. elim (cases_eq m n) [
-        | inl own ↦ let both : None ≡ Some frame = sym only.own ∙ ap (live_at then_live) (sym own) ∙ at in absurd (cc)
+        | inl own ↦ let both : None ≡ Some frame = sym only.changed ∙ ap (live_at then_live) (sym own) ∙ at in absurd (cc)
         | inr other ↦ subst (λ v. HasObjects v m frame.holdings) (sym same) (others-kept m frame.holdings other (are.each m frame (sym (only.others m other) ∙ at)))
       ];
       begun = λ m frame at some. elim (cases_eq m n) [
-        | inl own ↦ let both : None ≡ Some frame = sym only.own ∙ ap (live_at then_live) (sym own) ∙ at in absurd (cc)
+        | inl own ↦ let both : None ≡ Some frame = sym only.changed ∙ ap (live_at then_live) (sym own) ∙ at in absurd (cc)
         | inr other ↦ subst (λ v. AwaitsNone v m) (sym same) (finish_waits versions n m (are.begun m frame (sym (only.others m other) ∙ at) some))
       ];
       gone = λ m place object none some at.

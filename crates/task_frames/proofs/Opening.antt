@@ -33,7 +33,7 @@ use Rattle.swan_model.proofs.Lists.{some_within}
 use Rattle.object_versions.proofs.CallsFollow.{create_root, new_follows}
 use Rattle.object_versions.proofs.PlacesAfter.{at_placed}
 use Rattle.object_versions.proofs.PlacesStay.{create_keeps}
-use Rattle.queues.specs.OneChange.{IsOnlyChange}
+use Rattle.pop_order.specs.OneChange.{IsOnlyChange}
 use Rattle.queues.proofs.ActiveAfter.{one_changed}
 use Rattle.queues.proofs.Calls.{new_follows as new_queues_follow}
 use Rattle.queues.proofs.Creating.{root_created_follows}

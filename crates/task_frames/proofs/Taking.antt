@@ -113,7 +113,7 @@ module _ {B L : Type 0} (G : Ghosts B L) (kept : KeptView) (task : Task B L) (co
       has-now = record {
         core = core-now;
         is = record { plan = is.plan; alone = is.alone; within = is.within; since = refl };
-        of = record { frame = come_to task.done f; live = only.own; path = of.path; done = refl; holdings = of.holdings };
+        of = record { frame = come_to task.done f; live = only.changed; path = of.path; done = refl; holdings = of.holdings };
         back = λ c now. ap (λ (x : ActiveFrame). x.lent) (same_Some c (record active-so.0 { deeds = ends.deeds; lent = None }) (sym now ∙ changed-now.changed));
       }
 

@@ -1,11 +1,12 @@
 -- The record that a core keeps of its live frames.
-use Rattle.std.specs.Prelude.{◌≡◌, ◌≢◌, ℕ, ◌≤◌, ◌&&◌, ◌||◌, ◌==◌, not, Bool, true, false, Option, Some, None, List, [], ◌∷◌, ◌++◌}
+use Rattle.std.specs.Prelude.{◌≡◌, ℕ, ◌≤◌, ◌&&◌, ◌||◌, ◌==◌, not, Bool, true, false, Option, Some, None, List, [], ◌∷◌, ◌++◌}
 use Rattle.std.specs.BTreeMap.{is_at}
 use Rattle.std.specs.List.{list_any}
 use Rattle.std.specs.Map.{lookup, set_value}
 use Rattle.std.specs.Ordering.{nat_cmp, ordering_then, is_gt}
 use Rattle.std.specs.declared.cmp.Ordering.{Ordering}
 use Rattle.swan_model.specs.SerialState.{Holding}
+use Rattle.pop_order.specs.OneChange.{IsOnlyChange}
 
 -- a live frame, as the core last gave it
 pub record LiveFrame : Type 0 where
@@ -42,9 +43,8 @@ come_at frames number done None = frames
 come_at frames number done (Some frame) = set_value (is_at (nat_cmp number)) frames (come_to done frame)
 
 -- the record has this at this number afterwards, and is the same at each other one
-pub record IsOnlyLive (before after : LiveFrames) (number : ℕ) (frame : Option LiveFrame) : Type 0 where
-  pub own : live_at after number ≡ frame
-  pub others : (other : ℕ) → other ≢ number → live_at after other ≡ live_at before other
+abbrev pub IsOnlyLive : (before after : LiveFrames) (number : ℕ) → Option LiveFrame → Type 0
+IsOnlyLive before after number frame = IsOnlyChange (live_at before) (live_at after) number frame
 
 -- a live child of a frame
 pub record IsLiveChild (frames : LiveFrames) (parent number : ℕ) : Type 0 where

@@ -8,7 +8,7 @@ use Rattle.swan_model.specs.Rights.{allows}
 use Rattle.queue_book.specs.Handed.{AreGiven, IsHandedIn}
 use Rattle.queue_book.specs.KeptFrames.{KeptFrame, OwnChunks}
 use Rattle.queue_book.specs.Live.{kept_of}
-use Rattle.queues.specs.OneChange.{IsOnlyChange}
+use Rattle.pop_order.specs.OneChange.{IsOnlyChange}
 use Rattle.queue_book.proofs.GivingSteps.{given_more, given_none, has_now, may_get_now, newest_now}
 use Rattle.queues.proofs.GivingTurns.{queue_mode_at}
 use Rattle.queue_book.proofs.store.Store.spawn.Goals as goal
