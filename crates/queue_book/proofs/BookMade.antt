@@ -11,8 +11,8 @@ use Rattle.swan_model.specs.declared.script.Deed.TheVariants as deed
 use Rattle.swan_model.specs.declared.script.Script.{Script}
 use Rattle.swan_model.specs.declared.value.Value.{Value}
 use Rattle.swan_model.specs.QueueFollows.{next_queue_deed}
-use Rattle.swan_model.specs.QueueState.{ActiveFrame, QueueMaker, planned, made_by, QueueState, active, after_create, after_create_root, holds_queue, with_deed, with_made, IsUntouched}
-use Rattle.queues.specs.Asks.{DEEDS_MOST, MayDo, OnNext}
+use Rattle.swan_model.specs.QueueState.{ActiveFrame, QueueMaker, planned, made_by, QueueState, active, after_create, after_create_root, holds_queue, with_deed, with_made, IsUntouched, COUNT_MOST}
+use Rattle.queues.specs.Asks.{MayDo, OnNext}
 use Rattle.queues.specs.Chunks.{own}
 use Rattle.queue_book.specs.Chains.{Link, AreChained, in_line, put_at}
 use Rattle.queue_book.specs.KeptFrames.{KeptFrame, own_chunk_in}
@@ -160,7 +160,7 @@ module _ (name : Option Script) (state : QueueState) (frames : LiveFrames) (head
     mid_one kept was =
         kept_changed frames mid_frames n kept (with_own_chunk q (record { key = made.key; is_maker = true; pushes = true })) was made.place
 
-    pub create_room : (kept : KeptFrame) → kept_of mid_frames n ≡ Some kept → kept.deeds < DEEDS_MOST
+    pub create_room : (kept : KeptFrame) → kept_of mid_frames n ≡ Some kept → kept.deeds < COUNT_MOST
     create_room kept at =
         let was = kept_live state frames is.live n act.frame act.may.live in
         let both : Some kept ≡ Some (with_own_chunk q (record { key = made.key; is_maker = true; pushes = true }) was.0) = sym at ∙ (mid_one was.0 was.1).changed in

@@ -3,8 +3,7 @@ use Rattle.std.specs.Prelude.{◌≡◌, ℕ, ◌+◌, ◌<◌, true, false, Opt
 use Rattle.std.specs.Option.{option_map}
 use Rattle.slab.specs.Slab.{Slab}
 use Rattle.pop_order.specs.Frames.{Frame, Frames, frame_at}
-use Rattle.swan_model.specs.QueueState.{ActiveFrame, QueueRight, MayGive}
-use Rattle.queues.specs.Asks.{DEEDS_MOST}
+use Rattle.swan_model.specs.QueueState.{ActiveFrame, QueueRight, MayGive, COUNT_MOST}
 use Rattle.queue_book.specs.Chains.{Link}
 use Rattle.queue_book.specs.Handed.{AreGiven}
 use Rattle.queues.specs.Turned.{gives_queue, AreApart}
@@ -18,7 +17,7 @@ use Rattle.queue_book.specs.declared.live_frames.LiveFrames.{LiveFrames}
 pub record MayHandOn (frames : LiveFrames) (turns : Frames) (parent child : ℕ) (gives : List QueueRight) : Type 0 where
   pub kept : KeptFrame
   pub live : kept_of frames parent ≡ Some kept
-  pub room : kept.deeds < DEEDS_MOST
+  pub room : kept.deeds < COUNT_MOST
   pub has : (queue : ℕ) → gives_queue gives queue ≡ true → is_some (own_chunk_in kept.places queue) ≡ true
   pub frame : ActiveFrame
   pub lawful : MayGive frame gives

@@ -1,7 +1,7 @@
 // The active frames by number.
 ghost use Rattle.std.specs.Prelude.{◌≡◌, ◌≢◌, ℕ, ◌+◌, ◌<◌, Some, None, [], OnOk, true, false};
 ghost use Rattle.std.specs.Option.{option_copied, option_map};
-ghost use Rattle.queues.specs.Asks.{DEEDS_MOST};
+ghost use Rattle.swan_model.specs.QueueState.{COUNT_MOST};
 ghost use Rattle.queue_book.specs.Live.{is_lent_with, kept_of, own_chunk_at, with_own_chunk};
 ghost use Rattle.pop_order.specs.OneChange.{IsOnlyChange};
 ghost use Rattle.queue_book.specs.KeptFrames.{KeptFrame};
@@ -74,7 +74,7 @@ impl LiveFrames {
 
     /// Counts one more queue deed of a frame. `O(log n)`.
     pub fn count_deed(&mut self, number: u64)
-        requires room { (kept : KeptFrame) → kept_of self.old number ≡ Some kept → kept.deeds < DEEDS_MOST }
+        requires room { (kept : KeptFrame) → kept_of self.old number ≡ Some kept → kept.deeds < COUNT_MOST }
         ensures { IsOnlyChange (kept_of self.old) (kept_of self.new) number (option_map (λ (kept : KeptFrame). record kept { deeds = kept.deeds + 1 }) (kept_of self.old number)) }
     {
         if number == 0 {

@@ -6,9 +6,9 @@ use Rattle.std.proofs.lemmas.Bool.{and_parts, eqb-true, ltb-true, false≢true}
 use Rattle.swan_model.specs.declared.path.TheConstants.{PATH_MOST}
 use Rattle.swan_model.specs.declared.rights.Mode.{Mode}
 use Rattle.swan_model.specs.declared.rights.Mode.TheVariants.{Pop}
-use Rattle.swan_model.specs.QueueState.{ActiveFrame, IsActiveChild, IsOfRoot, IsUntouched, QueueMaker, MayGive, planned, made_by, QueueRight, QueueState, active, holds_queue}
+use Rattle.swan_model.specs.QueueState.{ActiveFrame, IsActiveChild, IsOfRoot, IsUntouched, QueueMaker, MayGive, planned, made_by, QueueRight, QueueState, active, holds_queue, COUNT_MOST}
 use Rattle.swan_model.specs.Rights.{is_queue_mode}
-use Rattle.queues.specs.Asks.{CHILDREN_MOST, DEEDS_MOST, HasRoom, QUEUES_MOST, IsRestLeft, MayDo, MayJoin, MayLook, MaySpawn, MayUse}
+use Rattle.queues.specs.Asks.{CHILDREN_MOST, HasRoom, QUEUES_MOST, IsRestLeft, MayDo, MayJoin, MayLook, MaySpawn, MayUse}
 use Rattle.swan_model.proofs.Elements.{any_from, found_is}
 use Rattle.queue_tests.specs.Allowed.{acts, has_room, has_space, is_rest_left, is_of, is_of_root, is_untouched, may_give, may_join, may_make, may_spawn, may_use}
 
@@ -44,7 +44,7 @@ acting (Some frame) test e = record {
 pub made_by_test : (state : QueueState) (number : ℕ) → may_make state number ≡ true → MayDo state number
 made_by_test state number e =
     let is = acting (active state number) has_room e in
-    record { frame = is.frame; may = record { live = is.live; back = is.back }; room = ltb-true is.frame.deeds DEEDS_MOST is.holds }
+    record { frame = is.frame; may = record { live = is.live; back = is.back }; room = ltb-true is.frame.deeds COUNT_MOST is.holds }
 
 pub lent_by_test : (state : QueueState) (number : ℕ) → may_make state number ≡ true
     → (frame : ActiveFrame) × (active state number ≡ Some frame) × (frame.lent ≡ None)
@@ -59,7 +59,7 @@ pub used_by_test : (state : QueueState) (number queue : ℕ) (mode : Mode) → m
 used_by_test state number queue mode e =
     let is = acting (active state number) (λ frame. has_room frame && holds_queue frame queue mode) e in
     record {
-      act = record { frame = is.frame; may = record { live = is.live; back = is.back }; room = ltb-true is.frame.deeds DEEDS_MOST (left_of (has_room is.frame) (holds_queue is.frame queue mode) is.holds) };
+      act = record { frame = is.frame; may = record { live = is.live; back = is.back }; room = ltb-true is.frame.deeds COUNT_MOST (left_of (has_room is.frame) (holds_queue is.frame queue mode) is.holds) };
       held = right_of (has_room is.frame) (holds_queue is.frame queue mode) is.holds;
     }
 
@@ -94,7 +94,7 @@ spawned_by_test state parent child gives e =
     let most = right_of newest (given && (depth && few)) more in
     let last = right_of given (depth && few) most in
     record {
-      act = record { frame = is.frame; may = record { live = is.live; back = is.back }; room = ltb-true is.frame.deeds DEEDS_MOST (left_of (has_room is.frame) (newest && (given && (depth && few))) is.holds) };
+      act = record { frame = is.frame; may = record { live = is.live; back = is.back }; room = ltb-true is.frame.deeds COUNT_MOST (left_of (has_room is.frame) (newest && (given && (depth && few))) is.holds) };
       newest = ltb-true state.latest child (left_of newest (given && (depth && few)) more);
       lawful = given_by_test is.frame gives (left_of given (depth && few) most);
       depth = ltb-true (length is.frame.path) PATH_MOST (left_of depth few last);

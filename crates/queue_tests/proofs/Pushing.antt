@@ -1,8 +1,8 @@
 -- A root that pushes many items to one queue.
 use Rattle.std.proofs.Common.{◌≡◌, ℕ, ◌+◌, ◌<◌, true, Some, None, refl, ap, subst, sym, ◌∙◌, [], ◌∷◌}
 use Rattle.swan_model.specs.declared.rights.Mode.TheVariants.{Push, PushPop}
-use Rattle.swan_model.specs.QueueState.{ActiveFrame, QueueState, active, after_create, after_deed, holds_queue, new_state, root_frame, with_deed}
-use Rattle.queues.specs.Asks.{DEEDS_MOST, MayUse}
+use Rattle.swan_model.specs.QueueState.{ActiveFrame, QueueState, active, after_create, after_deed, holds_queue, new_state, root_frame, with_deed, COUNT_MOST}
+use Rattle.queues.specs.Asks.{MayUse}
 use Rattle.queues.specs.Tells.{with_active}
 use Rattle.queues.proofs.ActiveAfter.{one_changed}
 use Rattle.queue_tests.specs.Allowed.{has_space, may_make}
@@ -15,9 +15,9 @@ pub record IsPushing (state : QueueState) (count : ℕ) : Type 0 where
   pub held : holds_queue frame 0 Push ≡ true
   pub deeds : frame.deeds ≡ count
 
-pub may_push : (state : QueueState) (deeds : ℕ) → IsPushing state deeds → deeds < DEEDS_MOST → MayUse state 0 0 Push
+pub may_push : (state : QueueState) (deeds : ℕ) → IsPushing state deeds → deeds < COUNT_MOST → MayUse state 0 0 Push
 may_push state deeds is room = record {
-  act = record { frame = is.frame; may = record { live = is.live; back = is.back }; room = subst (λ n. n < DEEDS_MOST) (sym is.deeds) room };
+  act = record { frame = is.frame; may = record { live = is.live; back = is.back }; room = subst (λ n. n < COUNT_MOST) (sym is.deeds) room };
   held = is.held;
 }
 

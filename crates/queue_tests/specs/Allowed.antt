@@ -3,9 +3,9 @@ use Rattle.std.specs.Prelude.{ℕ, Bool, true, false, ◌&&◌, ◌==◌, not, l
 use Rattle.std.specs.List.{list_any}
 use Rattle.swan_model.specs.declared.path.TheConstants.{PATH_MOST}
 use Rattle.swan_model.specs.declared.rights.Mode.{Mode}
-use Rattle.swan_model.specs.QueueState.{ActiveFrame, QueueMaker, planned, made_by, QueueRight, QueueState, active, holds_queue}
+use Rattle.swan_model.specs.QueueState.{ActiveFrame, QueueMaker, planned, made_by, QueueRight, QueueState, active, holds_queue, COUNT_MOST}
 use Rattle.swan_model.specs.Rights.{is_queue_mode}
-use Rattle.queues.specs.Asks.{CHILDREN_MOST, DEEDS_MOST, QUEUES_MOST}
+use Rattle.queues.specs.Asks.{CHILDREN_MOST, QUEUES_MOST}
 
 -- an active frame with its ends back, of which a condition holds
 abbrev pub acts : Option ActiveFrame → (ActiveFrame → Bool) → Bool
@@ -13,7 +13,7 @@ acts None test = false
 acts (Some frame) test = is_none frame.lent && test frame
 
 abbrev pub has_room : ActiveFrame → Bool
-has_room frame = ltb frame.deeds DEEDS_MOST
+has_room frame = ltb frame.deeds COUNT_MOST
 
 -- one more queue may be made
 abbrev pub has_space : QueueState → Bool

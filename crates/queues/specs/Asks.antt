@@ -7,12 +7,9 @@ use Rattle.std.specs.List.{list_any}
 use Rattle.std.specs.Option.{ForSome}
 use Rattle.swan_model.specs.declared.rights.Mode.{Mode}
 use Rattle.swan_model.specs.declared.script.Script.{Script}
-use Rattle.swan_model.specs.QueueState.{ActiveFrame, LentEnd, Lent, QueueRight, QueueState, active, holds_queue, HasTurn, IsActiveChild, IsOfRoot, MayAct, MayGive}
+use Rattle.swan_model.specs.QueueState.{ActiveFrame, LentEnd, Lent, QueueRight, QueueState, active, holds_queue, HasTurn, IsActiveChild, IsOfRoot, MayAct, MayGive, COUNT_MOST}
 
--- how many deeds of queues a frame may do, how many queues may be made, and how many children a frame may spawn
-abbrev pub DEEDS_MOST : ℕ
-DEEDS_MOST = 18446744073709551615
-
+-- how many queues may be made, and how many children a frame may spawn
 abbrev pub QUEUES_MOST : ℕ
 QUEUES_MOST = 4294967295
 
@@ -23,7 +20,7 @@ CHILDREN_MOST = 4294967295
 pub record MayDo (state : QueueState) (number : ℕ) : Type 0 where
   pub frame : ActiveFrame
   pub may : MayAct state number frame
-  pub room : frame.deeds < DEEDS_MOST
+  pub room : frame.deeds < COUNT_MOST
 
 -- it may use a queue by this mode too
 pub record MayUse (state : QueueState) (number queue : ℕ) (mode : Mode) : Type 0 where

@@ -5,7 +5,7 @@ use Rattle.swan_model.specs.declared.script.Deed.TheVariants as deed
 use Rattle.swan_model.specs.declared.script.Script.{Script}
 use Rattle.swan_model.specs.declared.value.Value.{Value}
 use Rattle.swan_model.specs.QueueFollows.{next_queue_deed, queue_time}
-use Rattle.swan_model.specs.QueueState.{LentEnd}
+use Rattle.swan_model.specs.QueueState.{LentEnd, COUNT_MOST}
 use Rattle.swan_model.specs.Segments.{segment_queue}
 use Rattle.swan_model.specs.Told.{count, pushes, taken}
 use Rattle.queues.specs.Asks.{LentEnds, is_end_of}
@@ -37,10 +37,6 @@ IsItemNext s ends value =
 
 -- ---- what an end shows of itself
 
--- how many items a producer can have pushed
-abbrev pub PUSHED_MOST : ℕ
-PUSHED_MOST = 18446744073709551615
-
 pub record EndCounts : Type 0 where
   -- how many items it has pushed, or popped
   pub moved : ℕ
@@ -71,7 +67,7 @@ pub record WasFull (before after : EndCounts) : Type 0 where
 
 -- A push was refused: the ring was full, or the count of items has no next number.
 abbrev pub WasRefused : EndCounts → EndCounts → Type 0
-WasRefused before after = WasFull before after ⊎ ((before.moved ≡ PUSHED_MOST) × (after ≡ before))
+WasRefused before after = WasFull before after ⊎ ((before.moved ≡ COUNT_MOST) × (after ≡ before))
 
 -- A pop: the look found that more was pushed than popped.
 pub record HasPopped (before after : EndCounts) : Type 0 where

@@ -3,7 +3,8 @@ ghost use Rattle.std.specs.Prelude.{◌≡◌, ℕ, ◌+◌, ◌<◌, Bool, true
 ghost use Rattle.std.specs.Option.{ForSome};
 ghost use Rattle.swan_model.specs.declared.script.Script.{Script};
 ghost use Rattle.swan_model.specs.Lawful.{IsLawful};
-ghost use Rattle.queues.specs.Asks.{DEEDS_MOST, IsSameRun, LentEnds, has_end, with_deeds};
+ghost use Rattle.swan_model.specs.QueueState.{COUNT_MOST};
+ghost use Rattle.queues.specs.Asks.{IsSameRun, LentEnds, has_end, with_deeds};
 ghost use Rattle.queues.specs.Ends.{AreOtherCounts, EndCounts, HasPopped, HasPushed, IsNextPush, IsNextPop, IsItemNext, WasEmpty, WasRefused};
 
 use swan_model::Value;
@@ -28,7 +29,7 @@ pub trait LocalEnds: Send + Drop {
     /// it has pushed as many as can be counted.
     fn push(&mut self, queue: u32, value: Value) -> Result<(), Value>
         // what the frame may do
-        requires room { (ends self.old).deeds < DEEDS_MOST }
+        requires room { (ends self.old).deeds < COUNT_MOST }
 
         // where there is a script
         requires next { ForSome (name self.old) (λ s. IsNextPush s (ends self.old) queue value) }
@@ -49,7 +50,7 @@ pub trait LocalEnds: Send + Drop {
     /// is there, or its ring was empty at a step of this call.
     fn pop(&mut self, queue: u32) -> Option<Value>
         // what the frame may do
-        requires room { (ends self.old).deeds < DEEDS_MOST }
+        requires room { (ends self.old).deeds < COUNT_MOST }
 
         // where there is a script
         requires next { ForSome (name self.old) (λ s. IsNextPop s (ends self.old) queue) }

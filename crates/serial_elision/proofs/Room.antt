@@ -14,7 +14,7 @@ use Rattle.swan_model.specs.declared.script.Entry.{Entry}
 use Rattle.swan_model.specs.declared.script.Script.{Script}
 use Rattle.swan_model.specs.Granted.{children_before, is_spawn}
 use Rattle.swan_model.specs.QueueFollows.{IsMade, QueuesFollow, origin_in, queue_times}
-use Rattle.swan_model.specs.QueueState.{ActiveFrame, QueueMaker, planned, made_by, QueueState, active}
+use Rattle.swan_model.specs.QueueState.{ActiveFrame, QueueMaker, planned, made_by, QueueState, active, COUNT_MOST}
 use Rattle.swan_model.specs.Roots.{IsWithinBounds}
 use Rattle.swan_model.specs.Script.{script}
 use Rattle.swan_model.specs.SerialState.{Activation, Holding}
@@ -94,7 +94,7 @@ module _ {B L : Type 0} (G : Ghosts B L) (plan : Plan B L) where
       let task = follows.tasks number frame live in
       omega (arith, fuel, task.children, few-spawned frame.path frame.deeds)
 
-  pub room-deeds : (state : QueueState) (number : ℕ) (frame : ActiveFrame) → plan.fuel ≤ FUEL_MOST → QueuesFollow (script G plan) state → active state number ≡ Some frame → frame.deeds < 18446744073709551615
+  pub room-deeds : (state : QueueState) (number : ℕ) (frame : ActiveFrame) → plan.fuel ≤ FUEL_MOST → QueuesFollow (script G plan) state → active state number ≡ Some frame → frame.deeds < COUNT_MOST
   room-deeds state number frame fuel follows live =
       let task = follows.tasks number frame live in
       omega (arith, fuel, task.deeds, few-queue_times G plan frame.path)

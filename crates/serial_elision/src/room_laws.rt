@@ -5,7 +5,7 @@ ghost use Rattle.swan_model.specs.declared.plan.TheConstants.{FUEL_MOST, ROOTS_M
 ghost use Rattle.swan_model.specs.declared.rights.TheConstants.{GIVES_MOST};
 ghost use Rattle.swan_model.specs.Granted.{children_before};
 ghost use Rattle.swan_model.specs.QueueFollows.{QueuesFollow, origin_in};
-ghost use Rattle.swan_model.specs.QueueState.{ActiveFrame, QueueState, active};
+ghost use Rattle.swan_model.specs.QueueState.{ActiveFrame, QueueState, active, COUNT_MOST};
 ghost use Rattle.swan_model.specs.Script.{script};
 ghost use Rattle.swan_model.specs.SerialState.{Activation};
 ghost use Rattle.swan_model.specs.SerialTime.{time};
@@ -31,7 +31,7 @@ pub fn runs_have_room<B: Body>()
     ensures children { (plan : Plan B B.Local) (state : QueueState) (number : ℕ) (frame : ActiveFrame) → plan.fuel ≤ FUEL_MOST
         → QueuesFollow (script B.Body plan) state → active state number ≡ Some frame → frame.children < 4294967295 }
     ensures deeds { (plan : Plan B B.Local) (state : QueueState) (number : ℕ) (frame : ActiveFrame) → plan.fuel ≤ FUEL_MOST
-        → QueuesFollow (script B.Body plan) state → active state number ≡ Some frame → frame.deeds < 18446744073709551615 }
+        → QueuesFollow (script B.Body plan) state → active state number ≡ Some frame → frame.deeds < COUNT_MOST }
 
     // true frames
     ensures spawns { OnStep B.Body (λ at. at.top.children ≡ let s = script B.Body at.plan in children_before s at.path (time s at.path at.k)) }

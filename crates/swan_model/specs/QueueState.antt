@@ -9,6 +9,10 @@ use Rattle.swan_model.specs.declared.rights.Mode.TheVariants.{Push, Pop, PushPop
 use Rattle.swan_model.specs.PathOrder.{comes_before}
 use Rattle.swan_model.specs.Rights.{allows, is_queue_mode}
 
+-- The most that is counted, of deeds, steps, frames and items: counts have 64 bits.
+abbrev pub COUNT_MOST : ℕ
+COUNT_MOST = 18446744073709551615
+
 -- the queue of this number, held by this mode
 pub record QueueRight : Type 0 where
   pub queue : ℕ

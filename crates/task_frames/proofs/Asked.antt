@@ -17,7 +17,7 @@ use Rattle.swan_model.specs.declared.script.Deed.{Deed}
 use Rattle.swan_model.specs.declared.script.Deed.TheVariants as deed
 use Rattle.swan_model.specs.declared.value.Value.{Value}
 use Rattle.swan_model.specs.Granted.{is_spawn}
-use Rattle.swan_model.specs.QueueState.{after_deed}
+use Rattle.swan_model.specs.QueueState.{after_deed, COUNT_MOST}
 use Rattle.swan_model.specs.Readings.{gone_on_by}
 use Rattle.swan_model.specs.Rights.{allows}
 use Rattle.swan_model.specs.Script.{script}
@@ -34,7 +34,7 @@ use Rattle.serial_elision.proofs.Held.{used-at}
 use Rattle.serial_elision.proofs.TaskSteps.{stands-one}
 use Rattle.task_frames.specs.declared.stage.Stage.TheVariants.{Ready}
 use Rattle.task_frames.specs.declared.step.Step.TheVariants as step
-use Rattle.task_frames.specs.Cores.{AtCore, HasIt, KeptView, MayBegin, Mid, STEPS_MOST, asking, one_on}
+use Rattle.task_frames.specs.Cores.{AtCore, HasIt, KeptView, MayBegin, Mid, asking, one_on}
 use Rattle.task_frames.specs.Records.{HasNoLiveChild, IsOnlyLive, LiveFrame, LiveFrames, come_to, live_at}
 use Rattle.task_frames.specs.Resumes.{EndsByFault, IsStep, MayNotUse}
 use Rattle.task_frames.proofs.Goings.{runs-quiet, runs-used, runs-written}
@@ -92,7 +92,7 @@ module _ {B L : Type 0} (G : Ghosts B L) (kept : KeptView) (mid : Mid B L) (asks
 
   -- ---- it can be counted
 
-  pub steps-few : mid.task.done < STEPS_MOST
+  pub steps-few : mid.task.done < COUNT_MOST
   steps-few = let left = has.is.alone.stands.left in let few = few-times G mid.task.plan mid.task.path in let most = has.is.plan.fuel in omega (arith, left, few, most)
 
   -- ---- what it may use

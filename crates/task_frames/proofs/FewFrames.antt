@@ -19,6 +19,7 @@ use Rattle.swan_model.specs.SerialTime.{Progress, Reading}
 use Rattle.swan_model.proofs.Lists.{last_of, some_within}
 use Rattle.swan_model.proofs.Points.{spawns_rise}
 use Rattle.swan_model.proofs.TaskEntries.{spawn_own}
+use Rattle.swan_model.specs.QueueState.{COUNT_MOST}
 use Rattle.serial_elision.proofs.Entries.{le_script}
 
 any-stands : (q : ℕ) (xs : List ℕ) → list_any (eqb q) xs ≡ true → (i : ℕ) × (slice_get xs i ≡ Some q)
@@ -110,5 +111,5 @@ module _ (s : Script) where
         omega (arith, many, most)
 
 -- one more frame of a plan's run has a number
-pub room-for-frame : {B L : Type 0} (G : Ghosts B L) (plan : Plan B L) (r : Reading) (frames : ℕ) → plan.fuel ≤ FUEL_MOST → HasTasks (script G plan) r → length r.frames ≡ frames → frames + 1 < 18446744073709551615
+pub room-for-frame : {B L : Type 0} (G : Ghosts B L) (plan : Plan B L) (r : Reading) (frames : ℕ) → plan.fuel ≤ FUEL_MOST → HasTasks (script G plan) r → length r.frames ≡ frames → frames + 1 < COUNT_MOST
 room-for-frame G plan r frames fuel tasks count = omega (arith, fuel, count, few-frames (script G plan) r tasks, le_script G plan)

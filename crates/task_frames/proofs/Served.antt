@@ -19,7 +19,7 @@ use Rattle.swan_model.specs.declared.script.Script.{Script}
 use Rattle.swan_model.specs.declared.value.Value.{Value}
 use Rattle.swan_model.specs.Lawful.{IsLawful}
 use Rattle.swan_model.specs.QueueFollows.{FitsFrame, next_queue_deed, queue_time}
-use Rattle.swan_model.specs.QueueState.{ActiveFrame, LentEnd}
+use Rattle.swan_model.specs.QueueState.{ActiveFrame, LentEnd, COUNT_MOST}
 use Rattle.swan_model.specs.Readings.{next_deed}
 use Rattle.swan_model.specs.Rights.{allows, is_queue_mode}
 use Rattle.swan_model.specs.Script.{script}
@@ -28,7 +28,7 @@ use Rattle.swan_model.specs.SerialStep.{number_at}
 use Rattle.swan_model.specs.SerialTime.{Progress, is_queue_deed, point, time, times}
 use Rattle.swan_model.specs.Told.{count, deed_at, pushes, taken}
 use Rattle.swan_model.proofs.TaskEntries.{point_is}
-use Rattle.queues.specs.Asks.{DEEDS_MOST, LentEnds, is_end_of, with_deeds}
+use Rattle.queues.specs.Asks.{LentEnds, is_end_of, with_deeds}
 use Rattle.queues.specs.Ends.{HasEnd, IsItemNext, IsNextPop, IsNextPush}
 use Rattle.queues.proofs.NextDeeds.{next_same}
 use Rattle.queues.proofs.ReadingMakes.{deed_time}
@@ -151,7 +151,7 @@ module _ {B L : Type 0} (G : Ghosts B L) (task : Task B L) (name : Option Script
       next-is (deed.Pop has.origin) (pop-deed place has.origin asks has.may) refl
       ∙ ap (λ (o : Origin). Some (deed.Pop o)) (sym (same-queue place number Pop has refl false origin end))
 
-  pub room : ends.deeds < DEEDS_MOST
+  pub room : ends.deeds < COUNT_MOST
   room =
       let most = is.plan.fuel in
       let few = few-deeds G task.plan task.path task.done in

@@ -19,7 +19,7 @@ use Rattle.swan_model.specs.declared.script.Script.{Script}
 use Rattle.swan_model.specs.Granted.{is_spawn}
 use Rattle.swan_model.specs.Lawful.{IsLawful}
 use Rattle.swan_model.specs.QueueFollows.{NextSpawnGivesQueues}
-use Rattle.swan_model.specs.QueueState.{ActiveFrame, MayGive, QueueRight, QueueState, active, after_spawn, child_of as active_child, with_deed}
+use Rattle.swan_model.specs.QueueState.{ActiveFrame, MayGive, QueueRight, QueueState, active, after_spawn, child_of as active_child, with_deed, COUNT_MOST}
 use Rattle.swan_model.specs.Rights.{allows, is_aliased}
 use Rattle.swan_model.specs.Script.{script}
 use Rattle.swan_model.specs.SerialState.{Activation, Holding}
@@ -223,7 +223,7 @@ module _ {B L : Type 0} (G : Ghosts B L) (kept : KeptView) (mid : Mid B L) (chil
         pub number-lesser : n < kept.frames
         number-lesser = spawning.lesser-number G plan kept.reading kept.state kept.live kept.frames has.core.frames n _ (known G kept (asking mid (ask.Spawn child)) has)
 
-        pub room-so : kept.frames < 18446744073709551615
+        pub room-so : kept.frames < COUNT_MOST
         room-so = let room = room-for-frame G plan kept.reading kept.frames has.core.sound.fuel has.core.queues.fit.tasks has.core.frames.count in omega (arith, room)
 
         pub room-children : task.children < FUEL_MOST
@@ -417,7 +417,7 @@ module _ {B L : Type 0} (G : Ghosts B L) (kept : KeptView) (mid : Mid B L) (chil
           frames-same : handed.frames ≡ kept.frames
           frames-same = ap (λ (k : KeptView). k.frames) same
 
-          pub room-then : handed.frames < 18446744073709551615
+          pub room-then : handed.frames < COUNT_MOST
           room-then = omega (arith, room-so, frames-same)
 
           pub rising-then : (m : ℕ) → m ≡ n → m < handed.frames

@@ -216,10 +216,6 @@ asking mid asks = record { task = mid.task; stage = Asking mid.local asks mid.at
 abbrev pub one_on : {B L : Type 0} → Task B L → Task B L
 one_on task = record task { done = task.done + 1; since = task.done + 1 }
 
--- the most steps that a task can have counted
-abbrev pub STEPS_MOST : ℕ
-STEPS_MOST = 18446744073709551615
-
 module _ {B L : Type 0} (G : Ghosts B L) where
   -- it is true for its plan, in the middle of a step too
   pub record IsAtCore (frame : AtCore B L) : Type 0 where

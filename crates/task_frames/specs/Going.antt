@@ -13,8 +13,9 @@ use Rattle.swan_model.specs.Lawful.{IsLawful}
 use Rattle.swan_model.specs.SerialState.{Holding}
 use Rattle.swan_model.specs.SerialStep.{number_at}
 use Rattle.swan_model.specs.Work.{ask_after, AreWork, local_after}
+use Rattle.swan_model.specs.QueueState.{COUNT_MOST}
 use Rattle.queues.specs.Asks.{LentEnds, has_end, with_deeds}
-use Rattle.queues.specs.Ends.{EndCounts, IsItemNext, IsNextPop, IsNextPush, PUSHED_MOST}
+use Rattle.queues.specs.Ends.{EndCounts, IsItemNext, IsNextPop, IsNextPush}
 use Rattle.task_frames.specs.declared.paused.Paused.{Paused}
 use Rattle.task_frames.specs.declared.paused.Paused.TheVariants.{AtCore, Budget, NoMemory}
 use Rattle.task_frames.specs.declared.row.Row.{Row}
@@ -47,7 +48,7 @@ HasLookedInVain before after = before.looks + after.moved < after.looks + before
 -- next number.
 pub data WasFullSince (before after : EndCounts) : Type 0 where
   full : HasLookedInVain before after → after.moved ≡ after.found + after.size → WasFullSince before after
-  counted : after.moved ≡ PUSHED_MOST → WasFullSince before after
+  counted : after.moved ≡ COUNT_MOST → WasFullSince before after
 
 -- An end was found to have nothing: a look since then moved nothing, and all that was found is popped.
 pub record WasEmptySince (before after : EndCounts) : Type 0 where

@@ -2,8 +2,9 @@
 ghost use Rattle.std.specs.Prelude.{◌≡◌, ℕ, ◌+◌, ◌-◌, ◌<◌, ◌≤◌, Some, IfOk};
 ghost use Rattle.swan_model.specs.SerialStep.{number_at};
 ghost use Rattle.swan_model.specs.declared.body.Ask.{Ask as Asked};
+ghost use Rattle.swan_model.specs.QueueState.{COUNT_MOST};
 ghost use Rattle.task_frames.specs.declared.stage.Stage.TheVariants.{Asking, Ready};
-ghost use Rattle.task_frames.specs.Cores.{STEPS_MOST, asking, one_on};
+ghost use Rattle.task_frames.specs.Cores.{asking, one_on};
 
 use crate::holding::number_at;
 use crate::{Holding, Stage};
@@ -82,7 +83,7 @@ impl<B: Body> TaskAtCore<B> {
 
     /// Takes one step. `O(1)`.
     pub fn takes_step(&mut self)
-        requires few { self.old.done < STEPS_MOST }
+        requires few { self.old.done < COUNT_MOST }
         ensures { self.new ≡ one_on self.old }
     {
         self.done += 1;
@@ -90,7 +91,7 @@ impl<B: Body> TaskAtCore<B> {
 
     /// Goes on by so many steps, after which it has this fuel. `O(1)`.
     pub fn goes_on(&mut self, steps: u64, fuel: u64)
-        requires few { self.old.done + steps ≤ STEPS_MOST }
+        requires few { self.old.done + steps ≤ COUNT_MOST }
         ensures { self.new ≡ record self.old { done = self.old.done + steps; since = self.old.done + steps; fuel = fuel } }
     {
         self.done += steps;
@@ -127,7 +128,7 @@ pub struct StagedTask<B: Body> {
 impl<B: Body> StagedTask<B> {
     /// Takes the step in whose middle it is, and is told this. `O(1)`.
     pub fn is_told(&mut self, answer: Answer)
-        requires few { self.old.task.done < STEPS_MOST }
+        requires few { self.old.task.done < COUNT_MOST }
         ensures { (local : B.Local) (ask : Asked B.Local) (at : ℕ) → self.old.stage ≡ Some (Asking local ask at)
             → self.new ≡ record self.old { task = one_on self.old.task; stage = Some (Ready local answer) } }
     {
@@ -293,7 +294,7 @@ impl<B: Body> MidStep<B> {
     /// The frame after the step, which is told this. `O(1)`.
     #[inline(always)]
     pub fn is_told(self, answer: Answer) -> FrameAtCore<B>
-        requires { self.task.done < STEPS_MOST }
+        requires { self.task.done < COUNT_MOST }
         ensures { result ≡ record { task = one_on self.task; stage = Ready self.local answer } }
     {
         let MidStep {

@@ -3,11 +3,11 @@ ghost use Rattle.std.specs.Prelude.{◌≡◌, ◌+◌, ◌<◌, ◌∷◌, ◌+
 ghost use Rattle.std.specs.Option.{option_map};
 ghost use Rattle.swan_model.specs.declared.body.Ask.TheVariants as ask;
 ghost use Rattle.swan_model.specs.declared.origin.Origin.TheVariants as origin;
-ghost use Rattle.swan_model.specs.Readings.{with_object, with_queue};
+ghost use Rattle.swan_model.specs.Readings.{with_object, with_queue, gone_on_by};
 ghost use Rattle.swan_model.specs.Script.{script};
 ghost use Rattle.swan_model.specs.SerialTime.{time};
-ghost use Rattle.swan_model.specs.Readings.{gone_on_by};
-ghost use Rattle.task_frames.specs.Cores.{HasIt, MayBegin, STEPS_MOST, asking};
+ghost use Rattle.swan_model.specs.QueueState.{COUNT_MOST};
+ghost use Rattle.task_frames.specs.Cores.{HasIt, MayBegin, asking};
 ghost use Rattle.task_frames.specs.Records.{IsOnlyLive, come_to, holding_too, live_at};
 ghost use Rattle.task_frames.specs.Resumes.{IsStep};
 
@@ -120,7 +120,7 @@ impl<Q: Queues> Kept<Q> {
         holding: Holding,
         reading: KeptReading,
     ) -> Result<(), NoMemory>
-        requires { done < STEPS_MOST }
+        requires { done < COUNT_MOST }
         ensures same { OnOk result (self.new ≡ record self.old { reading = reading; live = self.new.live }) }
         ensures live { OnOk result (IsOnlyLive self.old.live self.new.live number
             (option_map (come_to (done + 1)) (option_map (holding_too holding) (live_at self.old.live number)))) }

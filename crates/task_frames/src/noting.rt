@@ -2,7 +2,7 @@
 ghost use Rattle.std.specs.Prelude.{◌≡◌, ◌+◌, ◌<◌};
 ghost use Rattle.std.specs.Option.{option_map};
 ghost use Rattle.swan_model.specs.Readings.{gone_on_by};
-ghost use Rattle.task_frames.specs.Cores.{STEPS_MOST};
+ghost use Rattle.swan_model.specs.QueueState.{COUNT_MOST};
 ghost use Rattle.task_frames.specs.Records.{IsOnlyLive, come_to, live_at};
 
 use crate::Kept;
@@ -11,7 +11,7 @@ use queues::Queues;
 impl<Q: Queues> Kept<Q> {
     /// Notes that a frame has taken one step, after so many others. `O(log n)`; it takes no memory.
     pub fn note_step(&mut self, number: u64, done: u64)
-        requires { done < STEPS_MOST }
+        requires { done < COUNT_MOST }
         ensures same { self.new ≡ record self.old { reading = gone_on_by self.old.reading number 1; live = self.new.live } }
         ensures live { IsOnlyLive self.old.live self.new.live number (option_map (come_to (done + 1)) (live_at self.old.live number)) }
     {

@@ -1,6 +1,7 @@
 // What a frame's ends serve.
 ghost use Rattle.std.specs.Prelude.{◌≡◌, ◌+◌, ◌<◌, IfSome, IfNone, OnSome};
-ghost use Rattle.queues.specs.Asks.{DEEDS_MOST, IsSameRun, with_deeds};
+ghost use Rattle.swan_model.specs.QueueState.{COUNT_MOST};
+ghost use Rattle.queues.specs.Asks.{IsSameRun, with_deeds};
 ghost use Rattle.task_frames.specs.Going.{AreLater, IsAnswerTo, IsNextDeed, IsNotServed, deeds_of};
 
 use crate::Holding;
@@ -19,7 +20,7 @@ pub fn serve<E: LocalEnds, L>(
     ask: &mut Ask<L>,
 ) -> Option<Answer>
     // what the frame may do
-    requires room { (E.ends ends.old).deeds < DEEDS_MOST }
+    requires room { (E.ends ends.old).deeds < COUNT_MOST }
     requires next { IsNextDeed (E.name ends.old) holdings.now (E.ends ends.old) ask.old }
 
     // what is answered, and why not

@@ -6,7 +6,7 @@ ghost use Rattle.swan_model.specs.declared.body.Ask.TheVariants as ask;
 ghost use Rattle.swan_model.specs.declared.path.TheConstants.{PATH_MOST as DEPTH};
 ghost use Rattle.swan_model.specs.declared.plan.TheConstants.{FUEL_MOST};
 ghost use Rattle.swan_model.specs.QueueFollows.{NextSpawnGivesQueues};
-ghost use Rattle.swan_model.specs.QueueState.{after_spawn};
+ghost use Rattle.swan_model.specs.QueueState.{after_spawn, COUNT_MOST};
 ghost use Rattle.swan_model.specs.Rights.{is_aliased};
 ghost use Rattle.swan_model.specs.SerialStep.{given};
 ghost use Rattle.queues.specs.Asks.{IsOnTurn, MaySpawn, OnActive, OnNext};
@@ -14,7 +14,7 @@ ghost use Rattle.swan_model.specs.Readings.{gone_on_by};
 ghost use Rattle.queues.specs.Turned.{AreApart, AreGivenTurns, AreOlder};
 ghost use Rattle.task_frames.specs.declared.stage.Stage.TheVariants.{Ready};
 ghost use Rattle.task_frames.specs.declared.step.Step.TheVariants as step;
-ghost use Rattle.task_frames.specs.Cores.{HasIt, MayBegin, STEPS_MOST, asking};
+ghost use Rattle.task_frames.specs.Cores.{HasIt, MayBegin, asking};
 ghost use Rattle.task_frames.specs.Giving.{AreGivesOfQueues, AreMade, GivesObjects, queue_rights};
 ghost use Rattle.task_frames.specs.Records.{come_to, live_at};
 ghost use Rattle.task_frames.specs.Resumes.{IsStep};
@@ -66,7 +66,7 @@ impl<B: Body> MidStep<B> {
         path: Path,
         holdings: Vec<Holding>,
     ) -> Result<Step<B>, NoMemory>
-        requires few { self.task.done < STEPS_MOST }
+        requires few { self.task.done < COUNT_MOST }
         requires cheap { child.fuel ≤ self.task.fuel }
         requires room { self.task.children < FUEL_MOST }
         ensures { IfOk result (λ spawned. spawned ≡ step.Spawned
@@ -248,8 +248,8 @@ impl<Q: Queues> Kept<Q> {
         held: &Vec<Holding>,
     ) -> Result<(), NoMemory>
         // that there is room for the step and for the child
-        requires few { done < STEPS_MOST }
-        requires room { self.old.frames < 18446744073709551615 }
+        requires few { done < COUNT_MOST }
+        requires room { self.old.frames < COUNT_MOST }
         requires rising { parent < self.old.frames }
         requires free { live_at self.old.live self.old.frames ≡ None }
 

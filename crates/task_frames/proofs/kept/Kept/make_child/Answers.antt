@@ -2,7 +2,7 @@ use Rattle.std.proofs.lemmas.Result.{IfOk-weaker}
 use Rattle.task_frames.proofs.Asked.{steps-few}
 use Rattle.task_frames.proofs.SpawnStep.{free-then, gives-asked, next-asked, objects-asked, older-asked, rising-asked, rising-then, room-then, spawn-asked, step-so, turn-asked}
 use Rattle.std.proofs.Common.{◌<◌, sym, subst}
-use Rattle.task_frames.specs.Cores.{STEPS_MOST}
+use Rattle.swan_model.specs.QueueState.{COUNT_MOST}
 use Rattle.task_frames.proofs.kept.Kept.make_child.Goals as goal
 
 pub hand_over-requires-clause-objects : goal.hand_over-requires-clause-objects
@@ -35,7 +35,7 @@ hand_over-requires-clause-gives g c κs within =
 
 pub note_child-requires-clause-few : goal.note_child-requires-clause-few
 note_child-requires-clause-few g c κs within =
-    subst (λ k. k < STEPS_MOST) (sym c.done.ensures) (steps-few g.B.Body _ _ _ c.requires.has)
+    subst (λ k. k < COUNT_MOST) (sym c.done.ensures) (steps-few g.B.Body _ _ _ c.requires.has)
 
 pub note_child-requires-clause-room : goal.note_child-requires-clause-room
 note_child-requires-clause-room g c κs within =

@@ -2,7 +2,8 @@ use Rattle.std.proofs.Common.{◌≡◌, ◌<◌, ◌+◌, None, sym, subst, ap,
 use Rattle.swan_model.specs.declared.rights.Mode.TheVariants.{InOut}
 use Rattle.swan_model.specs.SerialState.{Holding}
 use Rattle.swan_model.specs.Versions.{placed_at}
-use Rattle.task_frames.specs.Cores.{KeptView, Mid, STEPS_MOST}
+use Rattle.swan_model.specs.QueueState.{COUNT_MOST}
+use Rattle.task_frames.specs.Cores.{KeptView, Mid}
 use Rattle.task_frames.proofs.Asked.{steps-few}
 use Rattle.task_frames.proofs.AtPlaces.{noted-place, object-free, object-kept, object-room, object-runs, told-more}
 use Rattle.task_frames.proofs.Given.{over}
@@ -20,11 +21,11 @@ overflow_add-self g c =
     omega (arith, room)
 
 pub note_place-requires-after_bounds : goal.note_place-requires-after_bounds
-note_place-requires-after_bounds g c κs within = subst (λ k. k < STEPS_MOST) (sym c.done-done.ensures) (steps-few g.B.Body _ _ _ c.requires.has)
+note_place-requires-after_bounds g c κs within = subst (λ k. k < COUNT_MOST) (sym c.done-done.ensures) (steps-few g.B.Body _ _ _ c.requires.has)
 
 pub is_told-frame-requires-after_bounds : goal.is_told-frame-requires-after_bounds
 is_told-frame-requires-after_bounds g c κs within =
-    subst (λ (m : Mid g.row.B.Denot g.row.B-Local.Denot). m.task.done < STEPS_MOST) (sym c.in_ok-next.ensures) (steps-few g.B.Body _ _ _ c.requires.has)
+    subst (λ (m : Mid g.row.B.Denot g.row.B-Local.Denot). m.task.done < COUNT_MOST) (sym c.in_ok-next.ensures) (steps-few g.B.Body _ _ _ c.requires.has)
 
 pub returns-clause-step : goal.returns-clause-step
 returns-clause-step g c =

@@ -1,9 +1,9 @@
 use Rattle.std.proofs.Common.{◌≡◌, ◌<◌, Some, length, refl, sym, subst, ap, ◌∙◌}
 use Rattle.swan_model.specs.declared.script.Deed.TheVariants as deed
 use Rattle.swan_model.specs.QueueFollows.{next_queue_deed}
-use Rattle.swan_model.specs.QueueState.{after_create}
+use Rattle.swan_model.specs.QueueState.{after_create, COUNT_MOST}
 use Rattle.queues.specs.Asks.{HasRoom, IsOnTurn, MayDo, OnActive, OnNext}
-use Rattle.task_frames.specs.Cores.{KeptView, Mid, STEPS_MOST}
+use Rattle.task_frames.specs.Cores.{KeptView, Mid}
 use Rattle.task_frames.proofs.Asked.{steps-few}
 use Rattle.task_frames.proofs.AtPlaces.{noted-place, queue-kept, queue-next, queue-room, queue-runs, told-more}
 use Rattle.task_frames.proofs.AtQueues.{may-do, turn}
@@ -25,11 +25,11 @@ create-requires-clause-next g c =
     (queue-next g.B.Body _ _ c.requires.has c.requires.begun)
 
 pub note_place-requires-after_bounds : goal.note_place-requires-after_bounds
-note_place-requires-after_bounds g c κs within = subst (λ k. k < STEPS_MOST) (sym c.done-done.ensures) (steps-few g.B.Body _ _ _ c.requires.has)
+note_place-requires-after_bounds g c κs within = subst (λ k. k < COUNT_MOST) (sym c.done-done.ensures) (steps-few g.B.Body _ _ _ c.requires.has)
 
 pub is_told-frame-requires-after_bounds : goal.is_told-frame-requires-after_bounds
 is_told-frame-requires-after_bounds g c κs within =
-    subst (λ (m : Mid g.row.B.Denot g.row.B-Local.Denot). m.task.done < STEPS_MOST) (sym c.in_ok-next.ensures) (steps-few g.B.Body _ _ _ c.requires.has)
+    subst (λ (m : Mid g.row.B.Denot g.row.B-Local.Denot). m.task.done < COUNT_MOST) (sym c.in_ok-next.ensures) (steps-few g.B.Body _ _ _ c.requires.has)
 
 pub returns-clause-step : goal.returns-clause-step
 returns-clause-step g c =

@@ -2,8 +2,8 @@ use Rattle.std.proofs.Common.{sym, subst, ◌∙◌, ◌<◌}
 use Rattle.swan_model.specs.declared.rights.Mode.TheVariants.{Push}
 use Rattle.swan_model.specs.declared.script.Deed.TheVariants as deed
 use Rattle.swan_model.specs.QueueFollows.{IsNextAbout}
+use Rattle.swan_model.specs.QueueState.{COUNT_MOST}
 use Rattle.queues.specs.Asks.{IsOnTurn, MayUse, OnNext}
-use Rattle.task_frames.specs.Cores.{STEPS_MOST}
 use Rattle.task_frames.proofs.Asked.{noted-so, steps-few}
 use Rattle.task_frames.proofs.AtQueues.{deed-kept, push-may, push-steps, turn}
 use Rattle.task_frames.proofs.Given.{over}
@@ -22,7 +22,7 @@ push-requires-clause-next g c =
     (push-may g.B.Body _ _ _ _ c.requires.has c.in-Some.queue (sym c.number_at.ensures ∙ c.in-Some.is)).1
 
 pub note_step-requires-after_bounds : goal.note_step-requires-after_bounds
-note_step-requires-after_bounds g c κs within = subst (λ k. k < STEPS_MOST) (sym c.done.ensures) (steps-few g.B.Body _ _ _ c.requires.has)
+note_step-requires-after_bounds g c κs within = subst (λ k. k < COUNT_MOST) (sym c.done.ensures) (steps-few g.B.Body _ _ _ c.requires.has)
 
 pub is_told-frame-requires-after_bounds : goal.is_told-frame-requires-after_bounds
 is_told-frame-requires-after_bounds g c κs within = steps-few g.B.Body _ _ _ c.requires.has

@@ -7,7 +7,8 @@ use Rattle.swan_model.specs.VersionsFollow.{ObjectsFollow}
 use Rattle.task_frames.specs.declared.stage.Stage.TheVariants.{Ready}
 use Rattle.swan_model.specs.declared.rights.Mode.TheVariants.{In}
 use Rattle.swan_model.specs.Versions.{Placed, owed, placed_at}
-use Rattle.task_frames.specs.Cores.{AtCore, STEPS_MOST, one_on}
+use Rattle.swan_model.specs.QueueState.{COUNT_MOST}
+use Rattle.task_frames.specs.Cores.{AtCore, one_on}
 use Rattle.task_frames.proofs.Amid.{some-of}
 use Rattle.task_frames.proofs.Asked.{noted-so, steps-few}
 use Rattle.task_frames.proofs.Given.{over}
@@ -23,7 +24,7 @@ value-requires g c =
     }
 
 pub note_step-requires-after_bounds : goal.note_step-requires-after_bounds
-note_step-requires-after_bounds g c κs within = subst (λ k. k < STEPS_MOST) (sym c.done.ensures) (steps-few g.B.Body _ _ _ c.requires.has)
+note_step-requires-after_bounds g c κs within = subst (λ k. k < COUNT_MOST) (sym c.done.ensures) (steps-few g.B.Body _ _ _ c.requires.has)
 
 pub is_told-frame-requires-after_bounds : goal.is_told-frame-requires-after_bounds
 is_told-frame-requires-after_bounds g c κs within = steps-few g.B.Body _ _ _ c.requires.has

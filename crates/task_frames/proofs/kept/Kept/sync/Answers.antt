@@ -1,9 +1,9 @@
 use Rattle.std.proofs.Common.{◌<◌, inl, refl, sym, subst, ◌∙◌}
 use Rattle.swan_model.specs.declared.body.Answer.TheVariants as answer
 use Rattle.swan_model.specs.declared.script.Deed.TheVariants as deed
+use Rattle.swan_model.specs.QueueState.{COUNT_MOST}
 use Rattle.queues.specs.Asks.{IsOnTurn, MayJoin}
 use Rattle.serial_elision.proofs.AskSteps.{syncs}
-use Rattle.task_frames.specs.Cores.{STEPS_MOST}
 use Rattle.task_frames.specs.Records.{HasNoLiveChild, IsLiveChild, IsOldestChild}
 use Rattle.task_frames.proofs.Asked.{noted-so, quiet-so, steps-few}
 use Rattle.task_frames.proofs.Firsts.{waits-oldest}
@@ -30,7 +30,7 @@ sync-requires-clause-turn g c =
     (on-turn-so g.B.Body _ _ c.requires.has c.requires.begun (over (λ k n. (m : _) → ¬ IsLiveChild k.live n m) _ _ _ _ (sym c.self.view_is) (sym c.number-number.ensures) c.in_default.ensures.none))
 
 pub note_step-requires-after_bounds : goal.note_step-requires-after_bounds
-note_step-requires-after_bounds g c κs within = subst (λ k. k < STEPS_MOST) (sym c.done.ensures) (steps-few g.B.Body _ _ _ c.requires.has)
+note_step-requires-after_bounds g c κs within = subst (λ k. k < COUNT_MOST) (sym c.done.ensures) (steps-few g.B.Body _ _ _ c.requires.has)
 
 pub is_told-frame-requires-after_bounds : goal.is_told-frame-requires-after_bounds
 is_told-frame-requires-after_bounds g c κs within = steps-few g.B.Body _ _ _ c.requires.has

@@ -4,9 +4,8 @@ use Rattle.swan_model.specs.declared.script.Deed.TheVariants as deed
 use Rattle.swan_model.specs.QueueFollows.{IsNextAbout}
 use Rattle.queues.specs.Asks.{IsOnTurn, MayUse, OnActive, OnNext}
 use Rattle.queues.specs.Tells.{FindsItem, FindsNone, IsCause, OnQueue}
-use Rattle.task_frames.specs.Cores.{STEPS_MOST}
+use Rattle.swan_model.specs.QueueState.{COUNT_MOST, after_deed}
 use Rattle.task_frames.proofs.Asked.{noted-so, steps-few}
-use Rattle.swan_model.specs.QueueState.{after_deed}
 use Rattle.task_frames.proofs.AtQueues.{IsToldOf, deed-kept, state-kept, test-may, test-steps, turn, waits}
 use Rattle.task_frames.specs.Resumes.{to_test}
 use Rattle.task_frames.proofs.Given.{over}
@@ -32,7 +31,7 @@ returns-in-NotYet-clause-step g c =
     (over (λ k n. OnActive k.state n (λ b. IsCause k.name k.state b c.in-Some.queue c.in-NotYet.wait)) _ _ _ _ (sym c.self.view_is) (sym c.number-number.ensures) c.in-NotYet.ensures.answer)
 
 pub note_step-requires-after_bounds : goal.note_step-requires-after_bounds
-note_step-requires-after_bounds g c κs within = subst (λ k. k < STEPS_MOST) (sym c.done.ensures) (steps-few g.B.Body _ _ _ c.requires.has)
+note_step-requires-after_bounds g c κs within = subst (λ k. k < COUNT_MOST) (sym c.done.ensures) (steps-few g.B.Body _ _ _ c.requires.has)
 
 pub is_told-frame-requires-after_bounds : goal.is_told-frame-requires-after_bounds
 is_told-frame-requires-after_bounds g c κs within = steps-few g.B.Body _ _ _ c.requires.has

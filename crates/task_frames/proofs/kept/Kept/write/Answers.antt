@@ -1,7 +1,7 @@
 use Rattle.std.proofs.Common.{◌<◌, ◌≡◌, Some, refl, sym, subst, ◌∙◌}
 use Rattle.swan_model.specs.declared.rights.Mode.TheVariants.{Out}
 use Rattle.swan_model.specs.Versions.{Placed, after_write, placed_at}
-use Rattle.task_frames.specs.Cores.{STEPS_MOST}
+use Rattle.swan_model.specs.QueueState.{COUNT_MOST}
 use Rattle.task_frames.proofs.Amid.{some-of}
 use Rattle.task_frames.proofs.Asked.{noted-so, steps-few}
 use Rattle.task_frames.proofs.Given.{over}
@@ -17,7 +17,7 @@ write-requires g c =
     }
 
 pub note_step-requires-after_bounds : goal.note_step-requires-after_bounds
-note_step-requires-after_bounds g c κs within = subst (λ k. k < STEPS_MOST) (sym c.done.ensures) (steps-few g.B.Body _ _ _ c.requires.has)
+note_step-requires-after_bounds g c κs within = subst (λ k. k < COUNT_MOST) (sym c.done.ensures) (steps-few g.B.Body _ _ _ c.requires.has)
 
 pub is_told-frame-requires-after_bounds : goal.is_told-frame-requires-after_bounds
 is_told-frame-requires-after_bounds g c κs within = steps-few g.B.Body _ _ _ c.requires.has
