@@ -6,7 +6,7 @@ use Rattle.std.specs.Ordering.{match_ordering}
 use Rattle.std.specs.declared.cmp.Ordering.{Ordering}
 use Rattle.std.specs.declared.cmp.Ordering.TheVariants.{Less, Equal, Greater}
 use Rattle.swan_model.specs.declared.value.Value.{Value}
-use Rattle.line_blocks.specs.LineBlocks.{bytes_of}
+use Rattle.swan_model.specs.Values.{bytes_of}
 use Rattle.index_pipeline.specs.Pairs.{Pair, pair_of, pair_order, pair_text}
 use Rattle.index_pipeline.specs.Records.{record_of}
 

@@ -5,7 +5,8 @@ use Rattle.std.proofs.lemmas.Simd.{map-map}
 use Rattle.std.specs.List.{AllByRecursion}
 use Rattle.swan_model.specs.declared.value.Value.{Value}
 use Rattle.swan_model.specs.declared.value.Value.TheVariants.{Bytes}
-use Rattle.line_blocks.specs.LineBlocks.{byte_count, bytes_of, later}
+use Rattle.swan_model.specs.Values.{bytes_of}
+use Rattle.line_blocks.specs.LineBlocks.{byte_count, later}
 use Rattle.index_pipeline.specs.Index.{pairs_from}
 use Rattle.index_pipeline.specs.Pairs.{Pair}
 use Rattle.index_pipeline.specs.Records.{line_records, record_of, records_from}

@@ -2,7 +2,8 @@
 use Rattle.std.specs.Prelude.{ℕ, List, [], ◌∷◌, ◌++◌, map}
 use Rattle.swan_model.specs.declared.value.Value.{Value}
 use Rattle.swan_model.specs.declared.value.Value.TheVariants.{Bytes}
-use Rattle.line_blocks.specs.LineBlocks.{Lines, bytes_of, later}
+use Rattle.swan_model.specs.Values.{bytes_of}
+use Rattle.line_blocks.specs.LineBlocks.{Lines, later}
 use Rattle.index_pipeline.specs.Pairs.{Pair, pair_text}
 use Rattle.index_pipeline.specs.Words.{words}
 

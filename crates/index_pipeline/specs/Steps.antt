@@ -7,12 +7,13 @@ use Rattle.swan_model.specs.declared.body.Ask.TheVariants as ask
 use Rattle.swan_model.specs.declared.body.Child.{Child}
 use Rattle.swan_model.specs.declared.rights.Mode.TheVariants.{Push, Pop}
 use Rattle.swan_model.specs.declared.value.Value.{Value}
+use Rattle.swan_model.specs.Values.{bytes_of}
 use Rattle.line_blocks.specs.declared.line_reader.LineStep.{LineStep}
 use Rattle.line_blocks.specs.declared.line_reader.LineStep.TheVariants as lines
 use Rattle.line_blocks.specs.declared.queue_reader.QueueReader.TheVariants as reader
 use Rattle.line_blocks.specs.declared.queue_reader.ReaderStep.{ReaderStep}
 use Rattle.line_blocks.specs.declared.queue_reader.ReaderStep.TheVariants as step
-use Rattle.line_blocks.specs.LineBlocks.{Lines, byte_count, bytes_of, no_lines}
+use Rattle.line_blocks.specs.LineBlocks.{Lines, byte_count, no_lines}
 use Rattle.line_blocks.specs.LineReading.{line_step}
 use Rattle.line_blocks.specs.Readers.{step_of}
 use Rattle.index_pipeline.specs.declared.body.IndexBody.{IndexBody}

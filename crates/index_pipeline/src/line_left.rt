@@ -1,6 +1,6 @@
 // The words of a line that are left.
 ghost use Rattle.std.specs.Prelude.{◌≡◌, ◌<◌, ◌++◌, [], length, true, false, IfOk, OnOk};
-ghost use Rattle.line_blocks.specs.LineBlocks.{bytes_of};
+ghost use Rattle.swan_model.specs.Values.{bytes_of};
 ghost use Rattle.index_pipeline.specs.Batches.{has_room};
 ghost use Rattle.index_pipeline.specs.Records.{line_records};
 ghost use Rattle.index_pipeline.specs.declared.word.TheConstants.{WORD_MOST};
@@ -24,7 +24,7 @@ pub struct LineLeft {
 impl Model for LineLeft {
     ghost use Rattle.std.specs.Prelude.{List, ◌≤◌, drop, length};
     ghost use Rattle.swan_model.specs.declared.value.Value.{Value as Item};
-    ghost use Rattle.line_blocks.specs.LineBlocks.{bytes_of};
+    ghost use Rattle.swan_model.specs.Values.{bytes_of};
     ghost use Rattle.index_pipeline.specs.Records.{line_records};
 
     ghost Value = { List Item };

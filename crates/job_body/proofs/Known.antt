@@ -9,7 +9,8 @@ use Rattle.job_body.specs.declared.block.Block.{Block}
 use Rattle.job_body.specs.declared.scope.Scope.{Scope as Known}
 use Rattle.job_body.specs.Blocks.{blocks_after, blocks_at, blocks_from}
 use Rattle.job_body.specs.Compiled.{entered, seen_at}
-use Rattle.job_body.specs.Tasks.{Scope, access_of, is_main, made_of, param_of, roots, scope_after, scope_at, scope_from, top_lines, var_of}
+use Rattle.job_body.specs.Tasks.{Scope, access_of, made_of, param_of, roots, scope_after, scope_at, scope_from, top_lines, var_of}
+use Rattle.privilege_check.specs.Names.{is_main}
 
 -- what a scope and open blocks say
 abbrev seen : List (List ℕ) → Scope → List Block → Known

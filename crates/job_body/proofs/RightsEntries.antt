@@ -4,7 +4,8 @@ use Rattle.std.proofs.lemmas.List.{append-nil, map-append}
 use Rattle.job_reader.specs.declared.line.Line.{Line}
 use Rattle.job_reader.specs.declared.line.Line.TheVariants as line
 use Rattle.swan_model.specs.declared.rights.Mode.TheVariants.{InOut, Push, Pop, PushPop}
-use Rattle.job_body.specs.Tasks.{Scope, access_of, before_task, is_main, made_of, places, root_object_of, root_queue_of, roots, scope_at, top_lines}
+use Rattle.job_body.specs.Tasks.{Scope, access_of, before_task, made_of, places, root_object_of, root_queue_of, roots, scope_at, top_lines}
+use Rattle.privilege_check.specs.Names.{is_main}
 use Rattle.job_body.proofs.RightsNames.{Entry, names}
 
 abbrev pub access_entry : Line → List Entry

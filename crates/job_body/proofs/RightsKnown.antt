@@ -18,10 +18,10 @@ use Rattle.job_reader.specs.declared.position.Position.{Position}
 use Rattle.job_reader.specs.declared.position.Position.TheVariants.{First, Top, InTask, InDo, Outside}
 use Rattle.privilege_check.specs.FirstFault.{check_line, fresh}
 use Rattle.privilege_check.specs.Names as checks
-use Rattle.privilege_check.specs.Names.{Before, at_start, declared, declared_in, known, known_in, opened, taken, taken_by, with_name, with_taken}
+use Rattle.privilege_check.specs.Names.{Before, at_start, declared, declared_in, known, known_in, opened, taken, taken_by, with_name, with_taken, is_main}
 use Rattle.privilege_check.specs.declared.declaration.Declaration.{Declaration}
 use Rattle.privilege_check.specs.declared.declaration.Declaration.TheVariants.{Variable, Held}
-use Rattle.job_body.specs.Tasks.{Scope, before_task, is_main, scope_after, scope_from, top_lines}
+use Rattle.job_body.specs.Tasks.{Scope, before_task, scope_after, scope_from, top_lines}
 use Rattle.job_body.proofs.Known.{scope-push, take-push}
 use Rattle.job_body.proofs.RightsNames.{Entry, mode_known, mode_of, declared-held, declared-variable}
 use Rattle.job_body.proofs.RightsEntries.{access_entry, made_entry, root_queue_entry, root_object_entry, root_entries, roots_held, entries, entries-more, root_entries-more, access-between, made-between, none-between}

@@ -17,14 +17,14 @@ use Rattle.job_reader.specs.declared.line.Line.{Line}
 use Rattle.job_reader.specs.declared.line.Line.TheVariants as line
 use Rattle.job_reader.specs.declared.position.Position.{Position}
 use Rattle.job_reader.specs.declared.position.Position.TheVariants.{First, Top, InTask, InDo, Outside}
-use Rattle.privilege_check.specs.Names.{Before, at_start, known}
+use Rattle.privilege_check.specs.Names.{Before, at_start, known, is_main}
 use Rattle.privilege_check.specs.Names as checks
 use Rattle.privilege_check.specs.Spawns as spawns
 use Rattle.privilege_check.specs.Spawns.{arguments, as_child, is_lent_twice, lent}
 use Rattle.privilege_check.specs.Uses.{value}
 use Rattle.privilege_check.specs.declared.declaration.Declaration.{Declaration}
 use Rattle.job_body.specs.Steps as steps
-use Rattle.job_body.specs.Tasks.{Scope, before_task, is_main, scope_at, task_index, top_lines}
+use Rattle.job_body.specs.Tasks.{Scope, before_task, scope_at, task_index, top_lines}
 use Rattle.job_body.proofs.RightsEntries.{access_entry, entries, held_at, held_with, made_entry, names-entries, root_entries, roots_held}
 use Rattle.job_body.proofs.RightsKnown.{KnownAt, KnownInTask, known-at}
 use Rattle.job_body.proofs.RightsNames.{mode_known, mode_of, modes, position}

@@ -20,7 +20,7 @@ use Rattle.job_reader.specs.declared.fault.JobKind.TheVariants as fault
 use Rattle.job_reader.specs.declared.line.Line.{Line}
 use Rattle.privilege_check.specs.Names.{Names}
 use Rattle.privilege_check.specs.Spawns as spawns
-use Rattle.privilege_check.specs.Spawns.{argument, arguments, in_front_of, is_lent_twice, lent}
+use Rattle.privilege_check.specs.Spawns.{argument, arguments, is_lent_twice, lent}
 use Rattle.privilege_check.specs.Uses.{as_held, held, is_asked, is_same_sort}
 use Rattle.privilege_check.specs.declared.declaration.Declaration.{Declaration}
 use Rattle.privilege_check.specs.declared.declaration.Declaration.TheVariants.{Variable, Held}

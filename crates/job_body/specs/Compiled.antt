@@ -3,7 +3,8 @@
 use Rattle.std.specs.Prelude.{◌≡◌, ◌≤◌, ℕ, ◌+◌, false, Option, Some, None, List, [], ◌∷◌, ◌++◌, length, drop, flat_map, zip, slice_get, unwrap_or, pos, if◌then◌else◌}
 use Rattle.job_body.specs.Blocks.{after_end, blocks_at, exits, first_exit, innermost}
 use Rattle.job_body.specs.Names.{slot}
-use Rattle.job_body.specs.Tasks.{access_of, before_task, executed_from, is_main, made_of, param_of, roots, scope_at, takes, top_lines, var_kinds, var_of}
+use Rattle.job_body.specs.Tasks.{access_of, before_task, executed_from, made_of, param_of, roots, scope_at, takes, top_lines, var_kinds, var_of}
+use Rattle.privilege_check.specs.Names.{is_main}
 use Rattle.job_body.specs.declared.block.Block.{Block}
 use Rattle.job_body.specs.declared.block.Block.TheVariants as opened
 use Rattle.job_body.specs.declared.exit.Exit.{Exit}

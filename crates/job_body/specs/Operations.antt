@@ -1,5 +1,5 @@
 -- The operations of assignments. Each takes values, and gives a value or a trouble.
-use Rattle.std.specs.Prelude.{ℕ, ◌+◌, ◌^◌, ◌==◌, nat_lt, nat_le, Bool, true, false, not, ◌&&◌, ◌||◌, ℤ, pos, negsuc, ◌+ℤ◌, ◌-ℤ◌, ◌*ℤ◌, int_lt, int_le, int_div, int_rem, Option, Some, None, Result, Ok, Err, List, [], ◌++◌, length, drop, bytes_eq, position, slice_get, slice_range, if◌then◌else◌}
+use Rattle.std.specs.Prelude.{ℕ, ◌+◌, ◌==◌, nat_le, Bool, true, false, not, ◌&&◌, ◌||◌, ℤ, pos, negsuc, ◌+ℤ◌, ◌-ℤ◌, ◌*ℤ◌, int_lt, int_le, int_div, int_rem, Option, Some, None, Result, Ok, Err, List, ◌++◌, length, drop, bytes_eq, position, slice_get, slice_range, if◌then◌else◌}
 use Rattle.std.specs.Fmt.{signed_decimal}
 use Rattle.std.specs.Ordering.{int_eq}
 use Rattle.job_reader.specs.Atoms.{number}
@@ -10,16 +10,13 @@ use Rattle.swan_model.specs.declared.fault.Trouble.TheVariants.{Overflow, Divide
 use Rattle.swan_model.specs.declared.record.TheConstants.{RECORD_MOST}
 use Rattle.swan_model.specs.declared.value.Value.{Value}
 use Rattle.swan_model.specs.declared.value.Value.TheVariants.{Int, Bytes}
+use Rattle.swan_model.specs.Values.{bytes_of, fits_64}
 
--- A value where a number is asked, and where bytes are asked. One of the other kind counts as the zero
--- of the kind that is asked; in a checked job there is none.
+-- A value where a number is asked. One of bytes counts as 0, as a number counts as no bytes where bytes are asked (`bytes_of`);
+-- in a checked job there is none of the other kind.
 abbrev pub number_of : Value → ℤ
 number_of (Int n) = n
 number_of (Bytes bytes) = pos 0
-
-abbrev pub bytes_of : Value → List ℕ
-bytes_of (Int n) = []
-bytes_of (Bytes bytes) = bytes
 
 -- a number is true unless it is 0
 abbrev pub is_zero : ℤ → Bool
@@ -35,12 +32,8 @@ flag true = Int (pos 1)
 flag false = Int (pos 0)
 
 -- a number that fits 64 bits with its sign, and bytes that fit a record
-abbrev pub fits : ℤ → Bool
-fits (pos n) = nat_lt n (2 ^ 63)
-fits (negsuc n) = nat_lt n (2 ^ 63)
-
 abbrev pub fitting : ℤ → Result Value Trouble
-fitting n = if fits n then Ok (Int n) else Err Overflow
+fitting n = if fits_64 n then Ok (Int n) else Err Overflow
 
 abbrev pub fitting_bytes : List ℕ → Result Value Trouble
 fitting_bytes bytes = if nat_le (length bytes) RECORD_MOST then Ok (Bytes bytes) else Err TooLong

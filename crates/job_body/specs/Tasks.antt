@@ -1,10 +1,11 @@
 -- The tasks of a job: their lines, the names that are known in them, and what is given to them.
-use Rattle.std.specs.Prelude.{ℕ, ◌+◌, Bool, true, false, List, [], ◌∷◌, ◌++◌, drop, flat_map, map, take, codes, bytes_eq, if◌then◌else◌}
+use Rattle.std.specs.Prelude.{ℕ, ◌+◌, Bool, true, false, List, [], ◌∷◌, ◌++◌, drop, flat_map, map, take, bytes_eq, if◌then◌else◌}
 use Rattle.std.specs.List.{position_or_len}
 use Rattle.job_reader.specs.declared.line.Line.{Line}
 use Rattle.job_reader.specs.declared.line.Line.TheVariants.{Input, Output, Object, Task, Param, Access, Var, Queue, Assign, Read, Write, Push, Pop, Empty, Spawn, Sync, Fuel, Fail, If, Else, While, End}
 use Rattle.swan_model.specs.declared.value.Kind.{Kind}
 use Rattle.swan_model.specs.declared.value.Value.{Value}
+use Rattle.privilege_check.specs.Names.{is_main}
 use Rattle.job_body.specs.declared.take.Take.{Take}
 use Rattle.job_body.specs.declared.take.Take.TheVariants as given
 use Rattle.swan_model.specs.Values.{zero_of}
@@ -133,9 +134,6 @@ root_object_of _ = []
 
 abbrev pub roots : List Line → List (List ℕ)
 roots top = flat_map root_queue_of top ++ flat_map root_object_of top
-
-abbrev pub is_main : List ℕ → Bool
-is_main name = bytes_eq name (codes "main")
 
 abbrev pub roots_of : List Line → List ℕ → List (List ℕ)
 roots_of lines name = if is_main name then roots (top_lines lines) else []

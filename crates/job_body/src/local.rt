@@ -24,11 +24,11 @@ impl Model for JobLocal {
 impl JobLocal {
     ghost use Rattle.std.specs.Prelude.{◌≡◌, ◌≤◌, ◌+◌, length, Some, IfOk};
     ghost use Rattle.std.specs.Option.{option_copied};
-    ghost use Rattle.job_body.specs.Operations.{bytes_of, number_of};
+    ghost use Rattle.job_body.specs.Operations.{number_of};
+    ghost use Rattle.swan_model.specs.Values.{bytes_of, kind_of};
     ghost use Rattle.job_body.specs.Runs.{answered, gone, number_in, record_of, set_by, value_in, value_of, with_slot};
     ghost use Rattle.swan_model.specs.declared.record.TheConstants.{RECORD_MOST};
     ghost use Rattle.swan_model.specs.declared.value.Value.TheVariants.{Int};
-    ghost use Rattle.swan_model.specs.Values.{kind_of};
 
     /// A local with these parts. `O(1)`.
     pub(crate) fn new(before: u32, at: u32, values: Vec<Value>) -> JobLocal

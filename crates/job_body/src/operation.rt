@@ -1,6 +1,6 @@
 // Operations on values.
 ghost use Rattle.std.specs.Prelude.{◌≡◌, ◌≤◌, ◌+ℤ◌, ◌-ℤ◌, ◌*ℤ◌, ◌++◌, ◌==◌, pos, length, drop, position, IfOk};
-ghost use Rattle.job_body.specs.Operations.{number_of, bytes_of, flag, fitting, quotient, rest, is_equal, is_true, byte_at, part, found, fitting_bytes, numbered, up_to, place_after};
+ghost use Rattle.job_body.specs.Operations.{number_of, flag, fitting, quotient, rest, is_equal, is_true, byte_at, part, found, fitting_bytes, numbered, up_to, place_after};
 ghost use Rattle.job_body.specs.Runs.{int_operation, valued};
 ghost use Rattle.swan_model.specs.declared.value.Value.TheVariants.{Int, Bytes};
 ghost use Rattle.job_reader.specs.Atoms.{number};

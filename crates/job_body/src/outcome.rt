@@ -1,6 +1,7 @@
 // The value of an operation on operands.
 ghost use Rattle.std.specs.Prelude.{◌≡◌, IfOk};
-ghost use Rattle.job_body.specs.Operations.{bytes_of, is_equal, number_of, operation, part};
+ghost use Rattle.swan_model.specs.Values.{bytes_of};
+ghost use Rattle.job_body.specs.Operations.{is_equal, number_of, operation, part};
 ghost use Rattle.job_body.specs.Runs.{int_operation, value_of};
 
 use crate::JobLocal;

@@ -46,7 +46,7 @@ impl Scope {
     ghost use Rattle.std.specs.Prelude.{◌≡◌, ◌<◌, ◌≤◌, ◌+◌, ◌++◌, length, IfOk, IfSome};
     ghost use Rattle.job_body.specs.Compiled.{KnowsFew, entered, entered_task, operand_of, place_in, place_of_atom, places_in, roots_in, scope_before, slot_in};
     ghost use Rattle.job_body.specs.Names.{slot};
-    ghost use Rattle.job_body.specs.Tasks.{is_main};
+    ghost use Rattle.privilege_check.specs.Names.{is_main};
 
     /// What is known before the first line. `O(1)`.
     pub fn new(alloc: Global, roots: NameTable) -> Scope

@@ -13,11 +13,11 @@ use Rattle.job_reader.specs.declared.position.Position.TheVariants.{First}
 use Rattle.job_reader.proofs.LineEnds.{nothing_left}
 
 -- what is read, after lines that are read already
-abbrev pub in_front : List Line → Result (List Line) JobFault → Result (List Line) JobFault
-in_front front (Ok more) = Ok (front ++ more)
-in_front front (Err fault) = Err fault
+abbrev pub with_lines_before : List Line → Result (List Line) JobFault → Result (List Line) JobFault
+with_lines_before front (Ok more) = Ok (front ++ more)
+with_lines_before front (Err fault) = Err fault
 
-one_more : (front : List Line) (line : Line) (rest : Result (List Line) JobFault) → in_front front (and_others line rest) ≡ in_front (front ++ line ∷ []) rest
+one_more : (front : List Line) (line : Line) (rest : Result (List Line) JobFault) → with_lines_before front (and_others line rest) ≡ with_lines_before (front ++ line ∷ []) rest
 one_more front line (Ok more) = ap (λ l. Ok l) (sym (append_assoc front (line ∷ []) more))
 one_more front line (Err fault) = refl
 
@@ -32,25 +32,25 @@ at_fault position k (Ok other) is = cc
 at_fault position k (Err j) is = let same : j ≡ k = cc in ap (λ x. Err x) same
 
 -- a turn: the text from here on is a line and more
-module _ (text : List ℕ) (front : List Line) (number : ℕ) (position : Position) (rest bytes more : List ℕ) (told : in_front front (job_from number position (lines rest)) ≡ job_from 1 First (lines text)) (split : lines rest ≡ bytes ∷ lines more) (is_last : Bool) (left : is_last ≡ (length more == 0)) where
-  at_turn : in_front front (or_fault number (line_at number (is_nothing (lines more)) position bytes) (λ line. and_others line (job_from (number + 1) (after position line) (lines more)))) ≡ job_from 1 First (lines text)
-  at_turn = ap (λ ls. in_front front (job_from number position ls)) (sym split) ∙ told
+module _ (text : List ℕ) (front : List Line) (number : ℕ) (position : Position) (rest bytes more : List ℕ) (told : with_lines_before front (job_from number position (lines rest)) ≡ job_from 1 First (lines text)) (split : lines rest ≡ bytes ∷ lines more) (is_last : Bool) (left : is_last ≡ (length more == 0)) where
+  at_turn : with_lines_before front (or_fault number (line_at number (is_nothing (lines more)) position bytes) (λ line. and_others line (job_from (number + 1) (after position line) (lines more)))) ≡ job_from 1 First (lines text)
+  at_turn = ap (λ ls. with_lines_before front (job_from number position ls)) (sym split) ∙ told
 
-  pub turn_line : (line : Line) (next : Position) → with_position position (line_at number is_last position bytes) ≡ Ok (line, next) → in_front (front ++ line ∷ []) (job_from (number + 1) next (lines more)) ≡ job_from 1 First (lines text)
+  pub turn_line : (line : Line) (next : Position) → with_position position (line_at number is_last position bytes) ≡ Ok (line, next) → with_lines_before (front ++ line ∷ []) (job_from (number + 1) next (lines more)) ≡ job_from 1 First (lines text)
   turn_line line next is =
       let found = at_position position next line (line_at number is_last position bytes) is in
       let read : line_at number (is_nothing (lines more)) position bytes ≡ Ok line = ap (λ b. line_at number b position bytes) (nothing_left more ∙ sym left) ∙ found.0 in
-      ap (λ p. in_front (front ++ line ∷ []) (job_from (number + 1) p (lines more))) found.1
+      ap (λ p. with_lines_before (front ++ line ∷ []) (job_from (number + 1) p (lines more))) found.1
       ∙ sym (one_more front line (job_from (number + 1) (after position line) (lines more)))
-      ∙ ap (λ r. in_front front (or_fault number r (λ l. and_others l (job_from (number + 1) (after position l) (lines more))))) (sym read)
+      ∙ ap (λ r. with_lines_before front (or_fault number r (λ l. and_others l (job_from (number + 1) (after position l) (lines more))))) (sym read)
       ∙ at_turn
 
   pub turn_fault : (k : JobKind) → with_position position (line_at number is_last position bytes) ≡ Err k → job_from 1 First (lines text) ≡ Err (record { line = number; kind = k })
   turn_fault k is =
       let read : line_at number (is_nothing (lines more)) position bytes ≡ Err k = ap (λ b. line_at number b position bytes) (nothing_left more ∙ sym left) ∙ at_fault position k (line_at number is_last position bytes) is in
-      sym at_turn ∙ ap (λ r. in_front front (or_fault number r (λ l. and_others l (job_from (number + 1) (after position l) (lines more))))) read
+      sym at_turn ∙ ap (λ r. with_lines_before front (or_fault number r (λ l. and_others l (job_from (number + 1) (after position l) (lines more))))) read
 
-pub all_read : (text : List ℕ) (front : List Line) (number : ℕ) (position : Position) (rest : List ℕ) → in_front front (job_from number position (lines rest)) ≡ job_from 1 First (lines text) → length rest ≡ 0 → job_from 1 First (lines text) ≡ Ok front
+pub all_read : (text : List ℕ) (front : List Line) (number : ℕ) (position : Position) (rest : List ℕ) → with_lines_before front (job_from number position (lines rest)) ≡ job_from 1 First (lines text) → length rest ≡ 0 → job_from 1 First (lines text) ≡ Ok front
 all_read text front number position [] told none = sym told ∙ ap (λ l. Ok l) (append-nil front)
 all_read text front number position (byte ∷ bytes) told none = absurd (omega arith)
 

@@ -1,7 +1,7 @@
 -- Lines in a row.
 use Rattle.std.specs.Prelude.{ℕ, ◌+◌, ◌-◌, ◌^◌, min, Option, Some, None, List, [], ◌∷◌, ◌++◌, length}
 use Rattle.swan_model.specs.declared.value.Value.{Value}
-use Rattle.swan_model.specs.declared.value.Value.TheVariants.{Int, Bytes}
+use Rattle.swan_model.specs.Values.{bytes_of}
 
 -- lines in a row, and the number of the first of them
 pub record Lines : Type 0 where
@@ -23,11 +23,6 @@ with_line held line = record held { lines = held.lines ++ line ∷ [] }
 -- before the line that comes after these
 abbrev pub after_lines : Lines → Lines
 after_lines held = record { number = later held.number (length held.lines); lines = [] }
-
--- the bytes of a line; a number has none
-abbrev pub bytes_of : Value → List ℕ
-bytes_of (Bytes bytes) = bytes
-bytes_of (Int number) = []
 
 -- how many bytes a line has, where there is one
 abbrev pub line_len : Option Value → ℕ

@@ -1,6 +1,7 @@
 // Blocks of lines.
 ghost use Rattle.std.specs.Prelude.{◌≡◌, ◌<◌, ◌≤◌, ◌∷◌, [], length, MatchOption, IsTrue, ◌↔◌, ◌*◌, slice_get};
-ghost use Rattle.line_blocks.specs.LineBlocks.{byte_count, bytes_of, later, line_len};
+ghost use Rattle.swan_model.specs.Values.{bytes_of};
+ghost use Rattle.line_blocks.specs.LineBlocks.{byte_count, later, line_len};
 
 use std::collections::VecDeque;
 use std::marker::Model;

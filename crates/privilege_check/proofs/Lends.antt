@@ -13,7 +13,7 @@ use Rattle.swan_model.specs.declared.value.Kind.{Kind}
 use Rattle.job_reader.specs.declared.atom.Atom.{Atom}
 use Rattle.job_reader.specs.declared.atom.Atom.TheVariants as atom
 use Rattle.privilege_check.specs.Lending.{clashes}
-use Rattle.privilege_check.specs.Spawns.{clash, in_front_of, is_lent_twice, lent}
+use Rattle.privilege_check.specs.Spawns.{clash, with_gift, is_lent_twice, lent}
 use Rattle.privilege_check.specs.declared.declaration.Declaration.{Declaration}
 use Rattle.privilege_check.specs.declared.declaration.Declaration.TheVariants.{Variable, Held}
 
@@ -67,7 +67,7 @@ none_lent : (takes : List Declaration) → lent takes [] ≡ []
 none_lent [] = refl
 none_lent (t ∷ takes) = refl
 
-front_twice : (t : Declaration) (a : Atom) (gifts : List (List ℕ × Mode)) → is_lent_twice gifts ≡ true → is_lent_twice (in_front_of t a gifts) ≡ true
+front_twice : (t : Declaration) (a : Atom) (gifts : List (List ℕ × Mode)) → is_lent_twice gifts ≡ true → is_lent_twice (with_gift t a gifts) ≡ true
 front_twice (Variable k) a gifts twice = twice
 front_twice (Held mode k) (atom.Int n) gifts twice = twice
 front_twice (Held mode k) (atom.Bytes bytes) gifts twice = twice

@@ -32,12 +32,12 @@ arguments names (takes ∷ more) (a ∷ others) = argument names takes a >>= λ 
 arguments names _ _ = Ok tt
 
 -- the objects and queues among them, each with how the child may use it
-abbrev pub in_front_of : Declaration → Atom → List (List ℕ × Mode) → List (List ℕ × Mode)
-in_front_of (Held mode k) (atom.Name name) others = (name, mode) ∷ others
-in_front_of _ _ others = others
+abbrev pub with_gift : Declaration → Atom → List (List ℕ × Mode) → List (List ℕ × Mode)
+with_gift (Held mode k) (atom.Name name) others = (name, mode) ∷ others
+with_gift _ _ others = others
 
 abbrev pub lent : List Declaration → List Atom → List (List ℕ × Mode)
-lent (takes ∷ more) (a ∷ others) = in_front_of takes a (lent more others)
+lent (takes ∷ more) (a ∷ others) = with_gift takes a (lent more others)
 lent _ _ = []
 
 -- whether some object or queue stands twice among them, and not only to read

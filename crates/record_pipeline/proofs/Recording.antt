@@ -6,7 +6,8 @@ use Rattle.swan_model.specs.declared.fault.FaultKind.TheVariants as kind
 use Rattle.swan_model.specs.declared.fault.Trouble.{Trouble}
 use Rattle.swan_model.specs.declared.value.Value.{Value}
 use Rattle.swan_model.specs.declared.value.Value.TheVariants.{Bytes}
-use Rattle.line_blocks.specs.LineBlocks.{bytes_of, later}
+use Rattle.swan_model.specs.Values.{bytes_of}
+use Rattle.line_blocks.specs.LineBlocks.{later}
 use Rattle.record_pipeline.specs.Conversion.{fault_of, faults_from, records_of, trouble_of, unless_trouble}
 use Rattle.record_pipeline.specs.Netstrings.{netstrings}
 

@@ -3,7 +3,7 @@ use Rattle.std.proofs.Common.{◌≡◌, ℕ, Some, None, List, [], ◌∷◌, l
 use Rattle.std.specs.Prelude.{slice_get}
 use Rattle.swan_model.specs.declared.value.Value.{Value}
 use Rattle.swan_model.specs.declared.value.Value.TheVariants.{Bytes}
-use Rattle.line_blocks.specs.LineBlocks.{bytes_of}
+use Rattle.swan_model.specs.Values.{bytes_of}
 use Rattle.record_pipeline.specs.Conversion.{width_of}
 use Rattle.record_pipeline.specs.Netstrings.{fields}
 use Rattle.record_pipeline.specs.Plans.{first_width}

@@ -3,8 +3,9 @@ use Rattle.std.specs.Prelude.{ℕ, ◌+◌, ◌*◌, List, [], ◌∷◌, length
 use Rattle.swan_model.specs.declared.plan.Plan.{Plan}
 use Rattle.swan_model.specs.declared.value.Value.{Value}
 use Rattle.swan_model.specs.Lines.{lines}
+use Rattle.swan_model.specs.Values.{bytes_of}
 use Rattle.line_blocks.specs.declared.queue_reader.QueueReader.TheVariants.{Looks}
-use Rattle.line_blocks.specs.LineBlocks.{bytes_of, no_lines}
+use Rattle.line_blocks.specs.LineBlocks.{no_lines}
 use Rattle.line_blocks.specs.TextRoots.{text_roots}
 use Rattle.record_pipeline.specs.declared.body.RecordBody.{RecordBody}
 use Rattle.record_pipeline.specs.declared.local.RecordLocal.{RecordLocal}

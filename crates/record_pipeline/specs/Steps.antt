@@ -8,9 +8,10 @@ use Rattle.swan_model.specs.declared.fault.Trouble.{Trouble}
 use Rattle.swan_model.specs.declared.rights.Mode.TheVariants.{Push}
 use Rattle.swan_model.specs.declared.value.Value.{Value}
 use Rattle.swan_model.specs.declared.value.Value.TheVariants.{Bytes}
+use Rattle.swan_model.specs.Values.{bytes_of}
 use Rattle.line_blocks.specs.declared.line_reader.LineStep.{LineStep}
 use Rattle.line_blocks.specs.declared.line_reader.LineStep.TheVariants as lines
-use Rattle.line_blocks.specs.LineBlocks.{Lines, bytes_of, later}
+use Rattle.line_blocks.specs.LineBlocks.{Lines, later}
 use Rattle.line_blocks.specs.LineReading.{line_step}
 use Rattle.line_blocks.specs.Readers.{step_of}
 use Rattle.record_pipeline.specs.declared.body.RecordBody.{RecordBody}

@@ -18,9 +18,10 @@ use Rattle.swan_model.specs.Lines.{lines, refusal_of}
 use Rattle.swan_model.specs.SerialState.{Holding}
 use Rattle.swan_model.specs.Texts.{line, out_bytes}
 use Rattle.line_blocks.specs.declared.queue_reader.QueueReader.TheVariants as reader
-use Rattle.line_blocks.specs.LineBlocks.{Lines, bytes_of, later}
+use Rattle.line_blocks.specs.LineBlocks.{Lines, later}
 use Rattle.line_blocks.specs.TextRoots.{text_names}
 use Rattle.swan_model.proofs.FewLines.{few_lines}
+use Rattle.swan_model.specs.Values.{bytes_of}
 use Rattle.line_blocks.proofs.Reading.{hands_block, holds_line, lines_after}
 use Rattle.whole_runs.specs.Whole.{Contents, RunsWhole}
 use Rattle.whole_runs.proofs.BlockReaders.{Reader, IsGiven, begun, last, reading, reads_alone}

@@ -2,7 +2,8 @@
 use Rattle.std.proofs.Common.{◌≡◌, ◌^◌, ◌<◌, Bool, true, false, cond, Some, None, refl, ap, arith, rules, tests}
 use Rattle.std.specs.Prelude.{ℤ, pos, negsuc, FitsSigned}
 use Rattle.std.specs.Int.{w64}
-use Rattle.swan_reducers.specs.Sums.{fits_64, narrowed}
+use Rattle.swan_model.specs.Values.{fits_64}
+use Rattle.swan_reducers.specs.Sums.{narrowed}
 
 fits : (sum : ℤ) → FitsSigned w64 sum → fits_64 sum ≡ true
 fits (pos n) is = let e : n < 2 ^ 63 = omega (arith, is.sfits) in search (rules, tests)

@@ -1,9 +1,10 @@
 -- The reducer of sums. A part is the 16 bytes of a number of 128 bits in two's complement, the highest first, and
 -- parts are joined by their sum, which wraps there.
-use Rattle.std.specs.Prelude.{ℕ, ◌^◌, ◌==◌, nat_lt, Bool, ◌&&◌, ℤ, pos, negsuc, ◌+ℤ◌, Option, Some, None, option_map, Result, Ok, Err, if◌then◌else◌, List, [], ◌∷◌, length}
+use Rattle.std.specs.Prelude.{ℕ, ◌==◌, nat_lt, Bool, ◌&&◌, ℤ, pos, ◌+ℤ◌, Option, Some, None, option_map, Result, Ok, Err, if◌then◌else◌, List, [], ◌∷◌, length}
 use Rattle.std.specs.Fmt.{signed_decimal}
 use Rattle.std.specs.Int.{w128, cast_signed, cast_unsigned, from_be_bytes, int_wrap, to_be_bytes}
 use Rattle.std.specs.List.{list_all}
+use Rattle.swan_model.specs.Values.{fits_64}
 use Rattle.swan_model.specs.declared.fault.Trouble.{Trouble}
 use Rattle.swan_model.specs.declared.fault.Trouble.TheVariants.{Overflow}
 use Rattle.job_reader.specs.Atoms.{number}
@@ -37,10 +38,6 @@ lines_summed sum [] = sum
 lines_summed sum (line ∷ lines) = lines_summed (added_number sum (number line)) lines
 
 -- the decimal text of a number of 64 bits, and an overflow past them
-abbrev pub fits_64 : ℤ → Bool
-fits_64 (pos n) = nat_lt n (2 ^ 63)
-fits_64 (negsuc n) = nat_lt n (2 ^ 63)
-
 abbrev pub narrowed : ℤ → Option ℤ
 narrowed sum = if fits_64 sum then Some sum else None
 

@@ -1,6 +1,6 @@
 // The reducer of joins.
 ghost use Rattle.std.specs.Prelude.{◌≡◌, ◌≤◌, [], ◌++◌, true, length, map, IfOk};
-ghost use Rattle.line_blocks.specs.LineBlocks.{bytes_of};
+ghost use Rattle.swan_model.specs.Values.{bytes_of};
 ghost use Rattle.swan_reducers.specs.Joins.{bytes_joined, fitting, is_too_long, line_part, passes, too_long};
 ghost use Rattle.swan_reducers.specs.LineFolds.{joined_lines};
 

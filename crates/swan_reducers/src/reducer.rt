@@ -1,7 +1,7 @@
 // Reducers: what a fold joins.
 ghost use Rattle.std.specs.Prelude.{◌≡◌, ℕ, Bool, true, List, Option, Some, None, Result, Ok, Err, IfOk, map};
-ghost use Rattle.line_blocks.specs.LineBlocks.{bytes_of};
 ghost use Rattle.swan_model.specs.declared.fault.Trouble.{Trouble};
+ghost use Rattle.swan_model.specs.Values.{bytes_of};
 ghost use Rattle.swan_reducers.specs.Lawful.{IsLawful};
 ghost use Rattle.swan_reducers.specs.LineFolds.{bad_number, joined_lines, or_first, unless_part, with_part};
 ghost use Rattle.swan_reducers.specs.declared.reducer.EndAnswer.TheVariants as end_answer;

@@ -2,7 +2,7 @@
 ghost use Rattle.std.specs.Prelude.{◌≡◌, ◌≤◌, ◌+ℤ◌, pos, None, option_map, length, map, IfOk};
 ghost use Rattle.std.specs.Fmt.{signed_decimal};
 ghost use Rattle.std.specs.Int.{int_wrap, w128};
-ghost use Rattle.line_blocks.specs.LineBlocks.{bytes_of};
+ghost use Rattle.swan_model.specs.Values.{bytes_of};
 ghost use Rattle.swan_reducers.specs.LineFolds.{bad_number, or_first, unless_part};
 ghost use Rattle.swan_reducers.specs.Sums.{added_number, is_sum_part, lines_summed, narrowed, number_part, sum_of, sum_part};
 

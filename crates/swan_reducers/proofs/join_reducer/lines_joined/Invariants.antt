@@ -1,6 +1,6 @@
 -- The bytes so far and the lines that are left give the fold of all.
 use Rattle.std.proofs.Common.{◌≡◌, ◌≤◌, false, [], length, map}
-use Rattle.line_blocks.specs.LineBlocks.{bytes_of}
+use Rattle.swan_model.specs.Values.{bytes_of}
 use Rattle.swan_reducers.specs.declared.join_reducer.TheConstants.{JOIN_MOST}
 use Rattle.swan_reducers.specs.Joins.{bytes_joined, is_too_long, line_part}
 use Rattle.swan_reducers.specs.LineFolds.{joined_lines}

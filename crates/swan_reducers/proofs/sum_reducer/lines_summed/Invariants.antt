@@ -1,7 +1,7 @@
 -- The sum so far and the lines that are left give the fold of all, and its first bad line.
 use Rattle.std.proofs.Common.{◌≡◌, length, map}
 use Rattle.std.specs.Prelude.{pos}
-use Rattle.line_blocks.specs.LineBlocks.{bytes_of}
+use Rattle.swan_model.specs.Values.{bytes_of}
 use Rattle.swan_reducers.specs.LineFolds.{bad_number, or_first}
 use Rattle.swan_reducers.specs.Sums.{lines_summed, number_part}
 use Rattle.swan_reducers.proofs.sum_reducer.lines_summed.Given as goal

@@ -1,6 +1,6 @@
 -- The fold so far and the lines that are left give the fold of all, and its first bad line.
 use Rattle.std.proofs.Common.{◌≡◌, true, length, map}
-use Rattle.line_blocks.specs.LineBlocks.{bytes_of}
+use Rattle.swan_model.specs.Values.{bytes_of}
 use Rattle.swan_reducers.specs.Fold.{fold_of, joined_from}
 use Rattle.swan_reducers.specs.LineFolds.{bad_number, or_first}
 use Rattle.swan_reducers.proofs.reducer.Reducer.fold_block.Given as goal
