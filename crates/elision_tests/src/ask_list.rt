@@ -7,7 +7,7 @@ ghost use Rattle.swan_model.specs.declared.value.Value.TheVariants.{Int};
 
 use std::alloc::Global;
 use std::marker::Model;
-use swan_model::{Answer, Ask, Body, Child, Give, Gives, NoMemory, Value};
+use swan_model::{Answer, Ask, Body, NoMemory, Value};
 
 /// Each task begins at an index of the list and takes the asks from there on, one a step; past the
 /// end it finishes. A push pushes what the step is told, and its own value only where the step is
@@ -61,7 +61,7 @@ impl Body for AskList {
         };
         match ask {
             Ask::Push(place, value) => Ok((local + 1, Ask::Push(*place, told(answer, value)?))),
-            ask => Ok((local + 1, copied(alloc, ask)?)),
+            ask => Ok((local + 1, ask.copy(alloc)?)),
         }
     }
 
@@ -80,42 +80,4 @@ fn told(answer: Answer, otherwise: &Value) -> Result<Value, NoMemory>
         Answer::Place(place) => Ok(Value::Int(i64::from(place))),
         Answer::Start | Answer::Nothing => otherwise.copy(),
     }
-}
-
-/// The same ask once more.
-fn copied(alloc: Global, ask: &Ask<usize>) -> Result<Ask<usize>, NoMemory>
-    ensures { IfOk result (λ again. again ≡ ask.now) }
-{
-    match ask {
-        Ask::Work => Ok(Ask::Work),
-        Ask::Read(place) => Ok(Ask::Read(*place)),
-        Ask::Write(place, value) => Ok(Ask::Write(*place, value.copy()?)),
-        Ask::Push(place, value) => Ok(Ask::Push(*place, value.copy()?)),
-        Ask::Pop(place) => Ok(Ask::Pop(*place)),
-        Ask::Empty(place) => Ok(Ask::Empty(*place)),
-        Ask::NewQueue => Ok(Ask::NewQueue),
-        Ask::NewObject(value) => Ok(Ask::NewObject(value.copy()?)),
-        Ask::Spawn(child) => Ok(Ask::Spawn(Child {
-            local: child.local,
-            gives: copied_gives(alloc, &child.gives)?,
-            fuel: child.fuel,
-        })),
-        Ask::Sync => Ok(Ask::Sync),
-        Ask::Finish => Ok(Ask::Finish),
-        Ask::Fail(trouble) => Ok(Ask::Fail(*trouble)),
-    }
-}
-
-/// The same gives once more.
-fn copied_gives(alloc: Global, gives: &Gives) -> Result<Gives, NoMemory>
-    ensures { IfOk result (λ again. again ≡ gives.now) }
-{
-    let _most = gives.len();
-    let mut again = Gives::new(alloc);
-    for give in gives.as_slice() {
-        if again.push(*give).is_err() {
-            return Err(NoMemory);
-        }
-    }
-    Ok(again)
 }

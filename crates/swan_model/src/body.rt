@@ -49,6 +49,32 @@ pub enum Ask<L> {
     Fail(Trouble),
 }
 
+impl<L: Copy> Ask<L> {
+    /// The same ask once more. It costs a copy of its value or of its gives. Err is want of memory.
+    pub fn copy(&self, alloc: Global) -> Result<Ask<L>, NoMemory>
+        ensures { IfOk result (λ ask. ask ≡ self.now) }
+    {
+        match self {
+            Ask::Work => Ok(Ask::Work),
+            Ask::Read(place) => Ok(Ask::Read(*place)),
+            Ask::Write(place, value) => Ok(Ask::Write(*place, value.copy()?)),
+            Ask::Push(place, value) => Ok(Ask::Push(*place, value.copy()?)),
+            Ask::Pop(place) => Ok(Ask::Pop(*place)),
+            Ask::Empty(place) => Ok(Ask::Empty(*place)),
+            Ask::NewQueue => Ok(Ask::NewQueue),
+            Ask::NewObject(value) => Ok(Ask::NewObject(value.copy()?)),
+            Ask::Spawn(child) => Ok(Ask::Spawn(Child {
+                local: child.local,
+                gives: child.gives.copy(alloc)?,
+                fuel: child.fuel,
+            })),
+            Ask::Sync => Ok(Ask::Sync),
+            Ask::Finish => Ok(Ask::Finish),
+            Ask::Fail(trouble) => Ok(Ask::Fail(*trouble)),
+        }
+    }
+}
+
 /// What a task gets for its ask, with its next step.
 #[derive(Drop)]
 pub enum Answer {
