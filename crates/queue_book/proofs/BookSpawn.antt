@@ -35,6 +35,9 @@ module _ (name : Option Script) (state : QueueState) (frames : LiveFrames) (head
   free : active state child ≡ None
   free = not_active state is.plain.tree child may.newest
 
+  pub child_keys : (q : ℕ) → key_at frames child q ≡ None
+  child_keys q = key_none state frames is.live child q (λ frame live has. let never : None ≡ Some frame = sym free ∙ live in absurd (cc))
+
   rising : p < child
   rising = let old = is.plain.tree.latest p may.act.frame may.act.may.live in let newest = may.newest in omega arith
 
@@ -174,8 +177,7 @@ module _ (name : Option Script) (state : QueueState) (frames : LiveFrames) (head
     chained_now : AreChained (key_at after_frames) heads then_nodes (lines_after_gives p child gives is.lines)
     chained_now =
         chained_same (own_keys child done.places (key_at done.middle)) (key_at after_frames) heads then_nodes (lines_after_gives p child gives is.lines) (lines_after_gives p child gives is.lines)
-        keys_now (λ q. refl) (done.given.chained is.lines is.chained (λ q. key_none state frames is.live child q (λ frame live has.
-        let never : None ≡ Some frame = sym free ∙ live in absurd (cc))))
+        keys_now (λ q. refl) (done.given.chained is.lines is.chained child_keys)
 
     pub book_spawn : OnNext name state p (λ s g. NextSpawnGivesQueues s state g gives) → IsOnTurn name state p
         → IsBook name (after_spawn state may.act.frame child gives) after_frames heads then_nodes then_turns

@@ -1,13 +1,14 @@
 -- What is kept while a child is given its queues, one after another.
 use Rattle.std.proofs.Common.{◌≡◌, ◌≢◌, ℕ, true, false, Option, Some, None, List, [], ◌∷◌, ◌++◌, take, refl, sym, ap, subst, ◌∙◌, inl, inr, arith}
 use Rattle.std.proofs.lemmas.Bool.{cases_eq, false≢true}
-use Rattle.std.specs.Prelude.{slice_get, is_some}
-use Rattle.slab.specs.Slab.{Slab}
+use Rattle.std.specs.Prelude.{slice_get, is_some, IsSome}
+use Rattle.slab.specs.Slab.{ContainsKey, Slab}
 use Rattle.pop_order.specs.Frames.{Frames, enlisted, AreUpTo, MayGet}
 use Rattle.swan_model.specs.declared.rights.Mode.TheVariants.{Push}
 use Rattle.swan_model.specs.QueueState.{QueueRight}
 use Rattle.swan_model.specs.Rights.{allows}
-use Rattle.queue_book.specs.Chains.{Link}
+use Rattle.queues.specs.Chunks.{Chunks}
+use Rattle.queue_book.specs.Chains.{Link, AreChained}
 use Rattle.queue_book.specs.Ended.{own_keys}
 use Rattle.queue_book.specs.Handed.{lines_after_gives, AreGiven, IsHandedIn}
 use Rattle.queues.specs.Turned.{gives_queue, holding_of, AreGivenTurns}
@@ -18,6 +19,7 @@ use Rattle.queue_book.specs.declared.live_frame.OwnChunk.{OwnChunk}
 use Rattle.queue_book.specs.declared.live_frames.LiveFrames.{LiveFrames}
 use Rattle.queue_book.proofs.ChainChanges.{chained_same}
 use Rattle.queue_book.proofs.ChainEnds.{other_placed, own_placed}
+use Rattle.queue_book.proofs.LiveKept.{key_of}
 use Rattle.queue_book.proofs.Giving.{step_chained, step_fresh, step_given, step_moved, step_others, step_pushers}
 use Rattle.queues.proofs.GivingTurns.{fresh_at, given_at, turns_given_more, turns_given_none, turns_may_get, turns_newest}
 
@@ -57,6 +59,15 @@ module _ (before now : LiveFrames) (parent child : ℕ) (all : List QueueRight) 
         found : (o : Option OwnChunk) → is_some o ≡ true → own_chunk_at now parent give.queue ≡ o → (place : OwnChunk) × (own_chunk_at now parent give.queue ≡ Some place)
         found None none e = absurd (false≢true none)
         found (Some place) some e = (place, e)
+
+  -- its node
+  pub stands_now : (lines : ℕ → Chunks) → AreChained (key_at before) heads nodes lines → ((q : ℕ) → key_at before child q ≡ None)
+      → (place : OwnChunk) → own_chunk_at now parent give.queue ≡ Some place → ContainsKey now_nodes place.key
+  stands_now lines chained free place found =
+      let key : own_keys child places (key_at now) parent give.queue ≡ Some place.key =
+      other_placed child places (key_at now) parent give.queue two ∙ key_of now parent give.queue place found in
+      let node = (is.chained lines chained free).owned parent give.queue place.key key in
+      subst IsSome (sym node.1) refl
 
   pub newest_now : AreUpTo now_turns child
   newest_now = turns_newest turns now_turns parent child (take i all) may.newest may.apart is.turned

@@ -1,7 +1,9 @@
 -- The chunks of a frame's queues once it has ended.
-use Rattle.std.specs.Prelude.{◌≡◌, ◌≢◌, ℕ, ◌==◌, ◌&&◌, not, true, Option, Some, None, [], if◌then◌else◌}
+use Rattle.std.specs.Prelude.{◌≡◌, ◌≢◌, ℕ, ◌==◌, ◌&&◌, not, true, Option, Some, None, List, [], if◌then◌else◌}
 use Rattle.std.specs.Option.{option_map}
+use Rattle.slab.specs.Slab.{Slab}
 use Rattle.queues.specs.Chunks.{Chunks, after_close}
+use Rattle.queue_book.specs.Chains.{Link, AreChained}
 use Rattle.queue_book.specs.KeptFrames.{OwnChunks, own_chunk_in}
 use Rattle.queue_book.specs.declared.live_frame.OwnChunk.{OwnChunk}
 
@@ -21,3 +23,7 @@ own_keys number places at other queue = if other == number then option_map (λ (
 abbrev pub IsAlone : ℕ → OwnChunks → (ℕ → ℕ → Option ℕ) → Type 0
 IsAlone number places at = (queue : ℕ) (place : OwnChunk) → own_chunk_in places queue ≡ Some place → place.is_maker ≡ true → number ≢ 0
     → (other : ℕ) → other ≢ number → at other queue ≡ None
+
+-- A frame with these places has its own chunks there, and is alone in the queues that it made.
+abbrev pub HaveOwn : (heads : List (Option ℕ)) (nodes : Slab Link) (number : ℕ) → OwnChunks → Type 0
+HaveOwn heads nodes number places = (at : ℕ → ℕ → Option ℕ) × (lines : ℕ → Chunks) × AreChained (own_keys number places at) heads nodes lines × IsAlone number places at

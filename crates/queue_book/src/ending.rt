@@ -3,7 +3,7 @@ ghost use Rattle.std.specs.Prelude.{◌≡◌, ◌≢◌, ℕ, ◌<◌, true, []
 ghost use Rattle.pop_order.specs.Frames.{without, HasNoChild};
 ghost use Rattle.queues.specs.Chunks.{Chunks};
 ghost use Rattle.queue_book.specs.Chains.{in_line, put_at, AreChained};
-ghost use Rattle.queue_book.specs.Ended.{line_after_end, lines_after_end, own_keys, IsAlone};
+ghost use Rattle.queue_book.specs.Ended.{line_after_end, lines_after_end, own_keys, HaveOwn, IsAlone};
 ghost use Rattle.queue_book.specs.KeptFrames.{KeptFrame, own_chunk_in};
 ghost use Rattle.queue_book.specs.Live.{kept_of};
 ghost use Rattle.pop_order.specs.OneChange.{IsOnlyChange};
@@ -20,6 +20,8 @@ impl Store {
     /// chunk and item that is given up. It takes no memory.
     pub fn end(&mut self, number: u64)
         requires known { (kept : KeptFrame) (queue : ℕ) (place : Held) → kept_of self.old.frames number ≡ Some kept → own_chunk_in kept.places queue ≡ Some place → queue < length self.old.chains.heads.items }
+        requires owned { (kept : KeptFrame) → kept_of self.old.frames number ≡ Some kept
+            → HaveOwn self.old.chains.heads.items self.old.chains.nodes number kept.places }
         requires childless { HasNoChild self.old.turns number }
         ensures gone { IsOnlyChange (kept_of self.old.frames) (kept_of self.new.frames) number None }
         ensures same { length self.new.chains.heads.items ≡ length self.old.chains.heads.items }
@@ -40,6 +42,7 @@ impl Store {
 /// `O(log n)` for each of its queues, and `O(1)` for each chunk and item that is given up.
 fn end_chunks(chains: &mut Chains, number: u64, mut places: BTreeMap<u32, OwnChunk>)
     requires known { (queue : ℕ) (place : Held) → own_chunk_in places.entries queue ≡ Some place → queue < length chains.old.heads.items }
+    requires owned { HaveOwn chains.old.heads.items chains.old.nodes number places.entries }
     ensures same { length chains.new.heads.items ≡ length chains.old.heads.items }
     ensures ended { (at : ℕ → ℕ → Option ℕ) (lines : ℕ → Chunks)
         → AreChained (own_keys number places.entries at) chains.old.heads.items chains.old.nodes lines → IsAlone number places.entries at
@@ -54,6 +57,8 @@ fn end_chunks(chains: &mut Chains, number: u64, mut places: BTreeMap<u32, OwnChu
 /// `O(1)`, and as much for each chunk and item that is given up.
 fn end_chunk(chains: &mut Chains, number: u64, queue: u32, place: OwnChunk)
     requires known { queue < length chains.old.heads.items }
+    requires owned { (at : ℕ → ℕ → Option ℕ) × (lines : ℕ → Chunks) × AreChained at chains.old.heads.items chains.old.nodes lines × (at number queue ≡ Some place.key)
+        × (place.is_maker ≡ true → number ≢ 0 → (other : ℕ) → other ≢ number → at other queue ≡ None) }
     ensures same { length chains.new.heads.items ≡ length chains.old.heads.items }
     ensures ended { (at : ℕ → ℕ → Option ℕ) (lines : ℕ → Chunks) → AreChained at chains.old.heads.items chains.old.nodes lines → at number queue ≡ Some place.key
         → (place.is_maker ≡ true → number ≢ 0 → (other : ℕ) → other ≢ number → at other queue ≡ None)

@@ -1,11 +1,14 @@
 // Spawns, with the queues that a child is given.
-ghost use Rattle.std.specs.Prelude.{◌≡◌, ◌<◌, Some, OnOk, IsTrue};
+ghost use Rattle.std.specs.Prelude.{◌≡◌, ℕ, ◌<◌, Some, None, OnOk, IsTrue};
+ghost use Rattle.slab.specs.Slab.{ContainsKey};
 ghost use Rattle.swan_model.specs.declared.rights.Mode.TheVariants.{Push};
 ghost use Rattle.swan_model.specs.Rights.{allows, is_queue_mode};
 ghost use Rattle.pop_order.specs.Frames.{enlisted, AreUpTo, MayGet};
-ghost use Rattle.queue_book.specs.Handed.{IsHandedIn};
+ghost use Rattle.queues.specs.Chunks.{Chunks};
 ghost use Rattle.queues.specs.Turned.{holding_of};
-ghost use Rattle.queue_book.specs.Live.{own_chunk_at};
+ghost use Rattle.queue_book.specs.Chains.{AreChained};
+ghost use Rattle.queue_book.specs.Handed.{IsHandedIn};
+ghost use Rattle.queue_book.specs.Live.{key_at, own_chunk_at};
 ghost use Rattle.queue_book.specs.Spawned.{MayHandOn, IsSpawnedIn};
 ghost use Rattle.queue_book.specs.declared.live_frame.OwnChunk.{OwnChunk as Held};
 
@@ -19,6 +22,10 @@ impl Store {
     pub fn spawn(&mut self, parent: u64, child: u64, gives: &[QueueGive]) -> Result<(), NoMemory>
         // what is given, and by whom
         requires may { MayHandOn self.old.frames self.old.turns parent child gives.now }
+
+        // where chunks stand
+        requires stand { (lines : ℕ → Chunks) × AreChained (key_at self.old.frames) self.old.chains.heads.items self.old.chains.nodes lines }
+        requires free { (queue : ℕ) → key_at self.old.frames child queue ≡ None }
 
         // what it leaves
         ensures heads { OnOk result (self.new.chains.heads.items ≡ self.old.chains.heads.items) }
@@ -43,6 +50,7 @@ impl Store {
     ) -> Result<(), NoMemory>
         // what is given
         requires has { (place : Held) × (own_chunk_at self.old.frames parent one.queue ≡ Some place) }
+        requires stands { (place : Held) → own_chunk_at self.old.frames parent one.queue ≡ Some place → ContainsKey self.old.chains.nodes place.key }
         requires of_queues { IsTrue (is_queue_mode one.mode) }
 
         // who gets it

@@ -1,8 +1,26 @@
-use Rattle.std.proofs.Common.{◌≡◌, ◌≢◌, true, false, ◌&&◌, not, ◌==◌, None, ap, ◌∙◌}
+use Rattle.std.proofs.Common.{◌≡◌, ◌≢◌, true, false, ◌&&◌, not, ◌==◌, None, refl, sym, ap, subst, ◌∙◌}
+use Rattle.std.specs.Prelude.{IsSome}
 use Rattle.queues.specs.Chunks.{after_close}
 use Rattle.queue_book.specs.Chains.{in_line, put_at}
 use Rattle.queue_book.proofs.ChainEnds.{chained_closed, chained_over, none_but_own, not_so, still_so}
 use Rattle.queue_book.proofs.ending.end_chunk.Goals as goal
+
+pub close-requires : goal.close-requires
+close-requires c =
+    let owned = c.requires.owned in
+    let node = owned.2.owned c.args.number c.args.queue c.args.place.key owned.3 in
+    record { known = subst IsSome (sym node.1) refl }
+
+pub give_up-requires-clause-unowned : goal.give_up-requires-clause-unowned
+give_up-requires-clause-unowned c =
+    let number = c.args.number in
+    let queue = c.args.queue in
+    let owned = c.requires.owned in (
+      put_at number queue None owned.0,
+      in_line queue (after_close number) owned.1,
+      c.close.ensures.closed owned.0 owned.1 owned.2 number queue owned.3,
+      none_but_own number queue owned.0 (owned.4 (still_so c.args.place.is_maker c.if-not-place.false) c.if-number-eq0.false),
+    )
 
 pub returns-then-not-place-clause-ended : goal.returns-then-not-place-clause-ended
 returns-then-not-place-clause-ended c at lines is key alone =

@@ -6,6 +6,30 @@ use Rattle.queue_book.proofs.ChainEnds.{alone_still, chained_all, chained_one_mo
 use Rattle.swan_model.proofs.Lookups.{untied}
 use Rattle.queue_book.proofs.ending.end_chunks.Goals as goal
 
+pub end_chunk-requires-clause-owned : goal.end_chunk-requires-clause-owned
+end_chunk-requires-clause-owned c =
+    let number = c.args.number in
+    let all = c.args.places.entries in
+    let places = c.loop-queue.places.entries in
+    let after = c.pop_first.new.self.entries in
+    let queue = c.in-Some.queue in
+    let place = c.in-Some.place in
+    let here : own_chunk_in places queue ≡ Some place = c.in-Some.ensures.value in
+    let gone : own_chunk_in after queue ≡ None = c.in-Some.ensures.updates.1 in
+    let others : (q : ℕ) → q ≢ queue → own_chunk_in after q ≡ own_chunk_in places q = λ q ne. c.in-Some.ensures.updates.2 q (untied queue q ne) in
+    let first : own_chunk_in all queue ≡ Some place = elim (c.loop-queue.invariant.left queue) [
+      | inl none ↦ let never : None ≡ Some place = sym none ∙ here in absurd (cc)
+      | inr same ↦ sym same ∙ here
+    ] in
+    let at = c.requires.owned.0 in
+    let lines = c.requires.owned.1 in (
+      own_keys number places at,
+      left_lines number places all lines,
+      c.loop-queue.invariant.kept at lines c.requires.owned.2 c.requires.owned.3,
+      own_key number queue place all places after at lines here first gone others,
+      alone_still number queue place all places after at lines here first gone others c.requires.owned.3,
+    )
+
 pub loop-queue-preserved : goal.loop-queue-preserved
 loop-queue-preserved c =
     let number = c.args.number in

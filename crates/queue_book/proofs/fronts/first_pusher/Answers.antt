@@ -20,14 +20,16 @@ returns-in_default c at lines is =
     let P : Option ℕ → Type 0 = λ o. IsWalked frames nodes c.args.frame c.args.queue c.loop-turn._turn (lines c.args.queue) o in
     sym (walk_ends frames nodes c.args.frame c.args.queue c.loop-turn._turn (lines c.args.queue) (subst P c.in_default.is (c.loop-turn.invariant at lines is)))
 
-pub returns-in_default-get : goal.returns-in_default-get
-returns-in_default-get c at lines is =
+pub unreachable-requires : goal.unreachable-requires
+unreachable-requires c =
+    let kept = c.requires.kept in
+    let lines = kept.1 in
     let frames = c.args.frames.now in
     let nodes = c.args.chains.now.nodes in
     let P : Option ℕ → Type 0 = λ o. IsWalked frames nodes c.args.frame c.args.queue c.loop-turn._turn (lines c.args.queue) o in
-    let found = walk_stands frames nodes c.args.frame c.args.queue c.loop-turn._turn (lines c.args.queue) c.in-Some.key (subst P c.in-Some.is (c.loop-turn.invariant at lines is)) in
+    let found = walk_stands frames nodes c.args.frame c.args.queue c.loop-turn._turn (lines c.args.queue) c.in-Some.key (subst P c.in-Some.is (c.loop-turn.invariant kept.0 lines kept.2)) in
     let never : None ≡ Some found.0 = c.in_default-get.ensures ∙ found.1 in
-    absurd (cc)
+    cc
 
 pub returns-in-Own : goal.returns-in-Own
 returns-in-Own c at lines is =

@@ -27,6 +27,20 @@ end-requires-clause-childless c =
     let may : MayJoin state n = subst May (sym c.self.view_is) c.requires.may in
     turns_childless state turns n is.turned may.alone
 
+pub end-requires-clause-owned : goal.end-requires-clause-owned
+end-requires-clause-owned c kept at =
+    let is = c.self.invariant in
+    let name = c.self.inside.name in
+    let state = c.self.inside.state.means in
+    let frames = c.self.inside.store.frames in
+    let heads = c.self.inside.store.chains.heads.items in
+    let nodes = c.self.inside.store.chains.nodes in
+    let turns = c.self.inside.store.turns in
+    let n = c.args.frame in
+    let May : BookView → Type 0 = λ v. MayJoin v.state n in
+    let may : MayJoin state n = subst May (sym c.self.view_is) c.requires.may in
+    (key_at frames, is.lines, chained_before name state frames heads nodes turns is n may kept at, alone_in name state frames heads nodes turns is n may kept at)
+
 pub invariant_of-self : goal.invariant_of-self
 invariant_of-self c =
     let is = c.self.invariant in

@@ -32,7 +32,7 @@ front-requires c =
     let look = look_of state n q may in
     let Turn : BookView → Type 0 = λ v. IsOnTurn v.name v.state n in
     let turn : IsOnTurn name state n = subst Turn (sym c.self.view_is) c.requires.turn in
-    record { known = known name state frames heads nodes turns is n q look }
+    record { known = known name state frames heads nodes turns is n q look; kept = (key_at frames, is.lines, is.chained) }
 
 pub invariant_of-self : goal.invariant_of-self
 invariant_of-self c =
@@ -95,7 +95,10 @@ take_first-requires c =
     let Turn : BookView → Type 0 = λ v. IsOnTurn v.name v.state n in
     let turn : IsOnTurn name state n = subst Turn (sym c.self.view_is) c.requires.turn in
     let P : ℕ → Type 0 = λ k. q < k in
-    record { known = subst P (sym c.front.ensures.same) (known name state frames heads nodes turns is n q look) }
+    record {
+      known = subst P (sym c.front.ensures.same) (known name state frames heads nodes turns is n q look);
+      kept = (key_at frames, in_line q without_spent is.lines, (c.in-Holds.ensures.told (key_at frames) is.lines is.chained).0);
+    }
 
 pub invariant_of-self-in-Some : goal.invariant_of-self-in-Some
 invariant_of-self-in-Some c =

@@ -5,7 +5,7 @@ use Rattle.queues.specs.Asks.{MaySpawn, IsOnTurn, OnNext}
 use Rattle.queue_book.specs.BookView.{BookView}
 use Rattle.queue_book.specs.Whole.{IsBook}
 use Rattle.queue_book.proofs.BookLent.{called}
-use Rattle.queue_book.proofs.BookSpawn.{book_spawn, spawn_may}
+use Rattle.queue_book.proofs.BookSpawn.{book_spawn, child_keys, spawn_may}
 use Rattle.queue_book.proofs.book.BookQueuesQueues.spawn.Goals as goal
 
 pub spawn-requires : goal.spawn-requires
@@ -22,7 +22,11 @@ spawn-requires c =
     let gives = c.args.gives.now in
     let May : BookView → Type 0 = λ v. MaySpawn v.state p child gives in
     let may : MaySpawn state p child gives = subst May (sym c.self.view_is) c.requires.may in
-    record { may = spawn_may name state frames heads nodes turns is p child gives may }
+    record {
+      may = spawn_may name state frames heads nodes turns is p child gives may;
+      stand = (is.lines, is.chained);
+      free = child_keys name state frames heads nodes turns is p child gives may;
+    }
 
 pub invariant_of-self : goal.invariant_of-self
 invariant_of-self c =

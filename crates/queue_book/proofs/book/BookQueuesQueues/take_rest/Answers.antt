@@ -20,7 +20,10 @@ take_all-requires c =
     let q = c.args.queue in
     let Left : BookView → Type 0 = λ v. IsRestLeft v.state q in
     let left : IsRestLeft state q = subst Left (sym c.self.view_is) c.requires.left in
-    record { known = rest_known name state frames heads nodes turns is q left }
+    record {
+      known = rest_known name state frames heads nodes turns is q left;
+      unowned = (key_at frames, is.lines, is.chained, rest_unowned name state frames heads nodes turns is q left);
+    }
 
 pub invariant_of-self : goal.invariant_of-self
 invariant_of-self c =

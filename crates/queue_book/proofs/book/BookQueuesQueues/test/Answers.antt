@@ -29,7 +29,7 @@ front-requires c =
     let look = look_of state n q may in
     let Turn : BookView → Type 0 = λ v. IsOnTurn v.name v.state n in
     let turn : IsOnTurn name state n = subst Turn (sym c.self.view_is) c.requires.turn in
-    record { known = known name state frames heads nodes turns is n q look }
+    record { known = known name state frames heads nodes turns is n q look; kept = (key_at frames, is.lines, is.chained) }
 
 pub invariant_of-self : goal.invariant_of-self
 invariant_of-self c =

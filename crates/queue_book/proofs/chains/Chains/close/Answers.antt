@@ -6,8 +6,8 @@ use Rattle.queue_book.proofs.ChainKept.{updates_with}
 use Rattle.queue_book.proofs.ChainChanges.{chained_close}
 use Rattle.queue_book.proofs.chains.Chains.close.Goals as goal
 
-pub returns-in-Some-clause-closed : goal.returns-in-Some-clause-closed
-returns-in-Some-clause-closed c at lines is owner queue mine =
+pub returns-clause-closed : goal.returns-clause-closed
+returns-clause-closed c at lines is owner queue mine =
     let heads = c.args.self.now.heads.items in
     let nodes = c.args.self.now.nodes in
     let key = c.args.key in

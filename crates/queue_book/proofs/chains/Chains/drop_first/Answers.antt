@@ -12,13 +12,14 @@ returns-in_default-clause-none c at lines is =
     let has : slice_get heads c.args.queue ≡ Some c.index.result.now = slice_get_read heads _ c.args.queue c.index.result.now refl c.requires.known c.index.ensures in
     (empty_line at heads c.args.self.now.nodes lines is c.args.queue (has ∙ ap Some c.in_default.is), is)
 
-pub returns-in_default-try_remove-clause-none : goal.returns-in_default-try_remove-clause-none
-returns-in_default-try_remove-clause-none c at lines is =
+pub unreachable-requires : goal.unreachable-requires
+unreachable-requires c =
+    let kept = c.requires.kept in
     let heads = c.args.self.now.heads.items in
     let has : slice_get heads c.args.queue ≡ Some c.index.result.now = slice_get_read heads _ c.args.queue c.index.result.now refl c.requires.known c.index.ensures in
-    let first = first_stands at heads c.args.self.now.nodes lines is c.args.queue c.in-Some.key (has ∙ ap Some c.in-Some.is) in
+    let first = first_stands kept.0 heads c.args.self.now.nodes kept.1 kept.2 c.args.queue c.in-Some.key (has ∙ ap Some c.in-Some.is) in
     let never : None ≡ Some first.0 = c.in_default-try_remove.ensures.value ∙ first.1 in
-    absurd (cc)
+    cc
 
 pub returns-clause-first : goal.returns-clause-first
 returns-clause-first c at lines is =

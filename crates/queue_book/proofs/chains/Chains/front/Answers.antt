@@ -16,13 +16,14 @@ returns-in_default-clause-stands c at lines is =
     let P : Chunks → Type 0 = λ chunks. IsFront chunks front.Over × (without_spent chunks ≡ chunks) in
     subst P (sym empty) (tt, refl)
 
-pub returns-in_default-get-clause-stands : goal.returns-in_default-get-clause-stands
-returns-in_default-get-clause-stands c at lines is =
+pub unreachable-requires : goal.unreachable-requires
+unreachable-requires c =
+    let kept = c.requires.kept in
     let heads = c.args.self.now.heads.items in
     let has : slice_get heads c.args.queue ≡ Some c.index.result.now = slice_get_read heads _ c.args.queue c.index.result.now refl c.requires.known c.index.ensures in
-    let first = first_stands at heads c.args.self.now.nodes lines is c.args.queue c.in-Some.key (has ∙ ap Some c.in-Some.is) in
+    let first = first_stands kept.0 heads c.args.self.now.nodes kept.1 kept.2 c.args.queue c.in-Some.key (has ∙ ap Some c.in-Some.is) in
     let never : None ≡ Some first.0 = c.in_default-get.ensures ∙ first.1 in
-    absurd (cc)
+    cc
 
 pub returns-then-not-is_empty-clause-stands : goal.returns-then-not-is_empty-clause-stands
 returns-then-not-is_empty-clause-stands c at lines is =

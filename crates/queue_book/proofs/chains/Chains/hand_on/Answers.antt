@@ -5,8 +5,8 @@ use Rattle.queue_book.proofs.ChainKept.{one_link, updates_with}
 use Rattle.queue_book.proofs.ChainGrowth.{IsHandedOn, chained_hand_on}
 use Rattle.queue_book.proofs.chains.Chains.hand_on.Goals as goal
 
-pub returns-in-Some-get_mut-clause-handed : goal.returns-in-Some-get_mut-clause-handed
-returns-in-Some-get_mut-clause-handed c at lines is queue mine unplaced =
+pub returns-clause-handed : goal.returns-clause-handed
+returns-clause-handed c at lines is queue mine unplaced =
     let heads = c.args.self.now.heads.items in
     let nodes = c.args.self.now.nodes in
     let inserted = c.insert.new.self in

@@ -23,3 +23,9 @@ loop-node-preserved c = record {
       c.loop-node.items c.move_to.new.items was c.in-Some.node (c.in-Some.ensures.first at now was.left.kept) c.in_ok-move_to.ensures
       (c.in-Some.ensures.dropped at now was.left.kept (c.in-Some.ensures.unowned at now was.left.kept none));
 }
+
+pub drop_first-requires-clause-kept : goal.drop_first-requires-clause-kept
+drop_first-requires-clause-kept c =
+    let unowned = c.requires.unowned in
+    let left = (c.loop-node.invariant.kept unowned.0 unowned.1 unowned.2 unowned.3).left in
+    (unowned.0, left.now, left.kept)

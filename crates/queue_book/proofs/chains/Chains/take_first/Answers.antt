@@ -30,16 +30,16 @@ returns-in_default-clause-taken c at lines is =
     chained_same at at heads c.args.self.now.nodes lines (in_line c.args.queue without_first lines) (λ n q. refl)
     (λ q. unchanged_line lines c.args.queue q empty) is
 
-pub returns-in-Some-get_mut-clause-item : goal.returns-in-Some-get_mut-clause-item
-returns-in-Some-get_mut-clause-item c at lines is =
+pub returns-clause-item : goal.returns-clause-item
+returns-clause-item c at lines is =
     let heads = c.args.self.now.heads.items in
     let link : Link = c.in-Some-get_mut.node.now in
     let has : slice_get heads c.args.queue ≡ Some c.index.result.now = slice_get_read heads _ c.args.queue c.index.result.now refl c.requires.known c.index.ensures in
     let first = first_chunk at heads c.args.self.now.nodes lines is c.args.queue c.in-Some.key link (has ∙ ap Some c.in-Some.is) (sym c.in-Some-get_mut.ensures.value) in
     c.pop.ensures.item ∙ sym (ap first_item first.are)
 
-pub returns-in-Some-get_mut-clause-taken : goal.returns-in-Some-get_mut-clause-taken
-returns-in-Some-get_mut-clause-taken c at lines is =
+pub returns-clause-taken : goal.returns-clause-taken
+returns-clause-taken c at lines is =
     let heads = c.args.self.now.heads.items in
     let nodes = c.args.self.now.nodes in
     let key = c.in-Some.key in
@@ -51,18 +51,11 @@ returns-in-Some-get_mut-clause-taken c at lines is =
     subst P (sym c.pop.ensures.rest) (chained_take_first at heads nodes lines is c.args.queue (with_value nodes key new) key link (has ∙ ap Some c.in-Some.is) stands
     (updates_with nodes key link new stands))
 
-pub returns-in-None-clause-item : goal.returns-in-None-clause-item
-returns-in-None-clause-item c at lines is =
+pub unreachable-requires : goal.unreachable-requires
+unreachable-requires c =
+    let kept = c.requires.kept in
     let heads = c.args.self.now.heads.items in
     let has : slice_get heads c.args.queue ≡ Some c.index.result.now = slice_get_read heads _ c.args.queue c.index.result.now refl c.requires.known c.index.ensures in
-    let first = first_stands at heads c.args.self.now.nodes lines is c.args.queue c.in-Some.key (has ∙ ap Some c.in-Some.is) in
-    let never : None ≡ Some first.0 = c.in-None.ensures.value ∙ first.1 in
-    absurd (cc)
-
-pub returns-in-None-clause-taken : goal.returns-in-None-clause-taken
-returns-in-None-clause-taken c at lines is =
-    let heads = c.args.self.now.heads.items in
-    let has : slice_get heads c.args.queue ≡ Some c.index.result.now = slice_get_read heads _ c.args.queue c.index.result.now refl c.requires.known c.index.ensures in
-    let first = first_stands at heads c.args.self.now.nodes lines is c.args.queue c.in-Some.key (has ∙ ap Some c.in-Some.is) in
-    let never : None ≡ Some first.0 = c.in-None.ensures.value ∙ first.1 in
-    absurd (cc)
+    let first = first_stands kept.0 heads c.args.self.now.nodes kept.1 kept.2 c.args.queue c.in-Some.key (has ∙ ap Some c.in-Some.is) in
+    let never : None ≡ Some first.0 = c.in_default-get_mut.ensures.value ∙ first.1 in
+    cc

@@ -1,4 +1,4 @@
-use Rattle.std.proofs.Common.{◌≡◌, ◌∷◌, drop, refl, sym, ap, ◌∙◌}
+use Rattle.std.proofs.Common.{◌≡◌, [], ◌∷◌, drop, refl, sym, ap, ◌∙◌}
 use Rattle.queues.specs.Chunks.{Chunk}
 use Rattle.queue_book.specs.Chains.{chunk_of}
 use Rattle.queue_book.proofs.ChainLoops.{left_none, trimmed_drop}
@@ -25,3 +25,23 @@ loop-front-preserved c = record {
       trimmed_drop at lines c.args.queue c.args.self.now.nodes c.loop-front.self.heads.items c.drop_first.new.self.heads.items c.loop-front.self.nodes c.drop_first.new.self.nodes c.in-Some-drop_first.ensures.fewer
       was spent.0 spent.1 spent.2 spent.3 (c.in-Some-drop_first.ensures.dropped at now was.left.kept (ap (λ (ch : Chunk). ch.owner) chunk_is ∙ spent_unowned spent.0 spent.3));
 }
+
+pub front-requires-clause-kept : goal.front-requires-clause-kept
+front-requires-clause-kept c =
+    let kept = c.requires.kept in
+    let was = c.loop-front.invariant.kept kept.0 kept.1 kept.2 in
+    (kept.0, was.left.now, was.left.kept)
+
+pub unreachable-requires : goal.unreachable-requires
+unreachable-requires c =
+    let kept = c.requires.kept in
+    let was = c.loop-front.invariant.kept kept.0 kept.1 kept.2 in
+    let spent = c.in_default.ensures.spent kept.0 was.left.now was.left.kept in
+    let never : [] ≡ spent.0 ∷ spent.1 = sym (c.in_default-drop_first.ensures.none kept.0 was.left.now was.left.kept).0 ∙ spent.2 in
+    cc
+
+pub drop_first-requires-clause-kept : goal.drop_first-requires-clause-kept
+drop_first-requires-clause-kept c =
+    let kept = c.requires.kept in
+    let was = c.loop-front.invariant.kept kept.0 kept.1 kept.2 in
+    (kept.0, was.left.now, was.left.kept)

@@ -9,7 +9,7 @@ use Rattle.queue_book.specs.Handed.{AreGiven, IsHandedIn}
 use Rattle.queue_book.specs.KeptFrames.{KeptFrame, OwnChunks}
 use Rattle.queue_book.specs.Live.{kept_of}
 use Rattle.pop_order.specs.OneChange.{IsOnlyChange}
-use Rattle.queue_book.proofs.GivingSteps.{given_more, given_none, has_now, may_get_now, newest_now}
+use Rattle.queue_book.proofs.GivingSteps.{given_more, given_none, has_now, may_get_now, newest_now, stands_now}
 use Rattle.queues.proofs.GivingTurns.{queue_mode_at}
 use Rattle.queue_book.proofs.store.Store.spawn.Goals as goal
 
@@ -35,6 +35,16 @@ give-requires-clause-has c =
     let at : slice_get all i ≡ Some give = slice_get-get_or all i give within ∙ ap Some (sym c.one-item.is) in
     has_now c.args.self.now.frames c.loop-one.self.frames c.args.parent c.args.child all i give c.loop-one.frame-inside.places.entries c.args.self.now.chains.heads.items c.args.self.now.chains.nodes
     c.loop-one.self.chains.nodes c.args.self.now.turns c.loop-one.self.turns c.requires.may at c.loop-one.invariant.given
+
+pub give-requires-clause-stands : goal.give-requires-clause-stands
+give-requires-clause-stands c =
+    let all = c.args.gives.now in
+    let i = c.loop-one.one-index in
+    let give : QueueRight = c.one-item.result in
+    let within : i < length all = omega arith in
+    let at : slice_get all i ≡ Some give = slice_get-get_or all i give within ∙ ap Some (sym c.one-item.is) in
+    stands_now c.args.self.now.frames c.loop-one.self.frames c.args.parent c.args.child all i give c.loop-one.frame-inside.places.entries c.args.self.now.chains.heads.items c.args.self.now.chains.nodes
+    c.loop-one.self.chains.nodes c.args.self.now.turns c.loop-one.self.turns c.requires.may at c.loop-one.invariant.given c.requires.stand.0 c.requires.stand.1 c.requires.free
 
 pub give-requires-clause-newest : goal.give-requires-clause-newest
 give-requires-clause-newest c =
