@@ -27,8 +27,6 @@ mod pair;
 mod pairs;
 mod pairs_left;
 mod plan;
-#[cfg(test)]
-mod tests;
 mod word;
 mod words_left;
 

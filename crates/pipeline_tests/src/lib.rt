@@ -3,12 +3,19 @@
 //!
 //! - Step by step: what their tasks ask for where they are told what they haven't asked for. A row is what a plan's root is
 //!   told, and what its last child is told, in words.
-//! - Indexes of texts that are hard on what the tasks keep: words that begin alike, and records that fill a buffer.
+//! - Indexes, conversions and folds of whole texts, against answers worked out by hand. Some texts are hard on what the tasks
+//!   keep: words that begin alike, and records that fill a buffer.
 #![tactic(auto)]
 
 #[cfg(test)]
 mod asks;
 #[cfg(test)]
+mod fold_tests;
+#[cfg(test)]
 mod index_tests;
 #[cfg(test)]
+mod record_tests;
+#[cfg(test)]
 mod tests;
+#[cfg(test)]
+mod texts;

@@ -20,8 +20,6 @@ mod fields;
 mod laws;
 mod local;
 mod plan;
-#[cfg(test)]
-mod tests;
 
 pub use body::RecordBody;
 pub use laws::the_outcome_is_the_conversion;

@@ -25,8 +25,6 @@ mod local;
 mod plan;
 mod reducer;
 mod sum_reducer;
-#[cfg(test)]
-mod tests;
 
 pub use body::FoldBody;
 pub use join_reducer::{JOIN_MOST, JoinReducer};

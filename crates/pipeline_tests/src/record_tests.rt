@@ -1,22 +1,11 @@
 // The conversion of texts, against answers worked out by hand.
-use crate::{record_names, record_plan};
+use crate::texts::{repeated, texts_of};
 use line_blocks::TEXT_MOST;
-use serial_elision::{Printed, elide, print};
+use record_pipeline::{record_names, record_plan};
 use std::alloc::Global;
 use std::process::Abort;
 use std::test::Fail;
 use swan_model::LinesAnswer;
-
-/// The two texts that the conversion of a text leaves.
-fn texts_of(rt: &impl Abort, alloc: Global, text: &[u8]) -> Result<Printed, Fail> {
-    assert!(rt; text.len() <= TEXT_MOST);
-    let plan = record_plan(alloc, text).ok().ok_or("refused")?;
-    let outcome = elide(alloc, plan)?;
-    let names = record_names(alloc)?;
-    assert_eq!(rt; names.queues.len(), outcome.queues.len());
-    assert_eq!(rt; names.objects.len(), outcome.objects.len());
-    Ok(print(alloc, &names, &outcome)?)
-}
 
 /// Whether a text is converted so, with this report of its faults.
 fn leaves(
@@ -26,18 +15,12 @@ fn leaves(
     out: &[u8],
     faults: &str,
 ) -> Result<bool, Fail> {
-    let texts = texts_of(rt, alloc, text)?;
+    assert!(rt; text.len() <= TEXT_MOST);
+    let plan = record_plan(alloc, text).ok().ok_or("refused")?;
+    let names = record_names(alloc)?;
+    let texts = texts_of(rt, alloc, plan, &names)?;
     let report = format!(in alloc; "left input 0\n{faults}")?;
     Ok(texts.out.as_slice() == out && texts.report.as_slice() == report.as_bytes())
-}
-
-/// A text so many times.
-fn repeated(alloc: Global, text: &[u8], count: usize) -> Result<Vec<u8>, Fail> {
-    let mut all = Vec::new(alloc);
-    for _ in 0..count {
-        all.extend_from_slice(text)?;
-    }
-    Ok(all)
 }
 
 #[test]

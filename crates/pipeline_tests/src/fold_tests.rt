@@ -1,29 +1,14 @@
 // Folds of texts, against answers worked out by hand.
-use crate::{
-    BlockFold, EndAnswer, JOIN_MOST, JoinReducer, LineAnswer, Reducer, SumReducer, fold_names,
-    fold_plan,
-};
-use serial_elision::{Printed, elide, print};
+use crate::texts::{repeated, texts_of};
 use std::alloc::Global;
 use std::marker::{Send, Sync};
 use std::process::Abort;
 use std::test::Fail;
 use swan_model::{NoMemory, RECORD_MOST, Record};
-
-/// The two texts that the fold of a text leaves.
-fn texts_of<R: Reducer + Send + Sync>(
-    rt: &impl Abort,
-    alloc: Global,
-    reducer: R,
-    text: &[u8],
-) -> Result<Printed, Fail> {
-    let plan = fold_plan(alloc, reducer, text).ok().ok_or("refused")?;
-    let outcome = elide(alloc, plan)?;
-    let names = fold_names(alloc)?;
-    assert_eq!(rt; names.queues.len(), outcome.queues.len());
-    assert_eq!(rt; names.objects.len(), outcome.objects.len());
-    Ok(print(alloc, &names, &outcome)?)
-}
+use swan_reducers::{
+    BlockFold, EndAnswer, JOIN_MOST, JoinReducer, LineAnswer, Reducer, SumReducer, fold_names,
+    fold_plan,
+};
 
 /// Whether the fold of a text leaves this output, and this report of its faults.
 fn leaves<R: Reducer + Send + Sync>(
@@ -34,7 +19,9 @@ fn leaves<R: Reducer + Send + Sync>(
     out: &[u8],
     faults: &str,
 ) -> Result<bool, Fail> {
-    let texts = texts_of(rt, alloc, reducer, text)?;
+    let plan = fold_plan(alloc, reducer, text).ok().ok_or("refused")?;
+    let names = fold_names(alloc)?;
+    let texts = texts_of(rt, alloc, plan, &names)?;
     let report = format!(in alloc; "left input 0\n{faults}")?;
     Ok(texts.out.as_slice() == out && texts.report.as_slice() == report.as_bytes())
 }
@@ -58,15 +45,6 @@ fn in_turn(
 ) -> Result<Vec<u8>, Fail> {
     let mut all = repeated(alloc, first, first_count)?;
     all.extend_from_slice(&repeated(alloc, second, second_count)?)?;
-    Ok(all)
-}
-
-/// A text so many times.
-fn repeated(alloc: Global, text: &[u8], count: usize) -> Result<Vec<u8>, Fail> {
-    let mut all = Vec::new(alloc);
-    for _ in 0..count {
-        all.extend_from_slice(text)?;
-    }
     Ok(all)
 }
 
