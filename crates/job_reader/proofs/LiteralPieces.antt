@@ -3,6 +3,7 @@ use Rattle.std.proofs.Common.{◌≡◌, ℕ, ◌+◌, ◌*◌, ◌≤◌, true,
 use Rattle.std.specs.Prelude.{◌==◌, ◌||◌, nat_le, option_map, option_to_list}
 use Rattle.std.specs.Char.{digit_value, is_digit}
 use Rattle.std.proofs.lemmas.Bool.{cond-true, cond_both, eqb-true, leb-true, le-leb, or_cases}
+use Rattle.std.proofs.lemmas.Iterator.Adapters.{option_map_id}
 use Rattle.swan_model.specs.declared.record.TheConstants.{RECORD_MOST}
 use Rattle.job_reader.specs.Atoms.{decode, decoded, fitting, literal}
 use Rattle.job_reader.specs.Pieces.{Piece, StandsFor}
@@ -11,22 +12,22 @@ use Rattle.job_reader.specs.Pieces.StandsFor.{closed, piece}
 use Rattle.job_reader.specs.declared.literal.Inside.{Inside}
 use Rattle.job_reader.specs.declared.literal.Inside.TheVariants.{Plain, Escape, HighDigit, LowDigit, Closed}
 use Rattle.job_reader.proofs.CanonTokens.{read_inside}
-use Rattle.job_reader.proofs.Literals.{after_byte, by_step, mapped_some, plain_byte, step, then_some, unchanged}
+use Rattle.job_reader.proofs.Literals.{after_byte, by_step, mapped_some, plain_byte, step, then_some}
 
 digits_decoded : (high low : ℕ) (rest : List ℕ) → is_digit high 16 ≡ true → is_digit low 16 ≡ true → decoded Plain (92 ∷ 120 ∷ high ∷ low ∷ rest) ≡ after_byte (16 * digit_value high + digit_value low) (decoded Plain rest)
 digits_decoded high low rest is_high is_low =
-    unchanged (option_map (λ more. more) (decoded HighDigit (high ∷ low ∷ rest)))
-    ∙ unchanged (decoded HighDigit (high ∷ low ∷ rest))
+    option_map_id (option_map (λ more. more) (decoded HighDigit (high ∷ low ∷ rest)))
+    ∙ option_map_id (decoded HighDigit (high ∷ low ∷ rest))
     ∙ by_step HighDigit high (low ∷ rest) (LowDigit (digit_value high)) None (cond-true (is_digit high 16) _ _ is_high)
-    ∙ unchanged (decoded (LowDigit (digit_value high)) (low ∷ rest))
+    ∙ option_map_id (decoded (LowDigit (digit_value high)) (low ∷ rest))
     ∙ by_step (LowDigit (digit_value high)) low rest Plain (Some (16 * digit_value high + digit_value low)) (cond-true (is_digit low 16) _ _ is_low)
 
 piece_decoded : (text : List ℕ) (byte : ℕ) → Piece text byte → (rest : List ℕ) → decoded Plain (text ++ rest) ≡ after_byte byte (decoded Plain rest)
 piece_decoded _ _ (itself byte quote backslash) rest = by_step Plain byte rest Plain (Some byte) (plain_byte byte quote backslash)
-piece_decoded _ _ a_backslash rest = unchanged (after_byte 92 (decoded Plain rest))
-piece_decoded _ _ a_quote rest = unchanged (after_byte 34 (decoded Plain rest))
-piece_decoded _ _ a_line_feed rest = unchanged (after_byte 10 (decoded Plain rest))
-piece_decoded _ _ a_tab rest = unchanged (after_byte 9 (decoded Plain rest))
+piece_decoded _ _ a_backslash rest = option_map_id (after_byte 92 (decoded Plain rest))
+piece_decoded _ _ a_quote rest = option_map_id (after_byte 34 (decoded Plain rest))
+piece_decoded _ _ a_line_feed rest = option_map_id (after_byte 10 (decoded Plain rest))
+piece_decoded _ _ a_tab rest = option_map_id (after_byte 9 (decoded Plain rest))
 piece_decoded _ _ (by_digits high low is_high is_low) rest = digits_decoded high low rest is_high is_low
 
 pieces_decoded : (rest bytes : List ℕ) → StandsFor rest bytes → decoded Plain rest ≡ Some bytes

@@ -9,6 +9,7 @@ use Rattle.std.proofs.lemmas.Grind.{flat_map-append}
 use Rattle.std.proofs.lemmas.List.{append-nil}
 use Rattle.std.proofs.lemmas.Str.{digit_value-digit_char}
 use Rattle.std.proofs.lemmas.Bool.{cond-true, cond-false, cond_both, and_parts, lt-ltb, ltb-true, leb-true, eqb-true, eq-eqb, both_ways, or_cases}
+use Rattle.std.proofs.lemmas.Iterator.Adapters.{option_map_id}
 use Rattle.job_reader.specs.Atoms.{and_then, decode, decoded, IsDecoding}
 use Rattle.job_reader.specs.CanonicalText.{escaped}
 use Rattle.job_reader.specs.Characters.{is_allowed}
@@ -18,10 +19,6 @@ use Rattle.job_reader.specs.declared.literal.Inside.TheVariants.{Plain, Escape, 
 -- one byte, and then what is decoded after it
 abbrev pub after_byte : ℕ → Option (List ℕ) → Option (List ℕ)
 after_byte byte more = option_map (λ bytes. byte ∷ bytes) more
-
-pub unchanged : (o : Option (List ℕ)) → option_map (λ more. more) o ≡ o
-unchanged (Some bytes) = refl
-unchanged None = refl
 
 pub step : (inside : Inside) (byte : ℕ) (rest : List ℕ) → decoded inside (byte ∷ rest) ≡ and_then (decode inside byte) (λ s. option_map (λ more. option_to_list s.1 ++ more) (decoded s.0 rest))
 step Plain byte rest = refl
@@ -51,10 +48,10 @@ hex_decodes byte rest small =
     let high : byte / 16 < 16 = omega arith in
     let low : byte % 16 < 16 = omega arith in
     let whole : 16 * (byte / 16) + byte % 16 ≡ byte = omega arith in
-    unchanged (option_map (λ more. more) (decoded HighDigit (digit_char (byte / 16) ∷ digit_char (byte % 16) ∷ rest)))
-    ∙ unchanged (decoded HighDigit (digit_char (byte / 16) ∷ digit_char (byte % 16) ∷ rest))
+    option_map_id (option_map (λ more. more) (decoded HighDigit (digit_char (byte / 16) ∷ digit_char (byte % 16) ∷ rest)))
+    ∙ option_map_id (decoded HighDigit (digit_char (byte / 16) ∷ digit_char (byte % 16) ∷ rest))
     ∙ by_step HighDigit (digit_char (byte / 16)) (digit_char (byte % 16) ∷ rest) (LowDigit (byte / 16)) None (high_digit (byte / 16) high)
-    ∙ unchanged (decoded (LowDigit (byte / 16)) (digit_char (byte % 16) ∷ rest))
+    ∙ option_map_id (decoded (LowDigit (byte / 16)) (digit_char (byte % 16) ∷ rest))
     ∙ by_step (LowDigit (byte / 16)) (digit_char (byte % 16)) rest Plain (Some (16 * (byte / 16) + byte % 16)) (low_digit (byte / 16) (byte % 16) low)
     ∙ ap (λ b. after_byte b (decoded Plain rest)) whole
 
@@ -79,10 +76,10 @@ escaping byte =
     cond_both (is_allowed byte) _ _ (Escaping byte) (λ is. itself quote backslash is) (λ isnt. by_digits isnt)))))
 
 decodes_as : (byte : ℕ) (text : List ℕ) → Escaping byte text → (rest : List ℕ) → byte < 256 → decoded Plain (text ++ rest) ≡ after_byte byte (decoded Plain rest)
-decodes_as byte _ (at_quote is) rest small = unchanged (after_byte 34 (decoded Plain rest)) ∙ ap (λ b. after_byte b (decoded Plain rest)) (sym is)
-decodes_as byte _ (at_backslash is) rest small = unchanged (after_byte 92 (decoded Plain rest)) ∙ ap (λ b. after_byte b (decoded Plain rest)) (sym is)
-decodes_as byte _ (at_feed is) rest small = unchanged (after_byte 10 (decoded Plain rest)) ∙ ap (λ b. after_byte b (decoded Plain rest)) (sym is)
-decodes_as byte _ (at_tab is) rest small = unchanged (after_byte 9 (decoded Plain rest)) ∙ ap (λ b. after_byte b (decoded Plain rest)) (sym is)
+decodes_as byte _ (at_quote is) rest small = option_map_id (after_byte 34 (decoded Plain rest)) ∙ ap (λ b. after_byte b (decoded Plain rest)) (sym is)
+decodes_as byte _ (at_backslash is) rest small = option_map_id (after_byte 92 (decoded Plain rest)) ∙ ap (λ b. after_byte b (decoded Plain rest)) (sym is)
+decodes_as byte _ (at_feed is) rest small = option_map_id (after_byte 10 (decoded Plain rest)) ∙ ap (λ b. after_byte b (decoded Plain rest)) (sym is)
+decodes_as byte _ (at_tab is) rest small = option_map_id (after_byte 9 (decoded Plain rest)) ∙ ap (λ b. after_byte b (decoded Plain rest)) (sym is)
 decodes_as byte _ (itself quote backslash is) rest small = by_step Plain byte rest Plain (Some byte) (plain_byte byte quote backslash)
 decodes_as byte _ (by_digits isnt) rest small = hex_decodes byte rest small
 

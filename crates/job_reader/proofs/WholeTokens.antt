@@ -18,7 +18,7 @@ use Rattle.job_reader.proofs.CanonTokens.{read_inside}
 use Rattle.job_reader.proofs.Literals.{AreBytes, Escaping, escaping, literal_short}
 use Rattle.job_reader.proofs.Literals.Escaping.{at_quote, at_backslash, at_feed, at_tab, itself, by_digits}
 use Rattle.job_reader.proofs.Scans.{front_of_byte, with_front}
-use Rattle.job_reader.proofs.Trims.{end_other}
+use Rattle.job_reader.proofs.Trims.{end_other, front_other}
 
 isnt_space : ℕ → Bool
 isnt_space byte = not (byte == 32)
@@ -128,9 +128,6 @@ no_end_space (byte ∷ []) none =
 no_end_space (byte ∷ other ∷ bytes) none =
     ap (before_trimmed byte) (no_end_space (other ∷ bytes) (and_parts (not (byte == 32)) (list_all (λ b. not (b == 32)) (other ∷ bytes)) none).1)
 
-no_front_space : (byte : ℕ) (bytes : List ℕ) → (byte == 32) ≡ false → without_front_spaces (byte ∷ bytes) ≡ byte ∷ bytes
-no_front_space byte bytes space = cond-false (byte == 32) _ _ space
-
 pub plain_alone : (byte : ℕ) (bytes : List ℕ) → (byte == 32) ≡ false → (byte == 34) ≡ false → list_all (λ b. not (b == 32)) bytes ≡ true → StandsAlone (byte ∷ bytes)
 plain_alone byte bytes space quote none = record {
   scanned = λ rest.
@@ -138,7 +135,7 @@ plain_alone byte bytes space quote none = record {
       ap (λ n. with_byte Between byte n (tokens_from n (bytes ++ rest))) begins
       ∙ ap (in_front byte) (in_token bytes rest none)
       ∙ in_front_of byte bytes (tokens_from Token rest);
-  begins = no_front_space byte bytes space;
+  begins = front_other bytes byte space;
   ends = no_end_space (byte ∷ bytes) (and_from (not (byte == 32)) (list_all (λ b. not (b == 32)) bytes) (ap not space) none);
   some = omega arith;
 }
@@ -247,7 +244,7 @@ front_kept [] rest some is = absurd (omega arith)
 front_kept (byte ∷ front) rest some is =
     ⊎_elim
     (λ (space : (byte == 32) ≡ true). absurd (shorter byte front space is))
-    (λ (other : (byte == 32) ≡ false). no_front_space byte (front ++ rest) other)
+    (λ (other : (byte == 32) ≡ false). front_other (front ++ rest) byte other)
     (cases_Bool (byte == 32))
   where
     front_length : (bytes : List ℕ) → length (without_front_spaces bytes) ≤ length bytes
