@@ -1,10 +1,10 @@
 -- The first step from a line on is the one that the table has for it.
 use Rattle.std.proofs.Common.{◌≡◌, ◌+◌, ◌<◌, ◌≤◌, get_or, ap, ℕ, zero, suc, List, [], ◌∷◌, drop, length, refl, arith}
+use Rattle.std.proofs.lemmas.List.{drop_all}
 use native.Mathlib.Numerals.{unary_clauses}
 use Rattle.job_reader.specs.declared.line.Line.{Line}
 use Rattle.job_body.specs.Firsts.{firsts_from, firsts_of}
 use Rattle.job_body.specs.Tasks.{executed_from, passed_over}
-use Rattle.job_body.proofs.Suffixes.{drop_past}
 
 length_from : (j : ℕ) (lines : List Line) → length (firsts_from j lines) ≡ length lines
 length_from j [] = refl
@@ -22,4 +22,4 @@ pub first_is : (lines : List Line) (i x : ℕ) → i < length lines → get_or (
 first_is lines i x h = first_from 0 i i x lines (omega arith) h
 
 pub none_is : (lines : List Line) (i : ℕ) → length lines ≤ i → i ≡ executed_from lines i
-none_is lines i h = let past : drop i lines ≡ [] = drop_past lines i h in rw past (omega arith)
+none_is lines i h = let past : drop i lines ≡ [] = drop_all i lines h in rw past (omega arith)

@@ -1,8 +1,8 @@
 -- What is known at a line once one more line is read.
-use Rattle.std.proofs.Common.{◌≡◌, ℕ, zero, suc, ◌+◌, Some, List, [], ◌∷◌, ◌++◌, length, take, flat_map, slice_get, refl, sym, ap, ◌∙◌, arith}
-use native.Mathlib.Numerals.{unary_clauses}
+use Rattle.std.proofs.Common.{◌≡◌, ℕ, ◌+◌, Some, List, [], ◌∷◌, ◌++◌, length, take, flat_map, slice_get, refl, sym, ap, ◌∙◌, arith, length-take-le}
 use Rattle.std.proofs.lemmas.List.{append-nil}
 use Rattle.std.proofs.lemmas.Grind.{flat_map-append}
+use Rattle.std.proofs.lemmas.Option.{slice_get_within}
 use Rattle.job_reader.specs.declared.line.Line.{Line}
 use Rattle.job_reader.specs.declared.line.Line.TheVariants as line
 use Rattle.job_body.specs.declared.block.Block.{Block}
@@ -11,6 +11,7 @@ use Rattle.job_body.specs.Blocks.{blocks_after, blocks_at, blocks_from}
 use Rattle.job_body.specs.Compiled.{entered, seen_at}
 use Rattle.job_body.specs.Tasks.{Scope, access_of, made_of, param_of, roots, scope_after, scope_at, scope_from, top_lines, var_of}
 use Rattle.privilege_check.specs.Names.{is_main}
+use Rattle.swan_model.proofs.Lists.{take_next}
 
 -- what a scope and open blocks say
 abbrev seen : List (List ℕ) → Scope → List Block → Known
@@ -38,16 +39,6 @@ blocks-push i blocks (first ∷ lines) line =
     blocks-push (i + 1) (blocks_after i blocks first) lines line
     ∙ ap (λ k. blocks_after k (blocks_from (i + 1) (blocks_after i blocks first) lines) line) (omega arith)
 
-pub take-push : {A : Type 0} (xs : List A) (i : ℕ) (x : A) → slice_get xs i ≡ Some x → take (i + 1) xs ≡ take i xs ++ x ∷ []
-take-push [] i x h = absurd (cc)
-take-push (y ∷ ys) zero x h = let same : y ≡ x = cc in ap (λ z. z ∷ []) same
-take-push (y ∷ ys) (suc i) x h = simp unary_clauses (simp unary_clauses at (ap (λ zs. y ∷ zs) (take-push ys i x h)))
-
-length-taken : {A : Type 0} (xs : List A) (i : ℕ) (x : A) → slice_get xs i ≡ Some x → length (take i xs) ≡ i
-length-taken [] i x h = absurd (cc)
-length-taken (y ∷ ys) zero x h = refl
-length-taken (y ∷ ys) (suc i) x h = ap suc (length-taken ys i x h)
-
 -- what is known after the line at an index
 pub seen-next : (lines : List Line) (i : ℕ) (line : Line) → slice_get lines i ≡ Some line → entered i (seen_at lines i) line ≡ seen_at lines (i + 1)
 seen-next lines i line h =
@@ -55,13 +46,13 @@ seen-next lines i line h =
     ∙ ap (λ scope. seen (roots (top_lines lines)) scope (blocks_after i (blocks_at lines i) line)) (sym scopes)
     ∙ ap (λ blocks. seen (roots (top_lines lines)) (scope_at lines (i + 1)) blocks) (sym blocks) where
       scopes : scope_at lines (i + 1) ≡ scope_after (scope_at lines i) line
-      scopes = ap (λ taken. scope_from (record { name = []; lines = [] }) taken) (take-push lines i line h) ∙ scope-push _ (take i lines) line
+      scopes = ap (λ taken. scope_from (record { name = []; lines = [] }) taken) (take_next lines i line h) ∙ scope-push _ (take i lines) line
 
       at_index : 0 + length (take i lines) ≡ i
-      at_index = omega (arith, length-taken lines i line h)
+      at_index = omega (arith, length-take-le i lines (omega (arith, slice_get_within lines i line h)))
 
       blocks : blocks_at lines (i + 1) ≡ blocks_after i (blocks_at lines i) line
       blocks =
-          ap (λ taken. blocks_from 0 [] taken) (take-push lines i line h)
+          ap (λ taken. blocks_from 0 [] taken) (take_next lines i line h)
           ∙ blocks-push 0 [] (take i lines) line
           ∙ ap (λ k. blocks_after k (blocks_at lines i) line) at_index

@@ -1,6 +1,7 @@
 -- The instruction of a line, the task of a name, and how an activation begins.
 use Rattle.std.proofs.Common.{◌≡◌, ℕ, zero, suc, ◌+◌, Bool, true, false, cond, not, Option, Some, None, List, [], ◌∷◌, ◌++◌, length, drop, flat_map, map, slice_get, bytes_eq, option_map, if◌then◌else◌, refl, sym, ap, ◌∙◌, arith}
-use Rattle.std.proofs.lemmas.List.{append-nil}
+use Rattle.std.proofs.lemmas.List.{append-nil, drop_all}
+use Rattle.std.proofs.lemmas.Option.{slice_get_past}
 use Rattle.std.specs.List.{position_or_len}
 use native.Mathlib.Numerals.{unary_clauses}
 use Rattle.job_reader.specs.declared.line.Line.{Line}
@@ -14,7 +15,6 @@ use Rattle.job_body.specs.Names.{slot}
 use Rattle.job_body.specs.Runs.{begun_by, begun_in}
 use Rattle.job_body.specs.Steps.{begun}
 use Rattle.swan_model.specs.Values.{zero_of}
-use Rattle.job_body.proofs.Suffixes.{drop_past}
 use Rattle.job_body.specs.Tasks.{before_task, begins, passed_over, var_kinds, takes, task_index}
 
 -- ---- the instruction of a line
@@ -95,16 +95,12 @@ instruction job i line = instruction_of job (tasks_of job) (seen_at job i) (exit
 begun-at-task : (job : List Line) (i : ℕ) (name : List ℕ) (values : List Value) → slice_get job i ≡ Some (line.Task name) → begun_in (program_of job) i values ≡ begun job i values
 begun-at-task job i name values h = ap (begun_by i values) (instruction-at job i ∙ ap (option_map (instruction job i)) h)
 
-get-past : {A : Type 0} (xs : List A) → slice_get xs (length xs) ≡ None
-get-past [] = refl
-get-past (x ∷ xs) = get-past xs
-
 begun-past : (job : List Line) (values : List Value) → begun_in (program_of job) (length job) values ≡ begun job (length job) values
 begun-past job values =
-    ap (begun_by (length job) values) (instruction-at job (length job) ∙ ap (option_map (instruction job (length job))) (get-past job))
+    ap (begun_by (length job) values) (instruction-at job (length job) ∙ ap (option_map (instruction job (length job))) (slice_get_past job (length job) (omega arith)))
     ∙ ap (λ at. record { before = length job; at = at; values = values }) (let same : length job + 1 ≡ length job + 1 + 0 = omega arith in same)
     ∙ ap (λ all. record { before = length job; at = length job + 1 + 0; values = all }) (sym (append-nil values))
-    ∙ ap (λ rest. record { before = length job; at = length job + 1 + passed_over rest; values = values ++ map zero_of (var_kinds (before_task rest)) }) (sym (drop_past job (length job + 1) (omega arith)))
+    ∙ ap (λ rest. record { before = length job; at = length job + 1 + passed_over rest; values = values ++ map zero_of (var_kinds (before_task rest)) }) (sym (drop_all (length job + 1) job (omega arith)))
 
 begun-found : (job : List Line) (p : ℕ) (found : Option Task) (values : List Value) → IsFound job 0 p found → begun_in (program_of job) p values ≡ begun job p values
 begun-found job p found values (at_line name h e) = begun-at-task job p name values h

@@ -1,6 +1,6 @@
 -- What a step of a checked job does to the serial state: it meets no fault of rights, and each
 -- activation stands where it holds what the check knows there.
-use Rattle.std.proofs.Common.{◌≡◌, ℕ, ◌+◌, ◌-◌, ◌<◌, ◌≤◌, Bool, true, false, List, [], ◌∷◌, ◌++◌, length, nat_lt, nat_le, if◌then◌else◌, refl, sym, subst, arith, length-append, length-set}
+use Rattle.std.proofs.Common.{◌≡◌, ℕ, ◌+◌, ◌-◌, ◌<◌, ◌≤◌, Bool, true, false, List, [], ◌∷◌, ◌++◌, length, nat_lt, nat_le, if◌then◌else◌, refl, sym, subst, arith, length-set}
 use Rattle.swan_model.specs.declared.body.Answer.{Answer}
 use Rattle.swan_model.specs.declared.body.Answer.TheVariants as answer
 use Rattle.swan_model.specs.declared.body.Ask.TheVariants as ask
@@ -19,7 +19,7 @@ use Rattle.swan_model.specs.Values.{kind_of}
 use Rattle.job_reader.specs.declared.line.Line.{Line}
 use Rattle.job_body.specs.RightsKept.{is_of_rights}
 use Rattle.job_body.specs.Standing.{Standing}
-use Rattle.std.proofs.lemmas.List.{map-append}
+use Rattle.std.proofs.lemmas.List.{map-append, length_push}
 use Rattle.swan_model.proofs.Lists.{some_within}
 use Rattle.swan_model.proofs.ZeroedCells.{length-zeroed}
 use Rattle.job_body.proofs.RightsSpawns.{ChildHolds, HeldAt, InStore, held-stored, held_modes_of, number-held, room}
@@ -146,20 +146,17 @@ made-fits job store after a holding grows stands stored less = (
   },
 )
 
-length-more : {A : Type 0} (xs : List A) (x : A) → length (xs ++ x ∷ []) ≡ length xs + 1
-length-more xs x = length-append xs (x ∷ [])
-
 pub queue-fits : (job : List Line) (n : ℕ) (store : Store) (a : Activation Standing) → Stands job a.local.at (held_modes_of a.holdings ++ PushPop ∷ []) → InStore (length store.cells) (length store.queues) a.holdings → EffectFits job store (effect n store a ask.NewQueue)
 queue-fits job n store a stands stored =
     let queue : Queue = record { origin = origin.Step n; items = [] } in
     let after : Store = record store { queues = store.queues ++ queue ∷ [] } in
-    made-fits job store after a (record { mode = PushPop; number = length store.queues }) (record { cells = omega arith; queues = omega (arith, length-more store.queues queue) }) stands stored (omega (arith, length-more store.queues queue))
+    made-fits job store after a (record { mode = PushPop; number = length store.queues }) (record { cells = omega arith; queues = omega (arith, length_push store.queues queue) }) stands stored (omega (arith, length_push store.queues queue))
 
 pub object-fits : (job : List Line) (n : ℕ) (store : Store) (a : Activation Standing) (value : Value) → Stands job a.local.at (held_modes_of a.holdings ++ InOut ∷ []) → InStore (length store.cells) (length store.queues) a.holdings → EffectFits job store (effect n store a (ask.NewObject value))
 object-fits job n store a value stands stored =
     let cell : Cell = record { origin = origin.Step n; kind = kind_of value; value = value } in
     let after : Store = record store { cells = store.cells ++ cell ∷ [] } in
-    made-fits job store after a (record { mode = InOut; number = length store.cells }) (record { cells = omega (arith, length-more store.cells cell); queues = omega arith }) stands stored (omega (arith, length-more store.cells cell))
+    made-fits job store after a (record { mode = InOut; number = length store.cells }) (record { cells = omega (arith, length_push store.cells cell); queues = omega arith }) stands stored (omega (arith, length_push store.cells cell))
 
 -- ---- a spawn
 

@@ -1,6 +1,7 @@
 -- What a task holds at a line, by names.
 use Rattle.std.proofs.Common.{◌≡◌, ℕ, Bool, true, false, List, [], ◌∷◌, ◌++◌, flat_map, drop, if◌then◌else◌, refl, sym, ap, ap₂, ◌∙◌, append_assoc}
 use Rattle.std.proofs.lemmas.List.{append-nil, map-append}
+use Rattle.std.proofs.lemmas.List.Concat.{flat_map-append}
 use Rattle.job_reader.specs.declared.line.Line.{Line}
 use Rattle.job_reader.specs.declared.line.Line.TheVariants as line
 use Rattle.swan_model.specs.declared.rights.Mode.TheVariants.{InOut, Push, Pop, PushPop}
@@ -89,8 +90,7 @@ names-entries job scope =
 -- ---- one line more
 
 pub flat-more : (f : Line → List Entry) (lines : List Line) (line : Line) → flat_map f (lines ++ line ∷ []) ≡ flat_map f lines ++ f line
-flat-more f [] line = append-nil (f line)
-flat-more f (first ∷ lines) line = ap (λ es. f first ++ es) (flat-more f lines line) ∙ sym (append_assoc (f first) (flat_map f lines) (f line))
+flat-more f lines line = flat_map-append f lines (line ∷ []) ∙ ap (λ es. flat_map f lines ++ es) (append-nil (f line))
 
 pub entries-more : (job : List Line) (scope : Scope) (line : Line) → entries job (record { name = scope.name; lines = scope.lines ++ line ∷ [] }) ≡ roots_held job scope.name ++ ((flat_map access_entry scope.lines ++ access_entry line) ++ (flat_map made_entry scope.lines ++ made_entry line))
 entries-more job scope line =

@@ -1,7 +1,7 @@
 -- Blocks of a task go on in the same task, with the same held.
-use Rattle.std.proofs.Common.{◌≡◌, ℕ, zero, suc, ◌+◌, true, false, Some, None, List, [], ◌∷◌, length, drop, slice_get, refl, sym, ap, ◌∙◌, subst, add-one}
-use native.Mathlib.Numerals.{unary_clauses}
+use Rattle.std.proofs.Common.{◌≡◌, ℕ, suc, ◌+◌, true, false, Some, None, List, [], ◌∷◌, length, drop, slice_get, refl, sym, ap, ◌∙◌, subst, arith}
 use Rattle.std.proofs.lemmas.Bool.{false≢true, true≢false}
+use Rattle.std.proofs.lemmas.List.{drop_all}
 use Rattle.swan_model.specs.declared.rights.Mode.{Mode}
 use Rattle.job_reader.specs.Jobs.{IsPlaced, may_stand}
 use Rattle.job_reader.specs.Positions as positions
@@ -24,6 +24,7 @@ use Rattle.job_body.proofs.RightsEntries.{held_at, made_entry}
 use Rattle.job_body.proofs.RightsNames.{modes}
 use Rattle.job_body.proofs.RightsPlaces.{along, place_at, place-next, placed-from, take-past}
 use Rattle.job_body.proofs.RightsStands.{Stands, held-same, is_task, item_of_drop, rest_of_drop, stands_here}
+use Rattle.swan_model.proofs.Lists.{past_none}
 
 -- ---- statements
 
@@ -80,9 +81,6 @@ else-blocks : (job : List Line) (held : List Mode) (inside : List Opened) (block
 else-blocks job held [] blocks stands b = absurd (false≢true stands)
 else-blocks job held (innermost ∷ inside) blocks stands b = b
 
-less_one : (n m : ℕ) → suc n ≡ suc m → n ≡ m
-less_one n m e = cc
-
 end-loops : (job : List Line) (held : List Mode) (block : Block) (blocks : List Block) → LoopsStand job held (block ∷ blocks) → LoopsStand job held blocks
 end-loops job held block.If blocks loops = loops
 end-loops job held (block.While i) blocks loops = loops.1
@@ -91,7 +89,7 @@ end-blocks : (job : List Line) (held : List Mode) (inside : List Opened) (blocks
 end-blocks job held [] blocks b = tt
 end-blocks job held (innermost ∷ inside) [] b = absurd (cc)
 end-blocks job held (innermost ∷ inside) (block ∷ blocks) b =
-    (less_one (length blocks) (length inside) b.0, end-loops job held block blocks b.1)
+    (omega (arith, b.0), end-loops job held block blocks b.1)
 
 done-blocks : (job : List Line) (held : List Mode) (i : ℕ) (inside : List Opened) (blocks : List Block) (line : Line) → may_stand (InDo inside) line ≡ true → Stands job i held → BlocksStand job held inside blocks → BlocksAt (positions.after_statement inside line) job held (blocks_after i blocks line)
 done-blocks job held i inside blocks (line.If a) stands at b = (ap suc b.0, b.1)
@@ -123,10 +121,9 @@ blocks-step job i line (InDo inside) at is stands b =
     (done-blocks job (modes (held_at job i)) i inside (blocks_at job i) line stands here b)
 
 drop-past : {A : Type 0} (xs : List A) (i : ℕ) → slice_get xs i ≡ None → drop (i + 1) xs ≡ drop i xs
-drop-past [] zero h = refl
-drop-past [] (suc i) h = rw add-one refl
-drop-past (x ∷ xs) zero h = absurd (cc)
-drop-past (x ∷ xs) (suc i) h = simp unary_clauses (simp unary_clauses at (drop-past xs i h))
+drop-past xs i h =
+    let past = past_none xs i h in
+    drop_all (i + 1) xs (omega (arith, past)) ∙ sym (drop_all i xs past)
 
 -- the blocks at each line
 pub blocks-stand : (job : List Line) → IsPlaced First job → (i : ℕ) → BlocksAt (place_at job i) job (modes (held_at job i)) (blocks_at job i)

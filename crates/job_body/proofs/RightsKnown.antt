@@ -22,11 +22,11 @@ use Rattle.privilege_check.specs.Names.{Before, at_start, declared, declared_in,
 use Rattle.privilege_check.specs.declared.declaration.Declaration.{Declaration}
 use Rattle.privilege_check.specs.declared.declaration.Declaration.TheVariants.{Variable, Held}
 use Rattle.job_body.specs.Tasks.{Scope, before_task, scope_after, scope_from, top_lines}
-use Rattle.job_body.proofs.Known.{scope-push, take-push}
+use Rattle.job_body.proofs.Known.{scope-push}
 use Rattle.job_body.proofs.RightsNames.{Entry, mode_known, mode_of, declared-held, declared-variable}
 use Rattle.job_body.proofs.RightsEntries.{access_entry, made_entry, root_queue_entry, root_object_entry, root_entries, roots_held, entries, entries-more, root_entries-more, access-between, made-between, none-between}
 use Rattle.job_body.proofs.RightsPlaces.{place_from, before_from, place-push, before-push, Passes, line-at, along, take-past}
-use Rattle.job_body.proofs.Suffixes.{drop_item}
+use Rattle.swan_model.proofs.Lists.{drop_next, take_next}
 
 -- at the top level
 pub record KnownAtTop (done : List Line) (before : Before) : Type 0 where
@@ -327,5 +327,5 @@ known-at job placed passes =
     (λ i past k. subst (KnownAfter job) (sym (take-past job i past)) k)
     (λ i line is k.
     let at = line-at job i line placed passes is in
-    let whole : job ≡ take i job ++ line ∷ drop (i + 1) job = sym (take-append-drop i job) ∙ ap (λ ls. take i job ++ ls) (drop_item job i line is) in
-    subst (KnownAfter job) (sym (take-push job i line is)) (known-more job (take i job) (drop (i + 1) job) line whole at.stands at.passes k))
+    let whole : job ≡ take i job ++ line ∷ drop (i + 1) job = sym (take-append-drop i job) ∙ ap (λ ls. take i job ++ ls) (drop_next job i line is) in
+    subst (KnownAfter job) (sym (take_next job i line is)) (known-more job (take i job) (drop (i + 1) job) line whole at.stands at.passes k))

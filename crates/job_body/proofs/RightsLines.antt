@@ -30,7 +30,7 @@ use Rattle.job_body.proofs.RightsKnown.{KnownAt, KnownInTask, known-at}
 use Rattle.job_body.proofs.RightsNames.{mode_known, mode_of, modes, position}
 use Rattle.job_body.proofs.RightsPlaces.{Passes, before_at, before_from, passes-from, place_at, place-next, placed-from, scope-next}
 use Rattle.job_body.proofs.RightsStands.{Stands, stands_here}
-use Rattle.job_body.proofs.RightsTasks.{IsTaskAt, held_modes, kept, learnt, meaning_of, meanings, modes-meanings, task-found}
+use Rattle.job_body.proofs.RightsTasks.{IsTaskAt, held_modes, kept, learnt, meaning_of, meanings, modes-meanings, task-found, bind-parts}
 
 abbrev pub is_statement : Line → Bool
 is_statement (line.Assign v o args) = true
@@ -182,10 +182,6 @@ child-parts task (Some taken) next e = let is = go (is_main task) refl e in (tak
   go true is e = absurd (cc)
   go false is e = (is, e)
 
-second-part : {A : Type 0} (r : Result A JobKind) (x : Result (Unit {0}) JobKind) → (r >>= λ _. x) ≡ Ok tt → x ≡ Ok tt
-second-part (Ok a) x e = e
-second-part (Err k) x e = absurd (cc)
-
 first-part : (r : Result (Unit {0}) JobKind) (x : Result (Unit {0}) JobKind) → (r >>= λ _. x) ≡ Ok tt → r ≡ Ok tt
 first-part (Ok a) x e = refl
 first-part (Err k) x e = absurd (cc)
@@ -198,7 +194,7 @@ unaliased-once gifts e = go (is_lent_twice gifts) e where
 
 pub spawn-passes : (before : Before) (fuel : Atom) (task : List ℕ) (args : List Atom) → spawns.spawn before fuel task args ≡ Ok tt → SpawnPasses before task args
 spawn-passes before fuel task args e =
-    let rest = second-part (value (known before) (Some kind.Int) fuel) (as_child task (before.tasks task) >>= spawns.given (known before) args) e in
+    let rest = (bind-parts (value (known before) (Some kind.Int) fuel) (as_child task (before.tasks task) >>= spawns.given (known before) args) e).1 in
     let child = child-parts task (before.tasks task) (spawns.given (known before) args) rest in
     go child.0 child.1 child.2 (nat_eq (length args) (length child.0)) refl child.3 where
       go : (taken : List Declaration) → before.tasks task ≡ Some taken → is_main task ≡ false → (b : Bool) → nat_eq (length args) (length taken) ≡ b → (if b then (arguments (known before) taken args >>= λ _. spawns.unaliased (lent taken args)) else Err fault.Arity) ≡ Ok tt → SpawnPasses before task args
@@ -209,7 +205,7 @@ spawn-passes before fuel task args e =
             known = is;
             child = other;
             all = first-part (arguments (known before) taken args) (spawns.unaliased (lent taken args)) e;
-            once = unaliased-once (lent taken args) (second-part (arguments (known before) taken args) (spawns.unaliased (lent taken args)) e);
+            once = unaliased-once (lent taken args) (bind-parts (arguments (known before) taken args) (spawns.unaliased (lent taken args)) e).1;
             count = eqb-true (length args) (length taken) count;
           }
 

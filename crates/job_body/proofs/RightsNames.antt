@@ -2,6 +2,7 @@
 use Rattle.std.proofs.Common.{◌≡◌, ℕ, suc, ◌+◌, Bool, true, false, cond, not, Option, Some, None, List, [], ◌∷◌, ◌++◌, map, bytes_eq, slice_get, inl, inr, refl, sym, ap, ◌∙◌, arith}
 use Rattle.std.specs.List.{position_or_len}
 use Rattle.std.proofs.lemmas.Bool.{cases_Bool}
+use Rattle.std.proofs.lemmas.Option.{none-some}
 use Rattle.std.proofs.lemmas.Slice.Eq.{bytes_eq-Decides}
 use Rattle.swan_model.specs.declared.rights.Mode.{Mode}
 use Rattle.privilege_check.specs.Names.{Names}
@@ -37,9 +38,6 @@ same_name a b e = (bytes_eq-Decides a b).0 e
 
 -- ---- one more entry
 
-some_none : {A : Type 0} (a : A) → Some a ≡ None → ⊥
-some_none a e = cc
-
 -- an entry that is put between others, of which none has its name
 pub mode_of-between : (before after : List Entry) (name : List ℕ) (mode : Mode) → mode_of (before ++ after) name ≡ None → (query : List ℕ) → mode_of (before ++ (name, mode) ∷ after) query ≡ cond (bytes_eq name query) (Some mode) (mode_of (before ++ after) query)
 mode_of-between [] after name mode fresh query = refl
@@ -51,7 +49,7 @@ mode_of-between ((first, held) ∷ before) after name mode fresh query =
       | inr other ↦ rw other (mode_of-between before after name mode (rest_fresh (bytes_eq first name) fresh) query)
     ] where
       rest_fresh : (b : Bool) → cond b (Some held) (mode_of (before ++ after) name) ≡ None → mode_of (before ++ after) name ≡ None
-      rest_fresh true e = absurd (some_none held e)
+      rest_fresh true e = absurd (none-some held (sym e))
       rest_fresh false e = e
 
       first_apart : (b c : Bool) → b ≡ bytes_eq first name → c ≡ bytes_eq name query → cond (bytes_eq first name) (Some held) (mode_of (before ++ after) name) ≡ None → bytes_eq first query ≡ true → c ≡ false
@@ -60,7 +58,7 @@ mode_of-between ((first, held) ∷ before) after name mode fresh query =
           let to_query : first ≡ query = same_name first query same in
           let to_name : name ≡ query = same_name name query (sym is_c) in
           let same_first : bytes_eq first name ≡ true = (bytes_eq-Decides first name).1 (to_query ∙ sym to_name) in
-          absurd (some_none held (ap (λ t. cond t (Some held) (mode_of (before ++ after) name)) (sym same_first) ∙ e))
+          absurd (none-some held (sym (ap (λ t. cond t (Some held) (mode_of (before ++ after) name)) (sym same_first) ∙ e)))
 
 -- a name that is new, and stands for something held
 pub declared-held : (before after : List Entry) (old new : Names) (name : List ℕ) (mode : Mode) (meaning : Declaration) → mode_known (Some meaning) ≡ Some mode
@@ -104,7 +102,7 @@ mode_at ((first, mode) ∷ entries) name =
       one-more n = omega arith
 
 pub name_at : (entries : List Entry) (name : List ℕ) (mode : Mode) → mode_of entries name ≡ Some mode → slice_get (names entries) (position entries name) ≡ Some name
-name_at [] name mode held = absurd (some_none mode (sym held))
+name_at [] name mode held = absurd (none-some mode held)
 name_at ((first, other) ∷ entries) name mode held = go (bytes_eq first name) refl held (name_at entries name mode) where
   one-more : (n : ℕ) → 1 + n ≡ suc n
   one-more n = omega arith

@@ -1,6 +1,5 @@
 -- Where the lines of a job stand, and what the lines before each of them say.
-use Rattle.std.proofs.Common.{◌≡◌, ℕ, zero, suc, ◌+◌, Option, Some, None, Ok, List, [], ◌∷◌, ◌++◌, take, drop, slice_get, IsTrue, refl, ap, ◌∙◌, subst, add-one}
-use native.Mathlib.Numerals.{unary_clauses}
+use Rattle.std.proofs.Common.{◌≡◌, ℕ, zero, suc, ◌+◌, Option, Some, None, Ok, List, [], ◌∷◌, ◌++◌, take, drop, slice_get, IsTrue, refl, ap, ◌∙◌, subst, add-one, take_all, arith, sym}
 use Rattle.job_reader.specs.Jobs.{IsPlaced, may_stand}
 use Rattle.job_reader.specs.Positions as positions
 use Rattle.job_reader.specs.declared.line.Line.{Line}
@@ -10,8 +9,8 @@ use Rattle.privilege_check.specs.FirstFault.{check_line}
 use Rattle.privilege_check.specs.Names as checks
 use Rattle.privilege_check.specs.Names.{Before, at_start}
 use Rattle.job_body.specs.Tasks.{scope_after, scope_at, scope_from}
-use Rattle.job_body.proofs.Known.{scope-push, take-push}
-use Rattle.job_body.proofs.Suffixes.{drop_item}
+use Rattle.job_body.proofs.Known.{scope-push}
+use Rattle.swan_model.proofs.Lists.{drop_next, take_next, past_none}
 
 -- the place after lines, and what they say
 abbrev pub place_from : Position → List Line → Position
@@ -42,10 +41,9 @@ pub record IsLineAt (job : List Line) (i : ℕ) (line : Line) : Type 0 where
 -- ---- one line more
 
 pub take-past : {A : Type 0} (xs : List A) (i : ℕ) → slice_get xs i ≡ None → take (i + 1) xs ≡ take i xs
-take-past [] zero h = refl
-take-past [] (suc i) h = rw add-one refl
-take-past (y ∷ ys) zero h = absurd (cc)
-take-past (y ∷ ys) (suc i) h = simp unary_clauses (simp unary_clauses at (ap (λ zs. y ∷ zs) (take-past ys i h)))
+take-past xs i h =
+    let past = past_none xs i h in
+    take_all (i + 1) xs (omega (arith, past)) ∙ sym (take_all i xs past)
 
 pub place-push : (place : Position) (lines : List Line) (line : Line) → place_from place (lines ++ line ∷ []) ≡ positions.after (place_from place lines) line
 place-push place [] line = refl
@@ -56,10 +54,10 @@ before-push before [] line = refl
 before-push before (first ∷ lines) line = before-push (checks.after before first) lines line
 
 pub place-next : (job : List Line) (i : ℕ) (line : Line) → slice_get job i ≡ Some line → place_at job (i + 1) ≡ positions.after (place_at job i) line
-place-next job i line h = ap (place_from First) (take-push job i line h) ∙ place-push First (take i job) line
+place-next job i line h = ap (place_from First) (take_next job i line h) ∙ place-push First (take i job) line
 
 pub scope-next : (job : List Line) (i : ℕ) (line : Line) → slice_get job i ≡ Some line → scope_at job (i + 1) ≡ scope_after (scope_at job i) line
-scope-next job i line h = ap (scope_from (record { name = []; lines = [] })) (take-push job i line h) ∙ scope-push _ (take i job) line
+scope-next job i line h = ap (scope_from (record { name = []; lines = [] })) (take_next job i line h) ∙ scope-push _ (take i job) line
 
 -- what holds of the first lines of a job by a fact that each line keeps holds of any number of them
 pub along : (job : List Line) (P : ℕ → Type 0) → P 0 → ((i : ℕ) → slice_get job i ≡ None → P i → P (i + 1)) → ((i : ℕ) (line : Line) → slice_get job i ≡ Some line → P i → P (i + 1)) → (i : ℕ) → P i
@@ -83,7 +81,7 @@ passes-from before (line ∷ lines) (suc i) passes = passes-from (checks.after b
 
 pub line-at : (job : List Line) (i : ℕ) (line : Line) → IsPlaced First job → Passes at_start job → slice_get job i ≡ Some line → IsLineAt job i line
 line-at job i line placed passes h =
-    let next = drop_item job i line h in
+    let next = drop_next job i line h in
     record {
       stands = (subst (IsPlaced (place_at job i)) next (placed-from First job i placed)).0;
       passes = (subst (Passes (before_at job i)) next (passes-from at_start job i passes)).0;

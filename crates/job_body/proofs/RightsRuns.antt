@@ -3,10 +3,9 @@ use Rattle.std.proofs.Common.{◌≡◌, ℕ, zero, suc, ◌+◌, ◌-◌, ◌�
 use Rattle.std.proofs.lemmas.List.{append-nil, map-append}
 use Rattle.std.proofs.lemmas.List.Elements.{All-push}
 use Rattle.swan_model.specs.declared.fault.FaultKind.TheVariants as kind
-use Rattle.swan_model.specs.declared.plan.RootQueue.{RootQueue}
 use Rattle.swan_model.specs.declared.rights.Mode.TheVariants.{InOut, Push, Pop}
 use Rattle.swan_model.specs.declared.value.Value.{Value}
-use Rattle.swan_model.specs.Elision.{first_cells, first_queues, first_store, object_holdings, queue_holdings, root, root_holdings, serial}
+use Rattle.swan_model.specs.Elision.{first_store, object_holdings, queue_holdings, root, root_holdings, serial}
 use Rattle.swan_model.specs.SerialState.{Activation, Holding, State, Store}
 use Rattle.swan_model.specs.SerialStep.{Effect, goes_on, spawns, ends, faults, after, effect, effect_of, moved, step_on}
 use Rattle.job_reader.specs.Jobs.{IsJob, IsPlaced}
@@ -30,6 +29,7 @@ use Rattle.job_body.proofs.RightsSpawns.{InStore, held_modes_of}
 use Rattle.job_body.proofs.RightsStands.{Stands, stands-executed}
 use Rattle.job_body.proofs.RightsSteps.{line-fits}
 use Rattle.job_body.proofs.RightsTasks.{IsTaskAt, found, learnt, main-found, main-known, passes-faultless, task-found}
+use Rattle.swan_model.proofs.RootLists.{length-first_queues, length-first_cells}
 
 -- ---- a step
 
@@ -109,14 +109,6 @@ objects-stored c q i (value ∷ values) few = (omega (arith, few), objects-store
 both-stored : (c q : ℕ) (first second : List Holding) → InStore c q first → InStore c q second → InStore c q (first ++ second)
 both-stored c q [] second a b = b
 both-stored c q (holding ∷ first) second a b = (a.0, both-stored c q first second a.1 b)
-
-length-first_queues : (i : ℕ) (queues : List RootQueue) → length (first_queues i queues) ≡ length queues
-length-first_queues i [] = refl
-length-first_queues i (queue ∷ queues) = ap suc (length-first_queues (i + 1) queues)
-
-length-first_cells : (i : ℕ) (values : List Value) → length (first_cells i values) ≡ length values
-length-first_cells i [] = refl
-length-first_cells i (value ∷ values) = ap suc (length-first_cells (i + 1) values)
 
 main-at : (job : List Line) → first_fault job ≡ None → Passes at_start job → IsTaskAt job (task_index job (codes "main")) (codes "main") []
 main-at job faultless passes =

@@ -1,21 +1,19 @@
 -- What a spawn of a checked job gives is what its parent holds so, and nothing twice.
-use Rattle.std.proofs.Common.{◌≡◌, ℕ, zero, suc, ◌<◌, Bool, true, false, not, ◌&&◌, ◌||◌, Option, Some, None, Result, Ok, Err, List, [], ◌∷◌, length, map, flat_map, zip, bytes_eq, slice_get, nat_eq, if◌then◌else◌, refl, sym, ap, ap₂, ◌∙◌, subst, eqb-true, eq-eqb}
+use Rattle.std.proofs.Common.{◌≡◌, ℕ, zero, suc, ◌<◌, Bool, true, false, not, ◌&&◌, ◌||◌, Option, Some, None, Ok, Err, List, [], ◌∷◌, length, map, flat_map, zip, bytes_eq, slice_get, nat_eq, if◌then◌else◌, refl, sym, ap, ap₂, ◌∙◌, subst, eqb-true, eq-eqb, arith}
 use Rattle.std.specs.List.{list_any}
-use Rattle.std.proofs.lemmas.Bool.{false≢true, or_parts}
+use Rattle.std.proofs.lemmas.Bool.{or_parts}
 use Rattle.std.proofs.lemmas.Bool.Decides.{same_from_decides}
+use Rattle.std.proofs.lemmas.Option.{same_Some}
 use Rattle.std.proofs.lemmas.Slice.Eq.{bytes_eq-Decides}
 use Rattle.swan_model.specs.declared.rights.Give.{Give}
 use Rattle.swan_model.specs.declared.rights.Mode.{Mode}
-use Rattle.swan_model.specs.declared.rights.Mode.TheVariants.{In, Out, InOut, Push, Pop, PushPop}
 use Rattle.swan_model.specs.declared.value.Kind.{Kind}
 use Rattle.swan_model.specs.Rights as rights
 use Rattle.swan_model.specs.Rights.{allows, is_aliased, is_in, is_queue_mode}
 use Rattle.swan_model.specs.SerialState.{Holding}
 use Rattle.swan_model.specs.SerialStep as serial
-use Rattle.job_reader.specs.Faults.{◌>>=◌}
 use Rattle.job_reader.specs.declared.atom.Atom.{Atom}
 use Rattle.job_reader.specs.declared.atom.Atom.TheVariants as atom
-use Rattle.job_reader.specs.declared.fault.JobKind.{JobKind}
 use Rattle.job_reader.specs.declared.fault.JobKind.TheVariants as fault
 use Rattle.job_reader.specs.declared.line.Line.{Line}
 use Rattle.privilege_check.specs.Names.{Names}
@@ -27,7 +25,8 @@ use Rattle.privilege_check.specs.declared.declaration.Declaration.TheVariants.{V
 use Rattle.job_body.specs.Standing.{Standing}
 use Rattle.job_body.specs.Steps.{give_of, place_at}
 use Rattle.job_body.proofs.RightsNames.{Entry, mode_at, mode_known, mode_of, modes, name_at, names, position}
-use Rattle.job_body.proofs.RightsTasks.{held_modes, take_of_meaning}
+use Rattle.job_body.proofs.RightsTasks.{held_modes, take_of_meaning, bind-parts}
+use Rattle.swan_model.proofs.Uses.{same_kind}
 
 -- ---- what is held so
 
@@ -95,22 +94,9 @@ in_store-at cells queues (first ∷ holdings) zero holding e stored =
     let same : first ≡ holding = cc in subst (λ (h : Holding). h.number < room cells queues h.mode) same stored.0
 in_store-at cells queues (first ∷ holdings) (suc place) holding e stored = in_store-at cells queues holdings place holding e stored.1
 
-pub same-sort : (own mode : Mode) → allows own mode ≡ true → is_queue_mode own ≡ is_queue_mode mode
-same-sort In In e = refl
-same-sort Out Out e = refl
-same-sort InOut In e = refl
-same-sort InOut Out e = refl
-same-sort InOut InOut e = refl
-same-sort Push Push e = refl
-same-sort Pop Pop e = refl
-same-sort PushPop Push e = refl
-same-sort PushPop Pop e = refl
-same-sort PushPop PushPop e = refl
-same-sort own mode e = absurd (false≢true e)
-
 pub held-stored : (cells queues : ℕ) (holdings : List Holding) (place : ℕ) (mode : Mode) (h : HeldAt holdings place mode) → InStore cells queues holdings → h.holding.number < room cells queues mode
 held-stored cells queues holdings place mode h stored =
-    subst (λ b. h.holding.number < (if b then queues else cells)) (same-sort h.holding.mode mode h.allowed)
+    subst (λ b. h.holding.number < (if b then queues else cells)) (same_kind h.holding.mode mode h.allowed)
     (in_store-at cells queues holdings place h.holding h.found stored)
 
 -- ---- what a spawn gives
@@ -121,10 +107,6 @@ to_give job i gift = record { place = place_at job i gift.0; mode = gift.1 }
 abbrev pub AllMayUse : List Entry → List (List ℕ × Mode) → Type 0
 AllMayUse entries [] = Unit {0}
 AllMayUse entries (gift ∷ gifts) = MayUse entries gift.0 gift.1 × AllMayUse entries gifts
-
-bind-parts : {A : Type 0} (r : Result A JobKind) (x : Result (Unit {0}) JobKind) → (r >>= λ _. x) ≡ Ok tt → ((a : A) × (r ≡ Ok a)) × (x ≡ Ok tt)
-bind-parts (Ok a) x e = ((a, refl), e)
-bind-parts (Err k) x e = absurd (cc)
 
 pub lent-may : (entries : List Entry) (known : Names) → ((query : List ℕ) → mode_of entries query ≡ mode_known (known query)) → (taken : List Declaration) (args : List Atom) → arguments known taken args ≡ Ok tt → AllMayUse entries (lent taken args)
 lent-may entries known names [] args e = tt
@@ -149,19 +131,16 @@ gives-lent job s known (Held mode k ∷ taken) (atom.Name name ∷ args) e =
     ap (λ gives. record { place = place_at job s.at name; mode = mode } ∷ gives) (gives-lent job s known taken args parts.1)
 
 -- the child gets what its task takes
-suc_same : (n m : ℕ) → suc n ≡ suc m → n ≡ m
-suc_same n m e = cc
-
 pub modes-lent : (known : Names) (taken : List Declaration) (args : List Atom) → length args ≡ length taken → arguments known taken args ≡ Ok tt → map (λ (gift : List ℕ × Mode). gift.1) (lent taken args) ≡ held_modes taken
 modes-lent known [] args same e = refl
 modes-lent known (t ∷ taken) [] same e = absurd (cc)
 modes-lent known (Variable k ∷ taken) (a ∷ args) same e =
-    modes-lent known taken args (suc_same (length args) (length taken) same) (bind-parts (argument known (Variable k) a) (arguments known taken args) e).1
+    modes-lent known taken args (omega (arith, same)) (bind-parts (argument known (Variable k) a) (arguments known taken args) e).1
 modes-lent known (Held mode k ∷ taken) (atom.Int n ∷ args) same e = absurd (cc)
 modes-lent known (Held mode k ∷ taken) (atom.Bytes bytes ∷ args) same e = absurd (cc)
 modes-lent known (Held mode k ∷ taken) (atom.Name name ∷ args) same e =
     let parts = bind-parts (held known (Some k) mode name) (arguments known taken args) e in
-    ap (λ ms. mode ∷ ms) (modes-lent known taken args (suc_same (length args) (length taken) same) parts.1)
+    ap (λ ms. mode ∷ ms) (modes-lent known taken args (omega (arith, same)) parts.1)
 
 -- what the child holds
 pub record ChildHolds (cells queues : ℕ) (holdings : List Holding) (gives : List Give) (held : List Mode) : Type 0 where
@@ -188,12 +167,9 @@ child-holds cells queues job i entries holdings place same stored ((name, mode) 
 
 same-place : (entries : List Entry) (a b : List ℕ) (own other : Mode) → mode_of entries a ≡ Some own → mode_of entries b ≡ Some other → nat_eq (position entries a) (position entries b) ≡ bytes_eq a b
 same-place entries a b own other is_a is_b = sym (same_from_decides (bytes_eq a b) (nat_eq (position entries a) (position entries b)) (bytes_eq-Decides a b) (to_name, to_place)) where
-  same_some : (x y : List ℕ) → Some x ≡ Some y → x ≡ y
-  same_some x y e = cc
-
   to_name : nat_eq (position entries a) (position entries b) ≡ true → a ≡ b
   to_name e =
-      same_some a b (sym (name_at entries a own is_a) ∙ ap (slice_get (names entries)) (eqb-true (position entries a) (position entries b) e) ∙ name_at entries b other is_b)
+      same_Some a b (sym (name_at entries a own is_a) ∙ ap (slice_get (names entries)) (eqb-true (position entries a) (position entries b) e) ∙ name_at entries b other is_b)
 
   to_place : a ≡ b → nat_eq (position entries a) (position entries b) ≡ true
   to_place e = eq-eqb (position entries a) (position entries b) (ap (position entries) e)

@@ -1,5 +1,5 @@
 -- Where an activation of a job may stand with what it holds, and where it goes on.
-use Rattle.std.proofs.Common.{◌≡◌, ℕ, zero, suc, ◌+◌, Bool, true, false, Some, List, [], ◌∷◌, ◌++◌, flat_map, drop, slice_get, if◌then◌else◌, refl, sym, ap, ap₂, ◌∙◌, subst, append_assoc, arith}
+use Rattle.std.proofs.Common.{◌≡◌, ℕ, ◌+◌, Bool, true, false, Some, List, [], ◌∷◌, ◌++◌, flat_map, drop, slice_get, if◌then◌else◌, refl, sym, ap, ap₂, ◌∙◌, subst, append_assoc, arith}
 use Rattle.std.proofs.lemmas.Bool.{false≢true, true≢false}
 use Rattle.std.proofs.lemmas.List.{append-nil, map-append}
 use Rattle.swan_model.specs.declared.rights.Mode.{Mode}
@@ -14,7 +14,7 @@ use Rattle.job_body.specs.Tasks.{Scope, before_task, executed_from, is_executed,
 use Rattle.job_body.proofs.RightsEntries.{access_entry, made_entry, roots_held, held_at, held_with, flat-more}
 use Rattle.job_body.proofs.RightsNames.{Entry, modes}
 use Rattle.job_body.proofs.RightsPlaces.{place_at, place-next, placed-from, scope-next}
-use Rattle.job_body.proofs.Suffixes.{drop_item}
+use Rattle.swan_model.proofs.Lists.{drop_next, get-drop}
 
 -- an activation that holds by these modes may stand at a line: in a task, with what is held there
 pub record Stands (job : List Line) (i : ℕ) (held : List Mode) : Type 0 where
@@ -55,7 +55,7 @@ pub held-next : (job : List Line) (i : ℕ) (line : Line) → slice_get job i �
 held-next job i line is plain =
     ap (λ scope. held_with job scope (drop (i + 1) job)) (scope-next job i line is ∙ scope-plain (scope_at job i) line plain)
     ∙ held-more job (scope_at job i) line (drop (i + 1) job) plain
-    ∙ ap (λ rest. held_with job (scope_at job i) rest ++ made_entry line) (sym (drop_item job i line is))
+    ∙ ap (λ rest. held_with job (scope_at job i) rest ++ made_entry line) (sym (drop_next job i line is))
 
 -- what is held after a line that makes nothing
 pub held-same : (job : List Line) (i : ℕ) (line : Line) → slice_get job i ≡ Some line → is_task line ≡ false → made_entry line ≡ [] → held_at job (i + 1) ≡ held_at job i
@@ -85,21 +85,18 @@ stands-made job i line held name mode is plain made within at =
 -- ---- lines that are passed over
 
 pub item_of_drop : {A : Type 0} (xs : List A) (i : ℕ) (x : A) (rest : List A) → drop i xs ≡ x ∷ rest → slice_get xs i ≡ Some x
-item_of_drop [] zero x rest e = absurd (cc)
-item_of_drop [] (suc i) x rest e = absurd (cc)
-item_of_drop (y ∷ ys) zero x rest e = cc
-item_of_drop (y ∷ ys) (suc i) x rest e = item_of_drop ys i x rest e
+item_of_drop xs i x rest e = sym (get-drop i xs) ∙ ap (λ ys. slice_get ys 0) e
 
 tail_same : {A : Type 0} (x y : A) (xs ys : List A) → x ∷ xs ≡ y ∷ ys → xs ≡ ys
 tail_same x y xs ys e = cc
 
 pub rest_of_drop : {A : Type 0} (xs : List A) (i : ℕ) (x : A) (rest : List A) → drop i xs ≡ x ∷ rest → drop (i + 1) xs ≡ rest
 rest_of_drop xs i x rest e =
-    tail_same x x (drop (i + 1) xs) rest (sym (drop_item xs i x (item_of_drop xs i x rest e)) ∙ e)
+    tail_same x x (drop (i + 1) xs) rest (sym (drop_next xs i x (item_of_drop xs i x rest e)) ∙ e)
 
 pub stands_here : (job : List Line) (i : ℕ) (line : Line) → IsPlaced First job → slice_get job i ≡ Some line → may_stand (place_at job i) line ≡ true
 stands_here job i line placed is =
-    (subst (IsPlaced (place_at job i)) (drop_item job i line is) (placed-from First job i placed)).0
+    (subst (IsPlaced (place_at job i)) (drop_next job i line is) (placed-from First job i placed)).0
 
 passes-over : (place : Position) (line : Line) → is_open place ≡ true → may_stand place line ≡ true → is_executed line ≡ false → (is_task line ≡ false) × (made_entry line ≡ []) × (is_open (positions.after place line) ≡ true)
 unfolding is_executed

@@ -239,15 +239,16 @@ learnt before (line.Var other k ∷ lines) name passes is = learnt _ lines name 
 learnt before (line.Queue other k ∷ lines) name passes is = learnt _ lines name passes.1 (declared-none other (Held PushPop k) before name is)
 learnt before (line ∷ lines) name passes is = learnt before lines name passes.1 is
 
--- the task main takes nothing
-checked_second : (r x : Result (Unit {0}) JobKind) → (r >>= λ _. x) ≡ Ok tt → x ≡ Ok tt
-checked_second (Ok a) x e = e
-checked_second (Err k) x e = absurd (cc)
+-- what passes two checks passes each
+pub bind-parts : {A : Type 0} (r : Result A JobKind) (x : Result (Unit {0}) JobKind) → (r >>= λ _. x) ≡ Ok tt → ((a : A) × (r ≡ Ok a)) × (x ≡ Ok tt)
+bind-parts (Ok a) x e = ((a, refl), e)
+bind-parts (Err k) x e = absurd (cc)
 
+-- the task main takes nothing
 never-taken : {P : Type 0} (entered : Option (List ℕ)) (task : List ℕ) (r : Result (Unit {0}) JobKind) → entered ≡ Some task → is_main task ≡ true → (r >>= λ _. outside_main entered) ≡ Ok tt → P
 never-taken entered task r is named passes =
     let refused : outside_main entered ≡ Err fault.MainParams = ap outside_main is ∙ ap (λ b. if b then Err fault.MainParams else Ok tt) named in
-    let passed : outside_main entered ≡ Ok tt = checked_second r (outside_main entered) passes in
+    let passed : outside_main entered ≡ Ok tt = (bind-parts r (outside_main entered) passes).1 in
     absurd (cc)
 
 main-takes : (lines : List Line) (before : Before) (task : List ℕ) → before.open_task ≡ Some task → is_main task ≡ true → Passes before lines → meanings (before_task lines) ≡ []

@@ -1,5 +1,6 @@
 -- The steps of a program are those of its job.
 use Rattle.std.proofs.Common.{◌≡◌, ℕ, ◌+◌, ◌-◌, ◌^◌, min, Bool, true, false, if◌then◌else◌, arith, drop, Option, Some, None, Result, Ok, Err, List, [], ◌∷◌, map, flat_map, zip, slice_get, option_map, pos, negsuc, ℤ, refl, sym, ap, ◌∙◌}
+use Rattle.std.proofs.lemmas.List.{drop_all}
 use Rattle.job_reader.specs.declared.atom.Atom.{Atom}
 use Rattle.job_reader.specs.declared.line.Line.{Line}
 use Rattle.job_reader.specs.declared.line.Line.TheVariants as line
@@ -34,7 +35,6 @@ use Rattle.job_body.specs.Standing.{Standing}
 use Rattle.job_body.specs.Steps as steps
 use Rattle.job_body.specs.Tasks.{before_task, executed_from, lines_of_task, takes, task_index}
 use Rattle.job_body.proofs.Programs.{instruction-at, instruction, IsFound, at_line, nowhere, task-found, begun-named}
-use Rattle.job_body.proofs.Suffixes.{drop_past}
 use Rattle.job_body.proofs.Values.{value-slot, set-slot, place-name, value-operand, values-given, gives-given}
 
 -- ---- assignments
@@ -74,7 +74,7 @@ spawn-found lines s f fuel p found args begins (nowhere e none) =
     ap (λ found. spawn lines s f fuel found args) none
     ∙ ap (λ i. runs.spawned (program_of lines) s (executed_from lines (s.at + 1)) (number_of (runs.value_of s.values (compiled.operand_of (seen_at lines s.at) fuel))) i [] []) (sym e)
     ∙ spawned-is lines s (number_of (runs.value_of s.values (compiled.operand_of (seen_at lines s.at) fuel))) p [] begins
-    ∙ ap (λ rest. steps.spawned lines s (number_of (runs.value_of s.values (compiled.operand_of (seen_at lines s.at) fuel))) p (zip (takes (before_task rest)) args)) (sym (drop_past lines (p + 1) (omega arith)))
+    ∙ ap (λ rest. steps.spawned lines s (number_of (runs.value_of s.values (compiled.operand_of (seen_at lines s.at) fuel))) p (zip (takes (before_task rest)) args)) (sym (drop_all (p + 1) lines (omega arith)))
 
 -- ---- the ends of blocks and of tasks
 

@@ -1,5 +1,6 @@
 -- The ends of lists from an index on.
-use Rattle.std.proofs.Common.{◌≡◌, ◌<◌, ◌≤◌, ◌+◌, Some, get_or, slice_get, sym, ap, ℕ, zero, suc, List, [], ◌∷◌, drop, length, zip, refl, arith}
+use Rattle.std.proofs.Common.{◌≡◌, ◌<◌, ◌≤◌, ◌+◌, get_or, ap, ℕ, zero, suc, List, [], ◌∷◌, drop, length, zip, refl, arith}
+use Rattle.std.proofs.lemmas.List.{drop_all}
 use native.Mathlib.Numerals.{unary_clauses}
 use Rattle.job_reader.specs.declared.line.Line.{Line}
 use Rattle.job_body.specs.declared.exit.Exit.{Exit}
@@ -11,27 +12,9 @@ zip_nil [] ys h = refl
 zip_nil (x ∷ xs) [] h = refl
 zip_nil (x ∷ xs) (y ∷ ys) h = absurd (cc)
 
-pub drop_past : {A : Type 0} (xs : List A) (i : ℕ) → length xs ≤ i → drop i xs ≡ []
-drop_past [] zero h = refl
-drop_past [] (suc i) h = refl
-drop_past (x ∷ xs) zero h = absurd (omega arith)
-drop_past (x ∷ xs) (suc i) h = drop_past xs i (omega arith)
-
 -- past the end of the second of two lists there are no pairs
 pub zip_past : {A B : Type 0} (xs : List A) (ys : List B) (i : ℕ) → length ys ≤ i → zip (drop i xs) (drop i ys) ≡ []
-zip_past xs ys i h = zip_nil (drop i xs) (drop i ys) (drop_past ys i h)
-
--- ---- the item at an index
-
-pub item_at : {A : Type 0} (xs : List A) (i : ℕ) (x : A) → i < length xs → x ≡ get_or xs i x → slice_get xs i ≡ Some x
-item_at [] i x h e = absurd (omega arith)
-item_at (y ∷ ys) zero x h e = ap Some (sym e)
-item_at (y ∷ ys) (suc i) x h e = item_at ys i x (omega arith) e
-
-pub drop_item : {A : Type 0} (xs : List A) (i : ℕ) (x : A) → slice_get xs i ≡ Some x → drop i xs ≡ x ∷ drop (i + 1) xs
-drop_item [] i x h = absurd (cc)
-drop_item (y ∷ ys) zero x h = let same : y ≡ x = cc in ap (λ z. z ∷ ys) same
-drop_item (y ∷ ys) (suc i) x h = simp unary_clauses (simp unary_clauses at (drop_item ys i x h))
+zip_past xs ys i h = zip_nil (drop i xs) (drop i ys) (drop_all i ys h)
 
 -- ---- the exits of lines
 

@@ -1,5 +1,5 @@
 -- Values by the names of variables, and by their slots.
-use Rattle.std.proofs.Common.{◌≡◌, ℕ, zero, suc, ◌+◌, true, false, Option, Some, None, List, [], ◌∷◌, ◌++◌, length, map, flat_map, bytes_eq, option_map, if◌then◌else◌, cond, not, pos, refl, ap, ◌∙◌, arith}
+use Rattle.std.proofs.Common.{◌≡◌, ℕ, zero, suc, ◌+◌, true, false, Option, Some, None, List, [], ◌∷◌, length, map, flat_map, bytes_eq, option_map, if◌then◌else◌, cond, not, pos, refl, ap, ◌∙◌, arith}
 use Rattle.std.specs.List.{position_or_len}
 use Rattle.std.specs.Option.{unwrap_or}
 use Rattle.job_reader.specs.declared.atom.Atom.{Atom}
@@ -90,10 +90,6 @@ place-atom lines i (atom.Bytes bytes) = refl
 place-atom lines i (atom.Name name) = place-name lines i name
 
 -- ---- what a child is given
-
-map-append : {A B : Type 0} (f : A → B) (xs ys : List A) → map f (xs ++ ys) ≡ map f xs ++ map f ys
-map-append f [] ys = refl
-map-append f (x ∷ xs) ys = ap (λ zs. f x ∷ zs) (map-append f xs ys)
 
 pub values-given : (lines : List Line) (s : Standing) (given : List (Take × Atom)) → flat_map (steps.value_given lines s) given ≡ map (runs.value_of s.values) (flat_map (compiled.param_given (compiled.seen_at lines s.at)) given)
 values-given lines s [] = refl

@@ -1,10 +1,7 @@
 -- Each step keeps the rule.
 use Rattle.std.proofs.Common.{◌≡◌, ◌≢◌, ℕ, zero, suc, ◌+◌, ◌<◌, ◌≤◌, eqb, Bool, true, false, true≢false, ◌||◌, List, [], ◌∷◌, ◌++◌, length, set, get_or, sym, refl, ap, ◌∙◌, subst, inl, inr, ⊎_elim, ◌⊎◌, arith}
 use Rattle.std.specs.Prelude.{Option, Some, None}
-use Rattle.std.proofs.Common.{All as AllOf}
 use Rattle.std.proofs.lemmas.Bool.{or_cases, or_left, or_right}
-use Rattle.std.proofs.lemmas.List.Elements.{All-append, All-take, All-drop}
-use lib.Seq.{take-append_seam, drop-append_seam}
 use Rattle.named_lock.specs.declared.seat.LockSeat.{LockSeat}
 use Rattle.named_lock.specs.declared.sign.Sign.TheVariants.{Done, Stopped}
 use Rattle.named_lock.specs.declared.lock.NamedLock.{NamedLock}
@@ -320,20 +317,6 @@ module _ {S N : Type 0} (name : S → N) (done : S → Bool) (n : N) (seats : �
 
   pub splits_seated : (id k : ℕ) (me : Me (Option S) (View N)) → me ≡ (seated k n, []) → 0 < k → Splits Rule id me.0 (rest_of me.0) (one_of me.0)
   splits_seated id k me e part = subst (λ (m : Me (Option S) (View N)). Splits Rule id m.0 (rest_of m.0) (one_of m.0)) (sym e) (splits id (seated k n) refl part)
-
-all_one : {X : Type 0} (P : X → Type 0) (x : X) → P x → AllOf P (x ∷ [])
-all_one P x h zero d l = h
-all_one P x h (suc k) d l = absurd (omega arith)
-
-pub all_snoc : {X : Type 0} (P : X → Type 0) (xs ys : List X) (x : X) → ys ≡ xs ++ x ∷ [] → AllOf P xs → P x → AllOf P ys
-all_snoc P xs ys x e h p = subst (AllOf P) (sym e) (All-append P xs (x ∷ []) h (all_one P x p))
-
-pub all_pop : {X : Type 0} (P : X → Type 0) (ys xs : List X) (x : X) → ys ≡ xs ++ x ∷ [] → AllOf P ys → AllOf P xs × AllOf P (x ∷ [])
-all_pop P ys xs x e h = let h' = subst (AllOf P) e h in
-    (subst (AllOf P) (take-append_seam xs (x ∷ [])) (All-take P (length xs) (xs ++ x ∷ []) h'), subst (AllOf P) (drop-append_seam xs (x ∷ [])) (All-drop P (length xs) (xs ++ x ∷ []) h'))
-
-pub first_of_one : {X : Type 0} (P : X → Type 0) (x : X) → AllOf P (x ∷ []) → P x
-first_of_one P x h = h 0 x (omega arith)
 
 module _ {S N : Type 0} where
   saw_ends : (xs : List (LockSeat S N)) (x : LockSeat S N) → any_saw_done (xs ++ x ∷ []) ≡ true → (any_saw_done xs ≡ true) ⊎ (x.seat.me.0.saw_done ≡ true)

@@ -1,5 +1,5 @@
 -- Which versions a frame waits for.
-use Rattle.std.proofs.Common.{◌≡◌, ℕ, ◌<◌, Option, None, Some, IsSome, Result, Ok, Err, IfOk, IfErr, true, refl, sym, ap, ◌∙◌, subst, arith}
+use Rattle.std.proofs.Common.{◌≡◌, ℕ, ◌<◌, Option, None, Some, true, refl, sym, ap, ◌∙◌, arith}
 use Rattle.std.proofs.lemmas.Option.{none-some, same_Some}
 use Rattle.slab.specs.Slab.{Slab}
 use Rattle.swan_model.specs.declared.rights.Mode.{Mode}
@@ -13,9 +13,6 @@ use Rattle.object_versions.specs.Whole.{IsWhole, MayGive}
 use Rattle.object_versions.specs.Waiting.{AwaitsAt}
 use Rattle.object_versions.proofs.Counts.{uses_at, present_used, given_used}
 use Rattle.object_versions.proofs.Seeing.{seen_some, kept_of}
-
-pub is_some : {A : Type 0} (o : Option A) (x : A) → o ≡ Some x → IsSome o
-is_some {A} o x e = let P : Option A → Type 0 = λ y. IsSome y in subst P (sym e) refl
 
 -- ---- at one place
 
@@ -91,14 +88,6 @@ module _ (entries : Entries) (nodes : Slab Node) (made : ℕ) (whole : IsWhole e
       writes kept.has.present owing object.object some (sym (ap (λ o. o.present) kept.is) ∙ is)
       ((whole.fits frame place kept.has kept.stands).present ∙ sym (ap (λ o. o.object) kept.is))
 
-pub map_ok : {T E : Type 0} (r : Result T E) (P Q : T → Type 0) → ((x : T) → P x → Q x) → IfOk r P → IfOk r Q
-map_ok (Ok x) P Q f h = f x h
-map_ok (Err e) P Q f h = tt
-
-pub map_err : {T E : Type 0} (r : Result T E) (P Q : E → Type 0) → ((e : E) → P e → Q e) → IfErr r P → IfErr r Q
-map_err (Ok x) P Q f h = tt
-map_err (Err e) P Q f h = f e h
-
 -- what is read of the node of what contracts see
 pub present_by : (entries : Entries) (nodes : Slab Node) (made frame place : ℕ) (has : PlacedObject) (version : Version)
     → place_at entries frame place ≡ Some has → version_at nodes has.present ≡ version
@@ -112,9 +101,6 @@ pub absent : (entries : Entries) (nodes : Slab Node) (made frame place : ℕ) (o
     → placed_at (versions_of entries nodes made) frame place ≡ Some object → ⊥
 absent entries nodes made frame place object none seen =
     let kept = kept_of entries nodes made frame place object seen in none-some kept.has (sym none ∙ kept.stands)
-  where
-    none-some : (has : PlacedObject) → None ≡ Some has → ⊥
-    none-some has e = cc
 
 -- ---- what a parent may give
 

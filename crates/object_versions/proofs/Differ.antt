@@ -1,5 +1,5 @@
 -- Versions and modes that aren't the same.
-use Rattle.std.proofs.Common.{◌≡◌, ℕ, Bool, true, false, refl, sym, ap, ◌∙◌}
+use Rattle.std.proofs.Common.{◌≡◌, ℕ, true, sym, ap, ◌∙◌}
 use Rattle.std.proofs.lemmas.Bool.{false≢true}
 use Rattle.swan_model.specs.declared.rights.Mode.{Mode}
 use Rattle.swan_model.specs.declared.rights.Mode.TheVariants.{In, Out, InOut, Push, Pop, PushPop}
@@ -7,12 +7,11 @@ use Rattle.swan_model.specs.declared.value.Value.{Value}
 use Rattle.swan_model.specs.Rights.{allows}
 use Rattle.swan_model.specs.Versions.{settled, owed}
 
-pub not_true : (b : Bool) → (b ≡ true → ⊥) → b ≡ false
-not_true true never = absurd (never refl)
-not_true false never = refl
-
 pub settled_not-owed : (value : Value) (frame : ℕ) → settled value ≡ owed frame → ⊥
 settled_not-owed value frame e = cc
+
+pub owed_same : (a b : ℕ) → owed a ≡ owed b → a ≡ b
+owed_same a b e = cc
 
 -- who may write has another mode than In
 pub writes_not-in : (mode : Mode) → allows mode Out ≡ true → mode ≡ In → ⊥

@@ -1,5 +1,6 @@
 -- What contracts see once a frame has ended.
 use Rattle.std.proofs.Common.{◌≡◌, ℕ, zero, suc, ◌<◌, Bool, true, false, cond, not, ◌==◌, ◌||◌, Option, None, Some, List, [], ◌∷◌, map, filter, slice_get, refl, sym, ap, ◌∙◌, subst, arith}
+use Rattle.std.proofs.lemmas.Bool.{eqb-true, eq-eqb}
 use Rattle.std.proofs.lemmas.Bool.Decides.{nat_tests}
 use Rattle.std.specs.Option.{unwrap_or}
 use Rattle.slab.specs.Slab.{Slab}
@@ -11,7 +12,7 @@ use Rattle.object_versions.specs.Store.{Entries, place_at, version_at, object_at
 use Rattle.object_versions.specs.Whole.{IsFit}
 use Rattle.object_versions.specs.Ending.{IsSettling, IsAllPaid, is_other, of_others, IsForgetting}
 use Rattle.object_versions.proofs.Counts.{uses_at, present_used, given_used}
-use Rattle.object_versions.proofs.Listing.{place_of, equal_by, equal_to, left_of}
+use Rattle.object_versions.proofs.Listing.{place_of, left_of}
 use Rattle.object_versions.proofs.Settling.{began_with}
 use Rattle.object_versions.proofs.Seeing.{seen_same}
 use Rattle.object_versions.proofs.Releasing.{all_others}
@@ -68,7 +69,7 @@ module _ (entries : Entries) (start now : Slab Node) (made n : ℕ) (begun : IsS
   owing_settled k o h object (owed m) is = by (m == n) refl where
     by : (b : Bool) → (m == n) ≡ b → owing (cond b (unwrap_or (left_by state n o) (owed m)) (owed m)) ≡ cond b None (Some m)
     by true same =
-        let e : m ≡ n = equal_by m n same in
+        let e : m ≡ n = eqb-true m n same in
         let leaves = leaves_value k o h object (is ∙ ap owed e) in
         ap (λ l. owing (unwrap_or l (owed m))) leaves.1
     by false apart = refl
@@ -131,7 +132,7 @@ module _ (entries : Entries) (start now : Slab Node) (made n : ℕ) (begun : IsS
   -- the root's places stay
   pub root_finished : n ≡ 0 → versions_of entries now made ≡ after_finish before n
   root_finished root =
-      let stay = all_stay n (map (seen start) entries) (equal_to n 0 root) in
+      let stay = all_stay n (map (seen start) entries) (eq-eqb n 0 root) in
       let places : map (seen now) entries ≡ each_ended (filter (stays n) (map (seen start) entries)) =
       seen_settled entries start now made n begun paid ∙ sym (ap each_ended stay) in
       λ i. record { places = places i; made = made }

@@ -14,10 +14,10 @@ use Rattle.object_versions.specs.declared.placed_object.PlacedObject.{PlacedObje
 use Rattle.object_versions.specs.Store.{Entries, place_at, version_at, given_of, KeepsOwed, placed_of, seen, versions_of, one, one_of, uses_of, released}
 use Rattle.object_versions.specs.Whole.{IsFit, HasOwing, IsWhole}
 use Rattle.object_versions.proofs.Counts.{one_self, one_other, uses_at}
-use Rattle.object_versions.proofs.Awaited.{is_some}
 use Rattle.object_versions.proofs.Steps.{change_in}
 use Rattle.object_versions.proofs.References.{released_whole, released_same}
 use Rattle.object_versions.proofs.Seeing.{seen_set, seen_some, versions_same}
+use Rattle.swan_model.proofs.Elements.{some_is}
 
 module _ (entries later : Entries) (old new : Slab Node) (made f p key : ℕ) (was : PlacedObject) (value : Value) (whole : IsWhole entries old made (λ _. 0))
     (stands : place_at entries f p ≡ Some was) (given : was.given ≡ Some key) (reads : version_at old key ≡ settled value)
@@ -88,7 +88,7 @@ left_owed E old new was left given_up kept = by (given_of old was.given) refl wh
   by : (o : Option ℕ) → given_of old was.given ≡ o → KeepsOwed new left.given
   by None is = λ some. let P : Option ℕ → Type 0 = λ o. IsSome o in absurd (false≢true (subst P (given_up is) some))
   by (Some frame) is =
-      let owes : KeepsOwed old was.given = λ _. is_some (given_of old was.given) frame is in
+      let owes : KeepsOwed old was.given = λ _. some_is (given_of old was.given) frame is in
       let same = kept owes in
       let P : PlacedObject → Type 0 = λ o. KeepsOwed old o.given in
       let Q : Slab Node → Type 0 = λ nodes. KeepsOwed nodes left.given in

@@ -15,6 +15,7 @@ use Rattle.object_versions.proofs.Counts.{one_self, one_other}
 use Rattle.object_versions.proofs.Steps.{come_in, set_in}
 use Rattle.object_versions.proofs.References.{released_whole, released_same}
 use Rattle.object_versions.proofs.Seeing.{seen_insert, seen_present, versions_same}
+use Rattle.object_versions.proofs.Differ.{owed_same}
 
 -- what stood at a place stands there once an object came to another
 pub still_stands : (entries with_child : Entries) (parent pp child cp : ℕ) (was gets : PlacedObject) → place_at entries parent pp ≡ Some was → place_at entries child cp ≡ None
@@ -50,9 +51,6 @@ module _ (entries with_child later : Entries) (old middle new : Slab Node) (made
 
   with_gets : IsWhole come middle made (λ k. one k key)
   with_gets = come_in entries middle made (λ k. one k key + uses_of k gets) (λ k. one k key) child cp gets whole free fit may owing (λ k. refl) sorted_come
-
-  owed_same : (a b : ℕ) → owed a ≡ owed b → a ≡ b
-  owed_same a b e = cc
 
   child_owes : (frame : ℕ) → version_at middle key ≡ owed frame → HasOwing come key frame
   child_owes frame is =

@@ -11,12 +11,11 @@ use Rattle.swan_model.specs.Rights.{allows}
 use Rattle.swan_model.specs.SerialTime.{Progress, Reading, frame_of, point}
 use Rattle.swan_model.specs.Versions.{Holds, MayGet, owed, Placed, VersionState, placed_at, after_access, got, left_with}
 use Rattle.swan_model.specs.VersionsFollow.{Access, Begins, ObjectsFollow, FollowsAt, IsAccessMade, IsGiving, NextSpawnGivesObjects, IsVersionAt}
-use Rattle.swan_model.proofs.Elements.{before_more, last_more}
+use Rattle.swan_model.proofs.Elements.{before_more, last_more, more_cases}
 use Rattle.object_versions.proofs.Differ.{writes_not-in}
 use Rattle.object_versions.proofs.GivingKept.{IsAboveKept, IsBelowKept, IsUngiven, access_kept, next_spawn_kept}
 use Rattle.object_versions.proofs.GivingPlaces.{IsBack, IsLeft, after_is, child_has, given_now, got_given, got_kind, got_mode, got_object, got_owed, got_present, left, middle, parent_has, which}
 use Rattle.object_versions.proofs.PlacesAfter.{IsHere, sorted_in, sorted_set}
-use Rattle.object_versions.proofs.Tasks.{one_more_element}
 
 -- a frame that the reading doesn't have isn't one that it has
 pub no_frame : (r : Reading) (number : ℕ) (frame : Progress) → frame_of r number ≡ None → frame_of r number ≡ Some frame → ⊥
@@ -324,9 +323,9 @@ module _ (s : Script) (r : Reading) (state : VersionState) (giver : Progress) (c
   ]
 
   made_after : (i : ℕ) (one : Access) → slice_get (made ++ access ∷ []) i ≡ Some one → IsAccessMade s r after giver child one
-  made_after i one is = elim (one_more_element made access i one is) [
+  made_after i one is = elim (more_cases made access i one is) [
     | inl earlier ↦ access_kept s r r state after giver child (λ object origin is. is) above_kept below_kept one (giving.each i one earlier)
-    | inr last ↦ subst (IsAccessMade s r after giver child) (sym last.same) this_made
+    | inr last ↦ subst (IsAccessMade s r after giver child) (sym last.1) this_made
   ]
 
   given_after : IsGiving s r after giver child (made ++ access ∷ []) rest

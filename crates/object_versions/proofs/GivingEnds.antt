@@ -1,7 +1,7 @@
 -- A spawn whose accesses are all made: what the child was given is what the elision has as the child begins, and what it owes is
 -- what its parent has when the spawn is done.
 use Rattle.std.proofs.Common.{◌≡◌, ◌≢◌, ◌⊎◌, inl, inr, ℕ, ◌+◌, ◌≤◌, true, false, None, Some, List, [], ◌∷◌, ◌++◌, filter, map, refl, sym, ap, subst, ◌∙◌, arith}
-use Rattle.std.proofs.lemmas.Bool.{cases_eq, false≢true}
+use Rattle.std.proofs.lemmas.Bool.{cases_eq, false≢true, false_from_ne_true}
 use Rattle.std.proofs.lemmas.List.{append-nil}
 use Rattle.std.specs.Prelude.{slice_get}
 use Rattle.std.specs.List.{list_any}
@@ -21,13 +21,13 @@ use Rattle.swan_model.specs.Told.{cell, deed_at, is_given_out, is_out}
 use Rattle.swan_model.specs.Values.{kind_of, zero_of}
 use Rattle.swan_model.specs.Versions.{Version, settled, owed, Placed, VersionState, owing, placed_at}
 use Rattle.swan_model.specs.VersionsFollow.{Access, Begins, ObjectsFollow, FollowsAt, IsGiving, IsVersionAt, is_object_give, object_give}
-use Rattle.object_versions.proofs.Differ.{not_true, reads_not-out, settled_not-owed}
-use Rattle.swan_model.proofs.MovedFrames.{IsMoved, child_of, frame_number, own_moves, other_stays, path_kept, spawned_back, spawned_there}
+use Rattle.object_versions.proofs.Differ.{reads_not-out, settled_not-owed}
+use Rattle.swan_model.proofs.MovedFrames.{IsMoved, child_of, frame_number, own_moves, other_stays, path_kept, spawned_back, spawned_there, done_spawned}
 use Rattle.object_versions.proofs.GivingAccess.{no_frame}
 use Rattle.object_versions.proofs.GivingPlaces.{owing_owed}
 use Rattle.object_versions.proofs.Moves.{IsSameTask, Owes, at_moves, does_now, held_on, one_object, same_task, version_moves}
 use Rattle.object_versions.proofs.SpawnGives.{giving_out, may_by, out_by, writing}
-use Rattle.object_versions.proofs.Tasks.{done_spawned, tasks_spawned}
+use Rattle.object_versions.proofs.Tasks.{tasks_spawned}
 use Rattle.swan_model.proofs.ScriptCells.{cell_given, cell_lent, cell_through}
 use Rattle.swan_model.proofs.ScriptRights.{child_holds, held_older}
 use Rattle.swan_model.proofs.ScriptSteps.{IsSpawnOf, spawn_moves}
@@ -126,7 +126,7 @@ module _ (s : Script) (r : Reading) (state : VersionState) (giver : Progress) (c
   -- an object of which the child doesn't owe the parent's version isn't given to be written
   kept_through : (origin : Origin) (place : ℕ) (has : Placed) → placed_at state giver.number place ≡ Some has → slice_get r.objects has.object ≡ Some origin
       → has.present ≢ owed child → may_use gives Out origin ≡ false
-  kept_through origin place has stands made none = not_true (may_use gives Out origin) (λ may.
+  kept_through origin place has stands made none = false_from_ne_true (may_use gives Out origin) (λ may.
       let w = writing r state giver.number accesses gives objects origin may in
       let u = giving.each w.by.among.index w.by.access w.by.among.stands in
       let out : allows w.by.access.mode Out ≡ true = ap (λ m. allows m Out) w.by.mode ∙ w.may in
@@ -289,7 +289,7 @@ module _ (s : Script) (r : Reading) (state : VersionState) (giver : Progress) (c
   child_lent : (place : ℕ) (has : Placed) (origin : Origin) (g : IsGotBy place has origin) → FollowsAt s r giver g.above origin → placed_at state child place ≡ Some has
       → slice_get r.objects has.object ≡ Some origin → IsLent s r origin (point s giver) g.access.mode has → FollowsAt s after start has origin
   child_lent place has origin g was stands made l =
-      let none : list_any (is_given_out origin) gives ≡ false = not_true (list_any (is_given_out origin) gives) (no_out place has origin stands made (ap is_out g.mode ∙ l.reads)) in
+      let none : list_any (is_given_out origin) gives ≡ false = false_from_ne_true (list_any (is_given_out origin) gives) (no_out place has origin stands made (ap is_out g.mode ∙ l.reads)) in
       let kept : cell s origin (point s start) ≡ cell s origin (point s giver) = ap (cell s origin) starts ∙ cell_lent s origin (point s giver) gives does none in
       let later : point s giver ≤ point s start = omega (arith, starts) in
       let present = version_moves s r after origin (point s giver) (point s start) has.present later kept (λ k owing owes there. others_task child place has (λ e. differ (sym e)) stands k owing (inl owes) there) l.at in

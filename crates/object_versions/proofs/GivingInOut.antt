@@ -17,6 +17,7 @@ use Rattle.object_versions.proofs.Counts.{one_self, one_other, told_here, uses_a
 use Rattle.object_versions.proofs.References.{shared_whole, shared_told, made_whole, made_told}
 use Rattle.object_versions.proofs.Seeing.{seen_some}
 use Rattle.object_versions.proofs.Given.{given_whole, given_seen}
+use Rattle.object_versions.proofs.Differ.{owed_same}
 
 module _ (entries with_child later : Entries) (old shared middle new : Slab Node) (made parent pp child cp key : ℕ) (was : PlacedObject)
     (differ : parent ≢ child) (whole : IsWhole entries old made (λ _. 0)) (stands : place_at entries parent pp ≡ Some was) (free : place_at entries child cp ≡ None)
@@ -56,9 +57,6 @@ module _ (entries with_child later : Entries) (old shared middle new : Slab Node
   same k h =
       made_told entries shared middle made (λ k. one k was.present + one k was.present) (λ k. one k key + uses_of k gets) key owed_node with_shared vacant owes k (omega arith)
       ∙ shared_told entries old shared made (λ _. 0) (λ k. one k was.present + one k was.present) was.present 2 whole (let some = some_use in omega (arith, some)) share k
-
-  owed_same : (a b : ℕ) → owed a ≡ owed b → a ≡ b
-  owed_same a b e = cc
 
   fit : IsFit middle made child gets
   fit =

@@ -19,6 +19,7 @@ use Rattle.object_versions.proofs.Counts.{one_self, one_other, told_here, told_e
 use Rattle.object_versions.proofs.References.{made_whole, made_told}
 use Rattle.object_versions.proofs.Seeing.{seen_some}
 use Rattle.object_versions.proofs.Given.{given_whole, given_seen}
+use Rattle.object_versions.proofs.Differ.{owed_same, settled_not-owed}
 
 module _ (entries with_child later : Entries) (old first middle new : Slab Node) (made parent pp child cp key own : ℕ) (was : PlacedObject) (zero : Value)
     (differ : parent ≢ child) (whole : IsWhole entries old made (λ _. 0)) (stands : place_at entries parent pp ≡ Some was) (free : place_at entries child cp ≡ None)
@@ -71,12 +72,6 @@ module _ (entries with_child later : Entries) (old first middle new : Slab Node)
       made_told entries first middle made (λ k. one k key + one k key) (λ k. one k key + uses_of k gets) own own_node with_key vacant_own starts k (omega arith)
       ∙ made_told entries old first made (λ _. 0) (λ k. one k key + one k key) key owed_node whole vacant_key owes k (omega arith)
 
-  owed_same : (a b : ℕ) → owed a ≡ owed b → a ≡ b
-  owed_same a b e = cc
-
-  settled_owes : (value : Value) (frame : ℕ) → settled value ≡ owed frame → ⊥
-  settled_owes value frame e = cc
-
   fit : IsFit middle made child gets
   fit = record {
     known = (whole.fits parent pp was stands).known;
@@ -94,7 +89,7 @@ module _ (entries with_child later : Entries) (old first middle new : Slab Node)
   owing k frame h is = ⊎_elim
       (λ e. inr (sym (owed_same child frame (sym (ap (λ t. t.1) told_key) ∙ ap (version_at middle) (sym e) ∙ is)), ap Some (sym e)))
       (λ apart. ⊎_elim
-      (λ e. absurd (settled_owes zero frame (sym (ap (λ t. t.1) told_own) ∙ ap (version_at middle) (sym e) ∙ is)))
+      (λ e. absurd (settled_not-owed zero frame (sym (ap (λ t. t.1) told_own) ∙ ap (version_at middle) (sym e) ∙ is)))
       (λ also. let none = one_other k key apart in let neither = one_other k own also in absurd (omega (arith, none, neither)))
       (cases_eq k own))
       (cases_eq k key)

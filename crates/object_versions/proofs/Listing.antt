@@ -1,8 +1,7 @@
 -- Entries by index.
-use Rattle.std.proofs.Common.{◌≡◌, ℕ, zero, suc, Bool, true, false, cond, ◌&&◌, ◌==◌, Some, List, [], ◌∷◌, map, find, slice_get, refl, sym, ap, ◌∙◌, arith, ⊎_elim}
+use Rattle.std.proofs.Common.{◌≡◌, ℕ, zero, suc, Bool, true, false, cond, ◌&&◌, ◌==◌, Some, List, [], ◌∷◌, map, find, slice_get, refl, sym, ap, ◌∙◌, ⊎_elim}
 use Rattle.std.proofs.lemmas.Option.{none-some, same_Some}
-use Rattle.std.proofs.lemmas.Bool.{false≢true, cases_eq}
-use Rattle.std.proofs.lemmas.Bool.Decides.{nat_tests}
+use Rattle.std.proofs.lemmas.Bool.{false≢true, cases_eq, and_from, and_parts, eqb-true, eq-eqb}
 use Rattle.std.proofs.lemmas.Cmp.{eq_by_cmp_equiv}
 use Rattle.std.proofs.lemmas.Map.Entries.{lookup_from_place, place_from_lookup}
 use Rattle.std.proofs.lemmas.Map.Keys.{IsDistinct-from_sorted}
@@ -40,24 +39,6 @@ find_only {A} {B} p f g (y ∷ ys) v all (suc i) x is passes = by (p (g y)) refl
   by true e rest = ap Some (all zero y refl e)
   by false e rest = rest
 
-and_first : (a b : Bool) → (a && b) ≡ true → a ≡ true
-and_first true b e = refl
-and_first false b e = absurd (false≢true e)
-
-and_second : (a b : Bool) → (a && b) ≡ true → b ≡ true
-and_second true b e = e
-and_second false b e = absurd (false≢true e)
-
-both : (a b : Bool) → a ≡ true → b ≡ true → (a && b) ≡ true
-both true b f g = g
-both false b f g = absurd (false≢true f)
-
-pub equal_by : (a b : ℕ) → (a == b) ≡ true → a ≡ b
-equal_by a b e = grind (arith, nat_tests)
-
-pub equal_to : (a b : ℕ) → a ≡ b → (a == b) ≡ true
-equal_to a b e = grind (arith, nat_tests)
-
 -- what a frame leaves of an object is what it has where it may write it
 pub left_of : (entries : Entries) (nodes : Slab Node) (made : ℕ) (held : ℕ → ℕ) (n q : ℕ) (has : PlacedObject) (value : Value) → IsWhole entries nodes made held
     → place_at entries n q ≡ Some has → allows has.mode Out ≡ true → version_at nodes has.present ≡ settled value
@@ -71,19 +52,19 @@ left_of entries nodes made held n q has value whole stands may is =
     passes : may_write n has.object (seen nodes (at.1, has)) ≡ true
     passes =
         let key = equal_at (n, q) at.1 at.3 in
-        let first : (n == n) ≡ true = equal_to n n refl in
-        let second : (has.object == has.object) ≡ true = equal_to has.object has.object refl in
-        let whole_test : ((n == n) && ((has.object == has.object) && allows has.mode Out)) ≡ true = both _ _ first (both _ _ second may) in
+        let first : (n == n) ≡ true = eq-eqb n n refl in
+        let second : (has.object == has.object) ≡ true = eq-eqb has.object has.object refl in
+        let whole_test : ((n == n) && ((has.object == has.object) && allows has.mode Out)) ≡ true = and_from _ _ first (and_from _ _ second may) in
         ap (λ (k : ℕ × ℕ). may_write n has.object (seen nodes (k, has))) (sym key) ∙ whole_test
 
     all : (i : ℕ) (e : (ℕ × ℕ) × PlacedObject) → slice_get entries i ≡ Some e → may_write n has.object (seen nodes e) ≡ true → version_at nodes e.1.present ≡ settled value
     all i e there pass =
-        let owner = equal_by e.0.0 n (and_first (e.0.0 == n) ((e.1.object == has.object) && allows e.1.mode Out) pass) in
-        let rest = and_second (e.0.0 == n) ((e.1.object == has.object) && allows e.1.mode Out) pass in
-        let object = equal_by e.1.object has.object (and_first (e.1.object == has.object) (allows e.1.mode Out) rest) in
-        let writes = and_second (e.1.object == has.object) (allows e.1.mode Out) rest in
+        let first = and_parts (e.0.0 == n) ((e.1.object == has.object) && allows e.1.mode Out) pass in
+        let second = and_parts (e.1.object == has.object) (allows e.1.mode Out) first.1 in
+        let owner = eqb-true e.0.0 n first.0 in
+        let object = eqb-true e.1.object has.object second.0 in
         let here : place_at entries n e.0.1 ≡ Some e.1 = ap (λ m. place_at entries m e.0.1) (sym owner) ∙ place_of entries nodes made held whole i e there in
         ⊎_elim
         (λ same. let this : e.1 ≡ has = same_Some e.1 has (sym here ∙ ap (place_at entries n) same ∙ stands) in ap (λ o. version_at nodes o.present) this ∙ is)
-        (λ apart. absurd (false≢true (sym (ap (λ m. allows m Out) (whole.alone n e.0.1 q e.1 has here stands apart object).0) ∙ writes)))
+        (λ apart. absurd (false≢true (sym (ap (λ m. allows m Out) (whole.alone n e.0.1 q e.1 has here stands apart object).0) ∙ second.1)))
         (cases_eq e.0.1 q)

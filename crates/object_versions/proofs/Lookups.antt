@@ -3,6 +3,7 @@ use Rattle.std.proofs.Common.{◌≡◌, ◌≢◌, ◌⊎◌, inl, inr, ℕ, Bo
 use Rattle.std.proofs.lemmas.Bool.{false≢true}
 use Rattle.std.proofs.lemmas.Bool.Decides.{nat_tests}
 use Rattle.std.proofs.lemmas.Cmp.{nat_cmp_total, on_total, then_total, tied_itself}
+use Rattle.std.proofs.lemmas.Option.{none-some}
 use Rattle.std.specs.Cmp.{IsTotalOrder}
 use Rattle.std.specs.List.Sorted.{IsStrictlySortedBy}
 use Rattle.std.specs.Map.{lookup, set_value, remove_entry, keys_of}
@@ -68,12 +69,9 @@ module _ {X : Type 0} where
       here_or_there (is_at (place_cmp k) n) es k n value has (λ e. ap (is_at (place_cmp k)) e ∙ tied k) (λ t. sym (equal_at k n t))
       (sym (found_set place_total es k was value n stands) ∙ is)
 
-  none_is : (has : X) → None ≡ Some has → ⊥
-  none_is has e = cc
-
   there_only : (b : Bool) (es : List ((ℕ × ℕ) × X)) (k n : ℕ × ℕ) (has : X) → (n ≡ k → b ≡ true)
       → cond b None (here es n) ≡ Some has → IsThere es k n has
-  there_only true es k n has back is = absurd (none_is has is)
+  there_only true es k n has back is = absurd (none-some has is)
   there_only false es k n has back is = record { apart = λ e. false≢true (back e); was = is }
 
   pub after_removal : (es : List ((ℕ × ℕ) × X)) (k n : ℕ × ℕ) (has : X) → IsStrictlySortedBy place_cmp (keys_of es)
@@ -92,7 +90,7 @@ module _ {X : Type 0} where
   pub still_inserted : (es : List ((ℕ × ℕ) × X)) (k : ℕ × ℕ) (value : X) (n : ℕ × ℕ) (has : X) → here es k ≡ None
       → here es n ≡ Some has → here (insert_entry place_cmp es k value) n ≡ Some has
   still_inserted es k value n has free is =
-      let apart : is_at (place_cmp n) k ≡ false = untied n k (λ e. none_is has (sym free ∙ ap (here es) e ∙ is)) in
+      let apart : is_at (place_cmp n) k ≡ false = untied n k (λ e. none-some has (sym free ∙ ap (here es) e ∙ is)) in
       found_in place_total k value n es ∙ ap (λ b. cond b (Some value) (here es n)) apart ∙ is
 
   pub still_set : (es : List ((ℕ × ℕ) × X)) (k : ℕ × ℕ) (was value : X) (n : ℕ × ℕ) → here es k ≡ Some was → n ≢ k

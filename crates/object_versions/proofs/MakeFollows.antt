@@ -25,21 +25,18 @@ use Rattle.swan_model.specs.Told.{cell, cell_from, is_same, made}
 use Rattle.swan_model.specs.Values.{kind_of}
 use Rattle.swan_model.specs.Versions.{settled, Placed, VersionState, placed_at, new_versions, after_create}
 use Rattle.swan_model.specs.VersionsFollow.{ObjectsFollow, FollowsAt}
-use Rattle.swan_model.proofs.MovedFrames.{frame_number, gone_back, gone_there, path_kept}
-use Rattle.swan_model.proofs.Elements.{last_more}
+use Rattle.swan_model.proofs.MovedFrames.{frame_number, gone_back, gone_there, path_kept, done_stays}
+use Rattle.swan_model.proofs.Elements.{last_more, more_cases}
 use Rattle.object_versions.proofs.PlacesAfter.{after_placed, sorted_in, still_placed}
 use Rattle.object_versions.proofs.Moves.{Owes, acting, at_gone, at_moves, does_now}
 use Rattle.swan_model.proofs.ScriptCells.{cell_made}
 use Rattle.swan_model.proofs.ScriptRights.{maker_holds_object}
 use Rattle.swan_model.proofs.ScriptSteps.{at_next}
-use Rattle.object_versions.proofs.Tasks.{IsLast, done_gone, done_then, not_done, one_more_element, tasks_gone}
+use Rattle.object_versions.proofs.Tasks.{done_then, not_done, tasks_gone}
 use Rattle.object_versions.proofs.Differ.{settled_not-owed}
+use Rattle.swan_model.proofs.Paths.{not_root}
 
 -- ---- before the first step
-
-no_part : (path : List ℕ) (child : ℕ) → [] ≡ path ++ child ∷ [] → ⊥
-no_part [] child e = cc
-no_part (part ∷ path) child e = cc
 
 one_frame : (frame : Progress) (i : ℕ) (other : Progress) → slice_get (frame ∷ []) i ≡ Some other → (i ≡ 0) × (other ≡ frame)
 one_frame frame zero other is = (refl, let e : other ≡ frame = cc in e)
@@ -53,7 +50,7 @@ unfolding IsStrictlySortedBy
 new_follow s queues lawful = record {
   tasks = record {
     different = λ i j frame other is also same. (one_frame start i frame is).0 ∙ sym (one_frame start j other also).0;
-    spawned = λ i frame path child is ends. absurd (no_part path child (sym (ap (λ f. f.path) (one_frame start i frame is).1) ∙ ends));
+    spawned = λ i frame path child is ends. absurd (not_root path [] child (sym (sym (ap (λ f. f.path) (one_frame start i frame is).1) ∙ ends)));
   };
   root = (start, refl, refl);
   objects = refl;
@@ -84,13 +81,13 @@ module _ (s : Script) (r after : Reading) (state : VersionState) (follows : Obje
     (is_done_now : (k : ℕ) → origin ≡ Step k → IsTrue (is_done s after k))
     (unmade : (k object : ℕ) → origin ≡ Step k → slice_get r.objects object ≡ Some (Step k) → ⊥) where
   -- an object is one of those before, or the new one
-  which : (object : ℕ) (of : Origin) → slice_get after.objects object ≡ Some of → (slice_get r.objects object ≡ Some of) ⊎ IsLast r.objects origin object of
-  which object of is = one_more_element r.objects origin object of (ap (λ os. slice_get os object) (sym objects) ∙ is)
+  which : (object : ℕ) (of : Origin) → slice_get after.objects object ≡ Some of → (slice_get r.objects object ≡ Some of) ⊎ ((object ≡ length r.objects) × (of ≡ origin))
+  which object of is = more_cases r.objects origin object of (ap (λ os. slice_get os object) (sym objects) ∙ is)
 
   old_number : (object : ℕ) (of : Origin) → object < state.made → slice_get after.objects object ≡ Some of → slice_get r.objects object ≡ Some of
   old_number object of less is = elim (which object of is) [
     | inl before ↦ before
-    | inr last ↦ let count = follows.objects in let place = last.place in absurd (omega arith)
+    | inr last ↦ let count = follows.objects in let place = last.0 in absurd (omega arith)
   ]
 
   made_follows_at : (number other : ℕ) (now : Progress) (has : Placed) (of : Origin) → frame_of after number ≡ Some now
@@ -110,24 +107,24 @@ module _ (s : Script) (r after : Reading) (state : VersionState) (follows : Obje
   made_roots : (object index : ℕ) → slice_get after.objects object ≡ Some (Root index) → object ≡ index
   made_roots object index is = elim (which object (Root index) is) [
     | inl before ↦ follows.roots object index before
-    | inr last ↦ last.place ∙ follows.objects ∙ number_of index (sym last.same)
+    | inr last ↦ last.0 ∙ follows.objects ∙ number_of index (sym last.1)
   ]
 
   made_made : (object k : ℕ) → slice_get after.objects object ≡ Some (Step k) → IsTrue (is_done s after k)
   made_made object k is = elim (which object (Step k) is) [
     | inl before ↦ done k (follows.made object k before)
-    | inr last ↦ is_done_now k (sym last.same)
+    | inr last ↦ is_done_now k (sym last.1)
   ]
 
   made_different : (object other k : ℕ) → slice_get after.objects object ≡ Some (Step k) → slice_get after.objects other ≡ Some (Step k) → object ≡ other
   made_different object other k is also = elim (which object (Step k) is) [
     | inl before ↦ elim (which other (Step k) also) [
       | inl early ↦ follows.different object other k before early
-      | inr last ↦ absurd (unmade k object (sym last.same) before)
+      | inr last ↦ absurd (unmade k object (sym last.1) before)
     ]
     | inr last ↦ elim (which other (Step k) also) [
-      | inl early ↦ absurd (unmade k other (sym last.same) early)
-      | inr late ↦ last.place ∙ sym late.place
+      | inl early ↦ absurd (unmade k other (sym last.1) early)
+      | inr late ↦ last.0 ∙ sym late.0
     ]
   ]
 
@@ -264,7 +261,7 @@ made_object_follows s r state n place first maker free lawful follows known next
           let spawn = gone.spawned i frame path child is ends in record { spawn = spawn.spawn; known = spawn.known; done = spawn.done };
     })
     (one_more n follows.root.0, gone_there r n 0 follows.root.0 follows.root.1, path_kept n follows.root.0 ∙ follows.root.2)
-    (λ k is. done_gone s r n k is)
+    (λ k is. done_stays s r n k is)
     (λ number other now has of is stands made.
     let m = gone_back r n number now is in
     at_gone s r (with_object (gone_on r n) (Step t)) lawful n maker (deed.MakeObject first) known next refl (gone_back r n) number now has of m (λ _. refl)

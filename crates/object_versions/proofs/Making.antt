@@ -19,6 +19,7 @@ use Rattle.object_versions.proofs.Counts.{one_self, one_other, told_here}
 use Rattle.object_versions.proofs.Steps.{more_made, come_in}
 use Rattle.object_versions.proofs.References.{IsHeldNow, made_whole, made_told}
 use Rattle.object_versions.proofs.Seeing.{seen_same, seen_insert}
+use Rattle.object_versions.proofs.Differ.{settled_not-owed}
 
 module _ (entries : Entries) (old new : Slab Node) (made f p key : ℕ) (kind : Kind) (first : Value) (first_kind : kind ≡ kind_of first) (whole : IsWhole entries old made (λ _. 0))
     (free : place_at entries f p ≡ None) (vacant : get old key ≡ None)
@@ -51,12 +52,9 @@ module _ (entries : Entries) (old new : Slab Node) (made f p key : ℕ) (kind : 
     owes = λ k is. absurd (cc);
   }
 
-  settled_owes : (value : Value) (frame : ℕ) → settled value ≡ owed frame → ⊥
-  settled_owes value frame e = cc
-
   new_owing : (k frame : ℕ) → 0 < uses_of k created → version_at new k ≡ owed frame → HasOwing entries k frame ⊎ ((frame ≡ f) × (created.owes ≡ Some k))
   new_owing k frame h is = ⊎_elim
-      (λ e. absurd (settled_owes first frame (sym (ap (λ t. t.1) told) ∙ ap (version_at new) (sym e) ∙ is)))
+      (λ e. absurd (settled_not-owed first frame (sym (ap (λ t. t.1) told) ∙ ap (version_at new) (sym e) ∙ is)))
       (λ apart. let none = one_other k key apart in absurd (omega (arith, none)))
       (cases_eq k key)
 

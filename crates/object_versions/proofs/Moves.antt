@@ -22,6 +22,7 @@ use Rattle.swan_model.proofs.ScriptCells.{cell_unchanged}
 use Rattle.swan_model.proofs.ScriptDeeds.{is_change_of}
 use Rattle.swan_model.proofs.ScriptRights.{held_later}
 use Rattle.swan_model.proofs.ScriptSteps.{at_next, deed_is, moved}
+use Rattle.object_versions.proofs.Differ.{owed_same}
 
 -- what a frame does at its point
 pub does_now : (s : Script) (frame : Progress) (does : Deed) → next_deed s frame ≡ Some does → deed_at s (point s frame) ≡ does
@@ -56,9 +57,6 @@ Owes object number = (object.present ≡ owed number) ⊎ (object.given ≡ Some
 abbrev pub IsOwedBy : VersionState → (frame object : ℕ) → Type 0
 IsOwedBy state frame object = (place : ℕ) × (has : Placed) × (placed_at state frame place ≡ Some has) × (has.object ≡ object) × (allows has.mode Out ≡ true)
 
-owed_one : (a b : ℕ) → owed a ≡ owed b → a ≡ b
-owed_one a b e = cc
-
 -- the given version stays right, and so does who owes the present one, whatever the frame itself does
 pub given_stays : (s : Script) (r after : Reading) (was now : Progress) (object : Placed) (origin : Origin) → now.path ≡ was.path
     → ((number : ℕ) (owing : Progress) → Owes object number → frame_of after number ≡ Some owing → IsSameTask r number owing)
@@ -67,7 +65,7 @@ given_stays s r after was now object origin path back is number given =
     let begins : time s now.path 0 ≡ time s was.path 0 = ap (λ p. time s p 0) path in
     subst (λ t. IsVersionAt s after origin t (owed number)) (sym begins)
     (version_moves s r after origin (time s was.path 0) (time s was.path 0) (owed number) (omega arith) refl
-    (λ other owing owes. back other owing (inr (given ∙ ap Some (owed_one number other owes))))
+    (λ other owing owes. back other owing (inr (given ∙ ap Some (owed_same number other owes))))
     (is.given number given))
 
 pub owed_by_same : (s : Script) (r after : Reading) (was now : Progress) (object : Placed) (origin : Origin) → now.path ≡ was.path

@@ -15,6 +15,7 @@ use Rattle.object_versions.specs.Store.{Entries, place_at, told_of, told_at, ver
 use Rattle.object_versions.specs.Whole.{IsWhole, HasOwn}
 use Rattle.object_versions.proofs.Counts.{HasNode, one_self, one_other, counted_after, told_here, told_elsewhere, used, uses_at, uses_set, present_used}
 use Rattle.object_versions.proofs.Seeing.{seen_same, seen_set, seen_some}
+use Rattle.object_versions.proofs.Differ.{settled_not-owed}
 
 -- what is set twice has what was set last
 set_twice : {X : Type 0} (test : ℕ × ℕ → Bool) (es : List ((ℕ × ℕ) × X)) (v w : X) → set_value test (set_value test es v) w ≡ set_value test es w
@@ -52,9 +53,6 @@ module _ (entries : Entries) (old new : Slab Node) (made f p : ℕ) (was : Place
   told_other : (k : ℕ) → k ≢ was.present → told_at new k ≡ told_at old k
   told_other k apart = told_elsewhere old new was.present _ update k apart
 
-  settled_owes : (frame : ℕ) → settled value ≡ owed frame → ⊥
-  settled_owes frame e = cc
-
   same_object : (k : ℕ) → object_at new k ≡ object_at old k
   same_object k = ⊎_elim
       (λ e. ap (object_at new) e ∙ ap (λ t. t.0) told_key ∙ ap (object_at old) (sym e))
@@ -63,7 +61,7 @@ module _ (entries : Entries) (old new : Slab Node) (made f p : ℕ) (was : Place
 
   owed_before : (k m : ℕ) → version_at new k ≡ owed m → version_at old k ≡ owed m
   owed_before k m is = ⊎_elim
-      (λ e. absurd (settled_owes m (sym (ap (λ t. t.1) told_key) ∙ ap (version_at new) (sym e) ∙ is)))
+      (λ e. absurd (settled_not-owed value m (sym (ap (λ t. t.1) told_key) ∙ ap (version_at new) (sym e) ∙ is)))
       (λ apart. sym (ap (λ t. t.1) (told_other k apart)) ∙ is)
       (cases_eq k was.present)
 

@@ -10,10 +10,10 @@ use Rattle.swan_model.specs.Readings.{gone_on, next_deed, one_more}
 use Rattle.swan_model.specs.SerialTime.{Progress, Reading, frame_of}
 use Rattle.swan_model.specs.Versions.{VersionState}
 use Rattle.swan_model.specs.VersionsFollow.{ObjectsFollow, is_object_deed}
-use Rattle.swan_model.proofs.MovedFrames.{gone_back, gone_there, path_kept}
+use Rattle.swan_model.proofs.MovedFrames.{gone_back, gone_there, path_kept, done_stays}
 use Rattle.object_versions.proofs.Moves.{at_gone, at_moves}
 use Rattle.swan_model.proofs.ScriptDeeds.{is_change_of}
-use Rattle.object_versions.proofs.Tasks.{done_gone, tasks_gone}
+use Rattle.object_versions.proofs.Tasks.{tasks_gone}
 
 pub other_unchanged : (origin : Origin) (does : Deed) → is_object_deed does ≡ false → is_spawn does ≡ false → is_change_of origin does ≡ false
 other_unchanged origin deed.Quiet other none = refl
@@ -56,7 +56,7 @@ same_queues_pass s r state frame does lawful follows known next other none = rec
   root = (one_more frame.number follows.root.0, gone_there r frame.number 0 follows.root.0 follows.root.1, path_kept frame.number follows.root.0 ∙ follows.root.2);
   objects = follows.objects;
   roots = follows.roots;
-  made = λ object n is. done_gone s r frame.number n (follows.made object n is);
+  made = λ object n is. done_stays s r frame.number n (follows.made object n is);
   different = follows.different;
   follows = λ number place now object origin is stands has.
       let m = gone_back r frame.number number now is in

@@ -9,9 +9,7 @@ use Rattle.object_versions.specs.declared.placed_object.PlacedObject.{PlacedObje
 use Rattle.object_versions.specs.Store.{Entries, place_at, told_of, version_at, uses_of, uses}
 use Rattle.object_versions.specs.Whole.{IsWhole}
 use Rattle.object_versions.proofs.Counts.{used, uses_at, present_used, given_used, owes_used}
-
-some_there : {X : Type 0} (o : Option X) (x : X) → o ≡ Some x → IsSome o
-some_there {X = X} o x is = let P : Option X → Type 0 = λ o. IsSome o in subst P (sym is) refl
+use Rattle.swan_model.proofs.Elements.{some_is}
 
 no_value : (o : Option Node) (value : Value) → o ≡ None → (told_of o).1 ≡ settled value → ⊥
 no_value o value none is = let owes : (told_of o).1 ≡ (told_of None).1 = ap (λ n. (told_of n).1) none in absurd (cc)
@@ -21,14 +19,14 @@ pub settled_there : (nodes : Slab Node) (key : ℕ) (value : Value) → version_
 settled_there nodes key value is = by (get nodes key) refl where
   by : (o : Option Node) → get nodes key ≡ o → IsSome (get nodes key)
   by None none = absurd (no_value (get nodes key) value none is)
-  by (Some node) there = some_there (get nodes key) node there
+  by (Some node) there = some_is (get nodes key) node there
 
 -- a version that someone refers to is there
 pub referred_there : (entries : Entries) (nodes : Slab Node) (made : ℕ) (held : ℕ → ℕ) (key : ℕ) → IsWhole entries nodes made held → 0 < uses key entries + held key
     → IsSome (get nodes key)
 referred_there entries nodes made held key whole some =
     let found = used nodes (λ k. uses k entries + held k) key whole.counted some in
-    some_there (get nodes key) found.node found.is
+    some_is (get nodes key) found.node found.is
 
 module _ (entries : Entries) (nodes : Slab Node) (made frame place : ℕ) (has : PlacedObject) (whole : IsWhole entries nodes made (λ _. 0)) (stands : place_at entries frame place ≡ Some has) where
   used_there : (key : ℕ) → 0 < uses_of key has → IsSome (get nodes key)
@@ -46,7 +44,7 @@ module _ (entries : Entries) (nodes : Slab Node) (made frame place : ℕ) (has :
 -- what is there stays there where a version is made or changed
 pub still_there : (old new : Slab Node) (key k : ℕ) (node : Node) → Updates old new key (Some node) → IsSome (get old k) → IsSome (get new k)
 still_there old new key k node change there = ⊎_elim
-    (λ e. some_there (get new k) node (ap (get new) e ∙ change.changed))
+    (λ e. some_is (get new k) node (ap (get new) e ∙ change.changed))
     (λ apart. let P : Option Node → Type 0 = λ o. IsSome o in subst P (sym (change.others k apart)) there)
     (cases_eq k key)
 

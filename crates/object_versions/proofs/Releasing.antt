@@ -1,6 +1,8 @@
 -- A place's references are released, and a frame's places are forgotten.
 use Rattle.std.proofs.Common.{◌≡◌, ◌≢◌, ℕ, ◌+◌, ◌<◌, ◌≤◌, Bool, true, false, cond, not, ◌==◌, Option, None, Some, IsSome, [], ◌∷◌, refl, sym, ap, ◌∙◌, subst, arith}
+use Rattle.std.proofs.lemmas.Bool.{eq-eqb}
 use Rattle.std.proofs.lemmas.Bool.Decides.{nat_tests}
+use Rattle.std.proofs.lemmas.Option.{none-some}
 use Rattle.std.specs.BTreeMap.{is_at}
 use Rattle.std.specs.Map.{remove_entry, keys_of}
 use Rattle.std.specs.List.Sorted.{IsStrictlySortedBy}
@@ -13,7 +15,6 @@ use Rattle.object_versions.specs.Whole.{IsWhole}
 use Rattle.object_versions.specs.Ending.{IsReleased, is_other, of_others, IsForgetting}
 use Rattle.object_versions.proofs.Counts.{one_self, one_other, uses_without}
 use Rattle.object_versions.proofs.Lookups.{equal_at, tied}
-use Rattle.object_versions.proofs.Listing.{equal_to}
 use Rattle.object_versions.proofs.Steps.{go_out}
 use Rattle.object_versions.proofs.References.{released_whole, released_same}
 use Rattle.object_versions.proofs.Referred.{referred_there}
@@ -89,7 +90,7 @@ released_all entries a b c d made has present given owes whole =
 -- ---- the entries of the other frames
 
 own_is_none : (frame at : ℕ) (k : ℕ × ℕ) → is_at (place_cmp (frame, at)) k ≡ true → is_other frame k ≡ false
-own_is_none frame at k same = ap not (equal_to k.0 frame (ap (λ (n : ℕ × ℕ). n.0) (sym (equal_at (frame, at) k same))))
+own_is_none frame at k same = ap not (eq-eqb k.0 frame (ap (λ (n : ℕ × ℕ). n.0) (sym (equal_at (frame, at) k same))))
 
 pub others_without : (frame at : ℕ) (entries : Entries) → of_others frame (remove_entry (is_at (place_cmp (frame, at))) entries) ≡ of_others frame entries
 others_without frame at [] = refl
@@ -109,11 +110,8 @@ others_without frame at (e ∷ es) = by (is_at (place_cmp (frame, at)) e.0) refl
 pub all_others : (frame : ℕ) (entries : Entries) → ((place : ℕ) → place_at entries frame place ≡ None) → of_others frame entries ≡ entries
 all_others frame [] none = refl
 all_others frame (e ∷ es) none = by (e.0.0 == frame) refl (all_others frame es (λ place. later place (is_at (place_cmp (frame, place)) e.0) refl (none place))) where
-  none_some : {A : Type 0} (x : A) → Some x ≡ None → ⊥
-  none_some x h = cc
-
   later : (place : ℕ) (b : Bool) → is_at (place_cmp (frame, place)) e.0 ≡ b → cond b (Some e.1) (place_at es frame place) ≡ None → place_at es frame place ≡ None
-  later place true is h = absurd (none_some e.1 h)
+  later place true is h = absurd (none-some e.1 (sym h))
   later place false is h = h
 
   owner : (b : Bool) → (e.0.0 == frame) ≡ b → b ≡ true → e.0.0 ≡ frame
@@ -123,7 +121,7 @@ all_others frame (e ∷ es) none = by (e.0.0 == frame) refl (all_others frame es
   by true is rest =
       let own = owner true is refl in
       let key : (frame, e.0.1) ≡ e.0 = λ i. (sym own i, e.0.1) in
-      absurd (none_some e.1 (sym (ap (λ b. cond b (Some e.1) (place_at es frame e.0.1)) (ap (λ (k : ℕ × ℕ). is_at (place_cmp k) e.0) key ∙ tied e.0)) ∙ none e.0.1))
+      absurd (none-some e.1 (sym (sym (ap (λ b. cond b (Some e.1) (place_at es frame e.0.1)) (ap (λ (k : ℕ × ℕ). is_at (place_cmp k) e.0) key ∙ tied e.0)) ∙ none e.0.1)))
   by false is rest = ap (λ t. e ∷ t) rest
 
 -- ---- one place more is forgotten

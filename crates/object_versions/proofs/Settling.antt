@@ -1,7 +1,7 @@
 -- A version that a frame owes gets the frame's value.
 use Rattle.std.proofs.Common.{◌≡◌, ℕ, ◌+◌, ◌<◌, true, cond, ◌==◌, Some, refl, sym, ap, ◌∙◌, subst, arith, ⊎_elim}
 use Rattle.std.proofs.lemmas.Option.{same_Some}
-use Rattle.std.proofs.lemmas.Bool.{cases_eq}
+use Rattle.std.proofs.lemmas.Bool.{cases_eq, eq-eqb}
 use Rattle.std.specs.Option.{unwrap_or}
 use Rattle.slab.specs.Slab.{Slab, get, Updates}
 use Rattle.swan_model.specs.declared.value.Value.{Value}
@@ -15,31 +15,29 @@ use Rattle.object_versions.specs.Whole.{IsFit, IsWhole}
 use Rattle.object_versions.specs.Ending.{IsSettling, OwesNoMore, IsPaid}
 use Rattle.object_versions.proofs.Counts.{counted_after, told_here, told_elsewhere, HasNode, used, uses_at, present_used, owes_used}
 use Rattle.object_versions.proofs.Seeing.{seen_some}
-use Rattle.object_versions.proofs.Listing.{left_of, equal_to}
-
-settled_owes : (value : Value) (frame : ℕ) → settled value ≡ owed frame → ⊥
-settled_owes value frame e = cc
+use Rattle.object_versions.proofs.Listing.{left_of}
+use Rattle.object_versions.proofs.Differ.{settled_not-owed}
 
 -- what has a value is not said to be owed
 pub reads_no_owing : (nodes : Slab Node) (key : ℕ) (value : Value) (frame : ℕ) → version_at nodes key ≡ settled value
     → version_at nodes key ≡ owed frame → ⊥
-reads_no_owing nodes key value frame reads owes = settled_owes value frame (sym reads ∙ owes)
+reads_no_owing nodes key value frame reads owes = settled_not-owed value frame (sym reads ∙ owes)
 
 -- ---- a state and the value that it gets
 
 never_owes : (s : State) (v : Value) (m : ℕ) → version_of (state_settled s v) ≡ owed m → ⊥
-never_owes (Settled w) v m e = settled_owes w m e
-never_owes (Owed f) v m e = settled_owes v m e
+never_owes (Settled w) v m e = settled_not-owed w m e
+never_owes (Owed f) v m e = settled_not-owed v m e
 
 stays_settled : (s : State) (v w : Value) → version_of s ≡ settled w → version_of (state_settled s v) ≡ settled w
 stays_settled (Settled u) v w e = e
-stays_settled (Owed f) v w e = absurd (settled_owes w f (sym e))
+stays_settled (Owed f) v w e = absurd (settled_not-owed w f (sym e))
 
 settles_so : (s : State) (v : Value) (state : VersionState) (n o : ℕ) → left_by state n o ≡ Some (settled v) → ((m : ℕ) → version_of s ≡ owed m → m ≡ n)
     → settle state n o (version_of (state_settled s v)) ≡ settle state n o (version_of s)
 settles_so (Settled u) v state n o left by = refl
 settles_so (Owed f) v state n o left by =
-    let test : (f == n) ≡ true = equal_to f n (by f refl) in
+    let test : (f == n) ≡ true = eq-eqb f n (by f refl) in
     sym (ap (λ b. cond b (unwrap_or (left_by state n o) (owed f)) (owed f)) test ∙ ap (λ l. unwrap_or l (owed f)) left)
 
 -- what a place's version was where the frame began to end is what it is

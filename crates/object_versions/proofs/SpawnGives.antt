@@ -17,6 +17,7 @@ use Rattle.swan_model.specs.Told.{is_given_out, is_out, is_same}
 use Rattle.swan_model.specs.Versions.{Placed, VersionState, placed_at}
 use Rattle.swan_model.specs.VersionsFollow.{Access, is_object_give, object_give}
 use Rattle.swan_model.proofs.Origins.{is_same-equal, is_same-self}
+use Rattle.swan_model.proofs.Uses.{allows_own}
 
 -- ---- filters
 
@@ -179,19 +180,11 @@ module _ (r : Reading) (state : VersionState) (parent : ℕ) (accesses : List Ac
       record { give = one.give; by = access_at one.index one.give one.stands; out = both.0; origin_is = is_same-equal one.give.origin origin both.1 }
 
   -- what the child may use by what an access gave, and whether it got the object by Out
-  itself : (mode : Mode) → allows mode mode ≡ true
-  itself In = refl
-  itself Out = refl
-  itself InOut = refl
-  itself Push = refl
-  itself Pop = refl
-  itself PushPop = refl
-
   pub may_by : (access : Access) → IsAmong access accesses → (object : Placed) (origin : Origin) → placed_at state parent access.place ≡ Some object
       → slice_get r.objects object.object ≡ Some origin → may_use gives access.mode origin ≡ true
   may_by access among object origin stands made =
       give_at access among object origin stands made (λ has. allows has.mode access.mode && is_same has.origin origin)
-      (and_from (allows access.mode access.mode) (is_same origin origin) (itself access.mode) (is_same-self origin))
+      (and_from (allows access.mode access.mode) (is_same origin origin) (allows_own access.mode) (is_same-self origin))
 
   pub out_by : (access : Access) → IsAmong access accesses → (object : Placed) (origin : Origin) → placed_at state parent access.place ≡ Some object
       → slice_get r.objects object.object ≡ Some origin → is_out access.mode ≡ true → list_any (is_given_out origin) gives ≡ true

@@ -1,6 +1,7 @@
--- What is done stays done, and the frames of a reading stay tasks of the script, as one of them does one more entry.
-use Rattle.std.proofs.Common.{◌≡◌, ◌⊎◌, inl, inr, ℕ, zero, suc, ◌+◌, ◌<◌, nat_lt, Bool, true, false, ◌||◌, Option, None, Some, List, [], ◌∷◌, ◌++◌, length, map, refl, sym, ap, subst, ◌∙◌, arith}
-use Rattle.std.proofs.lemmas.Bool.{and_parts, and_from, lt-ltb, ltb-true, or_left}
+-- What a frame does next is done once it goes on, and the frames of a reading stay tasks of the script.
+use Rattle.std.proofs.Common.{◌≡◌, inl, inr, ℕ, ◌+◌, nat_lt, true, false, Option, None, Some, List, [], ◌∷◌, ◌++◌, map, refl, sym, ap, subst, ◌∙◌, arith}
+use Rattle.std.proofs.lemmas.Bool.{and_from, lt-ltb, or_left}
+use Rattle.std.proofs.lemmas.List.{same_from_push}
 use Rattle.std.proofs.lemmas.List.Folds.{list_any-append}
 use Rattle.std.proofs.lemmas.Map.Keys.{any_passes_from_place}
 use Rattle.std.proofs.lemmas.Option.{slice_get-map}
@@ -9,7 +10,6 @@ use Rattle.std.specs.List.{list_any}
 use Rattle.std.specs.Option.{option_map, option_map_or}
 use Rattle.swan_model.specs.declared.script.Deed.{Deed}
 use Rattle.swan_model.specs.declared.script.Deed.TheVariants as deed
-use Rattle.swan_model.specs.declared.script.Entry.{Entry}
 use Rattle.swan_model.specs.declared.script.OriginGive.{OriginGive}
 use Rattle.swan_model.specs.declared.script.Script.{Script}
 use Rattle.swan_model.specs.Granted.{child_path, children_before}
@@ -17,99 +17,11 @@ use Rattle.swan_model.specs.Lawful.{IsLawful}
 use Rattle.swan_model.specs.Nested.{HasTasks, IsSpawned, spawn_time}
 use Rattle.swan_model.specs.Readings.{gone_on, next_deed, one_more, spawned}
 use Rattle.swan_model.specs.SerialTime.{Progress, Reading, frame_of, is_done, is_of, is_past, point}
-use Rattle.swan_model.proofs.MovedFrames.{IsIn, child_of, frame_in, own_moves, path_kept, point_goes}
-use Rattle.swan_model.proofs.Lists.{last_same}
-use Rattle.swan_model.proofs.Paths.{path_is-itself, same_path}
+use Rattle.swan_model.proofs.MovedFrames.{child_of, frame_in, own_moves, path_kept, done_spawned, done_stays}
+use Rattle.swan_model.proofs.Paths.{path_is-itself}
 use Rattle.swan_model.proofs.ScriptSteps.{at_next, point_rises, spawn_moves}
-
--- ---- lists
-
--- an element is one of those before the last, or the last
-pub record IsLast {A : Type 0} (xs : List A) (x : A) (i : ℕ) (y : A) : Type 0 where
-  pub place : i ≡ length xs
-  pub same : y ≡ x
-
-pub one_more_element : {A : Type 0} (xs : List A) (x : A) (i : ℕ) (y : A) → slice_get (xs ++ x ∷ []) i ≡ Some y → (slice_get xs i ≡ Some y) ⊎ IsLast xs x i y
-one_more_element [] x zero y is = inr (record { place = refl; same = let e : y ≡ x = cc in e })
-one_more_element [] x (suc i) y is = absurd (cc)
-one_more_element (z ∷ xs) x zero y is = inl is
-one_more_element (z ∷ xs) x (suc i) y is = elim (one_more_element xs x i y is) [
-  | inl before ↦ inl before
-  | inr last ↦ inr (record { place = ap suc last.place; same = last.same })
-]
-
--- ---- what is done
-
-any_goes : (test : Progress → Bool) (n : ℕ) → ((frame : Progress) → test frame ≡ true → test (one_more n frame) ≡ true) → (frames : List Progress)
-    → list_any test frames ≡ true → list_any test (map (one_more n) frames) ≡ true
-any_goes test n goes [] any = any
-any_goes test n goes (frame ∷ frames) any = by (test frame) refl any (any_goes test n goes frames) where
-  after : (b : Bool) → list_any test (map (one_more n) frames) ≡ true → (b || list_any test (map (one_more n) frames)) ≡ true
-  after true rest = refl
-  after false rest = rest
-
-  by : (b : Bool) → test frame ≡ b → (b || list_any test frames) ≡ true
-      → (list_any test frames ≡ true → list_any test (map (one_more n) frames) ≡ true) → (test (one_more n frame) || list_any test (map (one_more n) frames)) ≡ true
-  by true is any rest = ap (λ b. b || list_any test (map (one_more n) frames)) (goes frame is)
-  by false is any rest = after (test (one_more n frame)) (rest any)
-
-past_goes : (s : Script) (t : ℕ) (entry : Entry) (n : ℕ) (frame : Progress) → is_past s t entry frame ≡ true → is_past s t entry (one_more n frame) ≡ true
-past_goes s t entry n frame is =
-    let both = and_parts (is_of frame.path entry) (nat_lt t (point s frame)) is in
-    let before = ltb-true t (point s frame) both.1 in
-    let goes = point_goes s n frame in
-    and_from (is_of (one_more n frame).path entry) (nat_lt t (point s (one_more n frame)))
-    (ap (λ path. is_of path entry) (path_kept n frame) ∙ both.0)
-    (lt-ltb t (point s (one_more n frame)) (omega arith))
-
-pub done_gone : (s : Script) (r : Reading) (n t : ℕ) → IsTrue (is_done s r t) → IsTrue (is_done s (gone_on r n) t)
-done_gone s r n t is = by (slice_get s.entries t) is where
-  by : (o : Option Entry) → IsTrue (option_map_or (λ entry. list_any (is_past s t entry) r.frames) o false)
-      → IsTrue (option_map_or (λ entry. list_any (is_past s t entry) (map (one_more n) r.frames)) o false)
-  by None none = none
-  by (Some entry) any = any_goes (is_past s t entry) n (past_goes s t entry n) r.frames any
-
-pub done_spawned : (s : Script) (r : Reading) (parent : Progress) (child t : ℕ) → IsTrue (is_done s r t) → IsTrue (is_done s (spawned s r parent child) t)
-done_spawned s r parent child t is = by (slice_get s.entries t) is where
-  by : (o : Option Entry) → IsTrue (option_map_or (λ entry. list_any (is_past s t entry) r.frames) o false)
-      → IsTrue (option_map_or (λ entry. list_any (is_past s t entry) (map (one_more parent.number) r.frames ++ child_of s parent child ∷ [])) o false)
-  by None none = none
-  by (Some entry) any =
-      list_any-append (is_past s t entry) (map (one_more parent.number) r.frames) (child_of s parent child ∷ [])
-      ∙ or_left _ _ (any_goes (is_past s t entry) parent.number (past_goes s t entry parent.number) r.frames any)
-
--- who has done it
-pub record IsDoneBy (s : Script) (r : Reading) (t : ℕ) : Type 0 where
-  pub entry : Entry
-  pub stands : slice_get s.entries t ≡ Some entry
-  pub frame : Progress
-  pub place : IsIn r.frames frame
-  pub own : entry.path ≡ frame.path
-  pub past : t < point s frame
-
-any_is : (test : Progress → Bool) (frames : List Progress) → list_any test frames ≡ true → (frame : Progress) × IsIn frames frame × (test frame ≡ true)
-any_is test [] any = absurd (cc)
-any_is test (frame ∷ frames) any = by (test frame) refl any (any_is test frames) where
-  by : (b : Bool) → test frame ≡ b → (b || list_any test frames) ≡ true
-      → (list_any test frames ≡ true → (found : Progress) × IsIn frames found × (test found ≡ true)) → (found : Progress) × IsIn (frame ∷ frames) found × (test found ≡ true)
-  by true is any rest = (frame, record { index = 0; stands = refl }, is)
-  by false is any rest = let found = rest any in (found.0, record { index = suc found.1.index; stands = found.1.stands }, found.2)
-
-pub done_by : (s : Script) (r : Reading) (t : ℕ) → IsTrue (is_done s r t) → IsDoneBy s r t
-done_by s r t is = by (slice_get s.entries t) refl is where
-  by : (o : Option Entry) → slice_get s.entries t ≡ o → IsTrue (option_map_or (λ entry. list_any (is_past s t entry) r.frames) o false) → IsDoneBy s r t
-  by None stands none = absurd (cc)
-  by (Some entry) stands any =
-      let found = any_is (is_past s t entry) r.frames any in
-      let both = and_parts (is_of found.0.path entry) (nat_lt t (point s found.0)) found.2 in
-      record {
-        entry = entry;
-        stands = stands;
-        frame = found.0;
-        place = found.1;
-        own = same_path entry.path found.0.path both.0;
-        past = ltb-true t (point s found.0) both.1;
-      }
+use Rattle.swan_model.proofs.Elements.{more_cases}
+use Rattle.swan_model.proofs.Points.{done_by}
 
 -- ---- the next entry of a frame
 
@@ -117,13 +29,12 @@ done_by s r t is = by (slice_get s.entries t) refl is where
 pub not_done : (s : Script) (r : Reading) → HasTasks s r → (frame : Progress) (does : Deed) → frame_of r frame.number ≡ Some frame → next_deed s frame ≡ Some does
     → IsTrue (is_done s r (point s frame)) → ⊥
 not_done s r tasks frame does known next done =
-    let by = done_by s r (point s frame) done in
     let step = at_next s frame does next in
-    let same : by.entry ≡ step.entry = let e : Some by.entry ≡ Some step.entry = sym by.stands ∙ step.stands in cc in
-    let path : by.frame.path ≡ frame.path = sym by.own ∙ ap (λ e. e.path) same ∙ step.own in
+    let by = done_by s r (point s frame) step.entry step.stands done in
+    let path : by.frame.path ≡ frame.path = by.own ∙ step.own in
     let here = frame_in r.frames frame.number frame known in
-    let index = tasks.different by.place.index here.index by.frame frame by.place.stands here.stands path in
-    let one : by.frame ≡ frame = let e : Some by.frame ≡ Some frame = sym by.place.stands ∙ ap (slice_get r.frames) index ∙ here.stands in cc in
+    let index = tasks.different by.index here.index by.frame frame by.stands here.stands path in
+    let one : by.frame ≡ frame = let e : Some by.frame ≡ Some frame = sym by.stands ∙ ap (slice_get r.frames) index ∙ here.stands in cc in
     let late : point s by.frame ≡ point s frame = ap (point s) one in
     let past = by.past in
     omega arith
@@ -186,7 +97,7 @@ tasks_gone s r n tasks = record {
   spawned = λ i frame path child is ends.
       let a = from r.frames n i frame is in
       let spawn = tasks.spawned i a.was path child a.stood (sym a.path ∙ ends) in
-      record { spawn = spawn.spawn; known = spawn.known; done = done_gone s r n spawn.spawn spawn.done };
+      record { spawn = spawn.spawn; known = spawn.known; done = done_stays s r n spawn.spawn spawn.done };
 }
 
 unlike : (s : Script) (r : Reading) → IsLawful s → HasTasks s r → (parent : Progress) (gives : List OriginGive) → frame_of r parent.number ≡ Some parent
@@ -206,33 +117,33 @@ tasks_spawned s r lawful tasks parent child gives known next = record { differen
   different : (i j : ℕ) (frame other : Progress) → slice_get (map (one_more parent.number) r.frames ++ child_of s parent child ∷ []) i ≡ Some frame
       → slice_get (map (one_more parent.number) r.frames ++ child_of s parent child ∷ []) j ≡ Some other → frame.path ≡ other.path → i ≡ j
   different i j frame other is also same =
-      elim (one_more_element (map (one_more parent.number) r.frames) (child_of s parent child) i frame is) [
+      elim (more_cases (map (one_more parent.number) r.frames) (child_of s parent child) i frame is) [
         | inl before ↦
             let a = from r.frames parent.number i frame before in
-            elim (one_more_element (map (one_more parent.number) r.frames) (child_of s parent child) j other also) [
+            elim (more_cases (map (one_more parent.number) r.frames) (child_of s parent child) j other also) [
               | inl also_before ↦
                   let b = from r.frames parent.number j other also_before in
                   tasks.different i j a.was b.was a.stood b.stood (sym a.path ∙ same ∙ b.path)
-              | inr last ↦ absurd (unlike s r lawful tasks parent gives known next i a.was a.stood (sym a.path ∙ same ∙ ap (λ f. f.path) last.same))
+              | inr last ↦ absurd (unlike s r lawful tasks parent gives known next i a.was a.stood (sym a.path ∙ same ∙ ap (λ f. f.path) last.1))
             ]
-        | inr first ↦ elim (one_more_element (map (one_more parent.number) r.frames) (child_of s parent child) j other also) [
+        | inr first ↦ elim (more_cases (map (one_more parent.number) r.frames) (child_of s parent child) j other also) [
           | inl before ↦
               let b = from r.frames parent.number j other before in
-              absurd (unlike s r lawful tasks parent gives known next j b.was b.stood (sym b.path ∙ sym same ∙ ap (λ f. f.path) first.same))
-          | inr last ↦ first.place ∙ sym last.place
+              absurd (unlike s r lawful tasks parent gives known next j b.was b.stood (sym b.path ∙ sym same ∙ ap (λ f. f.path) first.1))
+          | inr last ↦ first.0 ∙ sym last.0
         ]
       ]
 
   spawns : (i : ℕ) (frame : Progress) (path : List ℕ) (number : ℕ) → slice_get (map (one_more parent.number) r.frames ++ child_of s parent child ∷ []) i ≡ Some frame
       → frame.path ≡ path ++ number ∷ [] → IsSpawned s (spawned s r parent child) path number
   spawns i frame path number is ends =
-      elim (one_more_element (map (one_more parent.number) r.frames) (child_of s parent child) i frame is) [
+      elim (more_cases (map (one_more parent.number) r.frames) (child_of s parent child) i frame is) [
         | inl before ↦
             let a = from r.frames parent.number i frame before in
             let spawn = tasks.spawned i a.was path number a.stood (sym a.path ∙ ends) in
             record { spawn = spawn.spawn; known = spawn.known; done = done_spawned s r parent child spawn.spawn spawn.done }
         | inr last ↦
-            let parts = last_same parent.path path (children_before s parent.path (point s parent)) number (sym (ap (λ f. f.path) last.same) ∙ ends) in
+            let parts = same_from_push parent.path path (children_before s parent.path (point s parent)) number (sym (ap (λ f. f.path) last.1) ∙ ends) in
             let here = spawn_moves s lawful parent gives next in
             record {
               spawn = point s parent;

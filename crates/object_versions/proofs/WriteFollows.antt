@@ -1,5 +1,6 @@
 -- A write: the frame's version has the value then, and no other place of the frame has the object.
 use Rattle.std.proofs.Common.{◌≡◌, inl, inr, ℕ, ◌<◌, true, Some, refl, sym, ap, subst, ◌∙◌, arith}
+use Rattle.std.proofs.lemmas.Bool.{false_from_ne_true}
 use Rattle.std.specs.Prelude.{slice_get}
 use Rattle.swan_model.specs.declared.origin.Origin.{Origin}
 use Rattle.swan_model.specs.declared.rights.Mode.TheVariants.{Out}
@@ -13,13 +14,13 @@ use Rattle.swan_model.specs.SerialTime.{Progress, Reading, frame_of, point}
 use Rattle.swan_model.specs.Told.{cell, is_same}
 use Rattle.swan_model.specs.Versions.{settled, Placed, VersionState, placed_at, with_present, written_at, after_write}
 use Rattle.swan_model.specs.VersionsFollow.{ObjectsFollow, FollowsAt}
-use Rattle.swan_model.proofs.MovedFrames.{gone_back, gone_there, path_kept}
-use Rattle.object_versions.proofs.Differ.{not_true, settled_not-owed, writes_not-in}
+use Rattle.swan_model.proofs.MovedFrames.{gone_back, gone_there, path_kept, done_stays}
+use Rattle.object_versions.proofs.Differ.{settled_not-owed, writes_not-in}
 use Rattle.object_versions.proofs.PlacesAfter.{IsThere, after_present, back_present, sorted_set, still_present}
 use Rattle.object_versions.proofs.Moves.{Owes, IsOwedBy, acting, at_gone, does_now, given_stays, held_on, one_object, same_task}
 use Rattle.swan_model.proofs.Origins.{is_same-equal}
 use Rattle.swan_model.proofs.ScriptCells.{cell_written}
-use Rattle.object_versions.proofs.Tasks.{done_gone, tasks_gone}
+use Rattle.object_versions.proofs.Tasks.{tasks_gone}
 
 module _ (s : Script) (r : Reading) (state : VersionState) (lawful : IsLawful s) (follows : ObjectsFollow s r state) (n place : ℕ) (writer : Progress) (object : Placed)
     (origin : Origin) (value : Value) (known : frame_of r n ≡ Some writer) (stands : placed_at state n place ≡ Some object) (may : allows object.mode Out ≡ true)
@@ -50,7 +51,7 @@ module _ (s : Script) (r : Reading) (state : VersionState) (lawful : IsLawful s)
   written_there number other now has of moved there made =
       let m = gone_back r n number now moved in
       at_gone s r (gone_on r n) lawful n writer (deed.Write origin value) known next refl (gone_back r n) number now has of m
-      (λ own. not_true (is_same origin of) (λ same.
+      (λ own. false_from_ne_true (is_same origin of) (λ same.
       let e : origin ≡ of = is_same-equal origin of same in
       let one = one_object s r state follows object.object has.object of (is ∙ ap Some e) made in
       let at : placed_at state n other ≡ Some has = ap (λ k. placed_at state k other) (sym own) ∙ there.was in
@@ -92,7 +93,7 @@ module _ (s : Script) (r : Reading) (state : VersionState) (lawful : IsLawful s)
     root = (one_more n follows.root.0, gone_there r n 0 follows.root.0 follows.root.1, path_kept n follows.root.0 ∙ follows.root.2);
     objects = follows.objects;
     roots = follows.roots;
-    made = λ object k is. done_gone s r n k (follows.made object k is);
+    made = λ object k is. done_stays s r n k (follows.made object k is);
     different = follows.different;
     follows = λ number other now has of moved at made. follows_at number other now has of moved at made;
     known = λ number other has at.

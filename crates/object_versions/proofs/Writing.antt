@@ -1,11 +1,12 @@
 -- An object is written.
 use Rattle.std.proofs.Common.{◌≡◌, ◌≢◌, ℕ, ◌+◌, ◌<◌, Option, None, Some, IsSome, sym, ap, ◌∙◌, subst, arith}
+use Rattle.std.proofs.lemmas.Option.{none-some}
 use Rattle.std.specs.BTreeMap.{is_at}
 use Rattle.std.specs.Map.{set_value, keys_of}
 use Rattle.std.specs.List.Sorted.{IsStrictlySortedBy}
 use Rattle.slab.specs.Slab.{Slab, get, Updates}
 use Rattle.swan_model.specs.declared.value.Value.{Value}
-use Rattle.swan_model.specs.Versions.{settled, owed, place_cmp, with_present, after_write, written_at}
+use Rattle.swan_model.specs.Versions.{settled, place_cmp, with_present, after_write, written_at}
 use Rattle.object_versions.specs.declared.node.Node.{Node}
 use Rattle.object_versions.specs.declared.node.State.TheVariants.{Settled}
 use Rattle.object_versions.specs.declared.placed_object.PlacedObject.{PlacedObject}
@@ -16,6 +17,7 @@ use Rattle.object_versions.proofs.Counts.{one_self, one_other, told_here, used, 
 use Rattle.object_versions.proofs.Steps.{set_in}
 use Rattle.object_versions.proofs.References.{made_whole, made_told, released_whole, released_same}
 use Rattle.object_versions.proofs.Seeing.{placed_same, same_there, seen_present, seen_some, versions_same}
+use Rattle.object_versions.proofs.Differ.{settled_not-owed}
 
 module _ (entries later : Entries) (old middle new : Slab Node) (made f p key : ℕ) (was : PlacedObject) (value : Value) (whole : IsWhole entries old made (λ _. 0))
     (stands : place_at entries f p ≡ Some was) (vacant : get old key ≡ None)
@@ -36,15 +38,12 @@ module _ (entries later : Entries) (old middle new : Slab Node) (made f p key : 
   with_node = made_whole entries old middle made (λ _. 0) (λ k. one k key) key node whole vacant change (omega arith)
       (record { here = one_self key; others = λ k apart. one_other k key apart })
 
-  settled_owes : (frame : ℕ) → settled value ≡ owed frame → ⊥
-  settled_owes frame e = cc
-
   with_set : IsWhole after middle made (λ k. one k was.present)
   with_set =
       let Q : Entries → Type 0 = λ es. IsStrictlySortedBy place_cmp (keys_of es) in
       set_in entries middle made (λ k. one k key) (λ k. one k was.present) f p key was with_node stands
       (ap (λ t. t.0) told)
-      (λ frame is. absurd (settled_owes frame (sym (ap (λ t. t.1) told) ∙ is)))
+      (λ frame is. absurd (settled_not-owed value frame (sym (ap (λ t. t.1) told) ∙ is)))
       (λ k. omega arith) (subst Q set sorted)
 
   some_held : 0 < one was.present was.present
@@ -82,11 +81,8 @@ module _ (entries later : Entries) (old middle new : Slab Node) (made f p key : 
   found : HasNode old was.present
   found = used old (λ k. uses k entries + 0) was.present whole.counted (let some = some_use in omega (arith, some))
 
-  none_some : (n : Node) → None ≡ Some n → ⊥
-  none_some n e = cc
-
   another : key ≢ was.present
-  another e = none_some found.node (sym vacant ∙ ap (get old) e ∙ found.is)
+  another e = none-some found.node (sym vacant ∙ ap (get old) e ∙ found.is)
 
   released_there : Updates middle new was.present (released found.node)
   released_there = release found.node (change.others was.present (λ e. another (sym e)) ∙ found.is)

@@ -1,5 +1,5 @@
 -- Which older siblings block a child, by the set of poppers.
-use Rattle.std.proofs.Common.{◌≡◌, ℕ, ◌<◌, true, Option, Some, List, sym, ap, subst, ◌∙◌}
+use Rattle.std.proofs.Common.{◌≡◌, ℕ, ◌<◌, true, Some, List, sym, ap, subst, ◌∙◌}
 use Rattle.swan_model.specs.SerialState.{Holding}
 use Rattle.swan_model.specs.declared.rights.Mode.TheVariants.{Pop}
 use Rattle.pop_order.specs.Children.{Entry, has}
@@ -7,9 +7,7 @@ use Rattle.pop_order.specs.Frames.{Frame, Frames, frame_at, holds}
 use Rattle.pop_order.specs.Turns.{Blocks}
 use Rattle.pop_order.specs.Poppers.{IsAmong}
 use Rattle.pop_order.specs.Kept.{HasHolders}
-
-pub same_frame : (found : Option Frame) (f g : Frame) → found ≡ Some f → found ≡ Some g → f ≡ g
-same_frame found f g a b = let e : Some f ≡ Some g = sym a ∙ b in cc
+use Rattle.swan_model.proofs.Elements.{one_answer}
 
 module _ (frames : Frames) (set : List Entry) (pops : (queue : ℕ) → HasHolders frames Pop queue set)
     (child : ℕ) (f : Frame) (active : frame_at frames child ≡ Some f)
@@ -34,8 +32,8 @@ module _ (frames : Frames) (set : List Entry) (pops : (queue : ℕ) → HasHolde
   found_blocks n b =
       let P : List Holding → Type 0 = λ hs. holds hs b.queue Pop ≡ true in
       let Q : ℕ → Type 0 = λ p. has set p b.queue n ≡ true in
-      let one = same_frame (frame_at frames child) b.both.frame f b.both.active active in
-      let parents : b.parent ≡ parent = sym b.younger.of ∙ ap (λ (g : Frame). g.parent) (same_frame (frame_at frames child) b.younger.frame f b.younger.active active) ∙ of in
+      let one = one_answer (frame_at frames child) b.both.frame f b.both.active active in
+      let parents : b.parent ≡ parent = sym b.younger.of ∙ ap (λ (g : Frame). g.parent) (one_answer (frame_at frames child) b.younger.frame f b.younger.active active) ∙ of in
       record {
         queue = b.queue;
         popped = subst P (ap (λ (g : Frame). g.holdings) one ∙ same) b.both.held;

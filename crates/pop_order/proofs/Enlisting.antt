@@ -1,6 +1,6 @@
 -- What enlisting, lending and giving back do to the frames.
 use Rattle.std.proofs.Common.{◌≡◌, ℕ, ◌<◌, Bool, true, false, ◌&&◌, not, ◌==◌, Option, None, Some, List, [], ◌∷◌, ◌++◌, refl, sym, ap, subst, ◌∙◌, ◌⊎◌, inl, inr, arith}
-use Rattle.std.proofs.lemmas.Bool.{cases_eq, false≢true}
+use Rattle.std.proofs.lemmas.Bool.{cases_eq, false≢true, eqb-true, eq-eqb, leb-true, or_cases, or_left, or_right, and_parts, and_from, both_ways, not-true}
 use Rattle.std.proofs.lemmas.List.Folds.{list_any-append}
 use Rattle.std.specs.List.Sorted.{IsStrictlySortedBy}
 use Rattle.std.specs.Map.{keys_of}
@@ -17,20 +17,19 @@ use Rattle.pop_order.specs.Turns.{IsHolder}
 use Rattle.pop_order.specs.Kept.{AreBelowParents, HasHolders, IsKeptFor, IsKept}
 use Rattle.pop_order.specs.Makers.{Maker}
 use Rattle.pop_order.specs.Steps.{IsGrown, IsShrunk}
-use Rattle.pop_order.proofs.Blocking.{same_frame}
 use Rattle.swan_model.proofs.Lookups.{at_inserted, by_inserted, at_set, by_set, at_removed, by_removed}
 use Rattle.pop_order.proofs.Lookups.{found_passes}
 use Rattle.pop_order.proofs.Meeting.{none_or_some}
-use Rattle.pop_order.proofs.Flags.{eq_of, eq_same, le_of, or_cases, or_left, or_right, and_parts, and_both, not_true}
+use Rattle.swan_model.proofs.Elements.{one_answer}
 
 abbrev lets : ℕ → Mode → Holding → Bool
 lets queue mode h = (h.number == queue) && allows h.mode mode
 
 lets_own : (h : Holding) (mode : Mode) → allows h.mode mode ≡ true → lets h.number mode h ≡ true
-lets_own h mode a = and_both _ _ (eq_same h.number) a
+lets_own h mode a = and_from _ _ (eq-eqb h.number h.number refl) a
 
 lets_parts : (queue : ℕ) (mode : Mode) (h : Holding) → lets queue mode h ≡ true → (h.number ≡ queue) × (allows h.mode mode ≡ true)
-lets_parts queue mode h e = let parts = and_parts _ _ e in (eq_of h.number queue parts.0, parts.1)
+lets_parts queue mode h e = let parts = and_parts _ _ e in (eqb-true h.number queue parts.0, parts.1)
 
 one_lets : (queue : ℕ) (mode : Mode) (h : Holding) → holds (h ∷ []) queue mode ≡ true → lets queue mode h ≡ true
 one_lets queue mode h e = elim (or_cases (lets queue mode h) false e) [ inl is ↦ is | inr never ↦ absurd (false≢true never) ]
@@ -55,7 +54,7 @@ now_lets hs mode h a = list_any-append (lets h.number mode) hs (h ∷ []) ∙ or
 childless : (frames : Frames) (child : ℕ) → AreBelowParents frames → AreUpTo frames child → (n : ℕ) → IsChild frames child n → ⊥
 childless frames child rising newest n is =
     let before = rising child n is in
-    let upto = le_of n child (found_passes (λ f. nat_le f.0 child) frames n is.frame newest is.active) in
+    let upto = leb-true n child (found_passes (λ f. nat_le f.0 child) frames n is.frame newest is.active) in
     omega arith
 
 module _ (frames : Frames) (parent child : ℕ) (holding : Holding) (rising : AreBelowParents frames) (newest : AreUpTo frames child) where
@@ -74,15 +73,15 @@ module _ (frames : Frames) (parent child : ℕ) (holding : Holding) (rising : Ar
   grown_at (Some f) e fits = record {
     frame = record f { holdings = f.holdings ++ holding ∷ [] };
     one = record { changed = at_set frames child f _ e; others = λ n apart. by_set frames child f _ n e apart };
-    of = eq_of f.parent parent (and_parts _ _ fits).0;
-    was_of = λ other is. sym is.of ∙ ap (λ (g : Frame). g.parent) (same_frame (frame_at frames child) is.frame f is.active e) ∙ eq_of f.parent parent (and_parts _ _ fits).0;
+    of = eqb-true f.parent parent (and_parts _ _ fits).0;
+    was_of = λ other is. sym is.of ∙ ap (λ (g : Frame). g.parent) (one_answer (frame_at frames child) is.frame f is.active e) ∙ eqb-true f.parent parent (and_parts _ _ fits).0;
     held = λ queue mode held. elim (more_lets f.holdings queue mode holding held) [
       | inl was ↦ inl (record { frame = f; active = e; held = was })
       | inr now ↦ inr (lets_parts queue mode holding now)
     ];
     still = λ queue mode is.
         let P : Frame → Type 0 = λ g. holds g.holdings queue mode ≡ true in
-        still_lets f.holdings queue mode holding (subst P (same_frame (frame_at frames child) is.frame f is.active e) is.held);
+        still_lets f.holdings queue mode holding (subst P (one_answer (frame_at frames child) is.frame f is.active e) is.held);
     new = λ mode a. now_lets f.holdings mode holding a;
     childless = childless frames child rising newest;
   }
@@ -97,7 +96,7 @@ module _ (frames : Frames) (parent child : ℕ) (holding : Holding) (rising : Ar
         | inl same ↦
             let P : ℕ → Type 0 = λ k. IsChild (enlisted frames parent child holding) p k in
             let is_child = subst P same is in
-            let one : p ≡ parent = sym is_child.of ∙ ap (λ (g : Frame). g.parent) (same_frame (frame_at (enlisted frames parent child holding) child) is_child.frame grown.frame is_child.active grown.one.changed) ∙ grown.of in
+            let one : p ≡ parent = sym is_child.of ∙ ap (λ (g : Frame). g.parent) (one_answer (frame_at (enlisted frames parent child holding) child) is_child.frame grown.frame is_child.active grown.one.changed) ∙ grown.of in
             omega arith
         | inr apart ↦ rising p n (record { frame = is.frame; active = sym (grown.one.others n apart) ∙ is.active; of = is.of })
       ]
@@ -109,8 +108,8 @@ pub shrunk_without : (frames : Frames) (parent child : ℕ) → IsStrictlySorted
 shrunk_without frames parent child sorted is none = record {
   one = record { changed = at_removed frames child sorted; others = λ n apart. by_removed frames child n sorted apart };
   was = is;
-  childless = λ n below. not_true (below.frame.parent == child) (found_passes (λ f. not (f.1.parent == child)) frames n below.frame none below.active)
-      (let P : ℕ → Type 0 = λ k. (below.frame.parent == k) ≡ true in subst P below.of (eq_same below.frame.parent));
+  childless = λ n below. both_ways (below.frame.parent == child) (not-true (below.frame.parent == child) (found_passes (λ f. not (f.1.parent == child)) frames n below.frame none below.active))
+      (let P : ℕ → Type 0 = λ k. (below.frame.parent == k) ≡ true in subst P below.of (eq-eqb below.frame.parent below.frame.parent refl));
 }
 
 pub below_shrunk : (before after : Frames) (parent child : ℕ) → IsShrunk before after parent child → AreBelowParents before → AreBelowParents after
@@ -167,7 +166,7 @@ lent_alike frames child (Some g) e = record {
   there = λ n f is. elim (cases_eq n child) [
     | inl same ↦
         let P : ℕ → Type 0 = λ k. frame_at frames k ≡ Some f in
-        let one = same_frame (frame_at frames child) f g (subst P same is) e in
+        let one = one_answer (frame_at frames child) f g (subst P same is) e in
         let lent : Frame = record g { lent = true } in
         let Q : ℕ → Type 0 = λ k. frame_at (lent_at frames child (Some g)) k ≡ Some lent in
         (lent, subst Q (sym same) (at_set frames child g lent e), ap (λ (h : Frame). h.parent) (sym one), ap (λ (h : Frame). h.holdings) (sym one))
@@ -182,7 +181,7 @@ lent_back frames child (Some g) e = record {
     | inl same ↦
         let lent : Frame = record g { lent = true } in
         let P : ℕ → Type 0 = λ k. frame_at (lent_at frames child (Some g)) k ≡ Some f in
-        let one = same_frame (frame_at (lent_at frames child (Some g)) child) f lent (subst P same is) (at_set frames child g lent e) in
+        let one = one_answer (frame_at (lent_at frames child (Some g)) child) f lent (subst P same is) (at_set frames child g lent e) in
         let Q : ℕ → Type 0 = λ k. frame_at frames k ≡ Some g in
         (g, subst Q (sym same) e, ap (λ (h : Frame). h.parent) (sym one), ap (λ (h : Frame). h.holdings) (sym one))
     | inr apart ↦ (f, sym (by_set frames child g _ n e apart) ∙ is, refl, refl)

@@ -12,8 +12,8 @@ use Rattle.pop_order.specs.Turns.{IsHolder}
 use Rattle.pop_order.specs.Kept.{HasHolders, HasMakers}
 use Rattle.pop_order.specs.Makers.{Maker, makes}
 use Rattle.pop_order.specs.Steps.{IsGrown, IsMakerNoted, needless, noted}
-use Rattle.pop_order.proofs.Blocking.{same_frame}
 use Rattle.pop_order.proofs.Changes.{came_in, still_in, in_after, maker_in, maker_still, maker_after}
+use Rattle.swan_model.proofs.Elements.{one_answer}
 
 -- ---- another set with the same children
 
@@ -59,13 +59,13 @@ module _ (before after : Frames) (parent child : ℕ) (holding : Holding) (grown
 
   its_parent : (p : ℕ) → IsChild after p child → p ≡ parent
   its_parent p is =
-      sym is.of ∙ ap (λ (f : Frame). f.parent) (same_frame (frame_at after child) is.frame grown.frame is.active grown.one.changed) ∙ grown.of
+      sym is.of ∙ ap (λ (f : Frame). f.parent) (one_answer (frame_at after child) is.frame grown.frame is.active grown.one.changed) ∙ grown.of
 
   -- what the child holds, it held before or was given now
   its_queues : (q : ℕ) (m : Mode) → IsHolder after q m child → IsHolder before q m child ⊎ ((holding.number ≡ q) × (allows holding.mode m ≡ true))
   its_queues q m is =
       let P : Frame → Type 0 = λ f. holds f.holdings q m ≡ true in
-      grown.held q m (subst P (same_frame (frame_at after child) is.frame grown.frame is.active grown.one.changed) is.held)
+      grown.held q m (subst P (one_answer (frame_at after child) is.frame grown.frame is.active grown.one.changed) is.held)
 
   was_child : (q : ℕ) (m : Mode) → IsHolder before q m child → IsChild before parent child
   was_child q m is =

@@ -1,6 +1,6 @@
 -- Facts on the sets of children, on holdings and on what the sets have of them.
-use Rattle.std.proofs.Common.{◌≡◌, ℕ, ◌+◌, ◌<◌, ◌≤◌, Bool, true, false, ◌&&◌, ◌||◌, ◌==◌, List, take, get_or, length, sym, ap, subst, ◌∙◌, ◌⊎◌, inl, inr, Option, Some, None, IfSome, IfNone}
-use Rattle.std.proofs.lemmas.Bool.{false≢true}
+use Rattle.std.proofs.Common.{◌≡◌, ℕ, ◌+◌, ◌<◌, ◌≤◌, Bool, true, false, ◌&&◌, ◌||◌, ◌==◌, List, take, get_or, length, sym, ap, subst, ◌∙◌, ◌⊎◌, inl, inr, Option, Some, None, IfSome, IfNone, refl}
+use Rattle.std.proofs.lemmas.Bool.{false≢true, eqb-true, eq-eqb, or_cases, or_right, and_parts, and_from}
 use Rattle.std.proofs.lemmas.List.Folds.{list_any_more, list_any_kept}
 use Rattle.swan_model.specs.Rights.{allows}
 use Rattle.swan_model.specs.SerialState.{Holding}
@@ -11,7 +11,6 @@ use Rattle.pop_order.specs.Frames.{Frames, holds}
 use Rattle.pop_order.specs.Turns.{IsPoppingChild}
 use Rattle.pop_order.specs.Poppers.{IsAmong}
 use Rattle.pop_order.specs.Kept.{HasHolders}
-use Rattle.pop_order.proofs.Flags.{eq_of, eq_same, or_cases, or_right, and_parts, and_both}
 
 -- ---- holdings
 
@@ -25,14 +24,14 @@ holds_more hs i queue mode h l e t =
     let more : (holds (take i hs) queue mode || lets queue mode (get_or hs i h)) ≡ true = sym (list_any_more (lets queue mode) hs i h l) ∙ t in
     elim (or_cases (holds (take i hs) queue mode) (lets queue mode (get_or hs i h)) more) [
       | inl before ↦ inl before
-      | inr last ↦ let parts = and_parts _ _ (ap (lets queue mode) e ∙ last) in inr (eq_of h.number queue parts.0, parts.1)
+      | inr last ↦ let parts = and_parts _ _ (ap (lets queue mode) e ∙ last) in inr (eqb-true h.number queue parts.0, parts.1)
     ]
 
 pub holds_last : (hs : List Holding) (i : ℕ) (mode : Mode) (h : Holding) → i < length hs → h ≡ get_or hs i h
     → allows h.mode mode ≡ true → holds (take (i + 1) hs) h.number mode ≡ true
 holds_last hs i mode h l e a =
     list_any_more (lets h.number mode) hs i h l
-    ∙ or_right _ _ (ap (lets h.number mode) (sym e) ∙ and_both _ _ (eq_same h.number) a)
+    ∙ or_right _ _ (ap (lets h.number mode) (sym e) ∙ and_from _ _ (eq-eqb h.number h.number refl) a)
 
 -- ---- the search for the oldest popper
 

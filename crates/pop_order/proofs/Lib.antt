@@ -1,7 +1,6 @@
 -- Lemmas on the turns of poppers. Each group stands on those before it; what a file is for stands at its head.
 
--- tests as facts, no frames, and the sets of children
-pub mod Flags
+-- no frames, and the sets of children
 pub mod Blocking
 pub mod Empty
 pub mod Entries

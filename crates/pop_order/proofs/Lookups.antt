@@ -1,10 +1,10 @@
 -- What every entry passes, one that is found passes.
 use Rattle.std.proofs.Common.{◌≡◌, ℕ, Bool, true, false, cond, Some, [], ◌∷◌, refl, sym, ap, ◌∙◌}
+use Rattle.std.proofs.lemmas.Bool.{and_parts}
 use Rattle.std.proofs.lemmas.Option.{none-some}
 use Rattle.std.specs.BTreeMap.{is_at}
 use Rattle.std.specs.List.{list_all}
 use Rattle.std.specs.Ordering.{nat_cmp}
-use Rattle.pop_order.proofs.Flags.{and_parts}
 use Rattle.pop_order.specs.Frames.{Frame, Frames, frame_at}
 use Rattle.swan_model.proofs.Lookups.{equal_at}
 

@@ -1,6 +1,6 @@
 -- The ways up from two frames to where they meet.
 use Rattle.std.proofs.Common.{◌≡◌, ◌≢◌, ℕ, ◌<◌, true, false, Option, None, Some, refl, sym, subst, ◌∙◌, inl, inr, arith, nat_lt}
-use Rattle.std.proofs.lemmas.Bool.{cases_eq, false≢true}
+use Rattle.std.proofs.lemmas.Bool.{cases_eq, false≢true, ltb-true}
 use Rattle.std.proofs.lemmas.Bool.Decides.{nat_tests}
 use Rattle.pop_order.specs.Frames.{Frame, Frames, frame_at}
 use Rattle.pop_order.specs.Order.{IsChild, IsAtOrBelow, at, below, ComesBefore, inside, aside}
@@ -25,9 +25,6 @@ pub record IsMeeting (frames : Frames) (number other left right : ℕ) (left_chi
   pub left_way : IsWay frames number left left_child
   pub right_way : IsWay frames other right right_child
   pub common : (over : ℕ) → IsAtOrBelow frames over number → IsAtOrBelow frames over other → IsAtOrBelow frames over left × IsAtOrBelow frames over right
-
-lt_of : (a b : ℕ) → nat_lt a b ≡ true → a < b
-lt_of a b h = grind (arith, nat_tests)
 
 not_lt_of : (a b : ℕ) → nat_lt a b ≡ false → a ≢ b → b < a
 not_lt_of a b h apart = grind (arith, nat_tests)
@@ -86,7 +83,7 @@ module _ (frames : Frames) (rising : AreBelowParents frames) (number other node 
       inside (λ e. omega (arith, le_below frames rising left number m.left_way.1, rising node left m.left_way.0))
       (subst P same (over frames number node (Some left) m.left_way))
   met (Some left) (Some right) m older =
-      aside node left right m.left_way.0 m.right_way.0 (lt_of left right older) m.left_way.1 m.right_way.1
+      aside node left right m.left_way.0 m.right_way.0 (ltb-true left right older) m.left_way.1 m.right_way.1
 
   pub not_met : (left_child right_child : Option ℕ) → IsMeeting frames number other node node left_child right_child → is_older left_child right_child ≡ false
       → ¬ ComesBefore frames number other

@@ -1,6 +1,6 @@
 -- What giving a child back does, queue by queue.
 use Rattle.std.proofs.Common.{◌≡◌, ◌≢◌, ℕ, ◌+◌, ◌<◌, Bool, true, false, ◌&&◌, ◌||◌, ◌==◌, Some, List, [], ◌∷◌, take, get_or, length, refl, sym, ap, subst, ◌∙◌, ◌⊎◌, inl, inr}
-use Rattle.std.proofs.lemmas.Bool.{false≢true}
+use Rattle.std.proofs.lemmas.Bool.{false≢true, eqb-true, or_cases}
 use Rattle.std.proofs.lemmas.List.Folds.{list_any_more}
 use Rattle.std.specs.List.Sorted.{IsStrictlySortedBy}
 use Rattle.std.specs.Map.{keys_of}
@@ -15,10 +15,9 @@ use Rattle.pop_order.specs.Turns.{IsHolder}
 use Rattle.pop_order.specs.Kept.{IsKeptFor}
 use Rattle.pop_order.specs.Makers.{Maker}
 use Rattle.pop_order.specs.Steps.{IsShrunk, is_given, HoldsNoOther}
-use Rattle.pop_order.proofs.Blocking.{same_frame}
 use Rattle.pop_order.proofs.Enlisting.{shrunk_without}
 use Rattle.pop_order.proofs.Shrinking.{holders_untouched, makers_untouched}
-use Rattle.pop_order.proofs.Flags.{eq_of, or_cases}
+use Rattle.swan_model.proofs.Elements.{one_answer}
 
 -- a queue that isn't the last one of the holdings so far was among those before
 pub given_before : (hs : List Holding) (i queue : ℕ) (h : Holding) → i < length hs → h ≡ get_or hs i h → queue ≢ h.number
@@ -28,7 +27,7 @@ given_before hs i queue h l e apart t =
     let more : (is_given (take i hs) queue || test (get_or hs i h)) ≡ true = sym (list_any_more test hs i h l) ∙ t in
     elim (or_cases (is_given (take i hs) queue) (test (get_or hs i h)) more) [
       | inl before ↦ before
-      | inr last ↦ absurd (apart (sym (eq_of h.number queue (ap test e ∙ last))))
+      | inr last ↦ absurd (apart (sym (eqb-true h.number queue (ap test e ∙ last))))
     ]
 
 given_and : (a b c d : Bool) → ((a && b) || c) ≡ true → (c ≡ true → d ≡ true) → (a || d) ≡ true
@@ -74,4 +73,4 @@ module _ (frames after : Frames) (child parent : ℕ) (f : Frame) (hs : List Hol
   holds_no_other same queue mode holder =
       let P : List Holding → Type 0 = λ k. is_given k queue ≡ true in
       let Q : Frame → Type 0 = λ g. holds g.holdings queue mode ≡ true in
-      subst P same (holds_given f.holdings queue mode (subst Q (same_frame (frame_at frames child) holder.frame f holder.active active) holder.held))
+      subst P same (holds_given f.holdings queue mode (subst Q (one_answer (frame_at frames child) holder.frame f holder.active active) holder.held))

@@ -1,97 +1,17 @@
 -- The order of a tree of frames is the serial order.
-use Rattle.std.proofs.Common.{inl, inr, ◌≡◌, ◌≢◌, ℕ, suc, zero, ◌+◌, ◌-◌, ◌<◌, Bool, true, false, ◌&&◌, cond, Some, List, [], ◌∷◌, ◌++◌, length, refl, sym, ap, subst, ◌∙◌, append_assoc, arith, nat_lt}
-use Rattle.std.proofs.lemmas.Bool.{and_parts, cases_eq}
-use Rattle.std.proofs.lemmas.Bool.Decides.{nat_tests}
+use Rattle.std.proofs.Common.{inl, inr, ◌≡◌, ◌≢◌, ℕ, ◌<◌, true, Some, List, [], ◌∷◌, ◌++◌, sym, ap, subst, ◌∙◌, append_assoc, arith}
+use Rattle.std.proofs.lemmas.Bool.{cases_eq, lt-ltb, ltb-true}
 use Rattle.std.proofs.lemmas.List.{append-nil}
-use Rattle.std.proofs.lemmas.Option.{slice_get-get_or, same_Some, none-some}
-use Rattle.std.specs.Prelude.{slice_get}
-use Rattle.swan_model.specs.declared.script.Entry.{Entry}
 use Rattle.swan_model.specs.declared.script.Script.{Script}
-use Rattle.swan_model.specs.Granted.{is_spawn}
-use Rattle.swan_model.specs.Nested.{spawn_time, IsEntryUnder, IsEntryOf, IsNested}
-use Rattle.swan_model.specs.SerialTime.{Progress, Reading, is_of, times, time, places_from, frame_of, point, is_earlier}
-use Rattle.swan_model.proofs.Paths.{same_path}
+use Rattle.swan_model.specs.Nested.{spawn_time, IsEntryUnder, IsNested}
+use Rattle.swan_model.specs.SerialTime.{Progress, Reading, frame_of, point, is_earlier}
 use Rattle.pop_order.specs.Frames.{Frames}
 use Rattle.pop_order.specs.Order.{IsChild, IsAtOrBelow, at, below, ComesBefore, inside, aside}
 use Rattle.pop_order.specs.Readings.{IsAt, IsRead}
 use Rattle.pop_order.proofs.Before.{one_is_before}
 use Rattle.pop_order.proofs.Lineage.{through}
-
--- ---- tests and places
-
-is_below : (x y : ℕ) → x < y → nat_lt x y ≡ true
-is_below x y h = grind (arith, nat_tests)
-
-below_is : (x y : ℕ) → nat_lt x y ≡ true → x < y
-below_is x y h = grind (arith, nat_tests)
-
-below_itself : (x : ℕ) → x < x → ⊥
-below_itself x h = omega arith
-
--- what stands at a place of those that pass a test
-record StandsAt (test : Entry → Bool) (n : ℕ) (es : List Entry) (t : ℕ) : Type 0 where
-  step : ℕ
-  place : t ≡ n + step
-  entry : Entry
-  stands : slice_get es step ≡ Some entry
-  passes : test entry ≡ true
-
-further : (test : Entry → Bool) (n : ℕ) (e : Entry) (es : List Entry) (t : ℕ) → StandsAt test (n + 1) es t → StandsAt test n (e ∷ es) t
-further test n e es t s = record { step = suc s.step; place = omega (arith, s.place); entry = s.entry; stands = s.stands; passes = s.passes }
-
-at_place : (test : Entry → Bool) (n : ℕ) (es : List Entry) (k t : ℕ) → slice_get (places_from test n es) k ≡ Some t → StandsAt test n es t
-at_place test n [] k t h = absurd (none-some t h)
-at_place test n (e ∷ es) k t h = by (test e) refl k h (λ j g. at_place test (n + 1) es j t g) where
-  by : (b : Bool) → test e ≡ b → (k : ℕ) → slice_get (cond b (n ∷ places_from test (n + 1) es) (places_from test (n + 1) es)) k ≡ Some t
-      → ((j : ℕ) → slice_get (places_from test (n + 1) es) j ≡ Some t → StandsAt test (n + 1) es t) → StandsAt test n (e ∷ es) t
-  by true is zero h rest = let same = same_Some n t h in record { step = 0; place = omega arith; entry = e; stands = refl; passes = is }
-  by true is (suc k) h rest = further test n e es t (rest k h)
-  by false is k h rest = further test n e es t (rest k h)
-
--- places rise
-rising_places : (test : Entry → Bool) (n : ℕ) (es : List Entry) (i j a b : ℕ) → i < j
-    → slice_get (places_from test n es) i ≡ Some a → slice_get (places_from test n es) j ≡ Some b → a < b
-rising_places test n [] i j a b lt h k = absurd (none-some a h)
-rising_places test n (e ∷ es) i j a b lt h k = by (test e) i j lt h k (λ p q l x y. rising_places test (n + 1) es p q a b l x y) where
-  by : (t : Bool) (i j : ℕ) → i < j
-      → slice_get (cond t (n ∷ places_from test (n + 1) es) (places_from test (n + 1) es)) i ≡ Some a
-      → slice_get (cond t (n ∷ places_from test (n + 1) es) (places_from test (n + 1) es)) j ≡ Some b
-      → ((p q : ℕ) → p < q → slice_get (places_from test (n + 1) es) p ≡ Some a → slice_get (places_from test (n + 1) es) q ≡ Some b → a < b) → a < b
-  by true zero zero l h k rest = absurd (omega arith)
-  by true zero (suc j) l h k rest =
-      let first = same_Some n a h in
-      let later = at_place test (n + 1) es j b k in
-      omega (arith, later.place)
-  by true (suc i) zero l h k rest = absurd (omega arith)
-  by true (suc i) (suc j) l h k rest = rest i j (omega arith) h k
-  by false i j l h k rest = rest i j l h k
-
-module _ (s : Script) where
-  stands_here : (path : List ℕ) (test : Entry → Bool) (t : ℕ) → ((e : Entry) → test e ≡ true → is_of path e ≡ true)
-      → StandsAt test 0 s.entries t → IsEntryOf s path t
-  stands_here path test t implies here =
-      let P : ℕ → Type 0 = λ k. slice_get s.entries k ≡ Some here.entry in
-      let same : here.step ≡ t = omega (arith, here.place) in
-      record { entry = here.entry; stands = subst P same here.stands; own = same_path here.entry.path path (implies here.entry here.passes) }
-
-  -- the spawn of a child is an entry of its parent
-  spawn_is_own : (path : List ℕ) (child spawn : ℕ) → spawn_time s path child ≡ Some spawn → IsEntryOf s path spawn
-  spawn_is_own path child spawn h =
-      stands_here path (λ e. is_of path e && is_spawn e.deed) spawn (λ e passes. (and_parts (is_of path e) (is_spawn e.deed) passes).0)
-      (at_place (λ e. is_of path e && is_spawn e.deed) 0 s.entries child spawn h)
-
-  spawns_rise : (path : List ℕ) (i j a b : ℕ) → i < j → spawn_time s path i ≡ Some a → spawn_time s path j ≡ Some b → a < b
-  spawns_rise path i j a b lt h k = rising_places (λ e. is_of path e && is_spawn e.deed) 0 s.entries i j a b lt h k
-
-  point_is : (p : Progress) → p.done < length (times s p.path) → point s p ≡ time s p.path p.done
-  point_is p left = ap (λ b. cond b (time s p.path p.done) (time s p.path (length (times s p.path) - 1) + 1)) (is_below p.done (length (times s p.path)) left)
-
-  point_own : (p : Progress) → p.done < length (times s p.path) → IsEntryOf s p.path (point s p)
-  point_own p left =
-      let P : ℕ → Type 0 = λ t. IsEntryOf s p.path t in
-      subst P (sym (point_is p left))
-      (stands_here p.path (is_of p.path) (time s p.path p.done) (λ e passes. passes)
-      (at_place (is_of p.path) 0 s.entries p.done (time s p.path p.done) (slice_get-get_or (times s p.path) p.done 0 left)))
+use Rattle.swan_model.proofs.TaskEntries.{point_own, spawn_own}
+use Rattle.swan_model.proofs.Points.{spawns_rise}
 
 module _ (s : Script) (r : Reading) where
   same_progress : (n : ℕ) (a b : IsAt s r n) → a.progress ≡ b.progress
@@ -141,7 +61,7 @@ module _ (frames : Frames) (s : Script) (r : Reading) (nested : IsNested s) (rea
       let spawned = subst P path two.spawned in
       let order = spawns_rise s one.above.progress.path one.index two.index one.spawn two.spawn (read.siblings p older younger c d lt) one.spawned spawned in
       let before = nested.whole one.above.progress.path one.index one.spawn (point s a.progress) two.spawn one.spawned
-      (under_child p older n c a x) (spawn_is_own s one.above.progress.path two.index two.spawn spawned) order in
+      (under_child p older n c a x) (spawn_own s one.above.progress.path two.index two.spawn spawned) order in
       let later = nested.after two.above.progress.path two.index two.spawn (point s b.progress) two.spawned (under_child p younger m d b y) in
       omega arith
 
@@ -168,7 +88,7 @@ module _ (frames : Frames) (s : Script) (r : Reading) (nested : IsNested s) (rea
       let two : y.progress ≡ b = cc in
       let P : Progress → Type 0 = λ p. is_earlier s p b ≡ true in
       let Q : Progress → Type 0 = λ p. is_earlier s x.progress p ≡ true in
-      subst P one (subst Q two (is_below (point s x.progress) (point s y.progress) (points_rise n m x y before)))
+      subst P one (subst Q two (lt-ltb (point s x.progress) (point s y.progress) (points_rise n m x y before)))
 
 -- who comes before another in a tree is earlier in serial time
 pub order_is_serial : (frames : Frames) (s : Script) (r : Reading) → IsNested s → IsRead frames s r → (n m : ℕ) (a b : Progress)
@@ -180,18 +100,19 @@ pub serial_is_order : (frames : Frames) (s : Script) (r : Reading) → IsNested 
     → IsAtOrBelow frames top n → IsAtOrBelow frames top m → frame_of r n ≡ Some a → frame_of r m ≡ Some b → is_earlier s a b ≡ true
     → ComesBefore frames n m
 serial_is_order frames s r nested read top n m a b x y h k earlier =
-    let lt = below_is (point s a) (point s b) earlier in
+    let lt = ltb-true (point s a) (point s b) earlier in
     elim (cases_eq n m) [
       | inl same ↦
           let P : ℕ → Type 0 = λ z. frame_of r z ≡ Some a in
           let e : Some a ≡ Some b = sym (subst P same h) ∙ k in
           let one : a ≡ b = cc in
           let Q : Progress → Type 0 = λ p. point s a < point s p in
-          absurd (below_itself (point s a) (subst Q (sym one) lt))
+          let never = subst Q (sym one) lt in
+          absurd (omega (arith, never))
       | inr apart ↦ elim (one_is_before frames top n m apart x y) [
         | inl before ↦ before
         | inr after ↦
-            let back = below_is (point s b) (point s a) (order_is_serial frames s r nested read m n b a after k h) in
+            let back = ltb-true (point s b) (point s a) (order_is_serial frames s r nested read m n b a after k h) in
             absurd (omega arith)
       ]
     ]

@@ -10,8 +10,8 @@ use Rattle.pop_order.specs.Turns.{IsHolder}
 use Rattle.pop_order.specs.Kept.{AreBelowParents, HasHolders, HasMakers}
 use Rattle.pop_order.specs.Walk.{IsLed, here, further, IsFirstUnder, IsFirstOf, IsFirstEarlier, IsSooner, late, second, taken}
 use Rattle.pop_order.proofs.Before.{one_is_first, before_before}
-use Rattle.pop_order.proofs.Blocking.{same_frame}
 use Rattle.pop_order.proofs.Lineage.{below_below, le_below}
+use Rattle.swan_model.proofs.Elements.{one_answer}
 
 -- ---- down from a maker
 
@@ -86,7 +86,7 @@ module _ (frames : Frames) (queue : ℕ) where
   by_held n f true active e = inl (record { frame = f; active = active; held = e })
   by_held n f false active e = inr (λ holder.
       let P : Frame → Type 0 = λ g. holds g.holdings queue Push ≡ true in
-      false≢true (sym e ∙ subst P (same_frame (frame_at frames n) holder.frame f holder.active active) holder.held))
+      false≢true (sym e ∙ subst P (one_answer (frame_at frames n) holder.frame f holder.active active) holder.held))
 
   by_frame : (n : ℕ) (found : Option Frame) → frame_at frames n ≡ found → IsHolder frames queue Push n ⊎ (IsHolder frames queue Push n → ⊥)
   by_frame n None e = inr (λ holder. let never : None ≡ Some holder.frame = sym e ∙ holder.active in cc)

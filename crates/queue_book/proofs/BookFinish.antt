@@ -1,10 +1,9 @@
 -- What holds of hyperqueues in plain form once a frame has finished.
 use Rattle.std.proofs.Common.{◌≡◌, ◌≢◌, ℕ, ◌+◌, Bool, true, false, ◌&&◌, not, ◌==◌, Option, Some, None, List, [], ◌∷◌, length, refl, sym, ap, subst, ◌∙◌, inl, inr, arith, length-append}
-use Rattle.std.proofs.lemmas.Bool.{cases_eq, false≢true}
+use Rattle.std.proofs.lemmas.Bool.{cases_eq, false≢true, and_parts, eqb-true, eq-eqb, both_ways, not-true}
 use Rattle.std.specs.Option.{option_map}
 use Rattle.std.specs.Prelude.{slice_get, is_some, if◌then◌else◌}
 use Rattle.slab.specs.Slab.{Slab}
-use Rattle.pop_order.proofs.Flags.{and_parts, eq_of, eq_same, not_true}
 use Rattle.pop_order.specs.Frames.{Frames, without}
 use Rattle.swan_model.specs.declared.script.Script.{Script}
 use Rattle.swan_model.specs.QueueFollows.{next_queue_deed, origin_in}
@@ -25,7 +24,6 @@ use Rattle.queue_book.specs.declared.live_frames.LiveFrames.{LiveFrames}
 use Rattle.queues.proofs.ActiveAfter.{one_gone}
 use Rattle.queue_book.proofs.ChainChanges.{chained_same}
 use Rattle.queues.proofs.Finishing.{finished_follows}
-use Rattle.queues.proofs.Frames.{same_frame}
 use Rattle.queue_book.proofs.LiveKept.{key_none, kept_live, live_gone, place_has}
 use Rattle.queues.proofs.Match.{matches_finish, matches_finish_other}
 use Rattle.queue_book.proofs.PlainSaid.{on_next}
@@ -34,6 +32,7 @@ use Rattle.queues.proofs.TreeSpawners.{spawners_finish}
 use Rattle.queues.proofs.TreeKept.{tree_finish}
 use Rattle.queues.proofs.TreeOwners.{none_has, owners_finish, owners_kept_finish, owners_none}
 use Rattle.queues.proofs.TurnsCalls.{turns_finish}
+use Rattle.swan_model.proofs.Elements.{one_answer}
 
 in_use_before : (state : QueueState) (n q : ℕ) (maker : QueueMaker) → IsInUse (after_finish state n) q maker → IsInUse state q maker
 in_use_before state n q maker (inl of_root) = inl of_root
@@ -63,7 +62,7 @@ module _ (name : Option Script) (state : QueueState) (lines : ℕ → Chunks) (i
               matches_finish_other s lawful state q (origin_in s maker) (end_time s (maker_path maker)) (lines q) (line.matches free (in_use_before state n q maker in_use) s named lawful)
               n may.frame may.may.live (λ index own.
               let owner = line.owners.owners index n own in
-              let same : owner.0 ≡ may.frame = same_frame (active state n) owner.0 may.frame owner.1 may.may.live in
+              let same : owner.0 ≡ may.frame = one_answer (active state n) owner.0 may.frame owner.1 may.may.live in
               false≢true (sym lacks ∙ ap (λ (f : ActiveFrame). has_queue f q) (sym same) ∙ owner.2));
           emptied = line.emptied;
         }
@@ -97,7 +96,7 @@ module _ (name : Option Script) (state : QueueState) (lines : ℕ → Chunks) (i
           → IsLine name (after_finish state n) q maker (if b then [] else after_close n (lines q))
       given_up place at true yes_over =
           let parts = and_parts place.is_maker (not (n == 0)) yes_over in
-          line_over (λ root. not_true (n == 0) parts.1 (ap (λ k. k == 0) root ∙ eq_same 0)) (agrees.made q place maker at made parts.0)
+          line_over (λ root. both_ways (n == 0) (not-true (n == 0) parts.1) (ap (λ k. k == 0) root ∙ eq-eqb 0 0 refl)) (agrees.made q place maker at made parts.0)
       given_up place at false stays = line_closed
 
       by : (o : Option OwnChunk) → own_chunk_in kept.places q ≡ o → IsLine name (after_finish state n) q maker (line_after_end n o (lines q))
@@ -126,7 +125,7 @@ module _ (name : Option Script) (state : QueueState) (frames : LiveFrames) (head
   keys_own : (m q : ℕ) → own_keys n kept.places (key_at frames) m q ≡ key_at frames m q
   keys_own m q = by (m == n) refl where
     by : (b : Bool) → (m == n) ≡ b → (if b then option_map (λ (place : OwnChunk). place.key) (own_chunk_in kept.places q) else key_at frames m q) ≡ key_at frames m q
-    by true e = sym (ap (λ k. key_at frames k q) (eq_of m n e) ∙ ap (λ o. key_in o q) at)
+    by true e = sym (ap (λ k. key_at frames k q) (eqb-true m n e) ∙ ap (λ o. key_in o q) at)
     by false e = refl
 
   pub alone_in : IsAlone n kept.places (key_at frames)
@@ -155,5 +154,5 @@ module _ (name : Option Script) (state : QueueState) (frames : LiveFrames) (head
     keys_after : (m q : ℕ) → key_at after_frames m q ≡ own_keys n [] (key_at frames) m q
     keys_after m q = by (m == n) refl where
       by : (b : Bool) → (m == n) ≡ b → key_at after_frames m q ≡ (if b then None else key_at frames m q)
-      by true e = ap (λ k. key_at after_frames k q) (eq_of m n e) ∙ ap (λ o. key_in o q) one.changed
-      by false e = ap (λ o. key_in o q) (one.others m (λ here. false≢true (sym e ∙ ap (λ k. k == n) here ∙ eq_same n)))
+      by true e = ap (λ k. key_at after_frames k q) (eqb-true m n e) ∙ ap (λ o. key_in o q) one.changed
+      by false e = ap (λ o. key_in o q) (one.others m (λ here. false≢true (sym e ∙ ap (λ k. k == n) here ∙ eq-eqb n n refl)))

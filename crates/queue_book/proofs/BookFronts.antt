@@ -28,13 +28,14 @@ use Rattle.queue_book.specs.declared.chains.Front.TheVariants as front
 use Rattle.queue_book.specs.declared.live_frames.LiveFrames.{LiveFrames}
 use Rattle.queues.proofs.Above.{maker_of}
 use Rattle.queue_book.proofs.ChainLoops.{line_same}
-use Rattle.queues.proofs.Frames.{active_number, has_held, same_frame}
+use Rattle.queues.proofs.Frames.{active_number, has_held}
 use Rattle.queue_book.proofs.OpenOwners.{open_first_owner, open_found, open_own_chunk, owner_has, pushes_kept}
 use Rattle.queues.proofs.Match.{holds_now, is_empty, none_pops, not_ripe}
 use Rattle.queue_book.proofs.PlainDeeds.{plain_trim}
 use Rattle.queue_book.proofs.PlainSaid.{on_queue, turn_on}
 use Rattle.queues.proofs.TreeTurns.{earlier_owner_pushes, first_owner_is_first, one_owner}
 use Rattle.queues.proofs.TurnsKept.{pops_active, pops_turn}
+use Rattle.swan_model.proofs.Elements.{one_answer}
 
 -- ---- the first chunk
 
@@ -278,7 +279,7 @@ module _ (name : Option Script) (state : QueueState) (frames : LiveFrames) (head
       pub looked_all : (answer : Tested) → IsTurnTold turns n q answer → IsFrontTold frames (key_at frames) after_heads after_nodes is.lines n q answer
           → (f : ActiveFrame) → active state n ≡ Some f → IsTested name state f q answer
       looked_all answer turned told f live =
-          let same_one : may.frame ≡ f = same_frame (active state n) may.frame f may.may.live live in
+          let same_one : may.frame ≡ f = one_answer (active state n) may.frame f may.may.live live in
           let P : ActiveFrame → Type 0 = λ g. IsTested name state g q answer in
           subst P same_one (looked answer turned told)
 
@@ -289,7 +290,7 @@ module _ (name : Option Script) (state : QueueState) (frames : LiveFrames) (head
     pub popped_all : IsOnTurn name state n → IsTurnTold turns n q tested.Holds → (told : IsFrontTold frames (key_at frames) after_heads after_nodes is.lines n q tested.Holds) (value : Value)
         → value ≡ (found_item told).value → (f : ActiveFrame) → active state n ≡ Some f → IsPopped name state f q (popped.Item value)
     popped_all turn turned told value value_is f live =
-        let same_one : may.frame ≡ f = same_frame (active state n) may.frame f may.may.live live in
+        let same_one : may.frame ≡ f = one_answer (active state n) may.frame f may.may.live live in
         let maker = made name state frames is.live (in_line q without_spent is.lines) trim n q may turn in
         let P : ActiveFrame → Type 0 = λ g. IsPopped name state g q (popped.Item value) in
         let Q : Value → Type 0 = λ v. IsPopped name state may.frame q (popped.Item v) in

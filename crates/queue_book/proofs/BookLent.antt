@@ -1,9 +1,9 @@
 -- What holds of hyperqueues in plain form after ends were lent, and after they came back.
 use Rattle.std.proofs.Common.{◌≡◌, ℕ, Bool, true, false, ◌==◌, Option, Some, None, List, [], refl, sym, ap, ◌∙◌, arith}
+use Rattle.std.proofs.lemmas.Bool.{and_parts, eqb-true}
 use Rattle.std.specs.Option.{option_map}
 use Rattle.std.specs.Prelude.{if◌then◌else◌}
 use Rattle.slab.specs.Slab.{Slab}
-use Rattle.pop_order.proofs.Flags.{and_parts, eq_of}
 use Rattle.pop_order.specs.Frames.{Frames}
 use Rattle.swan_model.specs.declared.script.Script.{Script}
 use Rattle.swan_model.specs.QueueFollows.{AreByEnds}
@@ -92,7 +92,7 @@ by_none s path from to same = record { order = omega (arith, same); each = λ k 
 
 lent_with : (kept : Option KeptFrame) (deeds : ℕ) → is_lent_with kept deeds ≡ true → (one : KeptFrame) × (kept ≡ Some one) × (one.is_lent ≡ true) × (one.deeds ≡ deeds)
 lent_with None deeds none = let never : false ≡ true = none in absurd (cc)
-lent_with (Some one) deeds both = let parts = and_parts one.is_lent (one.deeds == deeds) both in (one, refl, parts.0, eq_of one.deeds deeds parts.1)
+lent_with (Some one) deeds both = let parts = and_parts one.is_lent (one.deeds == deeds) both in (one, refl, parts.0, eqb-true one.deeds deeds parts.1)
 
 pub recorded : (state : QueueState) (frames : LiveFrames) → AreLive state frames → (n deeds : ℕ) (path : List ℕ) → is_lent_with (kept_of frames n) deeds ≡ true
     → (is : IsRecorded state n (no_ends n deeds path)) × (is.frame.deeds ≡ deeds)

@@ -26,16 +26,13 @@ use Rattle.queue_book.specs.declared.live_frames.LiveFrames.{LiveFrames}
 use Rattle.queues.proofs.ActiveAfter.{one_changed, one_goes_on}
 use Rattle.queue_book.proofs.BookDeeds.{counted, lent_none, not_lent}
 use Rattle.queue_book.proofs.ChainChanges.{chained_same}
-use Rattle.swan_model.proofs.Elements.{more_cases, last_more}
+use Rattle.swan_model.proofs.Elements.{more_cases, last_more, one_answer}
 use Rattle.queue_book.proofs.LiveKept.{kept_changed, kept_live, key_none, keys_same, live_one, place_has}
 use Rattle.queue_book.proofs.LivePut.{keys_put, place_elsewhere, place_here, places_made}
 use Rattle.queues.proofs.Making.{holds_before}
 use Rattle.queues.proofs.TurnsMade.{turns_made}
 use Rattle.queue_book.proofs.OpenOwners.{pushes_made}
 use Rattle.queue_book.proofs.PlainMade.{plain_create, plain_create_root}
-
-pub one_place : (o : Option OwnChunk) (a b : OwnChunk) → o ≡ Some a → o ≡ Some b → a ≡ b
-one_place o a b one two = let both : Some a ≡ Some b = sym one ∙ two in cc
 
 module _ (name : Option Script) (state after : QueueState) (frames : LiveFrames) (heads : List (Option ℕ)) (nodes : Slab Link) (turns : Frames) (is : IsBook name state frames heads nodes turns)
     (n : ℕ) (frame later : ActiveFrame) (maker : QueueMaker) (live : active state n ≡ Some frame) (only : IsOnlyChange (active state) (active after) n (Some later))
@@ -82,7 +79,7 @@ module _ (name : Option Script) (state after : QueueState) (frames : LiveFrames)
         | inl here ↦
             let its : own_chunk_in now_kept.places q ≡ Some (record { key = key; is_maker = true; pushes = true }) =
             ap (λ k. own_chunk_in now_kept.places k) here ∙ at_place (length state.makers) ∙ place_here kept (length state.makers) (record { key = key; is_maker = true; pushes = true }) in
-            let same : pl ≡ record { key = key; is_maker = true; pushes = true } = one_place (own_chunk_in now_kept.places q) pl (record { key = key; is_maker = true; pushes = true }) at its in
+            let same : pl ≡ record { key = key; is_maker = true; pushes = true } = one_answer (own_chunk_in now_kept.places q) pl (record { key = key; is_maker = true; pushes = true }) at its in
             let never : true ≡ false = ap (λ (p : OwnChunk). p.is_maker) (sym same) ∙ not_maker in
             absurd (cc)
         | inr other ↦
@@ -94,7 +91,7 @@ module _ (name : Option Script) (state after : QueueState) (frames : LiveFrames)
         | inl here ↦
             let its : own_chunk_in now_kept.places q ≡ Some place_now =
             ap (λ k. own_chunk_in now_kept.places k) here ∙ at_place (length state.makers) ∙ place_here kept (length state.makers) place_now in
-            let same : pl ≡ place_now = one_place (own_chunk_in now_kept.places q) pl place_now at its in
+            let same : pl ≡ place_now = one_answer (own_chunk_in now_kept.places q) pl place_now at its in
             ap (λ (p : OwnChunk). p.pushes) same ∙ sym (later_holds q Push ∙ ap (λ k. holds_queue (with_made (length state.makers) frame) k Push) here ∙ pushes_made frame (length state.makers))
         | inr other ↦
             let old = sym (place_elsewhere kept (length state.makers) place_now q other) ∙ sym (at_place q) ∙ at in

@@ -1,11 +1,8 @@
 -- What holds of hyperqueues in plain form once the rest of a queue was taken.
-use Rattle.std.proofs.Common.{◌≡◌, ◌≢◌, ℕ, zero, suc, ◌<◌, ◌≤◌, Bool, true, false, ◌==◌, Option, Some, None, List, [], ◌∷◌, length, refl, sym, ap, subst, ◌∙◌, inl, inr, arith, rules}
-use Rattle.std.proofs.lemmas.Bool.{cases_eq, false≢true}
-use Rattle.std.proofs.lemmas.List.Folds.{list_any-append}
-use Rattle.std.specs.List.{list_any}
-use Rattle.std.specs.Prelude.{slice_get, ◌||◌}
+use Rattle.std.proofs.Common.{◌≡◌, ◌≢◌, ℕ, zero, suc, ◌<◌, ◌≤◌, true, false, ◌==◌, Option, Some, None, List, [], length, refl, sym, ap, subst, ◌∙◌, inl, inr, arith}
+use Rattle.std.proofs.lemmas.Bool.{cases_eq, false≢true, eq-eqb, ne_eqb}
+use Rattle.std.specs.Prelude.{slice_get}
 use Rattle.slab.specs.Slab.{Slab}
-use Rattle.pop_order.proofs.Flags.{eq_same, or_left, or_right}
 use Rattle.pop_order.specs.Frames.{Frames}
 use Rattle.swan_model.specs.declared.script.Script.{Script}
 use Rattle.swan_model.specs.declared.value.Value.{Value}
@@ -31,6 +28,7 @@ use Rattle.queues.proofs.TreeKept.{tree_rest}
 use Rattle.queues.proofs.TreeOwners.{owners_kept_rest}
 use Rattle.queues.proofs.TurnsCalls.{turns_rest}
 use Rattle.swan_model.proofs.Lists.{some_within}
+use Rattle.swan_model.proofs.Elements.{any_before, any_last}
 
 -- who is active has the root above it
 root_active : (most : ℕ) (state : QueueState) → IsTree state → (m : ℕ) (frame : ActiveFrame) → m ≤ most → active state m ≡ Some frame → (root : ActiveFrame) × (active state 0 ≡ Some root)
@@ -66,15 +64,10 @@ none_owns state queue none = record {
 }
 
 emptied_other : (state : QueueState) (queue q : ℕ) → q ≢ queue → is_emptied (after_take_rest state queue) q ≡ is_emptied state q
-emptied_other state queue q other =
-    let apart : (queue == q) ≡ false = let ne : queue ≢ q = λ e. other (sym e) in search rules in
-    list_any-append (λ k. k == q) state.emptied (queue ∷ []) ∙ ap (λ b. list_any (λ k. k == q) state.emptied || (b || false)) apart ∙ or_none (list_any (λ k. k == q) state.emptied) where
-      or_none : (b : Bool) → (b || (false || false)) ≡ b
-      or_none true = refl
-      or_none false = refl
+emptied_other state queue q other = any_before (λ k. k == q) state.emptied queue (ne_eqb queue q (λ same. other (sym same)))
 
 emptied_now : (state : QueueState) (queue : ℕ) → is_emptied (after_take_rest state queue) queue ≡ true
-emptied_now state queue = list_any-append (λ k. k == queue) state.emptied (queue ∷ []) ∙ or_right _ _ (or_left _ false (eq_same queue))
+emptied_now state queue = any_last (λ k. k == queue) state.emptied queue (eq-eqb queue queue refl)
 
 module _ (name : Option Script) (state : QueueState) (frames : LiveFrames) (heads : List (Option ℕ)) (nodes : Slab Link) (turns : Frames) (is : IsBook name state frames heads nodes turns)
     (q : ℕ) (left : IsRestLeft state q) where

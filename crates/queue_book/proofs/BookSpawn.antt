@@ -23,12 +23,12 @@ use Rattle.queues.proofs.ActiveAfter.{child_spawned, others_spawned, parent_spaw
 use Rattle.queue_book.proofs.BookDeeds.{counted, lent_none, not_lent}
 use Rattle.queue_book.proofs.ChainChanges.{chained_same}
 use Rattle.queue_book.proofs.ChainEnds.{other_placed, own_placed}
-use Rattle.queues.proofs.Frames.{same_frame}
 use Rattle.queues.proofs.Gives.{gives_had}
 use Rattle.queue_book.proofs.LiveKept.{agrees_on, kept_live, key_none}
 use Rattle.queues.proofs.Match.{not_active}
 use Rattle.queue_book.proofs.PlainSpawned.{plain_spawn}
 use Rattle.queues.proofs.TurnsSpawned.{turns_older, turns_spawned}
+use Rattle.swan_model.proofs.Elements.{one_answer}
 
 module _ (name : Option Script) (state : QueueState) (frames : LiveFrames) (heads : List (Option ℕ)) (nodes : Slab Link) (turns : Frames) (is : IsBook name state frames heads nodes turns)
     (p child : ℕ) (gives : List QueueRight) (may : MaySpawn state p child gives) where
@@ -80,12 +80,12 @@ module _ (name : Option Script) (state : QueueState) (frames : LiveFrames) (head
     by : (m ≡ child) ⊎ (m ≢ child) → (m ≡ p) ⊎ (m ≢ p) → IsInUse state q maker
     by (inl is_child) c =
         let same : frame ≡ child_of may.act.frame child gives =
-        same_frame (active after child) frame (child_of may.act.frame child gives)
+        one_answer (active after child) frame (child_of may.act.frame child gives)
         (ap (active after) (sym is_child) ∙ live) child_live in
         inr (p, may.act.frame, may.act.may.live, gives_had may.act.frame gives may.lawful q (ap (λ (g : ActiveFrame). has_queue g q) (sym same) ∙ has))
     by (inr apart) (inl is_parent) =
         let same : frame ≡ parent_now =
-        same_frame (active after p) frame parent_now
+        one_answer (active after p) frame parent_now
         (ap (active after) (sym is_parent) ∙ live) parent_live in
         inr (p, may.act.frame, may.act.may.live, ap (λ (g : ActiveFrame). has_queue g q) (sym same) ∙ has)
     by (inr apart) (inr other) = inr (m, frame, sym (other_live m other apart) ∙ live, has)

@@ -1,16 +1,13 @@
 -- What a push and the end of a frame make of the chains.
 use Rattle.std.proofs.Common.{◌≡◌, ◌≢◌, ℕ, Bool, true, false, ◌==◌, Option, None, Some, List, [], ◌∷◌, ◌++◌, refl, sym, ap, subst, ◌∙◌, inl, inr}
-use Rattle.std.proofs.lemmas.Bool.{cases_eq}
+use Rattle.std.proofs.lemmas.Bool.{cases_eq, eqb-true, eq-eqb}
 use Rattle.std.specs.Prelude.{if◌then◌else◌}
 use Rattle.slab.specs.Slab.{Slab, get, Updates}
-use Rattle.pop_order.proofs.Flags.{eq_of, eq_same}
 use Rattle.swan_model.specs.declared.value.Value.{Value}
 use Rattle.queues.specs.Chunks.{Chunk, Chunks, with_item, after_close}
 use Rattle.queue_book.specs.Chains.{Link, chunk_of, IsChain, AreChained, in_line, put_at}
-use Rattle.queue_book.proofs.ChainKept.{IsChange, one_link, pushed_is, closed_is, line_changed}
-
-pub one_some : (o : Option ℕ) (a b : ℕ) → o ≡ Some a → o ≡ Some b → a ≡ b
-one_some o a b one two = let both : Some a ≡ Some b = sym one ∙ two in cc
+use Rattle.queue_book.proofs.ChainKept.{IsChange, pushed_is, closed_is, line_changed}
+use Rattle.swan_model.proofs.Elements.{one_answer}
 
 -- the same chunks and nodes, said in another way
 pub chained_same : (at now_at : ℕ → ℕ → Option ℕ) (heads : List (Option ℕ)) (nodes : Slab Link) (lines others : ℕ → Chunks)
@@ -29,8 +26,8 @@ chained_same at now_at heads nodes lines others same_at same_lines is = record {
 
 pub put_same : (number queue : ℕ) (key : Option ℕ) (at : ℕ → ℕ → Option ℕ) → put_at number queue key at number queue ≡ key
 put_same number queue key at =
-    let inner : (if queue == queue then key else at number queue) ≡ key = ap (λ b. if b then key else at number queue) (eq_same queue) in
-    ap (λ b. if b then (if queue == queue then key else at number queue) else at number queue) (eq_same number) ∙ inner
+    let inner : (if queue == queue then key else at number queue) ≡ key = ap (λ b. if b then key else at number queue) (eq-eqb queue queue refl) in
+    ap (λ b. if b then (if queue == queue then key else at number queue) else at number queue) (eq-eqb number number refl) ∙ inner
 
 pub none_put : (number queue : ℕ) (at : ℕ → ℕ → Option ℕ) (key : ℕ) → put_at number queue None at number queue ≡ Some key → ⊥
 none_put number queue at key e = let never : None ≡ Some key = sym (put_same number queue None at) ∙ e in cc
@@ -38,11 +35,11 @@ none_put number queue at key e = let never : None ≡ Some key = sym (put_same n
 pub put_other : (number queue : ℕ) (key : Option ℕ) (at : ℕ → ℕ → Option ℕ) (n q : ℕ) → (n ≡ number → q ≡ queue → ⊥) → put_at number queue key at n q ≡ at n q
 put_other number queue key at n q other = by_number (n == number) refl where
   by_queue : n ≡ number → (b : Bool) → (q == queue) ≡ b → (if b then key else at n q) ≡ at n q
-  by_queue same true e = absurd (other same (eq_of q queue e))
+  by_queue same true e = absurd (other same (eqb-true q queue e))
   by_queue same false e = refl
 
   by_number : (b : Bool) → (n == number) ≡ b → (if b then (if q == queue then key else at n q) else at n q) ≡ at n q
-  by_number true e = by_queue (eq_of n number e) (q == queue) refl
+  by_number true e = by_queue (eqb-true n number e) (q == queue) refl
   by_number false e = refl
 
 -- what isn't the new one was there before
@@ -61,13 +58,13 @@ module _ (at : ℕ → ℕ → Option ℕ) (heads : List (Option ℕ)) (nodes : 
   sole_own : (j : ℕ) (other : Link) → get nodes j ≡ Some other → other.queue ≡ queue → other.owner ≡ Some number → j ≡ key
   sole_own j other stands of owner =
       let P : ℕ → Type 0 = λ q. at number q ≡ Some j in
-      one_some (at number queue) j key (subst P of (is.placed j number other stands owner)) mine
+      one_answer (at number queue) j key (subst P of (is.placed j number other stands owner)) mine
 
   change_of : (after : Slab Link) (link new : Link) (change : Chunk → Chunk) → get nodes key ≡ Some link → Updates nodes after key (Some new)
       → new.queue ≡ link.queue → new.next ≡ link.next → chunk_of new ≡ change (chunk_of link) → IsChange nodes after queue number key link new change
   change_of after link new change stands updates same_queue same_next changed =
       let known = is.owned number queue key mine in
-      let same : known.0 ≡ link = one_link (get nodes key) known.0 link known.1 stands in
+      let same : known.0 ≡ link = one_answer (get nodes key) known.0 link known.1 stands in
       record {
         stands = stands;
         owner = ap (λ (l : Link). l.owner) (sym same) ∙ known.2;
@@ -95,14 +92,14 @@ module _ (at : ℕ → ℕ → Option ℕ) (heads : List (Option ℕ)) (nodes : 
             let old = is.owned n q k e in
             elim (cases_eq k key) [
               | inl here ↦
-                  let same : old.0 ≡ link = one_link (get nodes key) old.0 link (ap (λ j. get nodes j) (sym here) ∙ old.1) stands in
+                  let same : old.0 ≡ link = one_answer (get nodes key) old.0 link (ap (λ j. get nodes j) (sym here) ∙ old.1) stands in
                   (new, ap (λ j. get after j) here ∙ updates.changed, ap (λ (l : Link). l.owner) (sym same) ∙ old.2, ap (λ (l : Link). l.queue) (sym same) ∙ old.3)
               | inr apart ↦ (old.0, updates.others k apart ∙ old.1, old.2, old.3)
             ];
         placed = λ k n l at_k owner.
             elim (cases_eq k key) [
               | inl here ↦
-                  let same : l ≡ new = one_link (get after key) l new (ap (λ j. get after j) (sym here) ∙ at_k) updates.changed in
+                  let same : l ≡ new = one_answer (get after key) l new (ap (λ j. get after j) (sym here) ∙ at_k) updates.changed in
                   let before = is.placed k n link (ap (λ j. get nodes j) here ∙ stands) (ap (λ (m : Link). m.owner) (sym same) ∙ owner) in
                   ap (λ (m : Link). at n m.queue) same ∙ before
               | inr apart ↦ is.placed k n l (sym (updates.others k apart) ∙ at_k) owner
@@ -124,8 +121,8 @@ module _ (at : ℕ → ℕ → Option ℕ) (heads : List (Option ℕ)) (nodes : 
             let was = put_back number queue None at n q k e (λ (never : None ≡ Some k). cc) in
             let old = is.owned n q k was in
             let apart : k ≢ key = λ here.
-            let same : old.0 ≡ link = one_link (get nodes key) old.0 link (ap (λ j. get nodes j) (sym here) ∙ old.1) stands in
-            let n_is : n ≡ number = one_some link.owner n number (ap (λ (l : Link). l.owner) (sym same) ∙ old.2) changed.owner in
+            let same : old.0 ≡ link = one_answer (get nodes key) old.0 link (ap (λ j. get nodes j) (sym here) ∙ old.1) stands in
+            let n_is : n ≡ number = one_answer link.owner n number (ap (λ (l : Link). l.owner) (sym same) ∙ old.2) changed.owner in
             let q_is : q ≡ queue = sym old.3 ∙ ap (λ (l : Link). l.queue) same ∙ changed.mine in
             let P : ℕ → ℕ → Type 0 = λ a b. put_at number queue None at a b ≡ Some k in
             let Q : ℕ → Type 0 = λ a. P a q in
@@ -135,7 +132,7 @@ module _ (at : ℕ → ℕ → Option ℕ) (heads : List (Option ℕ)) (nodes : 
         placed = λ k n l at_k owner.
             elim (cases_eq k key) [
               | inl here ↦
-                  let same : l ≡ new = one_link (get after key) l new (ap (λ j. get after j) (sym here) ∙ at_k) updates.changed in
+                  let same : l ≡ new = one_answer (get after key) l new (ap (λ j. get after j) (sym here) ∙ at_k) updates.changed in
                   let never : None ≡ Some n = ap (λ (m : Link). m.owner) (sym same) ∙ owner in
                   cc
               | inr apart ↦
@@ -144,6 +141,6 @@ module _ (at : ℕ → ℕ → Option ℕ) (heads : List (Option ℕ)) (nodes : 
                   let P : ℕ → ℕ → Type 0 = λ a b. at a b ≡ Some k in
                   let Q : ℕ → Type 0 = λ a. P a l.queue in
                   let R : ℕ → Type 0 = λ b. P number b in
-                  apart (one_some (at number queue) k key (subst R q_is (subst Q n_is was)) mine)) ∙ was
+                  apart (one_answer (at number queue) k key (subst R q_is (subst Q n_is was)) mine)) ∙ was
             ];
       }

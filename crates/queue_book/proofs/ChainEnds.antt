@@ -1,10 +1,9 @@
 -- What the end of a frame makes of the chains.
-use Rattle.std.proofs.Common.{◌≡◌, ◌≢◌, ℕ, Bool, true, false, ◌&&◌, not, ◌==◌, Option, None, Some, List, [], refl, sym, ap, subst, ◌∙◌, ◌⊎◌, inl, inr, rules}
-use Rattle.std.proofs.lemmas.Bool.{cases_eq}
+use Rattle.std.proofs.Common.{◌≡◌, ◌≢◌, ℕ, true, false, ◌&&◌, not, ◌==◌, Option, None, Some, List, [], refl, sym, ap, subst, ◌∙◌, ◌⊎◌, inl, inr, rules}
+use Rattle.std.proofs.lemmas.Bool.{cases_eq, eq-eqb}
 use Rattle.std.specs.Option.{option_map}
 use Rattle.std.specs.Prelude.{if◌then◌else◌}
 use Rattle.slab.specs.Slab.{Slab}
-use Rattle.pop_order.proofs.Flags.{eq_same}
 use Rattle.queues.specs.Chunks.{Chunks, after_close}
 use Rattle.queue_book.specs.Chains.{Link, AreChained, in_line, put_at}
 use Rattle.queue_book.specs.Ended.{line_after_end, lines_after_end, own_keys, IsAlone}
@@ -12,14 +11,6 @@ use Rattle.queue_book.specs.KeptFrames.{OwnChunks, own_chunk_in}
 use Rattle.queue_book.specs.declared.live_frame.OwnChunk.{OwnChunk}
 use Rattle.queue_book.proofs.ChainChanges.{chained_same, put_other, put_same}
 use Rattle.queue_book.proofs.ChainLoops.{line_is, line_other, line_same}
-
-pub not_so : (b : Bool) → not b ≡ true → b ≡ false
-not_so true e = sym e
-not_so false e = refl
-
-pub still_so : (b : Bool) → not b ≡ false → b ≡ true
-still_so true e = refl
-still_so false e = sym e
 
 pub ended_stays : (number : ℕ) (place : OwnChunk) (chunks : Chunks) → (place.is_maker && not (number == 0)) ≡ false → line_after_end number (Some place) chunks ≡ after_close number chunks
 ended_stays number place chunks e = ap (λ b. if b then [] else after_close number chunks) e
@@ -67,7 +58,7 @@ abbrev pub left_lines : ℕ → (left all : OwnChunks) → (ℕ → Chunks) → 
 left_lines number left all lines queue = left_line number (own_chunk_in left queue) (own_chunk_in all queue) (lines queue)
 
 pub own_placed : (number : ℕ) (places : OwnChunks) (at : ℕ → ℕ → Option ℕ) (q : ℕ) → own_keys number places at number q ≡ option_map (λ (place : OwnChunk). place.key) (own_chunk_in places q)
-own_placed number places at q = ap (λ b. if b then option_map (λ (place : OwnChunk). place.key) (own_chunk_in places q) else at number q) (eq_same number)
+own_placed number places at q = ap (λ b. if b then option_map (λ (place : OwnChunk). place.key) (own_chunk_in places q) else at number q) (eq-eqb number number refl)
 
 pub other_placed : (number : ℕ) (places : OwnChunks) (at : ℕ → ℕ → Option ℕ) (other q : ℕ) → other ≢ number → own_keys number places at other q ≡ at other q
 other_placed number places at other q apart =

@@ -1,15 +1,14 @@
 -- What is taken from the front of a chain.
 use Rattle.std.proofs.Common.{◌≡◌, ◌≢◌, ℕ, Bool, true, false, ◌==◌, Option, None, Some, List, [], ◌∷◌, drop, refl, sym, ap, subst, ◌∙◌, inl, inr, rules}
-use Rattle.std.proofs.lemmas.Bool.{cases_eq}
+use Rattle.std.proofs.lemmas.Bool.{cases_eq, eq-eqb}
 use Rattle.std.specs.Prelude.{slice_get, slice_set, if◌then◌else◌}
 use Rattle.slab.specs.Slab.{Slab, get, Updates}
-use Rattle.pop_order.proofs.Flags.{eq_same}
 use Rattle.swan_model.specs.declared.value.Value.{Value}
 use Rattle.queues.specs.Chunks.{Chunk, Chunks, is_spent, without_spent, without_first}
 use Rattle.queue_book.specs.Chains.{Link, chunk_of, is_among, IsChain, IsFront, AreChained, in_line}
 use Rattle.queue_book.specs.declared.chains.Front.TheVariants as front
-use Rattle.swan_model.proofs.Elements.{set_cases}
-use Rattle.queue_book.proofs.ChainKept.{one_link, chain_same, in_chain, apart_from}
+use Rattle.swan_model.proofs.Elements.{set_cases, one_answer}
+use Rattle.queue_book.proofs.ChainKept.{chain_same, in_chain, apart_from}
 
 -- where a queue has no node, it has no chunk
 pub no_chunks : (nodes : Slab Link) (queue : ℕ) (keys : List ℕ) (chunks : Chunks) → IsChain nodes queue None keys chunks → chunks ≡ []
@@ -35,7 +34,7 @@ first_of nodes queue key link [] (chunk ∷ chunks) stands is = absurd is
 first_of nodes queue key link (k ∷ keys) (chunk ∷ chunks) stands (l, at, at_k, mine, chunk_is, apart, rest) =
     let at_key : Some key ≡ Some k = at in
     let key_is : key ≡ k = cc in
-    let same : l ≡ link = one_link (get nodes key) l link (ap (λ n. get nodes n) key_is ∙ at_k) stands in
+    let same : l ≡ link = one_answer (get nodes key) l link (ap (λ n. get nodes n) key_is ∙ at_k) stands in
     let P : Link → Type 0 = λ m. IsChain nodes queue m.next keys chunks in
     record {
       rest = chunks;
@@ -106,7 +105,7 @@ module _ (at : ℕ → ℕ → Option ℕ) (heads : List (Option ℕ)) (nodes : 
     elsewhere : (q : ℕ) (head : Option ℕ) (keys : List ℕ) (chunks : Chunks) → q ≢ queue → IsChain nodes q head keys chunks → (k : ℕ) → is_among k keys ≡ true → k ≢ key
     elsewhere q head keys chunks other chain k among e =
         let there = in_chain nodes q head keys chunks k chain among in
-        let same : there.0 ≡ link = one_link (get nodes key) there.0 link (ap (λ j. get nodes j) (sym e) ∙ there.1) stands in
+        let same : there.0 ≡ link = one_answer (get nodes key) there.0 link (ap (λ j. get nodes j) (sym e) ∙ there.1) stands in
         other (sym there.2 ∙ ap (λ (m : Link). m.queue) same ∙ (first_chunk key link has stands).mine)
 
     pub chained_drop_first : Updates nodes after key None → link.owner ≡ None
@@ -117,7 +116,7 @@ module _ (at : ℕ → ℕ → Option ℕ) (heads : List (Option ℕ)) (nodes : 
           elim (set_cases heads queue (Some key) link.next q head has now_has) [
             | inl here ↦
                 let first = first_chunk key link has stands in
-                let b_is : (q == queue) ≡ true = ap (λ n. n == queue) here.0 ∙ eq_same queue in
+                let b_is : (q == queue) ≡ true = ap (λ n. n == queue) here.0 ∙ eq-eqb queue queue refl in
                 let behind : IsChain after queue link.next first.keys first.rest =
                 chain_same nodes after queue link.next first.keys first.rest (λ k among. updates.others k (apart_from key k first.keys first.apart among)) first.behind in
                 let Q : ℕ → Type 0 = λ n. IsChain after n link.next first.keys first.rest in
@@ -134,7 +133,7 @@ module _ (at : ℕ → ℕ → Option ℕ) (heads : List (Option ℕ)) (nodes : 
           let old = is.owned n q k e in (
             old.0,
             updates.others k (λ here.
-                let same : old.0 ≡ link = one_link (get nodes key) old.0 link (ap (λ j. get nodes j) (sym here) ∙ old.1) stands in
+                let same : old.0 ≡ link = one_answer (get nodes key) old.0 link (ap (λ j. get nodes j) (sym here) ∙ old.1) stands in
                 let never : None ≡ Some n = sym unowned ∙ ap (λ (m : Link). m.owner) (sym same) ∙ old.2 in
                 cc) ∙ old.1,
             old.2,
@@ -156,7 +155,7 @@ module _ (at : ℕ → ℕ → Option ℕ) (heads : List (Option ℕ)) (nodes : 
               elim (cases_eq q queue) [
                 | inl here ↦
                     let first = first_chunk key link has stands in
-                    let b_is : (q == queue) ≡ true = ap (λ n. n == queue) here ∙ eq_same queue in
+                    let b_is : (q == queue) ≡ true = ap (λ n. n == queue) here ∙ eq-eqb queue queue refl in
                     let head_is : Some head ≡ Some (Some key) = sym now_has ∙ ap (λ n. slice_get heads n) here ∙ has in
                     let h_is : Some key ≡ head = cc in
                     let behind : IsChain after queue link.next first.keys first.rest =
@@ -177,14 +176,14 @@ module _ (at : ℕ → ℕ → Option ℕ) (heads : List (Option ℕ)) (nodes : 
               let old = is.owned n q k e in
               elim (cases_eq k key) [
                 | inl here ↦
-                    let same : old.0 ≡ link = one_link (get nodes key) old.0 link (ap (λ j. get nodes j) (sym here) ∙ old.1) stands in
+                    let same : old.0 ≡ link = one_answer (get nodes key) old.0 link (ap (λ j. get nodes j) (sym here) ∙ old.1) stands in
                     (new, ap (λ j. get after j) here ∙ updates.changed, ap (λ (l : Link). l.owner) (sym same) ∙ old.2, ap (λ (l : Link). l.queue) (sym same) ∙ old.3)
                 | inr apart ↦ (old.0, updates.others k apart ∙ old.1, old.2, old.3)
               ];
           placed = λ k n l at_k owner.
               elim (cases_eq k key) [
                 | inl here ↦
-                    let same : l ≡ new = one_link (get after key) l new (ap (λ j. get after j) (sym here) ∙ at_k) updates.changed in
+                    let same : l ≡ new = one_answer (get after key) l new (ap (λ j. get after j) (sym here) ∙ at_k) updates.changed in
                     let before = is.placed k n link (ap (λ j. get nodes j) here ∙ stands) (ap (λ (m : Link). m.owner) (sym same) ∙ owner) in
                     ap (λ (m : Link). at n m.queue) same ∙ before
                 | inr apart ↦ is.placed k n l (sym (updates.others k apart) ∙ at_k) owner

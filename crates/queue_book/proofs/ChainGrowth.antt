@@ -1,17 +1,16 @@
 -- What a new queue, and a spawn, make of the chains.
 use Rattle.std.proofs.Common.{◌≡◌, ◌≢◌, ℕ, ◌<◌, Bool, true, false, ◌==◌, ◌&&◌, cond, Option, None, Some, List, [], ◌∷◌, ◌++◌, length, refl, sym, ap, subst, ◌∙◌, ◌⊎◌, inl, inr, arith, rules}
-use Rattle.std.proofs.lemmas.Bool.{cases_eq, cases_Bool, false≢true}
+use Rattle.std.proofs.lemmas.Bool.{cases_eq, cases_Bool, false≢true, and_from, and_parts, eqb-true, eq-eqb, or_cases, or_left, or_right}
 use Rattle.std.proofs.lemmas.Option.{slice_get_within}
 use Rattle.std.specs.Prelude.{if◌then◌else◌}
 use Rattle.slab.specs.Slab.{Slab, get, Updates}
-use Rattle.pop_order.proofs.Flags.{and_both, and_parts, eq_of, eq_same, or_cases, or_left, or_right}
 use Rattle.swan_model.specs.declared.value.Value.{Value}
 use Rattle.queues.specs.Chunks.{Chunk, Chunks, own, is_owned, after_hand_on}
 use Rattle.queues.proofs.MatchOwners.{owned_is}
 use Rattle.queue_book.specs.Chains.{Link, chunk_of, is_among, IsChain, AreChained, in_line, put_at}
-use Rattle.swan_model.proofs.Elements.{more_cases}
-use Rattle.queue_book.proofs.ChainKept.{one_link, chain_same, in_chain, owned_so}
-use Rattle.queue_book.proofs.ChainChanges.{one_some, put_same, put_other}
+use Rattle.swan_model.proofs.Elements.{more_cases, one_answer}
+use Rattle.queue_book.proofs.ChainKept.{chain_same, in_chain, owned_so}
+use Rattle.queue_book.proofs.ChainChanges.{put_same, put_other}
 
 not_both : (o : Option Link) (link : Link) → o ≡ None → o ≡ Some link → ⊥
 not_both o link none some = let never : None ≡ Some link = sym none ∙ some in cc
@@ -29,7 +28,7 @@ not_among : (key other : ℕ) (keys : List ℕ) → (other ≡ key → ⊥) → 
 not_among key other keys ne apart =
     elim (cases_Bool (is_among key (other ∷ keys))) [
       | inl among ↦ elim (or_cases (other == key) (is_among key keys) among) [
-        | inl same ↦ absurd (ne (eq_of other key same))
+        | inl same ↦ absurd (ne (eqb-true other key same))
         | inr there ↦ absurd (false≢true (sym apart ∙ there))
       ]
       | inr fine ↦ fine
@@ -66,7 +65,7 @@ module _ (at : ℕ → ℕ → Option ℕ) (heads : List (Option ℕ)) (nodes : 
                     updates.others k (old_apart k there.0 there.1)) one.1,
               )
           | inr new ↦
-              let b_is : (q == length heads) ≡ true = ap (λ n. n == length heads) new.0 ∙ eq_same (length heads) in
+              let b_is : (q == length heads) ≡ true = ap (λ n. n == length heads) new.0 ∙ eq-eqb (length heads) (length heads) refl in
               let Q : Option ℕ → Type 0 = λ h. IsChain after q h (key ∷ []) (own owner items ∷ []) in
               subst P (sym b_is) (key ∷ [], subst Q (sym new.1) (new_chain q new.0))
         ];
@@ -74,8 +73,8 @@ module _ (at : ℕ → ℕ → Option ℕ) (heads : List (Option ℕ)) (nodes : 
         elim (cases_Bool ((n == owner) && (q == length heads))) [
           | inl here ↦
               let both = and_parts _ _ here in
-              let n_is = eq_of n owner both.0 in
-              let q_is = eq_of q (length heads) both.1 in
+              let n_is = eqb-true n owner both.0 in
+              let q_is = eqb-true q (length heads) both.1 in
               let P : ℕ → Type 0 = λ a. put_at owner (length heads) (Some key) at a q ≡ Some k in
               let Q : ℕ → Type 0 = λ b. put_at owner (length heads) (Some key) at owner b ≡ Some k in
               let found : Some key ≡ Some k = sym (put_same owner (length heads) (Some key) at) ∙ subst Q q_is (subst P n_is e) in
@@ -83,15 +82,15 @@ module _ (at : ℕ → ℕ → Option ℕ) (heads : List (Option ℕ)) (nodes : 
               (made, ap (λ j. get after j) (sym k_is) ∙ updates.changed, ap Some (sym n_is), sym q_is)
           | inr there ↦
               let was : at n q ≡ Some k = sym (put_other owner (length heads) (Some key) at n q (λ n_is q_is.
-              false≢true (sym there ∙ and_both _ _ (ap (λ a. a == owner) n_is ∙ eq_same owner) (ap (λ b. b == length heads) q_is ∙ eq_same (length heads))))) ∙ e in
+              false≢true (sym there ∙ and_from _ _ (ap (λ a. a == owner) n_is ∙ eq-eqb owner owner refl) (ap (λ b. b == length heads) q_is ∙ eq-eqb (length heads) (length heads) refl)))) ∙ e in
               let old = is.owned n q k was in
               (old.0, updates.others k (old_apart k old.0 old.1) ∙ old.1, old.2, old.3)
         ];
     placed = λ k n l at_k is_owner.
         elim (cases_eq k key) [
           | inl here ↦
-              let same : l ≡ made = one_link (get after key) l made (ap (λ j. get after j) (sym here) ∙ at_k) updates.changed in
-              let n_is : n ≡ owner = one_some (Some owner) n owner (ap (λ (m : Link). m.owner) (sym same) ∙ is_owner) refl in
+              let same : l ≡ made = one_answer (get after key) l made (ap (λ j. get after j) (sym here) ∙ at_k) updates.changed in
+              let n_is : n ≡ owner = one_answer (Some owner) n owner (ap (λ (m : Link). m.owner) (sym same) ∙ is_owner) refl in
               ap (λ (m : Link). put_at owner (length heads) (Some key) at n m.queue) same ∙ ap (λ a. put_at owner (length heads) (Some key) at a (length heads)) n_is
               ∙ put_same owner (length heads) (Some key) at ∙ ap Some (sym here)
           | inr apart ↦
@@ -136,7 +135,7 @@ module _ (nodes after : Slab Link) (queue key new parent child : ℕ) (link : Li
         at_first true owns later =
             let l_owner : l.owner ≡ Some parent = ap (λ (c : Chunk). c.owner) (sym chunk_is) ∙ owned_is parent chunk owns in
             let here : k ≡ key = sole k l stands l_mine l_owner in
-            let same : l ≡ link = one_link (get nodes key) l link (ap (λ n. get nodes n) (sym here) ∙ stands) is.stands in
+            let same : l ≡ link = one_answer (get nodes key) l link (ap (λ n. get nodes n) (sym here) ∙ stands) is.stands in
             let new_apart : is_among new keys ≡ false = vacant_apart nodes queue l.next keys chunks new is.vacant rest in
             let apart_key : is_among key keys ≡ false = ap (λ n. is_among n keys) (sym here) ∙ apart in
             let items_are : own child chunk.items ≡ chunk_of (record link { owner = Some child; next = Some new }) =
@@ -167,14 +166,14 @@ module _ (nodes after : Slab Link) (queue key new parent child : ℕ) (link : Li
               all = λ j among. elim (or_cases (k == j) (is_among j (new ∷ keys)) among) [
                 | inl first ↦ inl (or_left _ _ first)
                 | inr more ↦ elim (or_cases (new == j) (is_among j keys) more) [
-                  | inl second ↦ inr (sym (eq_of new j second))
+                  | inl second ↦ inr (sym (eqb-true new j second))
                   | inr old ↦ inl (or_right _ _ old)
                 ]
               ];
             }
         at_first false not_owns later =
             let ne : k ≢ key = λ e.
-            let same : l ≡ link = one_link (get nodes key) l link (ap (λ n. get nodes n) (sym e) ∙ stands) is.stands in
+            let same : l ≡ link = one_answer (get nodes key) l link (ap (λ n. get nodes n) (sym e) ∙ stands) is.stands in
             false≢true (sym not_owns ∙ owned_so parent chunk.owner (ap (λ (c : Chunk). c.owner) chunk_is ∙ ap (λ (m : Link). m.owner) same ∙ owner)) in
             record {
               keys = k ∷ later.keys;
@@ -208,13 +207,13 @@ module _ (at : ℕ → ℕ → Option ℕ) (heads : List (Option ℕ)) (nodes af
   own_is : (link.owner ≡ Some parent) × (link.queue ≡ queue)
   own_is =
       let known = is.owned parent queue key mine in
-      let same : known.0 ≡ link = one_link (get nodes key) known.0 link known.1 handed.stands in
+      let same : known.0 ≡ link = one_answer (get nodes key) known.0 link known.1 handed.stands in
       (ap (λ (l : Link). l.owner) (sym same) ∙ known.2, ap (λ (l : Link). l.queue) (sym same) ∙ known.3)
 
   sole_parent : (j : ℕ) (other : Link) → get nodes j ≡ Some other → other.queue ≡ queue → other.owner ≡ Some parent → j ≡ key
   sole_parent j other stands of owner =
       let P : ℕ → Type 0 = λ q. at parent q ≡ Some j in
-      one_some (at parent queue) j key (subst P of (is.placed j parent other stands owner)) mine
+      one_answer (at parent queue) j key (subst P of (is.placed j parent other stands owner)) mine
 
   at_parent : then_at parent queue ≡ Some new
   at_parent = put_same parent queue (Some new) (put_at child queue (Some key) at)
@@ -233,7 +232,7 @@ module _ (at : ℕ → ℕ → Option ℕ) (heads : List (Option ℕ)) (nodes af
         let P : Bool → Type 0 = λ b. (keys : List ℕ) × IsChain after q head keys (if b then after_hand_on parent child (lines q) else lines q) in
         elim (cases_eq q queue) [
           | inl same ↦
-              let b_is : (q == queue) ≡ true = ap (λ n. n == queue) same ∙ eq_same queue in
+              let b_is : (q == queue) ≡ true = ap (λ n. n == queue) same ∙ eq-eqb queue queue refl in
               let Q : ℕ → Type 0 = λ n. IsChain nodes n head one.0 (lines q) → (keys : List ℕ) × IsChain after n head keys (after_hand_on parent child (lines q)) in
               subst P (sym b_is) (subst Q (sym same) (λ chain.
               let done = chain_handed_on nodes after queue key new parent child link handed own_is.0 own_is.1 sole_parent head one.0 (lines q) chain in
@@ -245,7 +244,7 @@ module _ (at : ℕ → ℕ → Option ℕ) (heads : List (Option ℕ)) (nodes af
                 chain_same nodes after q head one.0 (lines q) (λ k among.
                     let there = in_chain nodes q head one.0 (lines q) k one.1 among in
                     handed.others k (λ e.
-                    let same : there.0 ≡ link = one_link (get nodes key) there.0 link (ap (λ j. get nodes j) (sym e) ∙ there.1) handed.stands in
+                    let same : there.0 ≡ link = one_answer (get nodes key) there.0 link (ap (λ j. get nodes j) (sym e) ∙ there.1) handed.stands in
                     other (sym there.2 ∙ ap (λ (m : Link). m.queue) same ∙ own_is.1))
                     (λ e. not_both (get nodes new) there.0 handed.vacant (ap (λ j. get nodes j) (sym e) ∙ there.1))) one.1,
               )
@@ -258,8 +257,8 @@ module _ (at : ℕ → ℕ → Option ℕ) (heads : List (Option ℕ)) (nodes af
     elsewhere n q k e not_parent not_child =
         let old = is.owned n q k (sym (at_others n q not_parent not_child) ∙ e) in
         let not_key : k ≢ key = λ here.
-        let same : old.0 ≡ link = one_link (get nodes key) old.0 link (ap (λ j. get nodes j) (sym here) ∙ old.1) handed.stands in
-        not_parent (one_some link.owner n parent (ap (λ (m : Link). m.owner) (sym same) ∙ old.2) own_is.0) (sym old.3 ∙ ap (λ (m : Link). m.queue) same ∙ own_is.1) in
+        let same : old.0 ≡ link = one_answer (get nodes key) old.0 link (ap (λ j. get nodes j) (sym here) ∙ old.1) handed.stands in
+        not_parent (one_answer link.owner n parent (ap (λ (m : Link). m.owner) (sym same) ∙ old.2) own_is.0) (sym old.3 ∙ ap (λ (m : Link). m.queue) same ∙ own_is.1) in
         let not_new : k ≢ new = λ here. not_both (get nodes new) old.0 handed.vacant (ap (λ j. get nodes j) (sym here) ∙ old.1) in
         (old.0, handed.others k not_key not_new ∙ old.1, old.2, old.3)
 
@@ -268,12 +267,12 @@ module _ (at : ℕ → ℕ → Option ℕ) (heads : List (Option ℕ)) (nodes af
     at_owner n q k e (inl is_parent) c (inl same) =
         let Q : ℕ → Type 0 = λ b. then_at n b ≡ Some k in
         let P : ℕ → Type 0 = λ a. then_at a queue ≡ Some k in
-        let k_is : new ≡ k = one_some (Some new) new k refl (sym at_parent ∙ subst P is_parent (subst Q same e)) in
+        let k_is : new ≡ k = one_answer (Some new) new k refl (sym at_parent ∙ subst P is_parent (subst Q same e)) in
         (record { queue = link.queue; owner = Some parent; items = []; next = link.next }, ap (λ j. get after j) (sym k_is) ∙ handed.behind, ap Some (sym is_parent), own_is.1 ∙ sym same)
     at_owner n q k e (inr not_parent) (inl is_child) (inl same) =
         let Q : ℕ → Type 0 = λ b. then_at n b ≡ Some k in
         let P : ℕ → Type 0 = λ a. then_at a queue ≡ Some k in
-        let k_is : key ≡ k = one_some (Some key) key k refl (sym at_child ∙ subst P is_child (subst Q same e)) in
+        let k_is : key ≡ k = one_answer (Some key) key k refl (sym at_child ∙ subst P is_child (subst Q same e)) in
         (record link { owner = Some child; next = Some new }, ap (λ j. get after j) (sym k_is) ∙ handed.first, ap Some (sym is_child), own_is.1 ∙ sym same)
     at_owner n q k e (inr not_parent) (inr not_child) qs = elsewhere n q k e (λ is_parent same. not_parent is_parent) (λ is_child same. not_child is_child)
     at_owner n q k e ps cs (inr other) = elsewhere n q k e (λ is_parent same. other same) (λ is_child same. other same)
@@ -281,17 +280,17 @@ module _ (at : ℕ → ℕ → Option ℕ) (heads : List (Option ℕ)) (nodes af
     at_key : (k n : ℕ) (l : Link) → get after k ≡ Some l → l.owner ≡ Some n → (k ≡ key) ⊎ (k ≢ key) → (k ≡ new) ⊎ (k ≢ new) → then_at n l.queue ≡ Some k
     at_key k n l at_k is_owner (inl here) ns =
         let first : Link = record link { owner = Some child; next = Some new } in
-        let same : l ≡ first = one_link (get after key) l first (ap (λ j. get after j) (sym here) ∙ at_k) handed.first in
-        let n_is : n ≡ child = one_some (Some child) n child (ap (λ (m : Link). m.owner) (sym same) ∙ is_owner) refl in
+        let same : l ≡ first = one_answer (get after key) l first (ap (λ j. get after j) (sym here) ∙ at_k) handed.first in
+        let n_is : n ≡ child = one_answer (Some child) n child (ap (λ (m : Link). m.owner) (sym same) ∙ is_owner) refl in
         ap (λ (m : Link). then_at n m.queue) same ∙ ap (λ q. then_at n q) own_is.1 ∙ ap (λ a. then_at a queue) n_is ∙ at_child ∙ ap Some (sym here)
     at_key k n l at_k is_owner (inr not_key) (inl here) =
         let behind : Link = record { queue = link.queue; owner = Some parent; items = []; next = link.next } in
-        let same : l ≡ behind = one_link (get after new) l behind (ap (λ j. get after j) (sym here) ∙ at_k) handed.behind in
-        let n_is : n ≡ parent = one_some (Some parent) n parent (ap (λ (m : Link). m.owner) (sym same) ∙ is_owner) refl in
+        let same : l ≡ behind = one_answer (get after new) l behind (ap (λ j. get after j) (sym here) ∙ at_k) handed.behind in
+        let n_is : n ≡ parent = one_answer (Some parent) n parent (ap (λ (m : Link). m.owner) (sym same) ∙ is_owner) refl in
         ap (λ (m : Link). then_at n m.queue) same ∙ ap (λ q. then_at n q) own_is.1 ∙ ap (λ a. then_at a queue) n_is ∙ at_parent ∙ ap Some (sym here)
     at_key k n l at_k is_owner (inr not_key) (inr not_new) =
         let was = is.placed k n l (sym (handed.others k not_key not_new) ∙ at_k) is_owner in
         at_others n l.queue
-        (λ is_parent same. not_key (one_some (at parent queue) k key (ap (λ q. at parent q) (sym same) ∙ ap (λ a. at a l.queue) (sym is_parent) ∙ was) mine))
+        (λ is_parent same. not_key (one_answer (at parent queue) k key (ap (λ q. at parent q) (sym same) ∙ ap (λ a. at a l.queue) (sym is_parent) ∙ was) mine))
         (λ is_child same. let never : None ≡ Some k = sym unplaced ∙ ap (λ q. at child q) (sym same) ∙ ap (λ a. at a l.queue) (sym is_child) ∙ was in cc)
         ∙ was

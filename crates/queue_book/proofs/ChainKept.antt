@@ -1,19 +1,15 @@
 -- What a change of one node makes of the chains.
 use Rattle.std.proofs.Common.{◌≡◌, ◌≢◌, ℕ, ◌<◌, Bool, true, false, ◌==◌, cond, Option, None, Some, List, [], ◌∷◌, ◌++◌, length, refl, sym, ap, subst, ◌∙◌, inl, inr}
-use Rattle.std.proofs.lemmas.Bool.{cases_lt, false≢true}
+use Rattle.std.proofs.lemmas.Bool.{cases_lt, false≢true, eqb-true, eq-eqb, or_cases, or_left, or_right}
 use Rattle.std.proofs.lemmas.List.{get_or_past, get_or-set_other, get_or-set_same}
 use Rattle.std.specs.Option.{option_map_or}
-use Rattle.pop_order.proofs.Flags.{eq_of, eq_same, or_cases, or_left, or_right}
 use Rattle.std.specs.Prelude.{slice_get, if◌then◌else◌}
 use Rattle.slab.specs.Slab.{Slab, get, with_value, Updates}
 use Rattle.swan_model.specs.declared.value.Value.{Value}
 use Rattle.queues.specs.Chunks.{Chunk, Chunks, is_owned, with_item, after_close}
 use Rattle.queues.proofs.MatchOwners.{owned_is}
 use Rattle.queue_book.specs.Chains.{Link, chunk_of, is_among, IsChain, in_line}
-
--- two nodes of one key are one
-pub one_link : (o : Option Link) (a b : Link) → o ≡ Some a → o ≡ Some b → a ≡ b
-one_link o a b one two = let both : Some a ≡ Some b = sym one ∙ two in cc
+use Rattle.swan_model.proofs.Elements.{one_answer}
 
 -- what is written to a node that stands
 pub updates_with : (nodes : Slab Link) (key : ℕ) (link new : Link) → get nodes key ≡ Some link → Updates nodes (with_value nodes key new) key (Some new)
@@ -35,7 +31,7 @@ chain_same nodes after queue head [] [] same is = is
 chain_same nodes after queue head (key ∷ keys) (chunk ∷ chunks) same (link, at, stands, mine, chunk_is, apart, rest) = (
   link,
   at,
-  same key (or_left _ _ (eq_same key)) ∙ stands,
+  same key (or_left _ _ (eq-eqb key key refl)) ∙ stands,
   mine,
   chunk_is,
   apart,
@@ -63,7 +59,7 @@ closed_is number (chunk ∷ chunks) =
 
 -- whose chunk it is
 pub owned_so : (number : ℕ) (owner : Option ℕ) → owner ≡ Some number → option_map_or (λ owner. owner == number) owner false ≡ true
-owned_so number owner e = let P : Option ℕ → Type 0 = λ o. option_map_or (λ owner. owner == number) o false ≡ true in subst P (sym e) (eq_same number)
+owned_so number owner e = let P : Option ℕ → Type 0 = λ o. option_map_or (λ owner. owner == number) o false ≡ true in subst P (sym e) (eq-eqb number number refl)
 
 -- what stands at the keys of a chain
 pub in_chain : (nodes : Slab Link) (queue : ℕ) (head : Option ℕ) (keys : List ℕ) (chunks : Chunks) (key : ℕ)
@@ -72,7 +68,7 @@ in_chain nodes queue head [] chunks key is none = absurd (false≢true none)
 in_chain nodes queue head (k ∷ keys) [] key is among = absurd is
 in_chain nodes queue head (k ∷ keys) (chunk ∷ chunks) key (link, at, stands, mine, chunk_is, apart, rest) among =
     elim (or_cases (k == key) (is_among key keys) among) [
-      | inl here ↦ (link, ap (λ n. get nodes n) (sym (eq_of k key here)) ∙ stands, mine)
+      | inl here ↦ (link, ap (λ n. get nodes n) (sym (eqb-true k key here)) ∙ stands, mine)
       | inr there ↦ in_chain nodes queue link.next keys chunks key rest there
     ]
 
@@ -109,7 +105,7 @@ module _ (nodes after : Slab Link) (queue number key : ℕ) (link new : Link) (c
     at_first true owns later =
         let l_owner : l.owner ≡ Some number = ap (λ (c : Chunk). c.owner) (sym chunk_is) ∙ owned_is number chunk owns in
         let here : k ≡ key = is.sole k l stands mine l_owner in
-        let same : l ≡ link = one_link (get nodes key) l link (ap (λ n. get nodes n) (sym here) ∙ stands) is.stands in
+        let same : l ≡ link = one_answer (get nodes key) l link (ap (λ n. get nodes n) (sym here) ∙ stands) is.stands in
         let next : new.next ≡ l.next = is.same_next ∙ ap (λ (m : Link). m.next) (sym same) in
         let apart_key : is_among key keys ≡ false = ap (λ n. is_among n keys) (sym here) ∙ apart in
         let P : Option ℕ → Type 0 = λ h. IsChain after queue h keys chunks in (
@@ -123,7 +119,7 @@ module _ (nodes after : Slab Link) (queue number key : ℕ) (link new : Link) (c
         )
     at_first false not_owns later =
         let ne : k ≢ key = λ e.
-        let same : l ≡ link = one_link (get nodes key) l link (ap (λ n. get nodes n) (sym e) ∙ stands) is.stands in
+        let same : l ≡ link = one_answer (get nodes key) l link (ap (λ n. get nodes n) (sym e) ∙ stands) is.stands in
         false≢true (sym not_owns ∙ owned_so number chunk.owner (ap (λ (c : Chunk). c.owner) chunk_is ∙ ap (λ (m : Link). m.owner) same ∙ is.owner)) in
         (l, at, kept k ne ∙ stands, mine, chunk_is, apart, later)
 
@@ -136,15 +132,15 @@ module _ (nodes after : Slab Link) (queue number key : ℕ) (link new : Link) (c
 
     at_line : (b : Bool) → (q == queue) ≡ b → (keys : List ℕ) × IsChain after q head keys (cond b (at_owned number change (lines q)) (lines q))
     at_line true here =
-        let e : queue ≡ q = sym (eq_of q queue here) in
+        let e : queue ≡ q = sym (eqb-true q queue here) in
         let P : ℕ → Type 0 = λ n. IsChain nodes n head keys (lines q) → IsChain after n head keys (at_owned number change (lines q)) in
         (keys, subst P e (chain_changed head keys (lines q)) (chains q head has).1)
     at_line false not_here = (
       keys,
       chain_same nodes after q head keys (lines q) (λ j among. is.updates.others j (λ e.
           let there = in_chain nodes q head keys (lines q) j (chains q head has).1 among in
-          let same : there.0 ≡ link = one_link (get nodes key) there.0 link (ap (λ n. get nodes n) (sym e) ∙ there.1) is.stands in
+          let same : there.0 ≡ link = one_answer (get nodes key) there.0 link (ap (λ n. get nodes n) (sym e) ∙ there.1) is.stands in
           let is_queue : q ≡ queue = sym there.2 ∙ ap (λ (m : Link). m.queue) same ∙ is.mine in
           let P : ℕ → Type 0 = λ n. (n == queue) ≡ false in
-          false≢true (sym (subst P is_queue not_here) ∙ eq_same queue))) (chains q head has).1,
+          false≢true (sym (subst P is_queue not_here) ∙ eq-eqb queue queue refl))) (chains q head has).1,
     )

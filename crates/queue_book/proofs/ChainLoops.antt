@@ -1,8 +1,7 @@
 -- What holds while chunks are dropped from the front of a queue.
 use Rattle.std.proofs.Common.{◌≡◌, ◌≢◌, ℕ, Bool, true, false, ◌==◌, Option, ◌+◌, List, ◌∷◌, ◌++◌, drop, length, refl, sym, ap, subst, ◌∙◌, append_assoc, rules, arith}
-use Rattle.std.proofs.lemmas.Bool.{false≢true}
+use Rattle.std.proofs.lemmas.Bool.{false≢true, eqb-true, eq-eqb}
 use Rattle.std.specs.Prelude.{if◌then◌else◌}
-use Rattle.pop_order.proofs.Flags.{eq_of, eq_same}
 use Rattle.queues.specs.Chunks.{is_spent, Chunk, Chunks, without_spent, items_in}
 use Rattle.queue_book.specs.Chains.{chunk_of, in_line, Link, AreChained}
 use Rattle.slab.specs.Slab.{Slab, slab_len}
@@ -26,7 +25,7 @@ pub record AreMoved (at : ℕ → ℕ → Option ℕ) (lines : ℕ → Chunks) (
   pub moved : items ++ items_in (left.now queue) ≡ items_in (lines queue)
 
 pub line_same : (queue : ℕ) (change : Chunks → Chunks) (lines : ℕ → Chunks) → in_line queue change lines queue ≡ change (lines queue)
-line_same queue change lines = ap (λ b. if b then change (lines queue) else lines queue) (eq_same queue)
+line_same queue change lines = ap (λ b. if b then change (lines queue) else lines queue) (eq-eqb queue queue refl)
 
 pub line_other : (queue : ℕ) (change : Chunks → Chunks) (lines : ℕ → Chunks) (q : ℕ) → q ≢ queue → in_line queue change lines q ≡ lines q
 line_other queue change lines q other =
@@ -38,8 +37,8 @@ pub line_is : (queue : ℕ) (change : Chunks → Chunks) (lines now : ℕ → Ch
     → (q : ℕ) → in_line queue change lines q ≡ now q
 line_is queue change lines now same others q = at_line (q == queue) refl where
   at_line : (b : Bool) → (q == queue) ≡ b → (if b then change (lines q) else lines q) ≡ now q
-  at_line true e = let here : q ≡ queue = eq_of q queue e in ap (λ n. change (lines n)) here ∙ sym same ∙ ap now (sym here)
-  at_line false e = sym (others q (λ here. let P : ℕ → Type 0 = λ n. (n == queue) ≡ false in false≢true (sym (subst P here e) ∙ eq_same queue)))
+  at_line true e = let here : q ≡ queue = eqb-true q queue e in ap (λ n. change (lines n)) here ∙ sym same ∙ ap now (sym here)
+  at_line false e = sym (others q (λ here. let P : ℕ → Type 0 = λ n. (n == queue) ≡ false in false≢true (sym (subst P here e) ∙ eq-eqb queue queue refl)))
 
 module _ (at : ℕ → ℕ → Option ℕ) (lines : ℕ → Chunks) (queue : ℕ) (start : Slab Link) (heads after : List (Option ℕ)) (nodes then_nodes : Slab Link)
     (fewer : slab_len then_nodes + 1 ≡ slab_len nodes) where

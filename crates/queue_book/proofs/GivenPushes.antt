@@ -1,8 +1,7 @@
 -- Whether a child may push to what it is given, queue by queue.
 use Rattle.std.proofs.Common.{◌≡◌, ◌≢◌, ℕ, Bool, true, false, ◌||◌, ◌&&◌, ◌==◌, List, [], ◌∷◌, ◌++◌, refl, sym, ap, ◌∙◌, rules}
-use Rattle.std.proofs.lemmas.Bool.{false≢true}
+use Rattle.std.proofs.lemmas.Bool.{false≢true, eq-eqb}
 use Rattle.std.proofs.lemmas.List.Folds.{list_any-append}
-use Rattle.pop_order.proofs.Flags.{eq_same}
 use Rattle.swan_model.specs.declared.rights.Mode.TheVariants.{Push}
 use Rattle.swan_model.specs.QueueState.{QueueRight}
 use Rattle.swan_model.specs.Rights.{allows}
@@ -25,7 +24,7 @@ pub push_now : (gives : List QueueRight) (give : QueueRight) → gives_queue giv
 push_now gives give fresh =
     list_any-append (λ (r : QueueRight). (r.queue == give.queue) && allows r.mode Push) gives (give ∷ [])
     ∙ ap (λ b. b || (((give.queue == give.queue) && allows give.mode Push) || false)) (push_none gives give.queue fresh)
-    ∙ or_none ((give.queue == give.queue) && allows give.mode Push) ∙ ap (λ b. b && allows give.mode Push) (eq_same give.queue)
+    ∙ or_none ((give.queue == give.queue) && allows give.mode Push) ∙ ap (λ b. b && allows give.mode Push) (eq-eqb give.queue give.queue refl)
 
 pub push_other : (gives : List QueueRight) (give : QueueRight) (q : ℕ) → q ≢ give.queue → gives_push (gives ++ give ∷ []) q ≡ gives_push gives q
 push_other gives give q other =

@@ -1,11 +1,9 @@
 -- One more queue that a child is given keeps what is kept meanwhile.
-use Rattle.std.proofs.Common.{◌≡◌, ◌≢◌, ℕ, Bool, true, false, ◌||◌, ◌==◌, Option, Some, None, List, [], ◌∷◌, ◌++◌, refl, sym, ap, ◌∙◌, ◌⊎◌, inl, inr, rules}
-use Rattle.std.proofs.lemmas.Bool.{cases_eq}
-use Rattle.std.proofs.lemmas.List.Folds.{list_any-append}
+use Rattle.std.proofs.Common.{◌≡◌, ◌≢◌, ℕ, true, false, ◌==◌, Option, Some, None, List, [], ◌∷◌, ◌++◌, refl, sym, ap, ◌∙◌, ◌⊎◌, inl, inr}
+use Rattle.std.proofs.lemmas.Bool.{cases_eq, eq-eqb, ne_eqb}
 use Rattle.std.specs.Option.{option_map}
 use Rattle.std.specs.Prelude.{is_some, if◌then◌else◌}
 use Rattle.slab.specs.Slab.{Slab}
-use Rattle.pop_order.proofs.Flags.{eq_same, or_left, or_right}
 use Rattle.pop_order.specs.Frames.{Frames}
 use Rattle.swan_model.specs.declared.rights.Mode.TheVariants.{Push}
 use Rattle.swan_model.specs.QueueState.{QueueRight}
@@ -26,17 +24,13 @@ use Rattle.queue_book.proofs.GivenPushes.{push_now, push_other}
 use Rattle.queue_book.proofs.LiveKept.{kept_changed, key_of}
 use Rattle.queue_book.proofs.LivePut.{keys_put, place_elsewhere, place_here}
 use Rattle.swan_model.proofs.Lookups.{at_inserted, by_inserted}
+use Rattle.swan_model.proofs.Elements.{any_before, any_last}
 
 pub given_now : (gives : List QueueRight) (give : QueueRight) → gives_queue (gives ++ give ∷ []) give.queue ≡ true
-given_now gives give = list_any-append (λ (r : QueueRight). r.queue == give.queue) gives (give ∷ []) ∙ or_right _ _ (or_left _ false (eq_same give.queue))
+given_now gives give = any_last (λ (r : QueueRight). r.queue == give.queue) gives give (eq-eqb give.queue give.queue refl)
 
 pub given_other : (gives : List QueueRight) (give : QueueRight) (q : ℕ) → q ≢ give.queue → gives_queue (gives ++ give ∷ []) q ≡ gives_queue gives q
-given_other gives give q other =
-    let apart : (give.queue == q) ≡ false = let ne : give.queue ≢ q = λ e. other (sym e) in search rules in
-    list_any-append (λ (r : QueueRight). r.queue == q) gives (give ∷ []) ∙ ap (λ b. gives_queue gives q || (b || false)) apart ∙ or_none (gives_queue gives q) where
-      or_none : (b : Bool) → (b || (false || false)) ≡ b
-      or_none true = refl
-      or_none false = refl
+given_other gives give q other = any_before (λ (r : QueueRight). r.queue == q) gives give (ne_eqb give.queue q (λ same. other (sym same)))
 
 moved_put : (before now : KeptFrame) (queue new : ℕ) (place : OwnChunk) → IsMoved before now → own_chunk_in now.places queue ≡ Some place
     → IsMoved before (with_own_chunk queue (record { key = new; is_maker = place.is_maker; pushes = place.pushes }) now)

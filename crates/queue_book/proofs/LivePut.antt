@@ -1,10 +1,8 @@
 -- A frame that has one place more, or another key for a place.
-use Rattle.std.proofs.Common.{◌≡◌, ◌≢◌, ℕ, Bool, true, false, ◌==◌, Some, refl, sym, ap, ◌∙◌, ◌⊎◌, inl, inr, rules}
-use Rattle.std.proofs.lemmas.Bool.{cases_eq}
-use Rattle.std.proofs.lemmas.List.Folds.{list_any-append}
+use Rattle.std.proofs.Common.{◌≡◌, ◌≢◌, ℕ, true, ◌==◌, Some, refl, sym, ap, ◌∙◌, ◌⊎◌, inl, inr}
+use Rattle.std.proofs.lemmas.Bool.{cases_eq, eq-eqb, ne_eqb}
 use Rattle.std.specs.Option.{option_map}
-use Rattle.std.specs.Prelude.{is_some, ◌||◌}
-use Rattle.pop_order.proofs.Flags.{eq_same, or_left, or_right}
+use Rattle.std.specs.Prelude.{is_some}
 use Rattle.swan_model.specs.QueueState.{ActiveFrame, QueueRight, with_made}
 use Rattle.queue_book.specs.Chains.{put_at}
 use Rattle.queue_book.specs.KeptFrames.{KeptFrame, own_chunk_in}
@@ -15,6 +13,8 @@ use Rattle.queue_book.specs.declared.live_frame.OwnChunk.{OwnChunk}
 use Rattle.queue_book.specs.declared.live_frames.LiveFrames.{LiveFrames}
 use Rattle.queue_book.proofs.ChainChanges.{put_other, put_same}
 use Rattle.swan_model.proofs.Lookups.{at_inserted, by_inserted}
+use Rattle.swan_model.proofs.Elements.{any_before, any_last}
+use Rattle.queues.proofs.OneChanged.{both_on}
 
 pub place_here : (kept : KeptFrame) (queue : ℕ) (place : OwnChunk) → own_chunk_in (with_own_chunk queue place kept).places queue ≡ Some place
 place_here kept queue place = at_inserted kept.places queue place
@@ -42,15 +42,10 @@ keys_put frames after n queue place kept was one m q = by (cases_eq m n) (cases_
 -- ---- a queue that a frame made
 
 pub has_made : (frame : ActiveFrame) (queue : ℕ) → has_queue (with_made queue frame) queue ≡ true
-has_made frame queue = list_any-append (λ (r : QueueRight). r.queue == queue) frame.rights _ ∙ or_right _ _ (or_left _ false (eq_same queue))
+has_made frame queue = any_last (λ (r : QueueRight). r.queue == queue) frame.rights (both_on queue) (eq-eqb queue queue refl)
 
 pub has_not_made : (frame : ActiveFrame) (queue q : ℕ) → q ≢ queue → has_queue (with_made queue frame) q ≡ has_queue frame q
-has_not_made frame queue q other =
-    let apart : (queue == q) ≡ false = let ne : queue ≢ q = λ e. other (sym e) in search rules in
-    list_any-append (λ (r : QueueRight). r.queue == q) frame.rights _ ∙ ap (λ b. has_queue frame q || (b || false)) apart ∙ or_none (has_queue frame q) where
-      or_none : (b : Bool) → (b || (false || false)) ≡ b
-      or_none true = refl
-      or_none false = refl
+has_not_made frame queue q other = any_before (λ (r : QueueRight). r.queue == q) frame.rights (both_on queue) (ne_eqb queue q (λ same. other (sym same)))
 
 pub places_made : (kept : KeptFrame) (frame : ActiveFrame) (queue : ℕ) (place : OwnChunk) → ((q : ℕ) → is_some (own_chunk_in kept.places q) ≡ has_queue frame q)
     → (q : ℕ) → is_some (own_chunk_in (with_own_chunk queue place kept).places q) ≡ has_queue (with_made queue frame) q

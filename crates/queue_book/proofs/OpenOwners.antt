@@ -1,10 +1,9 @@
 -- The first owner before a frame's own chunk that may push.
 use Rattle.std.proofs.Common.{◌≡◌, ◌≢◌, ℕ, zero, suc, ◌<◌, Bool, true, false, ◌==◌, Option, Some, None, [], ◌∷◌, refl, sym, ap, subst, ◌∙◌, ◌⊎◌, inl, inr, arith, rules}
-use Rattle.std.proofs.lemmas.Bool.{cases_eq, false≢true}
+use Rattle.std.proofs.lemmas.Bool.{cases_eq, false≢true, and_from, eq-eqb, or_left, or_right}
 use Rattle.std.proofs.lemmas.List.Folds.{list_any-append}
 use Rattle.std.specs.Option.{option_map_or}
 use Rattle.std.specs.Prelude.{◌&&◌, slice_get, if◌then◌else◌}
-use Rattle.pop_order.proofs.Flags.{and_both, eq_same, or_left, or_right}
 use Rattle.swan_model.specs.declared.rights.Mode.TheVariants.{Push, PushPop}
 use Rattle.swan_model.specs.QueueState.{ActiveFrame, QueueRight, QueueState, active, holds_queue, with_made}
 use Rattle.swan_model.specs.Rights.{allows}
@@ -14,8 +13,8 @@ use Rattle.queue_book.specs.Live.{AreLive, is_pusher}
 use Rattle.queues.specs.Tree.{has_queue}
 use Rattle.queue_book.specs.declared.live_frame.OwnChunk.{OwnChunk}
 use Rattle.queue_book.specs.declared.live_frames.LiveFrames.{LiveFrames}
-use Rattle.queues.proofs.Frames.{same_frame}
 use Rattle.queue_book.proofs.LiveKept.{has_key, place_of_key}
+use Rattle.swan_model.proofs.Elements.{one_answer}
 
 -- an owner has the queue
 pub owner_has : (state : QueueState) (q : ℕ) (chunks : Chunks) → HasOwners state q chunks → (index m : ℕ) (g : ActiveFrame) → IsOwner state chunks index m
@@ -23,7 +22,7 @@ pub owner_has : (state : QueueState) (q : ℕ) (chunks : Chunks) → HasOwners s
 owner_has state q chunks owners index m g owns live =
     let is = owners.owners index m owns in
     let P : ActiveFrame → Type 0 = λ f. has_queue f q ≡ true in
-    subst P (same_frame (active state m) is.0 g is.1 live) is.2
+    subst P (one_answer (active state m) is.0 g is.1 live) is.2
 
 -- whether it may push is kept
 pub pushes_kept : (state : QueueState) (frames : LiveFrames) → AreLive state frames → (m q : ℕ) (g : ActiveFrame) → active state m ≡ Some g → has_queue g q ≡ true
@@ -36,7 +35,7 @@ pushes_kept state frames live m q g there has =
 pub pushes_made : (frame : ActiveFrame) (queue : ℕ) → holds_queue (with_made queue frame) queue Push ≡ true
 pushes_made frame queue =
     list_any-append (λ (r : QueueRight). (r.queue == queue) && allows r.mode Push) frame.rights _
-    ∙ or_right _ _ (or_left _ false (and_both (queue == queue) (allows PushPop Push) (eq_same queue) refl))
+    ∙ or_right _ _ (or_left _ false (and_from (queue == queue) (allows PushPop Push) (eq-eqb queue queue refl) refl))
 
 module _ (frames : LiveFrames) (n q : ℕ) where
   -- a walk goes past an owner that may not push
@@ -47,8 +46,8 @@ module _ (frames : LiveFrames) (n q : ℕ) where
     by true is may so e = let never : None ≡ Some m = e in absurd (cc)
     by false is true so e =
         let same : owner ≡ m = cc in
-        (λ own. false≢true (sym is ∙ ap (λ k. k == n) own ∙ eq_same n), inl (same, ap (λ k. is_pusher frames k q) (sym same) ∙ so))
-    by false is false so e = (λ own. false≢true (sym is ∙ ap (λ k. k == n) own ∙ eq_same n), inr (e, so))
+        (λ own. false≢true (sym is ∙ ap (λ k. k == n) own ∙ eq-eqb n n refl), inl (same, ap (λ k. is_pusher frames k q) (sym same) ∙ so))
+    by false is false so e = (λ own. false≢true (sym is ∙ ap (λ k. k == n) own ∙ eq-eqb n n refl), inr (e, so))
 
   -- Where the walk finds one, it owns a chunk and may push; none before it may, and the frame's own chunk is behind.
   pub record IsOpenFound (chunks : Chunks) (m : ℕ) : Type 0 where
@@ -123,7 +122,7 @@ module _ (frames : LiveFrames) (n q : ℕ) where
   pub open_own_chunk : (first : Chunk) (rest : Chunks) → first.owner ≡ Some n → first_open frames n q (first ∷ rest) ≡ None
   open_own_chunk first rest own =
       ap (λ o. open_or frames n q o (first_open frames n q rest)) own
-      ∙ ap (λ b. if b then None else (if is_pusher frames n q then Some n else first_open frames n q rest)) (eq_same n)
+      ∙ ap (λ b. if b then None else (if is_pusher frames n q then Some n else first_open frames n q rest)) (eq-eqb n n refl)
 
   -- and ends at the first chunk where its owner may push
   pub open_first_owner : (m : ℕ) (first : Chunk) (rest : Chunks) → first.owner ≡ Some m → m ≢ n → is_pusher frames m q ≡ true → first_open frames n q (first ∷ rest) ≡ Some m

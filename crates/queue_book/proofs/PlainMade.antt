@@ -18,8 +18,7 @@ use Rattle.queue_book.specs.Whole.{IsLine, IsPlain}
 use Rattle.pop_order.specs.OneChange.{IsOnlyChange}
 use Rattle.queues.proofs.ActiveAfter.{one_changed, one_goes_on}
 use Rattle.queues.proofs.Creating.{created_follows, root_created_follows}
-use Rattle.queues.proofs.Frames.{same_frame}
-use Rattle.swan_model.proofs.Elements.{more_cases}
+use Rattle.swan_model.proofs.Elements.{more_cases, one_answer}
 use Rattle.queue_book.proofs.LivePut.{has_not_made}
 use Rattle.queues.proofs.Match.{matches_create, matches_create_other, matches_root, matches_root_other}
 use Rattle.queue_book.proofs.PlainSaid.{in_each, on_next}
@@ -33,7 +32,7 @@ pub made_in_use : (state after : QueueState) (n : ℕ) (frame later : ActiveFram
 made_in_use state after n frame later live one q maker same (inl of_root) = inl of_root
 made_in_use state after n frame later live one q maker same (inr (number, found, live_found, has)) = elim (cases_eq number n) [
   | inl here ↦
-      let is : found ≡ later = same_frame (active after n) found later (ap (active after) (sym here) ∙ live_found) one.changed in
+      let is : found ≡ later = one_answer (active after n) found later (ap (active after) (sym here) ∙ live_found) one.changed in
       inr (n, frame, live, sym same ∙ ap (λ (f : ActiveFrame). has_queue f q) (sym is) ∙ has)
   | inr other ↦ inr (number, found, sym (one.others number other) ∙ live_found, has)
 ]

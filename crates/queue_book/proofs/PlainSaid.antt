@@ -1,9 +1,8 @@
 -- What calls ask for and answer where there is a script.
-use Rattle.std.proofs.Common.{◌≡◌, ◌≢◌, ℕ, Bool, true, false, ◌==◌, Option, Some, sym, ap, subst, ◌∙◌, inl, inr, rules}
-use Rattle.std.proofs.lemmas.Bool.{cases_eq}
+use Rattle.std.proofs.Common.{◌≡◌, ◌≢◌, ℕ, Bool, true, false, ◌==◌, Option, Some, sym, ap, subst, ◌∙◌, inl, inr, rules, refl}
+use Rattle.std.proofs.lemmas.Bool.{cases_eq, eq-eqb}
 use Rattle.std.specs.Option.{option_map}
 use Rattle.std.specs.Prelude.{slice_get, if◌then◌else◌}
-use Rattle.pop_order.proofs.Flags.{eq_same}
 use Rattle.swan_model.specs.declared.origin.Origin.{Origin}
 use Rattle.swan_model.specs.declared.script.Script.{Script}
 use Rattle.swan_model.specs.Lawful.{IsLawful}
@@ -41,7 +40,7 @@ pub in_each : (P : ℕ → Chunks → Type 0) (queue : ℕ) (change : Chunks →
     → P q (in_line queue change lines q)
 in_each P queue change lines q here elsewhere = elim (cases_eq q queue) [
   | inl same ↦
-      let b : (q == queue) ≡ true = ap (λ k. k == queue) same ∙ eq_same queue in
+      let b : (q == queue) ≡ true = ap (λ k. k == queue) same ∙ eq-eqb queue queue refl in
       let Q : Bool → Type 0 = λ c. P q (if c then change (lines q) else lines q) in
       subst Q (sym b) (here same)
   | inr other ↦

@@ -1,15 +1,14 @@
 -- Where these conditions hold, a state allows the call.
-use Rattle.std.proofs.Common.{◌≡◌, ℕ, Bool, true, false, ◌&&◌, ◌==◌, not, ltb, Option, Some, None, List, [], ◌∷◌, length, refl, sym, ap, ◌∙◌, arith, is_none, slice_get}
+use Rattle.std.proofs.Common.{◌≡◌, ℕ, Bool, true, ◌&&◌, ◌==◌, not, ltb, Option, Some, None, List, [], ◌∷◌, length, refl, sym, ap, ◌∙◌, is_none, slice_get}
 use Rattle.std.specs.List.{list_any}
-use Rattle.std.proofs.lemmas.Bool.Decides.{nat_tests}
-use Rattle.std.proofs.lemmas.Bool.{and_parts, eqb-true, ltb-true, false≢true}
+use Rattle.std.proofs.lemmas.Bool.{and_parts, eqb-true, ltb-true, false≢true, not-true, eq-eqb}
 use Rattle.swan_model.specs.declared.path.TheConstants.{PATH_MOST}
 use Rattle.swan_model.specs.declared.rights.Mode.{Mode}
 use Rattle.swan_model.specs.declared.rights.Mode.TheVariants.{Pop}
 use Rattle.swan_model.specs.QueueState.{ActiveFrame, IsActiveChild, IsOfRoot, IsUntouched, QueueMaker, MayGive, planned, made_by, QueueRight, QueueState, active, holds_queue, COUNT_MOST}
 use Rattle.swan_model.specs.Rights.{is_queue_mode}
 use Rattle.queues.specs.Asks.{CHILDREN_MOST, HasRoom, QUEUES_MOST, IsRestLeft, MayDo, MayJoin, MayLook, MaySpawn, MayUse}
-use Rattle.swan_model.proofs.Elements.{any_from, found_is}
+use Rattle.swan_model.proofs.Elements.{any_from, found_is, none_is}
 use Rattle.queue_tests.specs.Allowed.{acts, has_room, has_space, is_rest_left, is_of, is_of_root, is_untouched, may_give, may_join, may_make, may_spawn, may_use}
 
 record Acts (found : Option ActiveFrame) (test : ActiveFrame → Bool) : Type 0 where
@@ -18,27 +17,13 @@ record Acts (found : Option ActiveFrame) (test : ActiveFrame → Bool) : Type 0 
   back : frame.lent ≡ None
   holds : test frame ≡ true
 
-left_of : (a b : Bool) → (a && b) ≡ true → a ≡ true
-left_of a b e = (and_parts a b e).0
-
-right_of : (a b : Bool) → (a && b) ≡ true → b ≡ true
-right_of a b e = (and_parts a b e).1
-
-not_of : (a : Bool) → not a ≡ true → a ≡ false
-not_of true e = absurd (false≢true e)
-not_of false e = refl
-
-none_of : {A : Type 0} (a : Option A) → is_none a ≡ true → a ≡ None
-none_of None e = refl
-none_of (Some a) e = absurd (false≢true e)
-
 acting : (found : Option ActiveFrame) (test : ActiveFrame → Bool) → acts found test ≡ true → Acts found test
 acting None test e = absurd (false≢true e)
 acting (Some frame) test e = record {
   frame = frame;
   live = refl;
-  back = none_of frame.lent (left_of (is_none frame.lent) (test frame) e);
-  holds = right_of (is_none frame.lent) (test frame) e;
+  back = none_is frame.lent (and_parts (is_none frame.lent) (test frame) e).0;
+  holds = (and_parts (is_none frame.lent) (test frame) e).1;
 }
 
 pub made_by_test : (state : QueueState) (number : ℕ) → may_make state number ≡ true → MayDo state number
@@ -59,8 +44,8 @@ pub used_by_test : (state : QueueState) (number queue : ℕ) (mode : Mode) → m
 used_by_test state number queue mode e =
     let is = acting (active state number) (λ frame. has_room frame && holds_queue frame queue mode) e in
     record {
-      act = record { frame = is.frame; may = record { live = is.live; back = is.back }; room = ltb-true is.frame.deeds COUNT_MOST (left_of (has_room is.frame) (holds_queue is.frame queue mode) is.holds) };
-      held = right_of (has_room is.frame) (holds_queue is.frame queue mode) is.holds;
+      act = record { frame = is.frame; may = record { live = is.live; back = is.back }; room = ltb-true is.frame.deeds COUNT_MOST (and_parts (has_room is.frame) (holds_queue is.frame queue mode) is.holds).0 };
+      held = (and_parts (has_room is.frame) (holds_queue is.frame queue mode) is.holds).1;
     }
 
 pub looked_by_test : (state : QueueState) (number queue : ℕ) → may_use state number queue Pop ≡ true → MayLook state number queue
@@ -74,12 +59,12 @@ given_by_test frame (give ∷ gives) e =
     let held = holds_queue frame give.queue give.mode in
     let of_queues = is_queue_mode give.mode in
     let again = list_any (λ (other : QueueRight). other.queue == give.queue) gives in
-    let more = right_of held (of_queues && (not again && may_give frame gives)) e in
-    let most = right_of of_queues (not again && may_give frame gives) more in (
-      left_of held (of_queues && (not again && may_give frame gives)) e,
-      left_of of_queues (not again && may_give frame gives) more,
-      not_of again (left_of (not again) (may_give frame gives) most),
-      given_by_test frame gives (right_of (not again) (may_give frame gives) most),
+    let more = (and_parts held (of_queues && (not again && may_give frame gives)) e).1 in
+    let most = (and_parts of_queues (not again && may_give frame gives) more).1 in (
+      (and_parts held (of_queues && (not again && may_give frame gives)) e).0,
+      (and_parts of_queues (not again && may_give frame gives) more).0,
+      not-true again (and_parts (not again) (may_give frame gives) most).0,
+      given_by_test frame gives (and_parts (not again) (may_give frame gives) most).1,
     )
 
 pub spawned_by_test : (state : QueueState) (parent child : ℕ) (gives : List QueueRight) → may_spawn state parent child gives ≡ true → MaySpawn state parent child gives
@@ -90,15 +75,15 @@ spawned_by_test state parent child gives e =
     let given = may_give is.frame gives in
     let depth = ltb (length is.frame.path) PATH_MOST in
     let few = ltb is.frame.children CHILDREN_MOST in
-    let more = right_of (has_room is.frame) (newest && (given && (depth && few))) is.holds in
-    let most = right_of newest (given && (depth && few)) more in
-    let last = right_of given (depth && few) most in
+    let more = (and_parts (has_room is.frame) (newest && (given && (depth && few))) is.holds).1 in
+    let most = (and_parts newest (given && (depth && few)) more).1 in
+    let last = (and_parts given (depth && few) most).1 in
     record {
-      act = record { frame = is.frame; may = record { live = is.live; back = is.back }; room = ltb-true is.frame.deeds COUNT_MOST (left_of (has_room is.frame) (newest && (given && (depth && few))) is.holds) };
-      newest = ltb-true state.latest child (left_of newest (given && (depth && few)) more);
-      lawful = given_by_test is.frame gives (left_of given (depth && few) most);
-      depth = ltb-true (length is.frame.path) PATH_MOST (left_of depth few last);
-      few = ltb-true is.frame.children CHILDREN_MOST (right_of depth few last);
+      act = record { frame = is.frame; may = record { live = is.live; back = is.back }; room = ltb-true is.frame.deeds COUNT_MOST (and_parts (has_room is.frame) (newest && (given && (depth && few))) is.holds).0 };
+      newest = ltb-true state.latest child (and_parts newest (given && (depth && few)) more).0;
+      lawful = given_by_test is.frame gives (and_parts given (depth && few) most).0;
+      depth = ltb-true (length is.frame.path) PATH_MOST (and_parts depth few last).0;
+      few = ltb-true is.frame.children CHILDREN_MOST (and_parts depth few last).1;
     }
 
 child_stands : (state : QueueState) (number child : ℕ) → IsActiveChild state number child
@@ -106,10 +91,7 @@ child_stands : (state : QueueState) (number child : ℕ) → IsActiveChild state
 child_stands state number child is =
     let found = found_is (λ (f : ActiveFrame). f.number == child) state.frames is.frame is.live in
     any_from (λ (other : ActiveFrame). is_of number other.parent) state.frames found.index is.frame found.stands
-    (ap (is_of number) is.of ∙ same number)
-  where
-    same : (n : ℕ) → (n == n) ≡ true
-    same n = grind (arith, nat_tests)
+    (ap (is_of number) is.of ∙ eq-eqb number number refl)
 
 pub joined_by_test : (state : QueueState) (number : ℕ) → may_join state number ≡ true → MayJoin state number
 joined_by_test state number e =
@@ -118,7 +100,7 @@ joined_by_test state number e =
     record {
       frame = is.frame;
       may = record { live = is.live; back = is.back };
-      alone = λ child of. false≢true (sym (not_of some is.holds) ∙ child_stands state number child of);
+      alone = λ child of. false≢true (sym (not-true some is.holds) ∙ child_stands state number child of);
     }
 
 root_by_test : (maker : Option QueueMaker) → is_of_root maker ≡ true → IsOfRoot maker
@@ -132,11 +114,11 @@ left_by_test state queue e =
     let known = ltb queue (length state.makers) in
     let of = is_of_root (slice_get state.makers queue) in
     let over = is_none (active state 0) in
-    let more = right_of known (of && over) e in
+    let more = (and_parts known (of && over) e).1 in
     record {
-      known = ltb-true queue (length state.makers) (left_of known (of && over) e);
-      made = root_by_test (slice_get state.makers queue) (left_of of over more);
-      over = none_of (active state 0) (right_of of over more);
+      known = ltb-true queue (length state.makers) (and_parts known (of && over) e).0;
+      made = root_by_test (slice_get state.makers queue) (and_parts of over more).0;
+      over = none_is (active state 0) (and_parts of over more).1;
     }
 
 pub untouched_by_test : (state : QueueState) → is_untouched state ≡ true → IsUntouched state

@@ -1,13 +1,15 @@
 -- The frames above an active one: all are active, and who uses a queue below its maker uses it by right of each of them.
 use Rattle.std.proofs.Common.{◌≡◌, ◌⊎◌, inl, inr, ℕ, zero, suc, ◌<◌, true, Some, List, [], ◌∷◌, ◌++◌, refl, sym, ap, subst, ◌∙◌, append_assoc, append-nil, arith}
+use Rattle.std.proofs.lemmas.List.{same_from_push}
 use Rattle.std.proofs.lemmas.Option.{same_Some}
 use Rattle.std.specs.Prelude.{slice_get}
 use Rattle.swan_model.specs.declared.rights.Mode.{Mode}
 use Rattle.swan_model.specs.QueueState.{ActiveFrame, QueueMaker, QueueState, active, holds_queue}
-use Rattle.swan_model.proofs.Lists.{last_of, last_same, some_within}
-use Rattle.swan_model.proofs.Paths.{not_below-itself}
+use Rattle.swan_model.proofs.Lists.{last_of, some_within}
+use Rattle.swan_model.proofs.Paths.{not_below-itself, not_root}
 use Rattle.queues.specs.Tree.{IsHeld, made, given, IsTree, has_queue, maker_path}
-use Rattle.queues.proofs.Frames.{active_number, same_frame, has_held}
+use Rattle.queues.proofs.Frames.{active_number, has_held}
+use Rattle.swan_model.proofs.Elements.{one_answer}
 
 -- paths with one front that go on by the same part
 pub same_front : (top : List ℕ) (a b : ℕ) (rest more : List ℕ) → top ++ a ∷ rest ≡ top ++ b ∷ more → a ≡ b
@@ -15,10 +17,6 @@ same_front [] a b rest more is = cc
 same_front (part ∷ parts) a b rest more is =
     let tail : parts ++ a ∷ rest ≡ parts ++ b ∷ more = cc in
     same_front parts a b rest more tail
-
-not_root : (path rest : List ℕ) (part : ℕ) → path ++ part ∷ rest ≡ [] → ⊥
-not_root [] rest part is = absurd (cc)
-not_root (first ∷ path) rest part is = absurd (cc)
 
 module _ (state : QueueState) (tree : IsTree state) where
   -- who has a queue is its maker, or below it
@@ -37,7 +35,7 @@ module _ (state : QueueState) (tree : IsTree state) where
           ([], own ∙ ap maker_path same ∙ sym (append-nil (maker_path maker)))
       by (given parent above of alive too modes apart) higher =
           let from = tree.spawned number parent frame live of in
-          let one = same_frame (active state parent) from.above above from.live alive in
+          let one = one_answer (active state parent) from.above above from.live alive in
           let own = active_number state number frame live in
           let older = from.older in
           let upper = higher parent above (omega arith) alive too in
@@ -99,7 +97,7 @@ module _ (state : QueueState) (tree : IsTree state) where
         of = parent.1;
         above = from.above;
         above_live = from.live;
-        above_path = (last_same from.above.path top from.index part (sym from.path ∙ path)).0;
+        above_path = (same_from_push from.above.path top from.index part (sym from.path ∙ path)).0;
         reached = inl refl;
       }
   climbs Told top part up (suc fuel) number frame (next ∷ rest) less live path told =
@@ -110,7 +108,7 @@ module _ (state : QueueState) (tree : IsTree state) where
       let last = last_of next rest in
       let whole : top ++ part ∷ next ∷ rest ≡ (top ++ part ∷ last.front) ++ last.last ∷ [] =
       ap (λ p. top ++ part ∷ p) last.is ∙ sym (append_assoc top (part ∷ last.front) (last.last ∷ [])) in
-      let higher = (last_same from.above.path (top ++ part ∷ last.front) from.index last.last (sym from.path ∙ path ∙ whole)).0 in
+      let higher = (same_from_push from.above.path (top ++ part ∷ last.front) from.index last.last (sym from.path ∙ path ∙ whole)).0 in
       let way = climbs Told top part up fuel parent.0 from.above last.front (omega arith) from.live higher
       (up number parent.0 frame from.above last.front live parent.1 from.live higher told) in
       record {
@@ -131,7 +129,7 @@ module _ (state : QueueState) (tree : IsTree state) where
           → (index : ℕ) → index < above.children → (other ≡ parent) ⊎ (0 < child.children) → 0 < child.children
       spawned other child alive parent above there index fewer (inl same) =
           let P : ℕ → Type 0 = λ n. active state n ≡ Some above in
-          let one = same_frame (active state other) child above alive (subst P (sym same) there) in
+          let one = one_answer (active state other) child above alive (subst P (sym same) there) in
           let as_many : child.children ≡ above.children = ap (λ (g : ActiveFrame). g.children) one in
           omega arith
       spawned other child alive parent above there index fewer (inr some) = some
@@ -150,7 +148,7 @@ module _ (state : QueueState) (tree : IsTree state) where
       by (made other there own) =
           let same : other ≡ maker = same_Some other maker (sym there ∙ at) in
           let from = tree.spawned number parent frame live of in
-          let one = same_frame (active state parent) from.above above from.live alive in
+          let one = one_answer (active state parent) from.above above from.live alive in
           let whole : maker_path maker ≡ top ++ part ∷ (rest ++ from.index ∷ []) =
           ap maker_path (sym same) ∙ sym own ∙ from.path ∙ ap (λ (g : ActiveFrame). g.path ++ from.index ∷ []) one
           ∙ ap (λ p. p ++ from.index ∷ []) path ∙ append_assoc top (part ∷ rest) (from.index ∷ []) in
@@ -158,7 +156,7 @@ module _ (state : QueueState) (tree : IsTree state) where
       by (given other upper here there too modes apart) =
           let same : other ≡ parent = same_Some other parent (sym here ∙ of) in
           let P : ℕ → Type 0 = λ n. active state n ≡ Some upper in
-          let one = same_frame (active state parent) upper above (subst P same there) alive in
+          let one = one_answer (active state parent) upper above (subst P same there) alive in
           let Q : ActiveFrame → Type 0 = λ g. holds_queue g queue mode ≡ true in
           subst Q one (modes mode held)
 

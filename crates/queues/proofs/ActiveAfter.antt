@@ -1,12 +1,11 @@
 -- The active frames after a call: the frame that made it is changed, and all others are as they were.
-use Rattle.std.proofs.Common.{◌≡◌, ◌≢◌, ℕ, ◌+◌, Bool, true, false, cond, not, nat_eq, List, [], ◌∷◌, ◌++◌, map, Option, Some, None, refl, sym, ap, subst, ◌∙◌, ◌≤◌}
+use Rattle.std.proofs.Common.{◌≡◌, ◌≢◌, ℕ, ◌+◌, Bool, true, false, cond, not, nat_eq, List, map, Option, Some, None, refl, sym, ap, subst, ◌∙◌, ◌≤◌}
 use Rattle.std.proofs.lemmas.Bool.{eq-eqb, ne_eqb}
-use Rattle.std.specs.List.{find}
 use Rattle.std.specs.Option.{option_map}
 use Rattle.swan_model.specs.QueueState.{ActiveFrame, QueueRight, QueueState, active, after_finish, after_spawn, changed, changing, child_of, with_deed}
-use Rattle.swan_model.proofs.Elements.{find_map}
+use Rattle.swan_model.proofs.Elements.{find_map, found_last, found_unless}
 use Rattle.pop_order.specs.OneChange.{IsOnlyChange}
-use Rattle.queues.proofs.FramesChanged.{find_last, find_others, find_gone}
+use Rattle.queues.proofs.FramesChanged.{find_others, find_gone}
 use Rattle.queues.proofs.Frames.{active_number}
 
 -- a change that leaves the numbers of frames
@@ -60,12 +59,6 @@ one_gone state n = record { changed = by (active (after_finish state n) n) refl;
   by None e = refl
   by (Some frame) e = absurd (find_gone state.frames n frame e)
 
--- a frame more at the end
-pub found_more : (n : ℕ) (frames : List ActiveFrame) (last : ActiveFrame) → last.number ≢ n
-    → find (λ (frame : ActiveFrame). nat_eq frame.number n) (frames ++ last ∷ []) ≡ find (λ (frame : ActiveFrame). nat_eq frame.number n) frames
-found_more n [] last differ = ap (λ b. cond b (Some last) None) (ne_eqb last.number n differ)
-found_more n (frame ∷ frames) last differ = ap (λ o. cond (nat_eq frame.number n) (Some frame) o) (found_more n frames last differ)
-
 -- after a spawn, of a child that isn't active yet
 module _ (state : QueueState) (n child : ℕ) (frame : ActiveFrame) (gives : List QueueRight) (live : active state n ≡ Some frame) (new : active state child ≡ None) where
   abbrev one_more : ActiveFrame → ActiveFrame
@@ -76,15 +69,15 @@ module _ (state : QueueState) (n child : ℕ) (frame : ActiveFrame) (gives : Lis
 
   pub others_spawned : (m : ℕ) → m ≢ n → m ≢ child → active (after_spawn state frame child gives) m ≡ active state m
   others_spawned m differ not =
-      found_more m (map (changed frame.number one_more) state.frames) (child_of frame child gives) (λ same. not (sym same))
+      found_unless (λ (f : ActiveFrame). nat_eq f.number m) (map (changed frame.number one_more) state.frames) (child_of frame child gives) (ne_eqb child m (λ same. not (sym same)))
       ∙ (one_goes_on state n frame one_more (λ f. refl) live).others m differ
 
   pub parent_spawned : active (after_spawn state frame child gives) n ≡ Some (with_deed (record frame { children = frame.children + 1 }))
   parent_spawned =
-      found_more n (map (changed frame.number one_more) state.frames) (child_of frame child gives) (λ same. apart (sym same))
+      found_unless (λ (f : ActiveFrame). nat_eq f.number n) (map (changed frame.number one_more) state.frames) (child_of frame child gives) (ne_eqb child n (λ same. apart (sym same)))
       ∙ (one_goes_on state n frame one_more (λ f. refl) live).changed
 
   pub child_spawned : active (after_spawn state frame child gives) child ≡ Some (child_of frame child gives)
   child_spawned =
-      find_last (map (changed frame.number one_more) state.frames) (child_of frame child gives)
-      (λ other found. let none : Some other ≡ None = sym found ∙ active_changed state frame.number one_more (λ f. refl) child ∙ ap (option_map (changed frame.number one_more)) new in absurd (cc))
+      found_last (λ (f : ActiveFrame). nat_eq f.number child) (map (changed frame.number one_more) state.frames) (child_of frame child gives)
+      (active_changed state frame.number one_more (λ f. refl) child ∙ ap (option_map (changed frame.number one_more)) new) (eq-eqb child child refl)

@@ -15,7 +15,7 @@ use Rattle.swan_model.specs.SerialTime.{Progress, is_queue_deed, point, time, ti
 use Rattle.swan_model.specs.Told.{deed_at}
 use Rattle.swan_model.proofs.ScriptSteps.{at_next, deed_is, next_stands}
 use Rattle.queues.proofs.Between.{own_last}
-use Rattle.swan_model.proofs.Elements.{as_number, filtered_more}
+use Rattle.swan_model.proofs.Elements.{filtered_more, one_if}
 use Rattle.queues.proofs.Fitting.{is_queue_time}
 use Rattle.queues.proofs.QueuePoints.{last-ends}
 
@@ -36,11 +36,11 @@ module _ (s : Script) where
       record { entry = step.entry; stands = step.stands; own = step.own }
 
   -- its next entry counts if it is a queue deed
-  pub deeds_more : (p : Progress) (d : Deed) → next_deed s p ≡ Some d → deeds_among p.path (p.done + 1) ≡ deeds_among p.path p.done + as_number (is_queue_deed d)
+  pub deeds_more : (p : Progress) (d : Deed) → next_deed s p ≡ Some d → deeds_among p.path (p.done + 1) ≡ deeds_among p.path p.done + one_if (is_queue_deed d)
   deeds_more p d next =
       let step = at_next s p d next in
       filtered_more (is_queue_time s) (times s p.path) p.done (point s p) (next_stands s p step.left)
-      ∙ ap (λ x. deeds_among p.path p.done + as_number (is_queue_deed x)) (does_now p d next)
+      ∙ ap (λ x. deeds_among p.path p.done + one_if (is_queue_deed x)) (does_now p d next)
 
   -- a frame fits that differs in nothing that counts
   pub fits_same : (frame after : ActiveFrame) (p : Progress) → FitsFrame s frame p → after.path ≡ frame.path → after.deeds ≡ frame.deeds → FitsFrame s after p
@@ -54,7 +54,7 @@ module _ (s : Script) where
       }
 
   -- So it fits with one entry more, where one is left then.
-  pub fits_next : (frame after : ActiveFrame) (p : Progress) (d : Deed) → FitsFrame s frame p → next_deed s p ≡ Some d → after.path ≡ frame.path → after.deeds ≡ frame.deeds + as_number (is_queue_deed d)
+  pub fits_next : (frame after : ActiveFrame) (p : Progress) (d : Deed) → FitsFrame s frame p → next_deed s p ≡ Some d → after.path ≡ frame.path → after.deeds ≡ frame.deeds + one_if (is_queue_deed d)
       → p.done + 1 < length (times s p.path) → FitsFrame s after (record p { done = p.done + 1 })
   fits_next frame after p d fit next path deeds left =
       let task : after.path ≡ p.path = path ∙ sym fit.path in

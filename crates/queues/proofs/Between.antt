@@ -16,10 +16,11 @@ use Rattle.swan_model.specs.SerialTime.{is_of, is_queue_deed, time, times}
 use Rattle.swan_model.specs.Told.{deed_at}
 use Rattle.swan_model.proofs.Lists.{some_within}
 use Rattle.swan_model.proofs.Paths.{same_path, path_is-itself}
-use Rattle.swan_model.proofs.Places.{one_if, passing, passing-more, passing-rises, place_of, placed}
+use Rattle.swan_model.proofs.Places.{passing, passing-more, passing-rises, place_of, placed}
 use Rattle.swan_model.proofs.ScriptSteps.{deed_is, own_under}
 use Rattle.swan_model.proofs.TaskEntries.{own_before, own_place}
 use Rattle.swan_model.proofs.Times.{times_rise}
+use Rattle.swan_model.proofs.Elements.{one_if}
 
 -- whether an entry is a queue deed of the task with this path
 abbrev pub is_queue_deed_of : List ℕ → Entry → Bool

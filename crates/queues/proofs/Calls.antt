@@ -1,24 +1,23 @@
 -- Calls that make no queue and no frame leave hyperqueues that follow.
 use Rattle.queues.proofs.ActiveAfter.{KeepsTask}
 use Rattle.std.proofs.lemmas.Option.{same_Some}
-use Rattle.std.proofs.Common.{◌≡◌, inl, ℕ, zero, suc, ◌+◌, ◌-◌, ◌≤◌, true, false, nat_eq, List, [], ◌∷◌, length, Some, None, refl, sym, ap, subst, ◌∙◌, arith}
+use Rattle.std.proofs.Common.{◌≡◌, inl, ℕ, zero, suc, ◌+◌, ◌-◌, ◌≤◌, true, false, nat_eq, List, [], ◌∷◌, Some, None, refl, sym, ap, subst, ◌∙◌, arith}
 use Rattle.std.proofs.lemmas.Bool.{eqb-true}
-use Rattle.std.specs.Prelude.{slice_get, filter}
+use Rattle.std.specs.Prelude.{slice_get}
 use Rattle.swan_model.specs.declared.script.Deed.{Deed}
 use Rattle.swan_model.specs.declared.script.Deed.TheVariants as deed
 use Rattle.swan_model.specs.declared.script.Script.{Script}
 use Rattle.swan_model.specs.Granted.{is_spawn}
 use Rattle.swan_model.specs.Lawful.{IsLawful}
 use Rattle.swan_model.specs.Nested.{IsEntryOf}
-use Rattle.swan_model.specs.QueueFollows.{AreByEnds, IsTask, QueuesFollow, is_by_end, next_queue_deed, queue_point, queue_times}
+use Rattle.swan_model.specs.QueueFollows.{AreByEnds, IsTask, QueuesFollow, is_by_end, next_queue_deed, queue_point}
 use Rattle.swan_model.specs.QueueState.{ActiveFrame, LentEnd, QueueState, active, after_back, after_deed, after_lend, after_take_rest, new_state, root_frame, with_deed}
 use Rattle.swan_model.proofs.Lists.{some_within}
 use Rattle.queues.proofs.Changing.{changed_follows, made_on, task_on}
 use Rattle.swan_model.proofs.Elements.{found_is}
-use Rattle.queues.proofs.Lineage.{is_spawn_time}
 use Rattle.queues.proofs.Moving.{is_making, point_next, used_task}
-use Rattle.queues.proofs.Places.{take-none}
-use Rattle.queues.proofs.QueuePoints.{next_is, some_own}
+use Rattle.queues.proofs.QueuePoints.{next_is}
+use Rattle.swan_model.proofs.TaskEntries.{some_own}
 
 -- ---- deeds that are answered
 
@@ -148,7 +147,7 @@ root_task s lawful =
     record {
       some = some_own s [] 0 own;
       deeds = omega arith;
-      children = ap (λ xs. length (filter (is_spawn_time s) xs)) (sym (take-none (queue_times s [])));
+      children = refl;
       rights = λ queue mode origin queues made. absurd (cc);
       made = λ queue mode queues holds. absurd (cc);
     }

@@ -15,7 +15,7 @@ use Rattle.queues.proofs.Advancing.{fits_same}
 use Rattle.swan_model.proofs.Elements.{find_map, mapped_is}
 use Rattle.queues.proofs.Refitting.{GoesTo, refits}
 use Rattle.queues.proofs.Frames.{active_number}
-use Rattle.queues.proofs.SerialPoints.{frame_number}
+use Rattle.swan_model.proofs.MovedFrames.{frame_number}
 
 -- ---- the frames of a state in which one has changed
 
@@ -98,7 +98,7 @@ module _ (s : Script) (state : QueueState) (r : Reading) (fits : Fits s state r)
   its index x at same = same_Some p x (sym known ∙ ap (frame_of r) (sym same) ∙ fits.numbers index x at)
 
   pub own_more : more_by number many p ≡ after
-  own_more = ap (λ b. cond b after p) (eq-eqb p.number number (frame_number r number p known))
+  own_more = ap (λ b. cond b after p) (eq-eqb p.number number (frame_number r.frames number p known))
 
   pub other_more : (x : Progress) → (x.number ≡ number → ⊥) → more_by number many x ≡ x
   other_more x apart = ap (λ b. cond b (record x { done = x.done + many }) x) (ne_eqb x.number number apart)
@@ -153,7 +153,7 @@ module _ (s : Script) (state : QueueState) (r : Reading) (fits : Fits s state r)
         | inr apart ↦
             let w = keeps.still n frame apart live in
             let q = fits.frames n w.was w.live in
-            let other_one = other_more q.0 (λ same. apart (sym (frame_number r n q.0 q.1) ∙ same)) in
+            let other_one = other_more q.0 (λ same. apart (sym (frame_number r.frames n q.0 q.1) ∙ same)) in
             (g q.0, goes.found n q.0 q.1, subst (FitsFrame s frame) (sym other_one) (fits_same s w.was frame q.0 q.2 w.path w.deeds))
       ])
       (λ i x at none. elim (cases_eq x.number number) [

@@ -1,7 +1,8 @@
 -- The calls that make a queue leave hyperqueues that follow.
 use Rattle.queues.proofs.ActiveAfter.{KeepsTask}
-use Rattle.std.proofs.Common.{◌≡◌, inl, inr, ℕ, ◌+◌, ◌<◌, Bool, true, false, nat_eq, nat_lt, cond, List, [], ◌∷◌, ◌++◌, length, map, Some, refl, sym, ap, subst, ◌∙◌, append-nil, arith, length-append}
+use Rattle.std.proofs.Common.{◌≡◌, inl, inr, ℕ, ◌+◌, ◌<◌, Bool, true, false, nat_eq, nat_lt, cond, List, [], ◌∷◌, ◌++◌, length, map, Some, refl, sym, ap, subst, ◌∙◌, append-nil, arith}
 use Rattle.std.proofs.lemmas.Bool.{and_parts, cases_Bool, cases_eq, eq-eqb, ne_eqb, false_from_ne_true, lt-ltb, ltb-true, or_cases, or_left, or_right}
+use Rattle.std.proofs.lemmas.List.{length_push}
 use Rattle.std.proofs.lemmas.Option.{slice_get-map, slice_get_within, same_Some}
 use Rattle.std.specs.Option.{option_map}
 use Rattle.std.specs.Prelude.{◌&&◌, not, slice_get}
@@ -27,7 +28,7 @@ use Rattle.swan_model.proofs.ScriptSteps.{deed_is, own_under}
 use Rattle.swan_model.proofs.Uses.{may_use-less}
 use Rattle.queues.proofs.Between.{point_left, queue_point-own}
 use Rattle.queues.proofs.Changing.{changed_follows, done_from}
-use Rattle.swan_model.proofs.Elements.{all_from, as_number, found_is, mapped_is, more_cases}
+use Rattle.swan_model.proofs.Elements.{all_from, found_is, mapped_is, more_cases, one_if}
 use Rattle.queues.proofs.Holders.{all_allowed, maker_above, root_may}
 use Rattle.queues.proofs.Kept.{use_kept}
 use Rattle.queues.proofs.Lineage.{child_spawned, entries_before}
@@ -39,9 +40,6 @@ use Rattle.queues.proofs.Under.{under_rest}
 -- a queue that stood has its number below that of the new one
 stood_within : (s : Script) (state : QueueState) (queue : ℕ) (old : QueueMaker) (origin : Origin) → slice_get state.makers queue ≡ Some old → origin_in s old ≡ origin → (queue < length state.makers) × (queue_origin s state queue ≡ Some origin)
 stood_within s state queue old origin at is = (slice_get_within state.makers queue old at, ap (option_map (origin_in s)) at ∙ ap Some is)
-
-one_longer : (makers : List QueueMaker) (maker : QueueMaker) → length (makers ++ maker ∷ []) ≡ length makers + 1
-one_longer makers maker = length-append makers (maker ∷ [])
 
 -- the queue that an entry makes is no other's
 made_grants : (own child : Bool) (t : ℕ) (d : Deed) (mode : Mode) (origin : Origin) → d ≡ deed.MakeQueue → (Step t ≡ origin → ⊥) → may_use (granted own child t d) mode origin ≡ false
@@ -111,12 +109,12 @@ module _ (s : Script) (lawful : IsLawful s) (state : QueueState) (follows : Queu
 
   module _ (after : QueueState) (frames : after.frames ≡ map (changed frame.number change) state.frames) (makers : after.makers ≡ state.makers ++ maker ∷ []) where
     longer : length after.makers ≡ length state.makers + 1
-    longer = ap length makers ∙ one_longer state.makers maker
+    longer = ap length makers ∙ length_push state.makers maker
 
     own_task : IsTask s after (change frame)
     own_task =
         let task = follows.tasks frame.number frame live in
-        let none : as_number (is_spawn (deed_at s here)) ≡ 0 = ap as_number no_spawn_here in
+        let none : one_if (is_spawn (deed_at s here)) ≡ 0 = ap one_if no_spawn_here in
         let many = children_next s lawful frame.path frame.deeds here next.at in
         record {
           some = task.some;
@@ -249,8 +247,8 @@ module _ (s : Script) (lawful : IsLawful s) (state : QueueState) (follows : Queu
         children = task.children;
         rights = λ queue mode origin queues is. by queue mode origin queues (origin_is s state root_after root_maker refl queue origin is);
         made = λ queue mode queues holds. elim (holds_cases untouched.root (length state.makers) queue mode holds) [
-          | inl before ↦ let less = task.made queue mode queues before in omega (arith, less, one_longer state.makers root_maker)
-          | inr it ↦ omega (arith, it, one_longer state.makers root_maker)
+          | inl before ↦ let less = task.made queue mode queues before in omega (arith, less, length_push state.makers root_maker)
+          | inr it ↦ omega (arith, it, length_push state.makers root_maker)
         ];
       }
     where

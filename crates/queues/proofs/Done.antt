@@ -14,9 +14,8 @@ use Rattle.swan_model.specs.QueueFollows.{Fits, QueuesFollow, is_done_among, is_
 use Rattle.swan_model.specs.QueueState.{ActiveFrame, QueueState, active}
 use Rattle.swan_model.specs.SerialTime.{Progress, Reading, is_done, is_of, is_past, is_queue_deed, point}
 use Rattle.swan_model.specs.Told.{deed_at}
-use Rattle.swan_model.proofs.Paths.{same_path}
 use Rattle.swan_model.proofs.Places.{placed}
-use Rattle.swan_model.proofs.Points.{past_above, same_frame, some_of}
+use Rattle.swan_model.proofs.Points.{past_above, same_frame, done_by}
 use Rattle.swan_model.proofs.ScriptSteps.{deed_is}
 use Rattle.swan_model.proofs.TaskEntries.{is_spawn_of, point_over, spawn_own}
 use Rattle.queues.proofs.Between.{own_last}
@@ -24,8 +23,9 @@ use Rattle.swan_model.proofs.Elements.{all_each, all_from, answers_same, found_i
 use Rattle.queues.proofs.Fitting.{same_side}
 use Rattle.queues.proofs.QueuePoints.{spawn-gives}
 use Rattle.queues.proofs.Refitting.{past_done}
-use Rattle.queues.proofs.SerialPoints.{IsRead, frame_in, is_read}
+use Rattle.queues.proofs.SerialPoints.{IsRead, is_read}
 use Rattle.queues.proofs.Under.{led_to, under_from, under_rest}
+use Rattle.swan_model.proofs.MovedFrames.{frame_in}
 
 -- the spawn of a child is a queue deed
 pub spawn_deed : (s : Script) (path : List ℕ) (child spawn : ℕ) → spawn_time s path child ≡ Some spawn → is_queue_deed (deed_at s spawn) ≡ true
@@ -110,7 +110,7 @@ module _ (s : Script) (lawful : IsLawful s) (state : QueueState) (follows : Queu
   reached_by t entry index p stands deed there own past frame live under =
       let q = fits.frames frame.number frame live in
       let read = is_read s lawful state r fits frame.number frame q.0 live q.1 in
-      let place = frame_in r frame.number q.0 q.1 in
+      let place = frame_in r.frames frame.number q.0 q.1 in
       let further = under_rest frame.path entry.path under in
       by q.0 place.index place.stands read further.0 further.1
     where
@@ -130,14 +130,10 @@ module _ (s : Script) (lawful : IsLawful s) (state : QueueState) (follows : Queu
 
   there_done : (t : ℕ) (entry : Entry) → slice_get s.entries t ≡ Some entry → is_queue_deed (deed_at s t) ≡ true → is_done s r t ≡ true → list_all (is_reached s t entry.path) state.frames ≡ true
   there_done t entry stands deed done =
-      let among : list_any (is_past s t entry) r.frames ≡ true = ap (λ o. option_map_or (λ e. list_any (is_past s t e) r.frames) o false) (sym stands) ∙ done in
-      let found = some_of (is_past s t entry) r.frames among in
-      let both = and_parts (is_of found.it.path entry) (nat_lt t (point s found.it)) found.passes in
-      let own = same_path entry.path found.it.path both.0 in
-      let past = ltb-true t (point s found.it) both.1 in
+      let by = done_by s r t entry stands done in
       all_from (is_reached s t entry.path) state.frames (λ i frame at. elim (cases_Bool (is_under frame.path entry.path)) [
         | inl under ↦
-            let before = reached_by t entry found.index found.it stands deed found.stands own past frame (follows.known i frame at) under in
+            let before = reached_by t entry by.index by.frame stands deed by.stands (sym by.own) by.past frame (follows.known i frame at) under in
             or_right (not (is_under frame.path entry.path)) (nat_lt t (queue_point s frame.path frame.deeds)) (lt-ltb t (queue_point s frame.path frame.deeds) before)
         | inr aside ↦ or_left (not (is_under frame.path entry.path)) (nat_lt t (queue_point s frame.path frame.deeds)) (ap not aside)
       ])

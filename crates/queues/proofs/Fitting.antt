@@ -30,7 +30,7 @@ module _ (s : Script) where
       let tells : Tells (is_queue_time s) (λ (e : Entry). is_queue_deed e.deed) 0 (take t s.entries) =
       λ i e stands.
       let zero_i : 0 + i ≡ i = omega arith in
-      ap (is_queue_time s) zero_i ∙ ap is_queue_deed (deed_is s i e (taken_stands t s.entries i e stands)) in
+      ap (is_queue_time s) zero_i ∙ ap is_queue_deed (deed_is s i e (taken_stands t s.entries i e stands).1) in
       ap (λ xs. length (filter (is_queue_time s) xs)) first
       ∙ ap length (sym (both_places (is_of path) (λ (e : Entry). is_queue_deed e.deed) (is_queue_time s) 0 (take t s.entries) tells))
       ∙ places-many (is_queue_deed_of path) 0 (take t s.entries)

@@ -1,52 +1,32 @@
 -- The active frame of a number, and what its rights let it do.
-use Rattle.std.proofs.Common.{◌≡◌, ◌⊎◌, inl, inr, ℕ, Bool, true, nat_eq, Option, Some, List, [], ◌∷◌, refl, sym, ◌∙◌}
+use Rattle.std.proofs.Common.{◌≡◌, ◌⊎◌, inl, inr, ℕ, true, nat_eq, Some, List, [], ◌∷◌, refl}
 use Rattle.std.proofs.lemmas.Bool.{and_from, and_parts, eqb-true, false≢true, or_cases, or_left, or_right}
-use Rattle.std.proofs.lemmas.Option.{same_Some}
 use Rattle.std.specs.List.{list_any}
 use Rattle.std.specs.Prelude.{◌&&◌, ◌==◌}
 use Rattle.swan_model.specs.declared.rights.Mode.{Mode}
-use Rattle.swan_model.specs.declared.rights.Mode.TheVariants.{In, Out, InOut, Push, Pop, PushPop}
+use Rattle.swan_model.specs.declared.rights.Mode.TheVariants.{Push, Pop, PushPop}
 use Rattle.swan_model.specs.QueueState.{ActiveFrame, QueueRight, QueueState, active, holds_queue}
 use Rattle.swan_model.specs.Rights.{allows, is_queue_mode}
 use Rattle.queues.specs.Tree.{has_queue}
-use Rattle.swan_model.proofs.Elements.{found_is}
-use Rattle.swan_model.proofs.Uses.{allows-more}
+use Rattle.swan_model.proofs.Elements.{found_is, any_weaker}
+use Rattle.swan_model.proofs.Uses.{allows-more, allows_own}
 
 -- the active frame of a number has that number
 pub active_number : (state : QueueState) (number : ℕ) (frame : ActiveFrame) → active state number ≡ Some frame → frame.number ≡ number
 active_number state number frame live = eqb-true frame.number number (found_is (λ (f : ActiveFrame). nat_eq f.number number) state.frames frame live).passes
 
-pub same_frame : (found : Option ActiveFrame) (a b : ActiveFrame) → found ≡ Some a → found ≡ Some b → a ≡ b
-same_frame found a b one other = same_Some a b (sym one ∙ other)
-
 -- ---- rights
-
-pub any_too : (test other : QueueRight → Bool) → ((right : QueueRight) → test right ≡ true → other right ≡ true) → (rights : List QueueRight)
-    → list_any test rights ≡ true → list_any other rights ≡ true
-any_too test other then [] some = some
-any_too test other then (right ∷ rights) some = elim (or_cases (test right) (list_any test rights) some) [
-  | inl here ↦ or_left (other right) (list_any other rights) (then right here)
-  | inr there ↦ or_right (other right) (list_any other rights) (any_too test other then rights there)
-]
-
-pub allows_own : (mode : Mode) → allows mode mode ≡ true
-allows_own In = refl
-allows_own Out = refl
-allows_own InOut = refl
-allows_own Push = refl
-allows_own Pop = refl
-allows_own PushPop = refl
 
 -- who may use a queue has it
 pub has_held : (frame : ActiveFrame) (queue : ℕ) (mode : Mode) → holds_queue frame queue mode ≡ true → has_queue frame queue ≡ true
 has_held frame queue mode held =
-    any_too (λ right. (right.queue == queue) && allows right.mode mode) (λ right. right.queue == queue)
+    any_weaker (λ right. (right.queue == queue) && allows right.mode mode) (λ right. right.queue == queue)
     (λ right both. (and_parts (right.queue == queue) (allows right.mode mode) both).0) frame.rights held
 
 -- who may use it by a mode may use it by each mode that this allows
 pub held_through : (frame : ActiveFrame) (queue : ℕ) (mode other : Mode) → holds_queue frame queue mode ≡ true → allows mode other ≡ true → holds_queue frame queue other ≡ true
 held_through frame queue mode other held allowed =
-    any_too (λ right. (right.queue == queue) && allows right.mode mode) (λ right. (right.queue == queue) && allows right.mode other)
+    any_weaker (λ right. (right.queue == queue) && allows right.mode mode) (λ right. (right.queue == queue) && allows right.mode other)
     (λ right both. let parts = and_parts (right.queue == queue) (allows right.mode mode) both in
     and_from (right.queue == queue) (allows right.mode other) parts.0 (allows-more right.mode mode other parts.1 allowed)) frame.rights held
 

@@ -1,11 +1,10 @@
 -- The turn of a child that is given queues, one after another.
 use Rattle.queues.proofs.TurnsEnlisted.{apart_enlisted, up_to}
 use Rattle.swan_model.specs.Rights.{is_queue_mode}
-use Rattle.std.proofs.lemmas.Bool.{cases_eq, false≢true}
+use Rattle.std.proofs.lemmas.Bool.{cases_eq, false≢true, and_from, eq-eqb, or_left, or_right}
 use Rattle.std.proofs.Common.{Option, ◌≡◌, ◌≢◌, ℕ, true, false, ◌==◌, not, ◌||◌, Some, List, [], ◌∷◌, ◌++◌, map, refl, sym, ap, ◌∙◌, zero, suc, ◌<◌, None, take, inl, inr, arith, rules}
 use Rattle.std.specs.List.{list_any}
 use Rattle.std.specs.Prelude.{◌&&◌, slice_get}
-use Rattle.pop_order.proofs.Flags.{and_both, eq_same, or_left, or_right}
 use Rattle.swan_model.proofs.Lookups.{at_inserted, at_set, by_inserted, by_set}
 use Rattle.pop_order.specs.Frames.{Frame, Frames, enlisted, enlisted_at, frame_at, may_get, AreUpTo, MayGet}
 use Rattle.swan_model.specs.QueueState.{QueueRight, ActiveFrame, MayGive}
@@ -38,7 +37,7 @@ turn_others turns parent child (first ∷ gives) give is other apart =
 may_get_more : (parent : ℕ) (gives : List QueueRight) (queue : ℕ) → gives_queue gives queue ≡ false → may_get (turn_of parent gives) parent queue ≡ true
 may_get_more parent [] queue fresh = refl
 may_get_more parent (first ∷ gives) queue fresh =
-    and_both (parent == parent) (not false && not (list_any (λ h. h.number == queue) (map holding_of (first ∷ gives)))) (eq_same parent)
+    and_from (parent == parent) (not false && not (list_any (λ h. h.number == queue) (map holding_of (first ∷ gives)))) (eq-eqb parent parent refl)
     (ap (λ b. not false && not b) (mapped (first ∷ gives) ∙ fresh)) where
       mapped : (rights : List QueueRight) → list_any (λ h. h.number == queue) (map holding_of rights) ≡ gives_queue rights queue
       mapped [] = refl
@@ -50,7 +49,7 @@ pub given_at : (gives : List QueueRight) (i : ℕ) (give : QueueRight) → slice
 given_at [] i give at = let never : None ≡ Some give = at in absurd (cc)
 given_at (first ∷ gives) zero give at =
     let same : first ≡ give = cc in
-    or_left (first.queue == give.queue) (gives_queue gives give.queue) (ap (λ (g : QueueRight). g.queue == give.queue) same ∙ eq_same give.queue)
+    or_left (first.queue == give.queue) (gives_queue gives give.queue) (ap (λ (g : QueueRight). g.queue == give.queue) same ∙ eq-eqb give.queue give.queue refl)
 given_at (first ∷ gives) (suc i) give at = or_right (first.queue == give.queue) (gives_queue gives give.queue) (given_at gives i give at)
 
 pub queue_mode_at : (frame : ActiveFrame) (gives : List QueueRight) → MayGive frame gives → (i : ℕ) (give : QueueRight) → slice_get gives i ≡ Some give → is_queue_mode give.mode ≡ true

@@ -1,6 +1,7 @@
 -- Active frames below others: their spawns are done.
 use Rattle.std.proofs.Common.{◌≡◌, inl, inr, ℕ, zero, suc, ◌+◌, ◌-◌, ◌<◌, ◌≤◌, Bool, true, false, cond, List, [], ◌∷◌, ◌++◌, length, take, Some, refl, sym, ap, subst, ◌∙◌, append_assoc, arith, take_all}
 use Rattle.std.proofs.lemmas.Bool.{and_parts, cases_eq, cases_lt, false_from_ne_true}
+use Rattle.std.proofs.lemmas.List.{same_from_push}
 use Rattle.std.proofs.lemmas.Option.{slice_get-get_or, slice_get_within, same_Some}
 use Rattle.std.specs.Prelude.{◌&&◌, slice_index, filter}
 use Rattle.swan_model.specs.declared.script.Entry.{Entry}
@@ -13,8 +14,8 @@ use Rattle.swan_model.specs.QueueFollows.{IsChildOf, QueuesFollow, queue_point, 
 use Rattle.swan_model.specs.QueueState.{ActiveFrame, QueueState, active}
 use Rattle.swan_model.specs.SerialTime.{is_of, is_queue_deed, places_from, time, times}
 use Rattle.swan_model.specs.Told.{deed_at}
-use Rattle.swan_model.proofs.Lists.{last_of, last_same}
-use Rattle.swan_model.proofs.Paths.{same_path}
+use Rattle.swan_model.proofs.Lists.{last_of}
+use Rattle.swan_model.proofs.Paths.{same_path, not_root}
 use Rattle.swan_model.proofs.Places.{passing, passing-rises, passing-stays, placed}
 use Rattle.swan_model.proofs.ScriptSteps.{deed_is}
 use Rattle.swan_model.proofs.TaskEntries.{is_spawn_of}
@@ -49,7 +50,7 @@ module _ (s : Script) where
       let tells : Tells (is_spawn_time s) (λ (e : Entry). is_spawn e.deed) 0 (take t s.entries) =
       λ i e stands.
       let zero_i : 0 + i ≡ i = omega arith in
-      ap (is_spawn_time s) zero_i ∙ ap is_spawn (deed_is s i e (taken_stands t s.entries i e stands)) in
+      ap (is_spawn_time s) zero_i ∙ ap is_spawn (deed_is s i e (taken_stands t s.entries i e stands).1) in
       ap length (sym (both_places (is_queue_deed_of path) (λ (e : Entry). is_spawn e.deed) (is_spawn_time s) 0 (take t s.entries) tells))
       ∙ ap length (places-same (λ e. is_queue_deed_of path e && is_spawn e.deed) (is_spawn_of path) (spawns-are path) 0 (take t s.entries))
       ∙ places-many (is_spawn_of path) 0 (take t s.entries)
@@ -122,10 +123,6 @@ module _ (s : Script) (lawful : IsLawful s) where
           ],
         )
 
-    not_root : (path rest : List ℕ) (child : ℕ) → path ++ child ∷ rest ≡ [] → ⊥
-    not_root [] rest child is = absurd (cc)
-    not_root (x ∷ path) rest child is = absurd (cc)
-
     -- an active frame that isn't the root has a parent that is active
     record HasParent (frame : ActiveFrame) : Type 0 where
       pub parent : ℕ
@@ -145,7 +142,7 @@ module _ (s : Script) (lawful : IsLawful s) where
     pub child_spawned : (many number top : ℕ) (frame above : ActiveFrame) (child : ℕ) (rest : List ℕ) → length rest ≡ many → active state number ≡ Some frame → active state top ≡ Some above → frame.path ≡ above.path ++ child ∷ rest → child < above.children
     child_spawned many number top frame above child [] long live there is =
         let parent = has_parent number frame live (λ root. not_root above.path [] child (sym is ∙ root)) in
-        let both = last_same parent.of.above.path above.path parent.of.index child (sym parent.of.path ∙ is) in
+        let both = same_from_push parent.of.above.path above.path parent.of.index child (sym parent.of.path ∙ is) in
         let same : parent.parent ≡ top = follows.different parent.parent top parent.of.above above parent.of.live there both.0 in
         let frames : parent.of.above ≡ above = same_Some parent.of.above above (sym parent.of.live ∙ ap (active state) same ∙ there) in
         let spawned : parent.of.index < above.children = subst (λ (f : ActiveFrame). parent.of.index < f.children) frames parent.of.spawned in
@@ -156,7 +153,7 @@ module _ (s : Script) (lawful : IsLawful s) where
         let last = last_of x xs in
         let named : parent.of.above.path ++ parent.of.index ∷ [] ≡ (above.path ++ child ∷ last.front) ++ last.last ∷ [] =
         sym parent.of.path ∙ is ∙ ap (λ q. above.path ++ child ∷ q) last.is ∙ sym (append_assoc above.path (child ∷ last.front) (last.last ∷ [])) in
-        let both = last_same parent.of.above.path (above.path ++ child ∷ last.front) parent.of.index last.last named in
+        let both = same_from_push parent.of.above.path (above.path ++ child ∷ last.front) parent.of.index last.last named in
         child_spawned many parent.parent top parent.of.above above child last.front (omega (arith, last.shorter)) parent.of.live there both.0
 
     -- So all entries of such a frame, and below it, stand before the point among queues of a frame above it.

@@ -1,10 +1,9 @@
 -- Calls that make a queue leave hyperqueues that follow.
-use Rattle.std.proofs.Common.{◌≡◌, ◌⊎◌, inl, inr, ℕ, ◌<◌, Bool, true, false, nat_eq, [], ◌∷◌, ◌++◌, length, Some, refl, sym, ap, subst, ◌∙◌, append-nil, arith}
-use Rattle.std.proofs.lemmas.Bool.{and_from, and_parts, eq-eqb, eqb-true, ne_eqb, or_cases, or_left, or_right}
-use Rattle.std.proofs.lemmas.List.Folds.{list_any-append}
+use Rattle.std.proofs.Common.{◌≡◌, ◌⊎◌, inl, inr, ℕ, ◌<◌, Bool, true, nat_eq, [], ◌∷◌, ◌++◌, length, Some, refl, sym, ap, subst, ◌∙◌, append-nil, arith}
+use Rattle.std.proofs.lemmas.Bool.{and_from, and_parts, eq-eqb, eqb-true, ne_eqb, and_left}
 use Rattle.std.proofs.lemmas.Option.{slice_get_within}
 use Rattle.std.specs.Option.{option_map}
-use Rattle.std.specs.Prelude.{◌&&◌, ◌||◌, slice_get}
+use Rattle.std.specs.Prelude.{◌&&◌, slice_get}
 use Rattle.swan_model.specs.declared.origin.Origin.{Origin}
 use Rattle.swan_model.specs.declared.origin.Origin.TheVariants.{Root, Step}
 use Rattle.swan_model.specs.declared.rights.Mode.{Mode}
@@ -20,7 +19,7 @@ use Rattle.swan_model.proofs.ScriptSteps.{one_entry}
 use Rattle.queues.proofs.Between.{queue_point-own}
 use Rattle.queues.proofs.Changing.{done_is}
 use Rattle.queues.proofs.Done.{reached_under}
-use Rattle.swan_model.proofs.Elements.{all_each, found_is, mapped_is, more_cases}
+use Rattle.swan_model.proofs.Elements.{all_each, found_is, mapped_is, more_cases, any_before, any_either, any_last}
 use Rattle.queues.proofs.Holders.{all_allowed}
 use Rattle.queues.proofs.Under.{under_from}
 
@@ -32,32 +31,18 @@ is_right queue mode right = nat_eq right.queue queue && allows right.mode mode
 abbrev made_right : ℕ → QueueRight
 made_right queue = record { queue = queue; mode = PushPop }
 
-holds_split : (frame : ActiveFrame) (made queue : ℕ) (mode : Mode) → holds_queue (with_made made frame) queue mode ≡ (holds_queue frame queue mode || (is_right queue mode (made_right made) || false))
-holds_split frame made queue mode = list_any-append (is_right queue mode) frame.rights (made_right made ∷ [])
-
 pub holds_before : (frame : ActiveFrame) (made queue : ℕ) (mode : Mode) → queue < made → holds_queue (with_made made frame) queue mode ≡ holds_queue frame queue mode
 holds_before frame made queue mode less =
-    holds_split frame made queue mode
-    ∙ ap (λ b. holds_queue frame queue mode || ((b && allows PushPop mode) || false)) (ne_eqb made queue (λ same. omega (arith, less, same)))
-    ∙ or-false (holds_queue frame queue mode)
-  where
-    or-false : (b : Bool) → (b || false) ≡ b
-    or-false true = refl
-    or-false false = refl
+    any_before (is_right queue mode) frame.rights (made_right made) (and_left (nat_eq made queue) (allows PushPop mode) (ne_eqb made queue (λ same. omega (arith, less, same))))
 
 pub holds_made : (frame : ActiveFrame) (made : ℕ) (mode : Mode) → is_queue_mode mode ≡ true → holds_queue (with_made made frame) made mode ≡ true
 holds_made frame made mode is =
-    holds_split frame made made mode
-    ∙ or_right (holds_queue frame made mode) (is_right made mode (made_right made) || false)
-    (or_left (is_right made mode (made_right made)) false (and_from (nat_eq made made) (allows PushPop mode) (eq-eqb made made refl) (all_allowed mode is)))
+    any_last (is_right made mode) frame.rights (made_right made) (and_from (nat_eq made made) (allows PushPop mode) (eq-eqb made made refl) (all_allowed mode is))
 
 pub holds_cases : (frame : ActiveFrame) (made queue : ℕ) (mode : Mode) → holds_queue (with_made made frame) queue mode ≡ true → (holds_queue frame queue mode ≡ true) ⊎ (queue ≡ made)
-holds_cases frame made queue mode is = elim (or_cases (holds_queue frame queue mode) (is_right queue mode (made_right made) || false) (sym (holds_split frame made queue mode) ∙ is)) [
+holds_cases frame made queue mode is = elim (any_either (is_right queue mode) frame.rights (made_right made) is) [
   | inl before ↦ inl before
-  | inr here ↦ elim (or_cases (is_right queue mode (made_right made)) false here) [
-    | inl it ↦ inr (sym (eqb-true made queue (and_parts (nat_eq made queue) (allows PushPop mode) it).0))
-    | inr never ↦ absurd (cc)
-  ]
+  | inr it ↦ inr (sym (eqb-true made queue (and_parts (nat_eq made queue) (allows PushPop mode) it).0))
 ]
 
 -- ---- origins, with a queue more

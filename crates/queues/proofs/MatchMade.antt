@@ -23,7 +23,7 @@ use Rattle.queues.proofs.ActiveAfter.{one_changed, one_goes_on}
 use Rattle.queues.proofs.Between.{Comes, is_queue_deed_of, point_left, to_queue_point}
 use Rattle.queues.proofs.Making.{holds_made}
 use Rattle.queues.proofs.QueuePoints.{IsSame, moved_counts, next_is, still_same}
-use Rattle.queues.proofs.Segments.{segment, segment_front, segment_none, take_none}
+use Rattle.queues.proofs.Segments.{segment, segment_front, segment_none}
 
 module _ (s : Script) (state : QueueState) (number : ℕ) (queue : Origin) (n : ℕ) (frame : ActiveFrame) (first : List Value) (live : active state n ≡ Some frame) where
   -- the only chunk of a queue, of its maker, from which nothing was popped yet
@@ -59,7 +59,7 @@ module _ (s : Script) (lawful : IsLawful s) where
 
   count_first : (queue : Origin) → count s queue 0 ≡ length (first_items s queue)
   count_first queue =
-      let none : count s queue 0 ≡ length (first_items s queue) + length (pushed queue []) = ap (λ es. length (first_items s queue) + length (pushed queue es)) (take_none s.entries) in
+      let none : count s queue 0 ≡ length (first_items s queue) + length (pushed queue []) = refl in
       omega (arith, none)
 
   root_point : (root : ActiveFrame) (queue : ℕ) → root.path ≡ [] → root.deeds ≡ 0 → queue_point s (with_made queue root).path (with_made queue root).deeds ≡ queue_point s [] 0

@@ -18,7 +18,7 @@ use Rattle.swan_model.specs.Told.{deed_at}
 use Rattle.swan_model.proofs.Places.{passing-rises}
 use Rattle.swan_model.proofs.ScriptSteps.{deed_is}
 use Rattle.queues.proofs.Between.{IsQueueDeed, deed-place, deed_left, is_queue_deed_of, own_last, point_left, point_over as queue_point-over}
-use Rattle.swan_model.proofs.Elements.{as_number, filtered_more}
+use Rattle.swan_model.proofs.Elements.{filtered_more, one_if}
 use Rattle.queues.proofs.Kept.{GrantsNone, still_grants, use_kept}
 use Rattle.queues.proofs.Lineage.{is_spawn_time}
 use Rattle.queues.proofs.QueuePoints.{IsNextDeed, at_own, goes_to}
@@ -69,7 +69,7 @@ module _ (s : Script) (lawful : IsLawful s) where
   ]
 
   -- as many children as spawns
-  pub children_next : (path : List ℕ) (deeds t : ℕ) → IsQueueDeed s path deeds t → length (filter (is_spawn_time s) (take (deeds + 1) (queue_times s path))) ≡ length (filter (is_spawn_time s) (take deeds (queue_times s path))) + as_number (is_spawn (deed_at s t))
+  pub children_next : (path : List ℕ) (deeds t : ℕ) → IsQueueDeed s path deeds t → length (filter (is_spawn_time s) (take (deeds + 1) (queue_times s path))) ≡ length (filter (is_spawn_time s) (take deeds (queue_times s path))) + one_if (is_spawn (deed_at s t))
   children_next path deeds t at =
       let place : slice_get (queue_times s path) deeds ≡ Some t = ap (slice_get (queue_times s path)) (sym at.before) ∙ deed-place s path t (at_own s path deeds t at) at.deed in
       filtered_more (is_spawn_time s) (queue_times s path) deeds t place
@@ -112,7 +112,7 @@ module _ (s : Script) (lawful : IsLawful s) (state : QueueState) where
       let path = frame.path in
       let t = queue_point s path frame.deeds in
       let quiet : is_spawn (deed_at s t) ≡ false = ap is_spawn next.does ∙ making_parts d not in
-      let none : as_number (is_spawn (deed_at s t)) ≡ 0 = ap as_number quiet in
+      let none : one_if (is_spawn (deed_at s t)) ≡ 0 = ap one_if quiet in
       let many = children_next s lawful path frame.deeds t next.at in
       record {
         some = task.some;

@@ -1,19 +1,17 @@
 -- What the frames keep of each other is kept where one goes on in its place: with the rights that it had, or as the maker of a new queue.
 use Rattle.queues.proofs.ActiveAfter.{KeepsTask}
-use Rattle.std.proofs.Common.{◌≡◌, ◌⊎◌, inl, inr, ℕ, ◌<◌, ◌≤◌, Bool, true, false, cond, nat_eq, Some, List, [], ◌∷◌, ◌++◌, length, refl, sym, ap, ◌∙◌, length-append, arith}
-use Rattle.std.proofs.lemmas.Bool.{and_left, and_parts, cond_both, eqb-true, false≢true, ne_eqb, or_cases}
-use Rattle.std.proofs.lemmas.List.Folds.{list_any-append}
+use Rattle.std.proofs.Common.{◌≡◌, inl, inr, ℕ, ◌<◌, ◌≤◌, Bool, true, false, cond, nat_eq, Some, List, [], ◌∷◌, ◌++◌, length, refl, sym, ap, ◌∙◌, length-append, arith}
+use Rattle.std.proofs.lemmas.Bool.{and_left, and_parts, cond_both, eqb-true, false≢true, ne_eqb}
 use Rattle.std.specs.List.{list_any}
-use Rattle.std.specs.Prelude.{◌&&◌, ◌||◌, ◌==◌, slice_get}
+use Rattle.std.specs.Prelude.{◌&&◌, ◌==◌, slice_get}
 use Rattle.swan_model.specs.declared.rights.Mode.{Mode}
 use Rattle.swan_model.specs.declared.rights.Mode.TheVariants.{Push, Pop, PushPop}
 use Rattle.swan_model.specs.QueueState.{ActiveFrame, QueueMaker, QueueRight, QueueState, active, changed, changing, holds_queue}
 use Rattle.swan_model.specs.Rights.{allows, is_queue_mode}
 use Rattle.queues.specs.Tree.{IsHeld, made, IsTree, has_queue, maker_path}
 use Rattle.queues.proofs.Frames.{active_number}
-use Rattle.queues.proofs.FramesChanged.{get_front}
 use Rattle.queues.proofs.TreeChanged.{IsChanged}
-use Rattle.swan_model.proofs.Elements.{last_more}
+use Rattle.swan_model.proofs.Elements.{last_more, any_before, any_either, before_more}
 
 -- ---- rights with one more
 
@@ -21,28 +19,13 @@ use Rattle.swan_model.proofs.Elements.{last_more}
 abbrev pub both_on : ℕ → QueueRight
 both_on queue = record { queue = queue; mode = PushPop }
 
--- one more right that fails a test changes nothing
-any_last : (test : QueueRight → Bool) (rights : List QueueRight) (right : QueueRight) → test right ≡ false → list_any test (rights ++ right ∷ []) ≡ list_any test rights
-any_last test [] right fails = ap (λ b. b || false) fails
-any_last test (first ∷ rights) right fails = ap (λ b. test first || b) (any_last test rights right fails)
-
-any_either : (test : QueueRight → Bool) (rights : List QueueRight) (right : QueueRight) → list_any test (rights ++ right ∷ []) ≡ true
-    → (list_any test rights ≡ true) ⊎ (test right ≡ true)
-any_either test rights right some = elim (or_cases (list_any test rights) (list_any test (right ∷ [])) (sym (list_any-append test rights (right ∷ [])) ∙ some)) [
-  | inl was ↦ inl was
-  | inr last ↦ elim (or_cases (test right) false last) [
-    | inl is ↦ inr is
-    | inr never ↦ absurd (false≢true never)
-  ]
-]
-
 pub has_before : (rights : List QueueRight) (queue new : ℕ) → queue < new → list_any (λ r. r.queue == queue) (rights ++ both_on new ∷ []) ≡ list_any (λ r. r.queue == queue) rights
-has_before rights queue new less = any_last (λ r. r.queue == queue) rights (both_on new) (ne_eqb new queue (λ same. absurd (omega arith)))
+has_before rights queue new less = any_before (λ r. r.queue == queue) rights (both_on new) (ne_eqb new queue (λ same. absurd (omega arith)))
 
 pub holds_before : (rights : List QueueRight) (queue new : ℕ) (mode : Mode) → queue < new
     → list_any (λ r. (r.queue == queue) && allows r.mode mode) (rights ++ both_on new ∷ []) ≡ list_any (λ r. (r.queue == queue) && allows r.mode mode) rights
 holds_before rights queue new mode less =
-    any_last (λ r. (r.queue == queue) && allows r.mode mode) rights (both_on new)
+    any_before (λ r. (r.queue == queue) && allows r.mode mode) rights (both_on new)
     (and_left (new == queue) (allows PushPop mode) (ne_eqb new queue (λ same. absurd (omega arith))))
 
 both_of_queues : (mode : Mode) → allows PushPop mode ≡ true → is_queue_mode mode ≡ true
@@ -137,7 +120,7 @@ module _ (state : QueueState) (tree : IsTree state) (n : ℕ) (change : ActiveFr
     pub makes : IsChanged state with_queue (changed n change) n
     makes = record {
       frames = refl;
-      makers = λ queue other at. get_front state.makers (maker ∷ []) queue other at;
+      makers = λ queue other at. before_more state.makers maker queue other at;
       more = omega (arith, length-append state.makers (maker ∷ []));
       latest = omega arith;
       kept = keeps_each;

@@ -8,7 +8,7 @@ use Rattle.swan_model.specs.QueueState.{ActiveFrame, QueueState, active}
 use Rattle.swan_model.proofs.PathOrder.{not_before-under}
 use Rattle.queues.specs.Chunks.{Chunk, Chunks, HasOwners, IsOwner}
 use Rattle.queues.specs.Tree.{has_queue}
-use Rattle.queues.proofs.Frames.{same_frame}
+use Rattle.swan_model.proofs.Elements.{one_answer}
 
 -- the owner of the chunk at a place
 abbrev pub owner_at : Chunks → ℕ → Option ℕ
@@ -68,7 +68,7 @@ has_owners state queue chunks ordered = record {
     holder index number is frame live =
         let own = (ordered.owners index number (owns_at state chunks index number is)).1 in
         let P : ActiveFrame → Type 0 = λ f. has_queue f queue ≡ true in
-        record { frame = frame; live = live; has = subst P (same_frame (active state number) own.frame frame own.live live) own.has; is = refl }
+        record { frame = frame; live = live; has = subst P (one_answer (active state number) own.frame frame own.live live) own.has; is = refl }
 
 -- ---- what changes nothing, or takes one out
 

@@ -9,11 +9,11 @@ use Rattle.queues.specs.Chunks.{Chunks, after_hand_on, HasOwners}
 use Rattle.queues.specs.Tree.{IsTree, has_queue}
 use Rattle.queues.proofs.TreeCalls.{child_newest, one_more, parent_changed, tree_between, with_one_more}
 use Rattle.queues.proofs.ChunkOwners.{handed_child, handed_still, handed_was, IsFirstOf}
-use Rattle.queues.proofs.Frames.{same_frame}
 use Rattle.queues.proofs.Gives.{gives_had}
 use Rattle.queues.proofs.QueueHolders.{added_new, added_still, added_was, before_child, changed_still, changed_was}
 use Rattle.queues.proofs.Owners.{has_owners, IsHolder, ordered_owners, ordered_same, owner_at, owns_one}
 use Rattle.queues.proofs.OwnersHanded.{IsBorn, ordered_handed}
+use Rattle.swan_model.proofs.Elements.{one_answer}
 
 module _ (state : QueueState) (p child : ℕ) (gives : List QueueRight) (q : ℕ) (tree : IsTree state) (may : MaySpawn state p child gives) where
   abbrev parent : ActiveFrame
@@ -56,7 +56,7 @@ module _ (state : QueueState) (p child : ℕ) (gives : List QueueRight) (q : ℕ
         let least = may.newest in
         absurd (omega arith);
     first = λ path old.
-        let one = same_frame (active state p) old.frame parent old.live may.act.may.live in
+        let one = one_answer (active state p) old.frame parent old.live may.act.may.live in
         ap (comes_before new.path) (sym old.is ∙ ap (λ (f : ActiveFrame). f.path) one) ∙ before-parent parent.path parent.children;
     later = λ number path old later. before-below parent.path path (parent.children ∷ []) later;
     earlier = λ number path old earlier.

@@ -40,15 +40,11 @@ places-many test n (e ∷ es) = by (test e) (places-many test (n + 1) es)
     by true rest = omega (arith, rest)
     by false rest = rest
 
-pub take-none : (xs : List ℕ) → take 0 xs ≡ []
-take-none [] = refl
-take-none (x ∷ xs) = refl
-
 -- the places among the first entries are the first places
 pub places-take : (test : Entry → Bool) (n : ℕ) (es : List Entry) (t : ℕ) → take (passing test t es) (places_from test n es) ≡ places_from test n (take t es)
 places-take test n [] zero = refl
 places-take test n [] (suc t) = refl
-places-take test n (e ∷ es) zero = take-none (places_from test n (e ∷ es))
+places-take test n (e ∷ es) zero = refl
 places-take test n (e ∷ es) (suc t) = by (test e) (places-take test (n + 1) es t)
   where
     by : (b : Bool) → take (passing test t es) (places_from test (n + 1) es) ≡ places_from test (n + 1) (take t es) → take (length (cond b (e ∷ filter test (take t es)) (filter test (take t es)))) (cond b (n ∷ places_from test (n + 1) es) (places_from test (n + 1) es)) ≡ cond b (n ∷ places_from test (n + 1) (take t es)) (places_from test (n + 1) (take t es))

@@ -1,9 +1,8 @@
 -- Who has a queue after frames were changed, after a child came in, and after a frame went out.
-use Rattle.std.proofs.Common.{◌≡◌, ◌⊎◌, inl, inr, ℕ, ◌<◌, ◌≤◌, true, false, Some, List, [], ◌∷◌, ◌++◌, length, refl, sym, ap, ◌∙◌, append_assoc, append-nil, arith}
-use Rattle.std.proofs.lemmas.Bool.{eq-eqb, or_right}
-use Rattle.std.proofs.lemmas.List.Folds.{list_any-append}
+use Rattle.std.proofs.Common.{◌≡◌, ◌⊎◌, inl, inr, ℕ, ◌<◌, ◌≤◌, true, Some, List, [], ◌∷◌, ◌++◌, length, refl, sym, ap, ◌∙◌, append_assoc, append-nil, arith}
+use Rattle.std.proofs.lemmas.Bool.{eq-eqb}
 use Rattle.std.specs.List.{list_any}
-use Rattle.std.specs.Prelude.{◌==◌, ◌||◌, slice_get}
+use Rattle.std.specs.Prelude.{◌==◌, slice_get}
 use Rattle.swan_model.specs.PathOrder.{comes_before}
 use Rattle.swan_model.specs.QueueState.{ActiveFrame, QueueMaker, QueueRight, QueueState, active, after_finish, IsActiveChild, MayAct, MayGive}
 use Rattle.swan_model.proofs.PathOrder.{how_before, IsAside, IsBelow, left-before, left-below, left-below_other, left-sibling}
@@ -16,6 +15,7 @@ use Rattle.queues.proofs.OneChanged.{both_on}
 use Rattle.queues.proofs.TreeAdded.{IsNewest, new_live, still_live, was_live, with_frame}
 use Rattle.queues.proofs.TreeChanged.{IsChanged, still, was}
 use Rattle.queues.proofs.TreeWithout.{stays, was_there}
+use Rattle.swan_model.proofs.Elements.{any_last}
 
 -- ---- frames that were changed
 
@@ -59,10 +59,7 @@ module _ (before after : QueueState) (each : ActiveFrame → ActiveFrame) (actor
 
 -- who gets one more right on a queue has it
 pub has_made : (rights : List QueueRight) (queue : ℕ) → list_any (λ r. r.queue == queue) (rights ++ both_on queue ∷ []) ≡ true
-has_made rights queue =
-    list_any-append (λ (r : QueueRight). r.queue == queue) rights (both_on queue ∷ [])
-    ∙ or_right (list_any (λ r. r.queue == queue) rights) (list_any (λ r. r.queue == queue) (both_on queue ∷ []))
-    (ap (λ b. b || false) (eq-eqb queue queue refl))
+has_made rights queue = any_last (λ (r : QueueRight). r.queue == queue) rights (both_on queue) (eq-eqb queue queue refl)
 
 -- ---- a child that came in
 

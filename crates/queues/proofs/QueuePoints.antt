@@ -23,7 +23,7 @@ use Rattle.swan_model.proofs.Paths.{not_below-itself, same_path}
 use Rattle.swan_model.proofs.Places.{passing, passing-none, passing-rises, passing-stays}
 use Rattle.swan_model.proofs.ScriptCounts.{count_kept, taken_kept, taken_none}
 use Rattle.swan_model.proofs.ScriptSteps.{at_next, deed_is, one_entry, own_under, spawn_moves}
-use Rattle.swan_model.proofs.TaskEntries.{own_place, point_at, point_over, point_own}
+use Rattle.swan_model.proofs.TaskEntries.{own_place, point_at, point_over, point_own, some_own}
 use Rattle.queues.proofs.Between.{Comes, IsQueueDeed, IsStill, deed-more, deed_left, is_queue_deed_of, last_own, next_own, own_last, point_left, point_over as queue_point-over, to_queue_point}
 
 -- what was pushed to each queue before two times, and what was taken, is the same
@@ -114,12 +114,6 @@ none_left s path deeds next =
 
 pub at_own : (s : Script) (path : List ℕ) (deeds t : ℕ) → IsQueueDeed s path deeds t → IsEntryOf s path t
 at_own s path deeds t at = record { entry = at.entry; stands = at.stands; own = at.own }
-
--- who has an entry has some
-pub some_own : (s : Script) (path : List ℕ) (t : ℕ) → IsEntryOf s path t → 0 < length (times s path)
-some_own s path t own =
-    let within = slice_get_within (times s path) (passing (is_of path) t s.entries) t (own_place s path t own) in
-    omega (arith, within)
 
 -- the spawn of a child by a task, as the next entry of a frame that has come so far
 abbrev pub coming : Script → List ℕ → ℕ → Progress

@@ -1,12 +1,11 @@
 -- A reading in which a frame has spawned a child fits, where the hyperqueues have that child too.
-use Rattle.std.proofs.Common.{◌≡◌, ◌⊎◌, inl, inr, ℕ, ◌+◌, ◌<◌, ◌≤◌, Bool, true, false, nat_eq, cond, List, [], ◌∷◌, ◌++◌, length, map, Option, Some, None, refl, sym, ap, subst, ◌∙◌, append-nil, append_assoc, arith}
+use Rattle.std.proofs.Common.{◌≡◌, inl, inr, ℕ, ◌+◌, ◌<◌, ◌≤◌, nat_eq, List, [], ◌∷◌, ◌++◌, length, map, Some, None, refl, sym, ap, subst, ◌∙◌, append-nil, append_assoc, arith}
 use Rattle.std.proofs.lemmas.Bool.{cases_eq, cases_lt, eq-eqb, eqb-true}
-use Rattle.std.proofs.lemmas.List.{length-map}
-use Rattle.std.proofs.lemmas.List.Folds.{find-append}
+use Rattle.std.proofs.lemmas.List.{length-map, same_from_push}
 use Rattle.std.proofs.lemmas.Option.{slice_get-map, same_Some}
 use Rattle.std.specs.List.{find}
-use Rattle.std.specs.Option.{option_map, option_or}
-use Rattle.std.specs.Prelude.{slice_get, filter}
+use Rattle.std.specs.Option.{option_map}
+use Rattle.std.specs.Prelude.{slice_get}
 use Rattle.swan_model.specs.declared.script.Deed.TheVariants as deed
 use Rattle.swan_model.specs.declared.script.OriginGive.{OriginGive}
 use Rattle.swan_model.specs.declared.script.Script.{Script}
@@ -17,7 +16,6 @@ use Rattle.swan_model.specs.QueueFollows.{Fits, FitsFrame, QueuesFollow}
 use Rattle.swan_model.specs.QueueState.{ActiveFrame, QueueRight, QueueState, active, after_spawn, changing, child_of, with_deed}
 use Rattle.swan_model.specs.Readings.{more_by, next_deed, spawned}
 use Rattle.swan_model.specs.SerialTime.{Progress, Reading, frame_of, point, times}
-use Rattle.swan_model.proofs.Lists.{last_same}
 use Rattle.swan_model.proofs.Paths.{not_below-itself}
 use Rattle.swan_model.proofs.Places.{passing, placed}
 use Rattle.swan_model.proofs.Points.{is_past-child, same_frame}
@@ -25,47 +23,13 @@ use Rattle.swan_model.proofs.ScriptSteps.{IsSpawnOf, spawn_moves}
 use Rattle.swan_model.proofs.TaskEntries.{is_spawn_of, spawn_own}
 use Rattle.queues.proofs.Advancing.{fits_next, fits_same, more_left, own_now}
 use Rattle.queues.proofs.Continuing.{became, changed_gone, its, more_number, more_path, other_more, others_kept, own_more}
-use Rattle.swan_model.proofs.Elements.{before_more, find_map, last_more, mapped_is, more_cases}
-use Rattle.queues.proofs.Fitting.{fits_comes, is_queue_time}
+use Rattle.swan_model.proofs.Elements.{before_more, find_map, last_more, mapped_is, more_cases, found_before, found_cases, found_last, found_none}
+use Rattle.queues.proofs.Fitting.{fits_comes}
 use Rattle.queues.proofs.Lineage.{spawns_by}
-use Rattle.queues.proofs.Places.{take-none}
 use Rattle.queues.proofs.Refitting.{GoesTo, past_done, refits}
 use Rattle.queues.proofs.Rereading.{fit_of, live_left}
 use Rattle.queues.proofs.Frames.{active_number}
-use Rattle.queues.proofs.SerialPoints.{frame_in, frame_number}
-
--- ---- one element more, by its number
-
-module _ {X : Type 0} (number : X → ℕ) (xs : List X) (x : X) where
-  abbrev has : ℕ → X → Bool
-  has n y = nat_eq (number y) n
-
-  found_before : (n : ℕ) (y : X) → find (has n) xs ≡ Some y → find (has n) (xs ++ x ∷ []) ≡ Some y
-  found_before n y is = find-append (has n) xs (x ∷ []) ∙ ap (λ o. option_or o (find (has n) (x ∷ []))) is
-
-  found_last : find (has (number x)) xs ≡ None → find (has (number x)) (xs ++ x ∷ []) ≡ Some x
-  found_last none =
-      find-append (has (number x)) xs (x ∷ [])
-      ∙ ap (λ o. option_or o (find (has (number x)) (x ∷ []))) none
-      ∙ ap (λ b. cond b (Some x) None) (eq-eqb (number x) (number x) refl)
-
-  found_cases : (n : ℕ) (y : X) → find (has n) (xs ++ x ∷ []) ≡ Some y → (find (has n) xs ≡ Some y) ⊎ ((n ≡ number x) × (x ≡ y))
-  found_cases n y now = by (find (has n) xs) refl (sym (find-append (has n) xs (x ∷ [])) ∙ now)
-    where
-      own : (b : Bool) → nat_eq (number x) n ≡ b → cond b (Some x) None ≡ Some y → (n ≡ number x) × (x ≡ y)
-      own true same is = (sym (eqb-true (number x) n same), same_Some x y is)
-      own false same is = absurd (cc)
-
-      by : (o : Option X) → find (has n) xs ≡ o → option_or o (find (has n) (x ∷ [])) ≡ Some y → (find (has n) xs ≡ Some y) ⊎ ((n ≡ number x) × (x ≡ y))
-      by (Some z) found is = inl (found ∙ is)
-      by None found is = inr (own (nat_eq (number x) n) refl is)
-
-  found_none : (n : ℕ) → find (has n) (xs ++ x ∷ []) ≡ None → find (has n) xs ≡ None
-  found_none n none = by (find (has n) xs) refl
-    where
-      by : (o : Option X) → find (has n) xs ≡ o → find (has n) xs ≡ None
-      by None found = found
-      by (Some z) found = let both : Some z ≡ None = sym (found_before n z found) ∙ none in absurd (cc)
+use Rattle.swan_model.proofs.MovedFrames.{frame_in, frame_number}
 
 module _ (s : Script) (lawful : IsLawful s) (state : QueueState) (follows : QueuesFollow s state) (r : Reading) (fits : Fits s state r) (child : ℕ) (parent : ActiveFrame) (p : Progress) (gives : List OriginGive) (queues : List QueueRight)
     (same : p.number ≡ parent.number) (live : active state parent.number ≡ Some parent) (known : frame_of r p.number ≡ Some p)
@@ -92,10 +56,10 @@ module _ (s : Script) (lawful : IsLawful s) (state : QueueState) (follows : Queu
   mapped_of n = find_map (λ (f : Progress). nat_eq f.number n) g (λ f. ap (λ k. nat_eq k n) (more_number p.number 1 (nat_eq f.number p.number) f)) r.frames
 
   known_on : (n : ℕ) (x : Progress) → frame_of r n ≡ Some x → frame_of other n ≡ Some (g x)
-  known_on n x is = found_before (λ (f : Progress). f.number) (map g r.frames) born n (g x) (mapped_of n ∙ ap (option_map g) is)
+  known_on n x is = found_before (λ (f : Progress). nat_eq f.number n) (map g r.frames) born (g x) (mapped_of n ∙ ap (option_map g) is)
 
   born_known : frame_of other child ≡ Some born
-  born_known = found_last (λ (f : Progress). f.number) (map g r.frames) born (mapped_of child ∙ ap (option_map g) unread)
+  born_known = found_last (λ (f : Progress). nat_eq f.number child) (map g r.frames) born (mapped_of child ∙ ap (option_map g) unread) (eq-eqb child child refl)
 
   after_later : point s p + 1 < point s after
   after_later = let ends = moves.ends in let long = moves.long in omega (arith, ends, long)
@@ -121,7 +85,7 @@ module _ (s : Script) (lawful : IsLawful s) (state : QueueState) (follows : Queu
   not_yet : (i : ℕ) (x : Progress) → slice_get r.frames i ≡ Some x → x.path ≡ born.path → ⊥
   not_yet i x at path =
       let up = is_past-child s r fits.tasks p.path (children_before s p.path (point s p)) (fits.tasks.spawned i x p.path (children_before s p.path (point s p)) at path) in
-      let place = frame_in r p.number p known in
+      let place = frame_in r.frames p.number p known in
       let one = same_frame s r fits.tasks up.index place.index up.parent p up.stands place.stands up.own in
       let past : up.spawn < point s p = subst (λ f. up.spawn < point s f) one up.past in
       let time = same_Some up.spawn (point s p) (sym up.known ∙ moves.known) in
@@ -129,7 +93,7 @@ module _ (s : Script) (lawful : IsLawful s) (state : QueueState) (follows : Queu
 
   spawn_done : IsSpawned s other p.path (children_before s p.path (point s p))
   spawn_done =
-      let place = frame_in r p.number p known in
+      let place = frame_in r.frames p.number p known in
       let there : slice_get other.frames place.index ≡ Some (g p) = before_more (map g r.frames) born place.index (g p) (mapped_at place.index ∙ ap (option_map g) place.stands) in
       let own : IsEntryOf s (g p).path (point s p) = subst (λ q. IsEntryOf s q (point s p)) (sym (more_path p.number 1 (nat_eq p.number p.number) p)) (own_now s p (deed.Spawn gives) next) in
       let later = after_later in
@@ -170,7 +134,7 @@ module _ (s : Script) (lawful : IsLawful s) (state : QueueState) (follows : Queu
         apart = λ now is i x at path. not_yet i x at (path ∙ ap (λ (y : Progress). y.path) (sym (same_Some born now is)));
         known = λ now is. subst (λ (y : Progress). frame_of other y.number ≡ Some y) (same_Some born now is) born_known;
         spawned = λ now is path number ends.
-            let both = last_same p.path path (children_before s p.path (point s p)) number (ap (λ (y : Progress). y.path) (same_Some born now is) ∙ ends) in
+            let both = same_from_push p.path path (children_before s p.path (point s p)) number (ap (λ (y : Progress). y.path) (same_Some born now is) ∙ ends) in
             subst (λ q. IsSpawned s other q number) both.0 (subst (IsSpawned s other p.path) both.1 spawn_done);
         first = λ now is v own before.
             let one = sym (same_Some born now is) in
@@ -207,7 +171,7 @@ module _ (s : Script) (lawful : IsLawful s) (state : QueueState) (follows : Queu
       record {
         path = child_is;
         left = omega (arith, some, many);
-        deeds = ap (λ xs. length (filter (is_queue_time s) xs)) (take-none (times s (parent.path ++ parent.children ∷ [])));
+        deeds = refl;
       }
 
   left_then : p.done + 1 < length (times s p.path)
@@ -220,15 +184,15 @@ module _ (s : Script) (lawful : IsLawful s) (state : QueueState) (follows : Queu
       (ap (λ (x : ActiveFrame). x.path) (sym b.is)) (ap (λ (x : ActiveFrame). x.deeds) (sym b.is)) left_then
 
   fitting : (n : ℕ) (frame : ActiveFrame) → active new n ≡ Some frame → (progress : Progress) × (frame_of other n ≡ Some progress) × FitsFrame s frame progress
-  fitting n frame now = elim (found_cases (λ (f : ActiveFrame). f.number) grown.frames (child_of parent child queues) n frame now) [
-    | inr it ↦ (born, ap (frame_of other) it.0 ∙ born_known, subst (λ f. FitsFrame s f born) it.1 child_fits)
+  fitting n frame now = elim (found_cases (λ (f : ActiveFrame). nat_eq f.number n) grown.frames (child_of parent child queues) frame now) [
+    | inr it ↦ (born, ap (frame_of other) (sym (eqb-true child n it.1)) ∙ born_known, subst (λ f. FitsFrame s f born) it.2 child_fits)
     | inl before ↦ elim (cases_eq n parent.number) [
       | inl is ↦
           (g p, known_on n p (ap (frame_of r) (is ∙ sym same) ∙ known), subst (FitsFrame s frame) (sym (own_more s state r fits p.number 1 p known)) (parent_fits n frame is before))
       | inr apart ↦
           let w = (others_kept state grown parent.number more_children (λ f. refl) refl).still n frame apart before in
           let q = fits.frames n w.was w.live in
-          let still = other_more s state r fits p.number 1 p known q.0 (λ e. apart (sym (frame_number r n q.0 q.1) ∙ e ∙ same)) in
+          let still = other_more s state r fits p.number 1 p known q.0 (λ e. apart (sym (frame_number r.frames n q.0 q.1) ∙ e ∙ same)) in
           (g q.0, known_on n q.0 q.1, subst (FitsFrame s frame) (sym still) (fits_same s w.was frame q.0 q.2 w.path w.deeds))
     ]
   ]
@@ -237,13 +201,13 @@ module _ (s : Script) (lawful : IsLawful s) (state : QueueState) (follows : Queu
   spawned_fits-own =
       refits s state r other fits g (Some born) goes new fitting
       (λ i x at none.
-      let gone = changed_gone state grown parent.number more_children (λ f. refl) refl x.number (found_none (λ (f : ActiveFrame). f.number) grown.frames (child_of parent child queues) x.number none) in
+      let gone = changed_gone state grown parent.number more_children (λ f. refl) refl x.number (found_none (λ (f : ActiveFrame). nat_eq f.number x.number) grown.frames (child_of parent child queues) none) in
       let apart : x.number ≡ p.number → ⊥ = λ is. live_left s lawful state r fits p.number p known (let left = left_then in omega (arith, left)) (ap (active state) (sym is) ∙ gone) in
       ap (λ (y : Progress). y.done) (other_more s state r fits p.number 1 p known x apart) ∙ fits.ended i x at gone)
       (λ now is none.
       let gone = subst (λ (y : Progress). active new y.number ≡ None) (sym (same_Some born now is)) none in
-      let before = changed_gone state grown parent.number more_children (λ f. refl) refl child (found_none (λ (f : ActiveFrame). f.number) grown.frames (child_of parent child queues) child gone) in
-      let there = found_last (λ (f : ActiveFrame). f.number) grown.frames (child_of parent child queues) (found_none (λ (f : ActiveFrame). f.number) grown.frames (child_of parent child queues) child gone) in
+      let before = changed_gone state grown parent.number more_children (λ f. refl) refl child (found_none (λ (f : ActiveFrame). nat_eq f.number child) grown.frames (child_of parent child queues) gone) in
+      let there = found_last (λ (f : ActiveFrame). nat_eq f.number child) grown.frames (child_of parent child queues) (found_none (λ (f : ActiveFrame). nat_eq f.number child) grown.frames (child_of parent child queues) gone) (eq-eqb child child refl) in
       let both : Some (child_of parent child queues) ≡ None = sym there ∙ gone in
       absurd (cc))
       fits.queues
@@ -253,5 +217,5 @@ pub spawned_fits : (s : Script) → IsLawful s → (state : QueueState) → Queu
     → Fits s (after_spawn state parent child queues) (spawned s r p child)
 spawned_fits s lawful state follows r fits number child parent p gives queues live known free unread next =
     let one = active_number state number parent live in
-    let two = frame_number r number p known in
+    let two = frame_number r.frames number p known in
     spawned_fits-own s lawful state follows r fits child parent p gives queues (two ∙ sym one) (ap (active state) one ∙ live) (ap (frame_of r) two ∙ known) free unread next

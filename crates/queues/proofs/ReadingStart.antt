@@ -1,7 +1,7 @@
 -- The reading of a run before its first step fits new hyperqueues.
-use Rattle.std.proofs.Common.{◌≡◌, ℕ, zero, suc, ◌<◌, true, List, [], ◌∷◌, ◌++◌, length, Some, None, refl, sym, ap, subst, ◌∙◌, arith}
+use Rattle.std.proofs.Common.{◌≡◌, ℕ, zero, suc, ◌<◌, true, List, [], ◌∷◌, Some, None, refl, sym, ap, subst, ◌∙◌, arith}
 use Rattle.std.proofs.lemmas.Option.{same_Some}
-use Rattle.std.specs.Prelude.{slice_get, filter}
+use Rattle.std.specs.Prelude.{slice_get}
 use Rattle.swan_model.specs.declared.origin.Origin.{Origin}
 use Rattle.swan_model.specs.declared.script.Script.{Script}
 use Rattle.swan_model.specs.Lawful.{IsLawful}
@@ -9,14 +9,12 @@ use Rattle.swan_model.specs.Nested.{HasTasks, IsEntryOf, spawn_time}
 use Rattle.swan_model.specs.QueueFollows.{Fits, FitsFrame}
 use Rattle.swan_model.specs.QueueState.{active, new_state, root_frame}
 use Rattle.swan_model.specs.Readings.{at_start}
-use Rattle.swan_model.specs.SerialTime.{Progress, frame_of, is_done, point, times}
+use Rattle.swan_model.specs.SerialTime.{Progress, frame_of, is_done, point}
 use Rattle.swan_model.proofs.Lists.{some_within}
 use Rattle.swan_model.proofs.Points.{is_past-child}
-use Rattle.swan_model.proofs.TaskEntries.{first_time, point_at}
+use Rattle.swan_model.proofs.TaskEntries.{first_time, point_at, some_own}
 use Rattle.queues.proofs.Calls.{only_root}
-use Rattle.queues.proofs.Fitting.{is_queue_time}
-use Rattle.queues.proofs.Places.{take-none}
-use Rattle.queues.proofs.QueuePoints.{some_own}
+use Rattle.swan_model.proofs.Paths.{not_root}
 
 abbrev root_progress : Progress
 root_progress = record { number = 0; path = []; done = 0 }
@@ -25,10 +23,6 @@ root_progress = record { number = 0; path = []; done = 0 }
 is_root : (i : ℕ) (p : Progress) → slice_get (root_progress ∷ []) i ≡ Some p → (root_progress ≡ p) × (i ≡ 0)
 is_root zero p is = (same_Some root_progress p is, refl)
 is_root (suc i) p is = absurd (cc)
-
-no_child : (path : List ℕ) (child : ℕ) → [] ≡ path ++ child ∷ [] → ⊥
-no_child [] child is = absurd (cc)
-no_child (x ∷ path) child is = absurd (cc)
 
 module _ (s : Script) (lawful : IsLawful s) (objects : List Origin) where
   first_own : IsEntryOf s [] 0
@@ -43,11 +37,11 @@ module _ (s : Script) (lawful : IsLawful s) (objects : List Origin) where
   root_tasks =
       record {
         different = λ i j a b one two same. (is_root i a one).1 ∙ sym (is_root j b two).1;
-        spawned = λ i p path child at is. absurd (no_child path child (ap (λ (q : Progress). q.path) (is_root i p at).0 ∙ is));
+        spawned = λ i p path child at is. absurd (not_root path [] child (sym (ap (λ (q : Progress). q.path) (is_root i p at).0 ∙ is)));
       }
 
   fits_root : FitsFrame s root_frame root_progress
-  fits_root = record { path = refl; left = some_own s [] 0 first_own; deeds = ap (λ xs. length (filter (is_queue_time s) xs)) (take-none (times s [])) }
+  fits_root = record { path = refl; left = some_own s [] 0 first_own; deeds = refl }
 
   nothing_done : (path : List ℕ) (child spawn : ℕ) → spawn_time s path child ≡ Some spawn → is_done s (at_start [] objects) spawn ≡ true → ⊥
   nothing_done path child spawn is done =

@@ -17,7 +17,7 @@ use Rattle.queues.proofs.Done.{spawn_deed}
 use Rattle.swan_model.proofs.Elements.{found_is, option_cases}
 use Rattle.queues.proofs.Fitting.{fits_still, same_side}
 use Rattle.queues.proofs.Refitting.{GoesTo, refits}
-use Rattle.queues.proofs.SerialPoints.{frame_in, frame_number}
+use Rattle.swan_model.proofs.MovedFrames.{frame_in, frame_number}
 
 -- one that passes is found
 find_some : {X : Type 0} (test : X → Bool) (xs : List X) (i : ℕ) (x : X) → slice_get xs i ≡ Some x → test x ≡ true → (y : X) × (find test xs ≡ Some y)
@@ -104,9 +104,9 @@ module _ (s : Script) (lawful : IsLawful s) (state : QueueState) (r other : Read
             let two = pair i a.0 a.1 in
             inl (record { was = a.0; stood = a.1; is = two.is ∙ same_Some two.b now (sym two.stands ∙ at) });
         found = λ n a is.
-            let place = frame_in r n a is in
+            let place = frame_in r.frames n a is in
             let two = pair place.index a place.stands in
-            ap (frame_of other) (sym (frame_number r n a is)) ∙ two.found ∙ ap Some (sym two.is);
+            ap (frame_of other) (sym (frame_number r.frames n a is)) ∙ two.found ∙ ap Some (sym two.is);
         still = λ i a child spawn at is before. ltb-true spawn (point s (g a)) (sym (side i a at spawn (spawn_deed s a.path child spawn is)) ∙ lt-ltb spawn (point s a) before);
         children = λ i a child spawn at is from before.
             let early = ltb-true spawn (point s a) (side i a at spawn (spawn_deed s a.path child spawn is) ∙ lt-ltb spawn (point s (g a)) before) in
@@ -122,9 +122,9 @@ module _ (s : Script) (lawful : IsLawful s) (state : QueueState) (r other : Read
       refits s state r other fits g None agree state
       (λ n frame live.
       let q = fits.frames n frame live in
-      let place = frame_in r n q.0 q.1 in
+      let place = frame_in r.frames n q.0 q.1 in
       let two = pair place.index q.0 place.stands in
-      let number = frame_number r n q.0 q.1 in
+      let number = frame_number r.frames n q.0 q.1 in
       (two.b, ap (frame_of other) (sym number) ∙ two.found, two.live frame (ap (active state) number ∙ live)))
       (λ i a at none. let two = pair i a at in ap (λ (q : Progress). q.done) two.is ∙ two.over none ∙ fits.ended i a at none)
       (λ now is none. absurd (cc))

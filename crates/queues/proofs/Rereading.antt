@@ -23,10 +23,10 @@ use Rattle.swan_model.proofs.TaskEntries.{is_spawn_of}
 use Rattle.queues.proofs.Advancing.{does_now, fits_next, fits_same}
 use Rattle.queues.proofs.Between.{no_spawn}
 use Rattle.queues.proofs.Continuing.{KeepsOthers, WasActive, all_kept, became, changed_gone, fits_by, goes_by, others_kept}
-use Rattle.swan_model.proofs.Elements.{as_number}
 use Rattle.queues.proofs.Finishing.{not_active, still_active}
 use Rattle.queues.proofs.Refitting.{GoesTo, refits}
-use Rattle.queues.proofs.SerialPoints.{frame_in, frame_number}
+use Rattle.swan_model.proofs.Elements.{one_if}
+use Rattle.swan_model.proofs.MovedFrames.{frame_in, frame_number}
 
 -- ---- calls that are no deeds
 
@@ -110,8 +110,8 @@ module _ (s : Script) (lawful : IsLawful s) (state : QueueState) (r : Reading) (
   -- a frame with an entry left is active
   pub live_left : p.done < length (times s p.path) → active state n ≡ None → ⊥
   live_left left none =
-      let place = frame_in r n p known in
-      let all = fits.ended place.index p place.stands (ap (active state) (frame_number r n p known) ∙ none) in
+      let place = frame_in r.frames n p known in
+      let all = fits.ended place.index p place.stands (ap (active state) (frame_number r.frames n p known) ∙ none) in
       omega (arith, left, all)
 
   pub goes_step : (d : Deed) → next_deed s p ≡ Some d → is_spawn d ≡ false → (other : Reading) → other.frames ≡ map (more_by n 1) r.frames → GoesTo s r other (more_by n 1) None
@@ -128,7 +128,7 @@ module _ (s : Script) (lawful : IsLawful s) (state : QueueState) (r : Reading) (
   pub others_fit : (d : Deed) (objects : List Origin) → next_deed s p ≡ Some d → is_queue_deed d ≡ false → p.done + 1 < length (times s p.path) → Fits s state (record (gone_on r n) { objects = objects })
   others_fit d objects next quiet left =
       let other = record (gone_on r n) { objects = objects } in
-      let none : as_number (is_queue_deed d) ≡ 0 = ap as_number quiet in
+      let none : one_if (is_queue_deed d) ≡ 0 = ap one_if quiet in
       fits_by s state r fits n 1 p known other (goes_step d next (no_spawn d quiet) other refl) state keeps_all
       (λ frame live. fits_next s frame frame p d (fit_of frame live) next refl (omega (arith, none)) left)
       (λ gone. absurd (live_left (omega (arith, left)) gone)) fits.queues
@@ -137,7 +137,7 @@ module _ (s : Script) (lawful : IsLawful s) (state : QueueState) (r : Reading) (
   pub deed_fits : (d : Deed) → next_deed s p ≡ Some d → is_queue_deed d ≡ true → is_spawn d ≡ false → p.done + 1 < length (times s p.path) → Fits s (after_deed state n) (gone_on r n)
   deed_fits d next does quiet left =
       let new = after_deed state n in
-      let one : as_number (is_queue_deed d) ≡ 1 = ap as_number does in
+      let one : one_if (is_queue_deed d) ≡ 1 = ap one_if does in
       fits_by s state r fits n 1 p known (gone_on r n) (goes_step d next quiet (gone_on r n) refl) new (others_kept state new n with_deed (λ f. refl) refl)
       (λ frame now.
       let b = became state new n with_deed (λ f. refl) refl frame now in

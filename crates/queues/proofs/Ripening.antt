@@ -27,7 +27,8 @@ use Rattle.queues.proofs.Fitting.{same_side}
 use Rattle.queues.proofs.Kept.{still_grants, use_kept}
 use Rattle.queues.proofs.QueuePoints.{still_same}
 use Rattle.queues.proofs.Frames.{active_number}
-use Rattle.queues.proofs.SerialPoints.{IsRead, frame_number, is_read}
+use Rattle.queues.proofs.SerialPoints.{IsRead, is_read}
+use Rattle.swan_model.proofs.MovedFrames.{frame_number}
 
 -- the push of an item is a queue deed
 push_is : (queue : Origin) (d : Deed) → is_push_to queue d ≡ true → is_queue_deed d ≡ true
@@ -62,8 +63,8 @@ module _ (s : Script) (lawful : IsLawful s) (state : QueueState) (follows : Queu
     -- who else may push
     others_same : (other : ℕ) (f : ActiveFrame) (p : Progress) → IsRead s lawful state r fits other f p → among.active_may_push_too frame queue f ≡ ripe.may_push_too s a origin p
     others_same other f p also =
-        let one : f.number ≡ p.number = active_number state other f also.live ∙ sym (frame_number r other p also.known) in
-        let two : frame.number ≡ a.number = active_number state number frame read.live ∙ sym (frame_number r number a read.known) in
+        let one : f.number ≡ p.number = active_number state other f also.live ∙ sym (frame_number r.frames other p also.known) in
+        let two : frame.number ≡ a.number = active_number state number frame read.live ∙ sym (frame_number r.frames number a read.known) in
         ap (λ n. not (nat_eq n frame.number) && holds_queue f queue Push) one
         ∙ ap (λ n. not (nat_eq p.number n) && holds_queue f queue Push) two
         ∙ ap (λ b. not (nat_eq p.number a.number) && b) (rights_same other f p also queue origin Push refl made)

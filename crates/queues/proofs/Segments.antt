@@ -1,41 +1,18 @@
 -- The elements of a list from one index up to another.
-use Rattle.std.proofs.Common.{◌≡◌, ℕ, zero, suc, ◌+◌, ◌-◌, ◌<◌, ◌≤◌, List, [], ◌∷◌, ◌++◌, length, take, drop, Some, refl, sym, ap, ◌∙◌, arith, length-take, length-drop, take-add, take_at, drop-drop}
-use Rattle.std.proofs.lemmas.Option.{same_Some}
+use Rattle.std.proofs.Common.{◌≡◌, ℕ, ◌+◌, ◌-◌, ◌<◌, ◌≤◌, List, [], ◌∷◌, ◌++◌, length, take, drop, Some, refl, sym, ap, ◌∙◌, arith, length-take, length-drop, take-add, take_at, drop-drop}
 use Rattle.std.proofs.lemmas.List.{drop-take}
 use Rattle.std.specs.Prelude.{slice_get}
+use Rattle.swan_model.proofs.Elements.{taken_stands}
+use Rattle.swan_model.proofs.Lists.{take_next, get-drop}
 
 abbrev pub segment : {X : Type 0} → (from upto : ℕ) → List X → List X
 segment from upto xs = take (upto - from) (drop from xs)
-
-get_drop : {X : Type 0} (n : ℕ) (xs : List X) → slice_get (drop n xs) 0 ≡ slice_get xs n
-get_drop zero xs = refl
-get_drop (suc n) [] = refl
-get_drop (suc n) (x ∷ xs) = get_drop n xs
-
-first_taken : {X : Type 0} (n : ℕ) (xs : List X) (x : X) → slice_get (take n xs) 0 ≡ Some x → (0 < n) × (slice_get xs 0 ≡ Some x)
-first_taken zero [] x is = absurd (cc)
-first_taken zero (y ∷ xs) x is = absurd (cc)
-first_taken (suc n) [] x is = absurd (cc)
-first_taken (suc n) (y ∷ xs) x is = (omega arith, is)
-
-take_one : {X : Type 0} (xs : List X) (x : X) → slice_get xs 0 ≡ Some x → take 1 xs ≡ x ∷ []
-take_one [] x is = absurd (cc)
-take_one (y ∷ []) x is = ap (λ z. z ∷ []) (same_Some y x is)
-take_one (y ∷ z ∷ ys) x is = ap (λ w. w ∷ []) (same_Some y x is)
-
-pub take_none : {X : Type 0} (xs : List X) → take 0 xs ≡ []
-take_none [] = refl
-take_none (x ∷ xs) = refl
 
 -- what a list begins with
 pub segment_front : {X : Type 0} (front back : List X) → segment 0 (length front) (front ++ back) ≡ front
 segment_front front back =
     let long : length front - 0 ≡ length front = omega arith in
-    ap (λ n. take n (drop 0 (front ++ back))) long ∙ ap (take (length front)) (by (front ++ back)) ∙ take_at front back (length front) refl
-  where
-    by : {Y : Type 0} (xs : List Y) → drop 0 xs ≡ xs
-    by [] = refl
-    by (x ∷ xs) = refl
+    ap (λ n. take n (front ++ back)) long ∙ take_at front back (length front) refl
 
 module _ {X : Type 0} (xs : List X) (from upto : ℕ) where
   -- an empty one ends where it begins
@@ -47,14 +24,14 @@ module _ {X : Type 0} (xs : List X) (from upto : ℕ) where
   pub segment_none : from ≡ upto → segment from upto xs ≡ []
   segment_none same =
       let zero_long : upto - from ≡ 0 = omega arith in
-      ap (λ n. take n (drop from xs)) zero_long ∙ take_none (drop from xs)
+      ap (λ n. take n (drop from xs)) zero_long
 
   -- the first element of one
   pub segment_first : (x : X) → slice_get (segment from upto xs) 0 ≡ Some x → (from < upto) × (slice_get xs from ≡ Some x)
   segment_first x is =
-      let both = first_taken (upto - from) (drop from xs) x is in
+      let both = taken_stands (upto - from) (drop from xs) 0 x is in
       let long = both.0 in
-      (omega (arith, long), sym (get_drop from xs) ∙ both.1)
+      (omega (arith, long), sym (get-drop from xs) ∙ both.1)
 
   -- and the others
   pub segment_rest : from < upto → drop 1 (segment from upto xs) ≡ segment (from + 1) upto xs
@@ -73,7 +50,7 @@ module _ {X : Type 0} (xs : List X) (from upto : ℕ) where
       ap (λ n. take n (drop from xs)) long
       ∙ take-add (upto - from) 1 (drop from xs)
       ∙ ap (λ ys. segment from upto xs ++ take 1 ys) here
-      ∙ ap (λ ys. segment from upto xs ++ ys) (take_one (drop upto xs) x (get_drop upto xs ∙ is))
+      ∙ ap (λ ys. segment from upto xs ++ ys) (take_next (drop upto xs) 0 x (get-drop upto xs ∙ is))
 
 -- one after another
 pub segment_joined : {X : Type 0} (xs : List X) (from between upto : ℕ) → from ≤ between → between ≤ upto → segment from between xs ++ segment between upto xs ≡ segment from upto xs

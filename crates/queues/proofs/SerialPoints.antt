@@ -1,7 +1,7 @@
 -- The points of active frames among queues stand in serial order, as their points do.
-use Rattle.std.proofs.Common.{◌≡◌, inl, inr, ℕ, ◌<◌, true, nat_eq, nat_lt, List, [], ◌∷◌, ◌++◌, length, Some, refl, sym, ap, subst, ◌∙◌, append-nil, append_assoc, ◌⊎◌, arith}
+use Rattle.std.proofs.Common.{◌≡◌, inl, inr, ℕ, ◌<◌, true, nat_lt, List, [], ◌∷◌, ◌++◌, length, Some, refl, sym, ap, subst, ◌∙◌, append-nil, append_assoc, ◌⊎◌, arith}
 use Rattle.std.proofs.lemmas.Option.{same_Some}
-use Rattle.std.proofs.lemmas.Bool.{eqb-true, le-ltb, lt-ltb, ltb-true}
+use Rattle.std.proofs.lemmas.Bool.{le-ltb, lt-ltb, ltb-true}
 use Rattle.std.specs.Prelude.{slice_get}
 use Rattle.swan_model.specs.declared.script.Script.{Script}
 use Rattle.swan_model.specs.Lawful.{IsLawful}
@@ -14,23 +14,11 @@ use Rattle.swan_model.proofs.PathOrder.{IsAside, IsBelow, either_before, how_bef
 use Rattle.swan_model.proofs.Points.{past_above, same_frame, spawns_rise}
 use Rattle.swan_model.proofs.TaskEntries.{point_own, spawn_own}
 use Rattle.queues.proofs.Between.{IsStill}
-use Rattle.swan_model.proofs.Elements.{answers_same, found_is}
+use Rattle.swan_model.proofs.Elements.{answers_same}
 use Rattle.queues.proofs.Fitting.{fits_still}
+use Rattle.swan_model.proofs.MovedFrames.{frame_in, frame_number}
 
 -- ---- frames by their numbers
-
-pub frame_number : (r : Reading) (number : ℕ) (progress : Progress) → frame_of r number ≡ Some progress → progress.number ≡ number
-frame_number r number progress is = eqb-true progress.number number (found_is (λ (p : Progress). nat_eq p.number number) r.frames progress is).passes
-
--- a frame of a reading, by its place
-pub record IsIn (r : Reading) (progress : Progress) : Type 0 where
-  pub index : ℕ
-  pub stands : slice_get r.frames index ≡ Some progress
-
-pub frame_in : (r : Reading) (number : ℕ) (progress : Progress) → frame_of r number ≡ Some progress → IsIn r progress
-frame_in r number progress is =
-    let found = found_is (λ (p : Progress). nat_eq p.number number) r.frames progress is in
-    record { index = found.index; stands = found.stands }
 
 -- ---- where a frame stands
 
@@ -103,13 +91,13 @@ module _ (s : Script) (lawful : IsLawful s) (state : QueueState) (r : Reading) (
 
   at_point : (number : ℕ) (frame : ActiveFrame) (p : Progress) → IsRead number frame p → StandsAt s r p (point s p)
   at_point number frame p read =
-      let place = frame_in r number p read.known in
+      let place = frame_in r.frames number p read.known in
       let many : length (times s frame.path) ≡ length (times s p.path) = ap (λ q. length (times s q)) (sym read.fit.path) in
       record { index = place.index; stands = place.stands; own = point_own s p (omega (arith, read.fit.left, many)); past = λ spawn less. less }
 
   pub at_queue_point : (number : ℕ) (frame : ActiveFrame) (p : Progress) → IsRead number frame p → StandsAt s r p (queue_point s frame.path frame.deeds)
   at_queue_point number frame p read =
-      let place = frame_in r number p read.known in
+      let place = frame_in r.frames number p read.known in
       let m = queue_point s frame.path frame.deeds in
       let own : IsEntryOf s frame.path m = read.still.own m read.still.order (omega arith) in
       record {
@@ -122,10 +110,10 @@ module _ (s : Script) (lawful : IsLawful s) (state : QueueState) (r : Reading) (
   module _ (number other : ℕ) (frame also : ActiveFrame) (a b : Progress) (one : IsRead number frame a) (two : IsRead other also b) where
     same_task : a.path ≡ b.path → (frame ≡ also) × (a ≡ b)
     same_task path =
-        let here = frame_in r number a one.known in
-        let there = frame_in r other b two.known in
+        let here = frame_in r.frames number a one.known in
+        let there = frame_in r.frames other b two.known in
         let same : a ≡ b = same_frame s r fits.tasks here.index there.index a b here.stands there.stands path in
-        let numbers : number ≡ other = sym (frame_number r number a one.known) ∙ ap (λ (p : Progress). p.number) same ∙ frame_number r other b two.known in
+        let numbers : number ≡ other = sym (frame_number r.frames number a one.known) ∙ ap (λ (p : Progress). p.number) same ∙ frame_number r.frames other b two.known in
         (same_Some frame also (sym one.live ∙ ap (active state) numbers ∙ two.live), same)
 
     -- the order of the points among queues is that of the points
@@ -155,6 +143,6 @@ module _ (s : Script) (lawful : IsLawful s) (state : QueueState) (r : Reading) (
     serial_same differ =
         let apart : a.path ≡ b.path → ⊥ = λ path.
         let both = same_task path in
-        differ (sym (frame_number r number a one.known) ∙ ap (λ (p : Progress). p.number) both.1 ∙ frame_number r other b two.known) in
+        differ (sym (frame_number r.frames number a one.known) ∙ ap (λ (p : Progress). p.number) both.1 ∙ frame_number r.frames other b two.known) in
         order_is s r fits.tasks lawful.nested a b (queue_point s frame.path frame.deeds) (queue_point s also.path also.deeds) (at_queue_point number frame a one) (at_queue_point other also b two) apart
         ∙ ap (λ q. comes_before q b.path) one.fit.path ∙ ap (comes_before frame.path) two.fit.path

@@ -4,7 +4,7 @@ use Rattle.std.proofs.Common.{◌≡◌, inl, inr, ℕ, ◌+◌, ◌<◌, ◌≤
 use Rattle.std.proofs.lemmas.Bool.{cases_lt, eq-eqb, false_from_ne_true, or_left}
 use Rattle.std.specs.Cmp.Lexicographic.{pointwise}
 use Rattle.std.specs.Option.{option_map}
-use Rattle.std.specs.Prelude.{not, slice_get, filter}
+use Rattle.std.specs.Prelude.{not, slice_get}
 use Rattle.swan_model.specs.declared.origin.Origin.{Origin}
 use Rattle.swan_model.specs.declared.rights.Mode.{Mode}
 use Rattle.swan_model.specs.declared.script.Deed.TheVariants as deed
@@ -15,7 +15,7 @@ use Rattle.swan_model.specs.Granted.{child_path, children_before, granted, grant
 use Rattle.swan_model.specs.Lawful.{IsLawful}
 use Rattle.swan_model.specs.Nested.{IsEntryOf, IsEntryUnder}
 use Rattle.swan_model.specs.PathOrder.{is_under}
-use Rattle.swan_model.specs.QueueFollows.{IsChildOf, NextSpawnGivesQueues, IsTask, QueuesFollow, is_reached, queue_point, queue_time, queue_times}
+use Rattle.swan_model.specs.QueueFollows.{IsChildOf, NextSpawnGivesQueues, IsTask, QueuesFollow, is_reached, queue_point, queue_time}
 use Rattle.swan_model.specs.QueueState.{ActiveFrame, made_by, QueueRight, QueueState, active, after_spawn, changed, changing, child_of, with_deed}
 use Rattle.swan_model.specs.Readings.{end_time}
 use Rattle.swan_model.specs.Rights.{is_queue_mode}
@@ -28,13 +28,12 @@ use Rattle.swan_model.proofs.Uses.{granted-none}
 use Rattle.queues.proofs.Between.{IsQueueDeed, IsStill, to_queue_point}
 use Rattle.queues.proofs.Changing.{active_new, changed_follows, done_is, now_is, path_kept, task_on, was}
 use Rattle.queues.proofs.Done.{reached_under}
-use Rattle.swan_model.proofs.Elements.{all_each, as_number, found_is}
+use Rattle.swan_model.proofs.Elements.{all_each, found_is, one_if}
 use Rattle.queues.proofs.Given.{child_made, child_rights}
 use Rattle.queues.proofs.Growing.{grown_follows}
 use Rattle.queues.proofs.Kept.{GrantsNone, still_grants, use_kept}
-use Rattle.queues.proofs.Lineage.{child_spawned, children_are, is_spawn_time}
+use Rattle.queues.proofs.Lineage.{child_spawned, children_are}
 use Rattle.queues.proofs.Moving.{children_next, point_next}
-use Rattle.queues.proofs.Places.{take-none}
 use Rattle.queues.proofs.QueuePoints.{IsNextDeed, at_own, child_comes, coming, coming_deed, coming_point, next_is, parent_comes, spawn_at}
 use Rattle.queues.proofs.Under.{under_from, under_rest}
 
@@ -127,7 +126,7 @@ module _ (s : Script) (lawful : IsLawful s) (state : QueueState) (follows : Queu
   parent_task : IsTask s after_parent (one_more parent)
   parent_task =
       let task = follows.tasks parent.number parent live in
-      let one : as_number (is_spawn (deed_at s at_time)) ≡ 1 = ap as_number (ap is_spawn next_spawn.does) in
+      let one : one_if (is_spawn (deed_at s at_time)) ≡ 1 = ap one_if (ap is_spawn next_spawn.does) in
       let many = children_next s lawful parent.path parent.deeds at_time next_spawn.at in
       record {
         some = task.some;
@@ -171,7 +170,7 @@ module _ (s : Script) (lawful : IsLawful s) (state : QueueState) (follows : Queu
         record {
           some = subst (λ q. 0 < length (times s q)) child_is at.some;
           deeds = omega arith;
-          children = ap (λ xs. length (filter (is_spawn_time s) xs)) (sym (take-none (queue_times s new_child.path)));
+          children = refl;
           rights = λ queue mode origin queues made.
               child_rights s state follows queue mode rights spawn.all origin spawn.queues queues made
               ∙ sym (child_may mode origin queues)

@@ -1,15 +1,16 @@
 -- What the frames keep of each other is kept where a child of one of them comes in, behind all its siblings, with rights of its parent.
-use Rattle.std.proofs.Common.{◌≡◌, ◌≢◌, ◌⊎◌, inl, inr, ℕ, ◌<◌, ◌≤◌, true, Some, List, [], ◌∷◌, ◌++◌, length, sym, ap, subst, ◌∙◌, append_assoc, arith}
-use Rattle.std.specs.Prelude.{slice_get}
+use Rattle.std.proofs.Common.{◌≡◌, ◌≢◌, ◌⊎◌, inl, inr, ℕ, ◌<◌, ◌≤◌, true, Some, List, [], ◌∷◌, ◌++◌, length, sym, ap, subst, ◌∙◌, append_assoc, arith, None, refl}
+use Rattle.std.proofs.lemmas.Bool.{eq-eqb}
+use Rattle.std.proofs.lemmas.List.{same_from_push}
+use Rattle.std.specs.Prelude.{slice_get, ◌==◌}
 use Rattle.swan_model.specs.declared.rights.Mode.{Mode}
 use Rattle.swan_model.specs.QueueState.{ActiveFrame, QueueState, active, holds_queue, IsOlderPopper}
 use Rattle.swan_model.specs.Rights.{is_queue_mode}
-use Rattle.swan_model.proofs.Lists.{last_same}
 use Rattle.swan_model.proofs.Paths.{not_below-itself}
 use Rattle.queues.specs.Tree.{IsHeld, made, given, IsSpawnedBy, IsTree, has_queue, maker_path}
 use Rattle.queues.proofs.Above.{under_maker}
 use Rattle.queues.proofs.Frames.{active_number}
-use Rattle.queues.proofs.FramesChanged.{find_either, find_front, find_last, get_either}
+use Rattle.swan_model.proofs.Elements.{more_cases, found_before, found_cases, found_last, option_cases}
 
 -- the state with one more frame, which is the latest
 abbrev pub with_frame : QueueState → ActiveFrame → QueueState
@@ -38,16 +39,22 @@ module _ (state : QueueState) (parent new : ActiveFrame) (index : ℕ) (tree : I
   after = with_frame state new
 
   pub still_live : (number : ℕ) (frame : ActiveFrame) → active state number ≡ Some frame → active after number ≡ Some frame
-  still_live number frame live = find_front state.frames (new ∷ []) number frame live
+  still_live number frame live = found_before (λ (f : ActiveFrame). f.number == number) state.frames new frame live
 
   pub new_live : active after new.number ≡ Some new
-  new_live = find_last state.frames new (λ frame found.
-      let upto = tree.latest new.number frame found in
-      let least = is.number in
-      absurd (omega arith))
+  new_live = found_last (λ (f : ActiveFrame). f.number == new.number) state.frames new free (eq-eqb new.number new.number refl)
+    where
+      free : active state new.number ≡ None
+      free = elim (option_cases (active state new.number)) [
+        | inl none ↦ none
+        | inr old ↦ let upto = tree.latest new.number old.0 old.1 in let least = is.number in absurd (omega arith)
+      ]
 
   pub was_live : (number : ℕ) (frame : ActiveFrame) → active after number ≡ Some frame → (active state number ≡ Some frame) ⊎ (frame ≡ new)
-  was_live number frame live = find_either state.frames new number frame live
+  was_live number frame live = elim (found_cases (λ (f : ActiveFrame). f.number == number) state.frames new frame live) [
+    | inl old ↦ inl old
+    | inr last ↦ inr (sym last.2)
+  ]
 
   -- what holds of the frames and of the new one
   pub for_both : (P : ℕ → ActiveFrame → Type 0) → ((number : ℕ) (frame : ActiveFrame) → active state number ≡ Some frame → P number frame) → P new.number new
@@ -61,9 +68,9 @@ module _ (state : QueueState) (parent new : ActiveFrame) (index : ℕ) (tree : I
   ]
 
   known_too : (place : ℕ) (frame : ActiveFrame) → slice_get after.frames place ≡ Some frame → active after frame.number ≡ Some frame
-  known_too place frame stands = elim (get_either state.frames new frame place stands) [
+  known_too place frame stands = elim (more_cases state.frames new place frame stands) [
     | inl was ↦ still_live frame.number frame (tree.known place frame was)
-    | inr same ↦ ap (λ (f : ActiveFrame). active after f.number) same ∙ new_live ∙ ap Some (sym same)
+    | inr last ↦ ap (λ (f : ActiveFrame). active after f.number) last.1 ∙ new_live ∙ ap Some (sym last.1)
   ]
 
   spawned_too : (number above : ℕ) (frame : ActiveFrame) → active state number ≡ Some frame → frame.parent ≡ Some above → IsSpawnedBy after frame above
@@ -92,7 +99,7 @@ module _ (state : QueueState) (parent new : ActiveFrame) (index : ℕ) (tree : I
     by : (active state number ≡ Some a) ⊎ (a ≡ new) → (active state other ≡ Some b) ⊎ (b ≡ new) → i < j
     by (inl first) (inl second) = tree.siblings number other i j a b path first second at there less
     by (inl first) (inr last) =
-        let paths = last_same path parent.path j index (sym there ∙ ap (λ (f : ActiveFrame). f.path) last ∙ is.path) in
+        let paths = same_from_push path parent.path j index (sym there ∙ ap (λ (f : ActiveFrame). f.path) last ∙ is.path) in
         let before = is.later number i a first (at ∙ ap (λ p. p ++ i ∷ []) paths.0) in
         let same = paths.1 in
         omega arith

@@ -2,15 +2,16 @@
 use Rattle.queues.proofs.ActiveAfter.{KeepsTask}
 use Rattle.std.proofs.Common.{◌≡◌, ℕ, ◌+◌, ◌<◌, ◌≤◌, cond, None, Some, List, [], ◌∷◌, ◌++◌, length, map, refl, sym, ap, subst, ◌∙◌, arith}
 use Rattle.std.proofs.lemmas.Bool.{eq-eqb}
+use Rattle.std.proofs.lemmas.List.{same_from_push}
 use Rattle.swan_model.specs.QueueState.{ActiveFrame, LentEnd, planned, made_by, QueueRight, QueueState, active, after_back, after_create, after_create_root, after_deed, after_lend, after_take_rest, changed, changing, child_of, MayAct, MayGive, with_deed, with_made}
-use Rattle.swan_model.proofs.Lists.{last_same}
 use Rattle.queues.specs.Tree.{IsTree}
 use Rattle.queues.proofs.Above.{parent_of}
-use Rattle.queues.proofs.Frames.{active_number, same_frame}
+use Rattle.queues.proofs.Frames.{active_number}
 use Rattle.queues.proofs.Gives.{gives_had, gives_held}
 use Rattle.queues.proofs.OneChanged.{goes_on, makes}
 use Rattle.queues.proofs.TreeAdded.{IsNewest}
 use Rattle.queues.proofs.TreeChanged.{IsChanged, still, tree_changed, was}
+use Rattle.swan_model.proofs.Elements.{one_answer}
 
 in_place : (change : ActiveFrame → ActiveFrame) → ((frame : ActiveFrame) → (change frame).number ≡ frame.number) → ((frame : ActiveFrame) → (change frame).parent ≡ frame.parent)
     → ((frame : ActiveFrame) → (change frame).path ≡ frame.path) → ((frame : ActiveFrame) → frame.children ≤ (change frame).children) → KeepsTask change
@@ -36,7 +37,7 @@ module _ (state : QueueState) (tree : IsTree state) (n : ℕ) (frame : ActiveFra
       makes state tree frame.number (maker_now state)
       (in_place (maker_now state) (λ f. refl) (λ f. refl) (λ f. refl) (λ f. omega arith))
       (λ f. refl) (made_by frame.path frame.deeds)
-      (λ f live. ap (λ (g : ActiveFrame). g.path) (same_frame (active state frame.number) f frame live own_live))
+      (λ f live. ap (λ (g : ActiveFrame). g.path) (one_answer (active state frame.number) f frame live own_live))
 
   deed : IsChanged state (after_deed state frame.number) (changed frame.number with_deed) frame.number
   deed =
@@ -115,9 +116,9 @@ module _ (state : QueueState) (tree : IsTree state) (p child : ℕ) (gives : Lis
   lesser_before number other f live path =
       let upper = parent_of state tree number f frame.path [] other live path in
       let from = tree.spawned number upper.0 f live upper.1 in
-      let paths = last_same from.above.path frame.path from.index other (sym from.path ∙ path) in
+      let paths = same_from_push from.above.path frame.path from.index other (sym from.path ∙ path) in
       let same = tree.different upper.0 frame.number from.above frame from.live (own_live state tree p frame may) paths.0 in
-      let one = same_frame (active state frame.number) from.above frame (ap (active state) (sym same) ∙ from.live) (own_live state tree p frame may) in
+      let one = one_answer (active state frame.number) from.above frame (ap (active state) (sym same) ∙ from.live) (own_live state tree p frame may) in
       let index = paths.1 in
       let fewer = from.spawned in
       let as_many : from.above.children ≡ frame.children = ap (λ (g : ActiveFrame). g.children) one in

@@ -12,7 +12,8 @@ use Rattle.swan_model.specs.Rights.{is_queue_mode}
 use Rattle.swan_model.proofs.Lists.{some_within}
 use Rattle.queues.specs.Tree.{IsHeld, made, given, IsSpawnedBy, IsTree, has_queue}
 use Rattle.queues.proofs.Frames.{active_number, has_held}
-use Rattle.queues.proofs.FramesChanged.{find_changed, mapped_some}
+use Rattle.queues.proofs.FramesChanged.{find_changed}
+use Rattle.swan_model.proofs.Elements.{mapped_is}
 
 -- Each frame is changed so: it keeps its place, and its rights on all queues that were there.
 pub record IsChanged (before after : QueueState) (each : ActiveFrame → ActiveFrame) (actor : ℕ) : Type 0 where
@@ -37,7 +38,8 @@ module _ (before after : QueueState) (each : ActiveFrame → ActiveFrame) (actor
 
   pub was : (number : ℕ) (now : ActiveFrame) → active after number ≡ Some now → (frame : ActiveFrame) × (active before number ≡ Some frame) × (now ≡ each frame)
   was number now live =
-      mapped_some each (active before number) now (sym (find_changed each change.kept.number before.frames number) ∙ sym (same_active number) ∙ live)
+      let at = mapped_is each (active before number) now (sym (find_changed each change.kept.number before.frames number) ∙ sym (same_active number) ∙ live) in
+      (at.0, at.1, sym at.2)
 
   -- what is shown of changed frames holds of those that are active
   pub for_each : (P : ℕ → ActiveFrame → Type 0) → ((number : ℕ) (frame : ActiveFrame) → active before number ≡ Some frame → P number (each frame))
@@ -48,10 +50,10 @@ module _ (before after : QueueState) (each : ActiveFrame → ActiveFrame) (actor
 
   known_still : (index : ℕ) (now : ActiveFrame) → slice_get after.frames index ≡ Some now → active after now.number ≡ Some now
   known_still index now stands =
-      let at = mapped_some each (slice_get before.frames index) now
+      let at = mapped_is each (slice_get before.frames index) now
       (sym (slice_get-map each before.frames index) ∙ ap (λ fs. slice_get fs index) (sym change.frames) ∙ stands) in
-      let own : now.number ≡ at.0.number = ap (λ (f : ActiveFrame). f.number) at.2 ∙ change.kept.number at.0 in
-      ap (active after) own ∙ still at.0.number at.0 (tree.known index at.0 at.1) ∙ ap Some (sym at.2)
+      let own : now.number ≡ at.0.number = ap (λ (f : ActiveFrame). f.number) (sym at.2) ∙ change.kept.number at.0 in
+      ap (active after) own ∙ still at.0.number at.0 (tree.known index at.0 at.1) ∙ ap Some at.2
 
   spawned_still : (number parent : ℕ) (frame : ActiveFrame) → active before number ≡ Some frame → (each frame).parent ≡ Some parent → IsSpawnedBy after (each frame) parent
   spawned_still number parent frame live of =

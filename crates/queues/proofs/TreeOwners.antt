@@ -11,11 +11,12 @@ use Rattle.queues.specs.Chunks.{Chunk, Chunks, after_close, after_hand_on, HasOw
 use Rattle.queues.specs.Tree.{IsTree, has_queue, maker_path}
 use Rattle.queues.proofs.TreeCalls.{back_changed, back_now, create_changed, deed_changed, lend_changed, lent_now, maker_now, own_live, rest_changed, root_changed}
 use Rattle.queues.proofs.ChunkOwners.{closed_gone, closed_other, closed_was, ordered_trimmed, owner_before, owner_behind, owner_left_out, owner_with_item, owner_without_first}
-use Rattle.queues.proofs.Frames.{active_number, same_frame}
+use Rattle.queues.proofs.Frames.{active_number}
 use Rattle.queues.proofs.QueueHolders.{changed_new, changed_still, changed_was, gone_still, gone_was, has_made, none_after_maker}
 use Rattle.queues.proofs.Owners.{has_owners, IsHolder, ordered_left_out, ordered_owners, ordered_same, ordered_without, owner_at, owns_at, owns_one}
 use Rattle.queues.proofs.OwnersSpawned.{spawn_given, spawn_kept}
 use Rattle.queues.proofs.TreeChanged.{IsChanged, still}
+use Rattle.swan_model.proofs.Elements.{one_answer}
 
 -- ---- the same chunks
 
@@ -171,7 +172,7 @@ owners_kept_finish state n q frame chunks live hasnt owners =
     (ordered_same (IsHolder state q) (owner_at chunks) (ordered_owners state q chunks owners) (IsHolder (after_finish state n) q) (owner_at chunks)
     (λ number path now. (gone_was state n q number path now).1)
     (λ number path old. gone_still state n q number path (λ same.
-    let one = same_frame (active state n) old.frame frame (ap (active state) (sym same) ∙ old.live) live in
+    let one = one_answer (active state n) old.frame frame (ap (active state) (sym same) ∙ old.live) live in
     false≢true (sym hasnt ∙ ap (λ (f : ActiveFrame). has_queue f q) (sym one) ∙ old.has)) old)
     (λ index. refl))
 

@@ -6,12 +6,13 @@ use Rattle.std.proofs.lemmas.Bool.{cond_both, eqb-true}
 use Rattle.swan_model.specs.QueueState.{ActiveFrame, LentEnd, QueueRight, QueueState, active, after_back, after_create, after_create_root, after_deed, after_finish, after_lend, after_spawn, after_take_rest, changed, child_of, HasTurn, new_state, with_deed, with_made}
 use Rattle.queues.specs.Asks.{MayDo, MayJoin, MaySpawn}
 use Rattle.queues.specs.Tree.{SpawnersHaveTurns, IsTree}
-use Rattle.queues.proofs.Frames.{active_number, same_frame}
+use Rattle.queues.proofs.Frames.{active_number}
 use Rattle.queues.proofs.TreeAdded.{for_both, IsNewest, older_before as older_than_both, with_frame}
 use Rattle.queues.proofs.TreeCalls.{back_changed, back_now, child_newest, create_changed, deed_changed, lend_changed, lent_now, maker_now, one_more, own_live, parent_changed, rest_changed, root_changed, tree_between, with_one_more}
 use Rattle.queues.proofs.TreeChanged.{for_each, IsChanged, older_before}
 use Rattle.queues.proofs.TreeKept.{only_root}
 use Rattle.queues.proofs.TreeWithout.{older_left, was_there}
+use Rattle.swan_model.proofs.Elements.{one_answer}
 
 -- ---- frames in their places
 
@@ -38,7 +39,7 @@ turned_one state spawners n change turned number frame live =
 pub turn_of : (state : QueueState) (n : ℕ) (frame : ActiveFrame) → active state n ≡ Some frame → HasTurn state frame → (f : ActiveFrame) → active state n ≡ Some f → HasTurn state f
 turn_of state n frame live turn f there =
     let P : ActiveFrame → Type 0 = λ g. HasTurn state g in
-    subst P (same_frame (active state n) frame f live there) turn
+    subst P (one_answer (active state n) frame f live there) turn
 
 -- ---- a frame more
 

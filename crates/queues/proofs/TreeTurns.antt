@@ -11,7 +11,8 @@ use Rattle.queues.specs.Chunks.{Chunk, Chunks, HasOwners, IsOwner}
 use Rattle.queues.specs.Tells.{IsFirstPusher}
 use Rattle.queues.specs.Tree.{SpawnersHaveTurns, IsTree, has_queue}
 use Rattle.queues.proofs.Above.{climb, held_above, IsOnWay, maker_aside, maker_below, maker_of, same_front}
-use Rattle.queues.proofs.Frames.{active_number, has_held, pushes_or_pops, same_frame}
+use Rattle.queues.proofs.Frames.{active_number, has_held, pushes_or_pops}
+use Rattle.swan_model.proofs.Elements.{one_answer}
 
 module _ (state : QueueState) (tree : IsTree state) (spawners : SpawnersHaveTurns state) (queue n : ℕ) (f : ActiveFrame) (may : MayAct state n f)
     (turn : HasTurn state f) (pops : holds_queue f queue Pop ≡ true) (alone : (c : ℕ) → ¬ IsPoppingChild state n queue c) where
@@ -36,7 +37,7 @@ module _ (state : QueueState) (tree : IsTree state) (spawners : SpawnersHaveTurn
       let before : a.number < b.number = elim (cases_order a.number b.number) [
         | inl same ↦
             let P : ℕ → Type 0 = λ k. active state k ≡ Some a.child in
-            let child = same_frame (active state b.number) a.child b.child (subst P same a.live) b.live in
+            let child = one_answer (active state b.number) a.child b.child (subst P same a.live) b.live in
             let both = same_front top part later [] [] (sym a.path ∙ ap (λ (g : ActiveFrame). g.path) child ∙ b.path) in
             absurd (omega arith)
         | inr differ ↦ elim differ [
@@ -64,7 +65,7 @@ module _ (state : QueueState) (tree : IsTree state) (spawners : SpawnersHaveTurn
     by : (b.number ≡ n) ⊎ (0 < b.child.children) → ⊥
     by (inl same) =
         let P : ℕ → Type 0 = λ k. active state k ≡ Some b.child in
-        let one = same_frame (active state n) b.child f (subst P same b.live) may.live in
+        let one = one_answer (active state n) b.child f (subst P same b.live) may.live in
         let Q : ActiveFrame → Type 0 = λ g. IsOlderPopper state g m in
         turn m (subst Q one older)
     by (inr some) = spawners.turns b.number b.child b.live some m older
@@ -121,7 +122,7 @@ module _ (state : QueueState) (queue : ℕ) (chunks : Chunks) (n : ℕ) (f : Act
   earlier_owner_pushes =
       let has = owners.owners j m other in
       let P : ActiveFrame → Type 0 = λ h. has_queue h queue ≡ true in
-      earlier_pushes state tree spawners queue n f may turn pops alone m g live comes_earlier (subst P (same_frame (active state m) has.0 g has.1 live) has.2)
+      earlier_pushes state tree spawners queue n f may turn pops alone m g live comes_earlier (subst P (one_answer (active state m) has.0 g has.1 live) has.2)
 
 -- ---- those of them that push
 

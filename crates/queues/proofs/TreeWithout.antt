@@ -4,7 +4,8 @@ use Rattle.std.proofs.lemmas.Bool.{eq-eqb, false≢true}
 use Rattle.std.specs.Prelude.{◌==◌, not, slice_get}
 use Rattle.swan_model.specs.QueueState.{ActiveFrame, QueueState, active, after_finish, IsActiveChild, IsOlderPopper}
 use Rattle.queues.specs.Tree.{IsHeld, made, given, IsSpawnedBy, IsTree}
-use Rattle.queues.proofs.FramesChanged.{filtered, find_gone, find_others}
+use Rattle.queues.proofs.FramesChanged.{find_gone, find_others}
+use Rattle.swan_model.proofs.Elements.{filtered_stands}
 
 module _ (state : QueueState) (gone : ℕ) where
   abbrev after : QueueState
@@ -27,9 +28,9 @@ module _ (state : QueueState) (gone : ℕ) (tree : IsTree state) (alone : (child
 
   known_left : (place : ℕ) (frame : ActiveFrame) → slice_get (after_finish state gone).frames place ≡ Some frame → active (after_finish state gone) frame.number ≡ Some frame
   known_left place frame stands =
-      let at = filtered (λ f. not (f.number == gone)) state.frames place frame stands in
+      let at = filtered_stands (λ (f : ActiveFrame). not (f.number == gone)) state.frames place frame stands in
       stays state gone frame.number frame
-      (λ same. false≢true (ap not (sym (eq-eqb frame.number gone same)) ∙ at.2)) (tree.known at.0 frame at.1)
+      (λ same. false≢true (ap not (sym (eq-eqb frame.number gone same)) ∙ at.passes)) (tree.known at.index frame at.stands)
 
   spawned_left : (number parent : ℕ) (frame : ActiveFrame) → active (after_finish state gone) number ≡ Some frame → frame.parent ≡ Some parent
       → IsSpawnedBy (after_finish state gone) frame parent

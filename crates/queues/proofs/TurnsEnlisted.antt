@@ -1,6 +1,6 @@
 -- The turns of frames with one entry more, or another one for a number.
 use Rattle.std.proofs.Common.{◌≡◌, ◌≢◌, ℕ, ◌≤◌, Bool, true, false, cond, Option, None, Some, [], ◌∷◌, refl, sym, ap, ◌∙◌, inl, inr, arith}
-use Rattle.std.proofs.lemmas.Bool.{cases_Bool, cases_eq, false≢true}
+use Rattle.std.proofs.lemmas.Bool.{cases_Bool, cases_eq, false≢true, and_from}
 use Rattle.std.proofs.lemmas.Bool.Decides.{nat_tests}
 use Rattle.std.specs.List.{list_all}
 use Rattle.std.specs.Map.{set_value}
@@ -9,7 +9,6 @@ use Rattle.std.specs.Ordering.{nat_cmp, is_eq, match_ordering}
 use Rattle.std.specs.declared.cmp.Ordering.{Ordering}
 use Rattle.std.specs.declared.cmp.Ordering.TheVariants.{Less, Equal, Greater}
 use Rattle.std.specs.Prelude.{nat_le}
-use Rattle.pop_order.proofs.Flags.{and_both}
 use Rattle.pop_order.specs.Frames.{Frame, Frames, enlisted, enlisted_at, frame_at, AreUpTo}
 use Rattle.swan_model.specs.SerialState.{Holding}
 use Rattle.queues.specs.Turned.{AreApart}
@@ -64,7 +63,7 @@ pub up_to : (es : Frames) (child : ℕ) → AreApart es → ((m : ℕ) (turn : F
 up_to [] child apart all = refl
 up_to (e ∷ es) child (first, apart) all =
     let here : frame_at (e ∷ es) e.0 ≡ Some e.1 = ap (λ b. cond b (Some e.1) (frame_at es e.0)) (tied e.0 e.0 refl) in
-    and_both (nat_le e.0 child) (list_all (λ f. nat_le f.0 child) es) (no_more e.0 child (all e.0 e.1 here))
+    and_from (nat_le e.0 child) (list_all (λ f. nat_le f.0 child) es) (no_more e.0 child (all e.0 e.1 here))
     (up_to es child apart (λ m turn at. all m turn (elim (cases_eq m e.0) [
       | inl same ↦ let never : None ≡ Some turn = sym first ∙ ap (λ k. frame_at es k) (sym same) ∙ at in absurd (cc)
       | inr other ↦ ap (λ b. cond b (Some e.1) (frame_at es m)) (untied m e.0 (λ s. other (sym s))) ∙ at

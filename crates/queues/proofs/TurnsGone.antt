@@ -1,11 +1,10 @@
 -- The turns of poppers without a frame that has finished.
 use Rattle.std.proofs.Common.{◌≡◌, ◌≢◌, ℕ, Bool, true, false, cond, not, ◌==◌, None, Some, List, [], ◌∷◌, refl, sym, ap, ◌∙◌, inl, inr, rules}
-use Rattle.std.proofs.lemmas.Bool.{cases_Bool, cases_eq}
+use Rattle.std.proofs.lemmas.Bool.{cases_Bool, cases_eq, and_from}
 use Rattle.std.specs.List.{list_all}
 use Rattle.std.specs.BTreeMap.{is_at}
 use Rattle.std.specs.Ordering.{nat_cmp}
 use Rattle.std.specs.Prelude.{slice_get}
-use Rattle.pop_order.proofs.Flags.{and_both}
 use Rattle.pop_order.specs.Frames.{Frame, Frames, frame_at, without, HasNoChild}
 use Rattle.swan_model.specs.QueueState.{QueueMaker, QueueState, active, IsActiveChild}
 use Rattle.queues.specs.Turned.{AreApart, AreTurns}
@@ -53,7 +52,7 @@ no_child (e ∷ es) n (first, apart) none =
     let here : frame_at (e ∷ es) e.0 ≡ Some e.1 = ap (λ b. cond b (Some e.1) (frame_at es e.0)) (tied e.0 e.0 refl) in
     let ne : e.1.parent ≢ n = none e.0 e.1 here in
     let test : (e.1.parent == n) ≡ false = search rules in
-    and_both (not (e.1.parent == n)) (list_all (λ f. not (f.1.parent == n)) es) (ap not test)
+    and_from (not (e.1.parent == n)) (list_all (λ f. not (f.1.parent == n)) es) (ap not test)
     (no_child es n apart (λ m turn at. none m turn (elim (cases_eq m e.0) [
       | inl same ↦ let never : None ≡ Some turn = sym first ∙ ap (λ k. frame_at es k) (sym same) ∙ at in absurd (cc)
       | inr other ↦ ap (λ b. cond b (Some e.1) (frame_at es m)) (untied m e.0 (λ s. other (sym s))) ∙ at

@@ -10,7 +10,7 @@ use Rattle.queues.specs.Tree.{IsTree, has_queue, maker_path}
 use Rattle.queues.specs.Turned.{AreTurns}
 use Rattle.queues.proofs.Above.{under_maker}
 use Rattle.queues.proofs.SameHolders.{AreSameHolders, holder_after, holder_before}
-use Rattle.queues.proofs.Frames.{same_frame}
+use Rattle.swan_model.proofs.Elements.{one_answer}
 
 rights_hold : (frame now : ActiveFrame) (queue : ℕ) (mode : Mode) → now.rights ≡ frame.rights → holds_queue now queue mode ≡ holds_queue frame queue mode
 rights_hold frame now queue mode same = ap (λ (rights : List QueueRight). holds_queue (record frame { rights = rights }) queue mode) same
@@ -33,7 +33,7 @@ pub child_given : (state : QueueState) → IsTree state → (n child queue : ℕ
     → active state child ≡ Some below → below.parent ≡ Some n → (maker : QueueMaker) → slice_get state.makers queue ≡ Some maker → below.path ≢ maker_path maker
 child_given state tree n child queue frame below live has live_below of maker made same =
     let spawned = tree.spawned child n below live_below of in
-    let is_above : spawned.above ≡ frame = same_frame (active state n) spawned.above frame spawned.live live in
+    let is_above : spawned.above ≡ frame = one_answer (active state n) spawned.above frame spawned.live live in
     let under = under_maker state tree n queue frame maker live has made in
     let path : below.path ≡ (maker_path maker ++ under.0) ++ spawned.index ∷ [] = spawned.path ∙ ap (λ (f : ActiveFrame). f.path ++ spawned.index ∷ []) is_above ∙ ap (λ p. p ++ spawned.index ∷ []) under.1 in
     let long : length below.path ≡ length (maker_path maker) + length under.0 + 1 =

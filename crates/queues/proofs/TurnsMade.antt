@@ -5,14 +5,13 @@ use Rattle.std.specs.Prelude.{slice_get}
 use Rattle.pop_order.specs.Frames.{Frames}
 use Rattle.swan_model.specs.declared.rights.Mode.{Mode}
 use Rattle.swan_model.specs.QueueState.{ActiveFrame, QueueMaker, planned, made_by, QueueState, active, after_create, after_create_root, holds_queue, with_deed, with_made, IsUntouched}
-use Rattle.swan_model.proofs.Elements.{last_more}
+use Rattle.swan_model.proofs.Elements.{last_more, one_answer, before_more}
 use Rattle.queues.specs.Asks.{MayDo}
 use Rattle.queues.specs.Tree.{IsTree, maker_path}
 use Rattle.queues.specs.Turned.{AreTurns}
 use Rattle.pop_order.specs.OneChange.{IsOnlyChange}
 use Rattle.queues.proofs.ActiveAfter.{one_changed, one_goes_on}
-use Rattle.queues.proofs.Frames.{has_held, same_frame}
-use Rattle.queues.proofs.FramesChanged.{get_front}
+use Rattle.queues.proofs.Frames.{has_held}
 use Rattle.queues.proofs.Making.{holds_before, holds_cases}
 
 module _ (state : QueueState) (tree : IsTree state) (turns : Frames) (is : AreTurns state turns) where
@@ -29,7 +28,7 @@ module _ (state : QueueState) (tree : IsTree state) (turns : Frames) (is : AreTu
           let was = is.known m turn at in
           elim (cases_eq m n) [
             | inl here ↦
-                let same : was.0 ≡ frame = same_frame (active state n) was.0 frame (ap (active state) (sym here) ∙ was.1) live in (
+                let same : was.0 ≡ frame = one_answer (active state n) was.0 frame (ap (active state) (sym here) ∙ was.1) live in (
                   later,
                   ap (active after) here ∙ one.changed,
                   parent ∙ ap (λ (f : ActiveFrame). f.parent) (sym same) ∙ was.2,
@@ -43,13 +42,13 @@ module _ (state : QueueState) (tree : IsTree state) (turns : Frames) (is : AreTu
       all = λ m above q mode found live_found of held apart.
           elim (cases_eq m n) [
             | inl here ↦
-                let same : found ≡ later = same_frame (active after n) found later (ap (active after) (sym here) ∙ live_found) one.changed in
+                let same : found ≡ later = one_answer (active after n) found later (ap (active after) (sym here) ∙ live_found) one.changed in
                 let held_later : holds_queue (with_made (length state.makers) frame) q mode ≡ true =
                 sym (later_holds q mode) ∙ ap (λ (f : ActiveFrame). holds_queue f q mode) (sym same) ∙ held in
                 elim (holds_cases frame (length state.makers) q mode held_later) [
                   | inl old ↦
                       is.all m above q mode frame (ap (active state) here ∙ live) (sym parent ∙ ap (λ (f : ActiveFrame). f.parent) (sym same) ∙ of) old
-                      (λ old_one made is_own. apart old_one (ap (λ (ms : List QueueMaker). slice_get ms q) makers ∙ get_front state.makers (maker ∷ []) q old_one made)
+                      (λ old_one made is_own. apart old_one (ap (λ (ms : List QueueMaker). slice_get ms q) makers ∙ before_more state.makers maker q old_one made)
                       (ap (λ (f : ActiveFrame). f.path) same ∙ path ∙ is_own))
                   | inr new ↦
                       absurd (apart maker (ap (λ (ms : List QueueMaker). slice_get ms q) makers ∙ ap (λ k. slice_get (state.makers ++ maker ∷ []) k) new ∙ last_more state.makers maker)
@@ -57,7 +56,7 @@ module _ (state : QueueState) (tree : IsTree state) (turns : Frames) (is : AreTu
                 ]
             | inr other ↦
                 is.all m above q mode found (sym (one.others m other) ∙ live_found) of held
-                (λ old_one made is_own. apart old_one (ap (λ (ms : List QueueMaker). slice_get ms q) makers ∙ get_front state.makers (maker ∷ []) q old_one made) is_own)
+                (λ old_one made is_own. apart old_one (ap (λ (ms : List QueueMaker). slice_get ms q) makers ∙ before_more state.makers maker q old_one made) is_own)
           ];
     }
 

@@ -11,8 +11,9 @@ use Rattle.queues.specs.Asks.{MaySpawn}
 use Rattle.queues.specs.Tree.{IsTree, maker_path}
 use Rattle.queues.specs.Turned.{AreGivenTurns, AreTurns, holding_of, turn_of}
 use Rattle.queues.proofs.ActiveAfter.{child_spawned, others_spawned, parent_spawned}
-use Rattle.queues.proofs.Frames.{active_number, same_frame}
+use Rattle.queues.proofs.Frames.{active_number}
 use Rattle.queues.proofs.Match.{not_active}
+use Rattle.swan_model.proofs.Elements.{one_answer}
 
 -- what the turn of a child says of what it was given
 abbrev rights_for : List QueueRight → ℕ → Mode → Bool
@@ -83,7 +84,7 @@ module _ (state : QueueState) (tree : IsTree state) (turns : Frames) (is : AreTu
             )
         by (inr apart) (inl is_parent) =
             let was = is.known m turn (sym (given.one.others m apart) ∙ at) in
-            let same : was.0 ≡ may.act.frame = same_frame (active state p) was.0 may.act.frame (ap (active state) (sym is_parent) ∙ was.1) may.act.may.live in (
+            let same : was.0 ≡ may.act.frame = one_answer (active state p) was.0 may.act.frame (ap (active state) (sym is_parent) ∙ was.1) may.act.may.live in (
               parent_now,
               ap (active after) is_parent ∙ parent_live,
               ap (λ (g : ActiveFrame). g.parent) (sym same) ∙ was.2,
@@ -100,7 +101,7 @@ module _ (state : QueueState) (tree : IsTree state) (turns : Frames) (is : AreTu
         by : (m ≡ child) ⊎ (m ≢ child) → (m ≡ p) ⊎ (m ≢ p) → (turn : Frame) × (frame_at then_turns m ≡ Some turn) × (turn.parent ≡ above) × (holds turn.holdings q mode ≡ true)
         by (inl is_child) c =
             let same : one ≡ child_of may.act.frame child gives =
-            same_frame (active after child) one (child_of may.act.frame child gives)
+            one_answer (active after child) one (child_of may.act.frame child gives)
             (ap (active after) (sym is_child) ∙ live) child_live in
             let told = turn_some p gives q mode (ap (λ (g : ActiveFrame). holds_queue g q mode) (sym same) ∙ held) in
             let both : Some may.act.frame.number ≡ Some above = ap (λ (g : ActiveFrame). g.parent) (sym same) ∙ of in
@@ -108,7 +109,7 @@ module _ (state : QueueState) (tree : IsTree state) (turns : Frames) (is : AreTu
             (told.0, ap (frame_at then_turns) is_child ∙ given.one.changed ∙ told.1, told.2 ∙ sym (active_number state p may.act.frame may.act.may.live) ∙ number, told.3)
         by (inr apart) (inl is_parent) =
             let same : one ≡ parent_now =
-            same_frame (active after p) one parent_now (ap (active after) (sym is_parent) ∙ live) parent_live in
+            one_answer (active after p) one parent_now (ap (active after) (sym is_parent) ∙ live) parent_live in
             let turn = is.all m above q mode may.act.frame (ap (active state) is_parent ∙ may.act.may.live) (ap (λ (g : ActiveFrame). g.parent) (sym same) ∙ of)
             (ap (λ (g : ActiveFrame). holds_queue g q mode) (sym same) ∙ held) (λ maker made own. foreign maker made (ap (λ (g : ActiveFrame). g.path) same ∙ own)) in
             (turn.0, given.one.others m apart ∙ turn.1, turn.2, turn.3)

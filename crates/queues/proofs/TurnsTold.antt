@@ -18,8 +18,9 @@ use Rattle.swan_model.proofs.PathOrder.{before-below, before-parent, how_before,
 use Rattle.queues.specs.Tree.{IsSpawnedBy, IsTree, has_queue, maker_path}
 use Rattle.queues.specs.Turned.{AreTurns, IsToldBy}
 use Rattle.queues.proofs.Above.{Climbs, climb, held_above, IsOnWay, maker_aside, maker_below, maker_of, same_front, under_maker}
-use Rattle.queues.proofs.Frames.{active_number, has_held, same_frame, some_mode}
+use Rattle.queues.proofs.Frames.{active_number, has_held, some_mode}
 use Rattle.queues.proofs.TurnsKept.{pops_active, pops_turn}
+use Rattle.swan_model.proofs.Elements.{one_answer}
 
 module _ (state : QueueState) (tree : IsTree state) (turns : Frames) (are : AreTurns state turns) where
   -- ---- from the turns to the frames
@@ -37,10 +38,10 @@ module _ (state : QueueState) (tree : IsTree state) (turns : Frames) (are : AreT
 
   -- the path of a frame that is at another one or below it begins with that one's
   under_top : (top number : ℕ) (a b : ActiveFrame) → IsAtOrBelow turns top number → active state top ≡ Some a → active state number ≡ Some b → (rest : List ℕ) × (b.path ≡ a.path ++ rest)
-  under_top top number a b at one two = ([], ap (λ (f : ActiveFrame). f.path) (same_frame (active state top) b a two one) ∙ sym (append-nil a.path))
+  under_top top number a b at one two = ([], ap (λ (f : ActiveFrame). f.path) (one_answer (active state top) b a two one) ∙ sym (append-nil a.path))
   under_top top number a b (below parent _ child up) one two =
       let here = there parent number child in
-      let same = same_frame (active state number) b here.frame two here.live in
+      let same = one_answer (active state number) b here.frame two here.live in
       let higher = under_top top parent a here.from.above up one here.from.live in (
         higher.0 ++ here.from.index ∷ [],
         ap (λ (f : ActiveFrame). f.path) same ∙ here.from.path ∙ ap (λ p. p ++ here.from.index ∷ []) higher.1 ∙ append_assoc a.path higher.0 (here.from.index ∷ []),
@@ -60,7 +61,7 @@ module _ (state : QueueState) (tree : IsTree state) (turns : Frames) (are : AreT
   turns_before number other a b (aside parent older younger c d less up up_too) one two =
       let x = there parent older c in
       let y = there parent younger d in
-      let same = same_frame (active state parent) y.from.above x.from.above y.from.live x.from.live in
+      let same = one_answer (active state parent) y.from.above x.from.above y.from.live x.from.live in
       let top = x.from.above.path in
       let first : List ℕ = top ++ x.from.index ∷ [] in
       let second : List ℕ = top ++ y.from.index ∷ [] in
@@ -93,7 +94,7 @@ module _ (state : QueueState) (tree : IsTree state) (turns : Frames) (are : AreT
     theirs = tree.spawned older is.parent is.older is.live is.sibling
 
     path_of : is.older.path ≡ mine.above.path ++ theirs.index ∷ []
-    path_of = theirs.path ∙ ap (λ (f : ActiveFrame). f.path ++ theirs.index ∷ []) (same_frame (active state is.parent) theirs.above mine.above theirs.live mine.live)
+    path_of = theirs.path ∙ ap (λ (f : ActiveFrame). f.path ++ theirs.index ∷ []) (one_answer (active state is.parent) theirs.above mine.above theirs.live mine.live)
 
     -- siblings have different indexes
     apart : theirs.index ≡ mine.index → ⊥
@@ -141,7 +142,7 @@ module _ (state : QueueState) (tree : IsTree state) (turns : Frames) (are : AreT
     leads_up : Climbs state tree (Leads queue mode from) top part
     leads_up number parent frame above rest live of alive path told =
         let spawn = tree.spawned number parent frame live of in
-        let one = same_frame (active state parent) spawn.above above spawn.live alive in
+        let one = one_answer (active state parent) spawn.above above spawn.live alive in
         let whole : frame.path ≡ top ++ part ∷ (rest ++ spawn.index ∷ []) =
         spawn.path ∙ ap (λ (g : ActiveFrame). g.path ++ spawn.index ∷ []) one ∙ ap (λ p. p ++ spawn.index ∷ []) path ∙ append_assoc top (part ∷ rest) (spawn.index ∷ []) in
         let child = given_child number parent frame (rest ++ spawn.index ∷ []) live of whole told.0 in
@@ -184,7 +185,7 @@ module _ (state : QueueState) (tree : IsTree state) (turns : Frames) (are : AreT
       where
         not_same : number ≢ other
         not_same e =
-            let frames = same_frame (active state number) a b one (ap (active state) e ∙ two) in
+            let frames = one_answer (active state number) a b one (ap (active state) e ∙ two) in
             not_before-under a.path [] (ap (comes_before a.path) (append-nil a.path ∙ ap (λ (f : ActiveFrame). f.path) frames) ∙ before)
 
     beside_it : IsAside a.path b.path → ComesBefore turns number other
@@ -198,7 +199,7 @@ module _ (state : QueueState) (tree : IsTree state) (turns : Frames) (are : AreT
         let P : ℕ → Type 0 = λ k. IsChild turns k y.way.number in
         let before : x.way.number < y.way.number = elim (cases_order x.way.number y.way.number) [
           | inl equal ↦
-              let child = same_frame (active state y.way.number) x.way.child y.way.child (ap (active state) (sym equal) ∙ x.way.live) y.way.live in
+              let child = one_answer (active state y.way.number) x.way.child y.way.child (ap (active state) (sym equal) ∙ x.way.live) y.way.live in
               let parts = same_front is.above is.number is.later [] [] (sym x.way.path ∙ ap (λ (g : ActiveFrame). g.path) child ∙ y.way.path) in
               absurd (omega (arith, less, parts))
           | inr differ ↦ elim differ [

@@ -1,6 +1,7 @@
 -- Tasks below another one, and the spawns that lead to them.
 use Rattle.std.proofs.Common.{◌≡◌, ℕ, zero, suc, ◌+◌, ◌<◌, Bool, true, false, nat_eq, cond, List, [], ◌∷◌, ◌++◌, Some, refl, sym, ap, ◌∙◌, append_assoc, arith}
 use Rattle.std.proofs.lemmas.Bool.{eqb-true}
+use Rattle.std.proofs.lemmas.List.{same_from_push}
 use Rattle.std.proofs.lemmas.Option.{slice_get_within}
 use Rattle.std.specs.Prelude.{slice_get}
 use Rattle.swan_model.specs.declared.script.Entry.{Entry}
@@ -9,8 +10,8 @@ use Rattle.swan_model.specs.Granted.{children_before}
 use Rattle.swan_model.specs.Lawful.{IsLawful, IsNextPath, of_child, of_parent, of_same}
 use Rattle.swan_model.specs.Nested.{spawn_time}
 use Rattle.swan_model.specs.PathOrder.{is_under}
-use Rattle.swan_model.proofs.Lists.{last_of, last_same, some_within}
-use Rattle.swan_model.proofs.Paths.{same_part}
+use Rattle.swan_model.proofs.Lists.{last_of, some_within}
+use Rattle.swan_model.proofs.Paths.{same_part, not_root}
 use Rattle.swan_model.proofs.TaskEntries.{spawn_is_next}
 
 -- a path that is under another one goes on from it
@@ -37,10 +38,6 @@ pub record IsLedTo (s : Script) (front : List ℕ) (child t : ℕ) : Type 0 wher
   pub known : spawn_time s front child ≡ Some spawn
   pub before : spawn < t
 
-none_there : (front rest : List ℕ) (child : ℕ) → [] ≡ front ++ child ∷ rest → ⊥
-none_there [] rest child is = absurd (cc)
-none_there (x ∷ xs) rest child is = absurd (cc)
-
 later : (s : Script) (front : List ℕ) (child n : ℕ) → IsLedTo s front child n → IsLedTo s front child (suc n)
 later s front child n led = record { spawn = led.spawn; known = led.known; before = omega (arith, led.before) }
 
@@ -48,7 +45,7 @@ module _ (s : Script) (lawful : IsLawful s) where
   -- Before each entry of a task stands the spawn of the task, and of each task above it.
   pub led_to : (t : ℕ) (entry : Entry) (front : List ℕ) (child : ℕ) (rest : List ℕ) → slice_get s.entries t ≡ Some entry → entry.path ≡ front ++ child ∷ rest → IsLedTo s front child t
   led_to zero entry front child rest stands is =
-      absurd (none_there front rest child (sym (lawful.first entry stands) ∙ is))
+      absurd (not_root front rest child (sym is ∙ lawful.first entry stands))
   led_to (suc n) entry front child rest stands is =
       let within = slice_get_within s.entries (suc n) entry stands in
       let before = some_within s.entries n (omega (arith, within)) in
@@ -60,7 +57,7 @@ module _ (s : Script) (lawful : IsLawful s) where
           → ((more : List ℕ) → other.path ≡ front ++ child ∷ more → IsLedTo s front child n) → IsLedTo s front child (suc n)
       by other at (of_child spawns stays path) [] is before =
           let k = children_before s other.path n in
-          let both = last_same other.path front k child (sym path ∙ is) in
+          let both = same_from_push other.path front k child (sym path ∙ is) in
           let known : spawn_time s front child ≡ Some n =
           ap (λ q. spawn_time s q child) (sym both.0) ∙ ap (spawn_time s other.path) (sym both.1) ∙ spawn_is_next s n other at spawns in
           record { spawn = n; known = known; before = omega arith }
@@ -69,7 +66,7 @@ module _ (s : Script) (lawful : IsLawful s) where
           let last = last_of y ys in
           let named : other.path ++ k ∷ [] ≡ (front ++ child ∷ last.front) ++ last.last ∷ [] =
           sym path ∙ is ∙ ap (λ q. front ++ child ∷ q) last.is ∙ sym (append_assoc front (child ∷ last.front) (last.last ∷ [])) in
-          let both = last_same other.path (front ++ child ∷ last.front) k last.last named in
+          let both = same_from_push other.path (front ++ child ∷ last.front) k last.last named in
           later s front child n (before last.front both.0)
       by other at (of_parent quiet ends last path) rest is before =
           later s front child n (before (rest ++ last ∷ []) (path ∙ ap (λ q. q ++ last ∷ []) is ∙ append_assoc front (child ∷ rest) (last ∷ [])))

@@ -1,5 +1,6 @@
 -- The asks that make a queue, an object or a child, in the words of the script.
 use Rattle.std.proofs.Common.{◌≡◌, ℕ, suc, ◌+◌, ◌-◌, ◌<◌, ◌≤◌, Bool, true, false, nat_lt, nat_le, cond, List, [], ◌∷◌, ◌++◌, Option, Some, None, length, map, refl, sym, ap, subst, ◌∙◌, arith, rules, tests}
+use Rattle.std.proofs.lemmas.List.{map_push}
 use Rattle.std.proofs.lemmas.Option.{same_Some, slice_get-map}
 use Rattle.std.specs.Option.{option_map, option_and_then}
 use Rattle.std.specs.Prelude.{slice_get}
@@ -40,11 +41,6 @@ use Rattle.serial_elision.proofs.NamesStay.{all-named, held-at-step, held-named,
 use Rattle.serial_elision.proofs.SerialTold.{steps-are}
 use Rattle.serial_elision.proofs.SpawnGives.{named-gives}
 use Rattle.serial_elision.proofs.TaskSteps.{child-time, goes_on_next, next-state, spawns_child, spawns_next}
-
--- a list with one more at its end, each named
-map-last : {X Y : Type 0} (f : X → Y) (xs : List X) (x : X) → map f (xs ++ x ∷ []) ≡ map f xs ++ f x ∷ []
-map-last f [] x = refl
-map-last f (y ∷ ys) x = ap (λ zs. f y ∷ zs) (map-last f ys x)
 
 -- what a list of gives names at an index
 record IsGiveAt (store : Store) (holdings : List Holding) (gives : List OriginGive) (i : ℕ) (give : Give) : Type 0 where
@@ -103,7 +99,7 @@ module _ {B L : Type 0} (G : Ghosts B L) (plan : Plan B L) (path : List ℕ) (k 
         store = then;
         effect = goes;
         deed = deed-is G plan path k top local asks is ∙ ap (deed_of (asked store top.holdings asks)) goes ∙ asks_for;
-        names = map-last (give_of (state_at G plan path (k + 1)).store) top.holdings holding
+        names = map_push (give_of (state_at G plan path (k + 1)).store) top.holdings holding
             ∙ ap (λ gs. gs ++ give_of (state_at G plan path (k + 1)).store holding ∷ []) (names-later G plan bounds path k top is.stands (time s path (k + 1)) (omega (arith, late)))
             ∙ ap (λ g. gives_at G plan path k top ++ g ∷ []) (give-of (state_at G plan path (k + 1)).store holding (Step now) later);
       }

@@ -33,10 +33,11 @@ use Rattle.swan_model.proofs.ScriptSteps.{deed_is}
 use Rattle.serial_elision.specs.TaskSteps.{Faults, GoesOn, IsAsking, IsRefused, MayUseAt}
 use Rattle.serial_elision.specs.TaskSteps as step
 use Rattle.serial_elision.proofs.Endings.{entry_now}
-use Rattle.serial_elision.proofs.Held.{origin-kind, same_kind}
+use Rattle.serial_elision.proofs.Held.{origin-kind}
 use Rattle.serial_elision.proofs.NamesStay.{held-named, names-stay}
 use Rattle.serial_elision.proofs.SerialTold.{cells_told, items_told}
 use Rattle.serial_elision.proofs.TaskSteps.{goes_on_next}
+use Rattle.swan_model.proofs.Uses.{same_kind}
 
 -- what stands at an index has this origin
 record HasOrigin {X : Type 0} (of : X → Origin) (found : Option X) (origin : Origin) : Type 0 where

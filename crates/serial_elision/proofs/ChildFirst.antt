@@ -1,14 +1,14 @@
 -- What a child may use at its first entry its parent may use at the spawn.
-use Rattle.std.proofs.Common.{◌≡◌, ℕ, zero, suc, ◌+◌, ◌<◌, ◌≤◌, inl, inr, ◌⊎◌, Bool, true, false, nat_eq, nat_lt, cond, List, [], ◌∷◌, ◌++◌, length, Option, Some, None, refl, sym, ap, subst, ◌∙◌, arith, length-append}
-use Rattle.std.proofs.lemmas.Bool.{and_from, and_parts, cases_lt, cases_order, ltb-true, or_cases, or_left, or_right}
+use Rattle.std.proofs.Common.{◌≡◌, ℕ, zero, suc, ◌+◌, ◌<◌, ◌≤◌, inl, inr, ◌⊎◌, Bool, true, false, nat_eq, nat_lt, cond, List, [], length, Option, Some, None, refl, sym, ap, subst, ◌∙◌, arith}
+use Rattle.std.proofs.lemmas.Bool.{cases_lt, cases_order, ltb-true}
+use Rattle.std.proofs.lemmas.List.{same_from_push}
 use Rattle.std.proofs.lemmas.Option.{slice_get_within, slice_get-get_or}
 use Rattle.std.specs.Cmp.Lexicographic.{pointwise}
-use Rattle.std.specs.List.{list_any}
 use Rattle.std.specs.Option.{option_map_or}
 use Rattle.std.specs.Prelude.{slice_get}
 use Rattle.swan_model.specs.declared.origin.Origin.{Origin}
 use Rattle.swan_model.specs.declared.rights.Mode.{Mode}
-use Rattle.swan_model.specs.declared.rights.Mode.TheVariants.{In, Out, InOut, Push, Pop, PushPop}
+use Rattle.swan_model.specs.declared.rights.Mode.TheVariants.{Push}
 use Rattle.swan_model.specs.declared.script.Deed.{Deed}
 use Rattle.swan_model.specs.declared.script.Deed.TheVariants as deed
 use Rattle.swan_model.specs.declared.script.Entry.{Entry}
@@ -18,49 +18,14 @@ use Rattle.swan_model.specs.Granted.{child_path, children_before, holds, is_spaw
 use Rattle.swan_model.specs.Lawful.{IsLawful, IsNextPath, of_child, of_parent, of_same}
 use Rattle.swan_model.specs.Nested.{spawn_time, IsEndOf, IsEntryOf}
 use Rattle.swan_model.specs.Readings.{next_deed}
-use Rattle.swan_model.specs.Rights.{allows}
 use Rattle.swan_model.specs.SerialTime.{Progress, is_of, point, time, times}
-use Rattle.swan_model.specs.Told.{deed_at, is_same}
-use Rattle.swan_model.proofs.TaskEntries.{spawn_is_next}
-use Rattle.serial_elision.proofs.MadeAbove.{IsGrantedBy, of_own, of_gives, uses, held-before, given_from-parent}
-use Rattle.swan_model.proofs.Paths.{path_is-itself, same_path}
-use Rattle.swan_model.proofs.TaskEntries.{point_is, point_own}
+use Rattle.swan_model.specs.Told.{deed_at}
+use Rattle.swan_model.proofs.TaskEntries.{spawn_is_next, some_own, point_is, point_own}
+use Rattle.serial_elision.proofs.MadeAbove.{given_from-parent}
+use Rattle.swan_model.proofs.Paths.{path_is-itself, same_path, not_root}
 use Rattle.swan_model.proofs.Times.{times_rise, times_all}
-use Rattle.swan_model.proofs.Lists.{last_same}
-
--- ---- lists and modes
-
-no-empty : (xs : List ℕ) (x : ℕ) → xs ++ x ∷ [] ≡ [] → ⊥
-no-empty xs x is = let e : length (xs ++ x ∷ []) ≡ 0 = ap length is in omega (arith, e, length-append xs (x ∷ []))
-
-any-each : {X : Type 0} (test other : X → Bool) (xs : List X) → ((x : X) → test x ≡ true → other x ≡ true) → list_any test xs ≡ true → list_any other xs ≡ true
-any-each test other [] each is = absurd (cc)
-any-each test other (x ∷ xs) each is = elim (or_cases (test x) (list_any test xs) is) [
-  | inl first ↦ or_left (other x) (list_any other xs) (each x first)
-  | inr later ↦ or_right (other x) (list_any other xs) (any-each test other xs each later)
-]
-
-push_allowed : (own has : Mode) → allows own Push ≡ true → allows has own ≡ true → allows has Push ≡ true
-push_allowed Push has may is = is
-push_allowed PushPop PushPop may is = refl
-push_allowed PushPop In may is = absurd (cc)
-push_allowed PushPop Out may is = absurd (cc)
-push_allowed PushPop InOut may is = absurd (cc)
-push_allowed PushPop Push may is = absurd (cc)
-push_allowed PushPop Pop may is = absurd (cc)
-push_allowed In has may is = absurd (cc)
-push_allowed Out has may is = absurd (cc)
-push_allowed InOut has may is = absurd (cc)
-push_allowed Pop has may is = absurd (cc)
-
--- who may use a queue by a mode that allows to push may push to it
-pub push-of : (held : List OriginGive) (own : Mode) (queue : Origin) → allows own Push ≡ true → may_use held own queue ≡ true → may_use held Push queue ≡ true
-push-of held own queue allowed may =
-    any-each (uses own queue) (uses Push queue) held
-    (λ has is.
-    let both = and_parts (allows has.mode own) (is_same has.origin queue) is in
-    and_from (allows has.mode Push) (is_same has.origin queue) (push_allowed own has.mode allowed both.0) both.1)
-    may
+use Rattle.swan_model.proofs.Uses.{IsGrantedBy, holds-cases}
+use Rattle.swan_model.proofs.MovedFrames.{child_of}
 
 -- ---- a frame whose next deed is a spawn
 
@@ -88,13 +53,6 @@ spawning s parent gives is = by-test (nat_lt parent.done (length (times s parent
   by-test false less some = absurd (cc)
 
 -- ---- the child's first entry
-
--- a task has an entry at a time, so it has a first one
-has-first : (s : Script) (path : List ℕ) (t : ℕ) → IsEntryOf s path t → 0 < length (times s path)
-has-first s path t own =
-    let passes : is_of path own.entry ≡ true = ap (λ p. pointwise nat_eq p path) own.own ∙ path_is-itself path in
-    let place = times_all s path t own.entry own.stands passes in
-    omega (arith, place.1)
 
 -- none of its entries comes before the first one
 none-first : (s : Script) (path : List ℕ) (m : ℕ) → m < time s path 0 → IsEntryOf s path m → ⊥
@@ -144,45 +102,38 @@ child-next s lawful n entry gives stands is = by (slice_get s.entries (n + 1)) r
       past (inr over) = omega (arith, slice_get_within s.entries n entry stands)
       past (inl more) = let some = slice_get-get_or s.entries (n + 1) entry more in absurd (cc)
 
--- a child's frame before its first entry
-abbrev pub first_frame : Script → Progress → ℕ → Progress
-first_frame s parent number =
-    record { number = number; path = child_path s parent.path (point s parent); done = 0 }
-
 -- the child's first entry is the frame's point
-first-own : (s : Script) → IsLawful s → (parent : Progress) (gives : List OriginGive) (number : ℕ) → IsSpawning s parent gives → IsEntryOf s (child_path s parent.path (point s parent)) (point s (first_frame s parent number)) × (point s (first_frame s parent number) ≡ time s (child_path s parent.path (point s parent)) 0)
+first-own : (s : Script) → IsLawful s → (parent : Progress) (gives : List OriginGive) (number : ℕ) → IsSpawning s parent gives → IsEntryOf s (child_path s parent.path (point s parent)) (point s (child_of s parent number)) × (point s (child_of s parent number) ≡ time s (child_path s parent.path (point s parent)) 0)
 first-own s lawful parent gives number now =
     let n = point s parent in
     let path = child_path s parent.path n in
-    let child = first_frame s parent number in
+    let child = child_of s parent number in
     let then : IsEntryOf s path (n + 1) = subst (λ p. IsEntryOf s (child_path s p n) (n + 1)) now.own (child-next s lawful n now.entry gives now.stands now.deed_is) in
-    let some = has-first s path (n + 1) then in
+    let some = some_own s path (n + 1) then in
     (point_own s child some, point_is s child some)
 
 -- what the child may use before an entry, no later than its first one, its parent may use at the spawn
 record IsFromParent (s : Script) (parent : Progress) (m : ℕ) (mode : Mode) (origin : Origin) : Type 0 where
-  pub own : Mode
-  pub allowed : allows own mode ≡ true
-  pub may : may_use (holds s parent.path (point s parent)) own origin ≡ true
+  pub may : may_use (holds s parent.path (point s parent)) mode origin ≡ true
   pub before : point s parent < m
 
 given-newly : (s : Script) → IsLawful s → (parent : Progress) (gives : List OriginGive) → IsSpawning s parent gives → (m : ℕ) (mode : Mode) (origin : Origin) → (IsEntryOf s (child_path s parent.path (point s parent)) m → ⊥) → (entry : Entry) → slice_get s.entries m ≡ Some entry → IsGrantedBy s (child_path s parent.path (point s parent)) m entry mode origin → IsFromParent s parent (suc m) mode origin
-given-newly s lawful parent gives now m mode origin none entry stands (of_own own is) =
-    absurd (none (record { entry = entry; stands = stands; own = own }))
-given-newly s lawful parent gives now m mode origin none entry stands (of_gives more is named may) =
+given-newly s lawful parent gives now m mode origin none entry stands (inl own) =
+    absurd (none (record { entry = entry; stands = stands; own = same_path entry.path (child_path s parent.path (point s parent)) own.0 }))
+given-newly s lawful parent gives now m mode origin none entry stands (inr gift) =
     let n = point s parent in
     let child = children_before s parent.path n in
     let other = children_before s entry.path m in
-    let same = last_same entry.path parent.path other child named in
-    let here : spawn_time s entry.path other ≡ Some m = spawn_is_next s m entry stands (ap is_spawn is) in
+    let same = same_from_push entry.path parent.path other child (same_path (child_path s entry.path m) (child_path s parent.path n) gift.to) in
+    let here : spawn_time s entry.path other ≡ Some m = spawn_is_next s m entry stands (ap is_spawn gift.is) in
     let there : spawn_time s now.entry.path (children_before s now.entry.path n) ≡ Some n = spawn_is_next s n now.entry now.stands (ap is_spawn now.deed_is) in
     let known : spawn_time s parent.path child ≡ Some n = subst (λ p. spawn_time s p (children_before s p n) ≡ Some n) now.own there in
     let also : spawn_time s parent.path child ≡ Some m = ap (λ p. spawn_time s p child) (sym same.0) ∙ ap (spawn_time s entry.path) (sym same.1) ∙ here in
     let both : Some n ≡ Some m = sym known ∙ also in
     let e : m ≡ n = cc in
-    let from = given_from-parent s lawful m entry more mode origin stands is may in
-    let path : may_use (holds s parent.path m) from.0 origin ≡ true = subst (λ p. may_use (holds s p m) from.0 origin ≡ true) same.0 from.2 in
-    record { own = from.0; allowed = from.1; may = subst (λ t. may_use (holds s parent.path t) from.0 origin ≡ true) e path; before = omega (arith, e) }
+    let there_may = given_from-parent s lawful m entry gift.gives mode origin stands gift.is gift.may in
+    let path : may_use (holds s parent.path m) mode origin ≡ true = subst (λ p. may_use (holds s p m) mode origin ≡ true) same.0 there_may in
+    record { may = subst (λ t. may_use (holds s parent.path t) mode origin ≡ true) e path; before = omega (arith, e) }
 
 from-parent : (s : Script) → IsLawful s → (parent : Progress) (gives : List OriginGive) → IsSpawning s parent gives → (m : ℕ) (mode : Mode) (origin : Origin) → m ≤ time s (child_path s parent.path (point s parent)) 0 → may_use (holds s (child_path s parent.path (point s parent)) m) mode origin ≡ true → IsFromParent s parent m mode origin
 from-parent s lawful parent gives now zero mode origin early may = by (pointwise nat_eq path []) refl may where
@@ -190,21 +141,21 @@ from-parent s lawful parent gives now zero mode origin early may = by (pointwise
   path = child_path s parent.path (point s parent)
 
   by : (b : Bool) → pointwise nat_eq path [] ≡ b → may_use (cond b (root_holds s) []) mode origin ≡ true → IsFromParent s parent zero mode origin
-  by true root held = absurd (no-empty parent.path (children_before s parent.path (point s parent)) (same_path path [] root))
+  by true root held = absurd (not_root parent.path [] (children_before s parent.path (point s parent)) (same_path path [] root))
   by false root held = absurd (cc)
 from-parent s lawful parent gives now (suc m) mode origin early may =
     let path = child_path s parent.path (point s parent) in
-    elim (held-before s path m mode origin may) [
+    elim (holds-cases s path m mode origin may) [
       | inl before ↦
           let from = from-parent s lawful parent gives now m mode origin (omega arith) before in
-          record { own = from.own; allowed = from.allowed; may = from.may; before = omega (arith, from.before) }
-      | inr newly ↦ given-newly s lawful parent gives now m mode origin (none-first s path m (omega arith)) newly.entry newly.stands newly.by
+          record { may = from.may; before = omega (arith, from.before) }
+      | inr newly ↦ given-newly s lawful parent gives now m mode origin (none-first s path m (omega arith)) newly.entry newly.stands newly.how
     ]
 
 -- where a child may push to a queue at its first entry, its parent may at the spawn, which comes before
-pub child_pushes : (s : Script) → IsLawful s → (parent : Progress) (gives : List OriginGive) (number : ℕ) → IsSpawning s parent gives → (queue : Origin) → let child = first_frame s parent number in may_use (holds s child.path (point s child)) Push queue ≡ true → (may_use (holds s parent.path (point s parent)) Push queue ≡ true) × (point s parent < point s child)
+pub child_pushes : (s : Script) → IsLawful s → (parent : Progress) (gives : List OriginGive) (number : ℕ) → IsSpawning s parent gives → (queue : Origin) → let child = child_of s parent number in may_use (holds s child.path (point s child)) Push queue ≡ true → (may_use (holds s parent.path (point s parent)) Push queue ≡ true) × (point s parent < point s child)
 child_pushes s lawful parent gives number now queue may =
-    let child = first_frame s parent number in
+    let child = child_of s parent number in
     let first = first-own s lawful parent gives number now in
     let from = from-parent s lawful parent gives now (point s child) Push queue (omega (arith, first.1)) may in
-    (push-of (holds s parent.path (point s parent)) from.own queue from.allowed from.may, from.before)
+    (from.may, from.before)

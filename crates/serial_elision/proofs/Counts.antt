@@ -15,7 +15,7 @@ use Rattle.swan_model.specs.Rights.{is_aliased}
 use Rattle.swan_model.specs.SerialState.{Activation, Cell, Holding, Queue, Store, State}
 use Rattle.swan_model.specs.SerialStep.{Effect, goes_on, spawns, ends, faults, after, effect, effect_of, step_on, moved, number_at, on_object, on_cell, on_queue, on_list, popped, spawned, given}
 use Rattle.swan_model.proofs.ZeroedCells.{length-zeroed}
-use Rattle.serial_elision.proofs.RootLists.{length-first_queues, length-first_cells}
+use Rattle.swan_model.proofs.RootLists.{length-first_queues, length-first_cells}
 
 -- a store has all objects and queues of an earlier one
 pub record HasGrown (before after : Store) : Type 0 where

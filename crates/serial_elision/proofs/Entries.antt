@@ -13,8 +13,9 @@ use Rattle.swan_model.specs.SerialStep.{step_on, effect_of}
 use Rattle.serial_elision.proofs.At.{get-append-before}
 use Rattle.swan_model.proofs.Elements.{last_more}
 use Rattle.serial_elision.proofs.Ends.{serial_ends}
-use Rattle.serial_elision.proofs.Runs.{steps-after, le-serial, serial-over}
+use Rattle.serial_elision.proofs.Runs.{steps-after, serial-over}
 use Rattle.serial_elision.proofs.Scripts.{none-over}
+use Rattle.swan_model.proofs.ScriptLength.{le-entries, le_script}
 
 -- what stood among the entries stands there still; and one more stands at the end
 get-with-before : (es : List Entry) (more : Option Entry) (n : ℕ) → (n < length es) ⊎ (more ≡ None) → slice_get (with_entry es more) n ≡ slice_get es n
@@ -57,9 +58,6 @@ module _ {B L : Type 0} (G : Ghosts B L) where
     | inr over ↦ inr (none-over G plan.body (serial G plan n) over)
   ]
 
-  le-entries : (plan : Plan B L) (n : ℕ) → length (entries G plan n) ≤ n
-  le-entries plan n = omega (arith, length-entries plan n, le-serial G plan n)
-
   within-or-over : (plan : Plan B L) (n m : ℕ) → n < m → (n < length (entries G plan m)) ⊎ (next_entry G plan.body (serial G plan m) ≡ None)
   within-or-over plan n m less = elim (entries-exact plan m) [
     | inl is ↦ inl (omega arith)
@@ -70,7 +68,7 @@ module _ {B L : Type 0} (G : Ghosts B L) where
   get-entries : (plan : Plan B L) (n k : ℕ) → slice_get (entries G plan (suc (n + k))) n ≡ next_entry G plan.body (serial G plan n)
   get-entries plan n zero =
       ap (λ m. slice_get (entries G plan (suc m)) n) (let e : n + 0 ≡ n = omega arith in e)
-      ∙ get-with-at (entries G plan n) (next_entry G plan.body (serial G plan n)) n (le-entries plan n) (entries-exact plan n)
+      ∙ get-with-at (entries G plan n) (next_entry G plan.body (serial G plan n)) n (le-entries G plan n) (entries-exact plan n)
   get-entries plan n (suc k) =
       let m = suc (n + k) in
       ap (λ t. slice_get (entries G plan (suc t)) n) (let e : n + suc k ≡ m = omega arith in e)
@@ -91,7 +89,7 @@ module _ {B L : Type 0} (G : Ghosts B L) where
       let e : most_steps plan ≡ suc (n + k) = omega arith in
       ap (λ m. slice_get (entries G plan m) n) e ∙ get-entries plan n k
   get-either plan n (inr past) =
-      let length_past : length (script G plan).entries ≤ n = omega (arith, le-entries plan (most_steps plan)) in
+      let length_past : length (script G plan).entries ≤ n = omega (arith, le_script G plan) in
       slice_get_past (script G plan).entries n length_past
       ∙ sym (none-over G plan.body (serial G plan n) (over-after plan n past))
 
@@ -101,6 +99,3 @@ module _ {B L : Type 0} (G : Ghosts B L) where
 
   pub length_script : (plan : Plan B L) → length (script G plan).entries ≡ (final G plan).steps
   length_script plan = length-entries plan (most_steps plan)
-
-  pub le_script : (plan : Plan B L) → length (script G plan).entries ≤ most_steps plan
-  le_script plan = le-entries plan (most_steps plan)

@@ -1,12 +1,12 @@
 -- How much a plan can make: each thing that a step makes costs a unit of fuel.
-use Rattle.std.proofs.Common.{◌≡◌, ◌≢◌, ℕ, zero, suc, ◌+◌, ◌-◌, ◌≤◌, ◌<◌, ◌&&◌, inl, inr, Bool, true, false, nat_eq, eqb, cond, List, [], ◌∷◌, Option, Some, None, length, map, refl, sym, ap, ◌∙◌, arith, rules, tests}
-use Rattle.std.proofs.lemmas.Bool.{cases_order, eqb-true, or_cases}
+use Rattle.std.proofs.Common.{◌≡◌, ◌≢◌, ℕ, zero, suc, ◌+◌, ◌-◌, ◌≤◌, ◌<◌, ◌&&◌, inl, inr, Bool, true, false, nat_eq, cond, List, [], ◌∷◌, Option, Some, None, length, map, refl, sym, ap, ◌∙◌, arith, rules, tests}
+use Rattle.std.proofs.lemmas.Bool.{cases_order}
 use Rattle.std.proofs.lemmas.Bool.Decides.{Decides-eqb}
 use Rattle.std.proofs.lemmas.List.{length-map}
 use Rattle.std.proofs.lemmas.Map.Made.{IsDistinct-from_AllPairs}
 use Rattle.std.proofs.lemmas.Map.Steps.{length-le_from_distinct_below}
 use Rattle.std.proofs.lemmas.Option.{get_or_from_slice_get, same_Some, slice_get-map}
-use Rattle.std.specs.List.{AllPairs, list_any}
+use Rattle.std.specs.List.{AllPairs}
 use Rattle.std.specs.Option.{option_map, option_map_or}
 use Rattle.std.specs.Prelude.{filter, slice_get, take}
 use Rattle.swan_model.specs.declared.body.Body.{Ghosts}
@@ -25,14 +25,15 @@ use Rattle.swan_model.specs.SerialState.{Activation, State}
 use Rattle.swan_model.specs.SerialStep.{Effect, goes_on, spawns, ends, faults, after, effect, effect_of, moved, step_on}
 use Rattle.swan_model.specs.SerialTime.{is_of, is_queue_deed, places_from, times}
 use Rattle.swan_model.specs.Told.{deed_at}
-use Rattle.swan_model.proofs.Elements.{option_cases}
+use Rattle.swan_model.proofs.Elements.{option_cases, one_if, any_number}
 use Rattle.swan_model.proofs.Lists.{some_within}
-use Rattle.swan_model.proofs.Places.{one_if, passing, passing-more, passing-none, passing-rises, passing-same}
+use Rattle.swan_model.proofs.Places.{passing, passing-more, passing-none, passing-rises, passing-same}
 use Rattle.swan_model.proofs.ScriptSteps.{deed_is}
 use Rattle.serial_elision.specs.Laws.{AreEachOnce, IsObjectOf, IsQueueOf}
 use Rattle.serial_elision.proofs.Endings.{entry_now}
 use Rattle.serial_elision.proofs.Ends.{IsWithinFuel, effect-within}
-use Rattle.serial_elision.proofs.Entries.{get_script, le_script}
+use Rattle.serial_elision.proofs.Entries.{get_script}
+use Rattle.swan_model.proofs.ScriptLength.{le_script}
 
 -- ---- as many as there is fuel
 
@@ -130,13 +131,6 @@ module _ {B L : Type 0} (G : Ghosts B L) (plan : Plan B L) (test : Deed → Bool
     ]
   ]
 
-  any-stands : (q : ℕ) (xs : List ℕ) → list_any (eqb q) xs ≡ true → (i : ℕ) × (slice_get xs i ≡ Some q)
-  any-stands q [] is = absurd (cc)
-  any-stands q (x ∷ xs) is = elim (or_cases (eqb q x) (list_any (eqb q) xs) is) [
-    | inl here ↦ (0, ap Some (sym (eqb-true q x here)))
-    | inr there ↦ let found = any-stands q xs there in (suc found.0, found.1)
-  ]
-
   record HasNumber (roots : ℕ) (origins : List Origin) (i q : ℕ) : Type 0 where
     pub origin : Origin
     pub stands : slice_get origins i ≡ Some origin
@@ -166,7 +160,7 @@ module _ {B L : Type 0} (G : Ghosts B L) (plan : Plan B L) (test : Deed → Bool
         arith,
         many,
         length-le_from_distinct_below numbers (roots + plan.fuel) (IsDistinct-from_AllPairs Decides-eqb numbers apart) (λ q is.
-            let found = any-stands q numbers is in
+            let found = any_number q numbers is in
             let o = numbered roots origins found.0 q found.1 in
             omega (arith, o.is, number-below roots o.origin (are.each found.0 o.origin o.stands))),
       )

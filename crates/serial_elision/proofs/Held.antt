@@ -9,7 +9,7 @@ use Rattle.swan_model.specs.declared.body.Ask.TheVariants as ask
 use Rattle.swan_model.specs.declared.body.Child.{Child}
 use Rattle.swan_model.specs.declared.origin.Origin.{Origin}
 use Rattle.swan_model.specs.declared.rights.Mode.{Mode}
-use Rattle.swan_model.specs.declared.rights.Mode.TheVariants.{In, Out, InOut, Push, Pop, PushPop}
+use Rattle.swan_model.specs.declared.rights.Mode.TheVariants.{In, Out, Push, Pop}
 use Rattle.swan_model.specs.declared.script.Deed.{Deed}
 use Rattle.swan_model.specs.declared.script.Deed.TheVariants as deed
 use Rattle.swan_model.specs.declared.script.OriginGive.{OriginGive}
@@ -21,21 +21,7 @@ use Rattle.swan_model.specs.SerialStep.{given, number_at, used_by}
 use Rattle.swan_model.specs.Told.{is_same}
 use Rattle.swan_model.proofs.Origins.{is_same-self}
 use Rattle.serial_elision.proofs.Rights.{MayUseEach, given-may}
-use Rattle.swan_model.proofs.Uses.{HasMore, more-after}
-
--- a mode allows only modes of its own kind
-pub same_kind : (mode right : Mode) → allows mode right ≡ true → is_queue_mode mode ≡ is_queue_mode right
-same_kind In In is = refl
-same_kind Out Out is = refl
-same_kind InOut In is = refl
-same_kind InOut Out is = refl
-same_kind InOut InOut is = refl
-same_kind Push Push is = refl
-same_kind Pop Pop is = refl
-same_kind PushPop Push is = refl
-same_kind PushPop Pop is = refl
-same_kind PushPop PushPop is = refl
-same_kind _ _ is = absurd (cc)
+use Rattle.swan_model.proofs.Uses.{HasMore, more-after, same_kind}
 
 -- origins depend on the kind of a mode alone
 pub origin-kind : (store : Store) (mode right : Mode) (number : ℕ) → is_queue_mode mode ≡ is_queue_mode right → origin_of store mode number ≡ origin_of store right number

@@ -1,5 +1,6 @@
 -- Whence a task may push to a queue: it, or one above it, made the queue; or it was given the queue, down from above.
-use Rattle.std.proofs.Common.{◌≡◌, ℕ, zero, suc, ◌+◌, ◌-◌, ◌≤◌, inl, inr, Bool, true, false, nat_eq, cond, List, [], ◌∷◌, ◌++◌, length, get_or, Some, refl, sym, ap, subst, ◌∙◌, add-one, append_assoc, arith, length-append}
+use Rattle.std.proofs.Common.{◌≡◌, ℕ, zero, suc, ◌+◌, ◌-◌, ◌≤◌, inl, inr, Bool, true, false, nat_eq, cond, List, [], ◌∷◌, ◌++◌, get_or, Some, refl, sym, ap, subst, ◌∙◌, add-one, append_assoc, arith}
+use Rattle.std.proofs.lemmas.List.{same_from_push}
 use Rattle.std.proofs.lemmas.Option.{slice_get_within, slice_get-get_or}
 use Rattle.std.specs.Cmp.Lexicographic.{pointwise}
 use Rattle.std.specs.Prelude.{slice_get}
@@ -8,14 +9,14 @@ use Rattle.swan_model.specs.declared.origin.Origin.TheVariants.{Step}
 use Rattle.swan_model.specs.declared.rights.Mode.TheVariants.{Push}
 use Rattle.swan_model.specs.declared.script.Entry.{Entry}
 use Rattle.swan_model.specs.declared.script.Script.{Script}
-use Rattle.swan_model.specs.Granted.{children_before, holds, is_spawn, may_use, root_holds}
+use Rattle.swan_model.specs.Granted.{children_before, holds, is_spawn, may_use, root_holds, child_path}
 use Rattle.swan_model.specs.Lawful.{IsLawful, IsNextPath, of_child, of_parent, of_same}
 use Rattle.swan_model.specs.Nested.{spawn_time, IsEntryOf}
-use Rattle.serial_elision.proofs.ChildFirst.{push-of}
 use Rattle.swan_model.proofs.TaskEntries.{spawn_is_next}
-use Rattle.serial_elision.proofs.MadeAbove.{IsGrantedBy, of_own, of_gives, held-before, given_from-parent, late-give}
-use Rattle.swan_model.proofs.Paths.{same_path}
-use Rattle.swan_model.proofs.Lists.{last_of, last_same}
+use Rattle.serial_elision.proofs.MadeAbove.{given_from-parent, late-give}
+use Rattle.swan_model.proofs.Paths.{same_path, not_root}
+use Rattle.swan_model.proofs.Lists.{last_of}
+use Rattle.swan_model.proofs.Uses.{IsGrantedBy, holds-cases}
 
 -- the path of a child, below another path: it is the child there, or its parent is below that path too
 data IsChildBelow (parent : List ℕ) (number : ℕ) (path : List ℕ) (child : ℕ) (rest : List ℕ) : Type 0 where
@@ -24,18 +25,13 @@ data IsChildBelow (parent : List ℕ) (number : ℕ) (path : List ℕ) (child : 
 
 child-below : (parent path rest : List ℕ) (number child : ℕ) → parent ++ number ∷ [] ≡ path ++ child ∷ rest → IsChildBelow parent number path child rest
 child-below parent path [] number child is =
-    let same = last_same parent path number child is in
+    let same = same_from_push parent path number child is in
     itself same.0 same.1
 child-below parent path (x ∷ xs) number child is =
     let last = last_of x xs in
     let whole : parent ++ number ∷ [] ≡ (path ++ child ∷ last.front) ++ last.last ∷ [] =
     is ∙ ap (λ p. path ++ child ∷ p) last.is ∙ sym (append_assoc path (child ∷ last.front) (last.last ∷ [])) in
-    deeper last.front (last_same parent (path ++ child ∷ last.front) number last.last whole).0
-
-not-empty : (path rest : List ℕ) (child : ℕ) → path ++ child ∷ rest ≡ [] → ⊥
-not-empty path rest child is =
-    let e : length (path ++ child ∷ rest) ≡ 0 = ap length is in
-    omega (arith, e, length-append path (child ∷ rest))
+    deeper last.front (same_from_push parent (path ++ child ∷ last.front) number last.last whole).0
 
 -- ---- each task that has an entry was spawned, and each one above it
 
@@ -58,7 +54,7 @@ known-next s n entry then path child rest stands before is (of_same quiet ends o
 
 pub known_above : (s : Script) → IsLawful s → (n : ℕ) (entry : Entry) (path : List ℕ) (child : ℕ) (rest : List ℕ) → slice_get s.entries n ≡ Some entry → entry.path ≡ path ++ child ∷ rest → IsKnown s path child
 known_above s lawful zero entry path child rest stands is =
-    absurd (not-empty path rest child (sym is ∙ lawful.first entry stands))
+    absurd (not_root path rest child (sym is ∙ lawful.first entry stands))
 known_above s lawful (suc n) entry path child rest stands is =
     let within = slice_get_within s.entries (suc n) entry stands in
     let before = get_or s.entries n entry in
@@ -74,31 +70,29 @@ pub data IsPushedFrom (s : Script) (path : List ℕ) (child : ℕ) (queue : Orig
   made_below : (m : ℕ) → queue ≡ Step m → (entry : Entry) → slice_get s.entries m ≡ Some entry → (more : List ℕ) → entry.path ≡ path ++ child ∷ more → IsPushedFrom s path child queue
 
 pushed-newly : (s : Script) → IsLawful s → (n : ℕ) (top path : List ℕ) (child : ℕ) (rest : List ℕ) (queue : Origin) → ((p more : List ℕ) → may_use (holds s p n) Push queue ≡ true → p ≡ path ++ child ∷ more → IsPushedFrom s path child queue) → top ≡ path ++ child ∷ rest → (entry : Entry) → slice_get s.entries n ≡ Some entry → IsGrantedBy s top n entry Push queue → IsPushedFrom s path child queue
-pushed-newly s lawful n top path child rest queue before is entry stands (of_own own made) =
-    made_below n made entry stands rest (own ∙ is)
-pushed-newly s lawful n top path child rest queue before is entry stands (of_gives gives spawn named may) =
-    by (child-below entry.path path rest (children_before s entry.path n) child (named ∙ is))
+pushed-newly s lawful n top path child rest queue before is entry stands (inl own) =
+    made_below n own.1 entry stands rest (same_path entry.path top own.0 ∙ is)
+pushed-newly s lawful n top path child rest queue before is entry stands (inr gift) =
+    by (child-below entry.path path rest (children_before s entry.path n) child (same_path (child_path s entry.path n) top gift.to ∙ is))
   where
     held : may_use (holds s entry.path n) Push queue ≡ true
-    held =
-        let from = given_from-parent s lawful n entry gives Push queue stands spawn may in
-        push-of (holds s entry.path n) from.0 queue from.1 from.2
+    held = given_from-parent s lawful n entry gift.gives Push queue stands gift.is gift.may
 
     by : IsChildBelow entry.path (children_before s entry.path n) path child rest → IsPushedFrom s path child queue
     by (itself own same) =
-        from_above n (ap (λ p. spawn_time s p child) (sym own) ∙ ap (spawn_time s entry.path) (sym same) ∙ spawn_is_next s n entry stands (ap is_spawn spawn))
+        from_above n (ap (λ p. spawn_time s p child) (sym own) ∙ ap (spawn_time s entry.path) (sym same) ∙ spawn_is_next s n entry stands (ap is_spawn gift.is))
         (subst (λ p. may_use (holds s p n) Push queue ≡ true) own held)
     by (deeper front own) = before entry.path front held own
 
 pub pushed_from : (s : Script) → IsLawful s → (n : ℕ) (top path : List ℕ) (child : ℕ) (rest : List ℕ) (queue : Origin) → may_use (holds s top n) Push queue ≡ true → top ≡ path ++ child ∷ rest → IsPushedFrom s path child queue
 pushed_from s lawful zero top path child rest queue may is = by (pointwise nat_eq top []) refl may where
   by : (b : Bool) → pointwise nat_eq top [] ≡ b → may_use (cond b (root_holds s) []) Push queue ≡ true → IsPushedFrom s path child queue
-  by true root held = absurd (not-empty path rest child (sym is ∙ same_path top [] root))
+  by true root held = absurd (not_root path rest child (sym is ∙ same_path top [] root))
   by false root held = absurd (cc)
-pushed_from s lawful (suc n) top path child rest queue may is = elim (held-before s top n Push queue may) [
+pushed_from s lawful (suc n) top path child rest queue may is = elim (holds-cases s top n Push queue may) [
   | inl before ↦ pushed_from s lawful n top path child rest queue before is
   | inr newly ↦
-      pushed-newly s lawful n top path child rest queue (λ p more held own. pushed_from s lawful n p path child more queue held own) is newly.entry newly.stands newly.by
+      pushed-newly s lawful n top path child rest queue (λ p more held own. pushed_from s lawful n p path child more queue held own) is newly.entry newly.stands newly.how
 ]
 
 -- ---- since an entry of its own
@@ -109,10 +103,10 @@ pub data IsHeldSince (s : Script) (path : List ℕ) (from n : ℕ) (queue : Orig
   made_since : (m : ℕ) → from ≤ m → queue ≡ Step m → IsEntryOf s path m → IsHeldSince s path from n queue
 
 since-grant : (s : Script) → IsLawful s → (path : List ℕ) (from m n : ℕ) (queue : Origin) → IsEntryOf s path from → from ≤ m → (entry : Entry) → slice_get s.entries m ≡ Some entry → IsGrantedBy s path m entry Push queue → IsHeldSince s path from n queue
-since-grant s lawful path from m n queue own late entry stands (of_own mine made) =
-    made_since m late made (record { entry = entry; stands = stands; own = mine })
-since-grant s lawful path from m n queue own late entry stands (of_gives gives spawn named may) =
-    let early = late-give s lawful path from m entry gives own stands spawn named in
+since-grant s lawful path from m n queue own late entry stands (inl mine) =
+    made_since m late mine.1 (record { entry = entry; stands = stands; own = same_path entry.path path mine.0 })
+since-grant s lawful path from m n queue own late entry stands (inr gift) =
+    let early = late-give s lawful path from m entry gift.gives own stands gift.is (same_path (child_path s entry.path m) path gift.to) in
     absurd (omega arith)
 
 since-more : (s : Script) → IsLawful s → (path : List ℕ) (from : ℕ) (queue : Origin) → IsEntryOf s path from → (k n : ℕ) → may_use (holds s path (from + k)) Push queue ≡ true → IsHeldSince s path from n queue
@@ -122,9 +116,9 @@ since-more s lawful path from queue own zero n may =
 since-more s lawful path from queue own (suc k) n may =
     let e : from + suc k ≡ suc (from + k) = omega arith in
     let last : may_use (holds s path (suc (from + k))) Push queue ≡ true = subst (λ t. may_use (holds s path t) Push queue ≡ true) e may in
-    elim (held-before s path (from + k) Push queue last) [
+    elim (holds-cases s path (from + k) Push queue last) [
       | inl before ↦ since-more s lawful path from queue own k n before
-      | inr newly ↦ since-grant s lawful path from (from + k) n queue own (omega arith) newly.entry newly.stands newly.by
+      | inr newly ↦ since-grant s lawful path from (from + k) n queue own (omega arith) newly.entry newly.stands newly.how
     ]
 
 pub held_at : (s : Script) → IsLawful s → (path : List ℕ) (from n : ℕ) (queue : Origin) → IsEntryOf s path from → from ≤ n → may_use (holds s path n) Push queue ≡ true → IsHeldSince s path from n queue

@@ -1,6 +1,6 @@
 -- What a script tells of the items of a queue, from one entry to the next.
 use Rattle.std.proofs.Common.{◌≡◌, ℕ, zero, suc, ◌+◌, ◌<◌, ◌≤◌, Bool, true, false, nat_lt, cond, List, [], ◌∷◌, ◌++◌, length, take, drop, Option, Some, None, refl, sym, ap, ◌∙◌, arith, rules, tests, length-append, append_assoc, append-nil}
-use Rattle.std.proofs.lemmas.List.{take_at, take-append-drop, drop-append-le}
+use Rattle.std.proofs.lemmas.List.{take_at, take-append-drop, drop-append-le, drop_all}
 use Rattle.std.proofs.lemmas.List.Elements.{filter_map-append}
 use Rattle.std.specs.List.{cons_option, filter_map}
 use Rattle.std.specs.Option.{option_and_then, option_map_or, option_to_list}
@@ -89,12 +89,6 @@ drop-one n xs = ap (λ m. drop m xs) (let e : n + 1 ≡ suc n = omega arith in e
     drop-suc (suc n) [] = refl
     drop-suc (suc n) (x ∷ xs) = drop-suc n xs
 
-drop-past : (n : ℕ) (xs : List Value) → length xs ≤ n → drop n xs ≡ []
-drop-past zero [] past = refl
-drop-past zero (x ∷ xs) past = absurd (omega arith)
-drop-past (suc n) [] past = refl
-drop-past (suc n) (x ∷ xs) past = drop-past n xs (omega arith)
-
 -- the items after a push, a pop and any other deed, where t were taken of those that had come
 after-push : (mine : Bool) (t : ℕ) (xs : List Value) (value : Value) → t ≤ length xs → drop t (xs ++ option_to_list (cond mine (Some value) None)) ≡ cond mine (drop t xs ++ value ∷ []) (drop t xs)
 after-push true t xs value within = drop-append-le t xs (value ∷ []) within
@@ -105,7 +99,7 @@ after-pop false less t xs is = refl
 after-pop true true t xs is = drop-one t xs
 after-pop true false t xs is =
     let past : length xs ≤ t = search (rules, tests) in
-    drop-past t xs past ∙ ap without_first (sym (drop-past t xs past))
+    drop_all t xs past ∙ ap without_first (sym (drop_all t xs past))
 
 by-deed : (queue : Origin) (does : Deed) (t c : ℕ) (xs : List Value) → c ≡ length xs → t ≤ length xs → drop (cond (is_pop_of queue does && nat_lt t c) (t + 1) t) (xs ++ option_to_list (pushed_by queue does)) ≡ items_by queue does (drop t xs)
 by-deed queue (deed.Push origin value) t c xs count within = after-push (is_same origin queue) t xs value within

@@ -45,7 +45,6 @@ pub mod RipeBefore
 pub mod RipeSpawns
 pub mod RipeStays
 pub mod Rights
-pub mod RootLists
 pub mod Room
 pub mod RootNames
 pub mod Runs

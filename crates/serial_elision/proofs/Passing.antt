@@ -15,10 +15,11 @@ use Rattle.swan_model.specs.SerialTime.{is_of}
 use Rattle.swan_model.specs.PathOrder.{comes_before}
 use Rattle.serial_elision.proofs.FaultOrder.{Precedes, PrecedesEach, precedes-moved, precedes-spawned}
 use Rattle.swan_model.proofs.PathOrder.{is_left, not_before-under, not_left-above}
-use Rattle.swan_model.proofs.Places.{one_if, passing, passing-more, passing-none}
+use Rattle.swan_model.proofs.Places.{passing, passing-more, passing-none}
 use Rattle.serial_elision.proofs.Turns.{Fits}
 use Rattle.swan_model.proofs.Paths.{not_below-itself, path_is-itself, same_path}
 use Rattle.swan_model.proofs.TaskEntries.{is_spawn_of}
+use Rattle.swan_model.proofs.Elements.{one_if}
 
 -- what comes before all activations comes before them still after a step
 pub after-precedes : {L : Type 0} (path : List ℕ) (s : State L) (top : Activation L) (below : List (Activation L)) (place : ℕ) (does : Deed) (done : Effect L) → Fits top does done → PrecedesEach path (top ∷ below) → PrecedesEach path (after s below top.path place done).stack

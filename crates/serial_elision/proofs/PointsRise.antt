@@ -1,6 +1,6 @@
 -- A frame's point rises as the frame goes on, and between two of its points its task has no other entry.
-use Rattle.std.proofs.Common.{◌≡◌, ℕ, ◌+◌, ◌-◌, ◌<◌, ◌≤◌, inl, inr, ◌⊎◌, true, nat_eq, cond, length, sym, ap, subst, ◌∙◌, arith}
-use Rattle.std.proofs.lemmas.Bool.{cases_lt, cases_order, le-ltb}
+use Rattle.std.proofs.Common.{◌≡◌, ℕ, ◌+◌, ◌-◌, ◌<◌, ◌≤◌, inl, inr, ◌⊎◌, true, nat_eq, length, sym, ap, subst, ◌∙◌, arith}
+use Rattle.std.proofs.lemmas.Bool.{cases_order}
 use Rattle.std.specs.Cmp.Lexicographic.{pointwise}
 use Rattle.swan_model.specs.declared.origin.Origin.{Origin}
 use Rattle.swan_model.specs.declared.origin.Origin.TheVariants.{Step}
@@ -12,38 +12,17 @@ use Rattle.swan_model.specs.Nested.{IsEntryOf}
 use Rattle.swan_model.specs.SerialTime.{Progress, is_of, point, time, times}
 use Rattle.serial_elision.proofs.MadeAbove.{held_since}
 use Rattle.swan_model.proofs.Paths.{path_is-itself}
-use Rattle.swan_model.proofs.TaskEntries.{point_is, point_own}
+use Rattle.swan_model.proofs.TaskEntries.{point_is, point_own, point_over}
 use Rattle.swan_model.proofs.Times.{times_rise, times_all}
+use Rattle.swan_model.proofs.MovedFrames.{later_point}
 
 -- the frame with one more entry done
 abbrev pub further : Progress → Progress
 further frame = record frame { done = frame.done + 1 }
 
-pub point-over : (s : Script) (frame : Progress) → length (times s frame.path) ≤ frame.done → point s frame ≡ time s frame.path (length (times s frame.path) - 1) + 1
-point-over s frame over =
-    ap (λ b. cond b (time s frame.path frame.done) (time s frame.path (length (times s frame.path) - 1) + 1))
-    (le-ltb frame.done (length (times s frame.path)) over)
-
 -- a frame that has no entry left keeps its point
 pub point_stays : (s : Script) (frame : Progress) → length (times s frame.path) ≤ frame.done → point s (further frame) ≡ point s frame
-point_stays s frame over = point-over s (further frame) (omega arith) ∙ sym (point-over s frame over)
-
-rise-left : (s : Script) (frame : Progress) → frame.done < length (times s frame.path) → point s frame < point s (further frame)
-rise-left s frame left = elim (cases_lt (frame.done + 1) (length (times s frame.path))) [
-  | inl more ↦
-      let rise = times_rise s frame.path frame.done (frame.done + 1) (omega arith) more in
-      omega (arith, point_is s frame left, point_is s (further frame) more, rise)
-  | inr last ↦
-      let e : length (times s frame.path) - 1 ≡ frame.done = omega arith in
-      let same : time s frame.path (length (times s frame.path) - 1) ≡ time s frame.path frame.done = ap (time s frame.path) e in
-      omega (arith, point_is s frame left, point-over s (further frame) last, same)
-]
-
-pub point_rises : (s : Script) (frame : Progress) → point s frame ≤ point s (further frame)
-point_rises s frame = elim (cases_lt frame.done (length (times s frame.path))) [
-  | inl left ↦ let rise = rise-left s frame left in omega (arith, rise)
-  | inr over ↦ omega (arith, point_stays s frame over)
-]
+point_stays s frame over = point_over s (further frame) (omega arith) ∙ sym (point_over s frame over)
 
 -- between the two points the task has no entry
 none-between : (s : Script) (frame : Progress) → frame.done < length (times s frame.path) → (m : ℕ) → point s frame < m → m < point s (further frame) → IsEntryOf s frame.path m → ⊥
@@ -80,6 +59,6 @@ pub held_further : (s : Script) → IsLawful s → (frame : Progress) (mode : Mo
 held_further s lawful frame mode origin left may =
     let n = point s frame in
     let k = point s (further frame) - n in
-    let e : point s (further frame) ≡ n + k = omega (arith, point_rises s frame) in
+    let e : point s (further frame) ≡ n + k = omega (arith, later_point s frame) in
     held_since s lawful frame.path n mode origin (point_own s frame left) k (λ m after less. none-between s frame left m after (omega arith))
     (subst (λ t. may_use (holds s frame.path t) mode origin ≡ true) e may)

@@ -22,13 +22,12 @@ use Rattle.serial_elision.proofs.Holders.{IsHeldSince, before_it, made_since, he
 use Rattle.serial_elision.proofs.ItemsTold.{le-taken}
 use Rattle.serial_elision.proofs.MadeAbove.{made_above}
 use Rattle.swan_model.proofs.Paths.{path_is-itself}
-use Rattle.swan_model.proofs.Places.{one_if, passing, passing-more, passing-rises, placed}
-use Rattle.swan_model.proofs.Points.{IsPast, past_above, same_frame}
-use Rattle.swan_model.proofs.TaskEntries.{point_own, spawn_own}
-use Rattle.serial_elision.proofs.PointsRise.{point-over}
-use Rattle.serial_elision.proofs.RipeStays.{done-by, done_under, IsPushAt, push-at}
+use Rattle.swan_model.proofs.Places.{passing, passing-more, passing-rises, placed}
+use Rattle.swan_model.proofs.Points.{IsPast, past_above, same_frame, done_by}
+use Rattle.swan_model.proofs.TaskEntries.{point_own, spawn_own, point_over}
+use Rattle.serial_elision.proofs.RipeStays.{done_under, IsPushAt, push-at}
 use Rattle.swan_model.proofs.Times.{times_rise, times_all}
-use Rattle.swan_model.proofs.Elements.{any_from, filtered_each}
+use Rattle.swan_model.proofs.Elements.{any_from, filtered_each, one_if}
 use Rattle.swan_model.proofs.ScriptDeeds.{push-right}
 use Rattle.swan_model.proofs.ScriptCounts.{more-pushed}
 
@@ -50,7 +49,7 @@ left-by s frame u own late = elim (cases_lt frame.done (length (times s frame.pa
       let place = times_all s frame.path u own.entry own.stands passes in
       let here : time s frame.path place.0 ≡ u = place.2 in
       let last = length (times s frame.path) - 1 in
-      let end = point-over s frame over in
+      let end = point_over s frame over in
       elim (cases_order place.0 last) [
         | inl same ↦
             let e : time s frame.path place.0 ≡ time s frame.path last = ap (time s frame.path) same in
@@ -142,7 +141,7 @@ module _ (s : Script) (r : Reading) (lawful : IsLawful s) (tasks : HasTasks s r)
       let above = made_above s lawful t push.entry.path Push m may in
       let both : Some above.entry ≡ Some entry = sym above.stands ∙ at in
       let maker : above.entry.path ≡ other.path ++ child ∷ rest = let e : above.entry ≡ entry = cc in ap (λ (x : Entry). x.path) e ∙ own in
-      let by = done-by s r t push.entry push.stands done in
+      let by = done_by s r t push.entry push.stands done in
       let path : by.frame.path ≡ other.path ++ child ∷ (rest ++ above.rest) =
       by.own ∙ above.under ∙ ap (λ p. p ++ above.rest) maker ∙ append_assoc other.path (child ∷ rest) above.rest in
       still-unspawned index k other child stands known late

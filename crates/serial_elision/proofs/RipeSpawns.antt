@@ -1,14 +1,12 @@
 -- What is ripe stays ripe as another frame spawns a child, and as others end.
-use Rattle.std.proofs.Common.{◌≡◌, ◌≢◌, ℕ, inl, inr, Bool, true, false, ◌&&◌, nat_eq, nat_lt, List, [], ◌∷◌, ◌++◌, length, map, Option, Some, None, refl, ◌∙◌, arith}
+use Rattle.std.proofs.Common.{◌≡◌, ◌≢◌, ℕ, inl, inr, Bool, true, false, ◌&&◌, nat_eq, nat_lt, List, [], ◌∷◌, ◌++◌, length, map, Option, Some, None, refl, arith}
 use Rattle.std.proofs.lemmas.Bool.{and_from, and_parts, lt-ltb, ltb-true, ne_eqb, not_from_false, or_cases, or_left, or_right}
-use Rattle.std.proofs.lemmas.List.Folds.{list_any-append}
-use Rattle.std.specs.List.{list_any, list_all}
+use Rattle.std.specs.List.{list_all}
 use Rattle.std.specs.Option.{option_map_or}
 use Rattle.std.specs.Prelude.{filter, not, slice_get}
 use Rattle.swan_model.specs.declared.origin.Origin.{Origin}
 use Rattle.swan_model.specs.declared.rights.Mode.TheVariants.{Push}
 use Rattle.swan_model.specs.declared.script.Deed.TheVariants as deed
-use Rattle.swan_model.specs.declared.script.Entry.{Entry}
 use Rattle.swan_model.specs.declared.script.OriginGive.{OriginGive}
 use Rattle.swan_model.specs.declared.script.Script.{Script}
 use Rattle.swan_model.specs.Granted.{holds, may_use}
@@ -16,12 +14,13 @@ use Rattle.swan_model.specs.Lawful.{IsLawful}
 use Rattle.swan_model.specs.Nested.{HasTasks}
 use Rattle.swan_model.specs.Readings.{next_deed, one_more, spawned}
 use Rattle.swan_model.specs.Ripe.{is_ripe, may_push_too, push_time}
-use Rattle.swan_model.specs.SerialTime.{Progress, Reading, is_done, is_past, point}
+use Rattle.swan_model.specs.SerialTime.{Progress, Reading, is_done, point}
 use Rattle.swan_model.specs.Told.{first_items, taken}
 use Rattle.serial_elision.specs.Laws.{AreFramesOf}
-use Rattle.serial_elision.proofs.ChildFirst.{IsSpawning, spawning, first_frame, child_pushes}
-use Rattle.serial_elision.proofs.RipeStays.{all-first, all-more, all_stay, done_stays, push-at}
+use Rattle.serial_elision.proofs.ChildFirst.{IsSpawning, spawning, child_pushes}
+use Rattle.serial_elision.proofs.RipeStays.{all-first, all-more, all_stay, push-at}
 use Rattle.swan_model.proofs.Elements.{filtered_each, filtered_from}
+use Rattle.swan_model.proofs.MovedFrames.{done_spawned, child_of}
 
 all-push : {X : Type 0} (passes test : X → Bool) (xs : List X) (x : X) → list_all test (filter passes xs) ≡ true → (passes x ≡ true → test x ≡ true) → list_all test (filter passes (xs ++ x ∷ [])) ≡ true
 all-push passes test [] x is last = all-more passes test x [] last refl
@@ -31,23 +30,14 @@ all-push passes test (y ∷ xs) x is last =
 
 -- the frames once the parent has done its spawn
 abbrev with_child : Script → List Progress → Progress → ℕ → List Progress
-with_child s frames parent number = map (one_more parent.number) frames ++ first_frame s parent number ∷ []
-
-spawn-done : (s : Script) (r : Reading) (parent : Progress) (number t : ℕ) → is_done s r t ≡ true → is_done s (spawned s r parent number) t ≡ true
-spawn-done s r parent number t is = by (slice_get s.entries t) (done_stays s r t parent.number is) where
-  by : (found : Option Entry) → option_map_or (λ entry. list_any (is_past s t entry) (map (one_more parent.number) r.frames)) found false ≡ true → option_map_or (λ entry. list_any (is_past s t entry) (with_child s r.frames parent number)) found false ≡ true
-  by None none = none
-  by (Some entry) some =
-      let old = map (one_more parent.number) r.frames in
-      let new = first_frame s parent number ∷ [] in
-      list_any-append (is_past s t entry) old new ∙ or_left (list_any (is_past s t entry) old) (list_any (is_past s t entry) new) some
+with_child s frames parent number = map (one_more parent.number) frames ++ child_of s parent number ∷ []
 
 -- the child can't push before what is ripe, since its parent couldn't
 child-later : (s : Script) → IsLawful s → (active : List Progress) (frame parent : Progress) (queue : Origin) (gives : List OriginGive) (number t i : ℕ) → slice_get active i ≡ Some parent → IsSpawning s parent gives → parent.number ≢ frame.number
     → list_all (λ other. nat_lt t (point s other)) (filter (may_push_too s frame queue) active) ≡ true
-    → may_push_too s frame queue (first_frame s parent number) ≡ true → nat_lt t (point s (first_frame s parent number)) ≡ true
+    → may_push_too s frame queue (child_of s parent number) ≡ true → nat_lt t (point s (child_of s parent number)) ≡ true
 child-later s lawful active frame parent queue gives number t i stands now apart all may =
-    let child = first_frame s parent number in
+    let child = child_of s parent number in
     let both = and_parts (not (nat_eq number frame.number)) (may_use (holds s child.path (point s child)) Push queue) may in
     let from = child_pushes s lawful parent gives number now queue both.1 in
     let other : not (nat_eq parent.number frame.number) ≡ true = not_from_false (nat_eq parent.number frame.number) (ne_eqb parent.number frame.number apart) in
@@ -66,8 +56,8 @@ module _ (s : Script) (r : Reading) (active : List Progress) (frame : Progress) 
       let kept = all_stay s r lawful tasks frame queue t (push-at s queue index t at) both.0 parent.number active are.each both.1 in
       let last = child-later s lawful active frame parent queue gives number t i stands now apart both.1 in
       and_from (is_done s (spawned s r parent number) t) (list_all (λ other. nat_lt t (point s other)) (filter (may_push_too s frame queue) (with_child s active parent number)))
-      (spawn-done s r parent number t both.0)
-      (all-push (may_push_too s frame queue) (λ x. nat_lt t (point s x)) (map (one_more parent.number) active) (first_frame s parent number) kept last)
+      (done_spawned s r parent number t both.0)
+      (all-push (may_push_too s frame queue) (λ x. nat_lt t (point s x)) (map (one_more parent.number) active) (child_of s parent number) kept last)
 
   pub ripe_spawns : IsLawful s → HasTasks s r → AreFramesOf r active → slice_get active i ≡ Some parent → next_deed s parent ≡ Some (deed.Spawn gives) → parent.number ≢ frame.number → is_ripe s r active frame queue ≡ true → is_ripe s (spawned s r parent number) (with_child s active parent number) frame queue ≡ true
   ripe_spawns lawful tasks are stands next apart is =

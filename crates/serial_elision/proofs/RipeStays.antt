@@ -2,7 +2,7 @@
 use Rattle.std.proofs.Common.{◌≡◌, ℕ, suc, ◌<◌, inl, inr, Bool, true, false, ◌&&◌, nat_eq, nat_lt, cond, List, [], ◌∷◌, ◌++◌, length, map, Option, Some, None, refl, sym, ap, subst, ◌∙◌, append_assoc, arith}
 use Rattle.std.proofs.lemmas.Bool.{and_from, and_parts, cases_lt, lt-ltb, ltb-true, or_cases, or_left, or_right}
 use Rattle.std.proofs.lemmas.List.{append-nil}
-use Rattle.std.specs.List.{list_any, list_all}
+use Rattle.std.specs.List.{list_all}
 use Rattle.std.specs.Option.{option_map_or}
 use Rattle.std.specs.Prelude.{filter, not, slice_get}
 use Rattle.swan_model.specs.declared.origin.Origin.{Origin}
@@ -15,25 +15,18 @@ use Rattle.swan_model.specs.Lawful.{IsLawful}
 use Rattle.swan_model.specs.Nested.{HasTasks, IsEntryUnder}
 use Rattle.swan_model.specs.Readings.{gone_on, one_more}
 use Rattle.swan_model.specs.Ripe.{is_push_to, is_ripe, may_push_too, push_time}
-use Rattle.swan_model.specs.SerialTime.{Progress, Reading, is_done, is_of, is_past, point, times}
+use Rattle.swan_model.specs.SerialTime.{Progress, Reading, is_done, point, times}
 use Rattle.swan_model.specs.Told.{first_items, taken}
 use Rattle.serial_elision.specs.Laws.{AreFramesOf}
 use Rattle.serial_elision.proofs.MadeAbove.{made_above}
-use Rattle.swan_model.proofs.Paths.{same_path}
 use Rattle.swan_model.proofs.Places.{placed}
-use Rattle.swan_model.proofs.Points.{some_of, past_above, same_frame}
+use Rattle.swan_model.proofs.Points.{past_above, same_frame, done_by}
 use Rattle.swan_model.proofs.TaskEntries.{point_own}
-use Rattle.serial_elision.proofs.PointsRise.{further, held_further, point_rises, point_stays}
+use Rattle.serial_elision.proofs.PointsRise.{further, held_further, point_stays}
 use Rattle.swan_model.proofs.ScriptDeeds.{push-right}
+use Rattle.swan_model.proofs.MovedFrames.{done_stays, later_point}
 
 -- ---- lists
-
-any-map : {X : Type 0} (test : X → Bool) (make : X → X) (xs : List X) → ((x : X) → test x ≡ true → test (make x) ≡ true) → list_any test xs ≡ true → list_any test (map make xs) ≡ true
-any-map test make [] each is = absurd (cc)
-any-map test make (x ∷ xs) each is = elim (or_cases (test x) (list_any test xs) is) [
-  | inl first ↦ or_left (test (make x)) (list_any test (map make xs)) (each x first)
-  | inr later ↦ or_right (test (make x)) (list_any test (map make xs)) (any-map test make xs each later)
-]
 
 -- what all that pass one test pass too
 pub all-first : {X : Type 0} (passes test : X → Bool) (x : X) (xs : List X) → list_all test (filter passes (x ∷ xs)) ≡ true → (passes x ≡ true → test x ≡ true) × (list_all test (filter passes xs) ≡ true)
@@ -48,49 +41,17 @@ all-more passes test x xs first rest = by (passes x) first where
   by true is = and_from (test x) (list_all test (filter passes xs)) (is refl) rest
   by false is = rest
 
--- ---- what is done stays done
-
-past-stays : (s : Script) (t : ℕ) (entry : Entry) (number : ℕ) (frame : Progress) → is_past s t entry frame ≡ true → is_past s t entry (one_more number frame) ≡ true
-past-stays s t entry number frame past = by (nat_eq frame.number number) where
-  by : (b : Bool) → is_past s t entry (cond b (further frame) frame) ≡ true
-  by false = past
-  by true =
-      let both = and_parts (is_of frame.path entry) (nat_lt t (point s frame)) past in
-      let before = ltb-true t (point s frame) both.1 in
-      and_from (is_of frame.path entry) (nat_lt t (point s (further frame))) both.0 (lt-ltb t (point s (further frame)) (omega (arith, before, point_rises s frame)))
-
-pub done_stays : (s : Script) (r : Reading) (t number : ℕ) → is_done s r t ≡ true → is_done s (gone_on r number) t ≡ true
-done_stays s r t number is = by (slice_get s.entries t) is where
-  by : (found : Option Entry) → option_map_or (λ entry. list_any (is_past s t entry) r.frames) found false ≡ true → option_map_or (λ entry. list_any (is_past s t entry) (map (one_more number) r.frames)) found false ≡ true
-  by None none = none
-  by (Some entry) some = any-map (is_past s t entry) (one_more number) r.frames (past-stays s t entry number) some
-
 -- ---- no queue is pushed to that is still to be made
-
--- what is done by a frame that has come past it
-pub record IsDoneBy (s : Script) (r : Reading) (t : ℕ) (path : List ℕ) : Type 0 where
-  pub index : ℕ
-  pub frame : Progress
-  pub stands : slice_get r.frames index ≡ Some frame
-  pub own : frame.path ≡ path
-  pub past : t < point s frame
-
-pub done-by : (s : Script) (r : Reading) (t : ℕ) (entry : Entry) → slice_get s.entries t ≡ Some entry → is_done s r t ≡ true → IsDoneBy s r t entry.path
-done-by s r t entry stands is =
-    let among : list_any (is_past s t entry) r.frames ≡ true = ap (λ o. option_map_or (λ e. list_any (is_past s t e) r.frames) o false) (sym stands) ∙ is in
-    let found = some_of (is_past s t entry) r.frames among in
-    let both = and_parts (is_of found.it.path entry) (nat_lt t (point s found.it)) found.passes in
-    record { index = found.index; frame = found.it; stands = found.stands; own = sym (same_path entry.path found.it.path both.0); past = ltb-true t (point s found.it) both.1 }
 
 -- an entry of the task of a frame, or of one below it, that is done comes before the frame's point
 pub done_under : (s : Script) (r : Reading) → IsLawful s → HasTasks s r → (index : ℕ) (frame : Progress) → slice_get r.frames index ≡ Some frame → frame.done < length (times s frame.path) → (t : ℕ) (entry : Entry) (rest : List ℕ) → slice_get s.entries t ≡ Some entry → is_done s r t ≡ true → entry.path ≡ frame.path ++ rest → t < point s frame
 done_under s r lawful tasks index frame stands left t entry [] at done under =
-    let by = done-by s r t entry at done in
+    let by = done_by s r t entry at done in
     let own : by.frame.path ≡ frame.path = by.own ∙ under ∙ append-nil frame.path in
     let same : by.frame ≡ frame = same_frame s r tasks by.index index by.frame frame by.stands stands own in
     subst (λ f. t < point s f) same by.past
 done_under s r lawful tasks index frame stands left t entry (child ∷ rest) at done under =
-    let by = done-by s r t entry at done in
+    let by = done_by s r t entry at done in
     let past = past_above s r tasks (length rest) frame.path rest child by.index by.frame refl by.stands (by.own ∙ under) in
     let same : past.parent ≡ frame = same_frame s r tasks past.index index past.parent frame past.stands stands past.own in
     let spawned : past.spawn < point s frame = subst (λ f. past.spawn < point s f) same past.past in
@@ -135,7 +96,7 @@ module _ (s : Script) (r : Reading) (lawful : IsLawful s) (tasks : HasTasks s r)
       ltb-true t (point s other) (before (and_from (not (nat_eq other.number frame.number)) (may_use (holds s other.path (point s other)) Push queue) both.0 was)) in
       elim (cases_lt other.done (length (times s other.path))) [
         | inl left ↦ elim (held_further s lawful other Push queue left both.1) [
-          | inl was ↦ lt-ltb t (point s (further other)) (omega (arith, late was, point_rises s other))
+          | inl was ↦ lt-ltb t (point s (further other)) (omega (arith, late was, later_point s other))
           | inr made ↦ absurd (made-already s r lawful tasks index other stands left queue t push done made)
         ]
         | inr over ↦
@@ -166,7 +127,7 @@ pushed-stays s r active frame queue number index lawful tasks are None at is = a
 pushed-stays s r active frame queue number index lawful tasks are (Some t) at is =
     let both = and_parts (is_done s r t) (list_all (λ other. nat_lt t (point s other)) (filter (may_push_too s frame queue) active)) is in
     and_from (is_done s (gone_on r number) t) (list_all (λ other. nat_lt t (point s other)) (filter (may_push_too s frame queue) (map (one_more number) active)))
-    (done_stays s r t number both.0)
+    (done_stays s r number t both.0)
     (all_stay s r lawful tasks frame queue t (push-at s queue index t at) both.0 number active are.each both.1)
 
 pub ripe_stays : (s : Script) (r : Reading) (active : List Progress) (frame : Progress) (queue : Origin) (number : ℕ) → IsLawful s → HasTasks s r → AreFramesOf r active → is_ripe s r active frame queue ≡ true → is_ripe s (gone_on r number) (map (one_more number) active) frame queue ≡ true

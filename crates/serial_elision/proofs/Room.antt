@@ -21,7 +21,6 @@ use Rattle.swan_model.specs.SerialState.{Activation, Holding}
 use Rattle.swan_model.specs.SerialTime.{is_of, is_queue_deed, places_from, time}
 use Rattle.swan_model.specs.Told.{deed_at}
 use Rattle.swan_model.specs.TrueFrames.{FrameState, IsTrueAlone, StandsAt}
-use Rattle.swan_model.proofs.Places.{one_if, first-passes}
 use Rattle.swan_model.proofs.ScriptSteps.{deed_is}
 use Rattle.serial_elision.specs.Laws.{AreEachOnce, IsQueueOf}
 use Rattle.serial_elision.proofs.FewHeld.{few-children, few-places}
@@ -29,6 +28,7 @@ use Rattle.serial_elision.proofs.FewMade.{few-pass, few-queue_times, few-queues}
 use Rattle.serial_elision.proofs.Nesting.{counted}
 use Rattle.serial_elision.proofs.Passing.{AreCounted}
 use Rattle.serial_elision.proofs.TaskSteps.{top_path}
+use Rattle.swan_model.proofs.Elements.{one_if, first-passes}
 
 -- ---- what made the queues
 

@@ -16,7 +16,7 @@ use Rattle.swan_model.specs.SerialState.{Holding}
 use Rattle.swan_model.specs.TrueFrames.{gives_at}
 use Rattle.serial_elision.proofs.Held.{give-of}
 use Rattle.serial_elision.proofs.RightsTold.{root-object_stands, root-queue_stands}
-use Rattle.serial_elision.proofs.RootLists.{length-queue_holdings}
+use Rattle.swan_model.proofs.RootLists.{length-queue_holdings}
 use Rattle.serial_elision.proofs.TaskSteps.{root-time}
 use Rattle.swan_model.proofs.Lists.{get-after}
 

@@ -25,11 +25,12 @@ use Rattle.serial_elision.proofs.Asks.{if-either}
 use Rattle.serial_elision.proofs.At.{get-take-map}
 use Rattle.serial_elision.proofs.Becomes.{Becomes, HasOrigins, QueueAfter, stayed, is_new, CellAfter, kept, is_made, becomes-still, quiet-still}
 use Rattle.serial_elision.proofs.Counts.{serial-keeps}
-use Rattle.serial_elision.proofs.Entries.{get_script, steps-exact, le_script}
+use Rattle.serial_elision.proofs.Entries.{get_script, steps-exact}
 use Rattle.serial_elision.proofs.ItemsTold.{items_by, items-come, items-suc}
 use Rattle.swan_model.proofs.Origins.{IsOld, is_same-equal}
-use Rattle.serial_elision.proofs.RootLists.{length-first_queues, length-first_cells}
+use Rattle.swan_model.proofs.RootLists.{length-first_queues, length-first_cells}
 use Rattle.serial_elision.proofs.StateTold.{IsCellTold, IsTold, told-after, get-first_queues, get-first_cells}
+use Rattle.swan_model.proofs.ScriptLength.{le_script}
 
 -- a root queue and a root object as they begin
 record IsRoot (queues : List RootQueue) (i : ℕ) (q : Queue) : Type 0 where

@@ -115,7 +115,7 @@ module _ {B L : Type 0} (G : Ghosts B L) where
       dry-step body s a below w.works place stack (omega arith) row.works (place_is ∙ ap (G.place_of body) last)
 
   -- n steps, and then k more
-  after_steps-more : (body : B) (s : State L) (n k : ℕ) → after_steps G body (after_steps G body s n) k ≡ after_steps G body s (n + k)
+  pub after_steps-more : (body : B) (s : State L) (n k : ℕ) → after_steps G body (after_steps G body s n) k ≡ after_steps G body s (n + k)
   after_steps-more body s n zero = ap (after_steps G body s) (sym (add-zero n))
   after_steps-more body s n (suc k) =
       ap (step G body) (after_steps-more body s n k) ∙ ap (after_steps G body s) (sym (add-suc n k))

@@ -27,7 +27,7 @@ use swan_model::Body;
 /// the step after n steps, and none where no task is left then. So it has as many entries as the
 /// elision takes steps, which are at most twice the fuel and two. It begins with the plan's lists and
 /// values.
-#[tactic(auto, using(crate::proofs::Entries::get_script, crate::proofs::Entries::length_script, crate::proofs::Entries::le_script))]
+#[tactic(auto, using(crate::proofs::Entries::get_script, crate::proofs::Entries::length_script, swan_model::proofs::ScriptLength::le_script))]
 pub fn each_step_has_its_entry<B: Body>()
     ensures entry { (plan : Plan B B.Local) (n : ℕ) →
         slice_get (script B.Body plan).entries n ≡ next_entry B.Body plan.body (serial B.Body plan n) }

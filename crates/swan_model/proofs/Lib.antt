@@ -16,6 +16,7 @@ pub mod PathOrder
 pub mod Paths
 pub mod Places
 pub mod Points
+pub mod RootLists
 pub mod ScriptCells
 pub mod ScriptCounts
 pub mod ScriptDeeds

@@ -1,5 +1,7 @@
--- Lists: their last element, and what stands within them.
-use Rattle.std.proofs.Common.{◌≡◌, ℕ, zero, suc, ◌<◌, List, [], ◌∷◌, ◌++◌, length, Some, refl, ap, arith, ◌∙◌, ◌+◌}
+-- Lists: their last element, what stands within them, and their parts.
+use Rattle.std.proofs.Common.{◌≡◌, ℕ, zero, suc, ◌<◌, List, [], ◌∷◌, ◌++◌, length, Some, refl, ap, arith, ◌∙◌, ◌+◌, take, drop, None, ◌≤◌}
+use Rattle.std.proofs.lemmas.List.{drop_more, take_more}
+use Rattle.std.proofs.lemmas.Option.{get_or_from_slice_get, slice_get_within}
 use Rattle.std.specs.Prelude.{slice_get}
 
 -- a list is empty, or it has a last element
@@ -15,21 +17,6 @@ last_of x (y ∷ ys) =
     let rest = last_of y ys in
     record { front = x ∷ rest.front; last = rest.last; is = ap (λ p. x ∷ p) rest.is; shorter = ap suc rest.shorter }
 
--- where two lists with one more element at the end are the same, the lists and the elements are
-pub last_same : (xs ys : List ℕ) (x y : ℕ) → xs ++ x ∷ [] ≡ ys ++ y ∷ [] → (xs ≡ ys) × (x ≡ y)
-last_same [] [] x y is = (refl, cc)
-last_same [] (z ∷ []) x y is = absurd (cc)
-last_same [] (z ∷ (w ∷ ys)) x y is = absurd (cc)
-last_same (z ∷ []) [] x y is = absurd (cc)
-last_same (z ∷ (w ∷ xs)) [] x y is = absurd (cc)
-last_same (z ∷ xs) (w ∷ ys) x y is =
-    let first : z ≡ w = cc in
-    let rest : xs ++ x ∷ [] ≡ ys ++ y ∷ [] = cc in
-    let both = last_same xs ys x y rest in
-    let lists : xs ≡ ys = both.0 in
-    let all : z ∷ xs ≡ w ∷ ys = cc in
-    (all, both.1)
-
 pub some_within : {X : Type 0} (xs : List X) (n : ℕ) → n < length xs → (x : X) × (slice_get xs n ≡ Some x)
 some_within [] n less = absurd (omega arith)
 some_within (x ∷ xs) zero less = (x, refl)
@@ -41,3 +28,21 @@ get-after [] ys n = let e : 0 + n ≡ n = omega arith in ap (slice_get ys) e
 get-after (x ∷ xs) ys n =
     let e : suc (length xs) + n ≡ suc (length xs + n) = omega arith in
     ap (slice_get (x ∷ (xs ++ ys))) e ∙ get-after xs ys n
+
+-- the element at an index: it ends the front that is one longer, and begins what is left from there
+pub take_next : {X : Type 0} (xs : List X) (i : ℕ) (x : X) → slice_get xs i ≡ Some x → take (i + 1) xs ≡ take i xs ++ x ∷ []
+take_next xs i x is = take_more xs i x (slice_get_within xs i x is) ∙ ap (λ y. take i xs ++ y ∷ []) (get_or_from_slice_get xs i x x is)
+
+pub drop_next : {X : Type 0} (xs : List X) (i : ℕ) (x : X) → slice_get xs i ≡ Some x → drop i xs ≡ x ∷ drop (i + 1) xs
+drop_next xs i x is = drop_more xs i x (slice_get_within xs i x is) ∙ ap (λ y. y ∷ drop (i + 1) xs) (get_or_from_slice_get xs i x x is)
+
+pub get-drop : {X : Type 0} (n : ℕ) (xs : List X) → slice_get (drop n xs) 0 ≡ slice_get xs n
+get-drop zero xs = refl
+get-drop (suc n) [] = refl
+get-drop (suc n) (x ∷ xs) = get-drop n xs
+
+-- where nothing stands at an index, the list ends before it
+pub past_none : {X : Type 0} (xs : List X) (i : ℕ) → slice_get xs i ≡ None → length xs ≤ i
+past_none [] i is = omega arith
+past_none (x ∷ xs) zero is = absurd (cc)
+past_none (x ∷ xs) (suc i) is = let rest = past_none xs i is in omega (arith, rest)

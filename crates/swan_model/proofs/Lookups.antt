@@ -1,5 +1,5 @@
 -- What is found in a list of entries after one came in, was changed, or went out: for any order of keys, and for keys that are numbers.
-use Rattle.std.proofs.Common.{◌≡◌, ◌≢◌, ℕ, Bool, true, false, cond, Option, None, Some, IsSome, List, [], ◌∷◌, refl, sym, ap, subst, ◌∙◌, arith}
+use Rattle.std.proofs.Common.{◌≡◌, ◌≢◌, ℕ, Bool, true, false, cond, Option, None, Some, List, [], ◌∷◌, refl, sym, ap, ◌∙◌, arith}
 use Rattle.std.proofs.lemmas.Bool.{false≢true}
 use Rattle.std.proofs.lemmas.Bool.Decides.{nat_tests}
 use Rattle.std.proofs.lemmas.Cmp.{alike_right, eq_by_cmp_equiv, nat_cmp_total}
@@ -12,6 +12,7 @@ use Rattle.std.specs.Map.{lookup, set_value, remove_entry, keys_of}
 use Rattle.std.specs.Ordering.{nat_cmp, is_eq, match_ordering, eq_by_cmp}
 use Rattle.std.specs.declared.cmp.Ordering.{Ordering}
 use Rattle.std.specs.declared.cmp.Ordering.TheVariants.{Less, Equal, Greater}
+use Rattle.swan_model.proofs.Elements.{some_is}
 
 -- ---- numbers as keys
 
@@ -67,9 +68,6 @@ module _ {K : Type 0} {cmp : K → K → Ordering} (total : IsTotalOrder cmp) wh
       by Greater is rest = ap (cond (is_at (cmp n) e.0) (Some e.1)) rest
           ∙ swapped (is_at (cmp n) e.0) (is_at (cmp n) k) (Some e.1) (Some v) (lookup (is_at (cmp n)) es)
           (λ a b. false≢true (sym (ap is_eq is) ∙ sym (one_key n k e.0 b) ∙ a))
-
-    some_is : (o : Option X) (v : X) → o ≡ Some v → IsSome o
-    some_is o v e = let P : Option X → Type 0 = λ x. IsSome x in subst P (sym e) refl
 
     -- an entry that is changed is found as it is now, and all others as before
     pub found_set : (es : List (K × X)) (k : K) (was v : X) (n : K) → lookup (is_at (cmp k)) es ≡ Some was

@@ -1,15 +1,20 @@
 -- The frames of a reading once one of them has done one more entry: each is the same task as before, none has gone back,
--- and the spawn of each child is done.
-use Rattle.std.proofs.Common.{◌≡◌, ◌≢◌, ◌⊎◌, inl, inr, ℕ, suc, ◌+◌, ◌-◌, ◌≤◌, nat_eq, nat_lt, Bool, true, false, cond, Option, None, Some, List, [], ◌∷◌, ◌++◌, length, map, refl, sym, ap, ◌∙◌, arith}
-use Rattle.std.proofs.lemmas.Bool.{eqb-true, ne_eqb, ltb-true, ltb-false}
+-- and what is done stays done.
+use Rattle.std.proofs.Common.{◌≡◌, ◌≢◌, ◌⊎◌, inl, inr, ℕ, ◌+◌, ◌-◌, ◌≤◌, nat_eq, nat_lt, Bool, true, false, cond, Option, None, Some, List, [], ◌∷◌, ◌++◌, length, map, refl, sym, ap, ◌∙◌, arith}
+use Rattle.std.proofs.lemmas.Bool.{eqb-true, ne_eqb, ltb-true, ltb-false, and_from, and_parts, lt-ltb, or_left}
 use Rattle.std.proofs.lemmas.Bool.Decides.{nat_tests}
+use Rattle.std.proofs.lemmas.List.Folds.{list_any-append}
+use Rattle.std.proofs.lemmas.Option.{none-some}
+use Rattle.std.specs.List.{list_any}
 use Rattle.std.specs.Prelude.{slice_get, find}
 use Rattle.std.specs.Option.{option_map, option_map_or}
 use Rattle.swan_model.specs.declared.script.Script.{Script}
+use Rattle.swan_model.specs.declared.script.Entry.{Entry}
 use Rattle.swan_model.specs.Granted.{child_path}
 use Rattle.swan_model.specs.Readings.{gone_on, one_more, spawned}
-use Rattle.swan_model.specs.SerialTime.{Progress, Reading, frame_of, point, time, times}
+use Rattle.swan_model.specs.SerialTime.{Progress, Reading, frame_of, point, time, times, is_done, is_of, is_past}
 use Rattle.swan_model.proofs.ScriptSteps.{point_rises}
+use Rattle.swan_model.proofs.Elements.{any_changed, find_map, found_is, found_before, found_cases, option_cases}
 
 -- ---- one frame
 
@@ -33,7 +38,8 @@ own_moves n frame e =
 pub other_stays : (n : ℕ) (frame : Progress) → frame.number ≢ n → one_more n frame ≡ frame
 other_stays n frame apart = ap (λ b. cond b (record frame { done = frame.done + 1 }) frame) (ne_eqb frame.number n apart)
 
-later_point : (s : Script) (frame : Progress) → point s frame ≤ point s (record frame { done = frame.done + 1 })
+-- its point doesn't go back
+pub later_point : (s : Script) (frame : Progress) → point s frame ≤ point s (record frame { done = frame.done + 1 })
 later_point s frame = by (nat_lt frame.done (length (times s frame.path))) refl where
   by : (b : Bool) → nat_lt frame.done (length (times s frame.path)) ≡ b → point s frame ≤ point s (record frame { done = frame.done + 1 })
   by true is =
@@ -57,12 +63,7 @@ point_goes s n frame = by (nat_eq frame.number n) where
 -- ---- the frame of a number
 
 pub frame_number : (frames : List Progress) (number : ℕ) (frame : Progress) → find (λ f. nat_eq f.number number) frames ≡ Some frame → frame.number ≡ number
-frame_number [] number frame is = absurd (cc)
-frame_number (f ∷ frames) number frame is = by (nat_eq f.number number) refl is (frame_number frames number frame) where
-  by : (b : Bool) → nat_eq f.number number ≡ b → cond b (Some f) (find (λ f. nat_eq f.number number) frames) ≡ Some frame
-      → (find (λ f. nat_eq f.number number) frames ≡ Some frame → frame.number ≡ number) → frame.number ≡ number
-  by true same found rest = let e : frame ≡ f = cc in ap (λ f. f.number) e ∙ eqb-true f.number number same
-  by false same found rest = rest found
+frame_number frames number frame is = eqb-true frame.number number (found_is (λ (f : Progress). nat_eq f.number number) frames frame is).passes
 
 -- a frame stands somewhere in the list
 pub record IsIn (frames : List Progress) (frame : Progress) : Type 0 where
@@ -70,25 +71,13 @@ pub record IsIn (frames : List Progress) (frame : Progress) : Type 0 where
   pub stands : slice_get frames index ≡ Some frame
 
 pub frame_in : (frames : List Progress) (number : ℕ) (frame : Progress) → find (λ f. nat_eq f.number number) frames ≡ Some frame → IsIn frames frame
-frame_in [] number frame is = absurd (cc)
-frame_in (f ∷ frames) number frame is = by (nat_eq f.number number) is (frame_in frames number frame) where
-  by : (b : Bool) → cond b (Some f) (find (λ f. nat_eq f.number number) frames) ≡ Some frame
-      → (find (λ f. nat_eq f.number number) frames ≡ Some frame → IsIn frames frame) → IsIn (f ∷ frames) frame
-  by true found rest = record { index = 0; stands = found }
-  by false found rest = let later = rest found in record { index = suc later.index; stands = later.stands }
+frame_in frames number frame is =
+    let found = found_is (λ (f : Progress). nat_eq f.number number) frames frame is in
+    record { index = found.index; stands = found.stands }
 
 find_gone : (n : ℕ) (frames : List Progress) (number : ℕ)
     → find (λ f. nat_eq f.number number) (map (one_more n) frames) ≡ option_map (one_more n) (find (λ f. nat_eq f.number number) frames)
-find_gone n [] number = refl
-find_gone n (f ∷ frames) number =
-    ap (λ k. cond (nat_eq k number) (Some (one_more n f)) (find (λ f. nat_eq f.number number) (map (one_more n) frames))) (number_kept n f)
-    ∙ by (nat_eq f.number number) (find_gone n frames number)
-  where
-    by : (b : Bool) → find (λ f. nat_eq f.number number) (map (one_more n) frames) ≡ option_map (one_more n) (find (λ f. nat_eq f.number number) frames)
-        → cond b (Some (one_more n f)) (find (λ f. nat_eq f.number number) (map (one_more n) frames))
-        ≡ option_map (one_more n) (cond b (Some f) (find (λ f. nat_eq f.number number) frames))
-    by true rest = refl
-    by false rest = rest
+find_gone n frames number = find_map (λ (f : Progress). nat_eq f.number number) (one_more n) (λ f. ap (λ k. nat_eq k number) (number_kept n f)) frames
 
 -- a frame is what it was, moved on if it is the one that acts
 pub record IsMoved (r : Reading) (n number : ℕ) (now : Progress) : Type 0 where
@@ -106,16 +95,6 @@ gone_back r n number now is = back_by n number r (frame_of r number) now refl (s
 pub gone_there : (r : Reading) (n number : ℕ) (was : Progress) → frame_of r number ≡ Some was → frame_of (gone_on r n) number ≡ Some (one_more n was)
 gone_there r n number was is = find_gone n r.frames number ∙ ap (option_map (one_more n)) is
 
-find_append : (frames : List Progress) (new : Progress) (number : ℕ) (found : Option Progress) → find (λ f. nat_eq f.number number) frames ≡ found
-    → find (λ f. nat_eq f.number number) (frames ++ new ∷ []) ≡ option_map_or (λ f. Some f) found (cond (nat_eq new.number number) (Some new) None)
-find_append [] new number found is = ap (λ o. option_map_or (λ f. Some f) o (cond (nat_eq new.number number) (Some new) None)) is
-find_append (f ∷ frames) new number found is = by (nat_eq f.number number) is (find_append frames new number found) where
-  by : (b : Bool) → cond b (Some f) (find (λ f. nat_eq f.number number) frames) ≡ found
-      → (find (λ f. nat_eq f.number number) frames ≡ found → find (λ f. nat_eq f.number number) (frames ++ new ∷ []) ≡ option_map_or (λ f. Some f) found (cond (nat_eq new.number number) (Some new) None))
-      → cond b (Some f) (find (λ f. nat_eq f.number number) (frames ++ new ∷ [])) ≡ option_map_or (λ f. Some f) found (cond (nat_eq new.number number) (Some new) None)
-  by true e rest = ap (λ o. option_map_or (λ f. Some f) o (cond (nat_eq new.number number) (Some new) None)) e
-  by false e rest = rest e
-
 -- the child that a spawn brings
 abbrev pub child_of : Script → Progress → ℕ → Progress
 child_of s parent child = record { number = child; path = child_path s parent.path (point s parent); done = 0 }
@@ -126,23 +105,49 @@ pub record IsChild (s : Script) (r : Reading) (parent : Progress) (child number 
   pub same : number ≡ child
   pub is : now ≡ child_of s parent child
 
-spawned_by : (s : Script) (r : Reading) (parent : Progress) (child number : ℕ) (found : Option Progress) (now : Progress) → frame_of r number ≡ found
-    → option_map_or (λ f. Some f) (option_map (one_more parent.number) found) (cond (nat_eq child number) (Some (child_of s parent child)) None) ≡ Some now
-    → IsMoved r parent.number number now ⊎ IsChild s r parent child number now
-spawned_by s r parent child number (Some was) now is found = inl (record { was = was; stood = is; moved = let e : now ≡ one_more parent.number was = cc in e })
-spawned_by s r parent child number None now is found = by (nat_eq child number) refl found where
-  by : (b : Bool) → nat_eq child number ≡ b → cond b (Some (child_of s parent child)) None ≡ Some now → IsMoved r parent.number number now ⊎ IsChild s r parent child number now
-  by true same e = inr (record { unread = is; same = sym (eqb-true child number same); is = let f : now ≡ child_of s parent child = cc in f })
-  by false same e = absurd (cc)
-
 pub spawned_back : (s : Script) (r : Reading) (parent : Progress) (child number : ℕ) (now : Progress) → frame_of (spawned s r parent child) number ≡ Some now
     → IsMoved r parent.number number now ⊎ IsChild s r parent child number now
 spawned_back s r parent child number now is =
-    spawned_by s r parent child number (frame_of r number) now refl
-    (sym (find_append (map (one_more parent.number) r.frames) (child_of s parent child) number (option_map (one_more parent.number) (frame_of r number)) (find_gone parent.number r.frames number)) ∙ is)
+    elim (found_cases (λ (f : Progress). nat_eq f.number number) (map (one_more parent.number) r.frames) (child_of s parent child) now is) [
+      | inl was ↦ inl (gone_back r parent.number number now was)
+      | inr new ↦ inr (record { unread = unread new.0; same = sym (eqb-true child number new.1); is = sym new.2 })
+    ]
+  where
+    unread : frame_of (gone_on r parent.number) number ≡ None → frame_of r number ≡ None
+    unread none = elim (option_cases (frame_of r number)) [
+      | inl is ↦ is
+      | inr was ↦ absurd (none-some (one_more parent.number was.0) (sym none ∙ gone_there r parent.number number was.0 was.1))
+    ]
 
 pub spawned_there : (s : Script) (r : Reading) (parent : Progress) (child number : ℕ) (was : Progress) → frame_of r number ≡ Some was
     → frame_of (spawned s r parent child) number ≡ Some (one_more parent.number was)
 spawned_there s r parent child number was is =
-    find_append (map (one_more parent.number) r.frames) (child_of s parent child) number (Some (one_more parent.number was))
-    (find_gone parent.number r.frames number ∙ ap (option_map (one_more parent.number)) is)
+    found_before (λ (f : Progress). nat_eq f.number number) (map (one_more parent.number) r.frames) (child_of s parent child) (one_more parent.number was)
+    (gone_there r parent.number number was is)
+
+-- ---- what is done stays done
+
+past_stays : (s : Script) (t : ℕ) (entry : Entry) (n : ℕ) (frame : Progress) → is_past s t entry frame ≡ true → is_past s t entry (one_more n frame) ≡ true
+past_stays s t entry n frame is =
+    let both = and_parts (is_of frame.path entry) (nat_lt t (point s frame)) is in
+    let before = ltb-true t (point s frame) both.1 in
+    let goes = point_goes s n frame in
+    and_from (is_of (one_more n frame).path entry) (nat_lt t (point s (one_more n frame)))
+    (ap (λ path. is_of path entry) (path_kept n frame) ∙ both.0)
+    (lt-ltb t (point s (one_more n frame)) (omega arith))
+
+pub done_stays : (s : Script) (r : Reading) (n t : ℕ) → is_done s r t ≡ true → is_done s (gone_on r n) t ≡ true
+done_stays s r n t is = by (slice_get s.entries t) is where
+  by : (o : Option Entry) → option_map_or (λ entry. list_any (is_past s t entry) r.frames) o false ≡ true
+      → option_map_or (λ entry. list_any (is_past s t entry) (map (one_more n) r.frames)) o false ≡ true
+  by None none = none
+  by (Some entry) any = any_changed (is_past s t entry) (is_past s t entry) (one_more n) (past_stays s t entry n) r.frames any
+
+pub done_spawned : (s : Script) (r : Reading) (parent : Progress) (child t : ℕ) → is_done s r t ≡ true → is_done s (spawned s r parent child) t ≡ true
+done_spawned s r parent child t is = by (slice_get s.entries t) (done_stays s r parent.number t is) where
+  by : (o : Option Entry) → option_map_or (λ entry. list_any (is_past s t entry) (map (one_more parent.number) r.frames)) o false ≡ true
+      → option_map_or (λ entry. list_any (is_past s t entry) (map (one_more parent.number) r.frames ++ child_of s parent child ∷ [])) o false ≡ true
+  by None none = none
+  by (Some entry) any =
+      list_any-append (is_past s t entry) (map (one_more parent.number) r.frames) (child_of s parent child ∷ [])
+      ∙ or_left (list_any (is_past s t entry) (map (one_more parent.number) r.frames)) (list_any (is_past s t entry) (child_of s parent child ∷ [])) any

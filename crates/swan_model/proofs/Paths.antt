@@ -1,10 +1,15 @@
 -- Paths that are the same, and paths that are below another one.
-use Rattle.std.proofs.Common.{◌≡◌, ℕ, true, nat_eq, List, [], ◌∷◌, ◌++◌, length, refl, ap, arith, length-append, rules, tests}
-use Rattle.std.proofs.lemmas.Bool.{and_parts, and_from, eqb-true}
+use Rattle.std.proofs.Common.{◌≡◌, ℕ, true, nat_eq, List, [], ◌∷◌, ◌++◌, length, refl, ap, arith, length-append}
+use Rattle.std.proofs.lemmas.Bool.{and_parts, and_from, eqb-true, eq-eqb}
 use Rattle.std.specs.Cmp.Lexicographic.{pointwise}
 
 pub same_part : (part : ℕ) → nat_eq part part ≡ true
-same_part part = search (rules, tests)
+same_part part = eq-eqb part part refl
+
+-- a path that is below another one isn't the root
+pub not_root : (path rest : List ℕ) (number : ℕ) → path ++ number ∷ rest ≡ [] → ⊥
+not_root [] rest number is = absurd (cc)
+not_root (part ∷ path) rest number is = absurd (cc)
 
 -- a path is none of those below it
 pub not_below-itself : (path rest : List ℕ) (number : ℕ) → path ≡ path ++ number ∷ rest → ⊥

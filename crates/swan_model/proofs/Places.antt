@@ -4,29 +4,17 @@ use Rattle.std.proofs.lemmas.Bool.{cases_lt}
 use Rattle.std.specs.Prelude.{slice_get, filter}
 use Rattle.swan_model.specs.declared.script.Entry.{Entry}
 use Rattle.swan_model.specs.SerialTime.{places_from}
+use Rattle.swan_model.proofs.Elements.{filtered_more, first-passes, one_if}
 
 -- how many of the first n entries pass a test
 abbrev pub passing : (Entry → Bool) → ℕ → List Entry → ℕ
 passing test n es = length (filter test (take n es))
 
-abbrev pub one_if : Bool → ℕ
-one_if b = cond b 1 0
-
-pub first-passes : {X : Type 0} (test : X → Bool) (e : X) (es : List X) → length (filter test (e ∷ es)) ≡ one_if (test e) + length (filter test es)
-first-passes test e es = by (test e) where
-  by : (b : Bool) → length (cond b (e ∷ filter test es) (filter test es)) ≡ one_if b + length (filter test es)
-  by true = omega arith
-  by false = omega arith
-
 -- one entry more
 pub passing-more : (test : Entry → Bool) (es : List Entry) (n : ℕ) (e : Entry) → slice_get es n ≡ Some e → passing test (suc n) es ≡ passing test n es + one_if (test e)
-passing-more test [] n e is = absurd (cc)
-passing-more test (x ∷ es) zero e is =
-    let same : x ≡ e = cc in
-    let shown : one_if (test x) ≡ one_if (test e) = ap (λ y. one_if (test y)) same in
-    omega (arith, first-passes test x [], shown)
-passing-more test (x ∷ es) (suc n) e is =
-    omega (arith, first-passes test x (take (suc n) es), first-passes test x (take n es), passing-more test es n e is)
+passing-more test es n e is =
+    let one : suc n ≡ n + 1 = omega arith in
+    ap (λ k. passing test k es) one ∙ filtered_more test es n e is
 
 -- none passes
 pub passing-none : (test : Entry → Bool) (es : List Entry) (n : ℕ) → ((i : ℕ) (e : Entry) → i < n → slice_get es i ≡ Some e → test e ≡ false) → passing test n es ≡ 0
@@ -133,4 +121,15 @@ passing-stays test es n (suc m) less fail = elim (cases_lt m n) [
   | inr before ↦
       passing-same test es m (λ e is. fail m e before (omega arith) is)
       ∙ passing-stays test es n m before (λ i e from below is. fail i e from (omega arith) is)
+]
+
+-- what passes later stands later
+pub placed-rise : (test : Entry → Bool) (n : ℕ) (es : List Entry) (k m t u : ℕ) → k < m → slice_get (places_from test n es) k ≡ Some t → slice_get (places_from test n es) m ≡ Some u → t < u
+placed-rise test n es k m t u less is also = elim (cases_lt t u) [
+  | inl rise ↦ rise
+  | inr fall ↦
+      let one = placed test n es k t is in
+      let two = placed test n es m u also in
+      let more = passing-rises test es two.i one.i (omega (arith, one.is, two.is)) in
+      absurd (omega (arith, more, one.before, two.before))
 ]

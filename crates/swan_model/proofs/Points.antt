@@ -1,48 +1,41 @@
 -- In a nested script the frames that have an entry left stand in serial order: the one that comes before has
 -- the earlier point.
-use Rattle.std.proofs.Common.{◌≡◌, inl, inr, ℕ, zero, suc, ◌<◌, Bool, true, false, nat_lt, List, [], ◌∷◌, ◌++◌, Some, length, refl, sym, ap, subst, ◌∙◌, append_assoc, arith}
-use Rattle.std.proofs.lemmas.Bool.{cases_lt, and_parts, or_cases, lt-ltb, ltb-true}
+use Rattle.std.proofs.Common.{◌≡◌, inl, inr, ℕ, zero, suc, ◌<◌, true, false, nat_lt, List, [], ◌∷◌, ◌++◌, Some, length, refl, sym, ap, subst, ◌∙◌, append_assoc, arith}
+use Rattle.std.proofs.lemmas.Bool.{and_parts, lt-ltb, ltb-true}
 use Rattle.std.specs.List.{list_any}
 use Rattle.std.specs.Option.{option_map_or}
 use Rattle.std.specs.Prelude.{slice_get}
 use Rattle.swan_model.specs.declared.script.Script.{Script}
+use Rattle.swan_model.specs.declared.script.Entry.{Entry}
 use Rattle.swan_model.specs.Nested.{spawn_time, IsEntryUnder, IsNested, IsLeft, IsSpawned, HasTasks}
-use Rattle.swan_model.specs.SerialTime.{Progress, Reading, is_of, times, point, is_earlier, is_past}
+use Rattle.swan_model.specs.SerialTime.{Progress, Reading, is_of, times, point, is_earlier, is_past, is_done}
 use Rattle.swan_model.specs.PathOrder.{comes_before}
 use Rattle.swan_model.proofs.PathOrder.{IsBelow, IsAside, how_before, either_before}
-use Rattle.swan_model.proofs.Places.{passing-rises, placed}
 use Rattle.swan_model.proofs.Lists.{last_of}
 use Rattle.swan_model.proofs.Paths.{same_path}
 use Rattle.swan_model.proofs.TaskEntries.{is_spawn_of, point_own, spawn_own}
+use Rattle.swan_model.proofs.Elements.{any_found}
+use Rattle.swan_model.proofs.Places.{placed-rise}
 
--- what is true of some element of a list
-pub record IsSome {X : Type 0} (test : X → Bool) (xs : List X) : Type 0 where
+-- who has done the entry of a time: a frame of its task, which has come past it
+pub record IsDoneBy (s : Script) (r : Reading) (t : ℕ) (path : List ℕ) : Type 0 where
   pub index : ℕ
-  pub it : X
-  pub stands : slice_get xs index ≡ Some it
-  pub passes : test it ≡ true
+  pub frame : Progress
+  pub stands : slice_get r.frames index ≡ Some frame
+  pub own : frame.path ≡ path
+  pub past : t < point s frame
 
-some-later : {X : Type 0} (test : X → Bool) (x : X) (xs : List X) → IsSome test xs → IsSome test (x ∷ xs)
-some-later test x xs found = record { index = suc found.index; it = found.it; stands = found.stands; passes = found.passes }
-
-pub some_of : {X : Type 0} (test : X → Bool) (xs : List X) → list_any test xs ≡ true → IsSome test xs
-some_of test [] is = absurd (cc)
-some_of test (x ∷ xs) is = elim (or_cases (test x) (list_any test xs) is) [
-  | inl here ↦ record { index = 0; it = x; stands = refl; passes = here }
-  | inr later ↦ some-later test x xs (some_of test xs later)
-]
+pub done_by : (s : Script) (r : Reading) (t : ℕ) (entry : Entry) → slice_get s.entries t ≡ Some entry → is_done s r t ≡ true → IsDoneBy s r t entry.path
+done_by s r t entry stands is =
+    let among : list_any (is_past s t entry) r.frames ≡ true = ap (λ o. option_map_or (λ e. list_any (is_past s t e) r.frames) o false) (sym stands) ∙ is in
+    let found = any_found (is_past s t entry) r.frames among in
+    let both = and_parts (is_of found.0.path entry) (nat_lt t (point s found.0)) found.1.passes in
+    record { index = found.1.index; frame = found.0; stands = found.1.stands; own = sym (same_path entry.path found.0.path both.0); past = ltb-true t (point s found.0) both.1 }
 
 module _ (s : Script) where
   -- children are spawned by their numbers
   pub spawns_rise : (path : List ℕ) (child later spawn after : ℕ) → child < later → spawn_time s path child ≡ Some spawn → spawn_time s path later ≡ Some after → spawn < after
-  spawns_rise path child later spawn after less is also = elim (cases_lt spawn after) [
-    | inl rise ↦ rise
-    | inr fall ↦
-        let one = placed (is_spawn_of path) 0 s.entries child spawn is in
-        let two = placed (is_spawn_of path) 0 s.entries later after also in
-        let more = passing-rises (is_spawn_of path) s.entries two.i one.i (omega (arith, one.is, two.is)) in
-        absurd (omega (arith, more, one.before, two.before))
-  ]
+  spawns_rise path child later spawn after less is also = placed-rise (is_spawn_of path) 0 s.entries child later spawn after less is also
 
   point_under : (frame : Progress) (path rest : List ℕ) (child : ℕ) → frame.done < length (times s frame.path) → frame.path ≡ path ++ child ∷ rest → IsEntryUnder s (path ++ child ∷ []) (point s frame)
   point_under frame path rest child left is =
@@ -63,19 +56,8 @@ module _ (s : Script) (r : Reading) (tasks : HasTasks s r) where
   pub is_past-child : (path : List ℕ) (child : ℕ) → IsSpawned s r path child → IsPast path child
   is_past-child path child spawned =
       let own = spawn_own s path child spawned.spawn spawned.known in
-      let among : list_any (is_past s spawned.spawn own.entry) r.frames ≡ true =
-      ap (λ o. option_map_or (λ entry. list_any (is_past s spawned.spawn entry) r.frames) o false) (sym own.stands) ∙ spawned.done in
-      let found = some_of (is_past s spawned.spawn own.entry) r.frames among in
-      let both = and_parts (is_of found.it.path own.entry) (nat_lt spawned.spawn (point s found.it)) found.passes in
-      record {
-        spawn = spawned.spawn;
-        known = spawned.known;
-        index = found.index;
-        parent = found.it;
-        stands = found.stands;
-        own = sym (same_path own.entry.path found.it.path both.0) ∙ own.own;
-        past = ltb-true spawned.spawn (point s found.it) both.1;
-      }
+      let by = done_by s r spawned.spawn own.entry own.stands spawned.done in
+      record { spawn = spawned.spawn; known = spawned.known; index = by.index; parent = by.frame; stands = by.stands; own = by.own ∙ own.own; past = by.past }
 
   -- so it is for each task above a frame
   pub past_above : (many : ℕ) (path rest : List ℕ) (child index : ℕ) (frame : Progress) → length rest ≡ many → slice_get r.frames index ≡ Some frame → frame.path ≡ path ++ child ∷ rest → IsPast path child

@@ -21,11 +21,12 @@ use Rattle.swan_model.specs.Ripe.{is_push_to, push_time}
 use Rattle.swan_model.specs.SerialTime.{Progress, places_from, point}
 use Rattle.swan_model.specs.Told.{count, deed_at, first_items, is_pop_of, is_same, pushed, pushed_by, pushes, taken}
 use Rattle.swan_model.proofs.Origins.{is_same-self}
-use Rattle.swan_model.proofs.Places.{one_if, passing, passing-more, passing-none, passing-rises, passing-same, passing-stays, place_of, placed}
+use Rattle.swan_model.proofs.Places.{passing, passing-more, passing-none, passing-rises, passing-same, passing-stays, place_of, placed}
 use Rattle.swan_model.proofs.ScriptDeeds.{not_before, not_through, pop_needs, push_needs}
 use Rattle.swan_model.proofs.ScriptRights.{is_older}
 use Rattle.swan_model.proofs.ScriptSteps.{deed_is, spawn_moves}
 use Rattle.swan_model.proofs.Lists.{get-after}
+use Rattle.swan_model.proofs.Elements.{one_if}
 
 -- whether an entry is a push to this queue
 abbrev pub is_push : Origin → Entry → Bool

@@ -11,7 +11,7 @@ le-with_entry es None = omega arith
 le-with_entry es (Some entry) = omega (arith, length-append es (entry ∷ []))
 
 module _ {B L : Type 0} (G : Ghosts B L) where
-  le-entries : (plan : Plan B L) (n : ℕ) → length (entries G plan n) ≤ n
+  pub le-entries : (plan : Plan B L) (n : ℕ) → length (entries G plan n) ≤ n
   le-entries plan zero = omega arith
   le-entries plan (suc n) =
       omega (arith, le-entries plan n, le-with_entry (entries G plan n) (next_entry G plan.body (serial G plan n)))

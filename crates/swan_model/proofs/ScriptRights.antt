@@ -2,7 +2,7 @@
 -- before it but by its gives.
 use Rattle.std.proofs.Common.{◌≡◌, ℕ, zero, suc, ◌+◌, ◌<◌, ◌≤◌, inl, inr, Bool, true, false, ◌&&◌, nat_eq, nat_lt, cond, List, [], ◌∷◌, ◌++◌, Option, Some, None, length, refl, sym, ap, subst, ◌∙◌, append_assoc, add-one, arith}
 use Rattle.std.proofs.lemmas.Bool.{and_parts, both_ways, cases_lt, false_from_ne_true, lt-ltb, ltb-true, or_cases, or_left}
-use Rattle.std.proofs.lemmas.List.{append-nil}
+use Rattle.std.proofs.lemmas.List.{append-nil, same_from_push}
 use Rattle.std.specs.Cmp.Lexicographic.{pointwise}
 use Rattle.std.specs.Option.{option_map_or}
 use Rattle.std.specs.Prelude.{slice_get}
@@ -22,7 +22,7 @@ use Rattle.swan_model.specs.Readings.{end_time, next_deed}
 use Rattle.swan_model.specs.Rights.{allows}
 use Rattle.swan_model.specs.SerialTime.{Progress, is_of, point}
 use Rattle.swan_model.specs.Told.{is_same}
-use Rattle.swan_model.proofs.Lists.{last_of, last_same}
+use Rattle.swan_model.proofs.Lists.{last_of}
 use Rattle.swan_model.proofs.Origins.{is_same-equal, is_same-self}
 use Rattle.swan_model.proofs.Paths.{path_is-itself, same_path}
 use Rattle.swan_model.proofs.ScriptSteps.{at_next, one_entry, spawn_moves}
@@ -116,7 +116,7 @@ module _ (s : Script) (lawful : IsLawful s) (p : Progress) (gives : List OriginG
   made_once v entry stands spawns same =
       let t = point s p in
       let moves = spawn_moves s lawful p gives next in
-      let both = last_same entry.path p.path (children_before s entry.path v) (children_before s p.path t) same in
+      let both = same_from_push entry.path p.path (children_before s entry.path v) (children_before s p.path t) same in
       let here : spawn_time s p.path (children_before s p.path t) ≡ Some v =
       ap (λ k. spawn_time s p.path k) (sym both.1) ∙ ap (λ q. spawn_time s q (children_before s entry.path v)) (sym both.0) ∙ spawn_is_next s v entry stands spawns in
       let times : Some v ≡ Some t = sym here ∙ moves.known in
@@ -162,7 +162,7 @@ module _ (s : Script) (lawful : IsLawful s) (p : Progress) (gives : List OriginG
           let last = last_of y ys in
           let named : entry.path ++ children_before s entry.path v ∷ [] ≡ (child ++ last.front) ++ last.last ∷ [] =
           to ∙ ap (λ q. child ++ q) last.is ∙ sym (append_assoc child last.front (last.last ∷ [])) in
-          let both = last_same entry.path (child ++ last.front) (children_before s entry.path v) last.last named in
+          let both = same_from_push entry.path (child ++ last.front) (children_before s entry.path v) last.last named in
           further last.front (subst (λ q. may_use (holds s q v) mode origin ≡ true) both.0 (given_within s lawful v entry given mode origin stands does may))
 
   -- before its spawn a child holds nothing

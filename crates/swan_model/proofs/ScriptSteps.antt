@@ -1,7 +1,7 @@
 -- How the points of a lawful script move: from entry to entry of a task, and by a spawn.
 use Rattle.std.proofs.Common.{◌≡◌, ℕ, zero, suc, ◌+◌, ◌-◌, ◌<◌, ◌≤◌, ◌⊎◌, inl, inr, true, false, nat_lt, List, [], ◌∷◌, ◌++◌, Some, length, sym, ap, subst, ◌∙◌, append_assoc, arith}
 use Rattle.std.proofs.lemmas.Bool.{both_ways, false_from_ne_true, cases_Bool, cases_lt, ltb-true}
-use Rattle.std.proofs.lemmas.List.{append-nil}
+use Rattle.std.proofs.lemmas.List.{append-nil, same_from_push}
 use Rattle.std.proofs.lemmas.Option.{slice_get-get_or, slice_get_within, cond_some}
 use Rattle.std.specs.Option.{option_map_or}
 use Rattle.std.specs.Prelude.{slice_get}
@@ -16,7 +16,7 @@ use Rattle.swan_model.specs.Nested.{spawn_time, IsEntryUnder, IsEntryOf, IsEndOf
 use Rattle.swan_model.specs.Readings.{end_time, next_deed}
 use Rattle.swan_model.specs.SerialTime.{Progress, times, time, point}
 use Rattle.swan_model.specs.Told.{deed_at}
-use Rattle.swan_model.proofs.Lists.{last_of, last_same, some_within}
+use Rattle.swan_model.proofs.Lists.{last_of, some_within}
 use Rattle.swan_model.proofs.Paths.{not_below-itself}
 use Rattle.swan_model.proofs.TaskEntries.{end_at, first_time, last_time, next_time, point_at, point_is, point_over, point_own, spawn_is_next}
 use Rattle.swan_model.proofs.Times.{times_rise}
@@ -206,7 +206,7 @@ module _ (s : Script) (lawful : IsLawful s) where
           let last = last_of y ys in
           let named : ((parent ++ child ∷ []) ++ last.front) ++ last.last ∷ [] ≡ other.path ++ x ∷ [] =
           append_assoc (parent ++ child ∷ []) last.front (last.last ∷ []) ∙ ap (λ p. (parent ++ child ∷ []) ++ p) (sym last.is) ∙ sym own ∙ above in
-          let both = last_same ((parent ++ child ∷ []) ++ last.front) other.path last.last x named in
+          let both = same_from_push ((parent ++ child ∷ []) ++ last.front) other.path last.last x named in
           inl (record { entry = other; stands = stands; rest = last.front; under = sym both.0 })
 
       by : (rest : List ℕ) → under.entry.path ≡ (parent ++ child ∷ []) ++ rest → (other : Entry) → slice_get s.entries (u + 1) ≡ Some other → IsNextPath s u under.entry other.path → IsEntryUnder s (parent ++ child ∷ []) (u + 1) ⊎ IsEndOf s (parent ++ child ∷ []) u
@@ -266,7 +266,7 @@ module _ (s : Script) (lawful : IsLawful s) where
       let more = goes_on s lawful end ends.entry ends.stands (λ root.
       not_empty parent [] child (append-nil (parent ++ child ∷ []) ∙ sym ends.own ∙ ap (λ (e : Entry). e.path) (one_entry s end ends.entry root.entry ends.stands root.stands) ∙ root.own)) in
       let up = after_end s end ends.entry more.0.path (lawful.next end ends.entry more.0 ends.stands more.1) ends.ends in
-      let both = last_same parent more.0.path child up.0 (sym ends.own ∙ up.1) in
+      let both = same_from_push parent more.0.path child up.0 (sym ends.own ∙ up.1) in
       record { entry = more.0; stands = more.1; own = sym both.0 }
 
   path_there : (path : List ℕ) (v : ℕ) (entry : Entry) → IsEntryUnder s path v → slice_get s.entries v ≡ Some entry → (rest : List ℕ) × (entry.path ≡ path ++ rest)

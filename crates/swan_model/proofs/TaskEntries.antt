@@ -11,8 +11,9 @@ use Rattle.swan_model.specs.Nested.{spawn_time, IsEntryOf}
 use Rattle.swan_model.specs.Readings.{end_time}
 use Rattle.swan_model.specs.SerialTime.{Progress, is_of, times, time, point}
 use Rattle.swan_model.proofs.Paths.{same_path, path_is-itself}
-use Rattle.swan_model.proofs.Places.{one_if, passing, passing-more, passing-none, passing-stays, place_of, placed}
+use Rattle.swan_model.proofs.Places.{passing, passing-more, passing-none, passing-stays, place_of, placed}
 use Rattle.swan_model.proofs.Times.{times_rise}
+use Rattle.swan_model.proofs.Elements.{one_if}
 
 -- whether an entry is a spawn of the task with this path
 abbrev pub is_spawn_of : List ℕ → Entry → Bool
@@ -65,6 +66,12 @@ module _ (s : Script) where
       let yes : is_of path own.entry ≡ true = ap (λ p. pointwise nat_eq p path) own.own ∙ path_is-itself path in
       let zero_t : 0 + t ≡ t = omega arith in
       place_of (is_of path) 0 s.entries t own.entry own.stands yes ∙ ap Some zero_t
+
+  -- who has an entry has some
+  pub some_own : (path : List ℕ) (t : ℕ) → IsEntryOf s path t → 0 < length (times s path)
+  some_own path t own =
+      let within = slice_get_within (times s path) (passing (is_of path) t s.entries) t (own_place path t own) in
+      omega (arith, within)
 
   -- as many entries of the task stand before it
   pub own_before : (path : List ℕ) (k t : ℕ) → slice_get (times s path) k ≡ Some t → IsEntryOf s path t × (passing (is_of path) t s.entries ≡ k)

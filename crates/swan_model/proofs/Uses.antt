@@ -9,14 +9,14 @@ use Rattle.std.specs.Prelude.{slice_get}
 use Rattle.swan_model.specs.declared.origin.Origin.{Origin}
 use Rattle.swan_model.specs.declared.origin.Origin.TheVariants.{Step}
 use Rattle.swan_model.specs.declared.rights.Mode.{Mode}
-use Rattle.swan_model.specs.declared.rights.Mode.TheVariants.{InOut, PushPop}
+use Rattle.swan_model.specs.declared.rights.Mode.TheVariants.{InOut, PushPop, In}
 use Rattle.swan_model.specs.declared.script.Deed.{Deed}
 use Rattle.swan_model.specs.declared.script.Deed.TheVariants as deed
 use Rattle.swan_model.specs.declared.script.Entry.{Entry}
 use Rattle.swan_model.specs.declared.script.OriginGive.{OriginGive}
 use Rattle.swan_model.specs.declared.script.Script.{Script}
 use Rattle.swan_model.specs.Granted.{child_path, granted, granted_by, holds, is_spawn, may_give, may_use}
-use Rattle.swan_model.specs.Rights.{allows}
+use Rattle.swan_model.specs.Rights.{allows, is_in, is_queue_mode}
 use Rattle.swan_model.specs.SerialTime.{is_of}
 use Rattle.swan_model.specs.Told.{is_same}
 use Rattle.swan_model.proofs.Origins.{is_same-equal}
@@ -50,6 +50,17 @@ may_use-either held more mode origin is =
 -- what allows a mode allows what that allows
 pub allows-more : (mode right less : Mode) → allows mode right ≡ true → allows right less ≡ true → allows mode less ≡ true
 allows-more mode right less is also = grind arith
+
+pub allows_own : (mode : Mode) → allows mode mode ≡ true
+allows_own mode = grind arith
+
+-- and only modes of its own kind
+pub same_kind : (mode right : Mode) → allows mode right ≡ true → is_queue_mode mode ≡ is_queue_mode right
+same_kind mode right is = grind arith
+
+pub in_is : (mode : Mode) → is_in mode ≡ true → mode ≡ In
+in_is In is = refl
+in_is _ is = absurd (cc)
 
 -- who may use by a mode may use by each that it allows
 pub may_use-less : (held : List OriginGive) (mode less : Mode) (origin : Origin) → allows mode less ≡ true → may_use held mode origin ≡ true → may_use held less origin ≡ true
@@ -125,11 +136,16 @@ granted-is is_own is_child n (deed.Write object value) mode origin is = absurd (
 granted-is is_own is_child n deed.Sync mode origin is = absurd (cc)
 granted-is is_own is_child n deed.Quiet mode origin is = absurd (cc)
 
+-- how an entry grants a task the use of something: it is the task's own and made that, or it gives the task that
+abbrev pub IsGrantedBy : Script → List ℕ → ℕ → Entry → Mode → Origin → Type 0
+IsGrantedBy s path n entry mode origin =
+    ((is_of path entry ≡ true) × (origin ≡ Step n)) ⊎ IsGift (pointwise nat_eq (child_path s entry.path n) path) entry.deed mode origin
+
 -- what a task may use after an entry it could use before, or the entry grants it
 pub record IsGranted (s : Script) (path : List ℕ) (n : ℕ) (mode : Mode) (origin : Origin) : Type 0 where
   pub entry : Entry
   pub stands : slice_get s.entries n ≡ Some entry
-  pub how : ((is_of path entry ≡ true) × (origin ≡ Step n)) ⊎ IsGift (pointwise nat_eq (child_path s entry.path n) path) entry.deed mode origin
+  pub how : IsGrantedBy s path n entry mode origin
 
 pub holds-cases : (s : Script) (path : List ℕ) (n : ℕ) (mode : Mode) (origin : Origin) → may_use (holds s path (suc n)) mode origin ≡ true → (may_use (holds s path n) mode origin ≡ true) ⊎ IsGranted s path n mode origin
 holds-cases s path n mode origin is = by (slice_get s.entries n) refl is where

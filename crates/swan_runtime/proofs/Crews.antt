@@ -4,7 +4,7 @@ use Rattle.std.specs.Arc.{arc_value}
 use Rattle.std.proofs.Math.Seq.{take-append_seam}
 use Rattle.std.proofs.lemmas.List.{get_or-set_same, length-set}
 use Rattle.std.proofs.lemmas.Option.{slice_get-get_or}
-use Rattle.std.proofs.lemmas.List.Elements.{All-pop, All-push, All-same, All-set}
+use Rattle.std.proofs.lemmas.List.Elements.{All-same, All-set}
 use Rattle.named_lock.specs.Seats.{IsSeatOf, knows, lock_name, lock_seats}
 use Rattle.named_lock.specs.declared.seat.LockSeat.{LockSeat}
 use Rattle.named_lock.specs.declared.lock.NamedLock.{NamedLock}
@@ -14,15 +14,6 @@ use Rattle.task_frames.specs.Resumes.{EndsOf}
 use Rattle.swan_runtime.specs.declared.worker.Worker.{Worker}
 use Rattle.swan_runtime.specs.Shared.{SharedView}
 use Rattle.swan_runtime.specs.Workers.{AreDriven, AreOfPlan, AreWorkers, IsSameWorker, IsWorker, IsWorkerOf, OneHasMet, has_met, own_of}
-
-pub all_popped : {X : Type 0} (P : X → Type 0) (xs left : List X) (x : X) → xs ≡ left ++ x ∷ [] → All P xs → All P left
-all_popped P xs left x is all = (All-pop P xs left (Some x) is all).0
-
-pub last_of_all : {X : Type 0} (P : X → Type 0) (xs left : List X) (x : X) → xs ≡ left ++ x ∷ [] → All P xs → P x
-last_of_all P xs left x is all = (All-pop P xs left (Some x) is all).1
-
-pub all_pushed : {X : Type 0} (P : X → Type 0) (xs more : List X) (x : X) → more ≡ xs ++ x ∷ [] → All P xs → P x → All P more
-all_pushed P xs more x is all one = All-same P more _ is (All-push P xs x all one)
 
 -- what was written over the whole of a list
 pub written : {X : Type 0} (xs ys : List X) (n : ℕ) → n ≡ length xs → length ys ≡ length xs → take n (ys ++ drop (length ys) xs) ≡ ys

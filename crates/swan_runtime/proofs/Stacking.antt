@@ -1,5 +1,5 @@
 -- How the frames of a stack stand once its top has taken a turn.
-use Rattle.std.proofs.Common.{◌≡◌, ◌≢◌, inl, inr, ℕ, ◌<◌, true, false, nat_eq, Some, None, List, [], ◌∷◌, ◌++◌, length, refl, sym, ap, ◌∙◌, subst, arith, append-nil}
+use Rattle.std.proofs.Common.{◌≡◌, ◌≢◌, inl, inr, ℕ, ◌<◌, true, false, nat_eq, Some, None, List, [], ◌∷◌, ◌++◌, length, refl, sym, ap, ◌∙◌, subst, arith, append-nil, append_assoc}
 use Rattle.std.proofs.lemmas.Bool.{cases_Bool, eq-eqb, eqb-true}
 use Rattle.std.proofs.lemmas.Option.{slice_get_within, same_Some}
 use Rattle.std.specs.Prelude.{slice_get}
@@ -20,13 +20,9 @@ pub not_itself : (path : List ℕ) → IsAbove path path → ⊥
 not_itself path above = not_below-itself path above.rest above.child above.is
 
 -- who is above a task is above its children
-append-one : (path : List ℕ) (child : ℕ) (rest : List ℕ) (last : ℕ) → (path ++ child ∷ rest) ++ last ∷ [] ≡ path ++ child ∷ (rest ++ last ∷ [])
-append-one [] child rest last = refl
-append-one (part ∷ parts) child rest last = ap (λ p. part ∷ p) (append-one parts child rest last)
-
 pub above-child : (path below : List ℕ) (last : ℕ) → IsAbove path below → IsAbove path (below ++ last ∷ [])
 above-child path below last above =
-    record { child = above.child; rest = above.rest ++ last ∷ []; is = ap (λ p. p ++ last ∷ []) above.is ∙ append-one path above.child above.rest last }
+    record { child = above.child; rest = above.rest ++ last ∷ []; is = ap (λ p. p ++ last ∷ []) above.is ∙ append_assoc path (above.child ∷ above.rest) (last ∷ []) }
 
 pub above-own : (path : List ℕ) (last : ℕ) → IsAbove path (path ++ last ∷ [])
 above-own path last = record { child = last; rest = []; is = refl }

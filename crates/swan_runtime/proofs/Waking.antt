@@ -1,5 +1,6 @@
 -- Lists of frames of one run, as frames come and go.
-use Rattle.std.proofs.Common.{◌≡◌, ℕ, ◌<◌, Bool, Option, Some, None, List, [], ◌∷◌, ◌++◌, All, IfNone, IfSome, MatchOption, OnErr, OnOk, Result, Ok, Err, length, option_to_list, refl, slice_index_or, subst, sym, ◌∙◌}
+use Rattle.std.proofs.Common.{◌≡◌, ℕ, ◌<◌, Bool, Option, Some, None, List, [], ◌∷◌, ◌++◌, All, IfNone, IfSome, MatchOption, OnErr, OnOk, Result, Ok, Err, length, option_to_list, slice_index_or, subst, sym, ◌∙◌}
+use Rattle.std.proofs.lemmas.List.{nil_from_length}
 use Rattle.std.specs.BTreeMap.{insert_entry}
 use Rattle.std.specs.List.{swap_remove}
 use Rattle.std.specs.Map.{lookup, remove_entry, set_value, values_of}
@@ -150,13 +151,8 @@ module _ {B Q L E : Type 0} (of : EndsOf E) (came : List (FrameView B L E)) wher
     ready = λ plan run new are too. second.ready plan run new (first.asleep plan run (none of plan run) are) (first.ready plan run (none of plan run) are too);
   }
 
--- nothing has no length
-pub nothing : {X : Type 0} (xs : List X) → length xs ≡ 0 → xs ≡ []
-nothing [] is = refl
-nothing (x ∷ xs) is = absurd (cc)
-
 pub none_left : {X : Type 0} (Z W : Type 0) (xs : List X) (n : ℕ) (last : Option X) → n ≡ length xs → MatchOption last ((n ≡ 0) × Z) (λ _. W) → IfNone last (xs ≡ [])
-none_left Z W xs n None same is = nothing xs (sym same ∙ is.0)
+none_left Z W xs n None same is = nil_from_length xs (sym same ∙ is.0)
 none_left Z W xs n (Some x) same is = tt
 
 -- The same run, with other frames.

@@ -19,7 +19,7 @@ use Rattle.swan_model.specs.SerialTime.{is_queue_deed, time, times}
 use Rattle.swan_model.specs.Told.{deed_at}
 use Rattle.swan_model.specs.TrueFrames.{gives_at}
 use Rattle.swan_model.specs.Work.{ask_after, AreWork, local_after, told_after}
-use Rattle.swan_model.proofs.Elements.{as_number, filtered_more}
+use Rattle.swan_model.proofs.Elements.{filtered_more, one_if}
 use Rattle.queues.specs.Asks.{LentEnds, with_deeds}
 use Rattle.serial_elision.specs.TaskSteps.{GoesOn, IsAsking}
 use Rattle.serial_elision.proofs.AskSteps.{works}
@@ -84,25 +84,25 @@ module _ {B L : Type 0} (G : Ghosts B L) (name : Option Script) where
       is-asking = record { stands = is.alone.stands; paid = is.alone.stage.0; said = is.alone.stage.3 }
 
       pub one-more-deed : (does : Deed) → deed_at s (time s task.path task.done) ≡ does
-          → deeds_among s task.path (task.done + 1) ≡ deeds_among s task.path task.done + as_number (is_queue_deed does)
+          → deeds_among s task.path (task.done + 1) ≡ deeds_among s task.path task.done + one_if (is_queue_deed does)
       one-more-deed does it =
           filtered_more (λ t. is_queue_deed (deed_at s t)) (times s task.path) task.done (time s task.path task.done) (slice_get-get_or (times s task.path) task.done 0 is.alone.stands.left)
-          ∙ ap (λ d. deeds_among s task.path task.done + as_number (is_queue_deed d)) it
+          ∙ ap (λ d. deeds_among s task.path task.done + one_if (is_queue_deed d)) it
 
       -- the frame after a step, given with so many steps done
       pub goes-to : (since : ℕ) (said : Answer) (does : Deed) (then_ends : LentEnds) → GoesOn G task.plan task.path task.done top local said does
-          → then_ends ≡ with_deeds ends (ends.deeds + as_number (is_queue_deed does)) → ends.before ≡ deeds_among s task.path since
+          → then_ends ≡ with_deeds ends (ends.deeds + one_if (is_queue_deed does)) → ends.before ≡ deeds_among s task.path since
           → AreLocal s task.path since (task.done + 1) → 0 < since
           → IsFrame G (record task { done = task.done + 1; since = since }) name then_ends (Ready local said)
       goes-to since said does then_ends goes ends_are before_is are_local some =
           let next = told (moved top local) said in
           let stands = goes_on_next G task.plan task.path task.done top is.alone.stands next goes.store goes.effect in
-          let ends_of : AreEndsOf G (record task { done = task.done + 1; since = since }) name (with_deeds ends (ends.deeds + as_number (is_queue_deed does))) = record {
+          let ends_of : AreEndsOf G (record task { done = task.done + 1; since = since }) name (with_deeds ends (ends.deeds + one_if (is_queue_deed does))) = record {
             named = is.lent.named;
             own = is.lent.own;
             path = is.lent.path;
             before = before_is;
-            deeds = ap (λ n. n + as_number (is_queue_deed does)) is.lent.deeds ∙ sym (one-more-deed does goes.deed);
+            deeds = ap (λ n. n + one_if (is_queue_deed does)) is.lent.deeds ∙ sym (one-more-deed does goes.deed);
             queues = λ there at i p end holding give end_is holding_is queue_mode same given.
                 let one = stands-one G task.plan task.path (task.done + 1) there next at stands in
                 let P : Activation L → Type 0 = λ a. slice_get (gives_at G task.plan task.path (task.done + 1) a) p ≡ Some (Some give) in
@@ -132,7 +132,7 @@ module _ {B L : Type 0} (G : Ghosts B L) (name : Option Script) where
 
       -- a step that the frame takes by itself
       pub goes-on : 0 < task.done → (said : Answer) (does : Deed) (then_ends : LentEnds) → GoesOn G task.plan task.path task.done top local said does
-          → is_local does ≡ true → then_ends ≡ with_deeds ends (ends.deeds + as_number (is_queue_deed does))
+          → is_local does ≡ true → then_ends ≡ with_deeds ends (ends.deeds + one_if (is_queue_deed does))
           → IsFrame G (with-steps task (task.done + 1) task.fuel) name then_ends (Ready local said)
       goes-on begun said does then_ends goes local_deed ends_are =
           let are_local : AreLocal s task.path task.since (task.done + 1) = record {

@@ -1,9 +1,9 @@
 -- Going through the roots of a plan in their order, and the core that has the root alone.
-use Rattle.std.proofs.Common.{◌≡◌, ◌≢◌, ℕ, zero, suc, ◌+◌, ◌<◌, ◌≤◌, List, [], ◌∷◌, Some, None, length, drop, map, ◌++◌, refl, sym, ap, ◌∙◌, subst, arith}
+use Rattle.std.proofs.Common.{◌≡◌, ◌≢◌, ℕ, suc, ◌+◌, ◌≤◌, List, [], ◌∷◌, Some, None, length, drop, map, ◌++◌, refl, sym, ap, ◌∙◌, subst, arith, length-drop}
 use Rattle.std.specs.Option.{option_map}
 use Rattle.std.specs.Prelude.{slice_get}
 use Rattle.std.proofs.lemmas.List.{length-map}
-use Rattle.std.proofs.lemmas.Option.{same_Some, slice_get-map}
+use Rattle.std.proofs.lemmas.Option.{same_Some, slice_get-map, slice_get_within}
 use Rattle.swan_model.specs.declared.body.Answer.TheVariants as answer
 use Rattle.swan_model.specs.declared.body.Body.{Ghosts}
 use Rattle.swan_model.specs.declared.origin.Origin.TheVariants.{Root}
@@ -15,7 +15,7 @@ use Rattle.swan_model.specs.QueueState.{ActiveFrame}
 use Rattle.swan_model.specs.Readings.{at_start}
 use Rattle.swan_model.specs.Script.{script}
 use Rattle.serial_elision.proofs.Lawful.{lawful}
-use Rattle.serial_elision.proofs.RootLists.{length-root_holdings}
+use Rattle.swan_model.proofs.RootLists.{length-root_holdings}
 use Rattle.serial_elision.proofs.TaskSteps.{root_stands}
 use Rattle.task_frames.specs.declared.stage.Stage.TheVariants.{Ready}
 use Rattle.task_frames.specs.Cores.{AreBooked, AreFrames, AreObjects, AreQueues, HasIt, IsAtCore, IsCore, KeptView}
@@ -23,6 +23,7 @@ use Rattle.task_frames.specs.Frames.{IsPlan, Task, root_task}
 use Rattle.task_frames.specs.Opened.{AreFirstObjects, AreFirstQueues, roots_to}
 use Rattle.task_frames.specs.Records.{IsOnlyLive, live_at}
 use Rattle.task_frames.proofs.Opening.{booked-open, frames-open, objects-open, queues-open}
+use Rattle.swan_model.proofs.Lists.{get-drop, drop_next}
 
 -- the next one, and what is left behind it
 pub record IsNextOf {X : Type 0} (xs : List X) (n : ℕ) (x : X) (left : List X) : Type 0 where
@@ -30,22 +31,12 @@ pub record IsNextOf {X : Type 0} (xs : List X) (n : ℕ) (x : X) (left : List X)
   pub rest : left ≡ drop (n + 1) xs
   pub more : n + 1 ≤ length xs
 
-next-is : {X : Type 0} (xs : List X) (n : ℕ) (x : X) (left : List X) → drop n xs ≡ x ∷ left → (slice_get xs n ≡ Some x) × (left ≡ drop (suc n) xs) × (n < length xs)
-next-is [] zero x left is = absurd (cc)
-next-is [] (suc n) x left is = absurd (cc)
-next-is (y ∷ ys) zero x left is =
-    let first : y ≡ x = cc in
-    let rest : ys ≡ left = cc in
-    (ap Some first, sym rest, omega arith)
-next-is (y ∷ ys) (suc n) x left is =
-    let by = next-is ys n x left is in
-    (by.0, by.1, omega (arith, by.2))
-
 pub next-of : {X : Type 0} (xs : List X) (n : ℕ) (x : X) (left : List X) → drop n xs ≡ x ∷ left → IsNextOf xs n x left
 next-of xs n x left is =
-    let by = next-is xs n x left is in
-    let one : suc n ≡ n + 1 = omega arith in
-    record { stands = by.0; rest = subst (λ k. left ≡ drop k xs) one by.1; more = omega (arith, by.2) }
+    let stands = sym (get-drop n xs) ∙ ap (λ ys. slice_get ys 0) is in
+    let whole : x ∷ drop (n + 1) xs ≡ x ∷ left = sym (drop_next xs n x stands) ∙ is in
+    let rest : left ≡ drop (n + 1) xs = cc in
+    record { stands = stands; rest = rest; more = omega (arith, slice_get_within xs n x stands) }
 
 -- the reading with one root more
 pub roots-more : (n : ℕ) → roots_to n ++ Root n ∷ [] ≡ roots_to (n + 1)
@@ -53,10 +44,7 @@ roots-more n = let one : suc n ≡ n + 1 = omega arith in ap roots_to one
 
 -- none is left
 pub all-of : {X : Type 0} (xs : List X) (n : ℕ) → n ≤ length xs → length (drop n xs) ≡ 0 → n ≡ length xs
-all-of [] zero less none = refl
-all-of [] (suc n) less none = absurd (omega (arith, less))
-all-of (x ∷ xs) zero less none = absurd (omega (arith, none))
-all-of (x ∷ xs) (suc n) less none = let by = all-of xs n (omega (arith, less)) none in omega (arith, by)
+all-of xs n less none = omega (arith, length-drop n xs, less, none)
 
 -- the first items of a root queue are the script's
 pub items-at : (queues : List RootQueue) (n : ℕ) (queue : RootQueue) → slice_get queues n ≡ Some queue → slice_get (map (λ (q : RootQueue). q.items) queues) n ≡ Some queue.items

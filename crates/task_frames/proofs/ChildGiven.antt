@@ -1,6 +1,6 @@
 -- What a child is given, one after the other: the next one each time.
 use Rattle.std.proofs.Common.{◌≡◌, ◌≢◌, ℕ, zero, suc, ◌+◌, ◌<◌, Bool, true, false, nat_eq, List, [], ◌∷◌, None, Some, get_or, length, take, refl, sym, ap, subst, ◌∙◌}
-use Rattle.std.proofs.lemmas.Bool.{eq-eqb, ne_eqb}
+use Rattle.std.proofs.lemmas.Bool.{eq-eqb, ne_eqb, both_ways}
 use Rattle.std.proofs.lemmas.Option.{same_Some, slice_get-get_or}
 use Rattle.std.specs.List.{list_any}
 use Rattle.std.specs.Prelude.{◌||◌, slice_get}
@@ -12,24 +12,16 @@ use Rattle.pop_order.specs.Frames.{AreUpTo, Frames, MayGet as MayGetQueue, enlis
 use Rattle.queues.specs.Turned.{AreApart, AreGivenTurns, AreOlder, gives_queue, holding_of}
 use Rattle.queues.proofs.GivingTurns.{turns_given_more, turns_may_get, turns_newest}
 use Rattle.task_frames.specs.Giving.{AreGivesOfQueues, AreMade, GivesObjects}
-use Rattle.task_frames.proofs.Giving.{alone-access, free-access, giving-object, giving-queue, may-access, take-next}
+use Rattle.task_frames.proofs.Giving.{alone-access, free-access, giving-object, giving-queue, may-access}
+use Rattle.swan_model.proofs.Lists.{take_next}
+use Rattle.swan_model.proofs.Elements.{any_from}
 
 -- ---- queues
 
 none-same : (rights : List QueueRight) (queue i : ℕ) (right : QueueRight) → list_any (λ (other : QueueRight). nat_eq other.queue queue) rights ≡ false → slice_get rights i ≡ Some right → right.queue ≢ queue
-none-same [] queue i right none at same = absurd (cc)
-none-same (x ∷ rights) queue zero right none at same =
-    let it = same_Some x right at in
-    let here : x.queue ≡ queue = ap (λ (q : QueueRight). q.queue) it ∙ same in
-    absurd (both (nat_eq x.queue queue) (list_any (λ (other : QueueRight). nat_eq other.queue queue) rights) (eq-eqb x.queue queue here) none)
-  where
-    both : (p q : Bool) → p ≡ true → (p || q) ≡ false → ⊥
-    both true q is none = absurd (cc)
-    both false q is none = absurd (cc)
-none-same (x ∷ rights) queue (suc i) right none at same = none-same rights queue i right (rest (nat_eq x.queue queue) (list_any (λ (other : QueueRight). nat_eq other.queue queue) rights) none) at same where
-  rest : (p q : Bool) → (p || q) ≡ false → q ≡ false
-  rest true q none = absurd (cc)
-  rest false q none = none
+none-same rights queue i right none at same =
+    let test : QueueRight → Bool = λ other. nat_eq other.queue queue in
+    both_ways (list_any test rights) none (any_from test rights i right at (eq-eqb right.queue queue same))
 
 fresh-before : (rights : List QueueRight) → AreGivesOfQueues rights → (i : ℕ) (right : QueueRight) → slice_get rights i ≡ Some right → gives_queue (take i rights) right.queue ≡ false
 fresh-before [] are i right at = absurd (cc)
@@ -55,7 +47,7 @@ module _ (before now : Frames) (parent child : ℕ) (rights : List QueueRight) (
     pub next-given : (then : Frames) → then ≡ enlisted now parent child (holding_of right) → AreGivenTurns before then parent child (take (i + 1) rights)
     next-given then is =
         subst (λ q. AreGivenTurns before q parent child (take (i + 1) rights)) (sym is)
-        (subst (AreGivenTurns before (enlisted now parent child (holding_of right)) parent child) (sym (take-next rights i right at)) (turns_given_more before now parent child (take i rights) given right))
+        (subst (AreGivenTurns before (enlisted now parent child (holding_of right)) parent child) (sym (take_next rights i right at)) (turns_given_more before now parent child (take i rights) given right))
 
 -- ---- objects
 

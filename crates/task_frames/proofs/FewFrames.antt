@@ -1,12 +1,12 @@
 -- A reading has no more frames than its script has entries, and the root: each other frame is a task that one entry spawned.
-use Rattle.std.proofs.Common.{◌≡◌, ◌≢◌, inl, inr, ℕ, suc, ◌+◌, ◌<◌, ◌≤◌, true, eqb, List, [], ◌∷◌, ◌++◌, Option, None, Some, length, map, refl, sym, ap, subst, ◌∙◌, arith}
-use Rattle.std.proofs.lemmas.Bool.{cases_order, eqb-true, or_cases}
+use Rattle.std.proofs.Common.{◌≡◌, ◌≢◌, inl, inr, ℕ, ◌+◌, ◌<◌, ◌≤◌, List, [], ◌∷◌, ◌++◌, Option, None, Some, length, map, refl, sym, ap, subst, ◌∙◌, arith}
+use Rattle.std.proofs.lemmas.Bool.{cases_order}
 use Rattle.std.proofs.lemmas.Bool.Decides.{Decides-eqb}
 use Rattle.std.proofs.lemmas.List.{length-map}
 use Rattle.std.proofs.lemmas.Map.Made.{IsDistinct-from_AllPairs}
 use Rattle.std.proofs.lemmas.Map.Steps.{length-le_from_distinct_below}
 use Rattle.std.proofs.lemmas.Option.{get_or_from_slice_get, same_Some, slice_get-map, slice_get_within}
-use Rattle.std.specs.List.{AllPairs, list_any}
+use Rattle.std.specs.List.{AllPairs}
 use Rattle.std.specs.Option.{option_map, option_map_or}
 use Rattle.std.specs.Prelude.{slice_get}
 use Rattle.swan_model.specs.declared.body.Body.{Ghosts}
@@ -20,14 +20,8 @@ use Rattle.swan_model.proofs.Lists.{last_of, some_within}
 use Rattle.swan_model.proofs.Points.{spawns_rise}
 use Rattle.swan_model.proofs.TaskEntries.{spawn_own}
 use Rattle.swan_model.specs.QueueState.{COUNT_MOST}
-use Rattle.serial_elision.proofs.Entries.{le_script}
-
-any-stands : (q : ℕ) (xs : List ℕ) → list_any (eqb q) xs ≡ true → (i : ℕ) × (slice_get xs i ≡ Some q)
-any-stands q [] is = absurd (cc)
-any-stands q (x ∷ xs) is = elim (or_cases (eqb q x) (list_any (eqb q) xs) is) [
-  | inl here ↦ (0, ap Some (sym (eqb-true q x here)))
-  | inr there ↦ let found = any-stands q xs there in (suc found.0, found.1)
-]
+use Rattle.swan_model.proofs.Elements.{any_number}
+use Rattle.swan_model.proofs.ScriptLength.{le_script}
 
 -- numbers that are each less than a bound, no two the same, are at most so many
 few-numbers : (numbers : List ℕ) (bound : ℕ) → ((i q : ℕ) → slice_get numbers i ≡ Some q → q < bound) → ((i j q : ℕ) → slice_get numbers i ≡ Some q → slice_get numbers j ≡ Some q → i ≡ j) → length numbers ≤ bound
@@ -38,7 +32,7 @@ few-numbers numbers bound below once =
     let equal : a.0 ≡ b.0 = sym (get_or_from_slice_get numbers i a.0 d a.1) ∙ same ∙ get_or_from_slice_get numbers j b.0 d b.1 in
     let here = once i j b.0 (a.1 ∙ ap Some equal) b.1 in
     omega (arith, here, less) in
-    length-le_from_distinct_below numbers bound (IsDistinct-from_AllPairs Decides-eqb numbers apart) (λ q is. let found = any-stands q numbers is in below found.0 q found.1)
+    length-le_from_distinct_below numbers bound (IsDistinct-from_AllPairs Decides-eqb numbers apart) (λ q is. let found = any_number q numbers is in below found.0 q found.1)
 
 module _ (s : Script) where
   -- the number of a task: none for the root, and one more than the time of its spawn for another one

@@ -1,6 +1,7 @@
 -- A child is given its objects, one after the other.
-use Rattle.std.proofs.Common.{◌≡◌, ◌≢◌, inl, inr, ℕ, zero, suc, ◌+◌, ◌<◌, ◌≤◌, Bool, true, false, cond, List, [], ◌∷◌, ◌++◌, Option, None, Some, length, map, take, drop, refl, sym, ap, subst, ◌∙◌, arith}
+use Rattle.std.proofs.Common.{◌≡◌, ◌≢◌, inl, inr, ℕ, zero, suc, ◌+◌, ◌<◌, Bool, true, false, cond, List, [], ◌∷◌, ◌++◌, Option, None, Some, length, map, take, drop, refl, sym, ap, subst, ◌∙◌, arith, append-nil, take_all, length-take-le}
 use Rattle.std.proofs.lemmas.Bool.{cases_eq, eq-eqb}
+use Rattle.std.proofs.lemmas.List.{drop_all}
 use Rattle.std.proofs.lemmas.Option.{same_Some, slice_get_within}
 use Rattle.std.specs.Option.{option_and_then, option_map}
 use Rattle.std.specs.Prelude.{◌&&◌, filter, not, slice_get}
@@ -23,14 +24,15 @@ use Rattle.object_versions.proofs.GivingBegins.{giving_begins}
 use Rattle.object_versions.proofs.GivingCalls.{access_giving, giving_ends}
 use Rattle.object_versions.proofs.NoMoreWaits.{access_waits}
 use Rattle.object_versions.proofs.PlacesStay.{access_keeps, access_leaves}
-use Rattle.swan_model.proofs.Elements.{option_cases}
-use Rattle.serial_elision.proofs.Held.{same_kind}
+use Rattle.swan_model.proofs.Elements.{option_cases, taken_stands}
 use Rattle.task_frames.specs.Cores.{AreObjects, AwaitsNone, HasObjects, IsPlacedSo}
 use Rattle.task_frames.specs.Giving.{AreMade, access_of, accesses_from, with_access}
 use Rattle.task_frames.specs.Records.{LiveFrame, LiveFrames, live_at}
 use Rattle.task_frames.proofs.GoneOn.{with-child}
 use Rattle.task_frames.proofs.Names.{AreGivenSo, IsHeldSo, first-given, held-origin}
 use Rattle.task_frames.proofs.QueueUse.{IsOfGive, given-at, gives-differ}
+use Rattle.swan_model.proofs.Lists.{drop_next, take_next}
+use Rattle.swan_model.proofs.Uses.{in_is, same_kind}
 
 -- ---- the accesses of a child's gives
 
@@ -85,58 +87,13 @@ give-of_access n (x ∷ gives) (suc i) give at kind = by (is_queue_mode x.mode) 
   by true queue rest = (rest.0, ap (λ b. slice_get (with_access b (access_of n x) (accesses_from (n + 1) gives)) rest.0) queue ∙ rest.1 ∙ ap (λ k. Some (access_of k give)) more)
   by false queue rest = (suc rest.0, ap (λ b. slice_get (with_access b (access_of n x) (accesses_from (n + 1) gives)) (suc rest.0)) queue ∙ rest.1 ∙ ap (λ k. Some (access_of k give)) more)
 
--- ---- the next give
-
-pub take-next : {X : Type 0} (xs : List X) (i : ℕ) (x : X) → slice_get xs i ≡ Some x → take (i + 1) xs ≡ take i xs ++ x ∷ []
-take-next {X = X} xs i x at = let one : i + 1 ≡ suc i = omega arith in ap (λ k. take k xs) one ∙ by xs i at where
-  by : (xs : List X) (i : ℕ) → slice_get xs i ≡ Some x → take (suc i) xs ≡ take i xs ++ x ∷ []
-  by [] i at = absurd (cc)
-  by (y ∷ []) zero at = ap {B = List X} (λ g. g ∷ []) (same_Some y x at)
-  by (y ∷ (z ∷ xs)) zero at = ap {B = List X} (λ g. g ∷ []) (same_Some y x at)
-  by (y ∷ xs) (suc i) at = ap {B = List X} (λ gs. y ∷ gs) (by xs i at)
-
-drop-next : (gives : List Give) (i : ℕ) (give : Give) → slice_get gives i ≡ Some give → drop i gives ≡ give ∷ drop (i + 1) gives
-drop-next gives i give at = let one : i + 1 ≡ suc i = omega arith in by gives i at ∙ ap (λ k. give ∷ drop k gives) (sym one) where
-  by : (gives : List Give) (i : ℕ) → slice_get gives i ≡ Some give → drop i gives ≡ give ∷ drop (suc i) gives
-  by [] i at = absurd (cc)
-  by (x ∷ gives) zero at = ap {B = List Give} (λ g. g ∷ gives) (same_Some x give at)
-  by (x ∷ gives) (suc i) at = by gives i at
-
-length-taken : (gives : List Give) (i : ℕ) → i ≤ length gives → length (take i gives) ≡ i
-length-taken gives zero most = by gives where
-  by : (gives : List Give) → length (take 0 gives) ≡ 0
-  by [] = refl
-  by (x ∷ gives) = refl
-length-taken [] (suc i) most = absurd (omega (arith, most))
-length-taken (x ∷ gives) (suc i) most = ap suc (length-taken gives i (omega (arith, most)))
-
-taken-stands : (gives : List Give) (done i : ℕ) (give : Give) → slice_get (take done gives) i ≡ Some give → (i < done) × (slice_get gives i ≡ Some give)
-taken-stands [] zero i give at = absurd (cc)
-taken-stands (x ∷ gives) zero i give at = absurd (cc)
-taken-stands [] (suc done) i give at = absurd (cc)
-taken-stands (x ∷ gives) (suc done) zero give at = (omega arith, at)
-taken-stands (x ∷ gives) (suc done) (suc i) give at = let rest = taken-stands gives done i give at in (omega (arith, rest.0), rest.1)
-
-none-taken : (gives : List Give) → accesses_from 0 (take 0 gives) ≡ []
-none-taken [] = refl
-none-taken (x ∷ gives) = refl
-
-none-dropped : (gives : List Give) → drop 0 gives ≡ gives
-none-dropped [] = refl
-none-dropped (x ∷ gives) = refl
-
-all-dropped : (gives : List Give) → drop (length gives) gives ≡ []
-all-dropped [] = refl
-all-dropped (x ∷ gives) = all-dropped gives
-
 -- ---- so many of them are made
 
 -- a child that has nothing and isn't in the reading may be given its objects, where the parent's next entry gives them
 pub giving-starts : (s : Script) (r : Reading) (before : VersionState) (parent : Progress) (child : ℕ) (gives : List Give) → ObjectsFollow s r before → IsNewFrame r before child
     → NextSpawnGivesObjects s r before parent (accesses_from 0 gives) → AreMade s r before before parent child gives 0
 giving-starts s r before parent child gives follow new spawn = record {
-  giving = subst (λ made. IsGiving s r before parent child made (accesses_from 0 (drop 0 gives))) (sym (none-taken gives))
-      (subst (λ gs. IsGiving s r before parent child [] (accesses_from 0 gs)) (sym (none-dropped gives)) (giving_begins s r before parent child (accesses_from 0 gives) follow new spawn));
+  giving = giving_begins s r before parent child (accesses_from 0 gives) follow new spawn;
   on = λ place object at. (object, at, refl, refl);
   back = λ place object at. (object, at);
   others = λ m place apart old. refl;
@@ -149,17 +106,13 @@ made-next : (gives : List Give) (done : ℕ) (give : Give) → slice_get gives d
     → accesses_from 0 (take (done + 1) gives) ≡ accesses_from 0 (take done gives) ++ with_access (is_queue_mode give.mode) (access_of done give) []
 made-next gives done give at =
     let within = slice_get_within gives done give at in
-    let place : 0 + length (take done gives) ≡ done = omega (arith, length-taken gives done (omega (arith, within))) in
-    ap (accesses_from 0) (take-next gives done give at) ∙ accesses-append 0 (take done gives) (give ∷ [])
+    let place : 0 + length (take done gives) ≡ done = omega (arith, length-take-le done gives (omega (arith, within))) in
+    ap (accesses_from 0) (take_next gives done give at) ∙ accesses-append 0 (take done gives) (give ∷ [])
     ∙ ap (λ k. accesses_from 0 (take done gives) ++ accesses_from k (give ∷ [])) place
 
 left-next : (gives : List Give) (done : ℕ) (give : Give) → slice_get gives done ≡ Some give
     → accesses_from done (drop done gives) ≡ with_access (is_queue_mode give.mode) (access_of done give) (accesses_from (done + 1) (drop (done + 1) gives))
-left-next gives done give at = ap (accesses_from done) (drop-next gives done give at)
-
-append-none : {X : Type 0} (xs : List X) → xs ++ [] ≡ xs
-append-none [] = refl
-append-none (x ∷ xs) = ap (λ ys. x ∷ ys) (append-none xs)
+left-next gives done give at = ap (accesses_from done) (drop_next gives done give at)
 
 -- a give of a queue is no access
 pub giving-queue : (s : Script) (r : Reading) (before now : VersionState) (parent : Progress) (child : ℕ) (gives : List Give) (done : ℕ) (give : Give) → slice_get gives done ≡ Some give
@@ -167,7 +120,7 @@ pub giving-queue : (s : Script) (r : Reading) (before now : VersionState) (paren
 giving-queue s r before now parent child gives done give at queue are = record {
   giving =
       let made : accesses_from 0 (take done gives) ≡ accesses_from 0 (take (done + 1) gives) =
-      sym (made-next gives done give at ∙ ap (λ b. accesses_from 0 (take done gives) ++ with_access b (access_of done give) []) queue ∙ append-none (accesses_from 0 (take done gives))) in
+      sym (made-next gives done give at ∙ ap (λ b. accesses_from 0 (take done gives) ++ with_access b (access_of done give) []) queue ∙ append-nil (accesses_from 0 (take done gives))) in
       let left : accesses_from done (drop done gives) ≡ accesses_from (done + 1) (drop (done + 1) gives) =
       left-next gives done give at ∙ ap (λ b. with_access b (access_of done give) (accesses_from (done + 1) (drop (done + 1) gives))) queue in
       subst (λ xs. IsGiving s r now parent child xs (accesses_from (done + 1) (drop (done + 1) gives))) made
@@ -195,10 +148,6 @@ in-alone : (mode : Mode) → allows In mode ≡ true → mode ≡ In
 in-alone In is = refl
 in-alone _ is = absurd (cc)
 
-is-in : (mode : Mode) → is_in mode ≡ true → mode ≡ In
-is-in In is = refl
-is-in _ is = absurd (cc)
-
 -- two gives of one place that don't clash are both only to read
 both-in : (a b : Give) → a.place ≡ b.place → clash a b ≡ false → (a.mode ≡ In) × (b.mode ≡ In)
 both-in a b same none =
@@ -206,7 +155,7 @@ both-in a b same none =
     by (is_in a.mode) (is_in b.mode) refl refl here
   where
     by : (p q : Bool) → is_in a.mode ≡ p → is_in b.mode ≡ q → not (p && q) ≡ false → (a.mode ≡ In) × (b.mode ≡ In)
-    by true true one two is = (is-in a.mode one, is-in b.mode two)
+    by true true one two is = (in_is a.mode one, in_is b.mode two)
     by true false one two is = absurd (cc)
     by false q one two is = absurd (cc)
 
@@ -257,7 +206,7 @@ module _ (s : Script) (lawful : IsLawful s) (r : Reading) (before now : VersionS
     earlier : (access : Access) (i : ℕ) → slice_get (accesses_from 0 (take done gives)) i ≡ Some access → (k : ℕ) × (g : Give) × (k < done) × (slice_get gives k ≡ Some g) × (access ≡ access_of k g)
     earlier access i there =
         let it = access-of_give 0 (take done gives) i access there in
-        let stands = taken-stands gives done it.i it.give it.stands in
+        let stands = taken_stands done gives it.i it.give it.stands in
         let none : 0 + it.i ≡ it.i = omega arith in
         (it.i, it.give, stands.0, stands.1, it.is ∙ ap (λ k. access_of k it.give) none)
 
@@ -345,7 +294,7 @@ module _ (s : Script) (lawful : IsLawful s) (r : Reading) (before now : VersionS
 pub giving-over : (s : Script) (r : Reading) (before now : VersionState) (parent : Progress) (child : ℕ) (gives : List Give) → IsLawful s → frame_of r parent.number ≡ Some parent
     → AreMade s r before now parent child gives (length gives) → ObjectsFollow s (spawned s r parent child) now
 giving-over s r before now parent child gives lawful known are =
-    let none : accesses_from (length gives) (drop (length gives) gives) ≡ [] = ap (accesses_from (length gives)) (all-dropped gives) in
+    let none : accesses_from (length gives) (drop (length gives) gives) ≡ [] = ap (accesses_from (length gives)) (drop_all (length gives) gives (omega arith)) in
     giving_ends s r now parent child (accesses_from 0 (take (length gives) gives)) lawful known
     (subst (λ ys. IsGiving s r now parent child (accesses_from 0 (take (length gives) gives)) ys) none are.giving)
 
@@ -354,10 +303,7 @@ giving-over s r before now parent child gives lawful known are =
 module _ (s : Script) (lawful : IsLawful s) (r : Reading) (before now : VersionState) (parent : Progress) (known : frame_of r parent.number ≡ Some parent) (held : List Holding) (has : HasObjects before parent.number held)
     (child : ℕ) (differ : parent.number ≢ child) (gives : List Give) (hs : List Holding) (given_is : given held gives ≡ Some hs) (are : AreMade s r before now parent child gives (length gives)) where
   all-made : accesses_from 0 (take (length gives) gives) ≡ accesses_from 0 gives
-  all-made = ap (accesses_from 0) (taken gives) where
-    taken : (gives : List Give) → take (length gives) gives ≡ gives
-    taken [] = refl
-    taken (x ∷ gives) = ap (λ gs. x ∷ gs) (taken gives)
+  all-made = ap (accesses_from 0) (take_all (length gives) gives (omega arith))
 
   child-each : (place : ℕ) (holding : Holding) → slice_get hs place ≡ Some holding → is_queue_mode holding.mode ≡ false → IsPlacedSo now child place holding
   child-each place holding at kind =

@@ -6,7 +6,7 @@ use Rattle.std.specs.Option.{option_map}
 use Rattle.swan_model.specs.Readings.{gone_on, one_more}
 use Rattle.swan_model.specs.SerialTime.{Progress, Reading, frame_of}
 use Rattle.swan_model.specs.Readings.{gone_on_by, more_by}
-use Rattle.swan_model.proofs.Elements.{find_map}
+use Rattle.swan_model.proofs.Elements.{find_map, found_before, found_last, found_unless}
 use Rattle.swan_model.proofs.MovedFrames.{frame_number, number_kept, other_stays, own_moves}
 
 -- a change of the frames that leaves their numbers, and one frame
@@ -90,37 +90,16 @@ gone-by_more r number many = ap {B = Reading} (λ frames. record r { frames = fr
 
 -- ---- a child more
 
--- a frame that is added last is found where none before it has the number
-added : (frames : List Progress) (new : Progress) (n : ℕ) → find (λ f. nat_eq f.number n) frames ≡ None → new.number ≡ n → find (λ f. nat_eq f.number n) (frames ++ new ∷ []) ≡ Some new
-added [] new n none own = ap (λ b. cond b (Some new) None) (eq-eqb new.number n own)
-added (f ∷ frames) new n none own = by (nat_eq f.number n) none (λ rest. added frames new n rest own) where
-  by : (b : Bool) → cond b (Some f) (find (λ f. nat_eq f.number n) frames) ≡ None → (find (λ f. nat_eq f.number n) frames ≡ None → find (λ f. nat_eq f.number n) (frames ++ new ∷ []) ≡ Some new)
-      → cond b (Some f) (find (λ f. nat_eq f.number n) (frames ++ new ∷ [])) ≡ Some new
-  by true found then = absurd (cc)
-  by false rest then = then rest
-
-unless-added : (frames : List Progress) (new : Progress) (n : ℕ) → new.number ≢ n → find (λ f. nat_eq f.number n) (frames ++ new ∷ []) ≡ find (λ f. nat_eq f.number n) frames
-unless-added [] new n apart = ap (λ b. cond b (Some new) None) (ne_eqb new.number n apart)
-unless-added (f ∷ frames) new n apart = ap (cond (nat_eq f.number n) (Some f)) (unless-added frames new n apart)
-
 -- the reading once a frame has done one more entry, and there is a new frame
 abbrev pub with-child : Reading → ℕ → Progress → Reading
 with-child r n new = record r { frames = map (more_by n 1) r.frames ++ new ∷ [] }
 
-found-first : (frames : List Progress) (new : Progress) (n : ℕ) (f : Progress) → find (λ f. nat_eq f.number n) frames ≡ Some f → find (λ f. nat_eq f.number n) (frames ++ new ∷ []) ≡ Some f
-found-first [] new n f is = absurd (cc)
-found-first (g ∷ frames) new n f is = by (nat_eq g.number n) is (λ rest. found-first frames new n f rest) where
-  by : (b : Bool) → cond b (Some g) (find (λ f. nat_eq f.number n) frames) ≡ Some f → (find (λ f. nat_eq f.number n) frames ≡ Some f → find (λ f. nat_eq f.number n) (frames ++ new ∷ []) ≡ Some f)
-      → cond b (Some g) (find (λ f. nat_eq f.number n) (frames ++ new ∷ [])) ≡ Some f
-  by true found then = found
-  by false rest then = then rest
-
 module _ (r : Reading) (n : ℕ) (new : Progress) where
   pub parent-spawned : (p : Progress) → frame_of r n ≡ Some p → frame_of (with-child r n new) n ≡ Some (record p { done = p.done + 1 })
-  parent-spawned p known = found-first (map (more_by n 1) r.frames) new n (record p { done = p.done + 1 }) (own-gone_by r n 1 p known)
+  parent-spawned p known = found_before (λ (f : Progress). nat_eq f.number n) (map (more_by n 1) r.frames) new (record p { done = p.done + 1 }) (own-gone_by r n 1 p known)
 
   pub child-spawned : frame_of r new.number ≡ None → new.number ≢ n → frame_of (with-child r n new) new.number ≡ Some new
-  child-spawned none apart = added (map (more_by n 1) r.frames) new new.number (other-gone_by r n 1 new.number apart ∙ none) refl
+  child-spawned none apart = found_last (λ (f : Progress). nat_eq f.number new.number) (map (more_by n 1) r.frames) new (other-gone_by r n 1 new.number apart ∙ none) (eq-eqb new.number new.number refl)
 
   pub other-spawned : (m : ℕ) → m ≢ n → m ≢ new.number → frame_of (with-child r n new) m ≡ frame_of r m
-  other-spawned m apart old = unless-added (map (more_by n 1) r.frames) new m (λ same. old (sym same)) ∙ other-gone_by r n 1 m apart
+  other-spawned m apart old = found_unless (λ (f : Progress). nat_eq f.number m) (map (more_by n 1) r.frames) new (ne_eqb new.number m (λ same. old (sym same))) ∙ other-gone_by r n 1 m apart

@@ -1,9 +1,9 @@
 -- What is left once the root has ended, one root object or queue after the other.
-use Rattle.std.proofs.Common.{◌≡◌, ◌≢◌, inl, inr, ℕ, ◌+◌, ◌<◌, Bool, true, false, nat_eq, List, [], ◌∷◌, ◌++◌, Option, Some, None, length, refl, sym, ap, ◌∙◌, subst, length-append}
+use Rattle.std.proofs.Common.{◌≡◌, ◌≢◌, inl, inr, ℕ, ◌+◌, ◌<◌, false, nat_eq, List, [], ◌∷◌, ◌++◌, Some, None, length, refl, sym, ap, ◌∙◌, subst, length-append}
 use Rattle.std.proofs.lemmas.Bool.{ne_eqb}
 use Rattle.std.proofs.lemmas.List.{length-map}
 use Rattle.std.specs.List.{list_any}
-use Rattle.std.specs.Prelude.{◌||◌, is_none, slice_get}
+use Rattle.std.specs.Prelude.{slice_get}
 use Rattle.swan_model.specs.declared.body.Body.{Ghosts}
 use Rattle.swan_model.specs.declared.origin.Origin.TheVariants.{Root}
 use Rattle.swan_model.specs.declared.plan.Plan.{Plan}
@@ -15,7 +15,7 @@ use Rattle.swan_model.specs.QueueFollows.{queue_origin}
 use Rattle.swan_model.specs.QueueState.{QueueState}
 use Rattle.swan_model.specs.Script.{script}
 use Rattle.swan_model.specs.Versions.{Placed, owed, placed_at, settled}
-use Rattle.swan_model.proofs.Elements.{more_cases}
+use Rattle.swan_model.proofs.Elements.{more_cases, any_before}
 use Rattle.serial_elision.proofs.Lawful.{lawful}
 use Rattle.queues.specs.Asks.{IsRestLeft, is_emptied}
 use Rattle.queues.specs.Tells.{OnQueue, rest_of}
@@ -46,16 +46,7 @@ pub first-all : {X : Type 0} (xs left : List X) (n : ℕ) → AreFirst xs n left
 first-all xs left n are all = lists-same xs left (are.many ∙ all) are.each
 
 pub fresh-more : (taken : List ℕ) (n queue : ℕ) → list_any (λ other. nat_eq other queue) taken ≡ false → n ≢ queue → list_any (λ other. nat_eq other queue) (taken ++ n ∷ []) ≡ false
-fresh-more [] n queue none other = ap (λ b. b || false) (ne_eqb n queue other)
-fresh-more (first ∷ taken) n queue none other = by (nat_eq first queue) none (λ is. fresh-more taken n queue is other) where
-  by : (b : Bool) → (b || list_any (λ o. nat_eq o queue) taken) ≡ false → (list_any (λ o. nat_eq o queue) taken ≡ false → list_any (λ o. nat_eq o queue) (taken ++ n ∷ []) ≡ false)
-      → (b || list_any (λ o. nat_eq o queue) (taken ++ n ∷ [])) ≡ false
-  by true is rest = is
-  by false is rest = rest is
-
-pub none-is : {X : Type 0} (o : Option X) → is_none o ≡ true → o ≡ None
-none-is None is = refl
-none-is (Some x) is = absurd (cc)
+fresh-more taken n queue none other = any_before (λ (k : ℕ). nat_eq k queue) taken n (ne_eqb n queue other) ∙ none
 
 -- ---- what a core leaves
 

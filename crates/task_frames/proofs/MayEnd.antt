@@ -1,6 +1,7 @@
 -- A frame that has no live child may end: it may join, and each of its versions has its value.
-use Rattle.std.proofs.Common.{◌≡◌, ◌≢◌, inl, inr, ℕ, ◌+◌, false, List, [], ◌∷◌, ◌++◌, None, Some, length, refl, sym, ap, ◌∙◌}
+use Rattle.std.proofs.Common.{◌≡◌, ◌≢◌, inl, inr, ℕ, ◌+◌, false, [], ◌∷◌, ◌++◌, None, Some, length, refl, sym, ap, ◌∙◌}
 use Rattle.std.proofs.lemmas.Bool.{cases_eq}
+use Rattle.std.proofs.lemmas.List.{same_from_push}
 use Rattle.std.proofs.lemmas.Option.{same_Some}
 use Rattle.swan_model.specs.declared.body.Body.{Ghosts}
 use Rattle.swan_model.specs.declared.origin.Origin.{Origin}
@@ -16,7 +17,6 @@ use Rattle.swan_model.specs.SerialTime.{Progress, Reading, frame_of, is_queue_de
 use Rattle.swan_model.specs.Told.{deed_at}
 use Rattle.swan_model.specs.Versions.{IsSettled, Placed, VersionState, placed_at}
 use Rattle.swan_model.proofs.Elements.{option_cases}
-use Rattle.swan_model.proofs.Lists.{last_same}
 use Rattle.object_versions.proofs.EndedChildren.{ended_children}
 use Rattle.pop_order.specs.Frames.{Frames}
 use Rattle.queues.specs.Asks.{MayJoin}
@@ -28,10 +28,7 @@ use Rattle.task_frames.specs.Cores.{AreFrames, AreObjects, AreQueues, AwaitsNone
 use Rattle.task_frames.specs.Records.{IsLiveChild, LiveFrame, LiveFrames, live_at}
 use Rattle.task_frames.proofs.Queues.{next-does}
 use Rattle.task_frames.proofs.Waiting.{same-path}
-
-no-child-path : (path : List ℕ) (index : ℕ) → path ++ index ∷ [] ≡ [] → ⊥
-no-child-path [] index is = absurd (cc)
-no-child-path (part ∷ parts) index is = absurd (cc)
+use Rattle.swan_model.proofs.Paths.{not_root}
 
 module _ {B L : Type 0} (G : Ghosts B L) (plan : Plan B L) (lawful : IsLawful (script G plan)) (r : Reading) (state : QueueState) (turns : Frames) (live : LiveFrames) (frames : ℕ)
     (queues : AreQueues (script G plan) r state turns) (are : AreFrames G plan r state live frames) (n : ℕ) (f : LiveFrame) (there : live_at live n ≡ Some f)
@@ -100,10 +97,10 @@ module _ {B L : Type 0} (G : Ghosts B L) (plan : Plan B L) (lawful : IsLawful (s
         let theirs = same-path G plan lawful r state turns live frames queues are m g it.0 at it.1 in
         let some : m ≢ 0 = λ root.
         let top = queues.follow.root it.0 (ap (active state) (sym root) ∙ it.1) in
-        no-child-path f.path index (sym path ∙ theirs ∙ top.0) in
+        not_root f.path [] index (sym path ∙ theirs ∙ top.0) in
         let parent = queues.follow.others m it.0 it.1 some in
         let of = queues.follow.children m parent.0 it.0 it.1 parent.1 in
-        let same = last_same of.above.path f.path of.index index (sym of.path ∙ sym theirs ∙ path) in
+        let same = same_from_push of.above.path f.path of.index index (sym of.path ∙ sym theirs ∙ path) in
         let one : parent.0 ≡ n = queues.follow.different parent.0 n of.above own.0 of.live own.1 (same.0 ∙ mine) in
         record { frame = it.0; live = it.1; of = parent.1 ∙ ap Some one }
 
@@ -124,7 +121,7 @@ module _ {B L : Type 0} (G : Ghosts B L) (plan : Plan B L) (lawful : IsLawful (s
               | inl root ↦
                   let it = have.follow.root in
                   let same : it.0 ≡ below = same_Some it.0 below (sym it.1 ∙ ap (frame_of r) (sym root) ∙ known) in
-                  absurd (no-child-path f.path index (sym path ∙ ap (λ (q : Progress). q.path) (sym same) ∙ it.2))
+                  absurd (not_root f.path [] index (sym path ∙ ap (λ (q : Progress). q.path) (sym same) ∙ it.2))
               | inr other ↦ absurd (have.gone m place has.0 none other has.1)
             ]
           ]

@@ -17,7 +17,7 @@ use Rattle.swan_model.specs.SerialStep.{given, given_also, number_at, used_by}
 use Rattle.swan_model.specs.SerialTime.{Reading}
 use Rattle.swan_model.specs.TrueFrames.{give_in, gives_at}
 use Rattle.serial_elision.specs.TaskSteps.{MayUseAt, Spawns}
-use Rattle.serial_elision.proofs.Held.{same_kind}
+use Rattle.swan_model.proofs.Uses.{same_kind}
 
 -- what made what is held by a mode, as a reading tells
 abbrev pub origin_in : Reading → Mode → ℕ → Option Origin

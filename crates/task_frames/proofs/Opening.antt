@@ -43,7 +43,7 @@ use Rattle.queues.proofs.TreeKept.{only_root, tree_new, tree_root}
 use Rattle.queues.proofs.TurnsKept.{turns_none}
 use Rattle.queues.proofs.TurnsMade.{turns_root}
 use Rattle.serial_elision.specs.Laws.{IsObjectOf}
-use Rattle.serial_elision.proofs.RootLists.{length-queue_holdings}
+use Rattle.swan_model.proofs.RootLists.{length-queue_holdings}
 use Rattle.serial_elision.proofs.RootNames.{root-object_name, root-queue_name}
 use Rattle.serial_elision.proofs.TaskSteps.{root_stands}
 use Rattle.task_frames.specs.Cores.{AreApart, AreBooked, AreFrames, AreObjects, AreQueues, HasEnded, HasObjects, IsPlacedSo, IsTold}

@@ -1,7 +1,7 @@
 -- What a frame asks its queues for is within what the queues let it do: by the script each deed is within what its task
 -- holds, and the queues let a frame do what the script has its task hold.
 use Rattle.std.proofs.Common.{◌≡◌, inl, inr, ℕ, zero, suc, ◌<◌, Bool, true, false, nat_eq, cond, List, [], ◌∷◌, Option, Some, None, map, refl, sym, ap, ◌∙◌, arith}
-use Rattle.std.proofs.lemmas.Bool.{cases_order, eq-eqb, ne_eqb}
+use Rattle.std.proofs.lemmas.Bool.{cases_order, eq-eqb, ne_eqb, or_parts}
 use Rattle.std.proofs.lemmas.Option.{same_Some, slice_get-map}
 use Rattle.std.specs.List.{list_all, list_any}
 use Rattle.std.specs.Option.{option_map}
@@ -26,10 +26,11 @@ use Rattle.swan_model.specs.TrueFrames.{give_in}
 use Rattle.swan_model.proofs.Elements.{all_each, any_from}
 use Rattle.swan_model.proofs.ScriptSteps.{deed_is}
 use Rattle.queues.proofs.QueuePoints.{at_own, next_is}
-use Rattle.serial_elision.proofs.Held.{IsUsed, same_kind, used-at}
+use Rattle.serial_elision.proofs.Held.{IsUsed, used-at}
 use Rattle.task_frames.specs.Cores.{AreApart}
 use Rattle.task_frames.specs.Giving.{queue_rights, right_of}
 use Rattle.task_frames.proofs.Names.{first-given, name-mode, name-origin, named, origin_in}
+use Rattle.swan_model.proofs.Uses.{same_kind}
 
 module _ (s : Script) (lawful : IsLawful s) (state : QueueState) (follows : QueuesFollow s state) (number : ℕ) (frame : ActiveFrame) (live : active state number ≡ Some frame) where
   abbrev now : ℕ
@@ -116,18 +117,10 @@ gives-differ (give ∷ gives) none zero (suc j) a b less one two =
     let here = (or_parts (list_any (clash give) gives) (is_aliased gives) none).0 in
     by (clash a b) refl (λ yes. any_from (clash give) gives j b two (ap (λ x. clash x b) same ∙ yes)) here
   where
-    or_parts : (p q : Bool) → (p || q) ≡ false → (p ≡ false) × (q ≡ false)
-    or_parts true q is = absurd (cc)
-    or_parts false q is = (refl, is)
-
     by : (answer : Bool) → clash a b ≡ answer → (answer ≡ true → list_any (clash give) gives ≡ true) → list_any (clash give) gives ≡ false → answer ≡ false
     by true is some none = let both : true ≡ false = sym (some refl) ∙ none in absurd (cc)
     by false is some none = refl
-gives-differ (give ∷ gives) none (suc i) (suc j) a b less one two = gives-differ gives (or_rest (list_any (clash give) gives) (is_aliased gives) none) i j a b (omega (arith, less)) one two
-  where
-    or_rest : (p q : Bool) → (p || q) ≡ false → q ≡ false
-    or_rest true q is = absurd (cc)
-    or_rest false q is = is
+gives-differ (give ∷ gives) none (suc i) (suc j) a b less one two = gives-differ gives (or_parts (list_any (clash give) gives) (is_aliased gives) none).1 i j a b (omega (arith, less)) one two
 
 not-in : (mode : Mode) → is_queue_mode mode ≡ true → is_in mode ≡ false
 not-in Push is = refl

@@ -36,7 +36,7 @@ use Rattle.queues.proofs.SerialPoints.{is_read}
 use Rattle.serial_elision.specs.Laws.{AreEachOnce, IsObjectOf}
 use Rattle.serial_elision.specs.TaskSteps.{MayUseAt}
 use Rattle.serial_elision.proofs.FewMade.{few-objects}
-use Rattle.serial_elision.proofs.Held.{same_kind, used-at}
+use Rattle.serial_elision.proofs.Held.{used-at}
 use Rattle.serial_elision.proofs.Room.{room-deeds, room-queues}
 use Rattle.serial_elision.proofs.TaskSteps.{stands-one}
 use Rattle.task_frames.specs.Cores.{AreObjects, AreQueues, HasObjects, IsTold}
@@ -45,6 +45,7 @@ use Rattle.task_frames.specs.Records.{LiveFrame, LiveFrames}
 use Rattle.task_frames.proofs.Names.{held-number, held-origin, origin_in, use-held}
 use Rattle.task_frames.proofs.Queues.{next-does}
 use Rattle.task_frames.proofs.QueueUse.{may-use}
+use Rattle.swan_model.proofs.Uses.{same_kind}
 
 module _ {B L : Type 0} (G : Ghosts B L) (plan : Plan B L) (sound : IsPlan plan) (lawful : IsLawful (script G plan)) (r : Reading) where
   abbrev s : Script

@@ -14,7 +14,7 @@ use Rattle.swan_model.specs.SerialState.{Holding}
 use Rattle.queues.specs.Asks.{LentEnds, with_deeds}
 use Rattle.queues.specs.Reads.{deeds_among}
 use Rattle.serial_elision.proofs.AskSteps.{works}
-use Rattle.serial_elision.proofs.RootLists.{length-root_holdings}
+use Rattle.swan_model.proofs.RootLists.{length-root_holdings}
 use Rattle.serial_elision.proofs.TaskSteps.{root_stands}
 use Rattle.task_frames.specs.declared.stage.Stage.TheVariants.{Ready}
 use Rattle.task_frames.specs.Frames.{AreEndsOf, IsFrame, IsPlan, Task, root_task}

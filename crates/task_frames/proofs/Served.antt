@@ -35,13 +35,14 @@ use Rattle.queues.proofs.ReadingMakes.{deed_time}
 use Rattle.serial_elision.specs.TaskSteps.{GoesOn, IsAsking, MayUseAt}
 use Rattle.serial_elision.proofs.AskSteps.{pops-none, pops-on, pushes-on, use-named}
 use Rattle.serial_elision.proofs.FewMade.{few-deeds}
-use Rattle.serial_elision.proofs.Held.{IsUsed, same_kind, used-at}
+use Rattle.serial_elision.proofs.Held.{IsUsed, used-at}
 use Rattle.serial_elision.proofs.Lawful.{lawful}
 use Rattle.task_frames.specs.declared.stage.Stage.TheVariants.{Asking, Ready}
 use Rattle.queues.specs.Reads.{deeds_among}
 use Rattle.task_frames.specs.Frames.{IsFrame, Task}
 use Rattle.task_frames.specs.Going.{IsAnswerTo, IsNextDeed, deeds_of}
 use Rattle.task_frames.proofs.Amid.{goes-on, is-asking, with-steps, worked}
+use Rattle.swan_model.proofs.Uses.{same_kind}
 
 -- what is said of the value that there is
 pub some-and : {X : Type 0} (o : Option X) (P : X → Type 0) (R : Type 0) → IsSomeAnd o P → ((x : X) → o ≡ Some x → P x → R) → R

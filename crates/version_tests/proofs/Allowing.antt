@@ -4,34 +4,22 @@ use Rattle.std.proofs.lemmas.Option.{none-some}
 use Rattle.std.specs.List.{list_all}
 use Rattle.std.specs.BTreeMap.{is_at}
 use Rattle.std.specs.Map.{lookup}
-use Rattle.std.proofs.lemmas.Bool.{and_parts, false≢true}
+use Rattle.std.proofs.lemmas.Bool.{and_parts, false≢true, eq-eqb, not-true}
 use Rattle.swan_model.specs.declared.rights.Mode.{Mode}
-use Rattle.swan_model.specs.declared.rights.Mode.TheVariants.{In}
 use Rattle.swan_model.specs.declared.value.Value.{Value}
 use Rattle.swan_model.specs.Rights.{allows, is_in, is_queue_mode}
 use Rattle.swan_model.specs.Versions.{VersionState, Version, settled, owed, owing, Placed, Places, place_cmp, placed_at, Holds, IsSettled, MayGet}
-use Rattle.object_versions.proofs.Listing.{equal_to}
 use Rattle.object_versions.proofs.Lookups.{equal_at}
 use Rattle.version_tests.specs.declared.step.Step.TheVariants.{Access, Finish}
 use Rattle.version_tests.specs.Steps.{allows_step, is_settled, may_give, stands_beside}
+use Rattle.swan_model.proofs.Uses.{in_is}
+use Rattle.swan_model.proofs.Elements.{none_is}
 
 -- ---- tests
-
-not_of : (a : Bool) → not a ≡ true → a ≡ false
-not_of true e = absurd (false≢true e)
-not_of false e = refl
 
 or_second : (a b : Bool) → (not a || b) ≡ true → a ≡ true → b ≡ true
 or_second true b e f = e
 or_second false b e f = absurd (false≢true f)
-
-is_in_by_test : (mode : Mode) → is_in mode ≡ true → mode ≡ In
-is_in_by_test In e = refl
-is_in_by_test _ e = absurd (false≢true e)
-
-pub free_by_test : (o : Option Placed) → is_none o ≡ true → o ≡ None
-free_by_test None e = refl
-free_by_test (Some object) e = absurd (false≢true e)
 
 pub placed_by_test : (o : Option Placed) → not (is_none o) ≡ true → (object : Placed) × (o ≡ Some object)
 placed_by_test None e = absurd (false≢true e)
@@ -64,10 +52,10 @@ alone_by_test state child object mode all = record {
   alone = λ place has stands same.
       let passes = found_passes (stands_beside child object mode) state.places (child, place) has all stands in
       let there : ((child == child) && (has.object == object)) ≡ true =
-      ap (λ b. b && (has.object == object)) (equal_to child child refl) ∙ equal_to has.object object same in
+      ap (λ b. b && (has.object == object)) (eq-eqb child child refl) ∙ eq-eqb has.object object same in
       let both = and_parts (is_in has.mode) (is_in mode)
       (or_second ((child == child) && (has.object == object)) (is_in has.mode && is_in mode) passes there) in
-      (is_in_by_test has.mode both.0, is_in_by_test mode both.1);
+      (in_is has.mode both.0, in_is mode both.1);
 }
 
 -- what a parent gives
@@ -101,10 +89,10 @@ access_by_test state parent place child child_place mode e =
     let third = and_parts (not (is_queue_mode mode)) free second.1 in
     let gives = gives_by_test state child mode (placed_at state parent place) second.0 in
     record {
-      differ = λ same. false≢true (sym (ap not (equal_to parent child same)) ∙ first.0);
+      differ = λ same. false≢true (sym (ap not (eq-eqb parent child same)) ∙ first.0);
       held = record { object = gives.object; stands = gives.stands; may = gives.may };
-      of_objects = not_of (is_queue_mode mode) third.0;
-      free = free_by_test (placed_at state child child_place) third.1;
+      of_objects = not-true (is_queue_mode mode) third.0;
+      free = none_is (placed_at state child child_place) third.1;
       alone = λ object stands.
           let same : gives.object ≡ object = cc (gives.stands, stands) in
           subst (λ (o : Placed). MayGet state child o.object mode) same gives.alone;
@@ -114,5 +102,5 @@ pub finish_by_test : (state : VersionState) (frame : ℕ) → allows_step state 
 finish_by_test state frame all = record {
   values = λ place object stands.
       let passes = found_passes (is_settled frame) state.places (frame, place) object all stands in
-      value_by_test object.present (or_second (frame == frame) (is_none (owing object.present)) passes (equal_to frame frame refl));
+      value_by_test object.present (or_second (frame == frame) (is_none (owing object.present)) passes (eq-eqb frame frame refl));
 }

@@ -1,5 +1,5 @@
 -- How a task runs whole, from its first step and the rest; and what a plan leaves whose root runs whole.
-use Rattle.std.proofs.Common.{◌≡◌, ℕ, zero, suc, ◌+◌, List, [], ◌∷◌, ◌++◌, refl, sym, ap, subst, ◌∙◌, length, map, take, append_assoc, add-zero, add-suc}
+use Rattle.std.proofs.Common.{◌≡◌, ℕ, ◌+◌, List, [], ◌∷◌, ◌++◌, refl, sym, ap, subst, ◌∙◌, length, map, take, append_assoc}
 use Rattle.std.proofs.lemmas.List.{append-nil}
 use Rattle.std.proofs.lemmas.Simd.{map-map}
 use Rattle.swan_model.specs.declared.body.Body.{Ghosts}
@@ -16,6 +16,7 @@ use Rattle.whole_runs.specs.Whole.{Contents, Object, contents_of, object_of, ite
 use Rattle.serial_elision.specs.Working.{after_steps}
 use Rattle.serial_elision.proofs.Finals.{final-empty}
 use Rattle.serial_elision.proofs.Runs.{serial-more}
+use Rattle.serial_elision.proofs.Works.{after_steps-more}
 
 -- it goes on as this task, with these contents
 pub record GoesOn {L : Type 0} (to : Activation L) (mid : Contents) (store : Store) (done : Effect L) : Type 0 where
@@ -41,14 +42,10 @@ same_contents objects objects' queues queues' same also =
     ap {B = Contents} (λ o. record { objects = o; queues = queues }) same ∙ ap {B = Contents} (λ q. record { objects = objects'; queues = q }) also
 
 module _ {B L : Type 0} (G : Ghosts B L) where
-  after-more : (body : B) (s : State L) (m n : ℕ) → after_steps G body (after_steps G body s m) n ≡ after_steps G body s (m + n)
-  after-more body s m zero = ap (after_steps G body s) (sym (add-zero m))
-  after-more body s m (suc n) = ap (step G body) (after-more body s m n) ∙ ap (after_steps G body s) (sym (add-suc m n))
-
   -- what comes later comes to this too
   later : (body : B) (s : State L) (m : ℕ) (below : List (Activation L)) (after_it : Contents) (first more : List Fault) → (after_steps G body s m).faults ≡ s.faults ++ first → ComesTo G body (after_steps G body s m) below after_it more → ComesTo G body s below after_it (first ++ more)
   later body s m below after_it first more booked comes =
-      let same = after-more body s m comes.steps in
+      let same = after_steps-more G body s m comes.steps in
       record {
         steps = m + comes.steps;
         stack = ap (λ (t : State L). t.stack) (sym same) ∙ comes.stack;

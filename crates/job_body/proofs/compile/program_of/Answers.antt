@@ -1,10 +1,12 @@
-use Rattle.std.proofs.Common.{◌≡◌, ◌+◌, ◌++◌, ◌∷◌, [], Some, length, drop, get_or, slice_get, arith, rules, subst, sym, ap, ◌∙◌, append_assoc}
+use Rattle.std.proofs.Common.{◌≡◌, ◌+◌, ◌++◌, ◌∷◌, [], Some, length, drop, get_or, slice_get, arith, rules, subst, sym, ap, ◌∙◌, append_assoc, refl}
+use Rattle.std.proofs.lemmas.Option.{slice_get_read}
 use Rattle.job_body.specs.Blocks.{exit_at}
 use Rattle.job_body.specs.Compiled.{KnowsFew, TakeFew, entered, instruction_of, instructions_from, seen_at, tasks_of}
 use Rattle.job_body.proofs.FewNames.{knows_more}
 use Rattle.job_body.proofs.FewTakes.{few_takes}
 use Rattle.job_body.proofs.Known.{seen-next}
-use Rattle.job_body.proofs.Suffixes.{drop_item, exit_is, item_at, length_exits}
+use Rattle.job_body.proofs.Suffixes.{exit_is, length_exits}
+use Rattle.swan_model.proofs.Lists.{drop_next}
 use Rattle.job_body.proofs.compile.program_of.Goals as goal
 
 pub index-exit-requires : goal.index-exit-requires
@@ -13,7 +15,7 @@ index-exit-requires c = omega (arith, c.in_ok-exits.exits.ok.0, ap length c.in_o
 pub loop-index-preserved : goal.loop-index-preserved
 loop-index-preserved c =
     let line : slice_get c.args.lines.now c.loop-index.index ≡ Some c.index-lines-index.result =
-    item_at c.args.lines.now c.loop-index.index c.index-lines-index.result c.loop-index-test.true c.index-lines-index.is in
+    slice_get_read c.args.lines.now (length c.args.lines.now) c.loop-index.index c.index-lines-index.result refl c.loop-index-test.true c.index-lines-index.is in
     let exit : c.index-exit.result.now ≡ exit_at c.args.lines.now c.loop-index.index =
     c.index-exit.ensures
     ∙ ap (λ exits. get_or exits c.loop-index.index c.index-exit.result.now) c.in_ok-exits.ensures
@@ -35,7 +37,7 @@ loop-index-preserved c =
           ap (λ program. program ++ instructions_from c.args.lines.now (c.loop-index.index + 1) (drop (c.loop-index.index + 1) c.args.lines.now)) pushed
           ∙ append_assoc c.loop-index.program (c.in_ok-instruction.instruction ∷ []) (instructions_from c.args.lines.now (c.loop-index.index + 1) (drop (c.loop-index.index + 1) c.args.lines.now))
           ∙ ap (λ instruction. c.loop-index.program ++ instruction ∷ instructions_from c.args.lines.now (c.loop-index.index + 1) (drop (c.loop-index.index + 1) c.args.lines.now)) made
-          ∙ ap (λ rest. c.loop-index.program ++ instructions_from c.args.lines.now c.loop-index.index rest) (sym (drop_item c.args.lines.now c.loop-index.index c.index-lines-index.result line))
+          ∙ ap (λ rest. c.loop-index.program ++ instructions_from c.args.lines.now c.loop-index.index rest) (sym (drop_next c.args.lines.now c.loop-index.index c.index-lines-index.result line))
           ∙ c.loop-index.invariant.made;
     }
 

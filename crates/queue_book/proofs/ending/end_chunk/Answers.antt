@@ -1,8 +1,9 @@
 use Rattle.std.proofs.Common.{◌≡◌, ◌≢◌, true, false, ◌&&◌, not, ◌==◌, None, refl, sym, ap, subst, ◌∙◌}
+use Rattle.std.proofs.lemmas.Bool.{not-true, not-false}
 use Rattle.std.specs.Prelude.{IsSome}
 use Rattle.queues.specs.Chunks.{after_close}
 use Rattle.queue_book.specs.Chains.{in_line, put_at}
-use Rattle.queue_book.proofs.ChainEnds.{chained_closed, chained_over, none_but_own, not_so, still_so}
+use Rattle.queue_book.proofs.ChainEnds.{chained_closed, chained_over, none_but_own}
 use Rattle.queue_book.proofs.ending.end_chunk.Goals as goal
 
 pub close-requires : goal.close-requires
@@ -19,7 +20,7 @@ give_up-requires-clause-unowned c =
       put_at number queue None owned.0,
       in_line queue (after_close number) owned.1,
       c.close.ensures.closed owned.0 owned.1 owned.2 number queue owned.3,
-      none_but_own number queue owned.0 (owned.4 (still_so c.args.place.is_maker c.if-not-place.false) c.if-number-eq0.false),
+      none_but_own number queue owned.0 (owned.4 (not-false c.args.place.is_maker c.if-not-place.false) c.if-number-eq0.false),
     )
 
 pub returns-then-not-place-clause-ended : goal.returns-then-not-place-clause-ended
@@ -27,7 +28,7 @@ returns-then-not-place-clause-ended c at lines is key alone =
     let number = c.args.number in
     let place = c.args.place in
     chained_closed (put_at number c.args.queue None at) c.close.new.self.heads.items c.close.new.self.nodes lines number c.args.queue place
-    (ap (λ b. b && not (number == 0)) (not_so place.is_maker c.if-not-place.true)) (c.close.ensures.closed at lines is number c.args.queue key)
+    (ap (λ b. b && not (number == 0)) (not-true place.is_maker c.if-not-place.true)) (c.close.ensures.closed at lines is number c.args.queue key)
 
 pub returns-then-number-eq0-clause-ended : goal.returns-then-number-eq0-clause-ended
 returns-then-number-eq0-clause-ended c at lines is key alone =
@@ -35,7 +36,7 @@ returns-then-number-eq0-clause-ended c at lines is key alone =
     let place = c.args.place in
     let root : number ≡ 0 = c.if-number-eq0.true in
     let stays : (place.is_maker && not (number == 0)) ≡ false =
-    ap (λ b. b && not (number == 0)) (still_so place.is_maker c.if-not-place.false) ∙ ap (λ k. true && not (k == 0)) root in
+    ap (λ b. b && not (number == 0)) (not-false place.is_maker c.if-not-place.false) ∙ ap (λ k. true && not (k == 0)) root in
     chained_closed (put_at number c.args.queue None at) c.close.new.self.heads.items c.close.new.self.nodes lines number c.args.queue place stays
     (c.close.ensures.closed at lines is number c.args.queue key)
 
@@ -45,6 +46,6 @@ returns-clause-ended c at lines is key alone =
     let queue = c.args.queue in
     let place = c.args.place in
     let other : number ≢ 0 = c.if-number-eq0.false in
-    chained_over (put_at number queue None at) c.give_up.new.self.heads.items c.give_up.new.self.nodes lines number queue place (still_so place.is_maker c.if-not-place.false) other
+    chained_over (put_at number queue None at) c.give_up.new.self.heads.items c.give_up.new.self.nodes lines number queue place (not-false place.is_maker c.if-not-place.false) other
     (c.give_up.ensures.given_up (put_at number queue None at) (in_line queue (after_close number) lines) (c.close.ensures.closed at lines is number queue key)
-    (none_but_own number queue at (alone (still_so place.is_maker c.if-not-place.false) other)))
+    (none_but_own number queue at (alone (not-false place.is_maker c.if-not-place.false) other)))

@@ -1,5 +1,5 @@
 use Rattle.std.proofs.Common.{arith, length, ◌≤◌}
-use Rattle.serial_elision.proofs.RootLists.{le-first_queues}
+use Rattle.swan_model.proofs.RootLists.{le-first_queues}
 use Rattle.serial_elision.proofs.roots.first_queues.Goals as goal
 
 pub overflow_cast-number : goal.overflow_cast-number

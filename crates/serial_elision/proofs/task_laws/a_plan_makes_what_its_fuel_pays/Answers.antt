@@ -1,7 +1,7 @@
 use Rattle.std.proofs.Common.{arith}
 use Rattle.serial_elision.proofs.FewHeld.{few-children, few-places, given-many}
 use Rattle.serial_elision.proofs.FewMade.{few-deeds, few-objects, few-queue_times, few-queues, few-times}
-use Rattle.serial_elision.proofs.RootLists.{length-root_holdings}
+use Rattle.swan_model.proofs.RootLists.{length-root_holdings}
 use Rattle.serial_elision.proofs.task_laws.a_plan_makes_what_its_fuel_pays.Goals as goal
 
 pub returns : goal.returns

@@ -1,8 +1,9 @@
 use Rattle.std.proofs.Common.{◌≡◌, ℕ, true, Some, sym, subst}
+use Rattle.std.proofs.lemmas.Result.{IfOk-weaker, IfErr-weaker}
 use Rattle.swan_model.specs.declared.rights.Mode.TheVariants.{Out}
 use Rattle.swan_model.specs.Rights.{allows}
 use Rattle.swan_model.specs.Versions.{VersionState, Placed, placed_at, settled, owed}
-use Rattle.object_versions.proofs.Awaited.{absent, present_by, map_ok, map_err, present_owes}
+use Rattle.object_versions.proofs.Awaited.{absent, present_by, present_owes}
 use Rattle.object_versions.proofs.CallsFollow.{value_told}
 use Rattle.object_versions.proofs.Referred.{present_there}
 use Rattle.object_versions.proofs.versions.Versions.value.Goals as goal
@@ -13,21 +14,21 @@ unreachable-requires c =
     absent c.self.inside.store.places.entries c.self.inside.store.nodes c.self.inside.made c.args.frame c.args.place c.requires.placed.0 (sym c.in-None.ensures.value) (subst P (sym c.self.view_is) c.requires.placed.1)
 
 pub returns-clause-ok : goal.returns-clause-ok
-returns-clause-ok c = map_ok c.value_at.result _ _ (λ value reads object seen.
+returns-clause-ok c = IfOk-weaker c.value_at.result _ _ (λ value reads object seen.
     let P : VersionState → Type 0 = λ state. placed_at state c.args.frame c.args.place ≡ Some object in
     present_by c.self.inside.store.places.entries c.self.inside.store.nodes c.self.inside.made c.args.frame c.args.place c.in-Some.object.now (settled value.now)
     (sym c.in-Some.ensures.value) reads object (subst P (sym c.self.view_is) seen))
     c.value_at.ensures.ok
 
 pub returns-clause-err : goal.returns-clause-err
-returns-clause-err c = map_err c.value_at.result _ _ (λ owing reads object seen.
+returns-clause-err c = IfErr-weaker c.value_at.result _ _ (λ owing reads object seen.
     let P : VersionState → Type 0 = λ state. placed_at state c.args.frame c.args.place ≡ Some object in
     present_by c.self.inside.store.places.entries c.self.inside.store.nodes c.self.inside.made c.args.frame c.args.place c.in-Some.object.now (owed owing)
     (sym c.in-Some.ensures.value) reads object (subst P (sym c.self.view_is) seen))
     c.value_at.ensures.err
 
 pub returns-clause-owes : goal.returns-clause-owes
-returns-clause-owes c = map_err c.value_at.result _ _ (λ owing all object seen.
+returns-clause-owes c = IfErr-weaker c.value_at.result _ _ (λ owing all object seen.
     let P : VersionState → Type 0 = λ state. placed_at state c.args.frame c.args.place ≡ Some object → (other : ℕ) × (has : Placed) × (placed_at state owing other ≡ Some has)
     × (has.object ≡ object.object) × (allows has.mode Out ≡ true) in
     subst P c.self.view_is

@@ -5,10 +5,10 @@ use Rattle.swan_model.specs.QueueState.{ActiveFrame, QueueState, active, after_b
 use Rattle.queue_book.specs.BookView.{BookView}
 use Rattle.queue_book.specs.Whole.{IsBook}
 use Rattle.queue_book.proofs.BookLent.{book_back, by_none, called, recorded}
-use Rattle.queues.proofs.Frames.{same_frame}
 use Rattle.queues.specs.Asks.{IsRecorded, OnNext}
 use Rattle.queue_book.specs.NoEnds.{no_ends}
 use Rattle.queue_book.specs.Live.{is_lent_with, kept_of}
+use Rattle.swan_model.proofs.Elements.{one_answer}
 use Rattle.queue_book.proofs.book.BookQueuesQueues.back.Goals as goal
 
 pub invariant_of-self : goal.invariant_of-self
@@ -55,7 +55,7 @@ returns-clause-by_ends c =
     let lent : is_lent_with (kept_of frames n) d ≡ true = ap (is_lent_with (kept_of frames n)) (sym c.deeds.ensures) ∙ sym c.is_lent.ensures ∙ c.if-not-is_lent.false in
     let told = recorded state frames is.live n d path lent in
     let P : BookView → Type 0 = λ v. OnNext v.name v.state n (λ s f. IsLawful s → AreByEnds s f.path f.deeds d) in
-    subst P c.self.view_is (λ s named f live lawful. by_none s f.path f.deeds d (ap (λ (g : ActiveFrame). g.deeds) (same_frame (active state n) f told.0.frame live told.0.live) ∙ told.1))
+    subst P c.self.view_is (λ s named f live lawful. by_none s f.path f.deeds d (ap (λ (g : ActiveFrame). g.deeds) (one_answer (active state n) f told.0.frame live told.0.live) ∙ told.1))
 
 pub returns-clause-ok : goal.returns-clause-ok
 returns-clause-ok c =

@@ -1,8 +1,9 @@
 use Rattle.std.proofs.Common.{◌≡◌, ◌≢◌, Some, None, sym, ap, ◌∙◌}
 use Rattle.slab.specs.Slab.{get, with_value}
 use Rattle.queue_book.specs.Chains.{Link}
-use Rattle.queue_book.proofs.ChainKept.{one_link, updates_with}
+use Rattle.queue_book.proofs.ChainKept.{updates_with}
 use Rattle.queue_book.proofs.ChainGrowth.{IsHandedOn, chained_hand_on}
+use Rattle.swan_model.proofs.Elements.{one_answer}
 use Rattle.queue_book.proofs.chains.Chains.hand_on.Goals as goal
 
 pub returns-clause-handed : goal.returns-clause-handed
@@ -19,7 +20,7 @@ returns-clause-handed c at lines is queue mine unplaced =
     let stands : get nodes key ≡ Some link = sym c.in-Some.ensures in
     let apart : key ≢ new = λ same. let never : None ≡ Some link = sym c.in_ok-new.ensures.was_vacant ∙ ap (λ k. get nodes k) (sym same) ∙ stands in cc in
     let here : get inserted key ≡ Some c.in-Some-get_mut.node.now = sym c.in-Some-get_mut.ensures.value in
-    let same : c.in-Some-get_mut.node.now ≡ link = one_link (get inserted key) c.in-Some-get_mut.node.now link here (c.in_ok-new.ensures.updates.others key apart ∙ stands) in
+    let same : c.in-Some-get_mut.node.now ≡ link = one_answer (get inserted key) c.in-Some-get_mut.node.now link here (c.in_ok-new.ensures.updates.others key apart ∙ stands) in
     let is_first : c.hand_on.new.self ≡ record link { owner = Some child; next = Some new } =
     c.hand_on.ensures ∙ ap (λ (l : Link). record l { owner = Some child; next = Some new }) same in
     let updates = updates_with inserted key c.in-Some-get_mut.node.now c.hand_on.new.self here in

@@ -1,7 +1,7 @@
 use Rattle.std.proofs.Common.{◌≡◌, ℕ, Bool, true, false, Some, None, [], drop, refl, sym, ap, subst, ◌∙◌}
+use Rattle.std.proofs.lemmas.Bool.{eqb-true}
 use Rattle.std.proofs.lemmas.Option.{slice_get_read}
 use Rattle.std.specs.Prelude.{slice_get, if◌then◌else◌, ◌==◌}
-use Rattle.pop_order.proofs.Flags.{eq_of}
 use Rattle.slab.specs.Slab.{get, with_value}
 use Rattle.queues.specs.Chunks.{Chunks, without_first}
 use Rattle.queue_book.specs.Chains.{Link, first_item, AreChained, in_line}
@@ -13,7 +13,7 @@ use Rattle.queue_book.proofs.chains.Chains.take_first.Goals as goal
 unchanged_line : (lines : ℕ → Chunks) (queue q : ℕ) → lines queue ≡ [] → in_line queue without_first lines q ≡ lines q
 unchanged_line lines queue q empty = at_line (q == queue) refl where
   at_line : (b : Bool) → (q == queue) ≡ b → (if b then without_first (lines q) else lines q) ≡ lines q
-  at_line true same = let e : lines q ≡ [] = ap lines (eq_of q queue same) ∙ empty in ap without_first e ∙ sym e
+  at_line true same = let e : lines q ≡ [] = ap lines (eqb-true q queue same) ∙ empty in ap without_first e ∙ sym e
   at_line false other = refl
 
 pub returns-in_default-clause-item : goal.returns-in_default-clause-item
