@@ -15,7 +15,8 @@ use Rattle.line_blocks.specs.LineBlocks.{byte_count}
 use Rattle.index_pipeline.specs.Batches.{NUMBER_MOST, cuts, has_room}
 use Rattle.index_pipeline.specs.Words.{word_of}
 use Rattle.index_pipeline.specs.declared.word.TheConstants.{WORD_MOST}
-use Rattle.index_pipeline.proofs.Dropping.{drop_next, drop_past}
+use Rattle.index_pipeline.proofs.Dropping.{drop_past}
+use Rattle.swan_model.proofs.Lists.{drop_next}
 
 -- ---- writing
 

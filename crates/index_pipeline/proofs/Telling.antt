@@ -1,5 +1,5 @@
 -- A pair's text tells the pair.
-use Rattle.std.proofs.Common.{◌≡◌, ℕ, suc, ◌+◌, ◌*◌, ◌%◌, ◌/◌, ◌^◌, ◌<◌, ◌≤◌, not, cond, List, [], ◌∷◌, ◌++◌, length, take, drop, refl, ap, ◌∙◌, arith}
+use Rattle.std.proofs.Common.{◌≡◌, ℕ, suc, ◌+◌, ◌*◌, ◌%◌, ◌/◌, ◌^◌, ◌<◌, ◌≤◌, not, cond, List, [], ◌∷◌, ◌++◌, length, take, drop, refl, ap, ◌∙◌, arith, take_at}
 use Rattle.std.proofs.lemmas.Fmt.{decimal_by_steps}
 use Rattle.std.specs.Fmt.{decimal}
 use Rattle.std.specs.List.{fold}
@@ -33,10 +33,6 @@ word_len-is [] rest none = refl
 word_len-is (byte ∷ word) rest none =
     ap (λ b. cond (not b) (1 + word_len (word ++ 32 ∷ rest)) 0) none.0 ∙ ap (λ n. 1 + n) (word_len-is word rest none.1) ∙ (let e : 1 + length word ≡ suc (length word) = omega arith in e)
 
-take-word : (word rest : List ℕ) → take (length word) (word ++ rest) ≡ word
-take-word [] rest = refl
-take-word (byte ∷ word) rest = ap (λ w. byte ∷ w) (take-word word rest)
-
 drop-word : (word rest : List ℕ) (space : ℕ) → drop (suc (length word)) (word ++ space ∷ rest) ≡ rest
 drop-word [] rest space = refl
 drop-word (byte ∷ word) rest space = drop-word word rest space
@@ -46,7 +42,7 @@ pair_of-text word line none fits =
     let text = word ++ 32 ∷ decimal line in
     let one : length word + 1 ≡ suc (length word) = omega arith in
     ap {B = Pair} (λ n. record { word = take n text; line = number_of (drop (n + 1) text) }) (word_len-is word (decimal line) none)
-    ∙ ap {B = Pair} (λ w. record { word = w; line = number_of (drop (length word + 1) text) }) (take-word word (32 ∷ decimal line))
+    ∙ ap {B = Pair} (λ w. record { word = w; line = number_of (drop (length word + 1) text) }) (take_at word (32 ∷ decimal line) (length word) refl)
     ∙ ap {B = Pair} (λ n. record { word = word; line = number_of (drop n text) }) one
     ∙ ap {B = Pair} (λ ds. record { word = word; line = number_of ds }) (drop-word word (decimal line) 32)
     ∙ ap {B = Pair} (λ n. record { word = word; line = n }) (number_of-decimal line fits)
