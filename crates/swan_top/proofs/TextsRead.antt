@@ -1,6 +1,6 @@
 -- Reading the inputs of a job one after another.
 use Rattle.std.proofs.Common.{◌≡◌, ℕ, ◌<◌, ◌≤◌, List, [], ◌∷◌, ◌++◌, length, get_or, Option, Some, None, refl, sym, ap, subst, arith, ◌∙◌}
-use Rattle.std.proofs.Common.{inl, inr, Result, Ok, Err, IfErr}
+use Rattle.std.proofs.Common.{inl, inr}
 use Rattle.swan_top.specs.declared.verdict.Settled.{Settled}
 use Rattle.swan_outside.specs.Counts.{Rose}
 use Rattle.swan_outside.specs.Reads.{IsTooLong}
@@ -59,8 +59,3 @@ module _ (content mid : List ℕ → Option (List ℕ)) (f0 f1 f2 l0 l1 l2 : ℕ
 
 pub Is-map : (P Q : Verdict → Type 0) → ((verdict : Verdict) → P verdict → Q verdict) → (verdict : Settled) → Is P verdict → Is Q verdict
 Is-map P Q f verdict is = record { fact = f (verdict_of verdict) is.fact; ends = is.ends }
-
--- what holds of an error, said in another way
-pub IfErr-map : {T E : Type 0} (r : Result T E) (P Q : E → Type 0) → ((e : E) → P e → Q e) → IfErr r P → IfErr r Q
-IfErr-map (Ok x) P Q f is = is
-IfErr-map (Err e) P Q f is = f e is

@@ -1,5 +1,5 @@
 use Rattle.std.proofs.Common.{◌≡◌, [], ◌∷◌, IfErr, ap, subst, ◌∙◌}
-use Rattle.std.proofs.lemmas.Result.{err_from_is_err_and, IfOk-weaker}
+use Rattle.std.proofs.lemmas.Result.{err_from_is_err_and, IfOk-weaker, IfErr-weaker}
 use Rattle.std.specs.Prelude.{IfOk}
 use Rattle.job_body.specs.contracts.body.JobBodyBody.TheImpl.{ghosts}
 use Rattle.swan_top.specs.Decision.{ran}
@@ -7,7 +7,7 @@ use Rattle.swan_top.specs.Elisions.{cheapest, end_by}
 use Rattle.swan_top.specs.Settled.{Is, Stops}
 use Rattle.swan_top.specs.declared.way.Way.{Way}
 use Rattle.swan_top.proofs.Generated.{ran_bulk, refused_bulk}
-use Rattle.swan_top.proofs.TextsRead.{Is-map, IfErr-map, Stops-map}
+use Rattle.swan_top.proofs.TextsRead.{Is-map, Stops-map}
 use Rattle.swan_top.proofs.settle.settle_bulk.Goals as goal
 
 pub returns-in_err-job-clause-err : goal.returns-in_err-job-clause-err
@@ -24,5 +24,5 @@ returns-clause-ok g c =
 pub returns-clause-err : goal.returns-clause-err
 returns-clause-err g c =
     let P : Way → Type 0 = λ taken. IfErr c.run_job.result (Stops (λ verdict. verdict ≡ ran (end_by ghosts taken) c.in_ok-job.job c.in_ok-inputs.inputs.items c.bulk_fuel.result)) in
-    IfErr-map c.run_job.result _ _ (Stops-map (Unit {0}) (Unit {0}) _ _ (λ _. tt) (ran_bulk (end_by ghosts (cheapest c.args.workers)) c.args.number c.args.size c.in_ok-bulk_job.field-0.items c.in_ok-bulk_job.ensures c.in_ok-inputs.inputs.items
+    IfErr-weaker c.run_job.result _ _ (Stops-map (Unit {0}) (Unit {0}) _ _ (λ _. tt) (ran_bulk (end_by ghosts (cheapest c.args.workers)) c.args.number c.args.size c.in_ok-bulk_job.field-0.items c.in_ok-bulk_job.ensures c.in_ok-inputs.inputs.items
     (c.in_ok-inputs.ensures.items ∙ ap (λ text. text ∷ []) (c.new.ensures ∙ c.in_ok-bulk_input.ensures)) c.bulk_fuel.result c.bulk_fuel.ensures _ c.in_ok-job.ensures.job)) (subst P c.cheapest.ensures c.run_job.ensures.refused)

@@ -1,6 +1,6 @@
-use Rattle.std.proofs.lemmas.Result.{err_from_is_err_and, IfOk-weaker}
+use Rattle.std.proofs.lemmas.Result.{err_from_is_err_and, IfOk-weaker, IfErr-weaker}
 use Rattle.swan_top.proofs.Leading.{refused_check, accepted_check}
-use Rattle.swan_top.proofs.TextsRead.{Is-map, IfErr-map, Stops-map}
+use Rattle.swan_top.proofs.TextsRead.{Is-map, Stops-map}
 use Rattle.swan_top.proofs.settle.settle_check.Goals as goal
 
 pub returns-in_err-job-clause-err : goal.returns-in_err-job-clause-err
@@ -14,4 +14,4 @@ returns-clause-ok g c =
 
 pub returns-clause-err : goal.returns-clause-err
 returns-clause-err g c =
-    IfErr-map c.settle_checked.result _ _ (Stops-map (Unit {0}) _ _ _ (λ _. (c.in_ok-text.ensures.no_fault, c.in_ok-text.ensures.no_long_read)) (accepted_check _ c.args.job.now c.in_ok-text.text.items c.in_ok-text.ensures.read c.in_ok-text.ensures.no_fault c.in_ok-text.ensures.no_long_read _ c.in_ok-job.ensures.job)) c.settle_checked.ensures.err
+    IfErr-weaker c.settle_checked.result _ _ (Stops-map (Unit {0}) _ _ _ (λ _. (c.in_ok-text.ensures.no_fault, c.in_ok-text.ensures.no_long_read)) (accepted_check _ c.args.job.now c.in_ok-text.text.items c.in_ok-text.ensures.read c.in_ok-text.ensures.no_fault c.in_ok-text.ensures.no_long_read _ c.in_ok-job.ensures.job)) c.settle_checked.ensures.err
