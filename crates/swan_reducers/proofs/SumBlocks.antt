@@ -1,5 +1,6 @@
 -- The fold of a block by the reducer of sums: numbers are added in 128 bits, and made a part once, at the end.
 use Rattle.std.proofs.Common.{◌≡◌, ℕ, zero, suc, ◌+◌, ◌^◌, ◌≤◌, ◌<◌, Bool, true, false, cond, nat_eq, nat_lt, nat_le, ◌&&◌, Option, Some, None, List, [], ◌∷◌, refl, ap, ◌∙◌, arith, rules, tests}
+use Rattle.std.proofs.lemmas.Bool.{leb-true}
 use Rattle.std.proofs.lemmas.Int.{SFits-int_wrap, fits_signed_from_abs, ints}
 use Rattle.std.specs.Prelude.{ℤ, pos, negsuc, neg_ℤ, ◌+ℤ◌, FitsSigned, option_map, unsigned_abs}
 use Rattle.std.specs.Int.{w128, int_wrap}
@@ -11,9 +12,6 @@ use Rattle.swan_reducers.specs.Sums.{added_number, lines_summed, number_part, su
 
 below_of : (n most : ℕ) → nat_lt n most ≡ true → n ≤ most
 below_of n most is = let e : n < most = search (rules, tests) in omega arith
-
-most_of : (n most : ℕ) → nat_le n most ≡ true → n ≤ most
-most_of n most is = search (rules, tests)
 
 abs_neg : (n : ℕ) → unsigned_abs (neg_ℤ (pos n)) ≡ n
 abs_neg zero = refl
@@ -33,7 +31,7 @@ negative_most text z is = by_case (is_natural text) (nat_lt 0 (digits_value 10 t
     by_case : (a b c : Bool) → nat_le (digits_value 10 text) (2 ^ 63) ≡ c → cond (a && b && c) (Some (neg_ℤ (pos (digits_value 10 text)))) None ≡ Some z → unsigned_abs z ≤ 2 ^ 63
     by_case true true true few is =
         let e : neg_ℤ (pos (digits_value 10 text)) ≡ z = cc in
-        omega (arith, ap unsigned_abs e, abs_neg (digits_value 10 text), most_of (digits_value 10 text) (2 ^ 63) few)
+        omega (arith, ap unsigned_abs e, abs_neg (digits_value 10 text), leb-true (digits_value 10 text) (2 ^ 63) few)
     by_case true true false few is = absurd (cc)
     by_case true false c few is = absurd (cc)
     by_case false b c few is = absurd (cc)
