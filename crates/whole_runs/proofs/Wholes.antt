@@ -11,7 +11,7 @@ use Rattle.swan_model.specs.declared.plan.RootQueue.{RootQueue}
 use Rattle.swan_model.specs.declared.value.Value.{Value}
 use Rattle.swan_model.specs.Elision.{start, root, final, outcome, first_queues, first_cells}
 use Rattle.swan_model.specs.SerialState.{Activation, Store, State}
-use Rattle.swan_model.specs.SerialStep.{Effect, goes_on, spawns, ends, faults, after, effect_of, step, step_on}
+use Rattle.swan_model.specs.SerialStep.{Effect, goes_on, spawns, ends, faults, after, effect_of, step_on}
 use Rattle.whole_runs.specs.Whole.{Contents, Object, contents_of, object_of, items_of, new_object, first_contents, value_of, outcome_of, ComesTo, RunsWhole}
 use Rattle.serial_elision.specs.Working.{after_steps}
 use Rattle.serial_elision.proofs.Finals.{final-empty}
