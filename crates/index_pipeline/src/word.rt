@@ -33,7 +33,7 @@ fn run_len(bytes: &[u8]) -> usize
 
 /// Where a run of bytes stands in a line.
 #[derive(Clone, Copy)]
-pub struct Run {
+pub struct Span {
     /// The first byte.
     pub from: usize,
     /// The byte after the last one.
@@ -50,7 +50,7 @@ pub fn after(line: &[u8], from: usize) -> &[u8]
 
 /// Where the first run of a line stands, and None exactly where there is none. `O(to)`.
 #[tactic(auto, using(crate::proofs::Runs::first_run_range, crate::proofs::Runs::no_run_is))]
-pub fn first_run(line: &[u8]) -> Option<Run>
+pub fn first_run(line: &[u8]) -> Option<Span>
     ensures none { IfNone result (runs line.now ≡ []) }
     ensures in_order { IfSome result (λ run. run.from ≤ run.to) }
     ensures within { IfSome result (λ run. run.to ≤ length line.now) }
@@ -61,7 +61,7 @@ pub fn first_run(line: &[u8]) -> Option<Run>
     if len == 0 {
         return None;
     }
-    Some(Run {
+    Some(Span {
         from,
         to: from + len,
     })

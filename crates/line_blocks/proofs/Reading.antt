@@ -1,7 +1,7 @@
 -- Lines that are held after others, as a task reads them in blocks.
 use Rattle.std.proofs.Common.{◌≡◌, ◌+◌, true, false, cond, nat_eq, List, [], ◌∷◌, ◌++◌, length, ap, ◌∙◌, arith, length-append}
 use Rattle.swan_model.specs.declared.value.Value.{Value}
-use Rattle.line_blocks.specs.declared.held_lines.Held.TheVariants as held
+use Rattle.line_blocks.specs.declared.held_lines.AfterLine.TheVariants as held
 use Rattle.line_blocks.specs.declared.line_reader.LineStep.TheVariants.{Tests, Hands}
 use Rattle.line_blocks.specs.declared.queue_reader.QueueReader.TheVariants as reader
 use Rattle.line_blocks.specs.Holding.{held_with}

@@ -1,8 +1,8 @@
 -- Tasks that read lines in blocks: what they do next, by what the loop over the queue does.
 use Rattle.std.specs.Prelude.{ℕ, List, [], ◌∷◌}
 use Rattle.swan_model.specs.declared.value.Value.{Value}
-use Rattle.line_blocks.specs.declared.held_lines.Held.{Held}
-use Rattle.line_blocks.specs.declared.held_lines.Held.TheVariants as held
+use Rattle.line_blocks.specs.declared.held_lines.AfterLine.{AfterLine}
+use Rattle.line_blocks.specs.declared.held_lines.AfterLine.TheVariants as held
 use Rattle.line_blocks.specs.declared.line_reader.LineStep.{LineStep}
 use Rattle.line_blocks.specs.declared.line_reader.LineStep.TheVariants.{Tests, Pops, Hands, HandsLast, Ends}
 use Rattle.line_blocks.specs.declared.queue_reader.QueueReader.TheVariants as reader
@@ -12,7 +12,7 @@ use Rattle.line_blocks.specs.Holding.{held_with}
 use Rattle.line_blocks.specs.LineBlocks.{Lines}
 
 -- a block is handed out
-abbrev pub held_step : Held → LineStep
+abbrev pub held_step : AfterLine → LineStep
 held_step (held.Fewer lines) = Tests (reader.Tested lines)
 held_step (held.Block block lines) = Hands block (reader.Looks lines)
 

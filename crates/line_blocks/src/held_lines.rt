@@ -32,7 +32,7 @@ impl Model for HeldLines {
 
 /// What one more line makes of held lines.
 #[derive(Drop)]
-pub enum Held {
+pub enum AfterLine {
     /// There are fewer than a block has.
     Fewer(HeldLines),
     /// They are a block, and none is held.
@@ -51,7 +51,7 @@ impl HeldLines {
     }
 
     /// Holds one more line, and hands the lines out as a block once there are `BLOCK_LINES`. `O(1)` amortised.
-    pub fn hold(self, alloc: Global, line: Value) -> Result<Held, NoMemory>
+    pub fn hold(self, alloc: Global, line: Value) -> Result<AfterLine, NoMemory>
         ensures { IfOk result (λ held. held ≡ held_with self line) }
     {
         let HeldLines { number, mut lines } = self;
@@ -61,9 +61,9 @@ impl HeldLines {
                 number: number.saturating_add(BLOCK_LINES as u64),
                 lines: VecDeque::new(alloc),
             };
-            return Ok(Held::Block(LineBlock::of(number, lines), next));
+            return Ok(AfterLine::Block(LineBlock::of(number, lines), next));
         }
-        Ok(Held::Fewer(HeldLines { number, lines }))
+        Ok(AfterLine::Fewer(HeldLines { number, lines }))
     }
 
     /// The held lines as a block, which may have none. `O(1)`.

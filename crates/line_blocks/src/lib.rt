@@ -19,7 +19,7 @@ mod queue_reader;
 mod text_roots;
 
 pub use gives::gives_of;
-pub use held_lines::{Held, HeldLines};
+pub use held_lines::{AfterLine, HeldLines};
 pub use limits::limits_of_blocks_and_texts;
 pub use line_block::{BLOCK_LINES, LineBlock, bytes_of};
 pub use line_reader::{LineReader, LineStep, read_lines};

@@ -3,7 +3,7 @@ ghost use Rattle.std.specs.Prelude.{◌≡◌, IfOk};
 ghost use Rattle.line_blocks.specs.LineReading.{held_step, last_step, line_step};
 ghost use Rattle.line_blocks.specs.Readers.{step_of};
 
-use crate::{Held, HeldLines, LineBlock, QueueReader, ReaderStep};
+use crate::{AfterLine, HeldLines, LineBlock, QueueReader, ReaderStep};
 use std::alloc::Global;
 use swan_model::{Answer, NoMemory};
 
@@ -27,12 +27,12 @@ pub enum LineStep {
 }
 
 /// What the task does with held lines: it hands out a block, or reads on.
-fn held_step(held: Held) -> LineStep
+fn held_step(held: AfterLine) -> LineStep
     ensures { result ≡ held_step held }
 {
     match held {
-        Held::Fewer(lines) => LineStep::Tests(QueueReader::Tested(lines)),
-        Held::Block(block, lines) => LineStep::Hands(block, QueueReader::Looks(lines)),
+        AfterLine::Fewer(lines) => LineStep::Tests(QueueReader::Tested(lines)),
+        AfterLine::Block(block, lines) => LineStep::Hands(block, QueueReader::Looks(lines)),
     }
 }
 

@@ -9,7 +9,7 @@ use Rattle.swan_model.specs.Versions.{Version, settled, owed, owing as owing_of,
 use Rattle.object_versions.specs.declared.node.Node.{Node}
 use Rattle.object_versions.specs.declared.placed_object.PlacedObject.{PlacedObject}
 use Rattle.object_versions.specs.Store.{Entries, place_at, version_at, object_at, given_of, placed_of, versions_of, uses}
-use Rattle.object_versions.specs.Whole.{IsWhole, MayGive}
+use Rattle.object_versions.specs.Whole.{IsWhole, MayGetAt}
 use Rattle.object_versions.specs.Waiting.{AwaitsAt}
 use Rattle.object_versions.proofs.Counts.{uses_at, present_used, given_used}
 use Rattle.object_versions.proofs.Seeing.{seen_some, kept_of}
@@ -106,7 +106,7 @@ absent entries nodes made frame place object none seen =
 
 pub may_give : (entries : Entries) (nodes : Slab Node) (made parent pp child : ℕ) (mode : Mode) → (held : Holds (versions_of entries nodes made) parent pp mode)
     → ((object : Placed) → placed_at (versions_of entries nodes made) parent pp ≡ Some object → MayGet (versions_of entries nodes made) child object.object mode)
-    → (object : PlacedObject) × (place_at entries parent pp ≡ Some object) × (allows object.mode mode ≡ true) × MayGive entries child object.object mode
+    → (object : PlacedObject) × (place_at entries parent pp ≡ Some object) × (allows object.mode mode ≡ true) × MayGetAt entries child object.object mode
 may_give entries nodes made parent pp child mode held alone =
     let kept = kept_of entries nodes made parent pp held.object held.stands in (
       kept.has,

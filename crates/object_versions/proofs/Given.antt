@@ -8,7 +8,7 @@ use Rattle.swan_model.specs.Versions.{owed, place_cmp, with_present, with_placed
 use Rattle.object_versions.specs.declared.node.Node.{Node}
 use Rattle.object_versions.specs.declared.placed_object.PlacedObject.{PlacedObject}
 use Rattle.object_versions.specs.Store.{Entries, place_at, told_at, version_at, placed_of, seen, versions_of, one, uses_of, uses, released}
-use Rattle.object_versions.specs.Whole.{IsFit, HasOwing, IsWhole, MayGive}
+use Rattle.object_versions.specs.Whole.{IsFit, HasOwing, IsWhole, MayGetAt}
 use Rattle.object_versions.proofs.Commuting.{insert_set}
 use Rattle.object_versions.proofs.Lookups.{at_inserted, still_inserted}
 use Rattle.object_versions.proofs.Counts.{one_self, one_other}
@@ -29,7 +29,7 @@ module _ (entries with_child later : Entries) (old middle new : Slab Node) (made
     (same : (k : ℕ) → 0 < uses k entries → told_at middle k ≡ told_at old k)
     (told : told_at middle key ≡ (was.object, owed child))
     (stands : place_at entries parent pp ≡ Some was) (free : place_at entries child cp ≡ None)
-    (fit : IsFit middle made child gets) (may : MayGive entries child gets.object gets.mode) (owes : gets.owes ≡ Some key)
+    (fit : IsFit middle made child gets) (may : MayGetAt entries child gets.object gets.mode) (owes : gets.owes ≡ Some key)
     (owing : (k frame : ℕ) → 0 < uses_of k gets → version_at middle k ≡ owed frame → HasOwing entries k frame ⊎ ((frame ≡ child) × (gets.owes ≡ Some k)))
     (put : with_child ≡ insert_entry place_cmp entries (child, cp) gets) (sorted_child : IsStrictlySortedBy place_cmp (keys_of with_child))
     (set : later ≡ set_value (is_at (place_cmp (parent, pp))) with_child (record was { present = key })) (sorted : IsStrictlySortedBy place_cmp (keys_of later))

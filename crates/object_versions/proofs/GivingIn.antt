@@ -12,7 +12,7 @@ use Rattle.swan_model.specs.Versions.{owed, owing, place_cmp, after_access, give
 use Rattle.object_versions.specs.declared.node.Node.{Node}
 use Rattle.object_versions.specs.declared.placed_object.PlacedObject.{PlacedObject}
 use Rattle.object_versions.specs.Store.{Entries, place_at, told_at, version_at, placed_of, seen, versions_of, one, uses_of, uses}
-use Rattle.object_versions.specs.Whole.{IsFit, HasOwing, IsWhole, MayGive}
+use Rattle.object_versions.specs.Whole.{IsFit, HasOwing, IsWhole, MayGetAt}
 use Rattle.object_versions.proofs.Counts.{one_self, one_other, uses_at, present_used}
 use Rattle.object_versions.proofs.Steps.{come_in}
 use Rattle.object_versions.proofs.References.{shared_whole, shared_told}
@@ -20,7 +20,7 @@ use Rattle.object_versions.proofs.Seeing.{seen_same, seen_insert, seen_some}
 
 module _ (entries later : Entries) (old new : Slab Node) (made parent pp child cp : ℕ) (was : PlacedObject)
     (whole : IsWhole entries old made (λ _. 0)) (stands : place_at entries parent pp ≡ Some was) (free : place_at entries child cp ≡ None)
-    (may : MayGive entries child was.object In)
+    (may : MayGetAt entries child was.object In)
     (share : (node : Node) → get old was.present ≡ Some node → Updates old new was.present (Some (record node { uses = node.uses + 2 }))) where
   abbrev gets : PlacedObject
   gets = record { object = was.object; kind = was.kind; mode = In; given = Some was.present; present = was.present; owes = None }

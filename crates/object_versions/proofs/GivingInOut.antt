@@ -9,10 +9,10 @@ use Rattle.slab.specs.Slab.{Slab, get, Updates}
 use Rattle.swan_model.specs.declared.rights.Mode.TheVariants.{InOut}
 use Rattle.swan_model.specs.Versions.{owed, owing, place_cmp, after_access, given_from, with_placed, with_present}
 use Rattle.object_versions.specs.declared.node.Node.{Node}
-use Rattle.object_versions.specs.declared.node.State.TheVariants.{Owed}
+use Rattle.object_versions.specs.declared.node.NodeValue.TheVariants.{Owed}
 use Rattle.object_versions.specs.declared.placed_object.PlacedObject.{PlacedObject}
 use Rattle.object_versions.specs.Store.{Entries, place_at, told_at, version_at, placed_of, versions_of, one, uses_of, uses, released}
-use Rattle.object_versions.specs.Whole.{IsFit, HasOwing, IsWhole, MayGive}
+use Rattle.object_versions.specs.Whole.{IsFit, HasOwing, IsWhole, MayGetAt}
 use Rattle.object_versions.proofs.Counts.{one_self, one_other, told_here, uses_at, present_used, unused}
 use Rattle.object_versions.proofs.References.{shared_whole, shared_told, made_whole, made_told}
 use Rattle.object_versions.proofs.Seeing.{seen_some}
@@ -21,7 +21,7 @@ use Rattle.object_versions.proofs.Differ.{owed_same}
 
 module _ (entries with_child later : Entries) (old shared middle new : Slab Node) (made parent pp child cp key : ℕ) (was : PlacedObject)
     (differ : parent ≢ child) (whole : IsWhole entries old made (λ _. 0)) (stands : place_at entries parent pp ≡ Some was) (free : place_at entries child cp ≡ None)
-    (may : MayGive entries child was.object InOut)
+    (may : MayGetAt entries child was.object InOut)
     (share : (node : Node) → get old was.present ≡ Some node → Updates old shared was.present (Some (record node { uses = node.uses + 2 })))
     (vacant : get shared key ≡ None) (owes : Updates shared middle key (Some (record { object = was.object; state = Owed child; uses = 2 }))) where
   abbrev gets : PlacedObject

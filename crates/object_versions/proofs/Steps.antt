@@ -10,7 +10,7 @@ use Rattle.swan_model.specs.Versions.{Version, owed, place_cmp}
 use Rattle.object_versions.specs.declared.node.Node.{Node}
 use Rattle.object_versions.specs.declared.placed_object.PlacedObject.{PlacedObject}
 use Rattle.object_versions.specs.Store.{Entries, place_at, told_at, version_at, object_at, one, uses_of, uses}
-use Rattle.object_versions.specs.Whole.{IsCounted, IsFit, HasOwing, IsWhole, MayGive}
+use Rattle.object_versions.specs.Whole.{IsCounted, IsFit, HasOwing, IsWhole, MayGetAt}
 use Rattle.object_versions.proofs.Lookups.{here, IsHere, IsThere, after_insert, after_set, after_removal, at_inserted, at_set, still_inserted, still_set, still_without, cases_place}
 use Rattle.object_versions.proofs.Counts.{one_other, same_count, uses_inserted, uses_changed, uses_without, uses_at, present_used, given_used, owes_used}
 
@@ -96,7 +96,7 @@ module _ (entries : Entries) (nodes : Slab Node) (made : ℕ) (held later : ℕ 
         ⊎_elim (owing_still key frame) (λ own. owing_new key frame own.0 own.1) (new key frame (omega arith) is)
     by (suc n) some = owing_still key frame (whole.owing key frame (omega arith) is)
 
-  alone_after : MayGive entries f has.object has.mode → (frame place other : ℕ) (a b : PlacedObject) → place_at after frame place ≡ Some a → place_at after frame other ≡ Some b
+  alone_after : MayGetAt entries f has.object has.mode → (frame place other : ℕ) (a b : PlacedObject) → place_at after frame place ≡ Some a → place_at after frame other ≡ Some b
       → place ≢ other → a.object ≡ b.object → (a.mode ≡ In) × (b.mode ≡ In)
   alone_after may frame place other a b left right apart same =
       ⊎_elim
@@ -114,7 +114,7 @@ module _ (entries : Entries) (nodes : Slab Node) (made : ℕ) (held later : ℕ 
       (after_insert entries (f, p) has (frame, other) b right))
       (after_insert entries (f, p) has (frame, place) a left)
 
-  pub come_in : IsFit nodes made f has → MayGive entries f has.object has.mode
+  pub come_in : IsFit nodes made f has → MayGetAt entries f has.object has.mode
       → ((key frame : ℕ) → 0 < uses_of key has → version_at nodes key ≡ owed frame → HasOwing entries key frame ⊎ ((frame ≡ f) × (has.owes ≡ Some key)))
       → ((k : ℕ) → held k ≡ later k + uses_of k has) → IsStrictlySortedBy place_cmp (keys_of after) → IsWhole after nodes made later
   come_in fit may new counts sorted = record {

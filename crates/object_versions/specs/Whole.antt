@@ -9,7 +9,7 @@ use Rattle.swan_model.specs.Rights.{allows}
 use Rattle.swan_model.specs.Versions.{VersionState, owed, place_cmp}
 use Rattle.object_versions.specs.declared.node.Node.{Node}
 use Rattle.object_versions.specs.declared.placed_object.PlacedObject.{PlacedObject}
-use Rattle.object_versions.specs.declared.store.Store.{Store}
+use Rattle.object_versions.specs.declared.store.VersionStore.{VersionStore}
 use Rattle.object_versions.specs.Store.{Entries, place_at, version_at, object_at, KeepsOwed, uses, uses_in, versions_of}
 
 -- Each version counts exactly those who refer to it, and is there only while someone does.
@@ -53,24 +53,24 @@ pub record IsWhole (entries : Entries) (nodes : Slab Node) (made : ℕ) (held : 
 -- ---- by the store itself, between two calls
 
 -- nobody but places refers to a version
-abbrev pub IsKept : Store → (made : ℕ) → Type 0
-IsKept store made = IsWhole store.places.entries store.nodes made (λ _. 0)
+abbrev pub IsAtRest : VersionStore → (made : ℕ) → Type 0
+IsAtRest store made = IsWhole store.places.entries store.nodes made (λ _. 0)
 
 -- what a frame has at a place
-abbrev pub kept_at : Store → (frame place : ℕ) → Option PlacedObject
+abbrev pub kept_at : VersionStore → (frame place : ℕ) → Option PlacedObject
 kept_at store frame place = place_at store.places.entries frame place
 
 -- what is seen of it
-abbrev pub seen_of : Store → (made : ℕ) → VersionState
+abbrev pub seen_of : VersionStore → (made : ℕ) → VersionState
 seen_of store made = versions_of store.places.entries store.nodes made
 
 -- it is kept so, however many objects were made
-abbrev pub StaysKept : (before after : Store) → Type 0
-StaysKept before after = (made : ℕ) → IsKept before made → IsKept after made
+abbrev pub StaysAtRest : (before after : VersionStore) → Type 0
+StaysAtRest before after = (made : ℕ) → IsAtRest before made → IsAtRest after made
 
 -- and this is seen of it then
-abbrev pub Becomes : (before after : Store) → (VersionState → VersionState) → Type 0
-Becomes before after change = (made : ℕ) → IsKept before made → seen_of after made ≡ change (seen_of before made)
+abbrev pub Becomes : (before after : VersionStore) → (VersionState → VersionState) → Type 0
+Becomes before after change = (made : ℕ) → IsAtRest before made → seen_of after made ≡ change (seen_of before made)
 
 -- ---- what a write and a gift ask
 
@@ -82,5 +82,5 @@ pub record HasOwn (entries : Entries) (nodes : Slab Node) (frame place : ℕ) : 
   pub given : KeepsOwed nodes has.given
 
 -- a frame that has the object already may get it once more only to read, and only where it reads it there too
-pub record MayGive (entries : Entries) (child object : ℕ) (mode : Mode) : Type 0 where
+pub record MayGetAt (entries : Entries) (child object : ℕ) (mode : Mode) : Type 0 where
   pub alone : (place : ℕ) (has : PlacedObject) → place_at entries child place ≡ Some has → has.object ≡ object → (has.mode ≡ In) × (mode ≡ In)

@@ -5,13 +5,13 @@ ghost use Rattle.swan_model.specs.Rights.{allows, is_queue_mode};
 ghost use Rattle.swan_model.specs.declared.rights.Mode.TheVariants.{In, Out, InOut};
 ghost use Rattle.swan_model.specs.Versions.{after_access};
 ghost use Rattle.object_versions.specs.Store.{KeepsOwed};
-ghost use Rattle.object_versions.specs.Whole.{Becomes, IsKept, MayGive, StaysKept, kept_at};
+ghost use Rattle.object_versions.specs.Whole.{Becomes, IsAtRest, MayGetAt, StaysAtRest, kept_at};
 ghost use Rattle.object_versions.specs.declared.placed_object.PlacedObject.{PlacedObject as Held};
 
 use crate::nodes::{make, release, share};
 use crate::places::{put, set_present};
-use crate::store::Store;
-use crate::{PlacedObject, State};
+use crate::store::VersionStore;
+use crate::{NodeValue, PlacedObject};
 use swan_model::{Mode, NoMemory, Value};
 
 /// Where an object is given from, and where to.
@@ -27,23 +27,23 @@ pub struct Gift {
     pub child_place: u32,
 }
 
-impl Store {
+impl VersionStore {
     /// Gives a child the object at a parent's place, by a mode of objects. `O(log n)`, amortised.
     pub fn give(&mut self, gift: Gift, mode: Mode) -> Result<(), NoMemory>
         // what is given, and where it comes to
         requires differ { gift.parent ≢ gift.child }
         requires stands { (object : Held) × (kept_at self.old gift.parent gift.parent_place ≡ Some object)
-            × (allows object.mode mode ≡ true) × MayGive self.old.places.entries gift.child object.object mode }
+            × (allows object.mode mode ≡ true) × MayGetAt self.old.places.entries gift.child object.object mode }
         requires of_objects { is_queue_mode mode ≡ false }
         requires free { kept_at self.old gift.child gift.child_place ≡ None }
 
         // what is kept
-        requires whole { (made : ℕ) × IsKept self.old made }
-        ensures whole { OnOk result (StaysKept self.old self.new) }
+        requires whole { (made : ℕ) × IsAtRest self.old made }
+        ensures whole { OnOk result (StaysAtRest self.old self.new) }
 
         // what is seen of it, and which versions the two have
         ensures given { OnOk result (Becomes self.old self.new (λ state. after_access state gift.parent gift.parent_place gift.child gift.child_place mode)) }
-        ensures given_up { OnOk result ((made : ℕ) → IsKept self.old made
+        ensures given_up { OnOk result ((made : ℕ) → IsAtRest self.old made
             → (has : Held) → kept_at self.new gift.parent gift.parent_place ≡ Some has → KeepsOwed self.new.nodes has.given) }
         ensures shares { OnOk result (allows mode In ≡ true → (object has : Held) → kept_at self.old gift.parent gift.parent_place ≡ Some object
             → kept_at self.new gift.child gift.child_place ≡ Some has → has.present ≡ object.present) }
@@ -68,12 +68,12 @@ impl Store {
         requires stands { kept_at self.old gift.parent gift.parent_place ≡ Some object.now }
         requires may { allows object.now.mode In ≡ true }
         requires free { kept_at self.old gift.child gift.child_place ≡ None }
-        requires alone { MayGive self.old.places.entries gift.child object.now.object In }
+        requires alone { MayGetAt self.old.places.entries gift.child object.now.object In }
 
         // what is kept
-        requires known { (made : ℕ) × IsKept self.old made }
+        requires known { (made : ℕ) × IsAtRest self.old made }
         requires present { IsSome (get self.old.nodes object.now.present) }
-        ensures whole { OnOk result (StaysKept self.old self.new) }
+        ensures whole { OnOk result (StaysAtRest self.old self.new) }
 
         // what is seen of it, and which versions the two have
         ensures given { OnOk result (Becomes self.old self.new (λ state. after_access state gift.parent gift.parent_place gift.child gift.child_place In)) }
@@ -104,19 +104,24 @@ impl Store {
         requires stands { kept_at self.old gift.parent gift.parent_place ≡ Some object.now }
         requires may { allows object.now.mode Out ≡ true }
         requires free { kept_at self.old gift.child gift.child_place ≡ None }
-        requires alone { MayGive self.old.places.entries gift.child object.now.object Out }
+        requires alone { MayGetAt self.old.places.entries gift.child object.now.object Out }
 
         // what is kept
         requires present { IsSome (get self.old.nodes object.now.present) }
-        ensures whole { OnOk result (StaysKept self.old self.new) }
+        ensures whole { OnOk result (StaysAtRest self.old self.new) }
 
         // what is seen of it, and which version the parent was given
         ensures given { OnOk result (Becomes self.old self.new (λ state. after_access state gift.parent gift.parent_place gift.child gift.child_place Out)) }
         ensures keeps { OnOk result ((has : Held) → kept_at self.new gift.parent gift.parent_place ≡ Some has → has.given ≡ object.now.given) }
     {
         let zero = Value::zero(self.alloc, object.kind)?;
-        let owed = make(&mut self.nodes, &object.object, State::Owed(gift.child), 2)?;
-        let own = make(&mut self.nodes, &object.object, State::Settled(zero), 1)?;
+        let owed = make(
+            &mut self.nodes,
+            &object.object,
+            NodeValue::Owed(gift.child),
+            2,
+        )?;
+        let own = make(&mut self.nodes, &object.object, NodeValue::Settled(zero), 1)?;
         let written = PlacedObject {
             object: object.object.again(),
             kind: object.kind,
@@ -139,12 +144,12 @@ impl Store {
         requires stands { kept_at self.old gift.parent gift.parent_place ≡ Some object.now }
         requires may { allows object.now.mode InOut ≡ true }
         requires free { kept_at self.old gift.child gift.child_place ≡ None }
-        requires alone { MayGive self.old.places.entries gift.child object.now.object InOut }
+        requires alone { MayGetAt self.old.places.entries gift.child object.now.object InOut }
 
         // what is kept
-        requires known { (made : ℕ) × IsKept self.old made }
+        requires known { (made : ℕ) × IsAtRest self.old made }
         requires present { IsSome (get self.old.nodes object.now.present) }
-        ensures whole { OnOk result (StaysKept self.old self.new) }
+        ensures whole { OnOk result (StaysAtRest self.old self.new) }
 
         // what is seen of it, and which versions the two have
         ensures given { OnOk result (Becomes self.old self.new (λ state. after_access state gift.parent gift.parent_place gift.child gift.child_place InOut)) }
@@ -154,7 +159,12 @@ impl Store {
         // By the clause of `len` there are fewer than 2 ^ 63 places, so the count has room.
         let _few = self.places.len();
         share(&mut self.nodes, object.present, 2);
-        let next = make(&mut self.nodes, &object.object, State::Owed(gift.child), 2)?;
+        let next = make(
+            &mut self.nodes,
+            &object.object,
+            NodeValue::Owed(gift.child),
+            2,
+        )?;
         let changed = PlacedObject {
             object: object.object.again(),
             kind: object.kind,

@@ -2,11 +2,11 @@
 ghost use Rattle.std.specs.Prelude.{◌≡◌, ◌≢◌, ℕ, ◌+◌, Some, None, Ok, [], OnOk};
 ghost use Rattle.swan_model.specs.Versions.{after_create, after_write};
 ghost use Rattle.object_versions.specs.Store.{given_of, KeepsOwed};
-ghost use Rattle.object_versions.specs.Whole.{Becomes, HasOwn, IsKept, StaysKept, kept_at, seen_of};
+ghost use Rattle.object_versions.specs.Whole.{Becomes, HasOwn, IsAtRest, StaysAtRest, kept_at, seen_of};
 
 use crate::nodes::{is_alone, make, overwrite, release, value_at};
 use crate::places::{forget_given, put, set_present};
-use crate::{Node, ObjectNumber, PlacedObject, State};
+use crate::{Node, NodeValue, ObjectNumber, PlacedObject};
 use slab::Slab;
 use std::alloc::Global;
 use std::collections::BTreeMap;
@@ -16,7 +16,7 @@ use swan_model::{Mode, NoMemory, Value};
 ///
 /// In costs, n counts the places of all frames. After want of memory nothing is said of what is kept.
 #[derive(Drop)]
-pub struct Store {
+pub struct VersionStore {
     /// Where memory comes from.
     pub alloc: Global,
     /// What each frame has at its places, by frame and place.
@@ -25,13 +25,13 @@ pub struct Store {
     pub nodes: Slab<Node>,
 }
 
-impl Store {
+impl VersionStore {
     /// No places. It takes no memory. `O(1)`.
-    pub fn new(alloc: Global) -> Store
+    pub fn new(alloc: Global) -> VersionStore
         ensures none { result.places.entries ≡ [] }
-        ensures whole { (made : ℕ) → IsKept result made }
+        ensures whole { (made : ℕ) → IsAtRest result made }
     {
-        Store {
+        VersionStore {
             alloc,
             places: BTreeMap::new(alloc),
             nodes: Slab::new(alloc),
@@ -42,7 +42,7 @@ impl Store {
     /// not fit together. `O(1)` for each place and version that is given up; it takes no memory.
     pub fn clear(&mut self)
         ensures none { self.new.places.entries ≡ [] }
-        ensures whole { (made : ℕ) → IsKept self.new made }
+        ensures whole { (made : ℕ) → IsAtRest self.new made }
     {
         self.places.clear();
         self.nodes.clear();
@@ -60,12 +60,12 @@ impl Store {
         requires free { kept_at self.old frame place ≡ None }
 
         // what is kept, and what is seen of it
-        requires whole { IsKept self.old made.now }
-        ensures whole { OnOk result (IsKept self.new (made.now + 1)) }
+        requires whole { IsAtRest self.old made.now }
+        ensures whole { OnOk result (IsAtRest self.new (made.now + 1)) }
         ensures created { OnOk result (seen_of self.new (made.now + 1) ≡ after_create (seen_of self.old made.now) frame place first) }
     {
         let kind = first.kind();
-        let present = make(&mut self.nodes, made, State::Settled(first), 1)?;
+        let present = make(&mut self.nodes, made, NodeValue::Settled(first), 1)?;
         let object = PlacedObject {
             object: made.again(),
             kind,
@@ -83,7 +83,7 @@ impl Store {
     pub fn release_given(&mut self, frame: u64, place: u32, object: PlacedObject) -> PlacedObject
         // what the frame has, and what is kept
         requires stands { kept_at self.old frame place ≡ Some object }
-        requires whole { (made : ℕ) × IsKept self.old made }
+        requires whole { (made : ℕ) × IsAtRest self.old made }
 
         // the frame's place, and those of others
         ensures stands { kept_at self.new frame place ≡ Some result }
@@ -91,7 +91,7 @@ impl Store {
         ensures others { (other at : ℕ) → other ≢ frame → kept_at self.new other at ≡ kept_at self.old other at }
 
         // what is kept, and what is seen of it
-        ensures whole { StaysKept self.old self.new }
+        ensures whole { StaysAtRest self.old self.new }
         ensures seen { Becomes self.old self.new (λ state. state) }
 
         // where it is given up, and where not
@@ -128,12 +128,12 @@ impl Store {
         requires stands { kept_at self.old frame place ≡ Some object }
 
         // what is kept, and what is seen of it
-        requires whole { (made : ℕ) × IsKept self.old made }
-        ensures whole { OnOk result (StaysKept self.old self.new) }
+        requires whole { (made : ℕ) × IsAtRest self.old made }
+        ensures whole { OnOk result (StaysAtRest self.old self.new) }
         ensures written { OnOk result (Becomes self.old self.new (λ state. after_write state frame place value)) }
 
         // the frame's own version
-        ensures own { OnOk result ((made : ℕ) → IsKept self.old made → HasOwn self.new.places.entries self.new.nodes frame place) }
+        ensures own { OnOk result ((made : ℕ) → IsAtRest self.old made → HasOwn self.new.places.entries self.new.nodes frame place) }
         ensures in_place { HasOwn self.old.places.entries self.old.nodes frame place → (result ≡ Ok tt) × (self.new.places.entries ≡ self.old.places.entries) }
     {
         let own = self.release_given(frame, place, object);
@@ -141,7 +141,7 @@ impl Store {
             overwrite(&mut self.nodes, own.present, value);
             return Ok(());
         }
-        let next = make(&mut self.nodes, &own.object, State::Settled(value), 1)?;
+        let next = make(&mut self.nodes, &own.object, NodeValue::Settled(value), 1)?;
         set_present(&mut self.places, frame, place, next);
         release(&mut self.nodes, own.present);
         Ok(())

@@ -17,7 +17,7 @@ use crate::ObjectNumber;
 use crate::ending::{forget_all, settle_all};
 use crate::giving::Gift;
 use crate::nodes::value_at;
-use crate::store::Store;
+use crate::store::VersionStore;
 use crate::waiting::first_awaited;
 use std::alloc::Global;
 use std::marker::Model;
@@ -28,7 +28,7 @@ use swan_model::{Mode, NoMemory, Value};
 /// In costs, n counts the places of all frames.
 #[derive(Drop)]
 pub struct Versions {
-    store: Store,
+    store: VersionStore,
     // The number of the object that is made next.
     made: ObjectNumber,
 }
@@ -53,7 +53,7 @@ impl Versions {
         ensures follows { (s : Script) (queues : List Origin) → IsLawful s → ObjectsFollow s (at_start queues []) result }
     {
         Versions {
-            store: Store::new(alloc),
+            store: VersionStore::new(alloc),
             made: ObjectNumber::first(),
         }
     }

@@ -3,14 +3,14 @@ use Rattle.std.proofs.Common.{◌≡◌, ℕ, ◌<◌, true, Some, List, sym, ap
 use Rattle.swan_model.specs.SerialState.{Holding}
 use Rattle.swan_model.specs.declared.rights.Mode.TheVariants.{Pop}
 use Rattle.pop_order.specs.Children.{Entry, has}
-use Rattle.pop_order.specs.Frames.{Frame, Frames, frame_at, holds}
+use Rattle.pop_order.specs.Frames.{TurnFrame, Frames, frame_at, holds}
 use Rattle.pop_order.specs.Turns.{Blocks}
 use Rattle.pop_order.specs.Poppers.{IsAmong}
 use Rattle.pop_order.specs.Kept.{HasHolders}
 use Rattle.swan_model.proofs.Elements.{one_answer}
 
 module _ (frames : Frames) (set : List Entry) (pops : (queue : ℕ) → HasHolders frames Pop queue set)
-    (child : ℕ) (f : Frame) (active : frame_at frames child ≡ Some f)
+    (child : ℕ) (f : TurnFrame) (active : frame_at frames child ≡ Some f)
     (parent : ℕ) (of : f.parent ≡ parent) (holdings : List Holding) (same : f.holdings ≡ holdings) where
   -- an older one that is found blocks the child
   pub blocks_found : (n : ℕ) → n < child → IsAmong set parent holdings n → Blocks frames child n
@@ -33,9 +33,9 @@ module _ (frames : Frames) (set : List Entry) (pops : (queue : ℕ) → HasHolde
       let P : List Holding → Type 0 = λ hs. holds hs b.queue Pop ≡ true in
       let Q : ℕ → Type 0 = λ p. has set p b.queue n ≡ true in
       let one = one_answer (frame_at frames child) b.both.frame f b.both.active active in
-      let parents : b.parent ≡ parent = sym b.younger.of ∙ ap (λ (g : Frame). g.parent) (one_answer (frame_at frames child) b.younger.frame f b.younger.active active) ∙ of in
+      let parents : b.parent ≡ parent = sym b.younger.of ∙ ap (λ (g : TurnFrame). g.parent) (one_answer (frame_at frames child) b.younger.frame f b.younger.active active) ∙ of in
       record {
         queue = b.queue;
-        popped = subst P (ap (λ (g : Frame). g.holdings) one ∙ same) b.both.held;
+        popped = subst P (ap (λ (g : TurnFrame). g.holdings) one ∙ same) b.both.held;
         known = subst Q parents ((pops b.queue).all b.parent n b.older b.pops);
       }

@@ -11,7 +11,7 @@ use Rattle.swan_model.specs.SerialState.{Holding}
 use Rattle.swan_model.specs.declared.rights.Mode.{Mode}
 use Rattle.swan_model.specs.declared.rights.Mode.TheVariants.{Push, Pop}
 use Rattle.pop_order.specs.Children.{Entry}
-use Rattle.pop_order.specs.Frames.{Frame, Frames, frame_at, holds, enlisted, enlisted_at, lent_to, lent_at, without, AreUpTo, HasNoChild, may_get, MayGet}
+use Rattle.pop_order.specs.Frames.{TurnFrame, Frames, frame_at, holds, enlisted, enlisted_at, lent_to, lent_at, without, AreUpTo, HasNoChild, may_get, MayBeEnlisted}
 use Rattle.pop_order.specs.Order.{IsChild}
 use Rattle.pop_order.specs.Turns.{IsHolder}
 use Rattle.pop_order.specs.Kept.{AreBelowParents, HasHolders, IsKeptFor, IsKept}
@@ -58,7 +58,7 @@ childless frames child rising newest n is =
     omega arith
 
 module _ (frames : Frames) (parent child : ℕ) (holding : Holding) (rising : AreBelowParents frames) (newest : AreUpTo frames child) where
-  grown_at : (found : Option Frame) → frame_at frames child ≡ found → may_get found parent holding.number ≡ true
+  grown_at : (found : Option TurnFrame) → frame_at frames child ≡ found → may_get found parent holding.number ≡ true
       → IsGrown frames (enlisted_at frames parent child holding found) parent child holding
   grown_at None e fits = record {
     frame = record { parent = parent; holdings = holding ∷ []; lent = false };
@@ -74,29 +74,29 @@ module _ (frames : Frames) (parent child : ℕ) (holding : Holding) (rising : Ar
     frame = record f { holdings = f.holdings ++ holding ∷ [] };
     one = record { changed = at_set frames child f _ e; others = λ n apart. by_set frames child f _ n e apart };
     of = eqb-true f.parent parent (and_parts _ _ fits).0;
-    was_of = λ other is. sym is.of ∙ ap (λ (g : Frame). g.parent) (one_answer (frame_at frames child) is.frame f is.active e) ∙ eqb-true f.parent parent (and_parts _ _ fits).0;
+    was_of = λ other is. sym is.of ∙ ap (λ (g : TurnFrame). g.parent) (one_answer (frame_at frames child) is.frame f is.active e) ∙ eqb-true f.parent parent (and_parts _ _ fits).0;
     held = λ queue mode held. elim (more_lets f.holdings queue mode holding held) [
       | inl was ↦ inl (record { frame = f; active = e; held = was })
       | inr now ↦ inr (lets_parts queue mode holding now)
     ];
     still = λ queue mode is.
-        let P : Frame → Type 0 = λ g. holds g.holdings queue mode ≡ true in
+        let P : TurnFrame → Type 0 = λ g. holds g.holdings queue mode ≡ true in
         still_lets f.holdings queue mode holding (subst P (one_answer (frame_at frames child) is.frame f is.active e) is.held);
     new = λ mode a. now_lets f.holdings mode holding a;
     childless = childless frames child rising newest;
   }
 
-  pub grown_enlisted : MayGet frames parent child holding.number → IsGrown frames (enlisted frames parent child holding) parent child holding
+  pub grown_enlisted : MayBeEnlisted frames parent child holding.number → IsGrown frames (enlisted frames parent child holding) parent child holding
   grown_enlisted fits = grown_at (frame_at frames child) refl fits
 
-  pub below_enlisted : parent < child → MayGet frames parent child holding.number → AreBelowParents (enlisted frames parent child holding)
+  pub below_enlisted : parent < child → MayBeEnlisted frames parent child holding.number → AreBelowParents (enlisted frames parent child holding)
   below_enlisted under fits p n is =
       let grown = grown_enlisted fits in
       elim (cases_eq n child) [
         | inl same ↦
             let P : ℕ → Type 0 = λ k. IsChild (enlisted frames parent child holding) p k in
             let is_child = subst P same is in
-            let one : p ≡ parent = sym is_child.of ∙ ap (λ (g : Frame). g.parent) (one_answer (frame_at (enlisted frames parent child holding) child) is_child.frame grown.frame is_child.active grown.one.changed) ∙ grown.of in
+            let one : p ≡ parent = sym is_child.of ∙ ap (λ (g : TurnFrame). g.parent) (one_answer (frame_at (enlisted frames parent child holding) child) is_child.frame grown.frame is_child.active grown.one.changed) ∙ grown.of in
             omega arith
         | inr apart ↦ rising p n (record { frame = is.frame; active = sym (grown.one.others n apart) ∙ is.active; of = is.of })
       ]
@@ -123,7 +123,7 @@ below_shrunk before after parent child shrunk rising p n is =
 
 -- frames with the same parents and the same queues
 record IsAlike (before after : Frames) : Type 0 where
-  there : (n : ℕ) (f : Frame) → frame_at before n ≡ Some f → (g : Frame) × (frame_at after n ≡ Some g) × (g.parent ≡ f.parent) × (g.holdings ≡ f.holdings)
+  there : (n : ℕ) (f : TurnFrame) → frame_at before n ≡ Some f → (g : TurnFrame) × (frame_at after n ≡ Some g) × (g.parent ≡ f.parent) × (g.holdings ≡ f.holdings)
 
 module _ (before after : Frames) (alike : IsAlike before after) where
   child_alike : (p n : ℕ) → IsChild before p n → IsChild after p n
@@ -160,30 +160,30 @@ module _ (before after : Frames) (alike : IsAlike before after) (back : IsAlike 
     sets = λ q. kept_for_alike poppers pushers makers q (kept.sets q);
   }
 
-lent_alike : (frames : Frames) (child : ℕ) (found : Option Frame) → frame_at frames child ≡ found → IsAlike frames (lent_at frames child found)
+lent_alike : (frames : Frames) (child : ℕ) (found : Option TurnFrame) → frame_at frames child ≡ found → IsAlike frames (lent_at frames child found)
 lent_alike frames child None e = record { there = λ n f is. (f, is, refl, refl) }
 lent_alike frames child (Some g) e = record {
   there = λ n f is. elim (cases_eq n child) [
     | inl same ↦
         let P : ℕ → Type 0 = λ k. frame_at frames k ≡ Some f in
         let one = one_answer (frame_at frames child) f g (subst P same is) e in
-        let lent : Frame = record g { lent = true } in
+        let lent : TurnFrame = record g { lent = true } in
         let Q : ℕ → Type 0 = λ k. frame_at (lent_at frames child (Some g)) k ≡ Some lent in
-        (lent, subst Q (sym same) (at_set frames child g lent e), ap (λ (h : Frame). h.parent) (sym one), ap (λ (h : Frame). h.holdings) (sym one))
+        (lent, subst Q (sym same) (at_set frames child g lent e), ap (λ (h : TurnFrame). h.parent) (sym one), ap (λ (h : TurnFrame). h.holdings) (sym one))
     | inr apart ↦ (f, by_set frames child g _ n e apart ∙ is, refl, refl)
   ];
 }
 
-lent_back : (frames : Frames) (child : ℕ) (found : Option Frame) → frame_at frames child ≡ found → IsAlike (lent_at frames child found) frames
+lent_back : (frames : Frames) (child : ℕ) (found : Option TurnFrame) → frame_at frames child ≡ found → IsAlike (lent_at frames child found) frames
 lent_back frames child None e = record { there = λ n f is. (f, is, refl, refl) }
 lent_back frames child (Some g) e = record {
   there = λ n f is. elim (cases_eq n child) [
     | inl same ↦
-        let lent : Frame = record g { lent = true } in
+        let lent : TurnFrame = record g { lent = true } in
         let P : ℕ → Type 0 = λ k. frame_at (lent_at frames child (Some g)) k ≡ Some f in
         let one = one_answer (frame_at (lent_at frames child (Some g)) child) f lent (subst P same is) (at_set frames child g lent e) in
         let Q : ℕ → Type 0 = λ k. frame_at frames k ≡ Some g in
-        (g, subst Q (sym same) e, ap (λ (h : Frame). h.parent) (sym one), ap (λ (h : Frame). h.holdings) (sym one))
+        (g, subst Q (sym same) e, ap (λ (h : TurnFrame). h.parent) (sym one), ap (λ (h : TurnFrame). h.holdings) (sym one))
     | inr apart ↦ (f, sym (by_set frames child g _ n e apart) ∙ is, refl, refl)
   ];
 }

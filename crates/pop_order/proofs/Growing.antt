@@ -6,7 +6,7 @@ use Rattle.swan_model.specs.SerialState.{Holding}
 use Rattle.swan_model.specs.declared.rights.Mode.{Mode}
 use Rattle.swan_model.specs.declared.rights.Mode.TheVariants.{Push}
 use Rattle.pop_order.specs.Children.{Entry, has, IsWith, IsSameFor}
-use Rattle.pop_order.specs.Frames.{Frame, Frames, frame_at, holds}
+use Rattle.pop_order.specs.Frames.{TurnFrame, Frames, frame_at, holds}
 use Rattle.pop_order.specs.Order.{IsChild}
 use Rattle.pop_order.specs.Turns.{IsHolder}
 use Rattle.pop_order.specs.Kept.{HasHolders, HasMakers}
@@ -59,12 +59,12 @@ module _ (before after : Frames) (parent child : ℕ) (holding : Holding) (grown
 
   its_parent : (p : ℕ) → IsChild after p child → p ≡ parent
   its_parent p is =
-      sym is.of ∙ ap (λ (f : Frame). f.parent) (one_answer (frame_at after child) is.frame grown.frame is.active grown.one.changed) ∙ grown.of
+      sym is.of ∙ ap (λ (f : TurnFrame). f.parent) (one_answer (frame_at after child) is.frame grown.frame is.active grown.one.changed) ∙ grown.of
 
   -- what the child holds, it held before or was given now
   its_queues : (q : ℕ) (m : Mode) → IsHolder after q m child → IsHolder before q m child ⊎ ((holding.number ≡ q) × (allows holding.mode m ≡ true))
   its_queues q m is =
-      let P : Frame → Type 0 = λ f. holds f.holdings q m ≡ true in
+      let P : TurnFrame → Type 0 = λ f. holds f.holdings q m ≡ true in
       grown.held q m (subst P (one_answer (frame_at after child) is.frame grown.frame is.active grown.one.changed) is.held)
 
   was_child : (q : ℕ) (m : Mode) → IsHolder before q m child → IsChild before parent child

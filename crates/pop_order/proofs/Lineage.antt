@@ -1,7 +1,7 @@
 -- Facts on the order of the frames of a tree.
 use Rattle.std.proofs.Common.{◌≡◌, ◌≢◌, ℕ, ◌<◌, ◌≤◌, Some, refl, sym, ap, subst, ◌∙◌, ◌⊎◌, inl, inr, arith}
 use Rattle.std.proofs.lemmas.Bool.{cases_eq}
-use Rattle.pop_order.specs.Frames.{Frame, Frames}
+use Rattle.pop_order.specs.Frames.{TurnFrame, Frames}
 use Rattle.pop_order.specs.Order.{IsChild, IsAtOrBelow, at, below, ComesBefore, inside, aside}
 use Rattle.pop_order.specs.Kept.{AreBelowParents}
 
@@ -11,7 +11,7 @@ module _ (frames : Frames) where
   same_parent {p} {q} {n} a b =
       let same : Some a.frame ≡ Some b.frame = sym a.active ∙ b.active in
       let frame : a.frame ≡ b.frame = cc in
-      sym a.of ∙ ap (λ (f : Frame). f.parent) frame ∙ b.of
+      sym a.of ∙ ap (λ (f : TurnFrame). f.parent) frame ∙ b.of
 
   pub below_below : (a b c : ℕ) → IsAtOrBelow frames a b → IsAtOrBelow frames b c → IsAtOrBelow frames a c
   below_below a b c p at = p

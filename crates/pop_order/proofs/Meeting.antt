@@ -2,7 +2,7 @@
 use Rattle.std.proofs.Common.{◌≡◌, ◌≢◌, ℕ, ◌<◌, true, false, Option, None, Some, refl, sym, subst, ◌∙◌, inl, inr, arith, nat_lt}
 use Rattle.std.proofs.lemmas.Bool.{cases_eq, false≢true, ltb-true}
 use Rattle.std.proofs.lemmas.Bool.Decides.{nat_tests}
-use Rattle.pop_order.specs.Frames.{Frame, Frames, frame_at}
+use Rattle.pop_order.specs.Frames.{TurnFrame, Frames, frame_at}
 use Rattle.pop_order.specs.Order.{IsChild, IsAtOrBelow, at, below, ComesBefore, inside, aside}
 use Rattle.pop_order.specs.Kept.{AreBelowParents}
 use Rattle.pop_order.specs.Walk.{is_older}
@@ -12,7 +12,7 @@ use Rattle.pop_order.proofs.Lineage.{below_below, parent_below, le_below, not_be
 pub none_or_some : {frames : Frames} {p n : ℕ} → frame_at frames n ≡ None → IsChild frames p n → ⊥
 none_or_some top child = let e : None ≡ Some child.frame = sym top ∙ child.active in cc
 
-pub child_at : {frames : Frames} {n : ℕ} (f : Frame) (p : ℕ) → Some f ≡ frame_at frames n → f.parent ≡ p → IsChild frames p n
+pub child_at : {frames : Frames} {n : ℕ} (f : TurnFrame) (p : ℕ) → Some f ≡ frame_at frames n → f.parent ≡ p → IsChild frames p n
 child_at f p active of = record { frame = f; active = sym active; of = of }
 
 -- a way up from a frame, through a child of the frame that it is at

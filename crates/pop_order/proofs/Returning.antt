@@ -10,7 +10,7 @@ use Rattle.swan_model.specs.SerialState.{Holding}
 use Rattle.swan_model.specs.declared.rights.Mode.{Mode}
 use Rattle.swan_model.specs.declared.rights.Mode.TheVariants.{Push, Pop}
 use Rattle.pop_order.specs.Children.{Entry}
-use Rattle.pop_order.specs.Frames.{Frame, Frames, frame_at, holds, without, HasNoChild}
+use Rattle.pop_order.specs.Frames.{TurnFrame, Frames, frame_at, holds, without, HasNoChild}
 use Rattle.pop_order.specs.Turns.{IsHolder}
 use Rattle.pop_order.specs.Kept.{IsKeptFor}
 use Rattle.pop_order.specs.Makers.{Maker}
@@ -62,7 +62,7 @@ module _ (before after : Frames) (parent child : ℕ) (shrunk : IsShrunk before 
       → IsKeptFor after poppers pushers makers queue
   settled_all poppers pushers makers queue hs = settled_by poppers pushers makers queue hs (is_given hs queue) refl
 
-module _ (frames after : Frames) (child parent : ℕ) (f : Frame) (hs : List Holding) (active : frame_at frames child ≡ Some f) where
+module _ (frames after : Frames) (child parent : ℕ) (f : TurnFrame) (hs : List Holding) (active : frame_at frames child ≡ Some f) where
   pub is_shrunk : IsStrictlySortedBy nat_cmp (keys_of frames) → f.parent ≡ parent → HasNoChild frames child → after ≡ without frames child
       → IsShrunk frames after parent child
   is_shrunk sorted of none e =
@@ -72,5 +72,5 @@ module _ (frames after : Frames) (child parent : ℕ) (f : Frame) (hs : List Hol
   pub holds_no_other : f.holdings ≡ hs → HoldsNoOther frames child hs
   holds_no_other same queue mode holder =
       let P : List Holding → Type 0 = λ k. is_given k queue ≡ true in
-      let Q : Frame → Type 0 = λ g. holds g.holdings queue mode ≡ true in
+      let Q : TurnFrame → Type 0 = λ g. holds g.holdings queue mode ≡ true in
       subst P same (holds_given f.holdings queue mode (subst Q (one_answer (frame_at frames child) holder.frame f holder.active active) holder.held))

@@ -7,7 +7,7 @@ use Rattle.swan_model.specs.Nested.{spawn_time, IsEntryUnder, IsNested}
 use Rattle.swan_model.specs.SerialTime.{Progress, Reading, frame_of, point, is_earlier}
 use Rattle.pop_order.specs.Frames.{Frames}
 use Rattle.pop_order.specs.Order.{IsChild, IsAtOrBelow, at, below, ComesBefore, inside, aside}
-use Rattle.pop_order.specs.Readings.{IsAt, IsRead}
+use Rattle.pop_order.specs.Readings.{IsAt, HasOrderOf}
 use Rattle.pop_order.proofs.Before.{one_is_before}
 use Rattle.pop_order.proofs.Lineage.{through}
 use Rattle.swan_model.proofs.TaskEntries.{point_own, spawn_own}
@@ -17,7 +17,7 @@ module _ (s : Script) (r : Reading) where
   same_progress : (n : ℕ) (a b : IsAt s r n) → a.progress ≡ b.progress
   same_progress n a b = let e : Some a.progress ≡ Some b.progress = sym a.known ∙ b.known in cc
 
-module _ (frames : Frames) (s : Script) (r : Reading) (nested : IsNested s) (read : IsRead frames s r) where
+module _ (frames : Frames) (s : Script) (r : Reading) (nested : IsNested s) (read : HasOrderOf frames s r) where
   is_there : (c n : ℕ) → IsAt s r c → IsAtOrBelow frames c n → IsAt s r n
   is_there c n a at = a
   is_there c n a (below parent _ child q) = (read.spawned parent n child).here
@@ -91,12 +91,12 @@ module _ (frames : Frames) (s : Script) (r : Reading) (nested : IsNested s) (rea
       subst P one (subst Q two (lt-ltb (point s x.progress) (point s y.progress) (points_rise n m x y before)))
 
 -- who comes before another in a tree is earlier in serial time
-pub order_is_serial : (frames : Frames) (s : Script) (r : Reading) → IsNested s → IsRead frames s r → (n m : ℕ) (a b : Progress)
+pub order_is_serial : (frames : Frames) (s : Script) (r : Reading) → IsNested s → HasOrderOf frames s r → (n m : ℕ) (a b : Progress)
     → ComesBefore frames n m → frame_of r n ≡ Some a → frame_of r m ≡ Some b → is_earlier s a b ≡ true
 order_is_serial = earlier_points
 
 -- Of two frames of one tree the one that is earlier in serial time comes before the other.
-pub serial_is_order : (frames : Frames) (s : Script) (r : Reading) → IsNested s → IsRead frames s r → (top n m : ℕ) (a b : Progress)
+pub serial_is_order : (frames : Frames) (s : Script) (r : Reading) → IsNested s → HasOrderOf frames s r → (top n m : ℕ) (a b : Progress)
     → IsAtOrBelow frames top n → IsAtOrBelow frames top m → frame_of r n ≡ Some a → frame_of r m ≡ Some b → is_earlier s a b ≡ true
     → ComesBefore frames n m
 serial_is_order frames s r nested read top n m a b x y h k earlier =

@@ -8,7 +8,7 @@ use Rattle.pop_order.specs.Frames.{Frames}
 use Rattle.pop_order.specs.Order.{IsChild}
 use Rattle.pop_order.specs.Turns.{IsHolder}
 use Rattle.pop_order.specs.Kept.{HasHolders, HasMakers}
-use Rattle.pop_order.specs.Makers.{Maker, makes, IsSettled, stays, goes}
+use Rattle.pop_order.specs.Makers.{Maker, makes, IsMakerSettled, stays, goes}
 use Rattle.pop_order.specs.Steps.{IsShrunk}
 use Rattle.pop_order.proofs.Changes.{IsSame, was_in, is_another, stays_in, maker_was, maker_gone, maker_stays}
 use Rattle.pop_order.proofs.Lineage.{same_parent}
@@ -83,7 +83,7 @@ module _ (before after : Frames) (parent child : ℕ) (shrunk : IsShrunk before 
 
   module _ (q : ℕ) (set fewer : List Entry) (makers now : List Maker) (now_pushes : HasHolders after Push q fewer) where
     -- the makers after the child went out, for what they were before
-    pub makers_without : HasHolders before Push q set → IsSettled fewer parent q makers now → HasMakers before q set makers → HasMakers after q fewer now
+    pub makers_without : HasHolders before Push q set → IsMakerSettled fewer parent q makers now → HasMakers before q set makers → HasMakers after q fewer now
     makers_without pushes settled kept = by settled where
       fewer_was : (n c : ℕ) → has fewer n q c ≡ true → has set n q c ≡ true
       fewer_was n c h = let is = now_pushes.holders n c h in pushes.all n c (child_before n c is.0) (holder_before q Push c is.1)
@@ -99,7 +99,7 @@ module _ (before after : Frames) (parent child : ℕ) (shrunk : IsShrunk before 
       known : (n c : ℕ) → has fewer n q c ≡ true → ¬ IsHolder after q Push n → makes makers q n ≡ true
       known n c h never = kept.all n c (fewer_was n c h) (was_apart q set pushes n c (fewer_was n c h) never)
 
-      by : IsSettled fewer parent q makers now → HasMakers after q fewer now
+      by : IsMakerSettled fewer parent q makers now → HasMakers after q fewer now
       by (stays c h same) =
           let P : List Maker → Type 0 = λ m. HasMakers after q fewer m in
           subst P (sym same) (record {
@@ -119,7 +119,7 @@ module _ (before after : Frames) (parent child : ℕ) (shrunk : IsShrunk before 
       }
 
     -- the same where the child was out already
-    pub makers_again : HasHolders after Push q set → IsSettled fewer parent q makers now → HasMakers after q set makers → HasMakers after q fewer now
+    pub makers_again : HasHolders after Push q set → IsMakerSettled fewer parent q makers now → HasMakers after q set makers → HasMakers after q fewer now
     makers_again pushes settled kept = by settled where
       fewer_is : (n c : ℕ) → has fewer n q c ≡ true → has set n q c ≡ true
       fewer_is n c h = let is = now_pushes.holders n c h in pushes.all n c is.0 is.1
@@ -127,7 +127,7 @@ module _ (before after : Frames) (parent child : ℕ) (shrunk : IsShrunk before 
       left_of : (n : ℕ) → makes makers q n ≡ true → (c : ℕ) × (has fewer n q c ≡ true)
       left_of n k = let c = kept.made n k in let is = pushes.holders n c.0 c.1 in (c.0, now_pushes.all n c.0 is.0 is.1)
 
-      by : IsSettled fewer parent q makers now → HasMakers after q fewer now
+      by : IsMakerSettled fewer parent q makers now → HasMakers after q fewer now
       by (stays c h same) =
           let P : List Maker → Type 0 = λ m. HasMakers after q fewer m in
           subst P (sym same) (record {

@@ -3,7 +3,7 @@ use Rattle.std.proofs.Common.{◌≡◌, ◌≢◌, ℕ, suc, zero, ◌+◌, ◌
 use Rattle.std.proofs.lemmas.Bool.{cases_eq, cases_lt, false≢true}
 use Rattle.swan_model.specs.declared.rights.Mode.TheVariants.{Push}
 use Rattle.pop_order.specs.Children.{Entry, has, IsOldest}
-use Rattle.pop_order.specs.Frames.{Frame, Frames, frame_at, holds}
+use Rattle.pop_order.specs.Frames.{TurnFrame, Frames, frame_at, holds}
 use Rattle.pop_order.specs.Makers.{Maker, makes, IsNext}
 use Rattle.pop_order.specs.Order.{IsChild, IsAtOrBelow, at, below, ComesBefore, inside, aside}
 use Rattle.pop_order.specs.Turns.{IsHolder}
@@ -82,13 +82,13 @@ pub record IsSeen (set : List Entry) (makers : List Maker) (queue from number : 
   pub younger : maker < number
 
 module _ (frames : Frames) (queue : ℕ) where
-  by_held : (n : ℕ) (f : Frame) (b : Bool) → frame_at frames n ≡ Some f → holds f.holdings queue Push ≡ b → IsHolder frames queue Push n ⊎ (IsHolder frames queue Push n → ⊥)
+  by_held : (n : ℕ) (f : TurnFrame) (b : Bool) → frame_at frames n ≡ Some f → holds f.holdings queue Push ≡ b → IsHolder frames queue Push n ⊎ (IsHolder frames queue Push n → ⊥)
   by_held n f true active e = inl (record { frame = f; active = active; held = e })
   by_held n f false active e = inr (λ holder.
-      let P : Frame → Type 0 = λ g. holds g.holdings queue Push ≡ true in
+      let P : TurnFrame → Type 0 = λ g. holds g.holdings queue Push ≡ true in
       false≢true (sym e ∙ subst P (one_answer (frame_at frames n) holder.frame f holder.active active) holder.held))
 
-  by_frame : (n : ℕ) (found : Option Frame) → frame_at frames n ≡ found → IsHolder frames queue Push n ⊎ (IsHolder frames queue Push n → ⊥)
+  by_frame : (n : ℕ) (found : Option TurnFrame) → frame_at frames n ≡ found → IsHolder frames queue Push n ⊎ (IsHolder frames queue Push n → ⊥)
   by_frame n None e = inr (λ holder. let never : None ≡ Some holder.frame = sym e ∙ holder.active in cc)
   by_frame n (Some f) e = by_held n f (holds f.holdings queue Push) e refl
 

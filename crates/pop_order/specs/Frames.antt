@@ -10,7 +10,7 @@ use Rattle.swan_model.specs.SerialState.{Holding}
 use Rattle.swan_model.specs.declared.rights.Mode.{Mode}
 
 -- an active frame that was given queues
-pub record Frame : Type 0 where
+pub record TurnFrame : Type 0 where
   -- the frame that spawned it
   pub parent : ℕ
   -- the queues that it was given, each with how it may use it, in the order of `enlist`
@@ -21,17 +21,17 @@ pub record Frame : Type 0 where
 -- The active frames that were given queues, each behind its number, by rising numbers. The parents make
 -- trees of them. A parent that isn't here itself is the top of its tree.
 abbrev pub Frames : Type 0
-Frames = List (ℕ × Frame)
+Frames = List (ℕ × TurnFrame)
 
 -- the active frame of a number
-abbrev pub frame_at : Frames → ℕ → Option Frame
+abbrev pub frame_at : Frames → ℕ → Option TurnFrame
 frame_at frames number = lookup (is_at (nat_cmp number)) frames
 
 -- whether one of the holdings lets use a queue by a mode
 abbrev pub holds : List Holding → ℕ → Mode → Bool
 holds holdings queue mode = list_any (λ h. (h.number == queue) && allows h.mode mode) holdings
 
-abbrev pub enlisted_at : Frames → ℕ → ℕ → Holding → Option Frame → Frames
+abbrev pub enlisted_at : Frames → ℕ → ℕ → Holding → Option TurnFrame → Frames
 enlisted_at frames parent child holding None =
     insert_entry nat_cmp frames child (record { parent = parent; holdings = holding ∷ []; lent = false })
 enlisted_at frames parent child holding (Some frame) =
@@ -41,7 +41,7 @@ enlisted_at frames parent child holding (Some frame) =
 abbrev pub enlisted : Frames → ℕ → ℕ → Holding → Frames
 enlisted frames parent child holding = enlisted_at frames parent child holding (frame_at frames child)
 
-abbrev pub lent_at : Frames → ℕ → Option Frame → Frames
+abbrev pub lent_at : Frames → ℕ → Option TurnFrame → Frames
 lent_at frames child None = frames
 lent_at frames child (Some frame) = set_value (is_at (nat_cmp child)) frames (record frame { lent = true })
 
@@ -61,11 +61,11 @@ AreUpTo frames number = IsTrue (list_all (λ f. nat_le f.0 number) frames)
 abbrev pub HasNoChild : Frames → ℕ → Type 0
 HasNoChild frames parent = IsTrue (list_all (λ f. not (f.1.parent == parent)) frames)
 
-abbrev pub may_get : Option Frame → ℕ → ℕ → Bool
+abbrev pub may_get : Option TurnFrame → ℕ → ℕ → Bool
 may_get None parent queue = true
 may_get (Some frame) parent queue =
     (frame.parent == parent) && (not frame.lent && not (list_any (λ h. h.number == queue) frame.holdings))
 
 -- a child that is there already has this parent, doesn't have the queue, and wasn't lent to
-abbrev pub MayGet : Frames → ℕ → ℕ → ℕ → Type 0
-MayGet frames parent child queue = IsTrue (may_get (frame_at frames child) parent queue)
+abbrev pub MayBeEnlisted : Frames → ℕ → ℕ → ℕ → Type 0
+MayBeEnlisted frames parent child queue = IsTrue (may_get (frame_at frames child) parent queue)

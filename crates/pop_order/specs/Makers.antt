@@ -42,7 +42,7 @@ IsMakerOut before queue number after = (q n : ℕ) → makes after q n ≡ (not 
 
 -- The set after a child of a frame went out of the pushers of a queue: the frame stays in as long as it has
 -- another one there.
-pub data IsSettled (pushers : List Entry) (parent queue : ℕ) (before after : List Maker) : Type 0 where
-  stays : (child : ℕ) → has pushers parent queue child ≡ true → after ≡ before → IsSettled pushers parent queue before after
+pub data IsMakerSettled (pushers : List Entry) (parent queue : ℕ) (before after : List Maker) : Type 0 where
+  stays : (child : ℕ) → has pushers parent queue child ≡ true → after ≡ before → IsMakerSettled pushers parent queue before after
   goes : ((child : ℕ) → has pushers parent queue child ≡ false) → IsMakerOut before queue parent after
-      → IsSettled pushers parent queue before after
+      → IsMakerSettled pushers parent queue before after

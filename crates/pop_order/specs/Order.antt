@@ -2,11 +2,11 @@
 -- spawned, before its parent goes on. So a frame's next step comes after all that the frames below it have
 -- still to do, and after all of its older siblings and of the frames below those.
 use Rattle.std.specs.Prelude.{◌≡◌, ◌≢◌, ℕ, ◌<◌, Some}
-use Rattle.pop_order.specs.Frames.{Frame, Frames, frame_at}
+use Rattle.pop_order.specs.Frames.{TurnFrame, Frames, frame_at}
 
 -- an active frame with this parent
 pub record IsChild (frames : Frames) (parent number : ℕ) : Type 0 where
-  pub frame : Frame
+  pub frame : TurnFrame
   pub active : frame_at frames number ≡ Some frame
   pub of : frame.parent ≡ parent
 

@@ -13,7 +13,7 @@ pub record IsAt (s : Script) (r : Reading) (number : ℕ) : Type 0 where
   pub left : progress.done < length (times s progress.path)
 
 -- a child is the child of this number of its parent in the reading, and its spawn is done
-pub record IsSpawned (s : Script) (r : Reading) (parent number : ℕ) : Type 0 where
+pub record IsSpawnedChild (s : Script) (r : Reading) (parent number : ℕ) : Type 0 where
   pub above : IsAt s r parent
   pub here : IsAt s r number
   pub index : ℕ
@@ -23,7 +23,7 @@ pub record IsSpawned (s : Script) (r : Reading) (parent number : ℕ) : Type 0 w
   pub done : spawn < point s above.progress
 
 -- The reading has all frames and their parents, and siblings in the order of their spawning.
-pub record IsRead (frames : Frames) (s : Script) (r : Reading) : Type 0 where
-  pub spawned : (parent number : ℕ) → IsChild frames parent number → IsSpawned s r parent number
+pub record HasOrderOf (frames : Frames) (s : Script) (r : Reading) : Type 0 where
+  pub spawned : (parent number : ℕ) → IsChild frames parent number → IsSpawnedChild s r parent number
   pub siblings : (parent older younger : ℕ) (a : IsChild frames parent older) (b : IsChild frames parent younger) → older < younger
       → (spawned parent older a).index < (spawned parent younger b).index

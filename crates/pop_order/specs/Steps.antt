@@ -5,7 +5,7 @@ use Rattle.swan_model.specs.Rights.{allows}
 use Rattle.swan_model.specs.SerialState.{Holding}
 use Rattle.swan_model.specs.declared.rights.Mode.{Mode}
 use Rattle.swan_model.specs.declared.rights.Mode.TheVariants.{Push}
-use Rattle.pop_order.specs.Frames.{Frame, Frames, frame_at, holds}
+use Rattle.pop_order.specs.Frames.{TurnFrame, Frames, frame_at, holds}
 use Rattle.pop_order.specs.OneChange.{IsOnlyChange}
 use Rattle.pop_order.specs.Order.{IsChild}
 use Rattle.pop_order.specs.Turns.{IsHolder}
@@ -13,7 +13,7 @@ use Rattle.pop_order.specs.Makers.{Maker, IsMakerIn}
 
 -- A child without children was given one more queue, and all other frames are as they were.
 pub record IsGrown (before after : Frames) (parent child : ℕ) (holding : Holding) : Type 0 where
-  pub frame : Frame
+  pub frame : TurnFrame
   pub one : IsOnlyChange (frame_at before) (frame_at after) child (Some frame)
   pub of : frame.parent ≡ parent
   pub was_of : (other : ℕ) → IsChild before other child → other ≡ parent

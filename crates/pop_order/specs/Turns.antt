@@ -2,14 +2,14 @@
 use Rattle.std.specs.Prelude.{◌≡◌, ◌≢◌, ℕ, ◌<◌, ◌≤◌, true, Some}
 use Rattle.swan_model.specs.declared.rights.Mode.{Mode}
 use Rattle.swan_model.specs.declared.rights.Mode.TheVariants.{Push, Pop}
-use Rattle.pop_order.specs.Frames.{Frame, Frames, frame_at, holds}
+use Rattle.pop_order.specs.Frames.{TurnFrame, Frames, frame_at, holds}
 use Rattle.pop_order.specs.Order.{IsChild, ComesBefore}
 use Rattle.pop_order.specs.declared.certain.Certain.{Certain}
 use Rattle.pop_order.specs.declared.certain.Certain.TheVariants.{Yes, EarlierPusher, PoppingChild}
 
 -- an active frame that may use a queue by a mode
 pub record IsHolder (frames : Frames) (queue : ℕ) (mode : Mode) (number : ℕ) : Type 0 where
-  pub frame : Frame
+  pub frame : TurnFrame
   pub active : frame_at frames number ≡ Some frame
   pub held : holds frame.holdings queue mode ≡ true
 

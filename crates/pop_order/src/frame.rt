@@ -6,14 +6,14 @@ use swan_model::{Mode, NoMemory};
 
 /// A queue that a frame was given, and how it may use it.
 #[derive(Clone, Copy)]
-pub struct Holding {
+pub struct QueueHolding {
     /// How it may be used.
     pub mode: Mode,
     /// Which queue it is.
     pub queue: u32,
 }
 
-impl Model for Holding {
+impl Model for QueueHolding {
     ghost use Rattle.swan_model.specs.SerialState.{Holding as Held};
 
     ghost Value = { Held };
@@ -25,17 +25,17 @@ impl Model for Holding {
 
 /// An active frame.
 #[derive(Drop)]
-pub struct Frame {
+pub struct TurnFrame {
     /// The frame that spawned it.
     pub parent: u64,
     /// The queues that it was given.
-    pub holdings: Vec<Holding>,
+    pub holdings: Vec<QueueHolding>,
     /// Whether the queue views of its popped queues were moved to it.
     pub lent: bool,
 }
 
-impl Model for Frame {
-    ghost use Rattle.pop_order.specs.Frames.{Frame as Active};
+impl Model for TurnFrame {
+    ghost use Rattle.pop_order.specs.Frames.{TurnFrame as Active};
 
     ghost Value = { Active };
 
@@ -46,9 +46,9 @@ impl Model for Frame {
     } };
 }
 
-impl Frame {
+impl TurnFrame {
     /// Adds a holding. Err is want of memory, and changes nothing. `O(1)` amortised.
-    pub fn hold(&mut self, holding: Holding) -> Result<(), NoMemory>
+    pub fn hold(&mut self, holding: QueueHolding) -> Result<(), NoMemory>
         ensures ok { OnOk result (self.new ≡ record self.old { holdings = self.old.holdings ++ holding ∷ [] }) }
         ensures err { OnErr result (self.new ≡ self.old) }
     {

@@ -3,11 +3,11 @@ ghost use Rattle.std.specs.Prelude.{◌≡◌, ℕ, ◌<◌, OnOk};
 ghost use Rattle.std.specs.Ordering.{nat_cmp};
 ghost use Rattle.std.specs.List.Sorted.{IsStrictlySortedBy};
 ghost use Rattle.std.specs.Map.{keys_of};
-ghost use Rattle.pop_order.specs.Frames.{Frames, enlisted, lent_to, AreUpTo, MayGet};
+ghost use Rattle.pop_order.specs.Frames.{Frames, enlisted, lent_to, AreUpTo, MayBeEnlisted};
 ghost use Rattle.pop_order.specs.Kept.{IsKept, IsKeptFor};
 ghost use Rattle.pop_order.specs.Steps.{IsShrunk, HoldsNoOther};
 
-use crate::{Frame, Holding, Sets};
+use crate::{QueueHolding, Sets, TurnFrame};
 use std::alloc::Global;
 use std::collections::BTreeMap;
 use swan_model::NoMemory;
@@ -15,10 +15,10 @@ use swan_model::NoMemory;
 /// Gives a child one more queue, or puts it in with its first one. `O(log n)`.
 pub fn give(
     alloc: Global,
-    frames: &mut BTreeMap<u64, Frame>,
+    frames: &mut BTreeMap<u64, TurnFrame>,
     parent: u64,
     child: u64,
-    holding: Holding,
+    holding: QueueHolding,
 ) -> Result<(), NoMemory>
     ensures given { OnOk result (frames.new.entries ≡ enlisted frames.old.entries parent child holding) }
     ensures sorted { IsStrictlySortedBy nat_cmp (keys_of frames.new.entries) }
@@ -28,7 +28,7 @@ pub fn give(
     }
     let mut holdings = Vec::new(alloc);
     holdings.push(holding)?;
-    let first = Frame {
+    let first = TurnFrame {
         parent,
         holdings,
         lent: false,
@@ -38,7 +38,7 @@ pub fn give(
 }
 
 /// Notes that the queue views of a child's popped queues were moved to it. `O(log n)`.
-pub fn lend(frames: &mut BTreeMap<u64, Frame>, child: u64)
+pub fn lend(frames: &mut BTreeMap<u64, TurnFrame>, child: u64)
     ensures lent { frames.new.entries ≡ lent_to frames.old.entries child }
     ensures sorted { IsStrictlySortedBy nat_cmp (keys_of frames.new.entries) }
 {
@@ -50,16 +50,16 @@ pub fn lend(frames: &mut BTreeMap<u64, Frame>, child: u64)
 /// Gives a child one more queue, in the frames and in the sets. `O(log n)`.
 pub fn add(
     alloc: Global,
-    frames: &mut BTreeMap<u64, Frame>,
+    frames: &mut BTreeMap<u64, TurnFrame>,
     sets: &mut Sets,
     parent: u64,
     child: u64,
-    holding: Holding,
+    holding: QueueHolding,
 ) -> Result<(), NoMemory>
     requires kept { IsKept frames.old.entries sets.old.poppers sets.old.pushers sets.old.makers }
     requires rising { parent < child }
     requires newest { AreUpTo frames.old.entries child }
-    requires fits { MayGet frames.old.entries parent child holding.number }
+    requires fits { MayBeEnlisted frames.old.entries parent child holding.number }
     ensures given { OnOk result (frames.new.entries ≡ enlisted frames.old.entries parent child holding) }
     ensures kept { OnOk result (IsKept frames.new.entries sets.new.poppers sets.new.pushers sets.new.makers) }
 {
@@ -70,7 +70,7 @@ pub fn add(
 
 /// Takes a child that is gone from the frames out of the sets, for each of its queues. `O(k log n)` for k
 /// holdings.
-pub fn take_out(sets: &mut Sets, parent: u64, child: u64, holdings: &[Holding])
+pub fn take_out(sets: &mut Sets, parent: u64, child: u64, holdings: &[QueueHolding])
     ensures { (before after : Frames) → IsShrunk before after parent child → HoldsNoOther before child holdings.now
         → ((queue : ℕ) → IsKeptFor before sets.old.poppers sets.old.pushers sets.old.makers queue)
         → (queue : ℕ) → IsKeptFor after sets.new.poppers sets.new.pushers sets.new.makers queue }

@@ -39,7 +39,7 @@ mod walk;
 
 pub use certain::Certain;
 use children::Children;
-use frame::{Frame, Holding};
+use frame::{QueueHolding, TurnFrame};
 pub use laws::order_is_serial;
 use makers::Makers;
 use sets::Sets;

@@ -4,13 +4,13 @@ ghost use Rattle.pop_order.specs.Kept.{AreBelowParents};
 ghost use Rattle.pop_order.specs.Order.{ComesBefore};
 ghost use Rattle.pop_order.specs.Walk.{is_older};
 
-use crate::Frame;
+use crate::TurnFrame;
 use std::collections::BTreeMap;
 
 /// Whether a frame comes before another in serial order, as it does where it is below that one, or
 /// their ways up meet at a frame and its own way comes through the older child. Numbers fall on the way
 /// up, so the way whose number is the higher one goes on. `O(d log n)` for a tree of depth d.
-pub fn comes_before(frames: &BTreeMap<u64, Frame>, number: u64, other: u64) -> bool
+pub fn comes_before(frames: &BTreeMap<u64, TurnFrame>, number: u64, other: u64) -> bool
     requires { AreBelowParents frames.now.entries }
     ensures before { result ≡ true → ComesBefore frames.now.entries number other }
     ensures not_before { result ≡ false → ¬ ComesBefore frames.now.entries number other }

@@ -6,12 +6,12 @@ ghost use Rattle.pop_order.specs.Children.{has};
 ghost use Rattle.pop_order.specs.Frames.{holds};
 ghost use Rattle.pop_order.specs.Poppers.{IsAmong};
 
-use crate::{Children, Holding};
+use crate::{Children, QueueHolding};
 use swan_model::Mode;
 
 /// The oldest of a child and of the children of its parent that pop one of its popped queues.
 /// `O(k log n)` for k holdings.
-pub fn oldest_popper(poppers: &Children, parent: u64, holdings: &[Holding], child: u64) -> u64
+pub fn oldest_popper(poppers: &Children, parent: u64, holdings: &[QueueHolding], child: u64) -> u64
     ensures at_most { result ≤ child }
     ensures found { (result ≡ child) ⊎ IsAmong poppers.now parent holdings.now result }
     ensures least { (number : ℕ) → IsAmong poppers.now parent holdings.now number → result ≤ number }
@@ -25,7 +25,7 @@ pub fn oldest_popper(poppers: &Children, parent: u64, holdings: &[Holding], chil
 
 /// The oldest of a frame and of the children of a parent that pop the holding's queue, where it is
 /// popped. `O(log n)`.
-fn older_popper(poppers: &Children, parent: u64, holding: Holding, oldest: u64) -> u64
+fn older_popper(poppers: &Children, parent: u64, holding: QueueHolding, oldest: u64) -> u64
     ensures at_most { result ≤ oldest }
     ensures found { (result ≡ oldest)
         ⊎ ((allows holding.mode Pop ≡ true) × (has poppers.now parent holding.number result ≡ true)) }

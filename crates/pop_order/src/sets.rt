@@ -5,11 +5,11 @@ ghost use Rattle.swan_model.specs.declared.rights.Mode.TheVariants.{Push};
 ghost use Rattle.pop_order.specs.Children.{IsWith};
 ghost use Rattle.pop_order.specs.Frames.{Frames};
 ghost use Rattle.pop_order.specs.Kept.{HasHolders, IsKeptFor};
-ghost use Rattle.pop_order.specs.Makers.{IsSettled};
+ghost use Rattle.pop_order.specs.Makers.{IsMakerSettled};
 ghost use Rattle.pop_order.specs.Steps.{IsGrown, IsShrunk, IsMakerNoted};
 ghost use Rattle.pop_order.specs.Turns.{IsHolder};
 
-use crate::{Children, Frame, Holding, Makers};
+use crate::{Children, Makers, QueueHolding, TurnFrame};
 use std::alloc::Global;
 use std::collections::BTreeMap;
 use swan_model::{Mode, NoMemory};
@@ -54,10 +54,10 @@ impl Sets {
     /// Notes that a child was given a queue, where the frames already say so. `O(log n)`.
     pub fn add(
         &mut self,
-        frames: &BTreeMap<u64, Frame>,
+        frames: &BTreeMap<u64, TurnFrame>,
         parent: u64,
         child: u64,
-        holding: Holding,
+        holding: QueueHolding,
     ) -> Result<(), NoMemory>
         ensures { OnOk result ((before : Frames) → IsGrown before frames.now.entries parent child holding
             → ((queue : ℕ) → IsKeptFor before self.old.poppers self.old.pushers self.old.makers queue)
@@ -92,7 +92,7 @@ fn note(
     mode: Mode,
     parent: u64,
     child: u64,
-    holding: Holding,
+    holding: QueueHolding,
 ) -> Result<(), NoMemory>
     ensures noted { OnOk result (allows holding.mode mode ≡ true → IsWith set.old parent holding.number child set.new) }
     ensures kept { OnOk result (allows holding.mode mode ≡ false → set.new ≡ set.old) }
@@ -107,11 +107,11 @@ fn note(
 /// Notes the parent of a child that may push, where it may not push itself, as it may not where it made
 /// the queue. `O(log n)`.
 fn note_maker(
-    frames: &BTreeMap<u64, Frame>,
+    frames: &BTreeMap<u64, TurnFrame>,
     pushers: &Children,
     makers: &mut Makers,
     parent: u64,
-    holding: Holding,
+    holding: QueueHolding,
 ) -> Result<(), NoMemory>
     ensures { OnOk result (HasHolders frames.now.entries Push holding.number pushers.now
         → IsMakerNoted frames.now.entries parent holding makers.old makers.new) }
@@ -127,7 +127,7 @@ fn note_maker(
 }
 
 /// Whether a frame may push to a queue. `O(log n)`.
-fn pushes(frames: &BTreeMap<u64, Frame>, pushers: &Children, queue: u32, number: u64) -> bool
+fn pushes(frames: &BTreeMap<u64, TurnFrame>, pushers: &Children, queue: u32, number: u64) -> bool
     ensures yes { HasHolders frames.now.entries Push queue pushers.now → result ≡ true
         → IsHolder frames.now.entries queue Push number }
     ensures no { HasHolders frames.now.entries Push queue pushers.now → result ≡ false
@@ -141,7 +141,7 @@ fn pushes(frames: &BTreeMap<u64, Frame>, pushers: &Children, queue: u32, number:
 
 /// Takes a frame out of the makers of a queue where it has no pushing child any more. `O(log n)`.
 fn settle(pushers: &Children, makers: &mut Makers, parent: u64, queue: u32)
-    ensures { IsSettled pushers.now parent queue makers.old makers.new }
+    ensures { IsMakerSettled pushers.now parent queue makers.old makers.new }
 {
     match pushers.oldest(parent, queue) {
         Some(_child) => {}

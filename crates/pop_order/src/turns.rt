@@ -1,13 +1,13 @@
 // The turns of poppers.
 ghost use Rattle.std.specs.Prelude.{◌≡◌, ℕ, ◌<◌, ◌≤◌, [], IfErr, IfSome, IfNone, OnOk, OnErr, IsTrue};
 ghost use Rattle.swan_model.specs.Rights.{is_queue_mode};
-ghost use Rattle.pop_order.specs.Frames.{enlisted, lent_to, without, AreUpTo, HasNoChild, MayGet};
+ghost use Rattle.pop_order.specs.Frames.{enlisted, lent_to, without, AreUpTo, HasNoChild, MayBeEnlisted};
 ghost use Rattle.pop_order.specs.Turns.{Blocks, IsPoppingChild, IsAnswer};
 
 use crate::frames::{add, lend, take_out};
 use crate::poppers::oldest_popper;
 use crate::walk::first_earlier;
-use crate::{Certain, Frame, Holding, Sets};
+use crate::{Certain, QueueHolding, Sets, TurnFrame};
 use std::alloc::Global;
 use std::collections::BTreeMap;
 use std::marker::Model;
@@ -17,7 +17,7 @@ use swan_model::{Mode, NoMemory};
 #[derive(Drop)]
 pub struct PopTurns {
     alloc: Global,
-    frames: BTreeMap<u64, Frame>,
+    frames: BTreeMap<u64, TurnFrame>,
     sets: Sets,
 }
 
@@ -58,11 +58,11 @@ impl PopTurns {
     ) -> Result<(), NoMemory>
         requires rising { parent < child }
         requires newest { AreUpTo self.old child }
-        requires fits { MayGet self.old parent child queue }
+        requires fits { MayBeEnlisted self.old parent child queue }
         requires of_queues { IsTrue (is_queue_mode mode) }
         ensures ok { OnOk result (self.new ≡ enlisted self.old parent child (record { mode = mode; number = queue })) }
     {
-        let holding = Holding { mode, queue };
+        let holding = QueueHolding { mode, queue };
         match add(
             self.alloc,
             &mut self.frames,

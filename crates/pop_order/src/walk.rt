@@ -7,14 +7,14 @@ ghost use Rattle.pop_order.specs.Kept.{AreBelowParents, HasHolders, HasMakers};
 ghost use Rattle.pop_order.specs.Walk.{IsFirstUnder, IsFirstEarlier, IsSooner};
 
 use crate::order::comes_before;
-use crate::{Children, Frame, Makers};
+use crate::{Children, Makers, TurnFrame};
 use std::collections::BTreeMap;
 
 /// The first, in serial order, of the pushers of a queue that come before a frame. Below each maker of
 /// the queue it is looked for by itself. `O(m d log n)` for m makers and a tree of depth d; in a run a
 /// queue has one maker.
 pub fn first_earlier(
-    frames: &BTreeMap<u64, Frame>,
+    frames: &BTreeMap<u64, TurnFrame>,
     pushers: &Children,
     makers: &Makers,
     frame: u64,
@@ -53,7 +53,12 @@ fn first_under(pushers: &Children, maker: u64, queue: u32) -> u64
 
 /// The one that comes first of a frame found before and of a pusher, where the pusher comes before a
 /// frame, and else what was found before. `O(d log n)` for a tree of depth d.
-fn sooner(frames: &BTreeMap<u64, Frame>, found: Option<u64>, pusher: u64, frame: u64) -> Option<u64>
+fn sooner(
+    frames: &BTreeMap<u64, TurnFrame>,
+    found: Option<u64>,
+    pusher: u64,
+    frame: u64,
+) -> Option<u64>
     requires { AreBelowParents frames.now.entries }
     ensures { IsSooner frames.now.entries frame found pusher result }
 {

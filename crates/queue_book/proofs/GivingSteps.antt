@@ -3,7 +3,7 @@ use Rattle.std.proofs.Common.{◌≡◌, ◌≢◌, ℕ, true, false, Option, So
 use Rattle.std.proofs.lemmas.Bool.{cases_eq, false≢true}
 use Rattle.std.specs.Prelude.{slice_get, is_some, IsSome}
 use Rattle.slab.specs.Slab.{ContainsKey, Slab}
-use Rattle.pop_order.specs.Frames.{Frames, enlisted, AreUpTo, MayGet}
+use Rattle.pop_order.specs.Frames.{Frames, enlisted, AreUpTo, MayBeEnlisted}
 use Rattle.swan_model.specs.declared.rights.Mode.TheVariants.{Push}
 use Rattle.swan_model.specs.QueueState.{QueueRight}
 use Rattle.swan_model.specs.Rights.{allows}
@@ -72,7 +72,7 @@ module _ (before now : LiveFrames) (parent child : ℕ) (all : List QueueRight) 
   pub newest_now : AreUpTo now_turns child
   newest_now = turns_newest turns now_turns parent child (take i all) may.newest may.apart is.turned
 
-  pub may_get_now : MayGet now_turns parent child give.queue
+  pub may_get_now : MayBeEnlisted now_turns parent child give.queue
   may_get_now = turns_may_get turns now_turns parent child (take i all) is.turned give.queue fresh
 
   -- one more

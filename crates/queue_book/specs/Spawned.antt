@@ -2,7 +2,7 @@
 use Rattle.std.specs.Prelude.{◌≡◌, ℕ, ◌+◌, ◌<◌, true, false, Option, Some, List, is_some}
 use Rattle.std.specs.Option.{option_map}
 use Rattle.slab.specs.Slab.{Slab}
-use Rattle.pop_order.specs.Frames.{Frame, Frames, frame_at}
+use Rattle.pop_order.specs.Frames.{TurnFrame, Frames, frame_at}
 use Rattle.swan_model.specs.QueueState.{ActiveFrame, QueueRight, MayGive, COUNT_MOST}
 use Rattle.queue_book.specs.Chains.{Link}
 use Rattle.queue_book.specs.Handed.{AreGiven}
@@ -22,7 +22,7 @@ pub record MayHandOn (frames : LiveFrames) (turns : Frames) (parent child : ℕ)
   pub frame : ActiveFrame
   pub lawful : MayGive frame gives
   pub rising : parent < child
-  pub newest : (number : ℕ) (turn : Frame) → frame_at turns number ≡ Some turn → number < child
+  pub newest : (number : ℕ) (turn : TurnFrame) → frame_at turns number ≡ Some turn → number < child
   pub apart : AreApart turns
 
 -- The child was given the queues and is kept with their places, and the parent has done one more deed.

@@ -4,7 +4,7 @@ ghost use Rattle.swan_model.specs.QueueState.{new_state};
 ghost use Rattle.queue_book.specs.Calls.{after_call};
 
 use crate::stated::{After, AfterSpawn, AtStart, Call, PathOf, Stated};
-use crate::store::Store;
+use crate::store::QueueStore;
 use crate::{NoEnds, Popped, QueueGive, Queues, Tested};
 use std::alloc::Global;
 use std::marker::Model;
@@ -18,7 +18,7 @@ use swan_model::{Meaning, NoMemory, RunName, Value, Values};
 pub struct BookQueues {
     name: RunName,
     state: Meaning<Stated>,
-    store: Store,
+    store: QueueStore,
 }
 
 impl Model for BookQueues {
@@ -41,7 +41,7 @@ impl BookQueues {
         BookQueues {
             name,
             state: Meaning::of(&AtStart),
-            store: Store::new(alloc),
+            store: QueueStore::new(alloc),
         }
     }
 }

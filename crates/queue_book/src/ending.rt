@@ -11,10 +11,10 @@ ghost use Rattle.queue_book.specs.declared.live_frame.OwnChunk.{OwnChunk as Held
 
 use crate::OwnChunk;
 use crate::chains::Chains;
-use crate::store::Store;
+use crate::store::QueueStore;
 use std::collections::BTreeMap;
 
-impl Store {
+impl QueueStore {
     /// Takes out a frame that has ended: its chunks are closed, the queues that it made are given up where it
     /// isn't the root, and its turn is over. `O(log n)`, and as much for each of its queues, and `O(1)` for each
     /// chunk and item that is given up. It takes no memory.

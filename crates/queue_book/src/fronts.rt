@@ -8,7 +8,7 @@ ghost use Rattle.queue_book.specs.Live.{is_pusher};
 
 use crate::chains::{Chains, Front};
 use crate::live_frames::LiveFrames;
-use crate::store::Store;
+use crate::store::QueueStore;
 use crate::{Tested, WaitFor};
 
 /// Whom a walk along the chunks of a queue meets at one of them.
@@ -22,7 +22,7 @@ pub enum Met {
     Nobody,
 }
 
-impl Store {
+impl QueueStore {
     /// What stands at the front of a queue for a frame that pops it. `O(log n)` amortised. With the free name also a
     /// walk over the chunks before the frame's own, with a look-up for each that is owned, up to the first frame that
     /// may push. It takes no memory.

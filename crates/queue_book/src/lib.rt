@@ -23,7 +23,7 @@ mod stated;
 mod store;
 
 pub use book::BookQueues;
-use live_frame::{LiveFrame, OwnChunk};
+use live_frame::{OwnChunk, QueueFrame};
 pub use no_ends::NoEnds;
 use node::ChunkNode;
 pub use queues::Queues;

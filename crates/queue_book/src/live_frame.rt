@@ -21,7 +21,7 @@ pub struct OwnChunk {
 
 /// An active frame: how many queue deeds it has done, whether its ends are lent, and its queues.
 #[derive(Drop)]
-pub struct LiveFrame {
+pub struct QueueFrame {
     /// How many queue deeds it has done.
     pub deeds: u64,
     /// Whether its ends are lent.
@@ -30,7 +30,7 @@ pub struct LiveFrame {
     pub places: BTreeMap<u32, OwnChunk>,
 }
 
-impl Model for LiveFrame {
+impl Model for QueueFrame {
     ghost use Rattle.queue_book.specs.KeptFrames.{KeptFrame};
 
     ghost Value = { KeptFrame };
@@ -38,12 +38,12 @@ impl Model for LiveFrame {
     ghost view = { λ frame. record { deeds = frame.deeds; is_lent = frame.is_lent; places = frame.places.entries } };
 }
 
-impl LiveFrame {
+impl QueueFrame {
     /// A frame that has done nothing and has no queue. It takes no memory. `O(1)`.
-    pub fn new(alloc: Global) -> LiveFrame
+    pub fn new(alloc: Global) -> QueueFrame
         ensures { result ≡ record { deeds = 0; is_lent = false; places = [] } }
     {
-        LiveFrame {
+        QueueFrame {
             deeds: 0,
             is_lent: false,
             places: BTreeMap::new(alloc),
@@ -78,7 +78,7 @@ impl LiveFrame {
     pub fn into_places(self) -> BTreeMap<u32, OwnChunk>
         ensures { result.entries ≡ self.places }
     {
-        let LiveFrame {
+        let QueueFrame {
             deeds: _,
             is_lent: _,
             places,

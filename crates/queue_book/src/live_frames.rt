@@ -6,7 +6,7 @@ ghost use Rattle.queue_book.specs.Live.{is_lent_with, kept_of, own_chunk_at, wit
 ghost use Rattle.pop_order.specs.OneChange.{IsOnlyChange};
 ghost use Rattle.queue_book.specs.KeptFrames.{KeptFrame};
 
-use crate::{LiveFrame, OwnChunk};
+use crate::{OwnChunk, QueueFrame};
 use std::alloc::Global;
 use std::collections::BTreeMap;
 use swan_model::NoMemory;
@@ -16,13 +16,13 @@ use swan_model::NoMemory;
 #[derive(Drop)]
 pub struct LiveFrames {
     /// The root, where it is active.
-    pub root: Option<LiveFrame>,
+    pub root: Option<QueueFrame>,
     /// The number of the frame that was added last.
     pub newest_number: u64,
     /// That frame, where it is active.
-    pub newest: Option<LiveFrame>,
+    pub newest: Option<QueueFrame>,
     /// The others.
-    pub others: BTreeMap<u64, LiveFrame>,
+    pub others: BTreeMap<u64, QueueFrame>,
 }
 
 impl LiveFrames {
@@ -32,7 +32,7 @@ impl LiveFrames {
         ensures others { (number : ℕ) → number ≢ 0 → kept_of result number ≡ None }
     {
         LiveFrames {
-            root: Some(LiveFrame::new(alloc)),
+            root: Some(QueueFrame::new(alloc)),
             newest_number: 0,
             newest: None,
             others: BTreeMap::new(alloc),
@@ -40,7 +40,7 @@ impl LiveFrames {
     }
 
     /// The active frame of a number. `O(log n)`.
-    fn get(&self, number: u64) -> Option<&LiveFrame>
+    fn get(&self, number: u64) -> Option<&QueueFrame>
         ensures { option_copied result ≡ kept_of self.now number }
     {
         if number == 0 {
@@ -153,7 +153,7 @@ impl LiveFrames {
     }
 
     /// Adds a frame, which is the newest then. `O(log n)`. Err is want of memory.
-    pub fn add(&mut self, number: u64, frame: LiveFrame) -> Result<(), NoMemory>
+    pub fn add(&mut self, number: u64, frame: QueueFrame) -> Result<(), NoMemory>
         requires other { number ≢ 0 }
         ensures { OnOk result (IsOnlyChange (kept_of self.old) (kept_of self.new) number (Some frame)) }
     {
@@ -172,7 +172,7 @@ impl LiveFrames {
     }
 
     /// Takes a frame out. `O(log n)`; it takes no memory.
-    pub fn remove(&mut self, number: u64) -> Option<LiveFrame>
+    pub fn remove(&mut self, number: u64) -> Option<QueueFrame>
         ensures frame { result ≡ kept_of self.old number }
         ensures gone { IsOnlyChange (kept_of self.old) (kept_of self.new) number None }
     {

@@ -3,7 +3,7 @@ ghost use Rattle.std.specs.Prelude.{◌≡◌, ℕ, ◌<◌, Some, None, OnOk, I
 ghost use Rattle.slab.specs.Slab.{ContainsKey};
 ghost use Rattle.swan_model.specs.declared.rights.Mode.TheVariants.{Push};
 ghost use Rattle.swan_model.specs.Rights.{allows, is_queue_mode};
-ghost use Rattle.pop_order.specs.Frames.{enlisted, AreUpTo, MayGet};
+ghost use Rattle.pop_order.specs.Frames.{enlisted, AreUpTo, MayBeEnlisted};
 ghost use Rattle.queues.specs.Chunks.{Chunks};
 ghost use Rattle.queues.specs.Turned.{holding_of};
 ghost use Rattle.queue_book.specs.Chains.{AreChained};
@@ -12,12 +12,12 @@ ghost use Rattle.queue_book.specs.Live.{key_at, own_chunk_at};
 ghost use Rattle.queue_book.specs.Spawned.{MayHandOn, IsSpawnedIn};
 ghost use Rattle.queue_book.specs.declared.live_frame.OwnChunk.{OwnChunk as Held};
 
-use crate::store::Store;
-use crate::{LiveFrame, OwnChunk, QueueGive};
+use crate::store::QueueStore;
+use crate::{OwnChunk, QueueFrame, QueueGive};
 use std::collections::BTreeMap;
 use swan_model::{Mode, NoMemory};
 
-impl Store {
+impl QueueStore {
     /// Makes a child, which is given queues. `O(log n)`, and as much amortised for each give. Err is want of memory.
     pub fn spawn(&mut self, parent: u64, child: u64, gives: &[QueueGive]) -> Result<(), NoMemory>
         // what is given, and by whom
@@ -31,7 +31,7 @@ impl Store {
         ensures heads { OnOk result (self.new.chains.heads.items ≡ self.old.chains.heads.items) }
         ensures spawned { OnOk result (IsSpawnedIn self.old.frames self.new.frames parent child gives.now self.old.chains.heads.items self.old.chains.nodes self.new.chains.nodes self.old.turns self.new.turns) }
     {
-        let mut frame = LiveFrame::new(self.alloc);
+        let mut frame = QueueFrame::new(self.alloc);
         for one in gives {
             self.give(parent, child, *one, &mut frame.places)?;
         }
@@ -56,7 +56,7 @@ impl Store {
         // who gets it
         requires rising { parent < child }
         requires newest { AreUpTo self.old.turns child }
-        requires fits { MayGet self.old.turns parent child one.queue }
+        requires fits { MayBeEnlisted self.old.turns parent child one.queue }
 
         // what it leaves
         ensures heads { OnOk result (self.new.chains.heads.items ≡ self.old.chains.heads.items) }

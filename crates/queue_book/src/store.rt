@@ -18,7 +18,7 @@ use swan_model::{Meaning, NoMemory, Values};
 ///
 /// In costs, n counts the active frames and the queues that each of them has.
 #[derive(Drop)]
-pub struct Store {
+pub struct QueueStore {
     /// Where memory comes from.
     pub alloc: Global,
     /// The active frames.
@@ -29,12 +29,12 @@ pub struct Store {
     pub turns: PopTurns,
 }
 
-impl Store {
+impl QueueStore {
     /// The root alone, and no queues. It takes no memory. `O(1)`.
-    pub fn new(alloc: Global) -> Store
+    pub fn new(alloc: Global) -> QueueStore
         ensures { (name : Option Script) → IsBook name new_state result.frames result.chains.heads.items result.chains.nodes result.turns }
     {
-        Store {
+        QueueStore {
             alloc,
             frames: LiveFrames::new(alloc),
             chains: Chains::new(alloc),

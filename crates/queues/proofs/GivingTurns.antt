@@ -6,7 +6,7 @@ use Rattle.std.proofs.Common.{Option, ◌≡◌, ◌≢◌, ℕ, true, false, �
 use Rattle.std.specs.List.{list_any}
 use Rattle.std.specs.Prelude.{◌&&◌, slice_get}
 use Rattle.swan_model.proofs.Lookups.{at_inserted, at_set, by_inserted, by_set}
-use Rattle.pop_order.specs.Frames.{Frame, Frames, enlisted, enlisted_at, frame_at, may_get, AreUpTo, MayGet}
+use Rattle.pop_order.specs.Frames.{TurnFrame, Frames, enlisted, enlisted_at, frame_at, may_get, AreUpTo, MayBeEnlisted}
 use Rattle.swan_model.specs.QueueState.{QueueRight, ActiveFrame, MayGive}
 use Rattle.queues.specs.Turned.{holding_of, gives_queue, turn_of, AreApart, AreGivenTurns}
 
@@ -16,7 +16,7 @@ turn_now : (turns : Frames) (parent child : ℕ) (gives : List QueueRight) (give
 turn_now turns parent child [] give is =
     ap (λ o. frame_at (enlisted_at turns parent child (holding_of give) o) child) is ∙ at_inserted turns child (record { parent = parent; holdings = holding_of give ∷ []; lent = false })
 turn_now turns parent child (first ∷ gives) give is =
-    let frame : Frame = record { parent = parent; holdings = map holding_of (first ∷ gives); lent = false } in
+    let frame : TurnFrame = record { parent = parent; holdings = map holding_of (first ∷ gives); lent = false } in
     ap (λ o. frame_at (enlisted_at turns parent child (holding_of give) o) child) is
     ∙ at_set turns child frame (record frame { holdings = frame.holdings ++ holding_of give ∷ [] }) is
     ∙ ap (λ hs. Some (record frame { holdings = hs })) (sym (mapped (first ∷ gives))) where
@@ -29,7 +29,7 @@ turn_others : (turns : Frames) (parent child : ℕ) (gives : List QueueRight) (g
 turn_others turns parent child [] give is other apart =
     ap (λ o. frame_at (enlisted_at turns parent child (holding_of give) o) other) is ∙ by_inserted turns child (record { parent = parent; holdings = holding_of give ∷ []; lent = false }) other apart
 turn_others turns parent child (first ∷ gives) give is other apart =
-    let frame : Frame = record { parent = parent; holdings = map holding_of (first ∷ gives); lent = false } in
+    let frame : TurnFrame = record { parent = parent; holdings = map holding_of (first ∷ gives); lent = false } in
     ap (λ o. frame_at (enlisted_at turns parent child (holding_of give) o) other) is
     ∙ by_set turns child frame (record frame { holdings = frame.holdings ++ holding_of give ∷ [] }) other is apart
 
@@ -67,19 +67,19 @@ fresh_at frame (first ∷ gives) may (suc i) give at =
     let test : (first.queue == give.queue) ≡ false = search rules in
     ap (λ b. b || gives_queue (take i gives) give.queue) test ∙ fresh_at frame gives may.3 i give at
 
-no_turn : (turns : Frames) (child : ℕ) → ((number : ℕ) (turn : Frame) → frame_at turns number ≡ Some turn → number < child) → frame_at turns child ≡ None
+no_turn : (turns : Frames) (child : ℕ) → ((number : ℕ) (turn : TurnFrame) → frame_at turns number ≡ Some turn → number < child) → frame_at turns child ≡ None
 no_turn turns child newest = by (frame_at turns child) refl where
-  by : (o : Option Frame) → frame_at turns child ≡ o → o ≡ None
+  by : (o : Option TurnFrame) → frame_at turns child ≡ o → o ≡ None
   by None e = refl
   by (Some turn) e = let less = newest child turn e in absurd (omega arith)
 
 -- before the first give
-pub turns_given_none : (turns : Frames) (parent child : ℕ) → ((number : ℕ) (turn : Frame) → frame_at turns number ≡ Some turn → number < child) → AreGivenTurns turns turns parent child []
+pub turns_given_none : (turns : Frames) (parent child : ℕ) → ((number : ℕ) (turn : TurnFrame) → frame_at turns number ≡ Some turn → number < child) → AreGivenTurns turns turns parent child []
 turns_given_none turns parent child newest = record { one = record { changed = no_turn turns child newest; others = λ other apart. refl }; apart = λ apart. apart }
 
 module _ (before now : Frames) (parent child : ℕ) (gives : List QueueRight) where
   -- the child is still the newest
-  pub turns_newest : ((number : ℕ) (turn : Frame) → frame_at before number ≡ Some turn → number < child) → AreApart before → AreGivenTurns before now parent child gives → AreUpTo now child
+  pub turns_newest : ((number : ℕ) (turn : TurnFrame) → frame_at before number ≡ Some turn → number < child) → AreApart before → AreGivenTurns before now parent child gives → AreUpTo now child
   turns_newest newest apart is = up_to now child (is.apart apart) (λ m turn found. elim (cases_eq m child) [
     | inl same ↦ omega arith
     | inr other ↦ let less = newest m turn (sym (is.one.others m other) ∙ found) in omega arith
@@ -87,7 +87,7 @@ module _ (before now : Frames) (parent child : ℕ) (gives : List QueueRight) wh
 
   module _ (is : AreGivenTurns before now parent child gives) where
     -- it may get a queue that it wasn't given yet
-    pub turns_may_get : (queue : ℕ) → gives_queue gives queue ≡ false → MayGet now parent child queue
+    pub turns_may_get : (queue : ℕ) → gives_queue gives queue ≡ false → MayBeEnlisted now parent child queue
     turns_may_get queue fresh = ap (λ o. may_get o parent queue) is.one.changed ∙ may_get_more parent gives queue fresh
 
     -- and then it was given one more

@@ -9,12 +9,12 @@ use Rattle.std.specs.Ordering.{nat_cmp, is_eq, match_ordering}
 use Rattle.std.specs.declared.cmp.Ordering.{Ordering}
 use Rattle.std.specs.declared.cmp.Ordering.TheVariants.{Less, Equal, Greater}
 use Rattle.std.specs.Prelude.{nat_le}
-use Rattle.pop_order.specs.Frames.{Frame, Frames, enlisted, enlisted_at, frame_at, AreUpTo}
+use Rattle.pop_order.specs.Frames.{TurnFrame, Frames, enlisted, enlisted_at, frame_at, AreUpTo}
 use Rattle.swan_model.specs.SerialState.{Holding}
 use Rattle.queues.specs.Turned.{AreApart}
 use Rattle.swan_model.proofs.Lookups.{by_inserted, tied, untied}
 
-apart_inserted : (es : Frames) (k : ℕ) (v : Frame) → frame_at es k ≡ None → AreApart es → AreApart (insert_entry nat_cmp es k v)
+apart_inserted : (es : Frames) (k : ℕ) (v : TurnFrame) → frame_at es k ≡ None → AreApart es → AreApart (insert_entry nat_cmp es k v)
 apart_inserted [] k v fresh apart = (refl, tt)
 apart_inserted (e ∷ es) k v fresh (first, apart) = by (nat_cmp k e.0) refl (apart_inserted es k v) where
   by : (o : Ordering) → nat_cmp k e.0 ≡ o → (frame_at es k ≡ None → AreApart es → AreApart (insert_entry nat_cmp es k v))
@@ -28,7 +28,7 @@ apart_inserted (e ∷ es) k v fresh (first, apart) = by (nat_cmp k e.0) refl (ap
         rest (ap (λ b. cond b (Some e.1) (frame_at es k)) (sym past) ∙ fresh) apart,
       )
 
-none_set : (es : Frames) (k n : ℕ) (v : Frame) → frame_at es n ≡ None → frame_at (set_value (is_at (nat_cmp k)) es v) n ≡ None
+none_set : (es : Frames) (k n : ℕ) (v : TurnFrame) → frame_at es n ≡ None → frame_at (set_value (is_at (nat_cmp k)) es v) n ≡ None
 none_set [] k n v none = refl
 none_set (e ∷ es) k n v none = by (is_at (nat_cmp n) e.0) refl none (none_set es k n v) where
   by : (b : Bool) → is_at (nat_cmp n) e.0 ≡ b → cond b (Some e.1) (frame_at es n) ≡ None → (frame_at es n ≡ None → frame_at (set_value (is_at (nat_cmp k)) es v) n ≡ None)
@@ -41,7 +41,7 @@ none_set (e ∷ es) k n v none = by (is_at (nat_cmp n) e.0) refl none (none_set 
         ∙ ap (λ b. cond b (Some e.1) (frame_at (set_value (is_at (nat_cmp k)) es v) n)) is ∙ rest h
   ]
 
-pub apart_set : (es : Frames) (k : ℕ) (v : Frame) → AreApart es → AreApart (set_value (is_at (nat_cmp k)) es v)
+pub apart_set : (es : Frames) (k : ℕ) (v : TurnFrame) → AreApart es → AreApart (set_value (is_at (nat_cmp k)) es v)
 apart_set [] k v apart = tt
 apart_set (e ∷ es) k v (first, apart) = by (is_at (nat_cmp k) e.0) (apart_set es k v apart) where
   by : (b : Bool) → AreApart (set_value (is_at (nat_cmp k)) es v) → AreApart (cond b ((e.0, v) ∷ es) (e ∷ set_value (is_at (nat_cmp k)) es v))
@@ -51,7 +51,7 @@ apart_set (e ∷ es) k v (first, apart) = by (is_at (nat_cmp k) e.0) (apart_set 
 -- no number stands twice once a child was given one more queue
 pub apart_enlisted : (turns : Frames) (parent child : ℕ) (holding : Holding) → AreApart turns → AreApart (enlisted turns parent child holding)
 apart_enlisted turns parent child holding apart = by (frame_at turns child) refl where
-  by : (o : Option Frame) → frame_at turns child ≡ o → AreApart (enlisted_at turns parent child holding o)
+  by : (o : Option TurnFrame) → frame_at turns child ≡ o → AreApart (enlisted_at turns parent child holding o)
   by None fresh = apart_inserted turns child (record { parent = parent; holdings = holding ∷ []; lent = false }) fresh apart
   by (Some frame) found = apart_set turns child _ apart
 
@@ -59,7 +59,7 @@ no_more : (a b : ℕ) → a ≤ b → nat_le a b ≡ true
 no_more a b less = grind (arith, nat_tests)
 
 -- what is found of no newer number tells that there is none
-pub up_to : (es : Frames) (child : ℕ) → AreApart es → ((m : ℕ) (turn : Frame) → frame_at es m ≡ Some turn → m ≤ child) → AreUpTo es child
+pub up_to : (es : Frames) (child : ℕ) → AreApart es → ((m : ℕ) (turn : TurnFrame) → frame_at es m ≡ Some turn → m ≤ child) → AreUpTo es child
 up_to [] child apart all = refl
 up_to (e ∷ es) child (first, apart) all =
     let here : frame_at (e ∷ es) e.0 ≡ Some e.1 = ap (λ b. cond b (Some e.1) (frame_at es e.0)) (tied e.0 e.0 refl) in

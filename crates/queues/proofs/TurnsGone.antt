@@ -5,7 +5,7 @@ use Rattle.std.specs.List.{list_all}
 use Rattle.std.specs.BTreeMap.{is_at}
 use Rattle.std.specs.Ordering.{nat_cmp}
 use Rattle.std.specs.Prelude.{slice_get}
-use Rattle.pop_order.specs.Frames.{Frame, Frames, frame_at, without, HasNoChild}
+use Rattle.pop_order.specs.Frames.{TurnFrame, Frames, frame_at, without, HasNoChild}
 use Rattle.swan_model.specs.QueueState.{QueueMaker, QueueState, active, IsActiveChild}
 use Rattle.queues.specs.Turned.{AreApart, AreTurns}
 use Rattle.pop_order.specs.OneChange.{IsOnlyChange}
@@ -46,7 +46,7 @@ apart_gone (e ∷ es) k (first, apart) = by (is_at (nat_cmp k) e.0) refl (apart_
   by false is rest = (none_gone es k e.0 first, rest)
 
 -- no turn has a parent whose children aren't active
-pub no_child : (es : Frames) (n : ℕ) → AreApart es → ((m : ℕ) (turn : Frame) → frame_at es m ≡ Some turn → turn.parent ≢ n) → HasNoChild es n
+pub no_child : (es : Frames) (n : ℕ) → AreApart es → ((m : ℕ) (turn : TurnFrame) → frame_at es m ≡ Some turn → turn.parent ≢ n) → HasNoChild es n
 no_child [] n apart none = refl
 no_child (e ∷ es) n (first, apart) none =
     let here : frame_at (e ∷ es) e.0 ≡ Some e.1 = ap (λ b. cond b (Some e.1) (frame_at es e.0)) (tied e.0 e.0 refl) in

@@ -3,7 +3,7 @@ use Rattle.std.proofs.Common.{false, ◌≡◌, ◌≢◌, ℕ, ◌+◌, ◌<◌
 use Rattle.std.proofs.lemmas.Bool.{cases_eq, false≢true}
 use Rattle.std.specs.List.{list_any}
 use Rattle.std.specs.Prelude.{slice_get}
-use Rattle.pop_order.specs.Frames.{Frame, Frames, frame_at, holds}
+use Rattle.pop_order.specs.Frames.{TurnFrame, Frames, frame_at, holds}
 use Rattle.swan_model.specs.declared.rights.Mode.{Mode}
 use Rattle.swan_model.specs.QueueState.{ActiveFrame, QueueMaker, QueueRight, QueueState, active, after_spawn, child_of, holds_queue, with_deed}
 use Rattle.swan_model.specs.Rights.{allows}
@@ -23,24 +23,24 @@ holds_given : (gives : List QueueRight) (queue : ℕ) (mode : Mode) → holds (m
 holds_given [] queue mode = refl
 holds_given (give ∷ gives) queue mode = ap (λ b. ((give.queue == queue) && allows give.mode mode) || b) (holds_given gives queue mode)
 
-turn_known : (parent : ℕ) (gives : List QueueRight) (turn : Frame) → turn_of parent gives ≡ Some turn
+turn_known : (parent : ℕ) (gives : List QueueRight) (turn : TurnFrame) → turn_of parent gives ≡ Some turn
     → (turn.parent ≡ parent) × ((queue : ℕ) (mode : Mode) → holds turn.holdings queue mode ≡ true → rights_for gives queue mode ≡ true)
 turn_known parent [] turn is = let never : None ≡ Some turn = is in absurd (cc)
 turn_known parent (give ∷ gives) turn is =
     let whole : record { parent = parent; holdings = map holding_of (give ∷ gives); lent = false } ≡ turn = cc in (
-      ap (λ (t : Frame). t.parent) (sym whole),
-      λ queue mode held. sym (holds_given (give ∷ gives) queue mode) ∙ ap (λ (t : Frame). holds t.holdings queue mode) whole ∙ held,
+      ap (λ (t : TurnFrame). t.parent) (sym whole),
+      λ queue mode held. sym (holds_given (give ∷ gives) queue mode) ∙ ap (λ (t : TurnFrame). holds t.holdings queue mode) whole ∙ held,
     )
 
 turn_some : (parent : ℕ) (gives : List QueueRight) (queue : ℕ) (mode : Mode) → rights_for gives queue mode ≡ true
-    → (turn : Frame) × (turn_of parent gives ≡ Some turn) × (turn.parent ≡ parent) × (holds turn.holdings queue mode ≡ true)
+    → (turn : TurnFrame) × (turn_of parent gives ≡ Some turn) × (turn.parent ≡ parent) × (holds turn.holdings queue mode ≡ true)
 turn_some parent [] queue mode some = absurd (false≢true some)
 turn_some parent (give ∷ gives) queue mode some =
     (record { parent = parent; holdings = map holding_of (give ∷ gives); lent = false }, refl, refl, holds_given (give ∷ gives) queue mode ∙ some)
 
 module _ (state : QueueState) (tree : IsTree state) (turns : Frames) (is : AreTurns state turns) (p child : ℕ) (gives : List QueueRight) (may : MaySpawn state p child gives) where
   -- all turns are of older frames
-  pub turns_older : (number : ℕ) (turn : Frame) → frame_at turns number ≡ Some turn → number < child
+  pub turns_older : (number : ℕ) (turn : TurnFrame) → frame_at turns number ≡ Some turn → number < child
   turns_older number turn found =
       let known = is.known number turn found in
       let old = tree.latest number known.0 known.1 in
@@ -68,7 +68,7 @@ module _ (state : QueueState) (tree : IsTree state) (turns : Frames) (is : AreTu
   module _ (then_turns : Frames) (given : AreGivenTurns turns then_turns p child gives) where
     pub turns_spawned : AreTurns after then_turns
     turns_spawned = record { apart = given.apart is.apart; known = known_now; all = all_now } where
-      known_now : (m : ℕ) (turn : Frame) → frame_at then_turns m ≡ Some turn
+      known_now : (m : ℕ) (turn : TurnFrame) → frame_at then_turns m ≡ Some turn
           → (frame : ActiveFrame) × (active after m ≡ Some frame) × (frame.parent ≡ Some turn.parent)
           × ((queue : ℕ) (mode : Mode) → holds turn.holdings queue mode ≡ true → holds_queue frame queue mode ≡ true)
       known_now m turn at = by (cases_eq m child) (cases_eq m p) where
@@ -96,9 +96,9 @@ module _ (state : QueueState) (tree : IsTree state) (turns : Frames) (is : AreTu
 
       all_now : (m above q : ℕ) (mode : Mode) (one : ActiveFrame) → active after m ≡ Some one → one.parent ≡ Some above
           → holds_queue one q mode ≡ true → ((maker : QueueMaker) → slice_get state.makers q ≡ Some maker → one.path ≢ maker_path maker)
-          → (turn : Frame) × (frame_at then_turns m ≡ Some turn) × (turn.parent ≡ above) × (holds turn.holdings q mode ≡ true)
+          → (turn : TurnFrame) × (frame_at then_turns m ≡ Some turn) × (turn.parent ≡ above) × (holds turn.holdings q mode ≡ true)
       all_now m above q mode one live of held foreign = by (cases_eq m child) (cases_eq m p) where
-        by : (m ≡ child) ⊎ (m ≢ child) → (m ≡ p) ⊎ (m ≢ p) → (turn : Frame) × (frame_at then_turns m ≡ Some turn) × (turn.parent ≡ above) × (holds turn.holdings q mode ≡ true)
+        by : (m ≡ child) ⊎ (m ≢ child) → (m ≡ p) ⊎ (m ≢ p) → (turn : TurnFrame) × (frame_at then_turns m ≡ Some turn) × (turn.parent ≡ above) × (holds turn.holdings q mode ≡ true)
         by (inl is_child) c =
             let same : one ≡ child_of may.act.frame child gives =
             one_answer (active after child) one (child_of may.act.frame child gives)

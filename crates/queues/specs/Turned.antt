@@ -4,7 +4,7 @@ use Rattle.std.specs.List.{list_any}
 use Rattle.swan_model.specs.declared.rights.Mode.{Mode}
 use Rattle.swan_model.specs.QueueState.{ActiveFrame, QueueMaker, QueueState, active, holds_queue, QueueRight, IsEarlierPusher, IsPoppingChild}
 use Rattle.swan_model.specs.SerialState.{Holding}
-use Rattle.pop_order.specs.Frames.{Frame, Frames, frame_at, holds}
+use Rattle.pop_order.specs.Frames.{TurnFrame, Frames, frame_at, holds}
 use Rattle.pop_order.specs.OneChange.{IsOnlyChange}
 use Rattle.pop_order.specs.declared.certain.Certain.{Certain}
 use Rattle.pop_order.specs.declared.certain.Certain.TheVariants.{Yes, EarlierPusher, PoppingChild}
@@ -20,12 +20,12 @@ AreApart (entry ∷ entries) = (frame_at entries entry.0 ≡ None) × AreApart e
 -- didn't make a queue which it has was given it.
 pub record AreTurns (state : QueueState) (turns : Frames) : Type 0 where
   pub apart : AreApart turns
-  pub known : (number : ℕ) (turn : Frame) → frame_at turns number ≡ Some turn
+  pub known : (number : ℕ) (turn : TurnFrame) → frame_at turns number ≡ Some turn
       → (frame : ActiveFrame) × (active state number ≡ Some frame) × (frame.parent ≡ Some turn.parent)
       × ((queue : ℕ) (mode : Mode) → holds turn.holdings queue mode ≡ true → holds_queue frame queue mode ≡ true)
   pub all : (number parent queue : ℕ) (mode : Mode) (frame : ActiveFrame) → active state number ≡ Some frame → frame.parent ≡ Some parent
       → holds_queue frame queue mode ≡ true → ((maker : QueueMaker) → slice_get state.makers queue ≡ Some maker → frame.path ≢ maker_path maker)
-      → (turn : Frame) × (frame_at turns number ≡ Some turn) × (turn.parent ≡ parent) × (holds turn.holdings queue mode ≡ true)
+      → (turn : TurnFrame) × (frame_at turns number ≡ Some turn) × (turn.parent ≡ parent) × (holds turn.holdings queue mode ≡ true)
 
 -- whether a queue is among what a child is given
 abbrev pub gives_queue : List QueueRight → ℕ → Bool
@@ -35,7 +35,7 @@ gives_queue gives queue = list_any (λ right. right.queue == queue) gives
 abbrev pub holding_of : QueueRight → Holding
 holding_of right = record { mode = right.mode; number = right.queue }
 
-abbrev pub turn_of : ℕ → List QueueRight → Option Frame
+abbrev pub turn_of : ℕ → List QueueRight → Option TurnFrame
 turn_of parent [] = None
 turn_of parent (give ∷ gives) = Some (record { parent = parent; holdings = map holding_of (give ∷ gives); lent = false })
 
@@ -66,4 +66,4 @@ OnTreeTurns Holds = (state : QueueState) (turns : Frames) → IsTree state → A
 
 -- each frame that has a turn is older than this number
 abbrev pub AreOlder : Frames → ℕ → Type 0
-AreOlder turns child = (number : ℕ) (turn : Frame) → frame_at turns number ≡ Some turn → number < child
+AreOlder turns child = (number : ℕ) (turn : TurnFrame) → frame_at turns number ≡ Some turn → number < child

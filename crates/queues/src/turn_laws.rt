@@ -1,6 +1,6 @@
 // Laws of the turns of poppers beside hyperqueues.
 ghost use Rattle.std.specs.Prelude.{◌≡◌, ℕ, ◌++◌, ◌∷◌, List, [], Some, false, true};
-ghost use Rattle.pop_order.specs.Frames.{AreUpTo, Frames, HasNoChild, MayGet, enlisted, lent_to, without};
+ghost use Rattle.pop_order.specs.Frames.{AreUpTo, Frames, HasNoChild, MayBeEnlisted, enlisted, lent_to, without};
 ghost use Rattle.pop_order.specs.Order.{ComesBefore};
 ghost use Rattle.pop_order.specs.Turns.{Blocks, IsAnswer};
 ghost use Rattle.pop_order.specs.declared.certain.Certain.{Certain};
@@ -27,7 +27,7 @@ pub fn turns_stay()
     ensures newest { (before now : Frames) (parent child : ℕ) (gives : List QueueRight) → AreOlder before child → AreApart before
         → AreGivenTurns before now parent child gives → AreUpTo now child }
     ensures may_get { (before now : Frames) (parent child queue : ℕ) (gives : List QueueRight) → AreGivenTurns before now parent child gives
-        → gives_queue gives queue ≡ false → MayGet now parent child queue }
+        → gives_queue gives queue ≡ false → MayBeEnlisted now parent child queue }
     ensures more { (before now : Frames) (parent child : ℕ) (gives : List QueueRight) (give : QueueRight) → AreGivenTurns before now parent child gives
         → AreGivenTurns before (enlisted now parent child (holding_of give)) parent child (gives ++ give ∷ []) }
     ensures spawn { OnTreeTurns (λ state turns. (now : Frames) (n child : ℕ) (gives : List QueueRight) (may : MaySpawn state n child gives)

@@ -92,8 +92,8 @@ after_learn old note =
     record old { known = max old.known note.keeps; all = first_told note.all old.all; looks = old.looks + 1 }
 
 -- no more was popped than is ever pushed, where that is known
-abbrev pub IsWithin : ConsumerState → Type 0
-IsWithin c = ForSome c.all (λ n. c.popped ≤ n)
+abbrev pub HasNotPassed : ConsumerState → Type 0
+HasNotPassed c = ForSome c.all (λ n. c.popped ≤ n)
 
 abbrev pub link_of : ProducerState → ConsumerState → LinkState
 link_of producer next = record { of = producer.of; pushed = producer.pushed; next = next }

@@ -4,22 +4,22 @@ use Rattle.atomic_table.specs.declared.shared.Seat.{Seat}
 use Rattle.ring_segments.specs.declared.rule.SeatView.{SeatView}
 use Rattle.ring_segments.specs.declared.ring.Ring.{Ring}
 use Rattle.ring_segments.specs.Ends.{Shown, ProducerState, ConsumerState, NoteState}
-use Rattle.ring_segments.specs.Entries.{Placed}
+use Rattle.ring_segments.specs.Entries.{IndexedItem}
 use Rattle.ring_segments.specs.Seating.{id_of}
 use Rattle.ring_segments.specs.Tags.{SegmentId}
 
 abbrev pub Place : Type 0
-Place = Seat (Option Placed) (SeatView SegmentId)
+Place = Seat (Option IndexedItem) (SeatView SegmentId)
 
 -- a segment whose table was made for it
-pub record IsMade (ring : Ring) : Type 0 where
+pub record HasTable (ring : Ring) : Type 0 where
   pub words : ring.table.shared.table_id.words ≡ 9
   pub slots : ring.table.shared.table_id.slots ≡ ring.about.size
   pub some_size : 0 < ring.about.size
 
 -- a seat of the segment, with no slot
 pub record Sits (ring : Ring) (seat : Place) : Type 0 where
-  pub made : IsMade ring
+  pub made : HasTable ring
   pub table : seat.table_id ≡ ring.table.shared.table_id
   pub owner : seat.me.0.owner ≡ Some (id_of ring.about)
   pub empty : seat.me.1 ≡ []

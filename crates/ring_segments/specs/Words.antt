@@ -70,7 +70,7 @@ module _ {O : Type 0} where
 -- ---- the rule
 
 -- what stands in the words, and what the two ends are at
-pub record Standing : Type 0 where
+pub record RingState : Type 0 where
   pub head : ℕ
   pub tail : ℕ
   -- the seats of the ends
@@ -83,8 +83,8 @@ pub record Standing : Type 0 where
   pub sealed : Bool
 
 -- what a seat knows is so
-abbrev pub Fits : {O : Type 0} → O → Standing → ℕ → SeatView O → Type 0
-Fits owner p j v =
+abbrev pub SeatKnows : {O : Type 0} → O → RingState → ℕ → SeatView O → Type 0
+SeatKnows owner p j v =
     (v.pushes ≡ true → (j ≡ p.writer) × (v.pushed ≡ p.tail) × (v.putting ≡ p.putting) × (v.sealed ≡ p.sealed) × (v.owner ≡ Some owner))
     × (v.pops ≡ true → (j ≡ p.reader) × (v.popped ≡ p.head) × (v.taking ≡ p.taking) × (v.owner ≡ Some owner))
     × (v.known ≤ p.tail)
@@ -92,7 +92,7 @@ Fits owner p j v =
 
 module _ {E O : Type 0} (index : E → ℕ) (of : E → O) (HasRoom : O → ℕ → Type 0) (owner : O) (size : ℕ) where
   -- head and tail are at most one turn apart, and no more is pushed than the segment has room for
-  pub record AreCounts (p : Standing) : Type 0 where
+  pub record AreCounts (p : RingState) : Type 0 where
     pub some_size : 0 < size
     pub order : p.head ≤ p.tail
     pub room : p.tail ≤ p.head + size
@@ -101,7 +101,7 @@ module _ {E O : Type 0} (index : E → ℕ) (of : E → O) (HasRoom : O → ℕ 
     pub inside : HasRoom owner p.tail
 
   -- between head and tail the items stand in their slots, save one that is out; the other slots are free
-  pub record AreSlots (p : Standing) (homes : List (Maybe (Option E))) : Type 0 where
+  pub record AreSlots (p : RingState) (homes : List (Maybe (Option E))) : Type 0 where
     pub count : length homes ≡ size
     pub full : (i : ℕ) → p.head ≤ i → i < p.tail → ¬ ((p.taking ≡ true) × (i ≡ p.head))
         → (e : E) × (get_elem? homes (i % size) ≡ some (some (Some e))) × (index e ≡ i) × (of e ≡ owner)
@@ -109,11 +109,11 @@ module _ {E O : Type 0} (index : E → ℕ) (of : E → O) (HasRoom : O → ℕ 
         → (x : Option E) × (get_elem? homes (i % size) ≡ some (some x))
 
   pub record IsRing (s : State (Option E) (SeatView O)) : Type 0 where
-    pub at : Standing
+    pub at : RingState
     pub words : s.words ≡ words_of at.head at.tail
     pub counts : AreCounts at
     pub slots : AreSlots at s.homes
-    pub each : (j : ℕ) (v : SeatView O) → get_elem? s.views j ≡ some v → Fits owner at j v
+    pub each : (j : ℕ) (v : SeatView O) → get_elem? s.views j ≡ some v → SeatKnows owner at j v
 
 -- ---- what a step tells
 

@@ -3,7 +3,7 @@ ghost use Rattle.std.specs.Prelude.{◌≡◌, ◌≢◌, ◌<◌, ◌≤◌, If
 ghost use Rattle.std.specs.Arc.{arc_value};
 ghost use Rattle.std.specs.Bool.{MatchBool};
 ghost use Rattle.std.specs.Option.{ForSome};
-ghost use Rattle.ring_segments.specs.Ends.{after_learn, after_look, after_pop, IsWithin, WasEmpty};
+ghost use Rattle.ring_segments.specs.Ends.{after_learn, after_look, after_pop, HasNotPassed, WasEmpty};
 ghost use Rattle.ring_segments.specs.Sits.{consumer_state, IsPopping};
 ghost use Rattle.ring_segments.specs.Tags.{IsInside, IsItem, OwesRest, tag_of};
 
@@ -57,7 +57,7 @@ impl Consumer {
         ensures some { IfSome result (λ item. IsItem self.old.of.id self.old.popped item × (self.new ≡ after_pop self.old self.new.known)) }
         ensures known { IfSome result (λ item. (self.old.popped < self.new.known) × (self.old.known ≤ self.new.known)) }
         ensures none { IfNone result (WasEmpty self.old self.new) }
-        ensures all { IsWithin self.new }
+        ensures all { HasNotPassed self.new }
     {
         let item = take_out(&self.ring, &mut self.seat, self.popped)?;
         self.popped += 1;
@@ -71,7 +71,7 @@ impl Consumer {
     pub fn holds(&mut self) -> bool
         ensures answer { MatchBool result ((self.new ≡ after_look self.old self.new.known) × (self.old.popped < self.new.known) × IsInside self.old.of.id self.old.popped) (WasEmpty self.old self.new) }
         ensures known { self.old.known ≤ self.new.known }
-        ensures all { IsWithin self.new }
+        ensures all { HasNotPassed self.new }
     {
         look(&self.ring, &mut self.seat, self.popped)
     }
@@ -99,7 +99,7 @@ impl Consumer {
         requires { note.table ≡ self.old.of.table }
         ensures state { self.new ≡ after_learn self.old note }
         ensures last { ForSome note.all (λ n. self.old.popped ≤ n) }
-        ensures all { IsWithin self.new }
+        ensures all { HasNotPassed self.new }
     {
         hear(&self.ring, &mut self.seat, note.into_seat(), self.popped);
     }

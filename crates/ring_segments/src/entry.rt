@@ -1,7 +1,7 @@
 // What a slot keeps.
 ghost use Rattle.std.specs.Prelude.{◌≡◌};
 ghost use Rattle.ring_segments.specs.Tags.{IsItem};
-ghost use Rattle.ring_segments.specs.Entries.{Placed};
+ghost use Rattle.ring_segments.specs.Entries.{IndexedItem};
 
 use crate::About;
 use std::marker::Model;
@@ -37,10 +37,10 @@ pub(crate) struct Entry {
 }
 
 impl Model for Entry {
-    ghost use Rattle.ring_segments.specs.Entries.{Placed};
+    ghost use Rattle.ring_segments.specs.Entries.{IndexedItem};
     ghost use Rattle.ring_segments.specs.Tags.{IsItem};
 
-    ghost Value = { Placed };
+    ghost Value = { IndexedItem };
 
     ghost view = { λ e. record { item = e.item; index = e.index; of = e.of.means } };
 

@@ -17,7 +17,7 @@ use Rattle.swan_model.specs.SerialState.{Activation, Cell, Holding, Queue, Store
 use Rattle.swan_model.specs.SerialStep as serial
 use Rattle.swan_model.specs.SerialStep.{Effect, goes_on, spawns, ends, faults, after, effect, effect_of, step_on, moved, number_at, spawned, given, given_also, zeroed, zeroed_by, zero_cell}
 use Rattle.swan_model.specs.Values.{zero_of}
-use Rattle.serial_elision.specs.Laws.{MayUse, IsCellAfter, IsQueueAfter, stayed, pushed, popped, EachStill, RightsBind, top_holdings}
+use Rattle.serial_elision.specs.Laws.{HoldsToUse, IsCellAfter, IsQueueAfter, stayed, pushed, popped, EachStill, RightsBind, top_holdings}
 use Rattle.serial_elision.proofs.Asks.{on_object-either, on_queue-either, if-either}
 use Rattle.serial_elision.proofs.Still.{still-same, still-more, still-append, still-set}
 
@@ -51,15 +51,15 @@ store-same held store =
     record { cells = cells-same held store.cells; queues = queues-same held store.queues }
 
 -- a cell that may be written gets another value
-cells-set : (held : List Holding) (cells : List Cell) (n : ℕ) (cell : Cell) (value : Value) → slice_get cells n ≡ Some cell → MayUse held Out n → EachStill (IsCellAfter held) cells (slice_set cells n (record cell { value = value }))
+cells-set : (held : List Holding) (cells : List Cell) (n : ℕ) (cell : Cell) (value : Value) → slice_get cells n ≡ Some cell → HoldsToUse held Out n → EachStill (IsCellAfter held) cells (slice_set cells n (record cell { value = value }))
 cells-set held cells n cell value found may =
     still-set (IsCellAfter held) (cell-same held) cells n cell (record cell { value = value }) found (record { origin = refl; kind = refl; value = inr may })
 
-zero_cell-binds : (held : List Holding) (cells : List Cell) (n : ℕ) (at : Option Cell) → slice_get cells n ≡ at → MayUse held Out n → EachStill (IsCellAfter held) cells (zero_cell cells n at)
+zero_cell-binds : (held : List Holding) (cells : List Cell) (n : ℕ) (at : Option Cell) → slice_get cells n ≡ at → HoldsToUse held Out n → EachStill (IsCellAfter held) cells (zero_cell cells n at)
 zero_cell-binds held cells n None found may = cells-same held cells
 zero_cell-binds held cells n (Some cell) found may = cells-set held cells n cell (zero_of cell.kind) found may
 
-zeroed_by-binds : (held : List Holding) (mode : Mode) (cells : List Cell) (n : ℕ) → MayUse held mode n → EachStill (IsCellAfter held) cells (zeroed_by mode cells n)
+zeroed_by-binds : (held : List Holding) (mode : Mode) (cells : List Cell) (n : ℕ) → HoldsToUse held mode n → EachStill (IsCellAfter held) cells (zeroed_by mode cells n)
 zeroed_by-binds held Out cells n may = zero_cell-binds held cells n (slice_get cells n) refl may
 zeroed_by-binds held In cells n may = cells-same held cells
 zeroed_by-binds held InOut cells n may = cells-same held cells
@@ -70,7 +70,7 @@ zeroed_by-binds held PushPop cells n may = cells-same held cells
 -- a holder may use all that a child holds as the child holds it
 abbrev pub MayUseEach : List Holding → List Holding → Type 0
 MayUseEach held [] = Unit {0}
-MayUseEach held (holding ∷ holdings) = MayUse held holding.mode holding.number × MayUseEach held holdings
+MayUseEach held (holding ∷ holdings) = HoldsToUse held holding.mode holding.number × MayUseEach held holdings
 
 given_also-may : (held : List Holding) (give : Give) (at : Option ℕ) (rest : Option (List Holding)) → number_at held give.place give.mode ≡ at → IfSome rest (MayUseEach held) → IfSome (given_also give at rest) (MayUseEach held)
 given_also-may held give None rest is may = tt
@@ -103,7 +103,7 @@ spawned-binds store a child (Some holdings) may =
     (if-either (Binds a.holdings store) (nat_lt a.fuel child.fuel) _ _ tt
     (record { cells = zeroed-binds a.holdings store.cells holdings may; queues = queues-same a.holdings store.queues })))
 
-write-binds : (held : List Holding) (store : Store) (n : ℕ) (cell : Cell) (value : Value) → slice_get store.cells n ≡ Some cell → MayUse held Out n → RightsBind held store (serial.with_value store n cell value)
+write-binds : (held : List Holding) (store : Store) (n : ℕ) (cell : Cell) (value : Value) → slice_get store.cells n ≡ Some cell → HoldsToUse held Out n → RightsBind held store (serial.with_value store n cell value)
 write-binds held store n cell value found may =
     record { cells = cells-set held store.cells n cell value found may; queues = queues-same held store.queues }
 
@@ -114,7 +114,7 @@ items-bind held store n before after found becomes =
       queues = still-set (IsQueueAfter held) (queue-same held) store.queues n before after found becomes;
     }
 
-popped-binds : {L : Type 0} (store : Store) (a : Activation L) (n : ℕ) (queue : Queue) (items : List Value) → queue.items ≡ items → slice_get store.queues n ≡ Some queue → MayUse a.holdings Pop n → Binds a.holdings store (serial.popped store a n queue items)
+popped-binds : {L : Type 0} (store : Store) (a : Activation L) (n : ℕ) (queue : Queue) (items : List Value) → queue.items ≡ items → slice_get store.queues n ≡ Some queue → HoldsToUse a.holdings Pop n → Binds a.holdings store (serial.popped store a n queue items)
 popped-binds store a n queue [] is found may = tt
 popped-binds store a n queue (item ∷ items) is found may =
     items-bind a.holdings store n queue (record queue { items = items }) found (record { origin = refl; items = popped may item is })

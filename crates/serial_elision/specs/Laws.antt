@@ -61,7 +61,7 @@ abbrev pub AreInOrder : List Fault → Type 0
 AreInOrder faults = AllPairs (λ earlier later. IsTrue (comes_before earlier.path later.path)) faults
 
 -- who holds this may use the object or queue of this number by this mode, at some place
-pub record MayUse (holdings : List Holding) (mode : Mode) (number : ℕ) : Type 0 where
+pub record HoldsToUse (holdings : List Holding) (mode : Mode) (number : ℕ) : Type 0 where
   pub place : ℕ
   pub held : number_at holdings place mode ≡ Some number
 
@@ -70,14 +70,14 @@ pub record MayUse (holdings : List Holding) (mode : Mode) (number : ℕ) : Type 
 pub record IsCellAfter (holdings : List Holding) (number : ℕ) (before after : Cell) : Type 0 where
   pub origin : after.origin ≡ before.origin
   pub kind : after.kind ≡ before.kind
-  pub value : (after.value ≡ before.value) ⊎ MayUse holdings Out number
+  pub value : (after.value ≡ before.value) ⊎ HoldsToUse holdings Out number
 
 -- What a step may make of the items of a queue: nothing; or one item more at the end, by the right to
 -- push; or without the first item, by the right to pop.
 pub data AreItemsAfter (holdings : List Holding) (number : ℕ) (before after : List Value) : Type 0 where
   stayed : after ≡ before → AreItemsAfter holdings number before after
-  pushed : MayUse holdings Push number → (item : Value) → after ≡ before ++ item ∷ [] → AreItemsAfter holdings number before after
-  popped : MayUse holdings Pop number → (item : Value) → before ≡ item ∷ after → AreItemsAfter holdings number before after
+  pushed : HoldsToUse holdings Push number → (item : Value) → after ≡ before ++ item ∷ [] → AreItemsAfter holdings number before after
+  popped : HoldsToUse holdings Pop number → (item : Value) → before ≡ item ∷ after → AreItemsAfter holdings number before after
 
 pub record IsQueueAfter (holdings : List Holding) (number : ℕ) (before after : Queue) : Type 0 where
   pub origin : after.origin ≡ before.origin

@@ -3,7 +3,7 @@ use Rattle.std.proofs.Common.{◌≡◌, ℕ, ◌≤◌, ◌<◌, Bool, true, fa
 use Rattle.std.proofs.lemmas.List.{append-nil}
 use Rattle.swan_reducers.specs.declared.join_reducer.TheConstants.{JOIN_MOST}
 use Rattle.swan_reducers.specs.Joins.{bytes_joined, fitting, is_join_part, is_too_long, line_part, too_long}
-use Rattle.swan_reducers.specs.Lawful.{IsLawful}
+use Rattle.swan_reducers.specs.Lawful.{IsLawfulReducer}
 
 pub joined_not_long : (left right : List ℕ) → is_too_long left ≡ false → is_too_long right ≡ false → is_too_long (left ++ right) ≡ false
 joined_not_long [] right l r = r
@@ -115,7 +115,7 @@ after part is = by_case (is_too_long part) refl
 line_gives : (line part : List ℕ) → line_part line ≡ Some part → is_join_part part ≡ true
 line_gives line part is = let e : fitting line ≡ part = cc in ap is_join_part (sym e) ∙ fitting_is_part line
 
-pub joins_are_lawful : IsLawful is_join_part [] line_part bytes_joined
+pub joins_are_lawful : IsLawfulReducer is_join_part [] line_part bytes_joined
 joins_are_lawful = record {
   zero_is_part = refl;
   lines_give_parts = line_gives;

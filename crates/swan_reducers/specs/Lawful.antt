@@ -2,7 +2,7 @@
 -- join doesn't mind how parts are grouped, and the zero adds nothing on either side.
 use Rattle.std.specs.Prelude.{◌≡◌, ℕ, Bool, true, Option, Some, List}
 
-pub record IsLawful (is_part : List ℕ → Bool) (zero : List ℕ) (part_of : List ℕ → Option (List ℕ)) (join : List ℕ → List ℕ → List ℕ) : Type 0 where
+pub record IsLawfulReducer (is_part : List ℕ → Bool) (zero : List ℕ) (part_of : List ℕ → Option (List ℕ)) (join : List ℕ → List ℕ → List ℕ) : Type 0 where
   pub zero_is_part : is_part zero ≡ true
   pub lines_give_parts : (line part : List ℕ) → part_of line ≡ Some part → is_part part ≡ true
   pub joins_are_parts : (left right : List ℕ) → is_part left ≡ true → is_part right ≡ true → is_part (join left right) ≡ true

@@ -6,7 +6,7 @@ use Rattle.std.specs.Prelude.{ℤ, pos, ◌+ℤ◌, FitsSigned, option_map}
 use Rattle.std.specs.Int.{w128, cast_signed, cast_unsigned, from_be_bytes, int_wrap, to_be_bytes}
 use Rattle.std.specs.List.{list_all}
 use Rattle.job_reader.specs.Atoms.{number}
-use Rattle.swan_reducers.specs.Lawful.{IsLawful}
+use Rattle.swan_reducers.specs.Lawful.{IsLawfulReducer}
 use Rattle.swan_reducers.specs.SumBytes.{bytes_are_bytes, bytes_back, length-bytes, number_back, number_below}
 use Rattle.swan_reducers.specs.Sums.{is_byte, is_sum_part, number_part, sum_of, sum_part, summed}
 
@@ -95,7 +95,7 @@ line_gives line part is = by_case (number line) is
     by_case None is = absurd (cc)
     by_case (Some z) is = let e : sum_part z ≡ part = cc in ap is_sum_part (sym e) ∙ sums_are_parts z
 
-pub sums_are_lawful : IsLawful is_sum_part (sum_part (pos 0)) number_part summed
+pub sums_are_lawful : IsLawfulReducer is_sum_part (sum_part (pos 0)) number_part summed
 sums_are_lawful = record {
   zero_is_part = sums_are_parts (pos 0);
   lines_give_parts = line_gives;

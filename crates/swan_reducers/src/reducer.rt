@@ -2,7 +2,7 @@
 ghost use Rattle.std.specs.Prelude.{◌≡◌, ℕ, Bool, true, List, Option, Some, None, Result, Ok, Err, IfOk, map};
 ghost use Rattle.swan_model.specs.declared.fault.Trouble.{Trouble};
 ghost use Rattle.swan_model.specs.Values.{bytes_of};
-ghost use Rattle.swan_reducers.specs.Lawful.{IsLawful};
+ghost use Rattle.swan_reducers.specs.Lawful.{IsLawfulReducer};
 ghost use Rattle.swan_reducers.specs.LineFolds.{bad_number, joined_lines, or_first, unless_part, with_part};
 ghost use Rattle.swan_reducers.specs.declared.reducer.EndAnswer.TheVariants as end_answer;
 ghost use Rattle.swan_reducers.specs.declared.reducer.LineAnswer.TheVariants as line_answer;
@@ -89,7 +89,7 @@ pub trait Reducer: Drop {
     ghost end_of: { Self → List ℕ → Result (List ℕ) Trouble };
 
     /// What each reducer keeps.
-    ghost laws: { (reducer : Self) → IsLawful (is_part reducer) (zero_part reducer) (part_of reducer) (joined reducer) };
+    ghost laws: { (reducer : Self) → IsLawfulReducer (is_part reducer) (zero_part reducer) (part_of reducer) (joined reducer) };
 
     /// Whether a record is a part. It takes no memory.
     fn is_part(&self, record: &Record) -> bool

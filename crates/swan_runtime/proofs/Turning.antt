@@ -16,7 +16,7 @@ use Rattle.task_frames.specs.Cores.{CoreView, IsCoreView, IsGiven, IsOf, KeptVie
 use Rattle.task_frames.specs.Frames.{FrameView, Task}
 use Rattle.task_frames.specs.Going.{Counts, IsSameFrame}
 use Rattle.task_frames.specs.Records.{live_at}
-use Rattle.task_frames.specs.Resumes.{EndsOf, HasNone, IsChildOf, IsGivenBy, IsOneOn, IsShownBy, OthersKept, deed_now, waited_for}
+use Rattle.task_frames.specs.Resumes.{EndsOf, HasNone, IsNewChildOf, IsGivenBy, IsOneOn, IsShownBy, OthersKept, deed_now, waited_for}
 use Rattle.task_frames.specs.Resumes.{IsOpened}
 use Rattle.swan_runtime.specs.Stacks.{IsStack, fuel_of, turns_left}
 use Rattle.swan_runtime.proofs.Fuel.{later-less, spawned-less}
@@ -118,7 +118,7 @@ module _ {B L E : Type 0} (G : Ghosts B L) (name : E → Option Script) (run : E
           gives stay-top
 
     pub stack-spawns : (after : CoreView B L) → after.plan ≡ core.plan → after.run ≡ core.run → (parent child : FrameView B L E) → IsGivenBy of after parent → IsGivenBy of after child
-        → IsOneOn moved.task parent.task → IsChildOf moved.task child.task → HasNone core child.task.number
+        → IsOneOn moved.task parent.task → IsNewChildOf moved.task child.task → HasNone core child.task.number
         → OthersKept core after (λ other. (other ≢ moved.task.number) × (other ≢ child.task.number)) → IsStack of after ((stack ++ parent ∷ []) ++ child ∷ [])
     stack-spawns after plan run-is parent child gives begins one-on made none stay =
         after-spawns of core after stack top is plan run-is gives.kept gives.keeps parent child
@@ -148,7 +148,7 @@ module _ {B L E : Type 0} (G : Ghosts B L) (name : E → Option Script) (run : E
         let less = later-less G top.task.plan (suc steps) top.task.path top.task.done had.top has.top had.stands (stands-so has.top plan-is path-is far has.stands) in
         omega (arith, less, had.is, has.is, left-more stack next, left-more stack top)
 
-    pub fewer-spawns : (parent child : FrameView B L E) → IsOneOn moved.task parent.task → IsChildOf moved.task child.task → is_spawn (deed_now G moved.task) ≡ true
+    pub fewer-spawns : (parent child : FrameView B L E) → IsOneOn moved.task parent.task → IsNewChildOf moved.task child.task → is_spawn (deed_now G moved.task) ≡ true
         → HasFuel G moved.task (fuel_of moved.task.fuel moved.stage) → HasFuel G parent.task (fuel_of parent.task.fuel parent.stage)
         → HasFuel G child.task (fuel_of child.task.fuel child.stage)
         → turns_left ((stack ++ parent ∷ []) ++ child ∷ []) < turns_left (stack ++ top ∷ [])

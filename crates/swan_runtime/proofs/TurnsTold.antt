@@ -4,7 +4,7 @@ use Rattle.named_lock.specs.declared.rule.View.{View}
 use Rattle.task_frames.specs.declared.steps.Steps.{Steps}
 use Rattle.swan_runtime.specs.declared.turn.Turn.{Turn}
 use Rattle.swan_runtime.specs.declared.turn.Turn.TheVariants as turn
-use Rattle.swan_runtime.specs.Turned.{IsShownBySeat, IsTold, IsToldWith, IsWorkersTurn}
+use Rattle.swan_runtime.specs.Turned.{IsShownBySeat, MayBeAnswered, MayBeAnsweredWith, IsWorkersTurn}
 
 some_steps : (n : ℕ) → (n == 0) ≡ false → 1 ≤ n
 some_steps n is = grind arith
@@ -18,7 +18,7 @@ module _ {N : Type 0} (before after : View N) where
   by_steps local tried answer true same is shown = subst (IsShownBySeat before after) (sym is) shown
   by_steps local tried answer false same is shown = subst (IsShownBySeat before after) (sym is) (some_steps local.count same)
 
-  shown_so : (local : Steps) (tried answer : Turn) → IsToldWith local tried answer → IsTold tried → before.holds < after.holds → (tried ≡ turn.Done → after.saw_done ≡ true)
+  shown_so : (local : Steps) (tried answer : Turn) → MayBeAnsweredWith local tried answer → MayBeAnswered tried → before.holds < after.holds → (tried ≡ turn.Done → after.saw_done ≡ true)
       → IsShownBySeat before after answer
   shown_so local (turn.Stepped steps) answer told is held done = subst (IsShownBySeat before after) (sym told.1) (one_more local.count steps.count told.0.count is told.2)
   shown_so local (turn.NotYet waited) answer told is held done = by_steps local (turn.NotYet waited) answer (local.count == 0) refl told held
@@ -29,7 +29,7 @@ module _ {N : Type 0} (before after : View N) where
   shown_so local turn.NoMemory answer told is held done = absurd is
 
   -- A frame was tried in a hold, by a seat that then saw the run go on, or done where that was the answer.
-  pub told_turn : (local : Steps) (tried answer : Turn) → IsToldWith local tried answer → IsTold tried → before.holds < after.holds → before.saw_stopped ≡ false
+  pub told_turn : (local : Steps) (tried answer : Turn) → MayBeAnsweredWith local tried answer → MayBeAnswered tried → before.holds < after.holds → before.saw_stopped ≡ false
       → after.saw_stopped ≡ before.saw_stopped → (tried ≡ turn.Done → after.saw_done ≡ true) → IsWorkersTurn before after answer
   told_turn local tried answer told is held runs same done = record {
     shown = shown_so local tried answer told is held done;

@@ -14,15 +14,15 @@ IsOneTry (turn.Strange foreign) = Unit {0}
 IsOneTry _ = ⊥
 
 -- what a frame that is tried may be answered: that, or that the run was done
-abbrev pub IsTold : Turn → Type 0
-IsTold turn.Done = Unit {0}
-IsTold answer = IsOneTry answer
+abbrev pub MayBeAnswered : Turn → Type 0
+MayBeAnswered turn.Done = Unit {0}
+MayBeAnswered answer = IsOneTry answer
 
 -- what a turn answers that took these steps by itself before the frame was tried
-abbrev pub IsToldWith : Steps → Turn → Turn → Type 0
-IsToldWith local (turn.Stepped steps) answer = (sum : Steps) × (answer ≡ turn.Stepped sum) × (sum.count ≡ local.count + steps.count)
-IsToldWith local turn.Done answer = answer ≡ turn.Done
-IsToldWith local tried answer = answer ≡ (if local.count == 0 then tried else turn.Stepped local)
+abbrev pub MayBeAnsweredWith : Steps → Turn → Turn → Type 0
+MayBeAnsweredWith local (turn.Stepped steps) answer = (sum : Steps) × (answer ≡ turn.Stepped sum) × (sum.count ≡ local.count + steps.count)
+MayBeAnsweredWith local turn.Done answer = answer ≡ turn.Done
+MayBeAnsweredWith local tried answer = answer ≡ (if local.count == 0 then tried else turn.Stepped local)
 
 module _ {N : Type 0} where
   -- A seat later on: it holds nothing, and it has counted more at most.

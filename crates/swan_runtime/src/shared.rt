@@ -2,7 +2,7 @@
 ghost use Rattle.std.specs.Prelude.{◌≡◌, ◌++◌, ◌∷◌, [], IfOk, IfSome, IfNone, option_to_list, true};
 ghost use Rattle.task_frames.specs.Resumes.{ends_of};
 ghost use Rattle.swan_runtime.specs.Shared.{IsOfRun};
-ghost use Rattle.swan_runtime.specs.Turned.{IsTold};
+ghost use Rattle.swan_runtime.specs.Turned.{MayBeAnswered};
 ghost use Rattle.swan_runtime.specs.declared.turn.Turn.TheVariants as turn;
 
 use crate::Turn;
@@ -115,7 +115,7 @@ impl<B: Body, Q: Queues> SharedRun<B, Q> {
         requires body { body.now ≡ self.old.core.plan.body }
 
         // what is answered
-        ensures told { IfOk result (λ tried. IsTold tried.turn) }
+        ensures told { IfOk result (λ tried. MayBeAnswered tried.turn) }
         ensures finished { IfOk result (λ tried. tried.turn ≡ turn.Done → self.new.core.is_done ≡ true) }
         ensures own { IfOk result (λ tried. IfSome tried.frame (IsOfRun (ends_of Q.Ends.LocalEnds) self.old.core.plan self.old.core.run)) }
 

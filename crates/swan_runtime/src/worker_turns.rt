@@ -4,7 +4,7 @@ ghost use Rattle.named_lock.specs.Seats.{IsHeldBy, IsSameSeat, IsSeatOf, knows, 
 ghost use Rattle.named_lock.specs.declared.sign.Sign.TheVariants.{Stopped};
 ghost use Rattle.task_frames.specs.Resumes.{ends_of};
 ghost use Rattle.swan_runtime.specs.Shared.{IsOfRun};
-ghost use Rattle.swan_runtime.specs.Turned.{HasGoneOn, IsShownBySeat, IsTold, IsToldWith, IsWorkersTurn, is_last};
+ghost use Rattle.swan_runtime.specs.Turned.{HasGoneOn, IsShownBySeat, MayBeAnswered, MayBeAnsweredWith, IsWorkersTurn, is_last};
 ghost use Rattle.swan_runtime.specs.declared.turn.Turn.TheVariants as turn;
 ghost use Rattle.swan_runtime.specs.declared.worker_turns.TheConstants.{STEPS_A_TURN};
 
@@ -151,8 +151,8 @@ fn lost(local: Steps) -> Turn
 /// What a turn answers that took these steps by itself, and then tried the frame by the core, which answered so.
 fn told(local: Steps, tried: Turn) -> Turn
     requires few { local.count < STEPS_A_TURN }
-    requires one { IsTold tried }
-    ensures { IsToldWith local tried result }
+    requires one { MayBeAnswered tried }
+    ensures { MayBeAnsweredWith local tried result }
 {
     match tried {
         Turn::Stepped(steps) => Turn::Stepped(local.add(steps)),

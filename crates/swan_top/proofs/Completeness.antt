@@ -21,7 +21,7 @@ use Rattle.swan_top.specs.Command.{Command, help, version, check, elide, run, in
 use Rattle.swan_top.specs.Completeness.{IsTold, AreTold, NothingFailed, RunsInOrder, ChecksInOrder, TextInOrder, InOrder, GeneratedInOrder, Completes, CompletesWell, EndsWell}
 use Rattle.swan_top.specs.Decision.{Verdict, prints, refuses, Next, reads, settled, next, files_of, unread, unless_unread, accepted, checked, generated, ran, printed, unless_refused, unless_unfit, next_of_check, next_of_job, next_of_run, next_of_text}
 use Rattle.swan_top.specs.Elisions.{Elisions, cheapest, converted, indexed}
-use Rattle.swan_top.specs.Headline.{FilesSeen, SinkSeen, Answers, AreRead, IsRead, Ends, FailedToWrite, Follows, ReadRefused, Settles, Wrote, ends_of, usage}
+use Rattle.swan_top.specs.Headline.{FilesSeen, SinkSeen, Answers, WereRead, WasRead, Ends, FailedToWrite, Follows, ReadRefused, Settles, Wrote, ends_of, usage}
 use Rattle.swan_top.specs.declared.status.Status.{Status}
 use Rattle.swan_top.specs.declared.how.How.{How}
 use Rattle.swan_top.specs.declared.run_end.RunEnd.{RunEnd}
@@ -29,12 +29,12 @@ use Rattle.swan_top.specs.declared.status.Status.TheVariants as status
 use Rattle.swan_top.specs.declared.way.Way.TheVariants as way
 
 -- a text that was read of a file that tells its text is that one
-told_text : (content : Option (List ℕ)) (text read : List ℕ) → IsTold content text → IsRead content read → read ≡ text
+told_text : (content : Option (List ℕ)) (text read : List ℕ) → IsTold content text → WasRead content read → read ≡ text
 told_text content text read told is = let P : Option (List ℕ) → Type 0 = λ o. Tells o read in subst P told.told is.told
 
 module _ (content : List ℕ → Option (List ℕ)) where
   -- texts that were read of files that tell theirs are these, or one file is still unread
-  front_told : (names texts read : List (List ℕ)) → AreTold content names texts → AreRead content names read → (read ≡ texts) ⊎ ((file : List ℕ) × (unread names read ≡ Some file))
+  front_told : (names texts read : List (List ℕ)) → AreTold content names texts → WereRead content names read → (read ≡ texts) ⊎ ((file : List ℕ) × (unread names read ≡ Some file))
   front_told [] [] [] told is = inl refl
   front_told [] [] (x ∷ xs) told is = absurd is
   front_told [] (t ∷ ts) read told is = absurd told
@@ -71,13 +71,13 @@ not_refused files file text verdict told well (inr longer) =
     omega arith
 
 module _ (files : FilesSeen) (well : ¬ Rose files.faults_before files.faults_after) (verdict verdict' : Verdict) where
-  check_settles : (job text : List ℕ) (read : List (List ℕ)) → IsTold (files.content job) text → ChecksInOrder text verdict → AreRead files.content (job ∷ []) read → Follows files (next_of_check job read) verdict' → verdict' ≡ verdict
+  check_settles : (job text : List ℕ) (read : List (List ℕ)) → IsTold (files.content job) text → ChecksInOrder text verdict → WereRead files.content (job ∷ []) read → Follows files (next_of_check job read) verdict' → verdict' ≡ verdict
   check_settles job text [] told order is follows = absurd (not_refused files job text verdict' told well follows)
   check_settles job text (x ∷ xs) told order is follows =
       let same : x ≡ text = told_text (files.content job) text x told is.0 in
       follows.0 ∙ ap (λ t. checked (accepted t)) same ∙ ap checked order.is_accepted ∙ sym order.prints_text
 
-  text_settles : (end_over : List ℕ → RunEnd) (input text : List ℕ) (read : List (List ℕ)) → IsTold (files.content input) text → TextInOrder end_over text verdict → AreRead files.content (input ∷ []) read → Follows files (next_of_text end_over input read) verdict' → verdict' ≡ verdict
+  text_settles : (end_over : List ℕ → RunEnd) (input text : List ℕ) (read : List (List ℕ)) → IsTold (files.content input) text → TextInOrder end_over text verdict → WereRead files.content (input ∷ []) read → Follows files (next_of_text end_over input read) verdict' → verdict' ≡ verdict
   text_settles end_over input text [] told order is follows = absurd (not_refused files input text verdict' told well follows)
   text_settles end_over input text (x ∷ xs) told order is follows =
       let same : x ≡ text = told_text (files.content input) text x told is.0 in
@@ -96,7 +96,7 @@ module _ (files : FilesSeen) (well : ¬ Rose files.faults_before files.faults_af
     unfolding generated GeneratedInOrder
     generated_settles number size = at_hand (bulk_fuel size) (bulk_job size) (bulk_input number size ∷ [])
 
-    run_settles : (fuel : ℕ) (job text : List ℕ) (names inputs read : List (List ℕ)) → IsTold (files.content job) text → AreTold files.content names inputs → RunsInOrder end_of fuel text inputs verdict → AreRead files.content (job ∷ names) read → Follows files (next_of_run end_of fuel job names read) verdict' → verdict' ≡ verdict
+    run_settles : (fuel : ℕ) (job text : List ℕ) (names inputs read : List (List ℕ)) → IsTold (files.content job) text → AreTold files.content names inputs → RunsInOrder end_of fuel text inputs verdict → WereRead files.content (job ∷ names) read → Follows files (next_of_run end_of fuel job names read) verdict' → verdict' ≡ verdict
     run_settles fuel job text names inputs [] told all order is follows = absurd (not_refused files job text verdict' told well follows)
     run_settles fuel job text names inputs (x ∷ xs) told all order is follows =
         let same : accepted x ≡ Ok order.lines = ap (λ t. accepted t) (told_text (files.content job) text x told is.0) ∙ order.is_accepted in

@@ -23,7 +23,7 @@ use Rattle.swan_top.specs.declared.status.Status.{Status}
 use Rattle.swan_top.specs.declared.how.How.{How}
 use Rattle.swan_top.specs.declared.run_end.RunEnd.{RunEnd}
 use Rattle.swan_top.specs.declared.status.Status.TheVariants as status
-use Rattle.swan_top.specs.declared.verdict.Stop.{Stop}
+use Rattle.swan_top.specs.declared.verdict.WhyStopped.{WhyStopped}
 use Rattle.swan_top.proofs.Pipelines.{is_run}
 use Rattle.swan_top.proofs.TextsRead.{Stops-map}
 
@@ -44,7 +44,7 @@ module _ (end_of : Plan (List Line) Standing → RunEnd) where
     abbrev pub Generates : Verdict → Type 0
     Generates verdict = generated end_of number size ≡ settled verdict
 
-    pub refused_bulk : (text : List ℕ) → text ≡ bulk_job size → (why : Stop) → Stops (IsRefused text) why → Stops Generates why
+    pub refused_bulk : (text : List ℕ) → text ≡ bulk_job size → (why : WhyStopped) → Stops (IsRefused text) why → Stops Generates why
     unfolding generated
     refused_bulk text same = Stops-map (Unit {0}) (Unit {0}) (IsRefused text) Generates (λ _. tt)
         (λ verdict refused. let P : List ℕ → Type 0 = λ t. Comes (bulk_fuel size) t (bulk_input number size ∷ []) verdict in

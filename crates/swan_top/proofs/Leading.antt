@@ -10,23 +10,23 @@ use Rattle.swan_model.specs.declared.lines.LinesAnswer.TheVariants as answer
 use Rattle.swan_model.specs.declared.outcome.Names.{Names}
 use Rattle.swan_model.specs.declared.plan.Plan.{Plan}
 use Rattle.swan_top.specs.Decision.{Verdict, accepted, checked, printed, unread, unless_unfit, unless_unread, next_of_check, next_of_job, next_of_run, next_of_text, ran}
-use Rattle.swan_top.specs.Headline.{AreRead, IsRead, FilesSeen, Follows, Leads, NoReadFailed, NoneTooLong, ReadRefused, files_seen}
+use Rattle.swan_top.specs.Headline.{WereRead, WasRead, FilesSeen, Follows, Leads, NoReadFailed, NoneTooLong, ReadRefused, files_seen}
 use Rattle.swan_top.specs.Settled.{Ran, Stops, StopsOver, IsRefused, InputRefused}
 use Rattle.swan_top.specs.declared.run_end.RunEnd.{RunEnd}
-use Rattle.swan_top.specs.declared.verdict.Stop.{Stop}
+use Rattle.swan_top.specs.declared.verdict.WhyStopped.{WhyStopped}
 use Rattle.swan_top.proofs.TextsRead.{Stops-map, ReadRefused-since, Unrefused, unrefused_since}
 
 -- texts of told contents, told at another moment
-pub AreRead-as : (content mid : List ℕ → Option (List ℕ)) → ((other : List ℕ) → mid other ≡ content other) → (files texts : List (List ℕ)) → AreRead mid files texts → AreRead content files texts
+pub AreRead-as : (content mid : List ℕ → Option (List ℕ)) → ((other : List ℕ) → mid other ≡ content other) → (files texts : List (List ℕ)) → WereRead mid files texts → WereRead content files texts
 AreRead-as content mid same files [] read = tt
 AreRead-as content mid same [] (text ∷ texts) read = read
 AreRead-as content mid same (file ∷ files) (text ∷ texts) read =
-    let P : Option (List ℕ) → Type 0 = λ o. IsRead o text in
+    let P : Option (List ℕ) → Type 0 = λ o. WasRead o text in
     (subst P (same file) read.0, AreRead-as content mid same files texts read.1)
 
-module _ (files : FilesSeen) (job text : List ℕ) (told : IsRead (files.content job) text) where
+module _ (files : FilesSeen) (job text : List ℕ) (told : WasRead (files.content job) text) where
   -- a job that is refused when it is checked
-  pub refused_check : NoReadFailed files → NoneTooLong files → (why : Stop) → Stops (IsRefused text) why → StopsOver files (Leads files (job ∷ []) (next_of_check job)) why
+  pub refused_check : NoReadFailed files → NoneTooLong files → (why : WhyStopped) → Stops (IsRefused text) why → StopsOver files (Leads files (job ∷ []) (next_of_check job)) why
   refused_check read short = Stops-map (Unit {0}) (Unrefused files) (IsRefused text) (Leads files (job ∷ []) (next_of_check job)) (λ _. (read, short))
       (λ verdict refused. record { texts = text ∷ []; are_read = (told, tt); follows = (refused.refused ∙ sym (ap checked refused.first), read, short) })
 
@@ -39,7 +39,7 @@ module _ (files : FilesSeen) (job text : List ℕ) (told : IsRead (files.content
     RunLeads = Leads files (job ∷ names) (next_of_run end_of fuel job names)
 
     -- a job that is refused when it is to run
-    pub refused_run : NoReadFailed files → NoneTooLong files → (why : Stop) → Stops (IsRefused text) why → StopsOver files RunLeads why
+    pub refused_run : NoReadFailed files → NoneTooLong files → (why : WhyStopped) → Stops (IsRefused text) why → StopsOver files RunLeads why
     refused_run read short = Stops-map (Unit {0}) (Unrefused files) (IsRefused text) RunLeads (λ _. (read, short))
         (λ verdict refused.
         let P : Result (List Line) _ → Type 0 = λ r. Follows files (next_of_job end_of fuel names r []) verdict in
@@ -47,7 +47,7 @@ module _ (files : FilesSeen) (job text : List ℕ) (told : IsRead (files.content
 
     module _ (lines : List Line) (is : accepted text ≡ Ok lines) (mid : List ℕ → Option (List ℕ)) (same : (other : List ℕ) → mid other ≡ files.content other) where
       -- an input that couldn't be read
-      pub unread_run : (f1 l1 : ℕ) → f1 ≡ files.faults_before → l1 ≡ files.long_before → (why : Stop) → StopsOver (files_seen mid f1 files.faults_after l1 files.long_after) (InputRefused (files_seen mid f1 files.faults_after l1 files.long_after) names) why → StopsOver files RunLeads why
+      pub unread_run : (f1 l1 : ℕ) → f1 ≡ files.faults_before → l1 ≡ files.long_before → (why : WhyStopped) → StopsOver (files_seen mid f1 files.faults_after l1 files.long_after) (InputRefused (files_seen mid f1 files.faults_after l1 files.long_after) names) why → StopsOver files RunLeads why
       unread_run f1 l1 faults long = Stops-map (Unrefused (files_seen mid f1 files.faults_after l1 files.long_after)) (Unrefused files) (InputRefused (files_seen mid f1 files.faults_after l1 files.long_after) names) RunLeads
           (unrefused_since files.content mid files.faults_before f1 files.faults_after files.long_before l1 files.long_after faults long same)
           (λ verdict refused.
@@ -61,7 +61,7 @@ module _ (files : FilesSeen) (job text : List ℕ) (told : IsRead (files.content
           })
 
       -- a run over inputs that were all read
-      pub ran_run : NoReadFailed files → NoneTooLong files → (texts : List (List ℕ)) → AreRead mid names texts → unread names texts ≡ None → (verdict : Verdict) → verdict ≡ ran end_of lines texts fuel → RunLeads verdict
+      pub ran_run : NoReadFailed files → NoneTooLong files → (texts : List (List ℕ)) → WereRead mid names texts → unread names texts ≡ None → (verdict : Verdict) → verdict ≡ ran end_of lines texts fuel → RunLeads verdict
       ran_run well short texts read all verdict ended =
           let P : Result (List Line) _ → Type 0 = λ r. Follows files (next_of_job end_of fuel names r texts) verdict in
           let Q : Option (List ℕ) → Type 0 = λ o. Follows files (unless_unread o (ran end_of lines texts fuel)) verdict in
@@ -73,11 +73,11 @@ module _ (files : FilesSeen) (job text : List ℕ) (told : IsRead (files.content
 
 -- the job itself couldn't be read
 module _ (files : FilesSeen) (job : List ℕ) where
-  pub unread_check : (why : Stop) → StopsOver files (ReadRefused files job) why → StopsOver files (Leads files (job ∷ []) (next_of_check job)) why
+  pub unread_check : (why : WhyStopped) → StopsOver files (ReadRefused files job) why → StopsOver files (Leads files (job ∷ []) (next_of_check job)) why
   unread_check = Stops-map (Unrefused files) (Unrefused files) (ReadRefused files job) (Leads files (job ∷ []) (next_of_check job)) (λ kept. kept)
       (λ verdict refused. record { texts = []; are_read = tt; follows = refused })
 
-  pub unread_job : (end_of : Plan (List Line) Standing → RunEnd) (fuel : ℕ) (names : List (List ℕ)) (why : Stop) → StopsOver files (ReadRefused files job) why → StopsOver files (Leads files (job ∷ names) (next_of_run end_of fuel job names)) why
+  pub unread_job : (end_of : Plan (List Line) Standing → RunEnd) (fuel : ℕ) (names : List (List ℕ)) (why : WhyStopped) → StopsOver files (ReadRefused files job) why → StopsOver files (Leads files (job ∷ names) (next_of_run end_of fuel job names)) why
   unread_job end_of fuel names = Stops-map (Unrefused files) (Unrefused files) (ReadRefused files job) (Leads files (job ∷ names) (next_of_run end_of fuel job names)) (λ kept. kept)
       (λ verdict refused. record { texts = []; are_read = tt; follows = refused })
 
@@ -94,7 +94,7 @@ module _ {B L : Type 0} (end_of : Plan B L → RunEnd) (plan_of : List ℕ → P
   ran_is (Err why) verdict is accepted (inr refused) ran =
       ran.1 ∙ ap (λ w. unless_unfit w (printed text_names (end_of (plan_of text)))) (sym refused)
 
-  module _ (seen : List ℕ) (same : seen ≡ text) (files : FilesSeen) (input : List ℕ) (told : IsRead (files.content input) text) (read : NoReadFailed files) (short : NoneTooLong files) where
+  module _ (seen : List ℕ) (same : seen ≡ text) (files : FilesSeen) (input : List ℕ) (told : WasRead (files.content input) text) (read : NoReadFailed files) (short : NoneTooLong files) where
     pub ran_text : (made : Result (Plan B L) LinesAnswer) (names : Names) → names ≡ text_names → IfOk made (λ plan. plan ≡ plan_of seen) → IfOk made (λ plan. refusal_of seen ≡ None)
         → IfErr made (λ why. (why ≡ answer.NoMemory) ⊎ (refusal_of seen ≡ Some why)) → (verdict : Verdict) → Ran end_of names made verdict
         → Leads files (input ∷ []) (next_of_text (λ t. end_of (plan_of t)) input) verdict

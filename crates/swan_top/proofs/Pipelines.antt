@@ -28,7 +28,7 @@ use Rattle.swan_model.specs.declared.value.Value.TheVariants.{Bytes}
 use Rattle.swan_top.specs.Command.{Command, help, version, check, elide, run, index, convert, bulk}
 use Rattle.swan_top.specs.Decision.{Verdict, prints, next_of_text, printed, status_of, unless_unfit}
 use Rattle.swan_top.specs.Elisions.{cheapest, elisions, end_by}
-use Rattle.swan_top.specs.Headline.{Answers, AreRead, FilesSeen, Follows, IsRead, Leads, SinkSeen, Took, Wrote, ends_of}
+use Rattle.swan_top.specs.Headline.{Answers, WereRead, FilesSeen, Follows, WasRead, Leads, SinkSeen, Took, Wrote, ends_of}
 use Rattle.swan_top.specs.Pipelines.{WroteOfText, conversion_faults, pipeline_report}
 use Rattle.swan_top.specs.declared.status.Status.{Status}
 use Rattle.swan_top.specs.declared.how.How.{How}
@@ -66,8 +66,8 @@ abbrev pub ConversionLaw : Ghosts RecordBody RecordLocal → Type 0
 ConversionLaw record_ghosts = (text : List ℕ) → length text ≤ 67108864 → IsConverted text (outcome record_ghosts (record_plan text))
 
 module _ (files : FilesSeen) (out report : SinkSeen) (input : List ℕ) where
-  read_of : (end_over : List ℕ → RunEnd) (verdict : Verdict) (texts : List (List ℕ)) → is_run (ends_of verdict) ≡ true → AreRead files.content (input ∷ []) texts → Follows files (next_of_text end_over input texts) verdict
-      → (text : List ℕ) × IsRead (files.content input) text × (refusal_of text ≡ None) × (verdict ≡ printed text_names (end_over text))
+  read_of : (end_over : List ℕ → RunEnd) (verdict : Verdict) (texts : List (List ℕ)) → is_run (ends_of verdict) ≡ true → WereRead files.content (input ∷ []) texts → Follows files (next_of_text end_over input texts) verdict
+      → (text : List ℕ) × WasRead (files.content input) text × (refusal_of text ≡ None) × (verdict ≡ printed text_names (end_over text))
   read_of end_over verdict [] runs read (inl failed) = let bad : is_run (ends_of verdict) ≡ false = ap (λ w. is_run (ends_of w)) failed.0 in absurd (cc)
   read_of end_over verdict [] runs read (inr longer) = let bad : is_run (ends_of verdict) ≡ false = ap (λ w. is_run (ends_of w)) longer.0 in absurd (cc)
   read_of end_over verdict (text ∷ texts) runs read follows =
@@ -93,7 +93,7 @@ module _ (files : FilesSeen) (out report : SinkSeen) (input : List ℕ) where
 
   module _ (verdict : Verdict) (ends : Status) (runs : is_run (ends_of verdict) ≡ true) (same : ends ≡ ends_of verdict) (wrote : Wrote out report verdict) where
     indexed : (index_ghosts : Ghosts IndexBody IndexLocal) (taken : Way) → IndexLaw index_ghosts → Leads files (input ∷ []) (next_of_text (λ t. end_by index_ghosts taken (index_plan t)) input) verdict
-        → (text : List ℕ) × IsRead (files.content input) text × (refusal_of text ≡ None) × ((how : How) × (ends ≡ status.Done how)) × Took out (index_of text) × Took report (pipeline_report [])
+        → (text : List ℕ) × WasRead (files.content input) text × (refusal_of text ≡ None) × ((how : How) × (ends ≡ status.Done how)) × Took out (index_of text) × Took report (pipeline_report [])
     indexed index_ghosts taken index_law leads =
         let r = read_of (λ t. end_by index_ghosts taken (index_plan t)) verdict leads.texts runs leads.are_read leads.follows in
         let law = index_law r.0 r.1.most in
@@ -102,7 +102,7 @@ module _ (files : FilesSeen) (out report : SinkSeen) (input : List ℕ) where
         (r.0, r.1, r.2, (end.how, t.0), t.1, t.2)
 
     converted : (record_ghosts : Ghosts RecordBody RecordLocal) (taken : Way) → ConversionLaw record_ghosts → Leads files (input ∷ []) (next_of_text (λ t. end_by record_ghosts taken (record_plan t)) input) verdict
-        → (text : List ℕ) × IsRead (files.content input) text × (refusal_of text ≡ None) × ((how : How) × (ends ≡ ends_by how (is_some_fault (conversion_faults text)))) × Took out (convert_of text) × Took report (pipeline_report (conversion_faults text))
+        → (text : List ℕ) × WasRead (files.content input) text × (refusal_of text ≡ None) × ((how : How) × (ends ≡ ends_by how (is_some_fault (conversion_faults text)))) × Took out (convert_of text) × Took report (pipeline_report (conversion_faults text))
     converted record_ghosts taken conversion_law leads =
         let r = read_of (λ t. end_by record_ghosts taken (record_plan t)) verdict leads.texts runs leads.are_read leads.follows in
         let law = conversion_law r.0 r.1.most in

@@ -5,16 +5,16 @@ use Rattle.swan_top.specs.declared.verdict.Settled.{Settled}
 use Rattle.swan_outside.specs.Counts.{Rose}
 use Rattle.swan_outside.specs.Reads.{IsTooLong}
 use Rattle.swan_top.specs.Decision.{Verdict, unread}
-use Rattle.swan_top.specs.Headline.{AreRead, FilesSeen, IsRead, NoReadFailed, NoneTooLong, ReadRefused, files_seen}
+use Rattle.swan_top.specs.Headline.{WereRead, FilesSeen, WasRead, NoReadFailed, NoneTooLong, ReadRefused, files_seen}
 use Rattle.swan_top.specs.Settled.{Is, StopsOver, StopsWith, InputRefused, verdict_of}
-use Rattle.swan_top.specs.declared.verdict.Stop.{Stop}
-use Rattle.swan_top.specs.declared.verdict.Stop.TheVariants as stop
+use Rattle.swan_top.specs.declared.verdict.WhyStopped.{WhyStopped}
+use Rattle.swan_top.specs.declared.verdict.WhyStopped.TheVariants as stop
 
 -- one more text of the file that comes next
-pub AreRead-push : (content : List ℕ → Option (List ℕ)) (files texts : List (List ℕ)) (text file : List ℕ) → AreRead content files texts → length texts < length files → get_or files (length texts) file ≡ file → IsRead (content file) text → AreRead content files (texts ++ text ∷ [])
+pub AreRead-push : (content : List ℕ → Option (List ℕ)) (files texts : List (List ℕ)) (text file : List ℕ) → WereRead content files texts → length texts < length files → get_or files (length texts) file ≡ file → WasRead (content file) text → WereRead content files (texts ++ text ∷ [])
 AreRead-push content [] texts text file read within at tells = absurd (omega arith)
 AreRead-push content (name ∷ names) [] text file read within at tells =
-    let P : List ℕ → Type 0 = λ f. IsRead (content f) text in (subst P (sym at) tells, tt)
+    let P : List ℕ → Type 0 = λ f. WasRead (content f) text in (subst P (sym at) tells, tt)
 AreRead-push content (name ∷ names) (other ∷ texts) text file read within at tells =
     (read.0, AreRead-push content names texts text file read.1 (omega arith) at tells)
 
@@ -34,7 +34,7 @@ abbrev pub Unrefused : FilesSeen → Type 0
 Unrefused files = NoReadFailed files × NoneTooLong files
 
 -- a verdict that is so is so in another way
-pub Stops-map : (U V : Type 0) (P Q : Verdict → Type 0) → (U → V) → ((verdict : Verdict) → P verdict → Q verdict) → (why : Stop) → StopsWith U P why → StopsWith V Q why
+pub Stops-map : (U V : Type 0) (P Q : Verdict → Type 0) → (U → V) → ((verdict : Verdict) → P verdict → Q verdict) → (why : WhyStopped) → StopsWith U P why → StopsWith V Q why
 Stops-map U V P Q g f (stop.Settled verdict) is = record { fact = f (verdict_of verdict) is.fact; ends = is.ends }
 Stops-map U V P Q g f stop.NoMemory is = g is
 
@@ -52,7 +52,7 @@ module _ (content mid : List ℕ → Option (List ℕ)) (f0 f1 f2 l0 l1 l2 : ℕ
   pub unrefused_since : Unrefused (files_seen mid f1 f2 l1 l2) → Unrefused (files_seen content f0 f2 l0 l2)
   unrefused_since kept = (kept.0 ∙ faults, kept.1 ∙ long)
 
-  pub input_refused : (names texts : List (List ℕ)) (file : List ℕ) → AreRead content names texts → unread names texts ≡ Some file → (why : Stop) → StopsOver (files_seen mid f1 f2 l1 l2) (ReadRefused (files_seen mid f1 f2 l1 l2) file) why → StopsOver (files_seen content f0 f2 l0 l2) (InputRefused (files_seen content f0 f2 l0 l2) names) why
+  pub input_refused : (names texts : List (List ℕ)) (file : List ℕ) → WereRead content names texts → unread names texts ≡ Some file → (why : WhyStopped) → StopsOver (files_seen mid f1 f2 l1 l2) (ReadRefused (files_seen mid f1 f2 l1 l2) file) why → StopsOver (files_seen content f0 f2 l0 l2) (InputRefused (files_seen content f0 f2 l0 l2) names) why
   input_refused names texts file read is_next =
       Stops-map (Unrefused (files_seen mid f1 f2 l1 l2)) (Unrefused (files_seen content f0 f2 l0 l2)) (ReadRefused (files_seen mid f1 f2 l1 l2) file) (InputRefused (files_seen content f0 f2 l0 l2) names) (unrefused_since)
       (λ verdict refused. record { texts = texts; are_read = read; file = file; is_next = is_next; refused = ReadRefused-since file verdict refused })

@@ -9,9 +9,9 @@ use Rattle.swan_top.specs.declared.command.TheConstants.{FUEL_WORD_MOST}
 use Rattle.swan_top.specs.declared.command.Usage.{Usage}
 
 -- what the words are was answered
-abbrev pub Reads : Option Command → Result Asked Usage → Type 0
-Reads wanted (Ok command) = (wanted ≡ Some (asked command)) × IsWithinLimits (asked command)
-Reads wanted (Err usage) = wanted ≡ None
+abbrev pub ReadsWords : Option Command → Result Asked Usage → Type 0
+ReadsWords wanted (Ok command) = (wanted ≡ Some (asked command)) × IsWithinLimits (asked command)
+ReadsWords wanted (Err usage) = wanted ≡ None
 
 -- a job and its inputs, where all words can name files
 abbrev pub FilesOf : Option (Bor (List ℕ) × Bor (List (List ℕ))) → List (List ℕ) → Type 0

@@ -75,15 +75,15 @@ abbrev pub files_over : {F : Type 0} → (F → List ℕ → Option (List ℕ)) 
 files_over content faults long_reads before after = files_seen (content before) (faults before) (faults after) (long_reads before) (long_reads after)
 
 -- A text was read: it is within the limit of files, and it is the told content, where one is told.
-pub record IsRead (content : Option (List ℕ)) (text : List ℕ) : Type 0 where
+pub record WasRead (content : Option (List ℕ)) (text : List ℕ) : Type 0 where
   pub told : Tells content text
   pub most : length text ≤ FILE_MOST
 
 -- These texts were read of these files, one of each from the first on.
-abbrev pub AreRead : (List ℕ → Option (List ℕ)) → (files : List (List ℕ)) → (texts : List (List ℕ)) → Type 0
-AreRead content files [] = Unit {0}
-AreRead content (file ∷ files) (text ∷ texts) = IsRead (content file) text × AreRead content files texts
-AreRead content [] (text ∷ texts) = ⊥
+abbrev pub WereRead : (List ℕ → Option (List ℕ)) → (files : List (List ℕ)) → (texts : List (List ℕ)) → Type 0
+WereRead content files [] = Unit {0}
+WereRead content (file ∷ files) (text ∷ texts) = WasRead (content file) text × WereRead content files texts
+WereRead content [] (text ∷ texts) = ⊥
 
 abbrev pub NoReadFailed : FilesSeen → Type 0
 NoReadFailed files = files.faults_after ≡ files.faults_before
@@ -108,7 +108,7 @@ Follows files (reads file) verdict = ReadRefused files file verdict
 -- The verdict is what comes of these files, by texts that were read of them in their order.
 pub record Leads (files : FilesSeen) (names : List (List ℕ)) (next_of : List (List ℕ) → Next) (verdict : Verdict) : Type 0 where
   pub texts : List (List ℕ)
-  pub are_read : AreRead files.content names texts
+  pub are_read : WereRead files.content names texts
   pub follows : Follows files (next_of texts) verdict
 
 -- the verdict is what comes of a command

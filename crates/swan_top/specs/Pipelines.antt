@@ -7,7 +7,7 @@ use Rattle.swan_model.specs.Lines.{lines, refusal_of}
 use Rattle.swan_model.specs.Texts.{fault_line, is_some_fault, line}
 use Rattle.swan_model.specs.declared.fault.Fault.{Fault}
 use Rattle.swan_top.specs.Command.{Command, index, convert}
-use Rattle.swan_top.specs.Headline.{FilesSeen, SinkSeen, IsRead, Took}
+use Rattle.swan_top.specs.Headline.{FilesSeen, SinkSeen, WasRead, Took}
 use Rattle.swan_top.specs.declared.status.Status.{Status}
 use Rattle.swan_top.specs.declared.status.Status.TheVariants as status
 
@@ -22,7 +22,7 @@ pipeline_report faults = codes "left input 0\n" ++ (line (codes "faults " ++ dec
 -- A text was read of a file, its lines are within their limits, and the sinks took what is said of it.
 pub record WrittenOf (files : FilesSeen) (out report : SinkSeen) (input : List ℕ) (out_of : List ℕ → List ℕ) (faults_of : List ℕ → List Fault) (is_faulted : Bool) : Type 0 where
   pub text : List ℕ
-  pub is_read : IsRead (files.content input) text
+  pub is_read : WasRead (files.content input) text
   pub none_refused : refusal_of text ≡ None
   pub faulted : is_some_fault (faults_of text) ≡ is_faulted
   pub wrote_out : Took out (out_of text)

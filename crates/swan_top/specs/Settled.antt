@@ -7,14 +7,14 @@ use Rattle.swan_model.specs.declared.lines.LinesAnswer.TheVariants as answer
 use Rattle.swan_model.specs.declared.outcome.Names.{Names}
 use Rattle.swan_model.specs.declared.plan.Plan.{Plan}
 use Rattle.swan_top.specs.Decision.{Verdict, prints, refuses, unread, accepted, job_refused, input_line, printed}
-use Rattle.swan_top.specs.Headline.{FilesSeen, AreRead, NoReadFailed, NoneTooLong, ReadRefused}
+use Rattle.swan_top.specs.Headline.{FilesSeen, WereRead, NoReadFailed, NoneTooLong, ReadRefused}
 use Rattle.swan_top.specs.declared.run_end.RunEnd.{RunEnd}
 use Rattle.swan_top.specs.declared.status.Status.{Status}
 use Rattle.swan_top.specs.declared.status.Status.TheVariants as status
 use Rattle.swan_top.specs.declared.verdict.Settled.{Settled}
 use Rattle.swan_top.specs.declared.verdict.Settled.TheVariants as settled
-use Rattle.swan_top.specs.declared.verdict.Stop.{Stop}
-use Rattle.swan_top.specs.declared.verdict.Stop.TheVariants as stop
+use Rattle.swan_top.specs.declared.verdict.WhyStopped.{WhyStopped}
+use Rattle.swan_top.specs.declared.verdict.WhyStopped.TheVariants as stop
 
 abbrev pub verdict_of : Settled → Verdict
 verdict_of (settled.Prints out report ends) = prints out report ends
@@ -36,22 +36,22 @@ pub record Is (P : Verdict → Type 0) (verdict : Settled) : Type 0 where
   pub ends : EndsSo verdict
 
 -- where a verdict stops it, the verdict is so, and where want of memory does, this fact holds
-abbrev pub StopsWith : Type 0 → (Verdict → Type 0) → Stop → Type 0
+abbrev pub StopsWith : Type 0 → (Verdict → Type 0) → WhyStopped → Type 0
 StopsWith unread P (stop.Settled verdict) = Is P verdict
 StopsWith unread P stop.NoMemory = unread
 
 -- the same where no file is at hand
-abbrev pub Stops : (Verdict → Type 0) → Stop → Type 0
+abbrev pub Stops : (Verdict → Type 0) → WhyStopped → Type 0
 Stops P = StopsWith (Unit {0}) P
 
 -- and over files: memory ran out only where no read was refused
-abbrev pub StopsOver : FilesSeen → (Verdict → Type 0) → Stop → Type 0
+abbrev pub StopsOver : FilesSeen → (Verdict → Type 0) → WhyStopped → Type 0
 StopsOver files P = StopsWith (NoReadFailed files × NoneTooLong files) P
 
 -- An input couldn't be read, and those before it were.
 pub record InputRefused (files : FilesSeen) (names : List (List ℕ)) (verdict : Verdict) : Type 0 where
   pub texts : List (List ℕ)
-  pub are_read : AreRead files.content names texts
+  pub are_read : WereRead files.content names texts
   pub file : List ℕ
   pub is_next : unread names texts ≡ Some file
   pub refused : ReadRefused files file verdict

@@ -4,7 +4,7 @@ ghost use Rattle.swan_top.specs.Decision.{accepted, job_line, job_refused, kind_
 ghost use Rattle.swan_top.specs.Settled.{Stops, IsRefused};
 
 use crate::Status;
-use crate::verdict::{Settled, Stop};
+use crate::verdict::{Settled, WhyStopped};
 use job_reader::{JobFault, JobKind, ReadJob, read_job};
 use privilege_check::{CheckJob, CheckedJob, check};
 use std::alloc::{AllocError, Global};
@@ -44,32 +44,32 @@ fn refusal_line(alloc: Global, fault: JobFault) -> Result<Blob, AllocError>
 }
 
 // A job's refusal.
-fn refuse(alloc: Global, fault: JobFault) -> Stop
+fn refuse(alloc: Global, fault: JobFault) -> WhyStopped
     ensures { Stops (λ verdict. verdict ≡ job_refused fault) result }
 {
     match refusal_line(alloc, fault) {
-        Ok(line) => Stop::Settled(Settled::Refuses {
+        Ok(line) => WhyStopped::Settled(Settled::Refuses {
             line,
             ends: Status::JobRefused,
         }),
-        Err(_) => Stop::NoMemory,
+        Err(_) => WhyStopped::NoMemory,
     }
 }
 
 // The job that a text is, or its refusal. The text is given up once it is read.
-pub(crate) fn accept(alloc: Global, text: Vec<u8>) -> Result<CheckedJob, Stop>
+pub(crate) fn accept(alloc: Global, text: Vec<u8>) -> Result<CheckedJob, WhyStopped>
     ensures job { IfOk result (λ job. accepted text.items ≡ Ok job) }
     ensures refused { IfErr result (λ why. Stops (IsRefused text.items) why) }
 {
     let job = match read_job(alloc, text.as_slice()) {
         Ok(job) => job,
         Err(ReadJob::Refused(fault)) => return Err(refuse(alloc, fault)),
-        Err(ReadJob::NoMemory) => return Err(Stop::NoMemory),
+        Err(ReadJob::NoMemory) => return Err(WhyStopped::NoMemory),
     };
     drop(text);
     match check(alloc, job) {
         Ok(job) => Ok(job),
         Err(CheckJob::Refused(fault)) => Err(refuse(alloc, fault)),
-        Err(CheckJob::NoMemory) => Err(Stop::NoMemory),
+        Err(CheckJob::NoMemory) => Err(WhyStopped::NoMemory),
     }
 }

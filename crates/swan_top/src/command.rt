@@ -2,7 +2,7 @@
 ghost use Rattle.std.specs.Prelude.{◌≡◌, ◌^◌, ◌<◌, ◌∷◌, [], bytes_eq, IfOk, OnErr, Some, None};
 ghost use Rattle.swan_runtime.specs.declared.shape.TheConstants.{WORKERS_MOST};
 ghost use Rattle.swan_top.specs.Command.{command, number, is_file, alone, asked, job_alone, fueled, manned, over_input, elide, run, index, convert, three_numbers, IsWithinLimits};
-ghost use Rattle.swan_top.specs.Forms.{Reads, FilesOf, JobOf, WorkersOf, InputOf};
+ghost use Rattle.swan_top.specs.Forms.{ReadsWords, FilesOf, JobOf, WorkersOf, InputOf};
 ghost use Rattle.std.specs.List.{list_all};
 
 use bulk_workload::BULK_MOST;
@@ -106,7 +106,7 @@ fn is_file(word: &Word) -> bool
 // A command of no further words.
 fn alone<'a>(command: Command<'a>, words: &[Word]) -> Result<Command<'a>, Usage>
     requires { IsWithinLimits (asked command) }
-    ensures { Reads (alone (asked command.entry) words.now) result }
+    ensures { ReadsWords (alone (asked command.entry) words.now) result }
 {
     match words {
         [] => Ok(command),
@@ -116,7 +116,7 @@ fn alone<'a>(command: Command<'a>, words: &[Word]) -> Result<Command<'a>, Usage>
 
 // JOB.
 fn job_alone(words: &[Word]) -> Result<Command<'_>, Usage>
-    ensures { Reads (job_alone words.now) result }
+    ensures { ReadsWords (job_alone words.now) result }
 {
     match words {
         [job] if is_file(job) => Ok(Command::Check { job }),
@@ -166,7 +166,7 @@ fn fueled(words: &[Word]) -> Option<JobWords<'_>>
 
 // FUEL JOB INPUT*, for the elision.
 fn elide_command(words: &[Word]) -> Result<Command<'_>, Usage>
-    ensures { Reads (fueled elide words.now) result }
+    ensures { ReadsWords (fueled elide words.now) result }
 {
     match fueled(words) {
         Some(JobWords { fuel, job, inputs }) => Ok(Command::Elide { fuel, job, inputs }),
@@ -199,7 +199,7 @@ fn manned(words: &[Word]) -> Option<(u32, &[Word])>
 
 // WORKERS FUEL JOB INPUT*.
 fn run_command(words: &[Word]) -> Result<Command<'_>, Usage>
-    ensures { Reads (manned words.now) result }
+    ensures { ReadsWords (manned words.now) result }
 {
     let Some((workers, words)) = manned(words) else {
         return Err(Usage);
@@ -230,7 +230,7 @@ fn over_input(words: &[Word]) -> Option<(u32, &Word)>
 
 // WORKERS INPUT, for the index.
 fn index_command(words: &[Word]) -> Result<Command<'_>, Usage>
-    ensures { Reads (over_input index words.now) result }
+    ensures { ReadsWords (over_input index words.now) result }
 {
     match over_input(words) {
         Some((workers, input)) => Ok(Command::Index { workers, input }),
@@ -240,7 +240,7 @@ fn index_command(words: &[Word]) -> Result<Command<'_>, Usage>
 
 // WORKERS INPUT, for the conversion.
 fn convert_command(words: &[Word]) -> Result<Command<'_>, Usage>
-    ensures { Reads (over_input convert words.now) result }
+    ensures { ReadsWords (over_input convert words.now) result }
 {
     match over_input(words) {
         Some((workers, input)) => Ok(Command::Convert { workers, input }),
@@ -254,7 +254,7 @@ fn generated_by<'a>(
     size_word: &Word,
     workers_word: &Word,
 ) -> Result<Command<'a>, Usage>
-    ensures { Reads (three_numbers (number_word.now ∷ size_word.now ∷ workers_word.now ∷ [])) result }
+    ensures { ReadsWords (three_numbers (number_word.now ∷ size_word.now ∷ workers_word.now ∷ [])) result }
 {
     match (
         number(0, NUMBER_WORD_MOST, number_word),
@@ -272,7 +272,7 @@ fn generated_by<'a>(
 
 // NUMBER SIZE WORKERS.
 fn bulk_command(words: &[Word]) -> Result<Command<'_>, Usage>
-    ensures { Reads (three_numbers words.now) result }
+    ensures { ReadsWords (three_numbers words.now) result }
 {
     match words {
         [number, size, workers] => generated_by(number, size, workers),

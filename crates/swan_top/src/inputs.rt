@@ -1,11 +1,11 @@
 // Reading the inputs of a job.
 ghost use Rattle.std.specs.Prelude.{◌≡◌, ℕ, List, Some, None, IfOk, OnOk, IfErr};
 ghost use Rattle.swan_top.specs.Decision.{unread};
-ghost use Rattle.swan_top.specs.Headline.{AreRead, ReadRefused, files_over};
+ghost use Rattle.swan_top.specs.Headline.{WereRead, ReadRefused, files_over};
 ghost use Rattle.swan_top.specs.Settled.{StopsOver, InputRefused};
 
 use crate::read::read_file;
-use crate::verdict::Stop;
+use crate::verdict::WhyStopped;
 use std::alloc::Global;
 use swan_model::{Blob, Word};
 use swan_outside::Files;
@@ -15,8 +15,8 @@ pub(crate) fn read_inputs<F: Files>(
     alloc: Global,
     files: &mut F,
     names: &[Word],
-) -> Result<Vec<Blob>, Stop>
-    ensures read { IfOk result (λ inputs. AreRead (F.content files.old) names.now inputs.items) }
+) -> Result<Vec<Blob>, WhyStopped>
+    ensures read { IfOk result (λ inputs. WereRead (F.content files.old) names.now inputs.items) }
     ensures all { IfOk result (λ inputs. unread names.now inputs.items ≡ None) }
     ensures refused { let seen = files_over F.content F.faults F.long_reads files.old files.new in
         IfErr result (λ stop. StopsOver seen (InputRefused seen names.now) stop) }

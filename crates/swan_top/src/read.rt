@@ -1,13 +1,13 @@
 // Reading files.
 ghost use Rattle.std.specs.Prelude.{◌≡◌, ◌+◌, ◌≤◌, ℕ, List, [], length, vec_capacity, Some, None, IfOk, OnOk, IfErr};
 ghost use Rattle.swan_top.specs.Decision.{refuses};
-ghost use Rattle.swan_top.specs.Headline.{IsRead, ReadRefused, files_over};
+ghost use Rattle.swan_top.specs.Headline.{WasRead, ReadRefused, files_over};
 ghost use Rattle.swan_top.specs.Refusals.{file_line};
 ghost use Rattle.swan_top.specs.Settled.{StopsOver, StopsWith};
 ghost use Rattle.swan_top.specs.declared.status.Status.TheVariants as status;
 
 use crate::Status;
-use crate::verdict::{Settled, Stop};
+use crate::verdict::{Settled, WhyStopped};
 use std::alloc::{AllocError, Global};
 use swan_model::{Blob, Word};
 use swan_outside::{Files, ReadAnswer};
@@ -34,13 +34,13 @@ fn file_line(mut line: Vec<u8>, what: &str, file: &Word) -> Blob
 }
 
 // Settles that a file can't be read. It takes no memory.
-fn refuse(line: Vec<u8>, what: &str, file: &Word) -> Stop
+fn refuse(line: Vec<u8>, what: &str, file: &Word) -> WhyStopped
     requires empty { line.items ≡ [] }
     requires short { length what.now ≤ 12 }
     requires room { 13 + length file.now ≤ vec_capacity line }
     ensures { StopsWith ⊥ (λ verdict. verdict ≡ refuses (file_line what.now file.now) status.ReadFailed) result }
 {
-    Stop::Settled(Settled::Refuses {
+    WhyStopped::Settled(Settled::Refuses {
         line: file_line(line, what, file),
         ends: Status::ReadFailed,
     })
@@ -52,8 +52,8 @@ pub(crate) fn read_file<F: Files>(
     alloc: Global,
     files: &mut F,
     file: &Word,
-) -> Result<Vec<u8>, Stop>
-    ensures read { IfOk result (λ text. IsRead (F.content files.old file.now) text.items) }
+) -> Result<Vec<u8>, WhyStopped>
+    ensures read { IfOk result (λ text. WasRead (F.content files.old file.now) text.items) }
     ensures refused { let seen = files_over F.content F.faults F.long_reads files.old files.new in
         IfErr result (λ stop. StopsOver seen (ReadRefused seen file.now) stop) }
     ensures no_fault { OnOk result (F.faults files.new ≡ F.faults files.old) }
@@ -66,6 +66,6 @@ pub(crate) fn read_file<F: Files>(
         Ok(()) => Ok(text),
         Err(ReadAnswer::Failed) => Err(refuse(line, "read failed ", file)),
         Err(ReadAnswer::TooLong) => Err(refuse(line, "too long ", file)),
-        Err(ReadAnswer::NoMemory) => Err(Stop::NoMemory),
+        Err(ReadAnswer::NoMemory) => Err(WhyStopped::NoMemory),
     }
 }

@@ -16,7 +16,7 @@ ghost use Rattle.job_body.specs.declared.answer.PlanAnswer.TheVariants as plan;
 
 use crate::engine::Engine;
 use crate::run_end::RunEnd;
-use crate::verdict::{Settled, Stop};
+use crate::verdict::{Settled, WhyStopped};
 use crate::way::Way;
 use crate::{How, Status};
 use job_body::{PlanAnswer, names_of, plan_of};
@@ -157,14 +157,14 @@ pub(crate) fn run_text<T: Threads + Wait + Clock + Sync, G: Gate, B: Body>(
     way: Way,
     plan: Result<Plan<B>, LinesAnswer>,
     names: &Names,
-) -> Result<Settled, Stop>
+) -> Result<Settled, WhyStopped>
     requires { IfOk plan (λ plan'. IsNaming names.now plan'.roots) }
     ensures ran { IfOk result (Is (Ran (end_by B.Body way) names.now plan)) }
     ensures refused { IfErr result (Stops (Ran (end_by B.Body way) names.now plan)) }
 {
     match plan {
         Ok(plan) => Ok(run_plan(engine, way, plan, names)?),
-        Err(LinesAnswer::NoMemory) => Err(Stop::NoMemory),
+        Err(LinesAnswer::NoMemory) => Err(WhyStopped::NoMemory),
         Err(why) => Err(refuse_inputs(engine.alloc, PlanAnswer::of_input(1, why))),
     }
 }
@@ -176,7 +176,7 @@ pub(crate) fn run_job<T: Threads + Wait + Clock + Sync, G: Gate>(
     fuel: u64,
     job: CheckedJob,
     inputs: Vec<Blob>,
-) -> Result<Settled, Stop>
+) -> Result<Settled, WhyStopped>
     requires { fuel ≤ FUEL_MOST }
     ensures ran { IfOk result (Is (λ verdict. verdict ≡ ran (elisions.of_job way) job inputs.items fuel)) }
     ensures refused { IfErr result (Stops (λ verdict. verdict ≡ ran (elisions.of_job way) job inputs.items fuel)) }
@@ -184,21 +184,21 @@ pub(crate) fn run_job<T: Threads + Wait + Clock + Sync, G: Gate>(
     let names = names_of(engine.alloc, &job)?;
     let plan = match plan_of(engine.alloc, job, inputs, fuel) {
         Ok(plan) => plan,
-        Err(PlanAnswer::NoMemory) => return Err(Stop::NoMemory),
+        Err(PlanAnswer::NoMemory) => return Err(WhyStopped::NoMemory),
         Err(why) => return Err(refuse_inputs(engine.alloc, why)),
     };
     Ok(run_plan(engine, way, plan, &names)?)
 }
 
 // A refusal of inputs.
-fn refuse_inputs(alloc: Global, why: PlanAnswer) -> Stop
+fn refuse_inputs(alloc: Global, why: PlanAnswer) -> WhyStopped
     ensures { Stops (λ verdict. verdict ≡ refuses (input_line why) status.InputRefused) result }
 {
     match input_line(alloc, why) {
-        Ok(line) => Stop::Settled(Settled::Refuses {
+        Ok(line) => WhyStopped::Settled(Settled::Refuses {
             line,
             ends: Status::InputRefused,
         }),
-        Err(_) => Stop::NoMemory,
+        Err(_) => WhyStopped::NoMemory,
     }
 }

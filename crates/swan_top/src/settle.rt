@@ -15,7 +15,7 @@ use crate::engine::Engine;
 use crate::inputs::read_inputs;
 use crate::read::read_file;
 use crate::run::{run_job, run_text};
-use crate::verdict::{Settled, Stop};
+use crate::verdict::{Settled, WhyStopped};
 use crate::way::Way;
 use crate::{Command, HELP, How, Status, VERSION};
 use bulk_workload::{bulk_fuel, bulk_input, bulk_job};
@@ -43,7 +43,7 @@ fn settle_text(alloc: Global, text: &str) -> Result<Settled, AllocError>
 }
 
 // The canonical text of an accepted job, and that it is accepted.
-fn settle_checked(alloc: Global, job: &CheckedJob) -> Result<Settled, Stop>
+fn settle_checked(alloc: Global, job: &CheckedJob) -> Result<Settled, WhyStopped>
     ensures ok { IfOk result (Is (λ verdict. verdict ≡ checked (Ok job.now))) }
     ensures err { IfErr result (Stops (λ verdict. verdict ≡ checked (Ok job.now))) }
 {
@@ -55,7 +55,7 @@ fn settle_checked(alloc: Global, job: &CheckedJob) -> Result<Settled, Stop>
 }
 
 // What the check of a job leads to.
-fn settle_check<F: Files>(alloc: Global, files: &mut F, job: &Word) -> Result<Settled, Stop>
+fn settle_check<F: Files>(alloc: Global, files: &mut F, job: &Word) -> Result<Settled, WhyStopped>
     ensures ok { IfOk result (Is (Leads (files_over F.content F.faults F.long_reads files.old files.new)
         (job.now ∷ []) (next_of_check job.now))) }
     ensures err { let seen = files_over F.content F.faults F.long_reads files.old files.new in
@@ -74,7 +74,7 @@ fn settle_run<T: Threads + Wait + Clock + Sync, F: Files, G: Gate>(
     fuel: u64,
     job: &Word,
     inputs: &[Word],
-) -> Result<Settled, Stop>
+) -> Result<Settled, WhyStopped>
     requires { fuel ≤ FUEL_MOST }
     ensures ok { IfOk result (Is (Leads (files_over F.content F.faults F.long_reads files.old files.new)
         (job.now ∷ inputs.now) (next_of_run (elisions.of_job way) fuel job.now inputs.now))) }
@@ -94,7 +94,7 @@ fn settle_index<T: Threads + Wait + Clock + Sync, F: Files, G: Gate>(
     files: &mut F,
     workers: u32,
     input: &Word,
-) -> Result<Settled, Stop>
+) -> Result<Settled, WhyStopped>
     ensures ok { IfOk result (Is (Leads (files_over F.content F.faults F.long_reads files.old files.new)
         (input.now ∷ []) (next_of_text (indexed elisions workers) input.now))) }
     ensures err { let seen = files_over F.content F.faults F.long_reads files.old files.new in
@@ -114,7 +114,7 @@ fn settle_convert<T: Threads + Wait + Clock + Sync, F: Files, G: Gate>(
     files: &mut F,
     workers: u32,
     input: &Word,
-) -> Result<Settled, Stop>
+) -> Result<Settled, WhyStopped>
     ensures ok { IfOk result (Is (Leads (files_over F.content F.faults F.long_reads files.old files.new)
         (input.now ∷ []) (next_of_text (converted elisions workers) input.now))) }
     ensures err { let seen = files_over F.content F.faults F.long_reads files.old files.new in
@@ -134,7 +134,7 @@ fn settle_bulk<T: Threads + Wait + Clock + Sync, G: Gate>(
     number: u64,
     size: u64,
     workers: u32,
-) -> Result<Settled, Stop>
+) -> Result<Settled, WhyStopped>
     requires { size ≤ BULK_MOST }
     ensures ok { IfOk result (Is (λ verdict. generated (elisions.of_job (cheapest workers)) number size ≡ settled verdict)) }
     ensures err { IfErr result (Stops (λ verdict. generated (elisions.of_job (cheapest workers)) number size ≡ settled verdict)) }
@@ -150,7 +150,7 @@ pub(crate) fn settle<T: Threads + Wait + Clock + Sync, F: Files, G: Gate>(
     engine: &Engine<'_, T, G>,
     files: &mut F,
     command: Command<'_>,
-) -> Result<Settled, Stop>
+) -> Result<Settled, WhyStopped>
     requires { IsWithinLimits (asked command) }
     ensures ok { IfOk result (Is (Settles elisions (files_over F.content F.faults F.long_reads files.old files.new) (asked command.entry))) }
     ensures err { let seen = files_over F.content F.faults F.long_reads files.old files.new in

@@ -9,7 +9,7 @@ ghost use Rattle.swan_top.specs.Pipelines.{WroteOfText};
 
 use crate::engine::Engine;
 use crate::settle::settle;
-use crate::verdict::Stop;
+use crate::verdict::WhyStopped;
 use crate::write::{write_line, write_settled};
 use crate::{Status, Usage, read_words};
 use bulk_workload::a_bulk_job_is_never_refused;
@@ -115,7 +115,7 @@ fn follow<T: Threads + Wait + Clock + Sync, F: Files, O: Sink, R: Sink, G: Gate>
     };
     match settle(engine, files, command) {
         Ok(settled) => write_settled(out, report, settled),
-        Err(Stop::Settled(settled)) => write_settled(out, report, settled),
-        Err(Stop::NoMemory) => Status::NoMemory,
+        Err(WhyStopped::Settled(settled)) => write_settled(out, report, settled),
+        Err(WhyStopped::NoMemory) => Status::NoMemory,
     }
 }

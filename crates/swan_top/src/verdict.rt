@@ -1,6 +1,6 @@
 // What is settled, and what stops the reading.
 ghost use Rattle.std.specs.Prelude.{◌≡◌};
-ghost use Rattle.swan_top.specs.declared.verdict.Stop.TheVariants as stop;
+ghost use Rattle.swan_top.specs.declared.verdict.WhyStopped.TheVariants as stop;
 
 use crate::Status;
 use std::alloc::{AllocError, AllocFailed};
@@ -29,33 +29,33 @@ pub enum Settled {
 
 /// Why nothing more is read.
 #[derive(Drop)]
-pub enum Stop {
+pub enum WhyStopped {
     /// It is settled.
     Settled(Settled),
     /// Memory ran out.
     NoMemory,
 }
 
-impl From<NoMemory> for Stop {
+impl From<NoMemory> for WhyStopped {
     ghost from_gives = { λ _ why. why ≡ stop.NoMemory };
 
-    fn from(_error: NoMemory) -> Stop {
-        Stop::NoMemory
+    fn from(_error: NoMemory) -> WhyStopped {
+        WhyStopped::NoMemory
     }
 }
 
-impl From<AllocError> for Stop {
+impl From<AllocError> for WhyStopped {
     ghost from_gives = { λ _ why. why ≡ stop.NoMemory };
 
-    fn from(_error: AllocError) -> Stop {
-        Stop::NoMemory
+    fn from(_error: AllocError) -> WhyStopped {
+        WhyStopped::NoMemory
     }
 }
 
-impl<T: Drop> From<AllocFailed<T>> for Stop {
+impl<T: Drop> From<AllocFailed<T>> for WhyStopped {
     ghost from_gives = { λ _ why. why ≡ stop.NoMemory };
 
-    fn from(_failed: AllocFailed<T>) -> Stop {
-        Stop::NoMemory
+    fn from(_failed: AllocFailed<T>) -> WhyStopped {
+        WhyStopped::NoMemory
     }
 }

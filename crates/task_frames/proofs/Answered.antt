@@ -15,7 +15,7 @@ use Rattle.task_frames.specs.declared.steps.Steps.{Steps}
 use Rattle.task_frames.specs.Cores.{MayBegin, AtCore, CoreView, HasIt, IsCore, KeptView, come_in}
 use Rattle.task_frames.specs.Frames.{FrameView, Task}
 use Rattle.task_frames.specs.Records.{HasNoLiveChild, IsLiveChild, come_at, live_at}
-use Rattle.task_frames.specs.Resumes.{MayStep, AreOfPlan, EndsOf, HasLent, HasNoChild, HaveCome, IsAnswered, IsChildOf, IsGivenAs, IsGivenBy, IsLast, IsLiveBefore, IsOneOn, IsResumed, IsShown, IsStep, OnGoneOn, OthersKept, OthersStay, waited_for}
+use Rattle.task_frames.specs.Resumes.{MayStep, AreOfPlan, EndsOf, HasLent, HasNoChildAtCore, HaveCome, IsAnswered, IsNewChildOf, IsGivenAs, IsGivenBy, IsLast, IsLiveBefore, IsOneOn, IsResumed, IsShown, IsStep, OnGoneOn, OthersKept, OthersStay, waited_for}
 use Rattle.task_frames.proofs.Given.{given-stays, has-stays}
 use Rattle.task_frames.proofs.Lives.{child-comes, come-only}
 
@@ -111,7 +111,7 @@ module _ {B L E : Type 0} (G : Ghosts B L) (of : EndsOf E) (before after : CoreV
       then-stay start taken given IsOther (fewer-stay start taken (λ other. other ≢ n) IsOther apart others) (then-stay taken stepped given IsOther second third)
 
   -- who has no child once the frame has come in had none before
-  no-child : HasNoLiveChild taken.live n → HasNoChild before n
+  no-child : HasNoLiveChild taken.live n → HasNoChildAtCore before n
   no-child none x is other child =
       let was = subst (λ (k : KeptView). IsLiveChild k.live n other) (same_Some x start (sym is ∙ start_is)) child in
       let frame-then = live_at start.live n in
@@ -151,7 +151,7 @@ module _ {B L E : Type 0} (G : Ghosts B L) (of : EndsOf E) (before after : CoreV
         given-by parent it (ap (λ (x : Task B L). x.plan) so.2) answered.1,
         given-by new child so.3.plan answered.2,
         answered.1.task ∙ so.2 ∙ ap (λ (x : Task B L). let y : Task B L = record frame.task { done = frame.task.done + 1; since = frame.task.done + 1; fuel = x.fuel; holdings = x.holdings; children = x.children } in y) (sym answered.1.task),
-        subst (IsChildOf frame.task) (sym answered.2.task) (record { plan = so.3.plan; path = so.3.path; done = so.3.done; other = so.3.other }),
+        subst (IsNewChildOf frame.task) (sym answered.2.task) (record { plan = so.3.plan; path = so.3.path; done = so.3.done; other = so.3.other }),
         so.4,
         (λ x is. subst (λ (k : KeptView). live_at k.live child.task.number ≡ None) (same_Some start x (sym start_is ∙ is))
             (ap (live_at start.live) child_own ∙ sym (others.live new.task.number so.3.other) ∙ so.5)),

@@ -41,7 +41,7 @@ use Rattle.serial_elision.proofs.AskSteps.{pops-none, pops-on, pushes-on, tests-
 use Rattle.serial_elision.proofs.TaskSteps.{ends_last}
 use Rattle.task_frames.specs.declared.stage.Stage.TheVariants.{Ready}
 use Rattle.task_frames.specs.declared.step.Step.TheVariants as step
-use Rattle.task_frames.specs.Cores.{AtCore, HasIt, IsTold, KeptView, MayBegin, Mid, asking, one_on}
+use Rattle.task_frames.specs.Cores.{AtCore, HasIt, IsAsRead, KeptView, MayBegin, Mid, asking, one_on}
 use Rattle.task_frames.specs.Records.{IsLiveChild, IsOnlyLive, come_to, live_at}
 use Rattle.task_frames.specs.Resumes.{AsksOf, IsLast, IsStep}
 use Rattle.task_frames.proofs.Asked.{pop-does, usable, used-so}
@@ -108,7 +108,7 @@ module _ {B L : Type 0} (G : Ghosts B L) (kept : KeptView) (mid : Mid B L) (asks
   pub a-back : a.lent ≡ None
   a-back = has.back a a-live
 
-  pub told : IsTold G plan kept.reading n has.of.frame
+  pub told : IsAsRead G plan kept.reading n has.of.frame
   told = has.core.frames.told n has.of.frame has.of.live
 
   pub asked : IsAsking G plan mid.task.path mid.task.done top mid.local asks

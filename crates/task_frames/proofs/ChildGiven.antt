@@ -8,7 +8,7 @@ use Rattle.swan_model.specs.declared.rights.Give.{Give}
 use Rattle.swan_model.specs.QueueState.{QueueRight}
 use Rattle.swan_model.specs.Rights.{is_queue_mode}
 use Rattle.swan_model.specs.Versions.{Holds, MayGet, Placed, VersionState, after_access, placed_at}
-use Rattle.pop_order.specs.Frames.{AreUpTo, Frames, MayGet as MayGetQueue, enlisted}
+use Rattle.pop_order.specs.Frames.{AreUpTo, Frames, MayBeEnlisted as MayGetQueue, enlisted}
 use Rattle.queues.specs.Turned.{AreApart, AreGivenTurns, AreOlder, gives_queue, holding_of}
 use Rattle.queues.proofs.GivingTurns.{turns_given_more, turns_may_get, turns_newest}
 use Rattle.task_frames.specs.Giving.{AreGivesOfQueues, AreMade, GivesObjects}

@@ -33,7 +33,7 @@ use Rattle.serial_elision.proofs.Lawful as elision
 use Rattle.serial_elision.proofs.TaskSteps.{goes_on_next, stands-one}
 use Rattle.task_frames.specs.declared.stage.Stage.TheVariants.{Ready}
 use Rattle.task_frames.specs.declared.step.Step.TheVariants as step
-use Rattle.task_frames.specs.Cores.{AreBooked, AreFrames, AreObjects, AreQueues, AtCore, HasIt, IsAtCore, IsCore, IsTold, KeptView, MayBegin, Mid, asking, one_on}
+use Rattle.task_frames.specs.Cores.{AreBooked, AreFrames, AreObjects, AreQueues, AtCore, HasIt, IsAtCore, IsCore, IsAsRead, KeptView, MayBegin, Mid, asking, one_on}
 use Rattle.task_frames.specs.Frames.{Task}
 use Rattle.task_frames.specs.Records.{HasNoLiveChild, IsOnlyLive, LiveFrame}
 use Rattle.task_frames.specs.Resumes.{IsStep}
@@ -74,12 +74,12 @@ module _ {B L : Type 0} (G : Ghosts B L) (kept : KeptView) (frame : AtCore B L) 
       ∙ ap {B = Option Progress} (λ k. Some (record { number = task.number; path = task.path; done = k })) done-is
 
   -- what it holds, by name
-  pub told-now : IsTold G task.plan kept.reading task.number (record { parent = here.parent; path = task.path; done = task.done; holdings = task.holdings })
+  pub told-now : IsAsRead G task.plan kept.reading task.number (record { parent = here.parent; path = task.path; done = task.done; holdings = task.holdings })
   told-now =
       let told = has.core.frames.told task.number here has.of.live in
-      subst (λ hs. IsTold G task.plan kept.reading task.number (record { parent = here.parent; path = task.path; done = task.done; holdings = hs })) has.of.holdings
-      (subst (λ k. IsTold G task.plan kept.reading task.number (record { parent = here.parent; path = task.path; done = k; holdings = here.holdings })) done-is
-      (subst (λ path. IsTold G task.plan kept.reading task.number (record { parent = here.parent; path = path; done = here.done; holdings = here.holdings })) has.of.path told))
+      subst (λ hs. IsAsRead G task.plan kept.reading task.number (record { parent = here.parent; path = task.path; done = task.done; holdings = hs })) has.of.holdings
+      (subst (λ k. IsAsRead G task.plan kept.reading task.number (record { parent = here.parent; path = task.path; done = k; holdings = here.holdings })) done-is
+      (subst (λ path. IsAsRead G task.plan kept.reading task.number (record { parent = here.parent; path = path; done = here.done; holdings = here.holdings })) has.of.path told))
 
   pub named : map (give_in kept.reading) task.holdings ≡ gives_at G task.plan task.path task.done top
   named =

@@ -32,7 +32,7 @@ use Rattle.queues.proofs.TreeKept.{tree_deed}
 use Rattle.queues.proofs.TurnsGoOn.{go_on-back, go_on-create, go_on-deed, go_on-finish, go_on-lend, go_on-spawn}
 use Rattle.serial_elision.proofs.NamesStay.{held-named}
 use Rattle.serial_elision.proofs.TaskSteps.{stands-one}
-use Rattle.task_frames.specs.Cores.{AreApart, AreFrames, IsTold}
+use Rattle.task_frames.specs.Cores.{HasQueuesOnce, AreFrames, IsAsRead}
 use Rattle.task_frames.specs.Frames.{AreLocal}
 use Rattle.task_frames.specs.Records.{IsOnlyLive, LiveFrame, LiveFrames, live_at}
 use Rattle.task_frames.proofs.LocalNames.{local-names}
@@ -74,8 +74,8 @@ names-grow r then_r (h ∷ hs) (name ∷ names) grow some is =
     ∙ ap {B = List (Option OriginGive)} (λ gs. name ∷ gs) (names-grow r then_r hs names grow (λ i x at. some (suc i) x at) tail)
 
 -- no queue stands at two places where the last one is another one than all before
-apart-more : (hs : List Holding) (h : Holding) → AreApart hs → ((place : ℕ) (x : Holding) → slice_get hs place ≡ Some x → is_queue_mode x.mode ≡ true → is_queue_mode h.mode ≡ true → x.number ≢ h.number)
-    → AreApart (hs ++ h ∷ [])
+apart-more : (hs : List Holding) (h : Holding) → HasQueuesOnce hs → ((place : ℕ) (x : Holding) → slice_get hs place ≡ Some x → is_queue_mode x.mode ≡ true → is_queue_mode h.mode ≡ true → x.number ≢ h.number)
+    → HasQueuesOnce (hs ++ h ∷ [])
 apart-more hs h apart fresh place other a b one two queue also same = elim (more_cases hs h place a one) [
   | inl first ↦ elim (more_cases hs h other b two) [
     | inl second ↦ apart place other a b first second queue also same
@@ -119,7 +119,7 @@ module _ {B L : Type 0} (G : Ghosts B L) (plan : Plan B L) where
       pub record IsNewAt (m : ℕ) : Type 0 where
         pub frame : LiveFrame
         pub live_now : live_at then_live m ≡ Some frame
-        pub told : IsTold G plan then_r m frame
+        pub told : IsAsRead G plan then_r m frame
         pub own : ActiveFrame
         pub active_now : active after m ≡ Some own
         pub parent : own.parent ≡ frame.parent
@@ -138,9 +138,9 @@ module _ {B L : Type 0} (G : Ghosts B L) (plan : Plan B L) where
 
       module _ (each : (m : ℕ) → IsNewAt m ⊎ (IsGoneAt m ⊎ IsSameAt m)) (turns : TurnsGoOn state after)
           (names : (m : ℕ) (frame : LiveFrame) → live_at live m ≡ Some frame → map (give_in then_r) frame.holdings ≡ map (give_in r) frame.holdings) where
-        told-then : (m : ℕ) (frame : LiveFrame) → live_at then_live m ≡ Some frame → IsTold G plan then_r m frame
+        told-then : (m : ℕ) (frame : LiveFrame) → live_at then_live m ≡ Some frame → IsAsRead G plan then_r m frame
         told-then m frame at = elim (each m) [
-          | inl new ↦ subst (IsTold G plan then_r m) (same_Some new.frame frame (sym new.live_now ∙ at)) new.told
+          | inl new ↦ subst (IsAsRead G plan then_r m) (same_Some new.frame frame (sym new.live_now ∙ at)) new.told
           | inr rest ↦ elim rest [
             | inl gone ↦ let both : None ≡ Some frame = sym gone.live_none ∙ at in absurd (cc)
             | inr same ↦
@@ -211,7 +211,7 @@ module _ {B L : Type 0} (G : Ghosts B L) (plan : Plan B L) where
       parent-is = let it = are.active_is n f there in ap (λ (x : ActiveFrame). x.parent) (same_Some a it.0 (sym own ∙ it.1)) ∙ it.2
 
       -- the frame is this one afterwards, in the record, in the reading and among the queues; all others are as before
-      pub goes-on-so : (many : ℕ) (g : LiveFrame) (then_r : Reading) (after : QueueState) (b : ActiveFrame) → IsOnlyLive live then_live n (Some g) → g.parent ≡ f.parent → IsTold G plan then_r n g
+      pub goes-on-so : (many : ℕ) (g : LiveFrame) (then_r : Reading) (after : QueueState) (b : ActiveFrame) → IsOnlyLive live then_live n (Some g) → g.parent ≡ f.parent → IsAsRead G plan then_r n g
           → then_r.frames ≡ map (more_by n many) r.frames → ((m : ℕ) (frame : LiveFrame) → live_at live m ≡ Some frame → map (give_in then_r) frame.holdings ≡ map (give_in r) frame.holdings)
           → IsOnlyFrame state after n (Some b) → b.parent ≡ a.parent → after.latest ≡ state.latest → TurnsGoOn state after → (0 < g.done → HasTurn state a)
           → AreFrames G plan then_r after then_live frames
@@ -242,7 +242,7 @@ module _ {B L : Type 0} (G : Ghosts B L) (plan : Plan B L) where
 
       -- what it holds has the same names at a later step
       told-same : (many : ℕ) (path : List ℕ) (k : ℕ) (top next : Activation L) → f.path ≡ path → f.done ≡ k → StandsAt G plan path k top → StandsAt G plan path (k + many) next
-          → gives_at G plan path (k + many) next ≡ gives_at G plan path k top → IsTold G plan (gone_on_by r n many) n (record f { done = k + many })
+          → gives_at G plan path (k + many) next ≡ gives_at G plan path k top → IsAsRead G plan (gone_on_by r n many) n (record f { done = k + many })
       told-same many path k top next path_is done_is at then same =
           let was = are.told n f there in
           let here : StandsAt G plan path k was.top = subst (λ q. StandsAt G plan q k was.top) path_is (subst (λ j. StandsAt G plan f.path j was.top) done_is was.stands) in
@@ -315,7 +315,7 @@ module _ {B L : Type 0} (G : Ghosts B L) (plan : Plan B L) where
           let names : map (give_in r) f.holdings ≡ gives_at G plan path k top =
           was.named ∙ ap (λ q. gives_at G plan q f.done was.top) path_is ∙ ap (λ j. gives_at G plan path j was.top) done_is ∙ ap (gives_at G plan path k) one in
           let still : map (give_in then_r) f.holdings ≡ gives_at G plan path k top = names-grow r then_r f.holdings (gives_at G plan path k top) grow (all-some bounds path k top at) names in
-          let told : IsTold G plan then_r n (record f { done = k + 1; holdings = f.holdings ++ h ∷ [] }) = record {
+          let told : IsAsRead G plan then_r n (record f { done = k + 1; holdings = f.holdings ++ h ∷ [] }) = record {
             progress = ap {B = Option Progress} (λ fs. find (λ (p : Progress). nat_eq p.number n) fs) moved
                 ∙ own-gone_by r n 1 (record { number = n; path = f.path; done = f.done }) was.progress ∙ ap {B = Option Progress} (λ j. Some (record { number = n; path = f.path; done = j + 1 })) done_is;
             top = next;
@@ -451,7 +451,7 @@ module _ {B L : Type 0} (G : Ghosts B L) (plan : Plan B L) where
       pub spawns : (bounds : IsWithinBounds plan.roots.queues plan.roots.objects) → IsTree state → (path : List ℕ) (k : ℕ) (top next child_top : Activation L) (index : ℕ) (hs : List Holding)
           (gives : List QueueRight) (may : MaySpawn state n frames gives) (after : QueueState)
           → f.path ≡ path → f.done ≡ k → StandsAt G plan path k top → StandsAt G plan path (k + 1) next → gives_at G plan path (k + 1) next ≡ gives_at G plan path k top
-          → StandsAt G plan (path ++ index ∷ []) 0 child_top → map (give_in r) hs ≡ gives_at G plan (path ++ index ∷ []) 0 child_top → AreApart hs
+          → StandsAt G plan (path ++ index ∷ []) 0 child_top → map (give_in r) hs ≡ gives_at G plan (path ++ index ∷ []) 0 child_top → HasQueuesOnce hs
           → HasTurn state a → after ≡ after_spawn state a frames gives
           → live_at then_live n ≡ Some (record f { done = k + 1 }) → live_at then_live frames ≡ Some (record { parent = Some n; path = path ++ index ∷ []; done = 0; holdings = hs })
           → ((m : ℕ) → m ≢ n → m ≢ frames → live_at then_live m ≡ live_at live m)
@@ -478,7 +478,7 @@ module _ {B L : Type 0} (G : Ghosts B L) (plan : Plan B L) where
           turns : TurnsGoOn state spawned
           turns = subst (λ x. TurnsGoOn state (after_spawn state x frames gives)) one (go_on-spawn state n frames gives tree may)
 
-          was : IsTold G plan r n f
+          was : IsAsRead G plan r n f
           was = are.told n f there
 
           here : StandsAt G plan path k was.top

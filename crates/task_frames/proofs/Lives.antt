@@ -12,7 +12,7 @@ use Rattle.std.specs.Option.{option_map}
 use Rattle.std.specs.Ordering.{nat_cmp, eq_by_cmp}
 use Rattle.swan_model.proofs.Lookups.{at_set, by_set}
 use Rattle.swan_model.specs.SerialState.{Holding}
-use Rattle.task_frames.specs.Records.{HasChildren, IsLiveChild, IsOldest, IsOldestChild, IsOnlyLive, IsWith, IsWithout, LiveFrame, LiveFrames, Pair, come_at, come_to, has, holding_too, live_at}
+use Rattle.task_frames.specs.Records.{HasChildren, IsLiveChild, IsOldest, IsOldestChild, IsOnlyLive, IsWith, IsWithout, LiveFrame, LiveFrames, ChildPair, come_at, come_to, has, holding_too, live_at}
 
 -- ---- entries
 
@@ -30,16 +30,16 @@ same frames number frame is = record { changed = is; others = λ other differs. 
 -- ---- children
 
 -- a child that is found is the oldest live one
-pub oldest_is : (frames : LiveFrames) (pairs : List Pair) (parent oldest : ℕ) → HasChildren frames pairs → IsOldest pairs parent oldest → IsOldestChild frames parent oldest
+pub oldest_is : (frames : LiveFrames) (pairs : List ChildPair) (parent oldest : ℕ) → HasChildren frames pairs → IsOldest pairs parent oldest → IsOldestChild frames parent oldest
 oldest_is frames pairs parent oldest kept is = record {
   child = kept.known parent oldest is.known;
   least = λ other child. is.least other (kept.all parent other child);
 }
 
-pub none_is : (frames : LiveFrames) (pairs : List Pair) (parent : ℕ) → HasChildren frames pairs → ((child : ℕ) → has pairs parent child ≡ false) → (other : ℕ) → ¬ IsLiveChild frames parent other
+pub none_is : (frames : LiveFrames) (pairs : List ChildPair) (parent : ℕ) → HasChildren frames pairs → ((child : ℕ) → has pairs parent child ≡ false) → (other : ℕ) → ¬ IsLiveChild frames parent other
 none_is frames pairs parent kept none other child = false≢true (sym (none other) ∙ kept.all parent other child)
 
-module _ (before after : LiveFrames) (pairs : List Pair) (number : ℕ) (kept : HasChildren before pairs) where
+module _ (before after : LiveFrames) (pairs : List ChildPair) (number : ℕ) (kept : HasChildren before pairs) where
   module _ (others : (other : ℕ) → other ≢ number → live_at after other ≡ live_at before other) where
     -- a child of another number is one before and after
     there : (parent other : ℕ) → other ≢ number → IsLiveChild before parent other → IsLiveChild after parent other
@@ -85,7 +85,7 @@ module _ (before after : LiveFrames) (pairs : List Pair) (number : ℕ) (kept : 
   with_pair true was now is e = is
   with_pair false was now is e = is ∙ e
 
-  module _ (own : ℕ) (then_pairs : List Pair) where
+  module _ (own : ℕ) (then_pairs : List ChildPair) where
     -- a child of a parent, where none was
     pub entered_keeps : (frame : LiveFrame) → live_at before number ≡ None → IsOnlyLive before after number (Some frame) → frame.parent ≡ Some own → IsWith pairs own number then_pairs → HasChildren after then_pairs
     entered_keeps frame free only of set = record {
@@ -156,15 +156,15 @@ unfolding has
 nothing-live = record { known = λ parent number in_set. absurd (cc); all = λ parent number child. let no : None ≡ Some child.frame = child.live in absurd (cc) }
 
 -- no frames, no children
-pub none-live : (frames : LiveFrames) (pairs : List Pair) → frames ≡ [] → pairs ≡ [] → HasChildren frames pairs
+pub none-live : (frames : LiveFrames) (pairs : List ChildPair) → frames ≡ [] → pairs ≡ [] → HasChildren frames pairs
 none-live frames pairs no_frames no_pairs =
     subst (λ fs. HasChildren fs pairs) (sym no_frames) (subst (HasChildren []) (sym no_pairs) nothing-live)
 
-pub found-oldest : (frames kept : LiveFrames) (pairs : List Pair) (parent : ℕ) (found : Option ℕ) → frames ≡ kept → HasChildren frames pairs → IfSome found (IsOldest pairs parent) → IfSome found (IsOldestChild kept parent)
+pub found-oldest : (frames kept : LiveFrames) (pairs : List ChildPair) (parent : ℕ) (found : Option ℕ) → frames ≡ kept → HasChildren frames pairs → IfSome found (IsOldest pairs parent) → IfSome found (IsOldestChild kept parent)
 found-oldest frames kept pairs parent None same has is = tt
 found-oldest frames kept pairs parent (Some oldest) same has is = subst (λ fs. IsOldestChild fs parent oldest) same (oldest_is frames pairs parent oldest has is)
 
-pub found-none : (frames kept : LiveFrames) (pairs : List Pair) (parent : ℕ) (found : Option ℕ) → frames ≡ kept → HasChildren frames pairs → IfNone found ((child : ℕ) → has pairs parent child ≡ false)
+pub found-none : (frames kept : LiveFrames) (pairs : List ChildPair) (parent : ℕ) (found : Option ℕ) → frames ≡ kept → HasChildren frames pairs → IfNone found ((child : ℕ) → has pairs parent child ≡ false)
     → IfNone found ((other : ℕ) → ¬ IsLiveChild kept parent other)
 found-none frames kept pairs parent None same has is = λ other. subst (λ fs. ¬ IsLiveChild fs parent other) same (none_is frames pairs parent has is other)
 found-none frames kept pairs parent (Some oldest) same has is = tt
@@ -187,19 +187,19 @@ child-comes before after number done parent other only child = elim (cases_eq ot
   | inr differs ↦ record { frame = child.frame; live = only.others other differs ∙ child.live; of = child.of }
 ]
 
-pub come-keeps : (before after : LiveFrames) (pairs : List Pair) (number done : ℕ) (found : Option LiveFrame) → live_at before number ≡ found → HasChildren before pairs
+pub come-keeps : (before after : LiveFrames) (pairs : List ChildPair) (number done : ℕ) (found : Option LiveFrame) → live_at before number ≡ found → HasChildren before pairs
     → after ≡ come_at before number done found → HasChildren after pairs
 come-keeps before after pairs number done None none kept is = subst (λ fs. HasChildren fs pairs) (sym is) kept
 come-keeps before after pairs number done (Some was) there kept is =
     changed_keeps before after pairs number kept was (come_to done was) there (changed before after number was (come_to done was) there is) refl
 
-pub nobody-left : (before after : LiveFrames) (pairs : List Pair) (number : ℕ) → HasChildren before pairs → IsOnlyLive before after number None
+pub nobody-left : (before after : LiveFrames) (pairs : List ChildPair) (number : ℕ) → HasChildren before pairs → IsOnlyLive before after number None
     → live_at before number ≡ None → HasChildren after pairs
 nobody-left before after pairs number kept only none =
     left_root_keeps before after pairs number kept only (λ parent child. let both : None ≡ Some child.frame = sym none ∙ child.live in absurd (cc))
 
 -- a frame that may hold one place more, where there is one
-pub held-keeps : {T E : Type 0} (before after : LiveFrames) (pairs : List Pair) (number : ℕ) (holding : Holding) (found : Option LiveFrame) (result : Result T E) → live_at before number ≡ found → HasChildren before pairs
+pub held-keeps : {T E : Type 0} (before after : LiveFrames) (pairs : List ChildPair) (number : ℕ) (holding : Holding) (found : Option LiveFrame) (result : Result T E) → live_at before number ≡ found → HasChildren before pairs
     → OnOk result (IsOnlyLive before after number (option_map (holding_too holding) found)) → OnErr result (IsOnlyLive before after number found) → HasChildren after pairs
 held-keeps before after pairs number holding None (Ok done) none kept ok err = nobody-left before after pairs number kept ok none
 held-keeps before after pairs number holding None (Err want) none kept ok err = nobody-left before after pairs number kept err none
@@ -207,7 +207,7 @@ held-keeps before after pairs number holding (Some was) (Ok done) there kept ok 
 held-keeps before after pairs number holding (Some was) (Err want) there kept ok err = changed_keeps before after pairs number kept was was there err refl
 
 -- a root that may be entered, where there is no frame
-pub root-keeps : {T E : Type 0} (before after : LiveFrames) (pairs : List Pair) (number : ℕ) (frame : LiveFrame) (result : Result T E) → before ≡ [] → HasChildren before pairs → frame.parent ≡ None
+pub root-keeps : {T E : Type 0} (before after : LiveFrames) (pairs : List ChildPair) (number : ℕ) (frame : LiveFrame) (result : Result T E) → before ≡ [] → HasChildren before pairs → frame.parent ≡ None
     → OnOk result (IsOnlyLive before after number (Some frame)) → OnErr result (after ≡ []) → HasChildren after pairs
 root-keeps before after pairs number frame (Ok done) none kept root ok err = entered_root_keeps before after pairs number kept frame (ap (λ fs. live_at fs number) none) ok root
 root-keeps before after pairs number frame (Err want) none kept root ok err = subst (λ fs. HasChildren fs pairs) (none ∙ sym err) kept

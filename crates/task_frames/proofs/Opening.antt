@@ -46,7 +46,7 @@ use Rattle.serial_elision.specs.Laws.{IsObjectOf}
 use Rattle.swan_model.proofs.RootLists.{length-queue_holdings}
 use Rattle.serial_elision.proofs.RootNames.{root-object_name, root-queue_name}
 use Rattle.serial_elision.proofs.TaskSteps.{root_stands}
-use Rattle.task_frames.specs.Cores.{AreApart, AreBooked, AreFrames, AreObjects, AreQueues, HasEnded, HasObjects, IsPlacedSo, IsTold}
+use Rattle.task_frames.specs.Cores.{HasQueuesOnce, AreBooked, AreFrames, AreObjects, AreQueues, HasEnded, HasObjects, IsPlacedSo, IsAsRead}
 use Rattle.task_frames.specs.Frames.{IsPlan}
 use Rattle.task_frames.specs.Opened.{AreFirstObjects, AreFirstQueues, roots_to}
 use Rattle.task_frames.specs.Records.{LiveFrame, LiveFrames, live_at}
@@ -307,7 +307,7 @@ module _ {B L : Type 0} (G : Ghosts B L) (plan : Plan B L) (sound : IsPlan plan)
     by (of_queue queue there is) = ap (λ (x : Holding). x.number) is
     by (of_object i value there place_is is) = let both : false ≡ true = sym (ap (λ (x : Holding). is_queue_mode x.mode) is) ∙ kind in absurd (cc)
 
-  root-apart : AreApart (root_holdings plan.roots)
+  root-apart : HasQueuesOnce (root_holdings plan.roots)
   root-apart place other a b one two queue also same = sym (queue-number place a one queue) ∙ same ∙ queue-number other b two also
 
   -- ---- its parts
@@ -376,7 +376,7 @@ module _ {B L : Type 0} (G : Ghosts B L) (plan : Plan B L) (sound : IsPlan plan)
   frames-open = record {
     told = λ n frame at.
         let it = root-one n frame at in
-        subst (IsTold G plan first-reading n) (sym it.1) (subst (λ j. IsTold G plan first-reading j first-frame) (sym it.0) (record {
+        subst (IsAsRead G plan first-reading n) (sym it.1) (subst (λ j. IsAsRead G plan first-reading j first-frame) (sym it.0) (record {
           progress = refl;
           top = root plan;
           stands = root_stands G plan;

@@ -3,7 +3,7 @@ use Rattle.std.proofs.Common.{◌≡◌, ℕ, ◌≤◌, Bool, true, false, ◌&
 use Rattle.std.specs.Ordering.{is_gt, is_eq}
 use Rattle.std.proofs.lemmas.Bool.Decides.{nat_tests}
 use Rattle.pop_order.proofs.Entries.{with_one, without_one}
-use Rattle.task_frames.specs.Records.{Pair, pair_cmp, IsUpTo, is_pair}
+use Rattle.task_frames.specs.Records.{ChildPair, pair_cmp, IsUpTo, is_pair}
 
 is_eq-pair_cmp : (parent child p c : ℕ) → is_eq (pair_cmp (parent, child) (p, c)) ≡ is_pair parent child p c
 is_eq-pair_cmp parent child p c = grind (arith, nat_tests)
@@ -17,7 +17,7 @@ pub removed : (parent child p c : ℕ) (was now : Bool) → now ≡ cond (is_eq 
 removed parent child p c was now h = without_one _ _ was now (is_eq-pair_cmp parent child p c) h
 
 -- a pair that stands between two of one parent is of it, and its child is no younger
-pub between : (e : Pair) (parent child : ℕ) → IsUpTo (parent, 0) e → IsUpTo e (parent, child) → (e.0 ≡ parent) × (e.1 ≤ child)
+pub between : (e : ChildPair) (parent child : ℕ) → IsUpTo (parent, 0) e → IsUpTo e (parent, child) → (e.0 ≡ parent) × (e.1 ≤ child)
 unfolding IsUpTo
 between e parent child from upto = (grind (arith, nat_tests), grind (arith, nat_tests))
 

@@ -27,7 +27,7 @@ use Rattle.swan_model.proofs.Elements.{all_each, any_from}
 use Rattle.swan_model.proofs.ScriptSteps.{deed_is}
 use Rattle.queues.proofs.QueuePoints.{at_own, next_is}
 use Rattle.serial_elision.proofs.Held.{IsUsed, used-at}
-use Rattle.task_frames.specs.Cores.{AreApart}
+use Rattle.task_frames.specs.Cores.{HasQueuesOnce}
 use Rattle.task_frames.specs.Giving.{queue_rights, right_of}
 use Rattle.task_frames.proofs.Names.{first-given, name-mode, name-origin, named, origin_in}
 use Rattle.swan_model.proofs.Uses.{same_kind}
@@ -93,7 +93,7 @@ none-again number (h ∷ hs) apart = by (is_queue_mode h.mode) refl (none-again 
       ap {B = Bool} (λ b. b || list_any (λ (right : QueueRight). nat_eq right.queue number) (queue_rights hs)) (ne_eqb h.number number (λ same. apart 0 h refl kind same)) ∙ rest
   by false kind rest = rest
 
-may-give-all : (frame : ActiveFrame) (hs : List Holding) → AreApart hs → ((i : ℕ) (h : Holding) → slice_get hs i ≡ Some h → is_queue_mode h.mode ≡ true → holds_queue frame h.number h.mode ≡ true)
+may-give-all : (frame : ActiveFrame) (hs : List Holding) → HasQueuesOnce hs → ((i : ℕ) (h : Holding) → slice_get hs i ≡ Some h → is_queue_mode h.mode ≡ true → holds_queue frame h.number h.mode ≡ true)
     → MayGive frame (queue_rights hs)
 may-give-all frame [] apart may = tt
 may-give-all frame (h ∷ hs) apart may = by (is_queue_mode h.mode) refl (may-give-all frame hs (λ i j a b one two. λ k l same. let e = apart (suc i) (suc j) a b one two k l same in omega (arith, e)) (λ i x at. may (suc i) x at)) where
@@ -165,7 +165,7 @@ given-at held (give ∷ gives) hs is (suc i) h at =
     record { give = rest.give; stands = rest.stands; mode = rest.mode; used = rest.used }
 
 -- no queue stands at two places of a child
-pub given-apart : (held : List Holding) (gives : List Give) (hs : List Holding) → AreApart held → is_aliased gives ≡ false → given held gives ≡ Some hs → AreApart hs
+pub given-apart : (held : List Holding) (gives : List Give) (hs : List Holding) → HasQueuesOnce held → is_aliased gives ≡ false → given held gives ≡ Some hs → HasQueuesOnce hs
 given-apart held gives hs apart alone is i j a b one two queue also same = elim (cases_order i j) [
   | inl equal ↦ equal
   | inr differ ↦ elim differ [
@@ -212,7 +212,7 @@ module _ (s : Script) (lawful : IsLawful s) (state : QueueState) (follows : Queu
           (follows.tasks number frame live).rights h.number h.mode g.origin queue made ∙ ap (λ m. may_use (holds s frame.path (queue_point s frame.path frame.deeds)) m g.origin) mode ∙ may
 
   -- the frame may give its child these queues, and they are the script's
-  pub gives-may : AreApart hs → MayGive frame (queue_rights hs)
+  pub gives-may : HasQueuesOnce hs → MayGive frame (queue_rights hs)
   gives-may apart = may-give-all frame hs apart each-may
 
   pub gives-next : NextSpawnGivesQueues s state frame (queue_rights hs)

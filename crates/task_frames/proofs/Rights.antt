@@ -39,7 +39,7 @@ use Rattle.serial_elision.proofs.FewMade.{few-objects}
 use Rattle.serial_elision.proofs.Held.{used-at}
 use Rattle.serial_elision.proofs.Room.{room-deeds, room-queues}
 use Rattle.serial_elision.proofs.TaskSteps.{stands-one}
-use Rattle.task_frames.specs.Cores.{AreObjects, AreQueues, HasObjects, IsTold}
+use Rattle.task_frames.specs.Cores.{AreObjects, AreQueues, HasObjects, IsAsRead}
 use Rattle.task_frames.specs.Frames.{IsPlan}
 use Rattle.task_frames.specs.Records.{LiveFrame, LiveFrames}
 use Rattle.task_frames.proofs.Names.{held-number, held-origin, origin_in, use-held}
@@ -53,7 +53,7 @@ module _ {B L : Type 0} (G : Ghosts B L) (plan : Plan B L) (sound : IsPlan plan)
 
   -- ---- a live frame and its task
 
-  module _ (n : ℕ) (f : LiveFrame) (told : IsTold G plan r n f) (path : List ℕ) (k : ℕ) (top : Activation L) (path_is : f.path ≡ path) (done_is : f.done ≡ k) (at : StandsAt G plan path k top) where
+  module _ (n : ℕ) (f : LiveFrame) (told : IsAsRead G plan r n f) (path : List ℕ) (k : ℕ) (top : Activation L) (path_is : f.path ≡ path) (done_is : f.done ≡ k) (at : StandsAt G plan path k top) where
     abbrev p : Progress
     p = record { number = n; path = path; done = k }
 

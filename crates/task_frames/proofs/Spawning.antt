@@ -31,7 +31,7 @@ use Rattle.queues.proofs.Lineage.{spawns_by}
 use Rattle.serial_elision.specs.TaskSteps.{Spawns, child_of, parent_of}
 use Rattle.serial_elision.proofs.Room.{children-told, room-children}
 use Rattle.serial_elision.proofs.TaskSteps.{spawns_child, spawns_next, top_path}
-use Rattle.task_frames.specs.Cores.{AreApart, AreBooked, AreFrames, AreObjects, AreQueues, AwaitsNone}
+use Rattle.task_frames.specs.Cores.{HasQueuesOnce, AreBooked, AreFrames, AreObjects, AreQueues, AwaitsNone}
 use Rattle.task_frames.specs.Frames.{IsPlan}
 use Rattle.task_frames.specs.Giving.{AreMade, accesses_from, queue_rights}
 use Rattle.task_frames.specs.Records.{LiveFrame, LiveFrames, live_at}
@@ -97,7 +97,7 @@ module _ {B L : Type 0} (G : Ghosts B L) (plan : Plan B L) (sound : IsPlan plan)
   pub child-named : map (give_in r) hs ≡ map Some spawn.gives
   child-named = child-names G plan path k top r f.holdings names local child spawn hs given_is
 
-  pub child-apart : AreApart hs
+  pub child-apart : HasQueuesOnce hs
   child-apart = given-apart f.holdings child.gives hs (are.told n f there).apart alone given_is
 
   -- what the queues are asked

@@ -108,25 +108,25 @@ pub record AreObjects (s : Script) (r : Reading) (versions : VersionState) (live
 -- ---- what is kept of the frames
 
 -- no queue stands at two places
-abbrev pub AreApart : List Holding → Type 0
-AreApart holdings =
+abbrev pub HasQueuesOnce : List Holding → Type 0
+HasQueuesOnce holdings =
     (place other : ℕ) (a b : Holding) → slice_get holdings place ≡ Some a → slice_get holdings other ≡ Some b
     → is_queue_mode a.mode ≡ true → is_queue_mode b.mode ≡ true → a.number ≡ b.number → place ≡ other
 
 module _ {B L : Type 0} (G : Ghosts B L) (plan : Plan B L) where
   -- A frame of the record is one of the reading, which has come as far. It holds, by what the reading tells, what its task holds
   -- at its next step.
-  pub record IsTold (r : Reading) (number : ℕ) (frame : LiveFrame) : Type 0 where
+  pub record IsAsRead (r : Reading) (number : ℕ) (frame : LiveFrame) : Type 0 where
     pub progress : frame_of r number ≡ Some (record { number = number; path = frame.path; done = frame.done })
     pub top : Activation L
     pub stands : StandsAt G plan frame.path frame.done top
     pub named : map (give_in r) frame.holdings ≡ gives_at G plan frame.path frame.done top
-    pub apart : AreApart frame.holdings
+    pub apart : HasQueuesOnce frame.holdings
 
   -- The record has exactly the active frames, each as the reading tells; who has begun has its turn to pop. Frames have numbers
   -- in the order of their making.
   pub record AreFrames (r : Reading) (state : QueueState) (live : LiveFrames) (frames : ℕ) : Type 0 where
-    pub told : (number : ℕ) (frame : LiveFrame) → live_at live number ≡ Some frame → IsTold r number frame
+    pub told : (number : ℕ) (frame : LiveFrame) → live_at live number ≡ Some frame → IsAsRead r number frame
     pub active_is : (number : ℕ) (frame : LiveFrame) → live_at live number ≡ Some frame
         → (own : ActiveFrame) × (active state number ≡ Some own) × (own.parent ≡ frame.parent)
     pub live_is : (number : ℕ) (own : ActiveFrame) → active state number ≡ Some own → (frame : LiveFrame) × (live_at live number ≡ Some frame)

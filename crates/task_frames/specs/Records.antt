@@ -64,19 +64,19 @@ pub record IsOldestChild (frames : LiveFrames) (parent number : ℕ) : Type 0 wh
 -- ---- how children are found
 
 -- a parent, and a child of it
-abbrev pub Pair : Type 0
-Pair = ℕ × ℕ
+abbrev pub ChildPair : Type 0
+ChildPair = ℕ × ℕ
 
 -- by the parent, and then by the child
-abbrev pub pair_cmp : Pair → Pair → Ordering
+abbrev pub pair_cmp : ChildPair → ChildPair → Ordering
 pair_cmp a b = ordering_then (nat_cmp a.0 b.0) (nat_cmp a.1 b.1)
 
 -- a pair isn't after another in that order
-unfoldable pub IsUpTo : Pair → Pair → Type 0
+unfoldable pub IsUpTo : ChildPair → ChildPair → Type 0
 IsUpTo a b = is_gt (pair_cmp a b) ≡ false
 
 -- whether a set has this child of this parent
-unfoldable pub has : List Pair → (parent child : ℕ) → Bool
+unfoldable pub has : List ChildPair → (parent child : ℕ) → Bool
 has pairs parent child = list_any (is_at (pair_cmp (parent, child))) pairs
 
 -- whether a parent and a child are those of a pair
@@ -84,18 +84,18 @@ abbrev pub is_pair : (parent child p c : ℕ) → Bool
 is_pair parent child p c = (parent == p) && (child == c)
 
 -- the set after a pair came in, and after one went out
-abbrev pub IsWith : List Pair → (parent child : ℕ) → List Pair → Type 0
+abbrev pub IsWith : List ChildPair → (parent child : ℕ) → List ChildPair → Type 0
 IsWith before parent child after = (p c : ℕ) → has after p c ≡ (is_pair parent child p c || has before p c)
 
-abbrev pub IsWithout : List Pair → (parent child : ℕ) → List Pair → Type 0
+abbrev pub IsWithout : List ChildPair → (parent child : ℕ) → List ChildPair → Type 0
 IsWithout before parent child after = (p c : ℕ) → has after p c ≡ (not (is_pair parent child p c) && has before p c)
 
 -- the oldest child that a set has of a parent
-pub record IsOldest (pairs : List Pair) (parent oldest : ℕ) : Type 0 where
+pub record IsOldest (pairs : List ChildPair) (parent oldest : ℕ) : Type 0 where
   pub known : has pairs parent oldest ≡ true
   pub least : (child : ℕ) → has pairs parent child ≡ true → oldest ≤ child
 
 -- A set has exactly the frames that have a parent, each behind it.
-pub record HasChildren (frames : LiveFrames) (pairs : List Pair) : Type 0 where
+pub record HasChildren (frames : LiveFrames) (pairs : List ChildPair) : Type 0 where
   pub known : (parent number : ℕ) → has pairs parent number ≡ true → IsLiveChild frames parent number
   pub all : (parent number : ℕ) → IsLiveChild frames parent number → has pairs parent number ≡ true

@@ -130,7 +130,7 @@ abbrev pub IsOneOn : {B L : Type 0} → (before after : Task B L) → Type 0
 IsOneOn before after = after ≡ record before { done = before.done + 1; since = before.done + 1; fuel = after.fuel; holdings = after.holdings; children = after.children }
 
 -- a child of this task that has done nothing
-pub record IsChildOf {B L : Type 0} (parent child : Task B L) : Type 0 where
+pub record IsNewChildOf {B L : Type 0} (parent child : Task B L) : Type 0 where
   pub plan : child.plan ≡ parent.plan
   pub path : child.path ≡ parent.path ++ parent.children ∷ []
   pub done : child.done ≡ 0
@@ -146,7 +146,7 @@ module _ {B L : Type 0} (G : Ghosts B L) (before after : KeptView) (task : Task 
       × OthersStay before after (λ other. other ≢ task.number)
       × (deed_now G task ≡ deed.Sync → HasNoLiveChild before.live task.number) × MayBegin before task.number
   IsStep (step.Spawned parent new) =
-      HasIt G after parent × HasIt G after new × IsOneOn task parent.task × IsChildOf task new.task × (is_spawn (deed_now G task) ≡ true)
+      HasIt G after parent × HasIt G after new × IsOneOn task parent.task × IsNewChildOf task new.task × (is_spawn (deed_now G task) ≡ true)
       × (live_at before.live new.task.number ≡ None) × OthersStay before after (λ other. (other ≢ task.number) × (other ≢ new.task.number))
       × MayBegin before task.number
   IsStep (step.Waits same wait_for) =
@@ -250,17 +250,17 @@ abbrev pub HasNone : {B L : Type 0} → CoreView B L → ℕ → Type 0
 HasNone core number = ForSome core.kept (λ kept. live_at kept.live number ≡ None)
 
 -- the core has no live child of the frame of this number
-abbrev pub HasNoChild : {B L : Type 0} → CoreView B L → ℕ → Type 0
-HasNoChild core number = ForSome core.kept (λ kept. HasNoLiveChild kept.live number)
+abbrev pub HasNoChildAtCore : {B L : Type 0} → CoreView B L → ℕ → Type 0
+HasNoChildAtCore core number = ForSome core.kept (λ kept. HasNoLiveChild kept.live number)
 
 module _ {B Q L E : Type 0} (G : Ghosts B L) (of : EndsOf E) (before after : CoreView B L) (frame : FrameView B L E) where
   abbrev pub IsResumed : Resumed B Q L E → Type 0
   IsResumed (resumed.Runs next steps) =
       (steps.count ≡ 1) × IsGivenBy of after next × IsOneOn frame.task next.task × (is_spawn (deed_now G frame.task) ≡ false)
       × OthersKept before after (λ other. other ≢ frame.task.number)
-      × (deed_now G frame.task ≡ deed.Sync → HasNoChild before frame.task.number) × MayStep of before frame
+      × (deed_now G frame.task ≡ deed.Sync → HasNoChildAtCore before frame.task.number) × MayStep of before frame
   IsResumed (resumed.Spawned parent new steps) =
-      (steps.count ≡ 1) × IsGivenBy of after parent × IsGivenBy of after new × IsOneOn frame.task parent.task × IsChildOf frame.task new.task
+      (steps.count ≡ 1) × IsGivenBy of after parent × IsGivenBy of after new × IsOneOn frame.task parent.task × IsNewChildOf frame.task new.task
       × (is_spawn (deed_now G frame.task) ≡ true) × HasNone before new.task.number
       × OthersKept before after (λ other. (other ≢ frame.task.number) × (other ≢ new.task.number)) × MayStep of before frame
   IsResumed (resumed.Waits same waited) =
@@ -269,7 +269,7 @@ module _ {B Q L E : Type 0} (G : Ghosts B L) (of : EndsOf E) (before after : Cor
   IsResumed (resumed.Ended steps) =
       (steps.count ≡ 1) × (is_some after.kept ≡ true) × IsLast G frame.task × (is_spawn (deed_now G frame.task) ≡ false) × HasNone after frame.task.number
       × OthersKept before after (λ other. other ≢ frame.task.number)
-      × HasNoChild before frame.task.number × MayStep of before frame
+      × HasNoChildAtCore before frame.task.number × MayStep of before frame
   IsResumed (resumed.Strange same foreign) =
       (same ≡ frame) × (foreign.number ≡ frame.task.number) × (after ≡ before)
       × ForSome before.kept (λ kept. ¬ IsGiven kept frame.task (of.ends frame.ends))

@@ -15,9 +15,9 @@ pub struct Children {
 
 impl Model for Children {
     ghost use Rattle.std.specs.Prelude.{List};
-    ghost use Rattle.task_frames.specs.Records.{Pair};
+    ghost use Rattle.task_frames.specs.Records.{ChildPair};
 
-    ghost Value = { List Pair };
+    ghost Value = { List ChildPair };
 
     ghost view = { λ children. children.pairs.keys };
 }

@@ -1,27 +1,27 @@
 use Rattle.std.proofs.Common.{ℕ, ap, sym, subst, ◌∙◌, arith}
-use Rattle.pop_order.specs.Frames.{Frame}
+use Rattle.pop_order.specs.Frames.{TurnFrame}
 use Rattle.pop_order.proofs.Meeting.{IsMeeting, child_at, left_up, right_up, left_ends, right_ends, met, not_met}
 use Rattle.pop_order.proofs.order.comes_before.Goals as goal
 
 pub loop-left-smaller-then-left-right : goal.loop-left-smaller-then-left-right
 loop-left-smaller-then-left-right c =
-    let child = child_at {frames = c.args.frames.now.entries} {n = c.loop-left.left} c.in-Some.frame.now c.frame.inside.parent c.in-Some.ensures.value (ap (λ (f : Frame). f.parent) (sym c.frame.view_is)) in
+    let child = child_at {frames = c.args.frames.now.entries} {n = c.loop-left.left} c.in-Some.frame.now c.frame.inside.parent c.in-Some.ensures.value (ap (λ (f : TurnFrame). f.parent) (sym c.frame.view_is)) in
     omega (arith, c.requires _ _ child)
 
 pub loop-left-preserved-then-left-right : goal.loop-left-preserved-then-left-right
 loop-left-preserved-then-left-right c =
-    let child = child_at {frames = c.args.frames.now.entries} {n = c.loop-left.left} c.in-Some.frame.now c.frame.inside.parent c.in-Some.ensures.value (ap (λ (f : Frame). f.parent) (sym c.frame.view_is)) in
+    let child = child_at {frames = c.args.frames.now.entries} {n = c.loop-left.left} c.in-Some.frame.now c.frame.inside.parent c.in-Some.ensures.value (ap (λ (f : TurnFrame). f.parent) (sym c.frame.view_is)) in
     left_up c.args.frames.now.entries c.requires c.args.number c.args.other c.loop-left.left c.loop-left.right c.loop-left.left_child c.loop-left.right_child
     c.loop-left.invariant c.frame.inside.parent child c.if-left-right.true
 
 pub loop-left-smaller : goal.loop-left-smaller
 loop-left-smaller c =
-    let child = child_at {frames = c.args.frames.now.entries} {n = c.loop-left.right} c.in-Some-get.frame.now c.frame-else-left-right.inside.parent c.in-Some-get.ensures.value (ap (λ (f : Frame). f.parent) (sym c.frame-else-left-right.view_is)) in
+    let child = child_at {frames = c.args.frames.now.entries} {n = c.loop-left.right} c.in-Some-get.frame.now c.frame-else-left-right.inside.parent c.in-Some-get.ensures.value (ap (λ (f : TurnFrame). f.parent) (sym c.frame-else-left-right.view_is)) in
     omega (arith, c.requires _ _ child)
 
 pub loop-left-preserved : goal.loop-left-preserved
 loop-left-preserved c =
-    let child = child_at {frames = c.args.frames.now.entries} {n = c.loop-left.right} c.in-Some-get.frame.now c.frame-else-left-right.inside.parent c.in-Some-get.ensures.value (ap (λ (f : Frame). f.parent) (sym c.frame-else-left-right.view_is)) in
+    let child = child_at {frames = c.args.frames.now.entries} {n = c.loop-left.right} c.in-Some-get.frame.now c.frame-else-left-right.inside.parent c.in-Some-get.ensures.value (ap (λ (f : TurnFrame). f.parent) (sym c.frame-else-left-right.view_is)) in
     right_up c.args.frames.now.entries c.requires c.args.number c.args.other c.loop-left.left c.loop-left.right c.loop-left.left_child c.loop-left.right_child
     c.loop-left.invariant c.frame-else-left-right.inside.parent child (omega arith)
 

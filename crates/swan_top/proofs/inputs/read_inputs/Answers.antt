@@ -1,7 +1,7 @@
 use Rattle.std.proofs.Common.{◌≡◌, ◌∙◌, length, get_or, ap, sym, arith, length-append}
 use Rattle.std.proofs.lemmas.Result.{err_from_is_err_and}
 use Rattle.swan_top.proofs.TextsRead.{AreRead-push, unread_next, unread_none, input_refused}
-use Rattle.swan_top.specs.Headline.{IsRead}
+use Rattle.swan_top.specs.Headline.{WasRead}
 use Rattle.swan_top.proofs.inputs.read_inputs.Goals as goal
 
 pub returns-in_err-text-clause-refused : goal.returns-in_err-text-clause-refused
@@ -22,7 +22,7 @@ loop-name-preserved g c =
     let at : get_or names (length inputs) c.name-item.result ≡ c.name-item.result =
     ap (λ i. get_or names i c.name-item.result) keeps.count ∙ sym c.name-item.is in
     let content = g.F.Files.content in
-    let told : IsRead (content c.args.files.now c.name-item.result) c.new.result =
+    let told : WasRead (content c.args.files.now c.name-item.result) c.new.result =
     rw (← keeps.contents c.name-item.result, c.new.ensures) c.in_ok-text.ensures.read in
     record {
       count = rw c.in_ok-push.ensures.items (simp length-append (omega arith));

@@ -2,7 +2,7 @@ use Rattle.std.proofs.Common.{arith}
 use Rattle.object_versions.proofs.FewUses.{two_more_fit}
 use Rattle.object_versions.proofs.GivingIn.{read_whole, read_seen}
 use Rattle.object_versions.proofs.GivingUp.{put_keeps, put_shares}
-use Rattle.object_versions.proofs.store.Store.give_to_read.Goals as goal
+use Rattle.object_versions.proofs.store.VersionStore.give_to_read.Goals as goal
 
 pub returns-clause-whole : goal.returns-clause-whole
 returns-clause-whole c = λ made whole.

@@ -3,7 +3,7 @@ use Rattle.swan_model.specs.declared.rights.Mode.TheVariants.{In, Out, InOut}
 use Rattle.object_versions.proofs.Forgotten.{left_owed, then_whole, then_given}
 use Rattle.object_versions.proofs.GivingUp.{then_given_up}
 use Rattle.object_versions.proofs.Referred.{present_there}
-use Rattle.object_versions.proofs.store.Store.give.Goals as goal
+use Rattle.object_versions.proofs.store.VersionStore.give.Goals as goal
 
 pub returns-in-In-clause-whole : goal.returns-in-In-clause-whole
 returns-in-In-clause-whole c =

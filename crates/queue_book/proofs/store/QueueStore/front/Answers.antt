@@ -1,6 +1,6 @@
 use Rattle.queues.specs.Chunks.{without_spent}
 use Rattle.queue_book.specs.Chains.{in_line}
-use Rattle.queue_book.proofs.store.Store.front.Goals as goal
+use Rattle.queue_book.proofs.store.QueueStore.front.Goals as goal
 
 pub first_pusher-requires-clause-kept : goal.first_pusher-requires-clause-kept
 first_pusher-requires-clause-kept c =

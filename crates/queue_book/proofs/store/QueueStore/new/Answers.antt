@@ -1,5 +1,5 @@
 use Rattle.queue_book.proofs.PlainStart.{book_new}
-use Rattle.queue_book.proofs.store.Store.new.Goals as goal
+use Rattle.queue_book.proofs.store.QueueStore.new.Goals as goal
 
 pub returns : goal.returns
 returns c name = book_new name c.new.result c.new-2.result.heads.items c.new-2.result.nodes c.new-3.result

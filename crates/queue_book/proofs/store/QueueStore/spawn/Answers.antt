@@ -11,7 +11,7 @@ use Rattle.queue_book.specs.Live.{kept_of}
 use Rattle.pop_order.specs.OneChange.{IsOnlyChange}
 use Rattle.queue_book.proofs.GivingSteps.{given_more, given_none, has_now, may_get_now, newest_now, stands_now}
 use Rattle.queues.proofs.GivingTurns.{queue_mode_at}
-use Rattle.queue_book.proofs.store.Store.spawn.Goals as goal
+use Rattle.queue_book.proofs.store.QueueStore.spawn.Goals as goal
 
 pub loop-one-init : goal.loop-one-init
 loop-one-init c =

@@ -4,7 +4,7 @@ use Rattle.object_versions.proofs.Forgotten.{left_owed}
 use Rattle.object_versions.proofs.Writing.{written_whole, written_seen, written_own}
 use Rattle.object_versions.proofs.Overwriting.{overwritten_whole, overwritten_seen, overwritten_own}
 use Rattle.object_versions.proofs.Referred.{present_there, still_there}
-use Rattle.object_versions.proofs.store.Store.write.Goals as goal
+use Rattle.object_versions.proofs.store.VersionStore.write.Goals as goal
 
 pub returns-then-is_alone-clause-whole : goal.returns-then-is_alone-clause-whole
 returns-then-is_alone-clause-whole c = λ made whole.

@@ -2,7 +2,7 @@ use Rattle.std.proofs.Common.{subst, sym}
 use Rattle.swan_model.specs.QueueState.{QueueState}
 use Rattle.queue_book.specs.Whole.{IsBook}
 use Rattle.queue_book.proofs.PlainStart.{book_none}
-use Rattle.queue_book.proofs.store.Store.clear.Goals as goal
+use Rattle.queue_book.proofs.store.QueueStore.clear.Goals as goal
 
 pub returns : goal.returns
 returns c name =

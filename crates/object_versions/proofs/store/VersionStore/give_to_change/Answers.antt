@@ -4,7 +4,7 @@ use Rattle.object_versions.proofs.GivingInOut.{changed_whole, changed_seen}
 use Rattle.object_versions.proofs.Given.{still_stands}
 use Rattle.object_versions.proofs.GivingUp.{set_keeps, set_shares}
 use Rattle.object_versions.proofs.Referred.{still_there, still_shared}
-use Rattle.object_versions.proofs.store.Store.give_to_change.Goals as goal
+use Rattle.object_versions.proofs.store.VersionStore.give_to_change.Goals as goal
 
 pub returns-clause-whole : goal.returns-clause-whole
 returns-clause-whole c = λ made whole.

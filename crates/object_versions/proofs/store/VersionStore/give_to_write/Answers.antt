@@ -2,7 +2,7 @@ use Rattle.object_versions.proofs.GivingOut.{out_whole, out_seen}
 use Rattle.object_versions.proofs.Given.{still_stands}
 use Rattle.object_versions.proofs.GivingUp.{set_keeps}
 use Rattle.object_versions.proofs.Referred.{still_there}
-use Rattle.object_versions.proofs.store.Store.give_to_write.Goals as goal
+use Rattle.object_versions.proofs.store.VersionStore.give_to_write.Goals as goal
 
 pub returns-clause-whole : goal.returns-clause-whole
 returns-clause-whole c = λ made whole.

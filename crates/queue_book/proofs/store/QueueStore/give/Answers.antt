@@ -7,7 +7,7 @@ use Rattle.queue_book.specs.Handed.{IsHandedIn}
 use Rattle.swan_model.specs.declared.rights.Mode.TheVariants.{Push}
 use Rattle.swan_model.specs.QueueState.{QueueRight}
 use Rattle.swan_model.specs.Rights.{allows}
-use Rattle.queue_book.proofs.store.Store.give.Goals as goal
+use Rattle.queue_book.proofs.store.QueueStore.give.Goals as goal
 
 pub returns-clause-given : goal.returns-clause-given
 returns-clause-given c =

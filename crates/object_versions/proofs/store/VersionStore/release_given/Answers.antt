@@ -4,7 +4,7 @@ use Rattle.object_versions.specs.Store.{Entries, place_at}
 use Rattle.object_versions.proofs.Lookups.{at_set, still_set}
 use Rattle.object_versions.proofs.Forgotten.{forgotten_whole, forgotten_seen}
 use Rattle.object_versions.proofs.Referred.{given_there}
-use Rattle.object_versions.proofs.store.Store.release_given.Goals as goal
+use Rattle.object_versions.proofs.store.VersionStore.release_given.Goals as goal
 
 pub returns-clause-stands : goal.returns-clause-stands
 returns-clause-stands c =

@@ -1,6 +1,6 @@
 use Rattle.std.proofs.Common.{◌≡◌, false, take}
 use Rattle.queue_book.specs.Handed.{AreGiven}
-use Rattle.queue_book.proofs.store.Store.spawn.Given as goal
+use Rattle.queue_book.proofs.store.QueueStore.spawn.Given as goal
 
 abbrev pub invariant-loop-one : goal.invariant-loop-one
 invariant-loop-one l = record {

@@ -1,5 +1,5 @@
 use Rattle.object_versions.proofs.Making.{created_whole, created_seen}
-use Rattle.object_versions.proofs.store.Store.create.Goals as goal
+use Rattle.object_versions.proofs.store.VersionStore.create.Goals as goal
 
 pub returns-clause-whole : goal.returns-clause-whole
 returns-clause-whole c =
