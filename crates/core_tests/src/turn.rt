@@ -26,14 +26,14 @@ impl Turn {
     /// The frame's number.
     pub fn frame(&self) -> u64 {
         match self {
-            Turn::Works(frame, _)
-            | Turn::Torn(frame)
-            | Turn::Runs(frame, _)
-            | Turn::Spawns(frame, _, _)
-            | Turn::Ends(frame, _)
-            | Turn::Waits(frame, _, _)
-            | Turn::Strange(frame, _)
-            | Turn::NoMemory(frame, _) => *frame,
+            Turn::Works(frame, _) => *frame,
+            Turn::Torn(frame) => *frame,
+            Turn::Runs(frame, _) => *frame,
+            Turn::Spawns(frame, _, _) => *frame,
+            Turn::Ends(frame, _) => *frame,
+            Turn::Waits(frame, _, _) => *frame,
+            Turn::Strange(frame, _) => *frame,
+            Turn::NoMemory(frame, _) => *frame,
         }
     }
 
