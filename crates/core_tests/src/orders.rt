@@ -1,5 +1,5 @@
 // Orders by chance.
-ghost use Rattle.std.specs.Prelude.{◌≡◌, OnOk, true};
+ghost use Rattle.std.specs.Prelude.{◌≡◌, ◌<◌, OnOk, length};
 ghost use Rattle.core_tests.specs.Pools.{MayAllCome};
 
 use crate::turn::Turn;
@@ -7,7 +7,7 @@ use crate::turns::take_turn;
 use queues::Queues;
 use std::alloc::Global;
 use std::test::Fail;
-use swan_model::Body;
+use swan_model::{Body, NoMemory};
 use task_frames::{Core, Frame};
 
 /// More turns than a run of a test has.
@@ -37,6 +37,36 @@ fn ends_so<B: Body, Q: Queues>(core: &Core<B, Q>, is_dead: bool) -> Result<(), F
     }
 }
 
+/// Takes the turn of one of the frames, with a budget: both by this number.
+fn take_turn_by_chance<B: Body, Q: Queues>(
+    alloc: Global,
+    core: &mut Core<B, Q>,
+    body: &B,
+    frames: &mut Vec<Frame<B, Q>>,
+    chance: u64,
+) -> Result<Turn, NoMemory>
+    requires body { body.now ≡ core.old.plan.body }
+    requires frames { MayAllCome Q.Ends.run core.old frames.old.items }
+    requires some { 0 < length frames.old.items }
+    ensures frames { OnOk result (MayAllCome Q.Ends.run core.new frames.new.items) }
+    ensures plan { core.new.plan ≡ core.old.plan }
+{
+    let at = (chance >> 33) as usize % frames.len();
+    let frame = frames.swap_remove(at);
+    take_turn(alloc, core, body, frames, frame, budget(chance))
+}
+
+/// Whether the core has found no memory, once this turn has come. Err says what is wrong with it.
+fn is_dead_after(turn: Turn, is_dead: bool) -> Result<bool, Fail> {
+    match turn {
+        Turn::Works(_, _) => Ok(is_dead),
+        Turn::NoMemory(_, _) => Ok(true),
+        Turn::Strange(_, _) => Err("a frame is strange".into()),
+        _ if is_dead => Err("a core without memory goes on".into()),
+        _ => Ok(false),
+    }
+}
+
 /// Takes turns until no frame is left, or one is torn by want of memory in a step of its own: each is that of any frame, with any budget. Once
 /// the core has found no memory, it finds none for each frame that comes to it. The root has ended exactly where no want of memory was met. Err
 /// says what went wrong.
@@ -58,16 +88,11 @@ pub fn take_turns_by_chance<B: Body, Q: Queues>(
             return ends_so(core, is_dead);
         }
         chance = next(chance);
-        let at = (chance >> 33) as usize % frames.len();
-        let frame = frames.swap_remove(at);
-        match take_turn(alloc, core, body, frames, frame, budget(chance))? {
-            Turn::Works(_, _) => {}
-            Turn::Torn(_) => return ends_so(core, true),
-            Turn::NoMemory(_, _) => is_dead = true,
-            Turn::Strange(_, _) => return Err("a frame is strange".into()),
-            _ if is_dead => return Err("a core without memory goes on".into()),
-            _ => {}
+        let turn = take_turn_by_chance(alloc, core, body, frames, chance)?;
+        if matches!(turn, Turn::Torn(_)) {
+            return ends_so(core, true);
         }
+        is_dead = is_dead_after(turn, is_dead)?;
     }
     Err("no end".into())
 }
