@@ -148,15 +148,31 @@ pub fn leaves(alloc: Global, row: &Row<'_>, order: Order<'_>) -> Result<(), Fail
     leaves_past(alloc, row, usize::MAX, order)
 }
 
-/// A run of the row's plan leaves what the row says, and what the elision leaves, since no ask stands at the index where no memory is found.
-fn leaves_past(alloc: Global, row: &Row<'_>, fails: usize, order: Order<'_>) -> Result<(), Fail> {
-    let plan = failing_plan(alloc, row.tasks, row.fuel, fails)?;
-    let left = texts(alloc, plan, order)?;
+/// The two texts of what a run of these tasks leaves, in which no memory is found at one index of the list of all asks.
+fn texts_past(
+    alloc: Global,
+    tasks: &[&str],
+    fuel: u64,
+    fails: usize,
+    order: Order<'_>,
+) -> Result<Printed, Fail> {
+    texts(alloc, failing_plan(alloc, tasks, fuel, fails)?, order)
+}
+
+/// These two texts are what the row says.
+fn is_said(row: &Row<'_>, left: &Printed) -> Result<(), Fail> {
     if left.out.as_slice() != row.out.as_bytes()
         || !left.report.as_slice().ends_with(row.report.as_bytes())
     {
         return Err("something else is left".into());
     }
+    Ok(())
+}
+
+/// A run of the row's plan leaves what the row says, and what the elision leaves, since no ask stands at the index where no memory is found.
+fn leaves_past(alloc: Global, row: &Row<'_>, fails: usize, order: Order<'_>) -> Result<(), Fail> {
+    let left = texts_past(alloc, row.tasks, row.fuel, fails, order)?;
+    is_said(row, &left)?;
     let tasks = Tasks {
         name: "a row",
         tasks: row.tasks,
