@@ -1,14 +1,21 @@
 -- Frames that may come to a core.
-use Rattle.std.proofs.Common.{◌≡◌, ℕ, ◌<◌, List, ◌∙◌, length, slice_index_or, subst, sym}
-use Rattle.std.proofs.lemmas.List.Elements.{All-weaker}
+use Rattle.std.proofs.Common.{◌≡◌, ℕ, ◌<◌, List, [], ◌∷◌, ◌∙◌, length, slice_index_or, subst, sym}
+use Rattle.std.proofs.lemmas.List.Elements.{All-cons, All-nil, All-same, All-weaker}
 use Rattle.task_frames.specs.Cores.{CoreView}
 use Rattle.task_frames.specs.Frames.{FrameView}
-use Rattle.task_frames.specs.Resumes.{EndsOf, IsGivenBy}
+use Rattle.task_frames.specs.Resumes.{EndsOf, IsGivenBy, IsOpened}
 use Rattle.core_tests.specs.Pools.{MayAllCome, MayCome}
 
 -- what a core gives may come to it
 pub given-comes : {B L E : Type 0} (of : EndsOf E) (core : CoreView B L) (frame : FrameView B L E) → IsGivenBy of core frame → MayCome of.run core frame
 given-comes of core frame given = record { plan = given.plan; run_is = given.run }
+
+-- the root of an opened run, alone, may come to its core
+pub alone-comes : {B L E : Type 0} (of : EndsOf E) (core : CoreView B L) (root : FrameView B L E) (frames : List (FrameView B L E))
+    → IsOpened of core root → frames ≡ root ∷ [] → MayAllCome of.run core frames
+alone-comes of core root frames opened is =
+    let may = MayCome of.run core in
+    All-same may frames (root ∷ []) is (All-cons may root [] (given-comes of core root opened.given) (All-nil may))
 
 -- what may come to a core may come to another one of the same plan and the same run
 module _ {B L E : Type 0} (run : E → List ℕ) (core after : CoreView B L) (plan : after.plan ≡ core.plan) (run-is : after.run ≡ core.run) where

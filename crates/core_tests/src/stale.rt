@@ -98,6 +98,42 @@ fn frames_after<B: Body, Q: Queues>(
     Ok(frames)
 }
 
+/// Takes these turns of some frames. What else may come to the core may still come to it.
+fn take_beside<B: Body, Q: Queues>(
+    alloc: Global,
+    core: &mut Core<B, Q>,
+    body: &B,
+    frames: &mut Vec<Frame<B, Q>>,
+    others: &Vec<Frame<B, Q>>,
+    turns: &[Turn],
+) -> Result<(), Fail>
+    requires body { body.now ≡ core.old.plan.body }
+    requires frames { MayAllCome Q.Ends.run core.old frames.old.items }
+    requires others { MayAllCome Q.Ends.run core.old others.now.items }
+    ensures frames { OnOk result (MayAllCome Q.Ends.run core.new frames.new.items) }
+    ensures others { MayAllCome Q.Ends.run core.new others.now.items }
+    ensures plan { core.new.plan ≡ core.old.plan }
+{
+    take_turns(alloc, core, body, frames, turns)
+}
+
+/// Stale frames come to a core, and then its own ones go on.
+fn take_rest<B: Body, Q: Queues>(
+    alloc: Global,
+    core: &mut Core<B, Q>,
+    body: &B,
+    own: &mut Vec<Frame<B, Q>>,
+    stale: &mut Vec<Frame<B, Q>>,
+    turns: &Turns<'_>,
+) -> Result<(), Fail>
+    requires body { body.now ≡ core.old.plan.body }
+    requires own { MayAllCome Q.Ends.run core.old own.old.items }
+    requires stale { MayAllCome Q.Ends.run core.old stale.old.items }
+{
+    take_beside(alloc, core, body, stale, own, turns.stale)?;
+    take_turns(alloc, core, body, own, turns.rest)
+}
+
 /// Stale frames come to a core between turns of its own ones, and all come to what is said.
 fn take_all<B: Body, Q: Queues>(
     alloc: Global,
@@ -111,9 +147,8 @@ fn take_all<B: Body, Q: Queues>(
     requires own { MayAllCome Q.Ends.run core.old own.old.items }
     requires stale { MayAllCome Q.Ends.run core.old stale.old.items }
 {
-    take_turns(alloc, core, body, own, turns.first)?;
-    take_turns(alloc, core, body, stale, turns.stale)?;
-    take_turns(alloc, core, body, own, turns.rest)
+    take_beside(alloc, core, body, own, stale, turns.first)?;
+    take_rest(alloc, core, body, own, stale, turns)
 }
 
 /// The turns of an opened run, to whose core stale frames come, come to what is said.
