@@ -9,7 +9,7 @@ use Rattle.slab.specs.Slab.{Slab, get, Updates}
 use Rattle.swan_model.specs.declared.rights.Mode.TheVariants.{InOut}
 use Rattle.swan_model.specs.Versions.{owed, owing, place_cmp, after_access, given_from, with_placed, with_present}
 use Rattle.object_versions.specs.declared.node.Node.{Node}
-use Rattle.object_versions.specs.declared.node.NodeValue.TheVariants.{Owed}
+use Rattle.object_versions.specs.declared.node.NodeState.TheVariants.{Owed}
 use Rattle.object_versions.specs.declared.placed_object.PlacedObject.{PlacedObject}
 use Rattle.object_versions.specs.Store.{Entries, place_at, told_at, version_at, placed_of, versions_of, one, uses_of, uses, released}
 use Rattle.object_versions.specs.Whole.{IsFit, HasOwing, IsWhole, MayGetAt}

@@ -1,5 +1,5 @@
--- Lemmas on renamed objects; what a file is for stands at its head. To be read first is the group from `Lookups` to `Seeing`: those
--- before it, and those after it up to `Given`, stand on it.
+-- Lemmas on renamed objects; what a file is for stands at its head. To be read first are
+-- `Differ` and the group from `Lookups` to `Seeing`: those before that group, and those after it up to `PlacesAfter`, stand on them.
 
 -- the places of a frame, one after the other, and entries by index
 pub mod Order

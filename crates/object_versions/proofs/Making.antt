@@ -11,7 +11,7 @@ use Rattle.swan_model.specs.declared.value.Value.{Value}
 use Rattle.swan_model.specs.Values.{kind_of}
 use Rattle.swan_model.specs.Versions.{settled, owed, place_cmp, after_create}
 use Rattle.object_versions.specs.declared.node.Node.{Node}
-use Rattle.object_versions.specs.declared.node.NodeValue.TheVariants.{Settled}
+use Rattle.object_versions.specs.declared.node.NodeState.TheVariants.{Settled}
 use Rattle.object_versions.specs.declared.placed_object.PlacedObject.{PlacedObject}
 use Rattle.object_versions.specs.Store.{Entries, place_at, told_at, version_at, placed_of, seen, versions_of, one, uses_of}
 use Rattle.object_versions.specs.Whole.{IsFit, HasOwing, IsWhole}

@@ -9,7 +9,7 @@ use Rattle.slab.specs.Slab.{Slab, get, Updates}
 use Rattle.swan_model.specs.declared.value.Value.{Value}
 use Rattle.swan_model.specs.Versions.{settled, owed, owing, place_cmp, with_present, after_write, written_at}
 use Rattle.object_versions.specs.declared.node.Node.{Node}
-use Rattle.object_versions.specs.declared.node.NodeValue.TheVariants.{Settled}
+use Rattle.object_versions.specs.declared.node.NodeState.TheVariants.{Settled}
 use Rattle.object_versions.specs.declared.placed_object.PlacedObject.{PlacedObject}
 use Rattle.object_versions.specs.Store.{Entries, place_at, told_of, told_at, version_at, object_at, given_of, KeepsOwed, placed_of, seen, versions_of, one, one_of, uses, uses_in}
 use Rattle.object_versions.specs.Whole.{IsWhole, HasOwn}

@@ -7,8 +7,8 @@ use Rattle.slab.specs.Slab.{Slab, get, Updates}
 use Rattle.swan_model.specs.declared.value.Value.{Value}
 use Rattle.swan_model.specs.Versions.{settled, owed, VersionState, settle, left_by, IsSettled}
 use Rattle.object_versions.specs.declared.node.Node.{Node}
-use Rattle.object_versions.specs.declared.node.NodeValue.{NodeValue}
-use Rattle.object_versions.specs.declared.node.NodeValue.TheVariants.{Settled, Owed}
+use Rattle.object_versions.specs.declared.node.NodeState.{NodeState}
+use Rattle.object_versions.specs.declared.node.NodeState.TheVariants.{Settled, Owed}
 use Rattle.object_versions.specs.declared.placed_object.PlacedObject.{PlacedObject}
 use Rattle.object_versions.specs.Store.{Entries, place_at, told_of, version_of, version_at, object_at, versions_of, uses, uses_in, state_settled}
 use Rattle.object_versions.specs.Whole.{IsFit, IsWhole}
@@ -25,15 +25,15 @@ reads_no_owing nodes key value frame reads owes = settled_not-owed value frame (
 
 -- ---- a state and the value that it gets
 
-never_owes : (s : NodeValue) (v : Value) (m : ℕ) → version_of (state_settled s v) ≡ owed m → ⊥
+never_owes : (s : NodeState) (v : Value) (m : ℕ) → version_of (state_settled s v) ≡ owed m → ⊥
 never_owes (Settled w) v m e = settled_not-owed w m e
 never_owes (Owed f) v m e = settled_not-owed v m e
 
-stays_settled : (s : NodeValue) (v w : Value) → version_of s ≡ settled w → version_of (state_settled s v) ≡ settled w
+stays_settled : (s : NodeState) (v w : Value) → version_of s ≡ settled w → version_of (state_settled s v) ≡ settled w
 stays_settled (Settled u) v w e = e
 stays_settled (Owed f) v w e = absurd (settled_not-owed w f (sym e))
 
-settles_so : (s : NodeValue) (v : Value) (state : VersionState) (n o : ℕ) → left_by state n o ≡ Some (settled v) → ((m : ℕ) → version_of s ≡ owed m → m ≡ n)
+settles_so : (s : NodeState) (v : Value) (state : VersionState) (n o : ℕ) → left_by state n o ≡ Some (settled v) → ((m : ℕ) → version_of s ≡ owed m → m ≡ n)
     → settle state n o (version_of (state_settled s v)) ≡ settle state n o (version_of s)
 settles_so (Settled u) v state n o left by = refl
 settles_so (Owed f) v state n o left by =

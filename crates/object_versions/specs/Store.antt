@@ -7,8 +7,8 @@ use Rattle.slab.specs.Slab.{Slab, get}
 use Rattle.swan_model.specs.declared.value.Value.{Value}
 use Rattle.swan_model.specs.Versions.{Version, settled, owed, owing, Placed, VersionState, place_cmp}
 use Rattle.object_versions.specs.declared.node.Node.{Node}
-use Rattle.object_versions.specs.declared.node.NodeValue.{NodeValue}
-use Rattle.object_versions.specs.declared.node.NodeValue.TheVariants.{Settled, Owed}
+use Rattle.object_versions.specs.declared.node.NodeState.{NodeState}
+use Rattle.object_versions.specs.declared.node.NodeState.TheVariants.{Settled, Owed}
 use Rattle.object_versions.specs.declared.placed_object.PlacedObject.{PlacedObject}
 
 -- what is kept of each place, by frame and place in rising order
@@ -21,7 +21,7 @@ place_at entries frame place = lookup (is_at (place_cmp (frame, place))) entries
 
 -- ---- what places and keys stand for
 
-abbrev pub version_of : NodeValue → Version
+abbrev pub version_of : NodeState → Version
 version_of (Settled value) = settled value
 version_of (Owed frame) = owed frame
 
@@ -90,6 +90,6 @@ abbrev pub released : Node → Option Node
 released node = if nat_lt 1 node.uses then Some (record node { uses = node.uses - 1 }) else None
 
 -- an owed version gets its value, and a settled one keeps it
-abbrev pub state_settled : NodeValue → Value → NodeValue
+abbrev pub state_settled : NodeState → Value → NodeState
 state_settled (Settled kept) value = Settled kept
 state_settled (Owed frame) value = Settled value

@@ -64,7 +64,7 @@ kept_at store frame place = place_at store.places.entries frame place
 abbrev pub seen_of : VersionStore → (made : ℕ) → VersionState
 seen_of store made = versions_of store.places.entries store.nodes made
 
--- it is kept so, however many objects were made
+-- what was at rest is so afterwards, however many objects were made
 abbrev pub StaysAtRest : (before after : VersionStore) → Type 0
 StaysAtRest before after = (made : ℕ) → IsAtRest before made → IsAtRest after made
 

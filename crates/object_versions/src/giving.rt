@@ -11,7 +11,7 @@ ghost use Rattle.object_versions.specs.declared.placed_object.PlacedObject.{Plac
 use crate::nodes::{make, release, share};
 use crate::places::{put, set_present};
 use crate::store::VersionStore;
-use crate::{NodeValue, PlacedObject};
+use crate::{NodeState, PlacedObject};
 use swan_model::{Mode, NoMemory, Value};
 
 /// Where an object is given from, and where to.
@@ -118,10 +118,10 @@ impl VersionStore {
         let owed = make(
             &mut self.nodes,
             &object.object,
-            NodeValue::Owed(gift.child),
+            NodeState::Owed(gift.child),
             2,
         )?;
-        let own = make(&mut self.nodes, &object.object, NodeValue::Settled(zero), 1)?;
+        let own = make(&mut self.nodes, &object.object, NodeState::Settled(zero), 1)?;
         let written = PlacedObject {
             object: object.object.again(),
             kind: object.kind,
@@ -162,7 +162,7 @@ impl VersionStore {
         let next = make(
             &mut self.nodes,
             &object.object,
-            NodeValue::Owed(gift.child),
+            NodeState::Owed(gift.child),
             2,
         )?;
         let changed = PlacedObject {

@@ -42,7 +42,7 @@ pub use laws::{
     ended_children_leave_all_settled, giving_begins, nobody_waits_again, other_entries_pass,
     places_stay, who_is_awaited_comes_first,
 };
-use node::{Node, NodeValue};
+use node::{Node, NodeState};
 use object_number::ObjectNumber;
 use placed_object::PlacedObject;
 pub use versions::Versions;

@@ -4,7 +4,7 @@ use swan_model::Value;
 
 /// What a version is.
 #[derive(Drop)]
-pub enum NodeValue {
+pub enum NodeState {
     /// It has this value.
     Settled(Value),
     /// The frame of this number owes it.
@@ -17,7 +17,7 @@ pub struct Node {
     /// Which object it is a version of. Contracts speak of it; no code asks for it.
     pub object: ObjectNumber,
     /// Its value, or who owes it.
-    pub state: NodeValue,
+    pub state: NodeState,
     /// How often places refer to it, each three times at most. It is given up when none does.
     pub uses: u128,
 }

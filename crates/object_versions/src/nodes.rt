@@ -4,9 +4,9 @@ ghost use Rattle.slab.specs.Slab.{get, Updates};
 ghost use Rattle.swan_model.specs.Versions.{settled, owed};
 ghost use Rattle.object_versions.specs.Store.{version_at, uses_in, released, state_settled};
 ghost use Rattle.object_versions.specs.declared.node.Node.{Node as Version};
-ghost use Rattle.object_versions.specs.declared.node.NodeValue.TheVariants.{Settled};
+ghost use Rattle.object_versions.specs.declared.node.NodeState.TheVariants.{Settled};
 
-use crate::{Node, NodeValue, ObjectNumber};
+use crate::{Node, NodeState, ObjectNumber};
 use slab::Slab;
 use swan_model::{NoMemory, Value};
 
@@ -14,7 +14,7 @@ use swan_model::{NoMemory, Value};
 pub fn make(
     nodes: &mut Slab<Node>,
     object: &ObjectNumber,
-    state: NodeValue,
+    state: NodeState,
     uses: u128,
 ) -> Result<usize, NoMemory>
     ensures vacant { IfOk result (λ key. get nodes.old key ≡ None) }
@@ -67,8 +67,8 @@ pub fn settle(nodes: &mut Slab<Node>, key: usize, value: Value)
     let Some(node) = nodes.get_mut(key) else {
         unreachable!()
     };
-    if let NodeValue::Owed(_) = node.state {
-        node.state = NodeValue::Settled(value);
+    if let NodeState::Owed(_) = node.state {
+        node.state = NodeState::Settled(value);
     }
 }
 
@@ -90,7 +90,7 @@ pub fn overwrite(nodes: &mut Slab<Node>, key: usize, value: Value)
     let Some(node) = nodes.get_mut(key) else {
         unreachable!()
     };
-    node.state = NodeValue::Settled(value);
+    node.state = NodeState::Settled(value);
 }
 
 /// The value of a version, and else the frame that owes it. `O(1)`; it takes no memory.
@@ -102,13 +102,13 @@ pub fn value_at(nodes: &Slab<Node>, key: usize) -> Result<&Value, u64>
     match nodes.get(key) {
         Some(
             Node {
-                state: NodeValue::Settled(value),
+                state: NodeState::Settled(value),
                 ..
             },
         ) => Ok(value),
         Some(
             Node {
-                state: NodeValue::Owed(owing),
+                state: NodeState::Owed(owing),
                 ..
             },
         ) => Err(*owing),

@@ -6,7 +6,7 @@ ghost use Rattle.object_versions.specs.Whole.{Becomes, HasOwn, IsAtRest, StaysAt
 
 use crate::nodes::{is_alone, make, overwrite, release, value_at};
 use crate::places::{forget_given, put, set_present};
-use crate::{Node, NodeValue, ObjectNumber, PlacedObject};
+use crate::{Node, NodeState, ObjectNumber, PlacedObject};
 use slab::Slab;
 use std::alloc::Global;
 use std::collections::BTreeMap;
@@ -65,7 +65,7 @@ impl VersionStore {
         ensures created { OnOk result (seen_of self.new (made.now + 1) ≡ after_create (seen_of self.old made.now) frame place first) }
     {
         let kind = first.kind();
-        let present = make(&mut self.nodes, made, NodeValue::Settled(first), 1)?;
+        let present = make(&mut self.nodes, made, NodeState::Settled(first), 1)?;
         let object = PlacedObject {
             object: made.again(),
             kind,
@@ -141,7 +141,7 @@ impl VersionStore {
             overwrite(&mut self.nodes, own.present, value);
             return Ok(());
         }
-        let next = make(&mut self.nodes, &own.object, NodeValue::Settled(value), 1)?;
+        let next = make(&mut self.nodes, &own.object, NodeState::Settled(value), 1)?;
         set_present(&mut self.places, frame, place, next);
         release(&mut self.nodes, own.present);
         Ok(())

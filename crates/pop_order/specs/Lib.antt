@@ -1,6 +1,5 @@
 -- What the contracts of this crate cite, in the order to read it. First what the calls and the law say: the frames, their order
 -- in a tree, how a reading sees them, and who may pop.
-pub mod OneChange
 pub mod Frames
 pub mod Order
 pub mod Readings
@@ -13,4 +12,6 @@ pub mod Kept
 pub mod Walk
 pub mod Poppers
 pub mod Makers
+-- What a call changes of what is known by numbers; the crates above cite it too.
+pub mod OneChange
 pub mod Steps

@@ -8,13 +8,13 @@ use Rattle.queue_book.specs.declared.chains.Chains.{Chains}
 abbrev pub HaveLines : Chains → (at : ℕ → ℕ → Option ℕ) → (lines : ℕ → Chunks) → Type 0
 HaveLines chains at lines = AreChained at chains.heads.items chains.nodes lines
 
--- they have some
-abbrev pub AreKept : Chains → Type 0
-AreKept chains = (at : ℕ → ℕ → Option ℕ) × (lines : ℕ → Chunks) × HaveLines chains at lines
+-- they are the chunks of some queues, and each frame's own ones stand there
+abbrev pub HaveSomeLines : Chains → Type 0
+HaveSomeLines chains = (at : ℕ → ℕ → Option ℕ) × (lines : ℕ → Chunks) × HaveLines chains at lines
 
--- and no frame has a chunk of this queue
-abbrev pub AreKeptUnowned : Chains → (queue : ℕ) → Type 0
-AreKeptUnowned chains queue = (at : ℕ → ℕ → Option ℕ) × (lines : ℕ → Chunks) × HaveLines chains at lines × ((number : ℕ) → at number queue ≡ None)
+-- and in this queue no frame has a chunk
+abbrev pub HaveSomeUnowned : Chains → (queue : ℕ) → Type 0
+HaveSomeUnowned chains queue = (at : ℕ → ℕ → Option ℕ) × (lines : ℕ → Chunks) × HaveLines chains at lines × ((number : ℕ) → at number queue ≡ None)
 
 -- what holds of them, whatever they have
 abbrev pub OnLines : Chains → ((at : ℕ → ℕ → Option ℕ) → (lines : ℕ → Chunks) → Type 0) → Type 0

@@ -3,7 +3,7 @@ ghost use Rattle.std.specs.Prelude.{◌≡◌, ◌≢◌, ℕ, ◌+◌, ◌<◌,
 ghost use Rattle.slab.specs.Slab.{ContainsKey, slab_len};
 ghost use Rattle.queues.specs.Chunks.{Chunk, Chunks, own, is_spent, with_item, after_hand_on, after_close, without_spent, without_first, items_in};
 ghost use Rattle.queue_book.specs.Chains.{IsFront, chunk_of, first_item, in_line, put_at};
-ghost use Rattle.queue_book.specs.Lines.{AreKept, AreKeptUnowned, HaveLines, OnLines, OnOwn, OnUnowned};
+ghost use Rattle.queue_book.specs.Lines.{HaveSomeLines, HaveSomeUnowned, HaveLines, OnLines, OnOwn, OnUnowned};
 
 use crate::ChunkNode;
 use slab::Slab;
@@ -110,7 +110,7 @@ impl Chains {
     /// What stands at the front of a queue, and None where that is a spent chunk. `O(1)`.
     fn front(&self, queue: u32) -> Option<Front>
         requires known { queue < length self.now.heads.items }
-        requires kept { AreKept self.now }
+        requires kept { HaveSomeLines self.now }
         ensures stands { IfSome result (λ front. OnLines self.now (λ at lines. IsFront (lines queue) front × (without_spent (lines queue) ≡ lines queue))) }
         ensures spent { IfNone result (OnLines self.now (λ at lines. (chunk : Chunk) × (rest : Chunks) × (lines queue ≡ chunk ∷ rest) × (is_spent chunk ≡ true))) }
     {
@@ -132,7 +132,7 @@ impl Chains {
     /// Drops the first chunk of a queue, where there is one. `O(1)`; it takes no memory.
     fn drop_first(&mut self, queue: u32) -> Option<ChunkNode>
         requires known { queue < length self.old.heads.items }
-        requires kept { AreKept self.old }
+        requires kept { HaveSomeLines self.old }
         ensures same { length self.new.heads.items ≡ length self.old.heads.items }
 
         // the first chunk, where there is one
@@ -159,7 +159,7 @@ impl Chains {
     /// it takes no memory.
     pub fn trim(&mut self, queue: u32) -> Front
         requires known { queue < length self.old.heads.items }
-        requires kept { AreKept self.old }
+        requires kept { HaveSomeLines self.old }
         ensures same { length self.new.heads.items ≡ length self.old.heads.items }
         ensures trimmed { OnLines self.old (λ at lines. HaveLines self.new at (in_line queue without_spent lines) × IsFront (without_spent (lines queue)) result) }
         ensures fewer { OnLines self.old (λ at lines. slab_len self.new.nodes + length (lines queue) ≡ slab_len self.old.nodes + length (without_spent (lines queue))) }
@@ -177,7 +177,7 @@ impl Chains {
     /// Takes the first item of the first chunk of a queue. `O(1)` amortised; it needs no memory.
     pub fn take_first(&mut self, queue: u32) -> Option<Value>
         requires known { queue < length self.old.heads.items }
-        requires kept { AreKept self.old }
+        requires kept { HaveSomeLines self.old }
         ensures same { length self.new.heads.items ≡ length self.old.heads.items }
         ensures item { OnLines self.old (λ at lines. result ≡ first_item (lines queue)) }
         ensures taken { OnLines self.old (λ at lines. HaveLines self.new at (in_line queue without_first lines)) }
@@ -194,7 +194,7 @@ impl Chains {
     /// Gives up all chunks of a queue, of which none is owned. `O(n)` for what is given up; it takes no memory.
     pub fn give_up(&mut self, queue: u32)
         requires known { queue < length self.old.heads.items }
-        requires unowned { AreKeptUnowned self.old queue }
+        requires unowned { HaveSomeUnowned self.old queue }
         ensures same { length self.new.heads.items ≡ length self.old.heads.items }
         ensures given_up { OnUnowned self.old queue (λ at lines. HaveLines self.new at (in_line queue (λ chunks. []) lines)) }
         ensures fewer { OnUnowned self.old queue (λ at lines. slab_len self.new.nodes + length (lines queue) ≡ slab_len self.old.nodes) }
@@ -206,7 +206,7 @@ impl Chains {
     /// is want of memory.
     pub fn take_all(&mut self, alloc: Global, queue: u32) -> Result<Values, NoMemory>
         requires known { queue < length self.old.heads.items }
-        requires unowned { AreKeptUnowned self.old queue }
+        requires unowned { HaveSomeUnowned self.old queue }
         ensures same { OnOk result (length self.new.heads.items ≡ length self.old.heads.items) }
         ensures items { IfOk result (λ items. OnUnowned self.old queue (λ at lines. items ≡ items_in (lines queue))) }
         ensures taken { OnOk result (OnUnowned self.old queue (λ at lines. HaveLines self.new at (in_line queue (λ chunks. []) lines))) }

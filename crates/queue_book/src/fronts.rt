@@ -3,7 +3,7 @@ ghost use Rattle.std.specs.Prelude.{◌≡◌, ℕ, ◌<◌, Option, length};
 ghost use Rattle.queues.specs.Chunks.{Chunks};
 ghost use Rattle.queue_book.specs.Chains.{AreChained};
 ghost use Rattle.queue_book.specs.Fronts.{IsFrontTold, IsTurnTold, first_open, met_or, open_or};
-ghost use Rattle.queue_book.specs.Lines.{AreKept};
+ghost use Rattle.queue_book.specs.Lines.{HaveSomeLines};
 ghost use Rattle.queue_book.specs.Live.{is_pusher};
 
 use crate::chains::{Chains, Front};
@@ -28,7 +28,7 @@ impl QueueStore {
     /// may push. It takes no memory.
     pub fn front(&mut self, frame: u64, queue: u32) -> Tested
         requires known { queue < length self.old.chains.heads.items }
-        requires kept { AreKept self.old.chains }
+        requires kept { HaveSomeLines self.old.chains }
         ensures frames { self.new.frames ≡ self.old.frames }
         ensures turns { self.new.turns ≡ self.old.turns }
         ensures same { length self.new.chains.heads.items ≡ length self.old.chains.heads.items }
@@ -53,7 +53,7 @@ impl QueueStore {
 /// and a look-up for each that is owned.
 fn first_pusher(frames: &LiveFrames, chains: &Chains, frame: u64, queue: u32) -> Option<u64>
     requires known { queue < length chains.now.heads.items }
-    requires kept { AreKept chains.now }
+    requires kept { HaveSomeLines chains.now }
     ensures { (at : ℕ → ℕ → Option ℕ) (lines : ℕ → Chunks) → AreChained at chains.now.heads.items chains.now.nodes lines
         → result ≡ first_open frames.now frame queue (lines queue) }
 {

@@ -181,14 +181,14 @@ module _ {E O : Type 0} (index : E → ℕ) (of : E → O) (HasRoom : O → ℕ 
       (omega arith, all.2, (λ n e. (all.3 n e).0), λ o e. subst (λ (x : O). HasRoom x p.tail) (some_is (sym mine.3 ∙ e)) g.counts.inside)
 
   -- and what its view is then
-  fits_looked : (p : RingState) (id : ℕ) (v : SeatView O) → SeatKnows owner p id v → SeatKnows owner p id (looked v p.tail)
-  fits_looked p id v f = (f.0, f.1, omega arith, f.3)
+  knows_looked : (p : RingState) (id : ℕ) (v : SeatView O) → SeatKnows owner p id v → SeatKnows owner p id (looked v p.tail)
+  knows_looked p id v f = (f.0, f.1, omega arith, f.3)
 
   pub looks_tail : (slots id : ℕ) (v : SeatView O) (c : List (ℕ × Option E)) → v.pops ≡ true → Allows Rule slots id (v, c) 8 (λ n. n) (saw_tail HasRoom (step slots 8 0 0 none) (v, c))
   looks_tail slots id v c may = allows slots id (v, c) 8 (λ n. n) (saw_tail HasRoom (step slots 8 0 0 none) (v, c)) (λ p hs vs g len at. let all = g.each id v at in
       dite (dec_le p.tail v.popped)
-      (λ empty. let w : SeatView O = missed v p.tail in (w, keeps, tt, only_view p hs vs id w (words_of p.head p.tail) refl g (fits_looked p id v all), (bounds p hs vs id v g at may, (λ l. absurd (omega arith)), λ _. refl)))
-      (λ some_item. let w : SeatView O = looked v p.tail in (w, keeps, tt, only_view p hs vs id w (words_of p.head p.tail) refl g (fits_looked p id v all), (bounds p hs vs id v g at may, (λ _. refl), λ l. absurd (omega arith)))))
+      (λ empty. let w : SeatView O = missed v p.tail in (w, keeps, tt, only_view p hs vs id w (words_of p.head p.tail) refl g (knows_looked p id v all), (bounds p hs vs id v g at may, (λ l. absurd (omega arith)), λ _. refl)))
+      (λ some_item. let w : SeatView O = looked v p.tail in (w, keeps, tt, only_view p hs vs id w (words_of p.head p.tail) refl g (knows_looked p id v all), (bounds p hs vs id v g at may, (λ _. refl), λ l. absurd (omega arith)))))
 
   pub hears : (slots id : ℕ) (v : SeatView O) (c : List (ℕ × Option E)) → v.pops ≡ true → Allows Rule slots id (v, c) 8 (λ n. n) (heard HasRoom (step slots 8 0 0 none) (v, c))
   hears slots id v c may = allows slots id (v, c) 8 (λ n. n) (heard HasRoom (step slots 8 0 0 none) (v, c)) (λ p hs vs g len at. let w : SeatView O = record v { looks = v.looks + 1 } in
@@ -198,7 +198,7 @@ module _ {E O : Type 0} (index : E → ℕ) (of : E → O) (HasRoom : O → ℕ 
   reaches slots id v c may idle = allows slots id (v, c) 8 (λ n. n) (reached HasRoom index of (step slots 8 0 0 none) (v, c)) (λ p hs vs g len at. let all = g.each id v at in let mine = all.1 may in let same = mine.1 in
       let order = g.counts.order in let room = g.counts.room in let rested : p.taking ≡ false = sym mine.2 ∙ idle in
       dite (dec_le p.tail v.popped)
-      (λ empty. let w : SeatView O = missed v p.tail in (w, keeps, tt, only_view p hs vs id w (words_of p.head p.tail) refl g (fits_looked p id v all), (bounds p hs vs id v g at may, (λ l. absurd (omega arith)), λ _. refl)))
+      (λ empty. let w : SeatView O = missed v p.tail in (w, keeps, tt, only_view p hs vs id w (words_of p.head p.tail) refl g (knows_looked p id v all), (bounds p hs vs id v g at may, (λ l. absurd (omega arith)), λ _. refl)))
       (λ some_item. let w : SeatView O = record (looked v p.tail) { taking = true } in let x = g.slots.full p.head (omega arith) (omega arith) (λ t. true≢false (sym t.0 ∙ rested)) in
       let k : v.popped % slots ≡ p.head % size = ap (λ (n : ℕ × ℕ). n.0 % n.1) (λ i. (same i, len i)) in let q : RingState = record p { taking = true } in (
         w,
@@ -257,9 +257,9 @@ module _ {E O : Type 0} (index : E → ℕ) (of : E → O) (HasRoom : O → ℕ 
             (at_snoc vs o u j e);
       }
 
-  -- a view that is no end's fits where what it knows is so
-  fits_idle : (p : RingState) (j n : ℕ) (a : Option ℕ) → n ≤ p.tail → ForSome a (λ m. (m ≡ p.tail) × (p.sealed ≡ true)) → SeatKnows owner p j (idle_view n a)
-  fits_idle p j n a le f = ((λ p. absurd (true≢false (sym p))), (λ p. absurd (true≢false (sym p))), le, f)
+  -- the seat of no end knows this where it is so
+  knows_idle : (p : RingState) (j n : ℕ) (a : Option ℕ) → n ≤ p.tail → ForSome a (λ m. (m ≡ p.tail) × (p.sealed ≡ true)) → SeatKnows owner p j (idle_view n a)
+  knows_idle p j n a le f = ((λ p. absurd (true≢false (sym p))), (λ p. absurd (true≢false (sym p))), le, f)
 
   pub notes : (id : ℕ) (v : SeatView O) → v.pushes ≡ true → Splits Rule id v v (note_of v)
   notes id v may s r at = let o : SeatView O = note_of v in let mine = r.each id v at in record {
@@ -268,7 +268,7 @@ module _ {E O : Type 0} (index : E → ℕ) (of : E → O) (HasRoom : O → ℕ 
     counts = r.counts;
     slots = r.slots;
     each = λ j u e. ⊎_elim (all_set (SeatKnows owner r.at) s.views id v mine (λ j u _ e. r.each j u e) j u)
-        (λ (is : o ≡ u). subst (SeatKnows owner r.at j) is (let same = (mine.0 may).1 in fits_idle r.at j v.pushed None (omega arith) (λ m e. absurd (cc)))) (at_snoc (set s.views id v) o u j e);
+        (λ (is : o ≡ u). subst (SeatKnows owner r.at j) is (let same = (mine.0 may).1 in knows_idle r.at j v.pushed None (omega arith) (λ m e. absurd (cc)))) (at_snoc (set s.views id v) o u j e);
   }
 
   pub last_notes : (id : ℕ) (v : SeatView O) → v.pushes ≡ true → Splits Rule id v (sealed_of v) (last_note_of v)
@@ -281,7 +281,7 @@ module _ {E O : Type 0} (index : E → ℕ) (of : E → O) (HasRoom : O → ℕ 
         each = λ j u e. ⊎_elim
             (all_set (SeatKnows owner q) s.views id l ((λ m. let h = mine.0 m in (h.0, h.1, h.2, refl, h.4)), mine.1, mine.2, λ n e. ((mine.3 n e).0, refl))
             (λ j u ne e. let h = r.each j u e in ((λ m. absurd (ne ((h.0 m).0 ∙ sym (mine.0 may).0))), h.1, h.2, λ n e. ((h.3 n e).0, refl))) j u)
-            (λ (is : o ≡ u). subst (SeatKnows owner q j) is (fits_idle q j v.pushed (Some v.pushed) (omega arith) (λ m e. (sym (some_is e) ∙ same, refl)))) (at_snoc (set s.views id l) o u j e);
+            (λ (is : o ≡ u). subst (SeatKnows owner q j) is (knows_idle q j v.pushed (Some v.pushed) (omega arith) (λ m e. (sym (some_is e) ∙ same, refl)))) (at_snoc (set s.views id l) o u j e);
       }
 
   least : (a b c : ℕ) → a ≤ c → b ≤ c → max a b ≤ c
@@ -299,7 +299,7 @@ module _ {E O : Type 0} (index : E → ℕ) (of : E → O) (HasRoom : O → ℕ 
         words = r.words;
         counts = r.counts;
         slots = r.slots;
-        each = all_set (SeatKnows owner r.at) (set s.views id w) other spent (fits_idle r.at other 0 None (omega arith) (λ m e. absurd (cc))) (λ j y _ e. now j y e);
+        each = all_set (SeatKnows owner r.at) (set s.views id w) other spent (knows_idle r.at other 0 None (omega arith) (λ m e. absurd (cc))) (λ j y _ e. now j y e);
       }
 
   -- ---- the start

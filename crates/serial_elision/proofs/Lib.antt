@@ -1,6 +1,6 @@
 -- Lemmas on the elision and its scripts; what a file is for stands at its head. Eight groups, in the order to read them: no group
 -- stands on a later one.
--- what one step does, and that the steps end: `Asks`, `Pops`, `Spawns`, `Aliases`, `StepLaws`, `Steps`, `Works`, `Still`, `At`, `RootLists`,
+-- what one step does, and that the steps end: `Asks`, `Pops`, `Spawns`, `Aliases`, `StepLaws`, `Steps`, `Works`, `Still`, `At`,
 -- `Counts`, `Runs`, `Ends`, `Finals`;
 -- a script has an entry for each step: `Scripts`, `Entries`;
 -- the order of tasks and of faults, and how a task goes on: `Turns`, `FaultOrder`, `Passing`, `Nesting`, `Endings`, `TaskSteps`, `FaultsTold`;

@@ -1,5 +1,5 @@
 -- Lemmas on the book, which other crates cite too; what a file is for stands at its head. Four groups, in the order to read them:
--- lists, entries and places: `Elements`, `Lists`, `Lookups`, `Places`, `Paths`, `Origins`;
+-- lists, entries and places: `Elements`, `Lists`, `RootLists`, `Lookups`, `Places`, `Paths`, `Origins`;
 -- texts, cells and steps: `FirstLine`, `FewLines`, `ZeroedCells`, `Working`, `ScriptLength`;
 -- serial order, and the entries of a task: `PathOrder`, `Times`, `TaskEntries`, `Points`;
 -- what lawful scripts tell of frames, rights, deeds, values and items: `ScriptSteps`, `MovedFrames`, `Uses`, `ScriptRights`, `ScriptDeeds`,

@@ -145,7 +145,7 @@ pub(crate) fn try_by_core<B: Body, Q: Queues>(
     body: &B,
     frame: Frame<B, Q>,
 ) -> Result<Tried<B, Q>, NoMemory>
-    // that all of them are of the run of the core
+    // how the frame stands, and that all frames are of the run of the core
     requires frame { IsOfRun (ends_of Q.Ends.LocalEnds) core.old.plan core.old.run frame }
     requires mark { frame.mark ≡ true }
     requires body { body.now ≡ core.old.plan.body }

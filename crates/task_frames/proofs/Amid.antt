@@ -26,7 +26,7 @@ use Rattle.serial_elision.proofs.AskSteps.{works}
 use Rattle.serial_elision.proofs.FewMade.{few-times}
 use Rattle.serial_elision.proofs.TaskSteps.{goes_on_next, stands-one}
 use Rattle.task_frames.specs.declared.stage.Stage.TheVariants.{Ready, Asking}
-use Rattle.task_frames.specs.declared.row.WorkRow.{WorkRow}
+use Rattle.task_frames.specs.declared.row.AfterRow.{AfterRow}
 use Rattle.task_frames.specs.declared.stage.Stage.{Stage}
 use Rattle.queues.specs.Reads.{deeds_among}
 use Rattle.task_frames.specs.Frames.{AreEndsOf, AreLocal, IsFrame, Task, is_local}
@@ -213,7 +213,7 @@ module _ {B L : Type 0} (G : Ghosts B L) (name : Option Script) where
       subst (λ f. IsFrame G (with-steps task (task.done + works) f) name ends (Asking after asked place)) (sym to.1)
       (worked-to task ends local after said asked place works is begun (omega (arith, to.0)) are to.2 to.3 to.4)
 
-  pub rowed : (task : Task B L) (ends : LentEnds) (body : B) (local : L) (said : Answer) (budget : ℕ) (row : WorkRow L) → IsFrame G task name ends (Ready local said)
+  pub rowed : (task : Task B L) (ends : LentEnds) (body : B) (local : L) (said : Answer) (budget : ℕ) (row : AfterRow L) → IsFrame G task name ends (Ready local said)
       → 0 < task.done → body ≡ task.plan.body → 0 < budget → 0 < task.fuel → IsRow G body local said task.fuel budget row
       → IsFrame G (with-steps task (task.done + row.works) row.fuel) name ends row.stage
   rowed task ends body local said budget row is begun same some full so =
@@ -226,7 +226,7 @@ still-to : {B L : Type 0} (G : Ghosts B L) (body : B) (local : L) (said : Answer
 still-to G body local said fuel budget works left (Ready after told_is) to less = let none : left ≡ 0 = omega (arith, to.0, to.1) in search (rules, none)
 still-to G body local said fuel budget works left (Asking after asked place) to less = refl
 
-pub row-still : {B L : Type 0} (G : Ghosts B L) (body : B) (local : L) (said : Answer) (fuel budget : ℕ) (row : WorkRow L) → IsRow G body local said fuel budget row
+pub row-still : {B L : Type 0} (G : Ghosts B L) (body : B) (local : L) (said : Answer) (fuel budget : ℕ) (row : AfterRow L) → IsRow G body local said fuel budget row
     → row.works < budget → is_still row.fuel (Some row.stage) ≡ true
 row-still G body local said fuel budget row so less = still-to G body local said fuel budget row.works row.fuel row.stage so.stands less
 
@@ -235,5 +235,5 @@ few-to : {B L : Type 0} (G : Ghosts B L) (body : B) (local : L) (said : Answer) 
 few-to G body local said fuel budget works left (Ready after told_is) to = omega (arith, to.0)
 few-to G body local said fuel budget works left (Asking after asked place) to = omega (arith, to.0)
 
-pub row-most : {B L : Type 0} (G : Ghosts B L) (body : B) (local : L) (said : Answer) (fuel budget : ℕ) (row : WorkRow L) → IsRow G body local said fuel budget row → row.works ≤ budget
+pub row-most : {B L : Type 0} (G : Ghosts B L) (body : B) (local : L) (said : Answer) (fuel budget : ℕ) (row : AfterRow L) → IsRow G body local said fuel budget row → row.works ≤ budget
 row-most G body local said fuel budget row so = few-to G body local said fuel budget row.works row.fuel row.stage so.stands

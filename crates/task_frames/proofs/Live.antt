@@ -74,11 +74,11 @@ names-grow r then_r (h ∷ hs) (name ∷ names) grow some is =
     ∙ ap {B = List (Option OriginGive)} (λ gs. name ∷ gs) (names-grow r then_r hs names grow (λ i x at. some (suc i) x at) tail)
 
 -- no queue stands at two places where the last one is another one than all before
-apart-more : (hs : List Holding) (h : Holding) → HasQueuesOnce hs → ((place : ℕ) (x : Holding) → slice_get hs place ≡ Some x → is_queue_mode x.mode ≡ true → is_queue_mode h.mode ≡ true → x.number ≢ h.number)
+once-more : (hs : List Holding) (h : Holding) → HasQueuesOnce hs → ((place : ℕ) (x : Holding) → slice_get hs place ≡ Some x → is_queue_mode x.mode ≡ true → is_queue_mode h.mode ≡ true → x.number ≢ h.number)
     → HasQueuesOnce (hs ++ h ∷ [])
-apart-more hs h apart fresh place other a b one two queue also same = elim (more_cases hs h place a one) [
+once-more hs h once fresh place other a b one two queue also same = elim (more_cases hs h place a one) [
   | inl first ↦ elim (more_cases hs h other b two) [
-    | inl second ↦ apart place other a b first second queue also same
+    | inl second ↦ once place other a b first second queue also same
     | inr last ↦ absurd (fresh place a first queue (ap (λ (x : Holding). is_queue_mode x.mode) (sym last.1) ∙ also) (same ∙ ap (λ (x : Holding). x.number) last.1))
   ]
   | inr end ↦ elim (more_cases hs h other b two) [
@@ -146,7 +146,7 @@ module _ {B L : Type 0} (G : Ghosts B L) (plan : Plan B L) where
             | inr same ↦
                 let there = sym same.live_same ∙ at in
                 let was = are.told m frame there in
-                record { progress = same.read_same ∙ was.progress; top = was.top; stands = was.stands; named = names m frame there ∙ was.named; apart = was.apart }
+                record { progress = same.read_same ∙ was.progress; top = was.top; stands = was.stands; named = names m frame there ∙ was.named; once = was.once }
           ]
         ]
 
@@ -255,7 +255,7 @@ module _ {B L : Type 0} (G : Ghosts B L) (plan : Plan B L) where
                 ∙ ap (λ q. gives_at G plan q f.done was.top) path_is ∙ ap (λ j. gives_at G plan path j was.top) done_is ∙ ap (gives_at G plan path k) one
                 ∙ sym same
                 ∙ ap (λ q. gives_at G plan q (k + many) next) (sym path_is);
-            apart = was.apart;
+            once = was.once;
           }
 
       -- its ends come back, and with them all that it did since it was given
@@ -321,7 +321,7 @@ module _ {B L : Type 0} (G : Ghosts B L) (plan : Plan B L) where
             top = next;
             stands = subst (λ q. StandsAt G plan q (k + 1) next) (sym path_is) then;
             named = more-names then_r (gives_at G plan path k top) h (record { origin = Step (time s path k); mode = h.mode }) still new ∙ sym more ∙ ap (λ q. gives_at G plan q (k + 1) next) (sym path_is);
-            apart = apart-more f.holdings h was.apart fresh;
+            once = once-more f.holdings h was.once fresh;
           } in
           goes-on-so 1 (record f { done = k + 1; holdings = f.holdings ++ h ∷ [] }) then_r after b only refl told moved
           (λ m frame live_there.
@@ -456,7 +456,7 @@ module _ {B L : Type 0} (G : Ghosts B L) (plan : Plan B L) where
           → live_at then_live n ≡ Some (record f { done = k + 1 }) → live_at then_live frames ≡ Some (record { parent = Some n; path = path ++ index ∷ []; done = 0; holdings = hs })
           → ((m : ℕ) → m ≢ n → m ≢ frames → live_at then_live m ≡ live_at live m)
           → AreFrames G plan (with-child r n (record { number = frames; path = path ++ index ∷ []; done = 0 })) after then_live (frames + 1)
-      spawns bounds tree path k top next child_top index hs gives may after path_is done_is at then same begins names apart turn is parent_live child_live others_live =
+      spawns bounds tree path k top next child_top index hs gives may after path_is done_is at then same begins names once turn is parent_live child_live others_live =
           subst (λ q. AreFrames G plan then_r q then_live (frames + 1)) (sym is)
           (frames-then then_r spawned then_live each turns (λ m frame at_m. refl) (frames + 1) (omega arith) known count)
         where
@@ -509,7 +509,7 @@ module _ {B L : Type 0} (G : Ghosts B L) (plan : Plan B L) where
               named = was.named
                   ∙ ap (λ q. gives_at G plan q f.done was.top) path_is ∙ ap (λ j. gives_at G plan path j was.top) done_is ∙ ap (gives_at G plan path k) (stands-one G plan path k was.top top here at)
                   ∙ sym same ∙ ap (λ q. gives_at G plan q (k + 1) next) (sym path_is);
-              apart = was.apart;
+              once = was.once;
             };
             own = with_deed (record a { children = a.children + 1 });
             active_now = parent_spawned state n frames a gives own free;
@@ -526,7 +526,7 @@ module _ {B L : Type 0} (G : Ghosts B L) (plan : Plan B L) where
               top = child_top;
               stands = begins;
               named = names;
-              apart = apart;
+              once = once;
             };
             own = child_of a frames gives;
             active_now = child_spawned state n frames a gives own free;

@@ -307,8 +307,8 @@ module _ {B L : Type 0} (G : Ghosts B L) (plan : Plan B L) (sound : IsPlan plan)
     by (of_queue queue there is) = ap (λ (x : Holding). x.number) is
     by (of_object i value there place_is is) = let both : false ≡ true = sym (ap (λ (x : Holding). is_queue_mode x.mode) is) ∙ kind in absurd (cc)
 
-  root-apart : HasQueuesOnce (root_holdings plan.roots)
-  root-apart place other a b one two queue also same = sym (queue-number place a one queue) ∙ same ∙ queue-number other b two also
+  root-once : HasQueuesOnce (root_holdings plan.roots)
+  root-once place other a b one two queue also same = sym (queue-number place a one queue) ∙ same ∙ queue-number other b two also
 
   -- ---- its parts
 
@@ -381,7 +381,7 @@ module _ {B L : Type 0} (G : Ghosts B L) (plan : Plan B L) (sound : IsPlan plan)
           top = root plan;
           stands = root_stands G plan;
           named = root-names;
-          apart = root-apart;
+          once = root-once;
         }));
     active_is = λ n frame at.
         let it = root-one n frame at in

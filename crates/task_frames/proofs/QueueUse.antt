@@ -165,8 +165,8 @@ given-at held (give ∷ gives) hs is (suc i) h at =
     record { give = rest.give; stands = rest.stands; mode = rest.mode; used = rest.used }
 
 -- no queue stands at two places of a child
-pub given-apart : (held : List Holding) (gives : List Give) (hs : List Holding) → HasQueuesOnce held → is_aliased gives ≡ false → given held gives ≡ Some hs → HasQueuesOnce hs
-given-apart held gives hs apart alone is i j a b one two queue also same = elim (cases_order i j) [
+pub given-once : (held : List Holding) (gives : List Give) (hs : List Holding) → HasQueuesOnce held → is_aliased gives ≡ false → given held gives ≡ Some hs → HasQueuesOnce hs
+given-once held gives hs apart alone is i j a b one two queue also same = elim (cases_order i j) [
   | inl equal ↦ equal
   | inr differ ↦ elim differ [
     | inl less ↦ absurd (clashes i j a b less one two queue also same)

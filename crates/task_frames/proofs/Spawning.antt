@@ -41,7 +41,7 @@ use Rattle.task_frames.proofs.GoneOn.{with-child}
 use Rattle.task_frames.proofs.Live as live_frames
 use Rattle.task_frames.proofs.Names.{child-names, gives-held}
 use Rattle.task_frames.proofs.Queues.{fit-now, next-does, spawned-is, spawned-so}
-use Rattle.task_frames.proofs.QueueUse.{given-apart, gives-may, gives-next}
+use Rattle.task_frames.proofs.QueueUse.{given-once, gives-may, gives-next}
 use Rattle.task_frames.proofs.Rights.{known-so, may-do, names-so, next-so}
 
 -- ---- the next frame's number
@@ -97,8 +97,8 @@ module _ {B L : Type 0} (G : Ghosts B L) (plan : Plan B L) (sound : IsPlan plan)
   pub child-named : map (give_in r) hs ≡ map Some spawn.gives
   child-named = child-names G plan path k top r f.holdings names local child spawn hs given_is
 
-  pub child-apart : HasQueuesOnce hs
-  child-apart = given-apart f.holdings child.gives hs (are.told n f there).apart alone given_is
+  pub child-once : HasQueuesOnce hs
+  child-once = given-once f.holdings child.gives hs (are.told n f there).once alone given_is
 
   -- what the queues are asked
   pub spawn-next : NextSpawnGivesQueues s state a (queue_rights hs)
@@ -111,7 +111,7 @@ module _ {B L : Type 0} (G : Ghosts B L) (plan : Plan B L) (sound : IsPlan plan)
     act = may-do G plan sound lawful r n f (are.told n f there) path k top path_is done_is at state turns queues a own back;
     newest = are.latest;
     lawful = gives-may s lawful state queues.follow n a own r queues.fit.queues spawn.gives
-        (next-so G plan sound lawful r n f (are.told n f there) path k top path_is done_is at state turns queues a own (deed.Spawn spawn.gives) spawn.deed refl) hs child-named child-apart;
+        (next-so G plan sound lawful r n f (are.told n f there) path k top path_is done_is at state turns queues a own (deed.Spawn spawn.gives) spawn.deed refl) hs child-named child-once;
     depth = let same = ap length (fit-now s lawful r state turns queues n path k known a own).path in omega (arith, deep, same);
     few = room-children G plan state n a sound.fuel queues.follow own;
   }
@@ -186,7 +186,7 @@ module _ {B L : Type 0} (G : Ghosts B L) (plan : Plan B L) (sound : IsPlan plan)
     frames-then turn =
         live_frames.spawns G plan r state live frames are n f there a own then_live sound.lists queues.tree path k top (parent_of (moved top local) child) (child_of top child spawn.holdings) top.children hs
         (queue_rights hs) (may-spawn back deep) then_state path_is done_is at parent-stands spawn.names child-stands
-        (child-named ∙ sym (sym (ap (λ q. gives_at G plan (q ++ top.children ∷ []) 0 (child_of top child spawn.holdings)) own-path) ∙ spawn.begins)) child-apart turn is.state_is is.parent is.new is.others
+        (child-named ∙ sym (sym (ap (λ q. gives_at G plan (q ++ top.children ∷ []) 0 (child_of top child spawn.holdings)) own-path) ∙ spawn.begins)) child-once turn is.state_is is.parent is.new is.others
 
     pub booked-then : (faults : List Fault) → AreBooked G plan r faults → AreBooked G plan (with-child r n new-frame) faults
     booked-then faults have =

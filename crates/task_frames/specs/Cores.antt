@@ -121,7 +121,7 @@ module _ {B L : Type 0} (G : Ghosts B L) (plan : Plan B L) where
     pub top : Activation L
     pub stands : StandsAt G plan frame.path frame.done top
     pub named : map (give_in r) frame.holdings ≡ gives_at G plan frame.path frame.done top
-    pub apart : HasQueuesOnce frame.holdings
+    pub once : HasQueuesOnce frame.holdings
 
   -- The record has exactly the active frames, each as the reading tells; who has begun has its turn to pop. Frames have numbers
   -- in the order of their making.

@@ -18,7 +18,7 @@ use Rattle.queues.specs.Asks.{LentEnds, has_end, with_deeds}
 use Rattle.queues.specs.Ends.{EndCounts, IsItemNext, IsNextPop, IsNextPush}
 use Rattle.task_frames.specs.declared.paused.Paused.{Paused}
 use Rattle.task_frames.specs.declared.paused.Paused.TheVariants.{AtCore, Budget, NoMemory}
-use Rattle.task_frames.specs.declared.row.WorkRow.{WorkRow}
+use Rattle.task_frames.specs.declared.row.AfterRow.{AfterRow}
 use Rattle.task_frames.specs.declared.stage.Stage.{Stage}
 use Rattle.task_frames.specs.declared.stage.Stage.TheVariants.{Ready, Asking}
 use Rattle.task_frames.specs.Frames.{FrameView}
@@ -99,7 +99,7 @@ module _ {B L : Type 0} (G : Ghosts B L) (body : B) (local : L) (said : Answer) 
       × (asks ≡ ask_after (G.next body) local said fuel works) × (place ≡ G.place_of body (local_after (G.next body) local said fuel works))
 
   -- A row of steps of work, with so much fuel before it, which is told this first.
-  pub record IsRow (row : WorkRow L) : Type 0 where
+  pub record IsRow (row : AfterRow L) : Type 0 where
     pub works : AreWork (G.next body) local said fuel row.works
     pub stands : IsRowTo row.works row.fuel row.stage
 

@@ -88,7 +88,7 @@ pub use outcome::{Ran, RunOutcome};
 pub use paused::Paused;
 use reading::KeptReading;
 pub use resumed::{Foreign, Resumed, Waited};
-use row::WorkRow;
+use row::AfterRow;
 pub use run::{PlanRun, Run};
 pub use run_core::Core;
 use stage::Stage;

@@ -8,7 +8,7 @@ use swan_model::{Answer, Body, NoMemory, Stop, Worked};
 
 /// What a row of steps of a frame's own work leaves.
 #[derive(Drop)]
-pub struct WorkRow<L> {
+pub struct AfterRow<L> {
     /// How many steps were work.
     pub works: u64,
     /// The fuel that is left.
@@ -26,19 +26,19 @@ pub fn take_row<B: Body>(
     answer: Answer,
     fuel: u64,
     budget: u64,
-) -> Result<WorkRow<B::Local>, NoMemory>
+) -> Result<AfterRow<B::Local>, NoMemory>
     requires budget { 0 < budget }
     requires fuel { 0 < fuel }
     ensures { IfOk result (λ r. IsRow B.Body body.now local answer fuel budget r) }
 {
     let Worked { local, works, stop } = body.work(alloc, local, answer, fuel, budget)?;
     match stop {
-        None => Ok(WorkRow {
+        None => Ok(AfterRow {
             works,
             fuel: fuel - works,
             stage: Stage::Ready(local, Answer::Nothing),
         }),
-        Some(Stop { ask, place }) => Ok(WorkRow {
+        Some(Stop { ask, place }) => Ok(AfterRow {
             works,
             fuel: fuel - works - 1,
             stage: Stage::Asking(local, ask, place),
