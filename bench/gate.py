@@ -1,10 +1,13 @@
 """What the gate costs, by crate.
 
     python3 bench/gate.py [CRATE..]      runs `rt ci CRATE` for each, the lowest first; all crates where none is named
+    python3 bench/gate.py --whole        runs `rt ci --anew`, the whole gate from nothing, and nothing is taken of an earlier run
 
-Prints a line a crate as it ends: the minutes of processors that its run took, those by the clock, and what the run said last. A
-run takes what the gate kept of an earlier one, so the first figures of a text are those from nothing; a crate that is kept
-costs what its tests and programs take. Processor time hardly depends on what else the machine does, unlike the clock.
+Of the whole gate it prints when each part was done, in minutes from the start, and then what it took by the clock and of
+processors; begin it with `taskset -c 0,1` for what it takes on two of them. Of crates it prints a line each as it ends: the
+minutes of processors that its run took, those by the clock, and what the run said last. Such a run takes what the gate kept of
+an earlier one, so the first figures of a text are those from nothing; a crate that is kept costs what its tests and programs
+take. Processor time depends less on what else the machine does than the clock, but a loaded machine can double it too.
 """
 import pathlib
 import resource
@@ -46,7 +49,20 @@ def spent():
     return usage.ru_utime + usage.ru_stime
 
 
+def whole():
+    """Runs the whole gate from nothing, and answers its status."""
+    began = time.monotonic()
+    with subprocess.Popen(["rt", "ci", "--anew"], cwd=ROOT, stdout=subprocess.PIPE, stderr=subprocess.STDOUT, text=True) as run:
+        for line in run.stdout:
+            if line.startswith("rt: ") or "must-fail" in line or " passed, " in line:
+                print(f"{(time.monotonic() - began) / 60:7.1f}  {line.rstrip()}", flush=True)
+    print(f"{(time.monotonic() - began) / 60:.1f} minutes by the clock, {spent() / 60:.1f} of processors, status {run.returncode}")
+    return run.returncode
+
+
 def main(words):
+    if words == ["--whole"]:
+        sys.exit(whole())
     order = lowest_first(crates())
     unknown = [word for word in words if word not in order]
     if unknown:
