@@ -33,8 +33,6 @@ mod ring;
 mod rule;
 mod steps;
 mod tag;
-#[cfg(test)]
-mod tests;
 
 pub use consumer::Consumer;
 use entry::{Entry, Tagged};

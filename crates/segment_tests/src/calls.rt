@@ -1,8 +1,8 @@
 // Calls in one thread, with the answers worked out by hand.
 ghost use Rattle.std.specs.Prelude.{◌≡◌, ◌≤◌, None, IfOk};
 
-use super::helpers::{Step, drain, fill, follows, free_segment, pops};
-use crate::{Consumer, Link, Producer, Tag};
+use crate::helpers::{Step, drain, fill, follows, free_segment, pops};
+use ring_segments::{Consumer, Link, Producer, Tag};
 use std::alloc::Global;
 use std::mem::size_of;
 use std::test::Fail;
@@ -87,7 +87,7 @@ fn a_link_is_followed_once_all_is_popped(rt: HostRuntime) -> Result<(), Fail> {
 fn a_note_of_a_link_is_learnt(rt: HostRuntime) -> Result<(), Fail> {
     let (mut consumer, mut link) = linked(rt.alloc())?;
     let note = link.note();
-    assert_eq!(rt; size_of::<crate::Note>(), 0);
+    assert_eq!(rt; size_of::<ring_segments::Note>(), 0);
     consumer.learn(note);
     assert!(rt; pops(&mut consumer, &[2, 3]));
     consumer.learn(link.note());

@@ -1,8 +1,8 @@
 // The two ends in two threads.
 ghost use Rattle.std.specs.Prelude.{◌≡◌, None, IfSome};
 
-use super::helpers::{free_segment, pops};
-use crate::{Consumer, Link, Producer};
+use crate::helpers::{free_segment, pops};
+use ring_segments::{Consumer, Link, Producer};
 use std::test::Fail;
 use std::thread::{join, yield_now};
 use swan_model::Value;

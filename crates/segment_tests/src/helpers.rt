@@ -2,7 +2,7 @@
 ghost use Rattle.std.specs.Prelude.{◌≡◌, ◌≤◌, None, IfOk};
 ghost use Rattle.ring_segments.specs.Ends.{new_consumer, new_producer};
 
-use crate::{Consumer, Producer, Tag, segment};
+use ring_segments::{Consumer, Producer, Tag, segment};
 use std::alloc::Global;
 use swan_model::{NoMemory, RunName, Value};
 

@@ -1,4 +1,0 @@
-// Segments with the free name, in one thread and in two.
-mod calls;
-mod helpers;
-mod threads;
