@@ -63,14 +63,7 @@ all_from test [] each = refl
 all_from test (x ∷ xs) each =
     and_from (test x) (list_all test xs) (each 0 x refl) (all_from test xs (λ i y is. each (suc i) y is))
 
-pub any_from : {X : Type 0} (test : X → Bool) (xs : List X) (i : ℕ) (x : X) → slice_get xs i ≡ Some x → test x ≡ true → list_any test xs ≡ true
-any_from test [] i x is passes = absurd (cc)
-any_from test (y ∷ xs) zero x is passes =
-    let same : y ≡ x = same_Some y x is in
-    or_left (test y) (list_any test xs) (ap test same ∙ passes)
-any_from test (y ∷ xs) (suc i) x is passes = or_right (test y) (list_any test xs) (any_from test xs i x is passes)
-
--- and what holds of one
+-- what holds of one
 pub any_found : {X : Type 0} (test : X → Bool) (xs : List X) → list_any test xs ≡ true → (x : X) × IsFound test xs x
 any_found test [] is = absurd (cc)
 any_found test (x ∷ xs) is = elim (or_cases (test x) (list_any test xs) is) [

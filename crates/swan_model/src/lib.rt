@@ -50,7 +50,7 @@ pub use plan::{
 };
 pub use record::{RECORD_MOST, Record, RecordAnswer};
 pub use rights::{GIVES_MOST, Give, Gives, Mode};
-pub use run_name::{ENTRIES_MOST, RunName};
+pub use run_name::RunName;
 pub use script::{Deed, Entries, Entry, OriginGive, OriginGives, Script};
 pub use text::{Blob, Word, Words};
 pub use value::{Kind, Value, ValueLists, Values};
