@@ -2,13 +2,14 @@
 use Rattle.std.proofs.Common.{◌≡◌, ℕ, Bool, true, ◌&&◌, ◌==◌, not, ltb, Option, Some, None, List, [], ◌∷◌, length, refl, sym, ap, ◌∙◌, is_none, slice_get}
 use Rattle.std.specs.List.{list_any}
 use Rattle.std.proofs.lemmas.Bool.{and_parts, eqb-true, ltb-true, false≢true, not-true, eq-eqb}
+use Rattle.std.proofs.lemmas.Map.Keys.{any_passes_from_place}
 use Rattle.swan_model.specs.declared.path.TheConstants.{PATH_MOST}
 use Rattle.swan_model.specs.declared.rights.Mode.{Mode}
 use Rattle.swan_model.specs.declared.rights.Mode.TheVariants.{Pop}
 use Rattle.swan_model.specs.QueueState.{ActiveFrame, IsActiveChild, IsOfRoot, IsUntouched, QueueMaker, MayGive, planned, made_by, QueueRight, QueueState, active, holds_queue, COUNT_MOST}
 use Rattle.swan_model.specs.Rights.{is_queue_mode}
 use Rattle.queues.specs.Asks.{CHILDREN_MOST, HasRoom, QUEUES_MOST, IsRestLeft, MayDo, MayJoin, MayLook, MaySpawn, MayUse}
-use Rattle.swan_model.proofs.Elements.{any_from, found_is, none_is}
+use Rattle.swan_model.proofs.Elements.{found_is, none_is}
 use Rattle.queue_tests.specs.Allowed.{acts, has_room, has_space, is_rest_left, is_of, is_of_root, is_untouched, may_give, may_join, may_make, may_spawn, may_use}
 
 record Acts (found : Option ActiveFrame) (test : ActiveFrame → Bool) : Type 0 where
@@ -90,7 +91,7 @@ child_stands : (state : QueueState) (number child : ℕ) → IsActiveChild state
     → list_any (λ (other : ActiveFrame). is_of number other.parent) state.frames ≡ true
 child_stands state number child is =
     let found = found_is (λ (f : ActiveFrame). f.number == child) state.frames is.frame is.live in
-    any_from (λ (other : ActiveFrame). is_of number other.parent) state.frames found.index is.frame found.stands
+    any_passes_from_place (λ (other : ActiveFrame). is_of number other.parent) state.frames found.index is.frame found.stands
     (ap (is_of number) is.of ∙ eq-eqb number number refl)
 
 pub joined_by_test : (state : QueueState) (number : ℕ) → may_join state number ≡ true → MayJoin state number

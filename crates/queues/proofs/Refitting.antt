@@ -2,6 +2,7 @@
 use Rattle.std.proofs.Common.{◌≡◌, ◌⊎◌, inl, inr, ℕ, ◌<◌, ◌≤◌, true, false, nat_lt, List, [], ◌∷◌, ◌++◌, length, Option, Some, None, sym, ap, subst, ◌∙◌}
 use Rattle.std.proofs.lemmas.Option.{same_Some}
 use Rattle.std.proofs.lemmas.Bool.{and_from, cases_lt, lt-ltb}
+use Rattle.std.proofs.lemmas.Map.Keys.{any_passes_from_place}
 use Rattle.std.specs.List.{list_any}
 use Rattle.std.specs.Option.{option_map_or}
 use Rattle.std.specs.Prelude.{slice_get}
@@ -13,13 +14,12 @@ use Rattle.swan_model.specs.SerialTime.{Progress, Reading, frame_of, is_done, is
 use Rattle.swan_model.proofs.Points.{is_past-child}
 use Rattle.swan_model.proofs.TaskEntries.{spawn_own}
 use Rattle.queues.proofs.Between.{own_is}
-use Rattle.swan_model.proofs.Elements.{any_from}
 
 -- what a frame of a reading has come past is done
 pub past_done : (s : Script) (r : Reading) (index : ℕ) (p : Progress) (v : ℕ) → slice_get r.frames index ≡ Some p → IsEntryOf s p.path v → v < point s p → is_done s r v ≡ true
 past_done s r index p v stands own past =
     ap (λ o. option_map_or (λ e. list_any (is_past s v e) r.frames) o false) own.stands
-    ∙ any_from (is_past s v own.entry) r.frames index p stands (and_from (is_of p.path own.entry) (nat_lt v (point s p)) (own_is s p.path own.entry own.own) (lt-ltb v (point s p) past))
+    ∙ any_passes_from_place (is_past s v own.entry) r.frames index p stands (and_from (is_of p.path own.entry) (nat_lt v (point s p)) (own_is s p.path own.entry own.own) (lt-ltb v (point s p) past))
 
 -- a frame of the new reading that stood in the old one
 pub record WasIn (r : Reading) (g : Progress → Progress) (index : ℕ) (now : Progress) : Type 0 where

@@ -2,6 +2,7 @@
 use Rattle.std.proofs.Common.{◌≡◌, ℕ, suc, ◌-◌, ◌<◌, ◌≤◌, inl, inr, Bool, true, false, ◌&&◌, nat_eq, nat_lt, List, [], ◌∷◌, ◌++◌, length, take, Some, refl, sym, ap, subst, ◌∙◌, append_assoc, arith, length-append}
 use Rattle.std.proofs.lemmas.Bool.{and_from, and_parts, cases_eq, cases_lt, cases_order, lt-ltb, ltb-true, ne_eqb, not_from_false, or_cases}
 use Rattle.std.proofs.lemmas.List.{append-nil}
+use Rattle.std.proofs.lemmas.Map.Keys.{any_passes_from_place}
 use Rattle.std.specs.Cmp.Lexicographic.{pointwise}
 use Rattle.std.specs.List.{list_any, list_all}
 use Rattle.std.specs.Option.{option_map_or}
@@ -27,7 +28,7 @@ use Rattle.swan_model.proofs.Points.{IsPast, past_above, same_frame, done_by}
 use Rattle.swan_model.proofs.TaskEntries.{point_own, spawn_own, point_over}
 use Rattle.serial_elision.proofs.RipeStays.{done_under, IsPushAt, push-at}
 use Rattle.swan_model.proofs.Times.{times_rise, times_all}
-use Rattle.swan_model.proofs.Elements.{any_from, filtered_each, one_if}
+use Rattle.swan_model.proofs.Elements.{filtered_each, one_if}
 use Rattle.swan_model.proofs.ScriptDeeds.{push-right}
 use Rattle.swan_model.proofs.ScriptCounts.{more-pushed}
 
@@ -38,7 +39,7 @@ done-past : (s : Script) (r : Reading) (u : ℕ) (entry : Entry) (index : ℕ) (
 done-past s r u entry index frame at stands own past =
     let mine : is_of frame.path entry ≡ true = ap (λ p. pointwise nat_eq p frame.path) own ∙ path_is-itself frame.path in
     ap (λ o. option_map_or (λ e. list_any (is_past s u e) r.frames) o false) at
-    ∙ any_from (is_past s u entry) r.frames index frame stands (and_from (is_of frame.path entry) (nat_lt u (point s frame)) mine (lt-ltb u (point s frame) past))
+    ∙ any_passes_from_place (is_past s u entry) r.frames index frame stands (and_from (is_of frame.path entry) (nat_lt u (point s frame)) mine (lt-ltb u (point s frame) past))
 
 -- where a frame has an entry from its point on, it has one left
 left-by : (s : Script) (frame : Progress) (u : ℕ) → IsEntryOf s frame.path u → point s frame ≤ u → frame.done < length (times s frame.path)

@@ -1,6 +1,7 @@
 -- What a child is given, one after the other: the next one each time.
 use Rattle.std.proofs.Common.{◌≡◌, ◌≢◌, ℕ, zero, suc, ◌+◌, ◌<◌, Bool, true, false, nat_eq, List, [], ◌∷◌, None, Some, get_or, length, take, refl, sym, ap, subst, ◌∙◌}
 use Rattle.std.proofs.lemmas.Bool.{eq-eqb, ne_eqb, both_ways}
+use Rattle.std.proofs.lemmas.Map.Keys.{any_passes_from_place}
 use Rattle.std.proofs.lemmas.Option.{same_Some, slice_get-get_or}
 use Rattle.std.specs.List.{list_any}
 use Rattle.std.specs.Prelude.{◌||◌, slice_get}
@@ -14,14 +15,13 @@ use Rattle.queues.proofs.GivingTurns.{turns_given_more, turns_may_get, turns_new
 use Rattle.task_frames.specs.Giving.{AreGivesOfQueues, AreMade, GivesObjects}
 use Rattle.task_frames.proofs.Giving.{alone-access, free-access, giving-object, giving-queue, may-access}
 use Rattle.swan_model.proofs.Lists.{take_next}
-use Rattle.swan_model.proofs.Elements.{any_from}
 
 -- ---- queues
 
 none-same : (rights : List QueueRight) (queue i : ℕ) (right : QueueRight) → list_any (λ (other : QueueRight). nat_eq other.queue queue) rights ≡ false → slice_get rights i ≡ Some right → right.queue ≢ queue
 none-same rights queue i right none at same =
     let test : QueueRight → Bool = λ other. nat_eq other.queue queue in
-    both_ways (list_any test rights) none (any_from test rights i right at (eq-eqb right.queue queue same))
+    both_ways (list_any test rights) none (any_passes_from_place test rights i right at (eq-eqb right.queue queue same))
 
 fresh-before : (rights : List QueueRight) → AreGivesOfQueues rights → (i : ℕ) (right : QueueRight) → slice_get rights i ≡ Some right → gives_queue (take i rights) right.queue ≡ false
 fresh-before [] are i right at = absurd (cc)

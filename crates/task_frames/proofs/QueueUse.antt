@@ -2,6 +2,7 @@
 -- holds, and the queues let a frame do what the script has its task hold.
 use Rattle.std.proofs.Common.{◌≡◌, inl, inr, ℕ, zero, suc, ◌<◌, Bool, true, false, nat_eq, cond, List, [], ◌∷◌, Option, Some, None, map, refl, sym, ap, ◌∙◌, arith}
 use Rattle.std.proofs.lemmas.Bool.{cases_order, eq-eqb, ne_eqb, or_parts}
+use Rattle.std.proofs.lemmas.Map.Keys.{any_passes_from_place}
 use Rattle.std.proofs.lemmas.Option.{same_Some, slice_get-map}
 use Rattle.std.specs.List.{list_all, list_any}
 use Rattle.std.specs.Option.{option_map}
@@ -23,7 +24,7 @@ use Rattle.swan_model.specs.SerialState.{Holding}
 use Rattle.swan_model.specs.SerialStep.{given, number_at}
 use Rattle.swan_model.specs.SerialTime.{Reading}
 use Rattle.swan_model.specs.TrueFrames.{give_in}
-use Rattle.swan_model.proofs.Elements.{all_each, any_from}
+use Rattle.swan_model.proofs.Elements.{all_each}
 use Rattle.swan_model.proofs.ScriptSteps.{deed_is}
 use Rattle.queues.proofs.QueuePoints.{at_own, next_is}
 use Rattle.serial_elision.proofs.Held.{IsUsed, used-at}
@@ -115,7 +116,7 @@ gives-differ (give ∷ gives) none i zero a b less one two = absurd (omega arith
 gives-differ (give ∷ gives) none zero (suc j) a b less one two =
     let same : give ≡ a = same_Some give a one in
     let here = (or_parts (list_any (clash give) gives) (is_aliased gives) none).0 in
-    by (clash a b) refl (λ yes. any_from (clash give) gives j b two (ap (λ x. clash x b) same ∙ yes)) here
+    by (clash a b) refl (λ yes. any_passes_from_place (clash give) gives j b two (ap (λ x. clash x b) same ∙ yes)) here
   where
     by : (answer : Bool) → clash a b ≡ answer → (answer ≡ true → list_any (clash give) gives ≡ true) → list_any (clash give) gives ≡ false → answer ≡ false
     by true is some none = let both : true ≡ false = sym (some refl) ∙ none in absurd (cc)
