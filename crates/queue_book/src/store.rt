@@ -1,8 +1,7 @@
 // What hyperqueues are kept in.
 ghost use Rattle.std.specs.Prelude.{◌≡◌, ◌+◌, ◌<◌, Option, length, IfOk, OnOk};
 ghost use Rattle.swan_model.specs.declared.script.Script.{Script};
-ghost use Rattle.swan_model.specs.QueueState.{new_state};
-ghost use Rattle.queues.specs.Asks.{QUEUES_MOST};
+ghost use Rattle.swan_model.specs.QueueState.{new_state, QUEUES_MOST};
 ghost use Rattle.queue_book.specs.Made.{IsMadeIn};
 ghost use Rattle.queue_book.specs.Whole.{IsBook};
 

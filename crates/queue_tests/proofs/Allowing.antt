@@ -6,9 +6,9 @@ use Rattle.std.proofs.lemmas.Map.Keys.{any_passes_from_place}
 use Rattle.swan_model.specs.declared.path.TheConstants.{PATH_MOST}
 use Rattle.swan_model.specs.declared.rights.Mode.{Mode}
 use Rattle.swan_model.specs.declared.rights.Mode.TheVariants.{Pop}
-use Rattle.swan_model.specs.QueueState.{ActiveFrame, IsActiveChild, IsOfRoot, IsUntouched, QueueMaker, MayGive, planned, made_by, QueueRight, QueueState, active, holds_queue, COUNT_MOST}
+use Rattle.swan_model.specs.QueueState.{ActiveFrame, IsActiveChild, IsOfRoot, IsUntouched, QueueMaker, MayGive, planned, made_by, QueueRight, QueueState, active, holds_queue, CHILDREN_MOST, COUNT_MOST, QUEUES_MOST}
 use Rattle.swan_model.specs.Rights.{is_queue_mode}
-use Rattle.queues.specs.Asks.{CHILDREN_MOST, HasRoom, QUEUES_MOST, IsRestLeft, MayDo, MayJoin, MayLook, MaySpawn, MayUse}
+use Rattle.queues.specs.Asks.{HasRoom, IsRestLeft, MayDo, MayJoin, MayLook, MaySpawn, MayUse}
 use Rattle.swan_model.proofs.Elements.{found_is, none_is}
 use Rattle.queue_tests.specs.Allowed.{acts, has_room, has_space, is_rest_left, is_of, is_of_root, is_untouched, may_give, may_join, may_make, may_spawn, may_use}
 

@@ -7,14 +7,7 @@ use Rattle.std.specs.List.{list_any}
 use Rattle.std.specs.Option.{ForSome}
 use Rattle.swan_model.specs.declared.rights.Mode.{Mode}
 use Rattle.swan_model.specs.declared.script.Script.{Script}
-use Rattle.swan_model.specs.QueueState.{ActiveFrame, LentEnd, Lent, QueueRight, QueueState, active, holds_queue, HasTurn, IsActiveChild, IsOfRoot, MayAct, MayGive, COUNT_MOST}
-
--- how many queues may be made, and how many children a frame may spawn
-abbrev pub QUEUES_MOST : ℕ
-QUEUES_MOST = 4294967295
-
-abbrev pub CHILDREN_MOST : ℕ
-CHILDREN_MOST = 4294967295
+use Rattle.swan_model.specs.QueueState.{ActiveFrame, LentEnd, Lent, QueueRight, QueueState, active, holds_queue, HasTurn, IsActiveChild, IsOfRoot, MayAct, MayGive, CHILDREN_MOST, COUNT_MOST, QUEUES_MOST}
 
 -- a frame that may act, with room for one more queue deed
 pub record MayDo (state : QueueState) (number : ℕ) : Type 0 where

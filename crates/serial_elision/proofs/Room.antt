@@ -14,7 +14,7 @@ use Rattle.swan_model.specs.declared.script.Entry.{Entry}
 use Rattle.swan_model.specs.declared.script.Script.{Script}
 use Rattle.swan_model.specs.Granted.{children_before, is_spawn}
 use Rattle.swan_model.specs.QueueFollows.{IsMade, QueuesFollow, origin_in, queue_times}
-use Rattle.swan_model.specs.QueueState.{ActiveFrame, QueueMaker, planned, made_by, QueueState, active, COUNT_MOST}
+use Rattle.swan_model.specs.QueueState.{ActiveFrame, QueueMaker, planned, made_by, QueueState, active, CHILDREN_MOST, COUNT_MOST, PLACES_MOST, QUEUES_MOST}
 use Rattle.swan_model.specs.Roots.{IsWithinBounds}
 use Rattle.swan_model.specs.Script.{script}
 use Rattle.swan_model.specs.SerialState.{Activation, Holding}
@@ -84,12 +84,12 @@ module _ {B L : Type 0} (G : Ghosts B L) (plan : Plan B L) where
 
   -- ---- room
 
-  pub room-queues : (state : QueueState) → IsWithinBounds plan.roots.queues plan.roots.objects → plan.fuel ≤ FUEL_MOST → QueuesFollow (script G plan) state → length state.makers < 4294967295
+  pub room-queues : (state : QueueState) → IsWithinBounds plan.roots.queues plan.roots.objects → plan.fuel ≤ FUEL_MOST → QueuesFollow (script G plan) state → length state.makers < QUEUES_MOST
   room-queues state bounds fuel follows =
       let s = script G plan in
       omega (arith, bounds.roots, fuel, length-map state.makers (origin_in s), few-queues G plan (map (origin_in s) state.makers) (makers-once s state follows))
 
-  pub room-children : (state : QueueState) (number : ℕ) (frame : ActiveFrame) → plan.fuel ≤ FUEL_MOST → QueuesFollow (script G plan) state → active state number ≡ Some frame → frame.children < 4294967295
+  pub room-children : (state : QueueState) (number : ℕ) (frame : ActiveFrame) → plan.fuel ≤ FUEL_MOST → QueuesFollow (script G plan) state → active state number ≡ Some frame → frame.children < CHILDREN_MOST
   room-children state number frame fuel follows live =
       let task = follows.tasks number frame live in
       omega (arith, fuel, task.children, few-spawned frame.path frame.deeds)
@@ -109,10 +109,10 @@ module _ {B L : Type 0} (G : Ghosts B L) (plan : Plan B L) where
       let each : AreCounted s.entries t (top ∷ at.below) = subst (AreCounted s.entries t) at.stack (counted G plan t) in
       sym each.0 ∙ ap (λ p. children_before s p t) (top_path G plan path k top at).1
 
-  pub true-children : (frame : FrameState L) → plan.fuel ≤ FUEL_MOST → IsTrueAlone G plan frame → frame.children < 4294967295
+  pub true-children : (frame : FrameState L) → plan.fuel ≤ FUEL_MOST → IsTrueAlone G plan frame → frame.children < CHILDREN_MOST
   true-children frame fuel alone = omega (arith, fuel, alone.children, few-children G plan frame.path frame.done alone.top alone.stands)
 
-  pub true-places : (frame : FrameState L) (first : Activation L) → plan.fuel ≤ FUEL_MOST → IsTrueAlone G plan frame → StandsAt G plan frame.path 0 first → length first.holdings ≤ max ROOTS_MOST GIVES_MOST → length frame.holdings < 4294967295
+  pub true-places : (frame : FrameState L) (first : Activation L) → plan.fuel ≤ FUEL_MOST → IsTrueAlone G plan frame → StandsAt G plan frame.path 0 first → length first.holdings ≤ max ROOTS_MOST GIVES_MOST → length frame.holdings < PLACES_MOST
   true-places frame first fuel alone begins most =
       let mode : Holding → Mode = λ h. h.mode in
       let same : length frame.holdings ≡ length alone.top.holdings = sym (length-map frame.holdings mode) ∙ ap length alone.modes ∙ length-map alone.top.holdings mode in

@@ -5,7 +5,7 @@ ghost use Rattle.swan_model.specs.declared.plan.TheConstants.{FUEL_MOST, ROOTS_M
 ghost use Rattle.swan_model.specs.declared.rights.TheConstants.{GIVES_MOST};
 ghost use Rattle.swan_model.specs.Granted.{children_before};
 ghost use Rattle.swan_model.specs.QueueFollows.{QueuesFollow, origin_in};
-ghost use Rattle.swan_model.specs.QueueState.{ActiveFrame, QueueState, active, COUNT_MOST};
+ghost use Rattle.swan_model.specs.QueueState.{ActiveFrame, QueueState, active, CHILDREN_MOST, COUNT_MOST, PLACES_MOST, QUEUES_MOST};
 ghost use Rattle.swan_model.specs.Script.{script};
 ghost use Rattle.swan_model.specs.SerialState.{Activation};
 ghost use Rattle.swan_model.specs.SerialTime.{time};
@@ -27,17 +27,17 @@ pub fn runs_have_room<B: Body>()
     ensures makers { (plan : Plan B B.Local) (state : QueueState) → let s = script B.Body plan in QueuesFollow s state
         → AreEachOnce (IsQueueOf s) (map (origin_in s) state.makers) }
     ensures queues { (plan : Plan B B.Local) (state : QueueState) → IsBounded plan → plan.fuel ≤ FUEL_MOST → QueuesFollow (script B.Body plan) state
-        → length state.makers < 4294967295 }
+        → length state.makers < QUEUES_MOST }
     ensures children { (plan : Plan B B.Local) (state : QueueState) (number : ℕ) (frame : ActiveFrame) → plan.fuel ≤ FUEL_MOST
-        → QueuesFollow (script B.Body plan) state → active state number ≡ Some frame → frame.children < 4294967295 }
+        → QueuesFollow (script B.Body plan) state → active state number ≡ Some frame → frame.children < CHILDREN_MOST }
     ensures deeds { (plan : Plan B B.Local) (state : QueueState) (number : ℕ) (frame : ActiveFrame) → plan.fuel ≤ FUEL_MOST
         → QueuesFollow (script B.Body plan) state → active state number ≡ Some frame → frame.deeds < COUNT_MOST }
 
     // true frames
     ensures spawns { OnStep B.Body (λ at. at.top.children ≡ let s = script B.Body at.plan in children_before s at.path (time s at.path at.k)) }
     ensures true_children { (plan : Plan B B.Local) (frame : FrameState B.Local) → plan.fuel ≤ FUEL_MOST → IsTrueAlone B.Body plan frame
-        → frame.children < 4294967295 }
+        → frame.children < CHILDREN_MOST }
     ensures true_places { (plan : Plan B B.Local) (frame : FrameState B.Local) (first : Activation B.Local) → plan.fuel ≤ FUEL_MOST
         → IsTrueAlone B.Body plan frame → StandsAt B.Body plan frame.path 0 first → length first.holdings ≤ max ROOTS_MOST GIVES_MOST
-        → length frame.holdings < 4294967295 }
+        → length frame.holdings < PLACES_MOST }
 {}

@@ -17,6 +17,7 @@ ghost use Rattle.swan_model.specs.declared.rights.Mode.TheVariants.{In, Out, InO
 ghost use Rattle.swan_model.specs.declared.script.Deed.TheVariants as deed;
 ghost use Rattle.swan_model.specs.declared.value.Value.{Value};
 ghost use Rattle.swan_model.specs.Elision.{most_steps, outcome, root, serial};
+ghost use Rattle.swan_model.specs.QueueState.{CHILDREN_MOST, OBJECTS_MOST, PLACES_MOST, QUEUES_MOST};
 ghost use Rattle.swan_model.specs.Rights.{allows, is_aliased};
 ghost use Rattle.swan_model.specs.Script.{give_of, is_end, script};
 ghost use Rattle.swan_model.specs.SerialState.{Activation, Holding, Store};
@@ -197,12 +198,12 @@ pub fn a_plan_makes_what_its_fuel_pays<B: Body>()
 
     // how few that are
     ensures few_queues { (plan : Plan B B.Local) (queues : List Origin) → IsBounded plan → plan.fuel ≤ FUEL_MOST
-        → AreEachOnce (IsQueueOf (script B.Body plan)) queues → length queues < 4294967295 }
+        → AreEachOnce (IsQueueOf (script B.Body plan)) queues → length queues < QUEUES_MOST }
     ensures few_objects { (plan : Plan B B.Local) (objects : List Origin) → IsBounded plan → plan.fuel ≤ FUEL_MOST
-        → AreEachOnce (IsObjectOf (script B.Body plan)) objects → length objects < 4294967295 }
-    ensures few_children { OnStep B.Body (λ at. at.plan.fuel ≤ FUEL_MOST → at.top.children < 4294967295) }
+        → AreEachOnce (IsObjectOf (script B.Body plan)) objects → length objects < OBJECTS_MOST }
+    ensures few_children { OnStep B.Body (λ at. at.plan.fuel ≤ FUEL_MOST → at.top.children < CHILDREN_MOST) }
     ensures few_places { OnStep B.Body (λ at. at.plan.fuel ≤ FUEL_MOST → (first : Activation B.Local) → StandsAt B.Body at.plan at.path 0 first
-        → length first.holdings ≤ max ROOTS_MOST GIVES_MOST → length at.top.holdings < 4294967295) }
+        → length first.holdings ≤ max ROOTS_MOST GIVES_MOST → length at.top.holdings < PLACES_MOST) }
 
     // how many steps a task has
     ensures steps { (plan : Plan B B.Local) (path : List ℕ) → length (times (script B.Body plan) path) ≤ most_steps plan }

@@ -13,6 +13,20 @@ use Rattle.swan_model.specs.Rights.{allows, is_queue_mode}
 abbrev pub COUNT_MOST : ℕ
 COUNT_MOST = 18446744073709551615
 
+-- How many queues and objects a run may make, how many children a frame may spawn, and how many places it may have: their
+-- numbers have 32 bits.
+abbrev pub QUEUES_MOST : ℕ
+QUEUES_MOST = 4294967295
+
+abbrev pub OBJECTS_MOST : ℕ
+OBJECTS_MOST = 4294967295
+
+abbrev pub CHILDREN_MOST : ℕ
+CHILDREN_MOST = 4294967295
+
+abbrev pub PLACES_MOST : ℕ
+PLACES_MOST = 4294967295
+
 -- the queue of this number, held by this mode
 pub record QueueRight : Type 0 where
   pub queue : ℕ

@@ -16,7 +16,7 @@ use Rattle.swan_model.specs.declared.value.Value.{Value}
 use Rattle.swan_model.specs.Granted.{holds, is_within, may_use}
 use Rattle.swan_model.specs.Lawful.{IsLawful}
 use Rattle.swan_model.specs.QueueFollows.{IsNextAbout, next_item, next_queue_deed, queue_origin, queue_point, taken_at, count_at}
-use Rattle.swan_model.specs.QueueState.{ActiveFrame, QueueState, active, holds_queue}
+use Rattle.swan_model.specs.QueueState.{ActiveFrame, QueueState, active, holds_queue, OBJECTS_MOST}
 use Rattle.swan_model.specs.Rights.{allows, is_queue_mode}
 use Rattle.swan_model.specs.Script.{script}
 use Rattle.swan_model.specs.SerialState.{Activation}
@@ -181,7 +181,7 @@ module _ {B L : Type 0} (G : Ghosts B L) (plan : Plan B L) (sound : IsPlan plan)
         ap (cell s origin) (sym (point_is s p at.left)) ∙ sym (ap (option_and_then (λ o. cell s o (point s p))) named) ∙ is
 
   -- one more object may be made
-  pub room-for-object : (versions : VersionState) (live : LiveFrames) (objects : ℕ) → AreObjects s r versions live objects → objects < 4294967295
+  pub room-for-object : (versions : VersionState) (live : LiveFrames) (objects : ℕ) → AreObjects s r versions live objects → objects < OBJECTS_MOST
   room-for-object versions live objects have =
       omega (arith, few-objects G plan r.objects once, sound.lists.roots, sound.fuel, have.count, have.follow.objects)
     where

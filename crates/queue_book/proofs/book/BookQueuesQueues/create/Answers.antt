@@ -1,7 +1,7 @@
 use Rattle.std.proofs.Common.{◌≡◌, ℕ, ◌<◌, Some, List, [], length, sym, ap, subst, ◌∙◌}
 use Rattle.swan_model.specs.declared.script.Deed.TheVariants as deed
-use Rattle.swan_model.specs.QueueState.{QueueState}
-use Rattle.queues.specs.Asks.{OnNext, MayDo, HasRoom, QUEUES_MOST}
+use Rattle.swan_model.specs.QueueState.{QueueState, QUEUES_MOST}
+use Rattle.queues.specs.Asks.{OnNext, MayDo, HasRoom}
 use Rattle.queue_book.specs.BookView.{BookView}
 use Rattle.queue_book.specs.Whole.{IsBook}
 use Rattle.queue_book.proofs.BookLent.{called}

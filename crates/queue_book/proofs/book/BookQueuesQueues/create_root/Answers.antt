@@ -1,10 +1,10 @@
 use Rattle.std.proofs.Common.{◌≡◌, ℕ, ◌<◌, Some, length, sym, ap, subst, ◌∙◌}
 use Rattle.std.specs.Prelude.{slice_get}
-use Rattle.swan_model.specs.QueueState.{QueueState}
+use Rattle.swan_model.specs.QueueState.{QueueState, QUEUES_MOST}
 use Rattle.queue_book.specs.BookView.{BookView}
 use Rattle.queue_book.specs.Whole.{IsBook}
 use Rattle.swan_model.specs.QueueState.{IsUntouched}
-use Rattle.queues.specs.Asks.{HasRoom, QUEUES_MOST}
+use Rattle.queues.specs.Asks.{HasRoom}
 use Rattle.queue_book.proofs.BookMade.{book_create_root}
 use Rattle.swan_model.specs.declared.script.Script.{Script}
 use Rattle.queue_book.proofs.book.BookQueuesQueues.create_root.Goals as goal
