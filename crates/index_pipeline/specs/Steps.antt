@@ -16,19 +16,14 @@ use Rattle.line_blocks.specs.declared.queue_reader.ReaderStep.TheVariants as ste
 use Rattle.line_blocks.specs.LineBlocks.{Lines, byte_count, no_lines}
 use Rattle.line_blocks.specs.LineReading.{line_step}
 use Rattle.line_blocks.specs.Readers.{step_of}
+use Rattle.line_blocks.specs.TextRoots.{INPUT, OUTPUT}
 use Rattle.index_pipeline.specs.declared.body.IndexBody.{IndexBody}
 use Rattle.index_pipeline.specs.declared.local.IndexLocal.{IndexLocal}
 use Rattle.index_pipeline.specs.declared.local.IndexLocal.TheVariants as local
 use Rattle.index_pipeline.specs.Pairs.{Pair, pair_of, pair_order}
 use Rattle.index_pipeline.specs.Records.{block_records, record_of}
 
--- the root's places: the input, the output, and the queue of words that it makes
-abbrev pub INPUT : ℕ
-INPUT = 0
-
-abbrev pub OUTPUT : ℕ
-OUTPUT = 1
-
+-- the root's place of the queue of words, which it makes
 abbrev pub WORDS : ℕ
 WORDS = 2
 

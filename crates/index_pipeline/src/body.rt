@@ -7,16 +7,11 @@ use crate::pairs::Pairs;
 use crate::pairs_left::PairsLeft;
 use crate::words_left::{WordsLeft, words_of};
 use line_blocks::{
-    HeldLines, LineBlock, LineStep, QueueReader, ReaderStep, bytes_of, gives_of, read_lines,
+    HeldLines, INPUT, LineBlock, LineStep, OUTPUT, QueueReader, ReaderStep, bytes_of, gives_of,
+    read_lines,
 };
 use std::alloc::Global;
 use swan_model::{Answer, Ask, Body, Child, Give, Mode, NoMemory};
-
-/// The root's place of the lines, which it pops.
-const INPUT: u32 = 0;
-
-/// The root's place of the index, to which it may push.
-const OUTPUT: u32 = 1;
 
 /// The root's place of the queue of words, which it makes.
 const WORDS: u32 = 2;

@@ -24,4 +24,4 @@ pub use limits::limits_of_blocks_and_texts;
 pub use line_block::{BLOCK_LINES, LineBlock, bytes_of};
 pub use line_reader::{LineReader, LineStep, read_lines};
 pub use queue_reader::{QueueReader, ReaderStep};
-pub use text_roots::{TEXT_MOST, line_roots, text_lines, text_names};
+pub use text_roots::{INPUT, OUTPUT, TEXT_MOST, line_roots, text_lines, text_names};

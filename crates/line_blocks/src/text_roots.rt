@@ -14,6 +14,12 @@ use swan_model::{
 /// The largest number of bytes of a text that a pipeline takes.
 pub const TEXT_MOST: usize = 67_108_864;
 
+/// The root's place of the lines, which it pops.
+pub const INPUT: u32 = 0;
+
+/// The root's place of the output, to which it may push.
+pub const OUTPUT: u32 = 1;
+
 /// The lines of a text, which is refused as `lines_of` refuses it. They are few enough for a queue of a plan.
 /// `O(length)`.
 pub fn text_lines(alloc: Global, text: &[u8]) -> Result<Values, LinesAnswer>

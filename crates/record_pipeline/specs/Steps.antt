@@ -14,18 +14,12 @@ use Rattle.line_blocks.specs.declared.line_reader.LineStep.TheVariants as lines
 use Rattle.line_blocks.specs.LineBlocks.{Lines, later}
 use Rattle.line_blocks.specs.LineReading.{line_step}
 use Rattle.line_blocks.specs.Readers.{step_of}
+use Rattle.line_blocks.specs.TextRoots.{INPUT, OUTPUT}
 use Rattle.record_pipeline.specs.declared.body.RecordBody.{RecordBody}
 use Rattle.record_pipeline.specs.declared.local.RecordLocal.{RecordLocal}
 use Rattle.record_pipeline.specs.declared.local.RecordLocal.TheVariants as local
 use Rattle.record_pipeline.specs.Conversion.{trouble_of}
 use Rattle.record_pipeline.specs.Netstrings.{netstrings}
-
--- the root's places: the input and the output
-abbrev pub INPUT : ℕ
-INPUT = 0
-
-abbrev pub OUTPUT : ℕ
-OUTPUT = 1
 
 -- a line's task, which may push its record
 abbrev pub line_task : ℕ → Value → Child RecordLocal

@@ -6,18 +6,12 @@ ghost use Rattle.record_pipeline.specs.Steps.{block_task, converted, reads, spaw
 
 use crate::RecordLocal;
 use crate::fields::{field_count, netstrings};
-use line_blocks::{LineBlock, LineStep, bytes_of, gives_of, read_lines};
+use line_blocks::{INPUT, LineBlock, LineStep, OUTPUT, bytes_of, gives_of, read_lines};
 use std::alloc::Global;
 use swan_model::{
     Answer, Ask, Body, Child, Give, Mode, NoMemory, RECORD_MOST, Record, RecordAnswer, Trouble,
     Value,
 };
-
-/// The root's place of the lines, which it pops.
-const INPUT: u32 = 0;
-
-/// The root's place of the conversion, to which it may push.
-const OUTPUT: u32 = 1;
 
 /// The program of the conversion of a text. Only `record_plan` makes one.
 #[derive(Drop)]

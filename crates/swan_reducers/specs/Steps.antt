@@ -18,6 +18,7 @@ use Rattle.line_blocks.specs.declared.queue_reader.ReaderStep.TheVariants as ste
 use Rattle.line_blocks.specs.LineBlocks.{Lines, no_lines}
 use Rattle.line_blocks.specs.LineReading.{line_step}
 use Rattle.line_blocks.specs.Readers.{step_of}
+use Rattle.line_blocks.specs.TextRoots.{INPUT, OUTPUT}
 use Rattle.swan_reducers.specs.declared.body.FoldBody.{FoldBody}
 use Rattle.swan_reducers.specs.declared.local.FoldLocal.{FoldLocal}
 use Rattle.swan_reducers.specs.declared.local.FoldLocal.TheVariants as local
@@ -25,13 +26,7 @@ use Rattle.swan_reducers.specs.declared.reducer.Reducer.{Ghosts}
 use Rattle.swan_reducers.specs.Fold.{fold_of}
 use Rattle.swan_reducers.specs.LineFolds.{bad_number}
 
--- the root's places: the input, the output, and the queue of parts that it makes
-abbrev pub INPUT : ℕ
-INPUT = 0
-
-abbrev pub OUTPUT : ℕ
-OUTPUT = 1
-
+-- the root's place of the queue of parts, which it makes
 abbrev pub PARTS : ℕ
 PARTS = 2
 

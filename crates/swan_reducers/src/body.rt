@@ -3,16 +3,12 @@ ghost use Rattle.std.specs.Prelude.{◌≡◌, true, IfOk};
 ghost use Rattle.swan_reducers.specs.Steps.{as_part, block_task, collector, collects, item_part, pushed_end, pushes_part, reads, told};
 
 use crate::{EndAnswer, FoldLocal, Reducer};
-use line_blocks::{HeldLines, LineBlock, LineStep, QueueReader, ReaderStep, gives_of, read_lines};
+use line_blocks::{
+    HeldLines, INPUT, LineBlock, LineStep, OUTPUT, QueueReader, ReaderStep, gives_of, read_lines,
+};
 use std::alloc::Global;
 use std::marker::{Send, Sync};
 use swan_model::{Answer, Ask, Body, Child, Give, Mode, NoMemory, Record, Trouble, Value};
-
-/// The root's place of the lines, which it pops.
-const INPUT: u32 = 0;
-
-/// The root's place of the end, to which it may push.
-const OUTPUT: u32 = 1;
 
 /// The root's place of the queue of parts, which it makes.
 const PARTS: u32 = 2;
