@@ -46,5 +46,5 @@ pub use limits::limits_of_files_and_sinks;
 pub use memory_files::MemoryFiles;
 pub use memory_sink::MemorySink;
 pub use os_files::OsFiles;
-pub use os_sink::{ERR_PIECE_MOST, OsSink};
-pub use sink::{PIECE_MOST, Sink, put_all};
+pub use os_sink::OsSink;
+pub use sink::{Sink, put_all};
