@@ -13,9 +13,7 @@ use Rattle.object_versions.specs.declared.placed_object.PlacedObject.{PlacedObje
 use Rattle.object_versions.specs.Store.{Entries, place_at, told_at, version_at, given_of, placed_of, seen, versions_of, uses_of, uses}
 use Rattle.object_versions.proofs.Commuting.{each_insert, each_set}
 use Rattle.object_versions.proofs.Counts.{uses_at, present_used, given_used}
-
-same_version : (a b : ℕ × Version) → a ≡ b → a.1 ≡ b.1
-same_version a b e = ap (λ t. t.1) e
+use Rattle.object_versions.proofs.Steps.{told_version}
 
 -- who sees the same of each of its keys is seen as before
 pub placed_same : (old new : Slab Node) (has : PlacedObject) → ((k : ℕ) → 0 < uses_of k has → told_at new k ≡ told_at old k) → placed_of new has ≡ placed_of old has
@@ -23,7 +21,7 @@ placed_same old new has same = record_same (by has.given refl) where
   by : (o : Option ℕ) → has.given ≡ o → given_of new has.given ≡ given_of old has.given
   by None is = ap (given_of new) is ∙ sym (ap (given_of old) is)
   by (Some key) is = ap (given_of new) is
-      ∙ ap owing (same_version _ _ (same key (given_used has key is)))
+      ∙ ap owing (told_version _ _ (same key (given_used has key is)))
       ∙ sym (ap (given_of old) is)
 
   record_same : given_of new has.given ≡ given_of old has.given → placed_of new has ≡ placed_of old has
@@ -32,7 +30,7 @@ placed_same old new has same = record_same (by has.given refl) where
     kind = has.kind;
     mode = has.mode;
     given = given i;
-    present = same_version _ _ (same has.present (present_used has)) i;
+    present = told_version _ _ (same has.present (present_used has)) i;
   }
 
 pub seen_same : (old new : Slab Node) (entries : Entries) → ((k : ℕ) → 0 < uses k entries → told_at new k ≡ told_at old k) → map (seen new) entries ≡ map (seen old) entries

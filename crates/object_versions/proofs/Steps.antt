@@ -19,7 +19,7 @@ use Rattle.object_versions.proofs.Counts.{one_other, same_count, uses_inserted, 
 told_object : (a b : ℕ × Version) → a ≡ b → a.0 ≡ b.0
 told_object a b e = ap (λ t. t.0) e
 
-told_version : (a b : ℕ × Version) → a ≡ b → a.1 ≡ b.1
+pub told_version : (a b : ℕ × Version) → a ≡ b → a.1 ≡ b.1
 told_version a b e = ap (λ t. t.1) e
 
 pub moved_fit : (old new : Slab Node) (made frame : ℕ) (has : PlacedObject) → ((k : ℕ) → 0 < uses_of k has → told_at new k ≡ told_at old k)
