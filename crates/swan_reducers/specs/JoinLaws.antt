@@ -1,5 +1,6 @@
 -- The reducer of joins keeps the laws, and its fold of a text is the text's bytes.
 use Rattle.std.proofs.Common.{◌≡◌, ℕ, ◌≤◌, ◌<◌, Bool, true, false, cond, nat_lt, ◌||◌, Some, List, [], ◌∷◌, ◌++◌, length, refl, sym, ap, ◌∙◌, append_assoc, arith, rules, tests, length-append}
+use Rattle.std.proofs.Math.Bool.{or-true}
 use Rattle.std.proofs.lemmas.List.{append-nil}
 use Rattle.swan_reducers.specs.declared.join_reducer.TheConstants.{JOIN_MOST}
 use Rattle.swan_reducers.specs.Joins.{bytes_joined, fitting, is_join_part, is_too_long, line_part, too_long}
@@ -22,16 +23,12 @@ fitting_few bytes few = let is : nat_lt JOIN_MOST (length bytes) ≡ false = sea
 pub fitting_many : (bytes : List ℕ) → JOIN_MOST < length bytes → fitting bytes ≡ too_long
 fitting_many bytes many = let is : nat_lt JOIN_MOST (length bytes) ≡ true = search (rules, tests) in ap (λ b. cond b too_long bytes) is
 
-or_right : (b : Bool) → (b || true) ≡ true
-or_right true = refl
-or_right false = refl
-
 long_left : (left right : List ℕ) → is_too_long left ≡ true → bytes_joined left right ≡ too_long
 long_left left right is = ap (λ b. cond (b || is_too_long right) too_long (fitting (left ++ right))) is
 
 pub long_right : (left right : List ℕ) → is_too_long right ≡ true → bytes_joined left right ≡ too_long
 long_right left right is =
-    ap (λ b. cond (is_too_long left || b) too_long (fitting (left ++ right))) is ∙ ap (λ b. cond b too_long (fitting (left ++ right))) (or_right (is_too_long left))
+    ap (λ b. cond (is_too_long left || b) too_long (fitting (left ++ right))) is ∙ ap (λ b. cond b too_long (fitting (left ++ right))) (or-true (is_too_long left))
 
 plain : (left right : List ℕ) → is_too_long left ≡ false → is_too_long right ≡ false → bytes_joined left right ≡ fitting (left ++ right)
 plain left right l r =

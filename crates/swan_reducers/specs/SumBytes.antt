@@ -1,7 +1,9 @@
 -- Numbers as 16 bytes, the highest first, and back.
-use Rattle.std.proofs.Common.{◌≡◌, ℕ, zero, suc, ◌+◌, ◌*◌, ◌/◌, ◌%◌, ◌^◌, ◌<◌, Bool, true, false, nat_eq, ◌&&◌, List, [], ◌∷◌, length, get_or, refl, sym, ap, subst, ◌∙◌, arith, rules, tests}
+use Rattle.std.proofs.Common.{◌≡◌, ℕ, zero, suc, ◌+◌, ◌*◌, ◌/◌, ◌%◌, ◌^◌, ◌<◌, true, nat_eq, ◌&&◌, List, [], ◌∷◌, length, get_or, refl, sym, ap, subst, ◌∙◌, arith, rules, tests}
 use Rattle.std.proofs.Math.Arith.{mod-mul}
+use Rattle.std.proofs.Math.Bool.{and-true}
 use Rattle.std.proofs.Math.Nat.{pow-suc, one-le-pow}
+use Rattle.std.proofs.lemmas.Bool.{and_parts}
 use Rattle.std.proofs.lemmas.Nat.{mul-add-lt, same_from_place, mod_below}
 use Rattle.std.specs.Int.{w128, byte_at, bytes_high_first, from_be_bytes, to_be_bytes}
 use Rattle.std.specs.List.{list_all}
@@ -11,14 +13,6 @@ use Rattle.swan_reducers.specs.Sums.{is_byte, is_sum_part}
 abbrev pub value : List ℕ → ℕ
 value [] = 0
 value (byte ∷ bytes) = byte * 256 ^ length bytes + value bytes
-
-and_first : (a b : Bool) → (a && b) ≡ true → a ≡ true
-and_first true b is = refl
-and_first false b is = absurd (cc)
-
-and_second : (a b : Bool) → (a && b) ≡ true → b ≡ true
-and_second true b is = is
-and_second false b is = absurd (cc)
 
 below : (byte : ℕ) → is_byte byte ≡ true → byte < 256
 below byte is = search (rules, tests)
@@ -30,14 +24,10 @@ every_byte : (bytes : List ℕ) → ((k : ℕ) → get_or bytes k 0 < 256) → l
 every_byte [] small = refl
 every_byte (byte ∷ bytes) small = ap (λ b. b && list_all is_byte bytes) (is_below byte (small 0)) ∙ every_byte bytes (λ k. small (suc k))
 
-and_true : (b : Bool) → b ≡ (b && true)
-and_true true = refl
-and_true false = refl
-
 -- bytes are a part where there are 16
 pub part_by_length : (bytes : List ℕ) → ((k : ℕ) → get_or bytes k 0 < 256) → nat_eq (length bytes) 16 ≡ is_sum_part bytes
 part_by_length bytes small =
-    and_true (nat_eq (length bytes) 16) ∙ ap (λ b. nat_eq (length bytes) 16 && b) (sym (every_byte bytes small))
+    sym (and-true (nat_eq (length bytes) 16)) ∙ ap (λ b. nat_eq (length bytes) 16 && b) (sym (every_byte bytes small))
 
 positive : (k : ℕ) → 0 < 256 ^ k
 positive k = omega (arith, one-le-pow k 256 (omega arith))
@@ -45,8 +35,9 @@ positive k = omega (arith, one-le-pow k 256 (omega arith))
 pub value_below : (bytes : List ℕ) → list_all is_byte bytes ≡ true → value bytes < 256 ^ length bytes
 value_below [] all = omega arith
 value_below (byte ∷ bytes) all =
-    let here : byte < 256 = below byte (and_first (is_byte byte) (list_all is_byte bytes) all) in
-    let rest = value_below bytes (and_second (is_byte byte) (list_all is_byte bytes) all) in
+    let both = and_parts (is_byte byte) (list_all is_byte bytes) all in
+    let here : byte < 256 = below byte both.0 in
+    let rest = value_below bytes both.1 in
     omega (arith, mul-add-lt byte (256 ^ length bytes) (value bytes) 256 here rest, pow-suc 256 (length bytes))
 
 byte_at-is : (k n : ℕ) → byte_at k n ≡ n / 256 ^ k % 256
@@ -61,7 +52,7 @@ pub bytes_of_value : (bytes : List ℕ) (n : ℕ) → list_all is_byte bytes ≡
 bytes_of_value [] n all is = refl
 bytes_of_value (byte ∷ bytes) n all is =
     let k = length bytes in
-    let rest = and_second (is_byte byte) (list_all is_byte bytes) all in
+    let rest = (and_parts (is_byte byte) (list_all is_byte bytes) all).1 in
     let split = same_from_place (n / 256 ^ k % 256) (n % 256 ^ k) byte (value bytes) (256 ^ k) (mod_below n (256 ^ k) (positive k)) (value_below bytes rest) (sym (low_digits k n) ∙ is) in
     ap (λ b. b ∷ bytes_high_first k n) (byte_at-is k n ∙ split.0) ∙ ap (λ bs. byte ∷ bs) (bytes_of_value bytes n rest split.1)
 

@@ -1,7 +1,8 @@
 -- The reducer of sums keeps the laws.
 use Rattle.std.proofs.Common.{◌≡◌, ℕ, ◌^◌, ◌<◌, Bool, true, false, nat_eq, ◌&&◌, Option, Some, None, List, length, refl, sym, ap, ◌∙◌, arith, rules, tests}
-use Rattle.std.proofs.lemmas.Int.{ints, SFits-int_wrap, int_wrap-add_left, int_wrap-add_right, int_wrap_fits, of_z-to_z, to_z-of_z}
+use Rattle.std.proofs.lemmas.Int.{SFits-int_wrap, int_wrap-add_left, int_wrap-add_right, int_wrap_fits, of_z-to_z, to_z-of_z}
 use Rattle.std.proofs.Math.Facts.{Fits-of_z, sfits_to_z}
+use Rattle.std.proofs.Math.IntN.{+ℤ_assoc, +ℤ_idl, +ℤ_idr}
 use Rattle.std.specs.Prelude.{ℤ, pos, ◌+ℤ◌, FitsSigned, option_map}
 use Rattle.std.specs.Int.{w128, cast_signed, cast_unsigned, from_be_bytes, int_wrap, to_be_bytes}
 use Rattle.std.specs.List.{list_all}
@@ -56,35 +57,26 @@ sum_fits part is =
 pub summed-is : (a b : ℤ) → FitsSigned w128 a → FitsSigned w128 b → summed (sum_part a) (sum_part b) ≡ sum_part (int_wrap w128 (a +ℤ b))
 summed-is a b fits also = ap (λ z. sum_part (int_wrap w128 (z +ℤ sum_of (sum_part b)))) (sum_back a fits) ∙ ap (λ z. sum_part (int_wrap w128 (a +ℤ z))) (sum_back b also)
 
-add_assoc : (a b c : ℤ) → (a +ℤ b) +ℤ c ≡ a +ℤ (b +ℤ c)
-add_assoc a b c = omega (arith, ints)
-
-zero_add : (a : ℤ) → pos 0 +ℤ a ≡ a
-zero_add a = omega (arith, ints)
-
-add_zero : (a : ℤ) → a +ℤ pos 0 ≡ a
-add_zero a = omega (arith, ints)
-
 regroup : (a b c : List ℕ) → is_sum_part a ≡ true → is_sum_part b ≡ true → is_sum_part c ≡ true → summed (summed a b) c ≡ summed a (summed b c)
 regroup a b c part_a part_b part_c =
     let x = sum_of a in
     let y = sum_of b in
     let z = sum_of c in
     ap (λ s. sum_part (int_wrap w128 (s +ℤ z))) (sum_back (int_wrap w128 (x +ℤ y)) (SFits-int_wrap w128 (x +ℤ y)))
-    ∙ ap sum_part (int_wrap-add_left w128 (x +ℤ y) z ∙ ap (int_wrap w128) (add_assoc x y z) ∙ sym (int_wrap-add_right w128 x (y +ℤ z)))
+    ∙ ap sum_part (int_wrap-add_left w128 (x +ℤ y) z ∙ ap (int_wrap w128) (+ℤ_assoc x y z) ∙ sym (int_wrap-add_right w128 x (y +ℤ z)))
     ∙ sym (ap (λ s. sum_part (int_wrap w128 (x +ℤ s))) (sum_back (int_wrap w128 (y +ℤ z)) (SFits-int_wrap w128 (y +ℤ z))))
 
 before : (part : List ℕ) → is_sum_part part ≡ true → summed (sum_part (pos 0)) part ≡ part
 before part is =
     ap (λ s. sum_part (int_wrap w128 (s +ℤ sum_of part))) (sum_back (pos 0) (search rules))
-    ∙ ap (λ s. sum_part (int_wrap w128 s)) (zero_add (sum_of part))
+    ∙ ap (λ s. sum_part (int_wrap w128 s)) (+ℤ_idl (sum_of part))
     ∙ ap sum_part (int_wrap_fits w128 (sum_of part) (sum_fits part is))
     ∙ part_back part is
 
 after : (part : List ℕ) → is_sum_part part ≡ true → summed part (sum_part (pos 0)) ≡ part
 after part is =
     ap (λ s. sum_part (int_wrap w128 (sum_of part +ℤ s))) (sum_back (pos 0) (search rules))
-    ∙ ap (λ s. sum_part (int_wrap w128 s)) (add_zero (sum_of part))
+    ∙ ap (λ s. sum_part (int_wrap w128 s)) (+ℤ_idr (sum_of part))
     ∙ ap sum_part (int_wrap_fits w128 (sum_of part) (sum_fits part is))
     ∙ part_back part is
 
