@@ -1,5 +1,6 @@
 -- Places given twice, told from what was seen of each place.
-use Rattle.std.proofs.Common.{◌≡◌, ℕ, Bool, true, false, not, ◌&&◌, ◌||◌, List, [], ◌∷◌, Option, Some, None, refl, ap, sym, ◌∙◌, cond, nat_eq, BTreeMap, ◌<◌, ◌+◌, length, drop, get_or, add-one}
+use Rattle.std.proofs.Common.{◌≡◌, ℕ, Bool, true, false, not, ◌&&◌, ◌||◌, List, [], ◌∷◌, Option, Some, None, refl, ap, sym, ◌∙◌, cond, nat_eq, BTreeMap, ◌<◌, ◌+◌, length, drop, get_or, add-one, arith}
+use Rattle.std.proofs.Math.Bool.{or-false, or_assoc}
 use Rattle.std.proofs.Math.Seq.{drop-cons}
 use Rattle.std.specs.List.{list_any}
 use Rattle.std.specs.Option.{option_map_or}
@@ -28,25 +29,15 @@ none-seen (give ∷ gives) seen e =
 -- just where it clashes with it or with what was seen before.
 same_place : (seen : Option Bool) (first second : Bool) → clashes_place first seen ≡ false → not (first && second) ≡ (clashes_place second seen || not (first && second))
 same_place None first second e = refl
-same_place (Some true) true true e = refl
-same_place (Some true) true false e = refl
-same_place (Some true) false second e = absurd (cc)
-same_place (Some false) first second e = absurd (cc)
-
-or_false : (b : Bool) → b ≡ (b || false)
-or_false true = refl
-or_false false = refl
+same_place (Some earlier) first second e = grind arith
 
 any_place : (same : Bool) (before seen : Option Bool) (first second : Bool) → (same ≡ true → before ≡ seen) → clashes_place first seen ≡ false → clashes_place second (cond same (Some first) before) ≡ (clashes_place second before || (same && not (first && second)))
 any_place true before seen first second is e =
     same_place seen first second e ∙ ap (λ s. clashes_place second s || not (first && second)) (sym (is refl))
-any_place false before seen first second is e = or_false (clashes_place second before)
+any_place false before seen first second is e = sym (or-false (clashes_place second before))
 
 or_middle : (a b c d : Bool) → ((a || b) || (c || d)) ≡ ((a || c) || (b || d))
-or_middle true b c d = refl
-or_middle false true true d = refl
-or_middle false true false d = refl
-or_middle false false c d = refl
+or_middle a b c d = grind arith
 
 list_any-or : {A : Type 0} (p q r : A → Bool) → ((x : A) → r x ≡ (p x || q x)) → (xs : List A) → list_any r xs ≡ (list_any p xs || list_any q xs)
 list_any-or p q r each [] = refl
@@ -62,10 +53,6 @@ seen_more old new give e last x =
     ap (clashes_place (is_in x.mode)) (last x.place)
     ∙ any_place (nat_eq give.place x.place) (get nat_cmp old x.place) (get nat_cmp old give.place) (is_in give.mode) (is_in x.mode) same e
 
-or_assoc : (a b c : Bool) → (a || (b || c)) ≡ ((a || b) || c)
-or_assoc true b c = refl
-or_assoc false b c = refl
-
 -- whether a place stands twice, by the gives that were seen and by the rest of them
 abbrev pub IsAliasedFrom : BTreeMap ℕ Bool → List Give → ℕ → Type 0
 IsAliasedFrom seen gives i =
@@ -80,7 +67,7 @@ aliased_more old new gives i d within so_far e last =
     so_far
     ∙ ap (λ later. list_any (clashes_seen old) later || is_aliased later) next
     ∙ ap (λ b. (b || list_any (clashes_seen old) rest) || is_aliased (give ∷ rest)) e
-    ∙ or_assoc (list_any (clashes_seen old) rest) (list_any (clash give) rest) (is_aliased rest)
+    ∙ sym (or_assoc (list_any (clashes_seen old) rest) (list_any (clash give) rest) (is_aliased rest))
     ∙ ap (λ b. b || is_aliased rest) (sym (list_any-or (clashes_seen old) (clash give) (clashes_seen new) (seen_more old new give e last) rest))
 
 -- a give that clashes
