@@ -55,7 +55,7 @@ moved_put before now queue new place is was = record {
 
 none_is : (o : Option OwnChunk) → is_some o ≡ false → o ≡ None
 none_is None e = refl
-none_is (Some place) e = let never : true ≡ false = e in absurd (cc)
+none_is (Some place) e = absurd (cc)
 
 module _ (before now after : LiveFrames) (parent child : ℕ) (gives : List QueueRight) (give : QueueRight) (places then_places : OwnChunks) (heads : List (Option ℕ))
     (nodes now_nodes then_nodes : Slab Link) (turns now_turns : Frames) (is : AreGiven before now parent child gives places heads nodes now_nodes turns now_turns)
