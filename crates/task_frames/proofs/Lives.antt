@@ -1,6 +1,6 @@
 -- The record of live frames after a call, and its set of children.
-use Rattle.std.proofs.Common.{◌≡◌, ◌≢◌, inl, inr, ℕ, ◌||◌, Bool, true, false, cond, Option, None, Some, Result, Ok, Err, IsSome, IfSome, IfNone, OnOk, OnErr, List, [], refl, sym, ap, subst, ◌∙◌, arith}
-use Rattle.std.proofs.lemmas.Bool.{cases_eq, false≢true}
+use Rattle.std.proofs.Common.{◌≡◌, ◌≢◌, inl, inr, ℕ, true, false, cond, Option, None, Some, Result, Ok, Err, IsSome, IfSome, IfNone, OnOk, OnErr, List, [], refl, sym, ap, subst, ◌∙◌, arith}
+use Rattle.std.proofs.lemmas.Bool.{cases_eq, false≢true, or_right}
 use Rattle.std.proofs.lemmas.Bool.Decides.{nat_tests}
 use Rattle.std.proofs.lemmas.Cmp.{eq_by_cmp_equiv, nat_cmp_total}
 use Rattle.std.proofs.lemmas.Map.{lookup-set_value}
@@ -81,10 +81,6 @@ module _ (before after : LiveFrames) (pairs : List ChildPair) (number : ℕ) (ke
     ];
   }
 
-  with_pair : (b was now : Bool) → now ≡ (b || was) → was ≡ true → now ≡ true
-  with_pair true was now is e = is
-  with_pair false was now is e = is ∙ e
-
   module _ (own : ℕ) (then_pairs : List ChildPair) where
     -- a child of a parent, where none was
     pub entered_keeps : (frame : LiveFrame) → live_at before number ≡ None → IsOnlyLive before after number (Some frame) → frame.parent ≡ Some own → IsWith pairs own number then_pairs → HasChildren after then_pairs
@@ -110,7 +106,7 @@ module _ (before after : LiveFrames) (pairs : List ChildPair) (number : ℕ) (ke
             let same_parent : Some own ≡ Some parent = sym of ∙ ap (λ (f : LiveFrame). f.parent) one ∙ child.of in
             let e : own ≡ parent = same_Some own parent same_parent in
             grind (arith, nat_tests, set parent other, e, is)
-        | inr differs ↦ let was = kept.all parent other (back only.others parent other differs child) in with_pair _ _ _ (set parent other) was
+        | inr differs ↦ let was = kept.all parent other (back only.others parent other differs child) in set parent other ∙ or_right _ _ was
       ];
     }
 
