@@ -18,8 +18,7 @@ use Rattle.swan_model.proofs.Elements.{none_is}
 -- ---- tests
 
 or_second : (a b : Bool) → (not a || b) ≡ true → a ≡ true → b ≡ true
-or_second true b e f = e
-or_second false b e f = absurd (false≢true f)
+or_second a b e f = ap (λ t. not t || b) (sym f) ∙ e
 
 pub placed_by_test : (o : Option Placed) → not (is_none o) ≡ true → (object : Placed) × (o ≡ Some object)
 placed_by_test None e = absurd (false≢true e)
