@@ -111,7 +111,7 @@ fn append_content_or_nothing(
 mod tests {
     use super::*;
     use crate::FILE_MOST;
-    use std::alloc::{AllocError, Global};
+    use crate::test_reads::{read_file, word};
     use std::test::Fail;
     use swan_model::Blob;
 
@@ -147,18 +147,5 @@ mod tests {
             assert_eq!(rt; files.long_reads, long_reads);
         }
         Ok(())
-    }
-
-    fn word(alloc: Global, text: &str) -> Result<Word, AllocError> {
-        Word::of(alloc, text).map_err(|_| AllocError)
-    }
-
-    /// A read through the trait's bound.
-    fn read_file<F: Files>(
-        files: &mut F,
-        name: &Word,
-        into: &mut Vec<u8>,
-    ) -> Result<(), ReadAnswer> {
-        files.read(name, into)
     }
 }

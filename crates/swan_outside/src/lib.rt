@@ -36,6 +36,8 @@ mod memory_sink;
 mod os_files;
 mod os_sink;
 mod sink;
+#[cfg(test)]
+mod test_reads;
 
 pub use answer::{Failed, ReadAnswer};
 pub use files::{FILE_MOST, FileBlob, Files};

@@ -143,6 +143,7 @@ pub(crate) fn append_whole(content: &[u8], into: &mut Vec<u8>) -> Result<(), Rea
 #[cfg(test)]
 mod tests {
     use super::*;
+    use crate::test_reads::{read_file, word};
     use std::alloc::{AllocError, Global};
     use std::test::Fail;
     use swan_model::Blob;
@@ -194,10 +195,6 @@ mod tests {
         Ok(())
     }
 
-    fn word(alloc: Global, text: &str) -> Result<Word, AllocError> {
-        Word::of(alloc, text).map_err(|_| AllocError)
-    }
-
     fn file(alloc: Global, name: &str, content: &str) -> Result<FileBlob, AllocError> {
         let mut bytes = Vec::new(alloc);
         bytes.extend_from_slice(content.as_bytes())?;
@@ -205,14 +202,5 @@ mod tests {
             name: word(alloc, name)?,
             content: Blob::new(bytes),
         })
-    }
-
-    /// A read through the trait's bound.
-    fn read_file<F: Files>(
-        files: &mut F,
-        name: &Word,
-        into: &mut Vec<u8>,
-    ) -> Result<(), ReadAnswer> {
-        files.read(name, into)
     }
 }

@@ -190,7 +190,7 @@ fn refusal_of(error: io::Error) -> ReadAnswer
 #[cfg(test)]
 mod tests {
     use super::*;
-    use std::alloc::{AllocError, Global};
+    use crate::test_reads::word;
     use std::fs::File;
     use std::test::Fail;
 
@@ -292,9 +292,5 @@ mod tests {
             );
         }
         Ok(())
-    }
-
-    fn word(alloc: Global, text: &str) -> Result<Word, AllocError> {
-        Word::of(alloc, text).map_err(|_| AllocError)
     }
 }
