@@ -1,7 +1,8 @@
 -- The book of the project. It is meant to be read from top to bottom, without any code beside it, and has two shelves.
 --
 -- The first shelf is what the headline speaks of: what a plan is, what its serial elision leaves, and what is printed of that.
--- Who wants to know what is promised of the bytes that come out reads these eight files and no more.
+-- Who wants to know what is promised of the bytes that come out reads these eight files and no more; of the second shelf the headline
+-- names `script` alone, by which a run went.
 pub mod Values
 pub mod Rights
 pub mod Roots

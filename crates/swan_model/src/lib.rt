@@ -20,8 +20,6 @@ mod lines;
 mod listed;
 mod meaning;
 mod memory;
-#[cfg(test)]
-mod name_tests;
 mod origin;
 mod outcome;
 mod path;
@@ -30,8 +28,6 @@ mod record;
 mod rights;
 mod run_name;
 mod script;
-#[cfg(test)]
-mod tests;
 mod text;
 mod value;
 

@@ -1,10 +1,10 @@
 // Names of runs: each call once, and that a name has no bytes.
 ghost use Rattle.swan_model.specs.declared.body.Ask.TheVariants.{Finish};
 
-use crate::*;
 use std::alloc::Global;
 use std::mem::size_of;
 use std::test::Fail;
+use swan_model::{Answer, Ask, Body, NoMemory, Plan, PlanFuel, Roots, RunName};
 
 /// A body whose tasks end at once.
 #[derive(Drop)]

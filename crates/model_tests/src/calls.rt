@@ -1,7 +1,9 @@
-// What no clause says: that each call that takes memory succeeds where there is enough, and that the
-// clauses mean what they should at known values.
-use crate::*;
+// Values, records, paths, lists and lines.
 use std::test::Fail;
+use swan_model::{
+    Give, Gives, Kind, LINES_MOST, LinesAnswer, Mode, Path, RECORD_MOST, Record, RecordAnswer,
+    RootQueue, Roots, Value, Values, Word, lines_of,
+};
 
 #[test]
 fn texts_are_made_and_copied(rt: HostRuntime) -> Result<(), Fail> {
