@@ -9,8 +9,6 @@
 #![tactic(auto)]
 
 mod laws;
-#[cfg(test)]
-mod tests;
 mod texts;
 
 pub use laws::{a_bulk_job_is_never_refused, limit_of_bulk};

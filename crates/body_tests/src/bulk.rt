@@ -1,5 +1,5 @@
 // The texts of small workloads, worked out by hand.
-use crate::{bulk_input, bulk_job};
+use bulk_workload::{bulk_input, bulk_job};
 use std::process::Abort;
 use std::test::Fail;
 
