@@ -1,17 +1,28 @@
 // Values, records, paths, lists and lines.
+use std::alloc::Global;
 use std::test::Fail;
 use swan_model::{
     Give, Gives, Kind, LINES_MOST, LinesAnswer, Mode, Path, RECORD_MOST, Record, RecordAnswer,
     RootQueue, Roots, Value, Values, Word, lines_of,
 };
 
+/// Whether a record of these bytes is made, and its copy has them.
+fn record_is_copied(alloc: Global, bytes: &[u8]) -> Result<bool, Fail> {
+    let record = Record::of(alloc, bytes).ok().ok_or("no record")?;
+    let again = record.copy().ok().ok_or("no copy")?;
+    Ok(again.as_slice() == bytes)
+}
+
+/// Whether a word of this text is made, and has it.
+fn word_is_made(alloc: Global, text: &str) -> Result<bool, Fail> {
+    let word = Word::of(alloc, text).ok().ok_or("no word")?;
+    Ok(word.as_str() == text)
+}
+
 #[test]
 fn texts_are_made_and_copied(rt: HostRuntime) -> Result<(), Fail> {
-    let record = Record::of(rt.alloc(), b"ab").ok().ok_or("no record")?;
-    let again = record.copy().ok().ok_or("no copy")?;
-    assert!(rt; again.as_slice() == b"ab".as_slice());
-    let word = Word::of(rt.alloc(), "ab").ok().ok_or("no word")?;
-    assert_eq!(rt; word.as_str(), "ab");
+    assert!(rt; record_is_copied(rt.alloc(), b"ab")?);
+    assert!(rt; word_is_made(rt.alloc(), "ab")?);
     Ok(())
 }
 
@@ -31,11 +42,16 @@ fn size_of(value: &Value) -> i64 {
     }
 }
 
+/// The copy of the zero of a kind.
+fn zero_of(alloc: Global, kind: Kind) -> Result<Value, Fail> {
+    let zero = Value::zero(alloc, kind).ok().ok_or("no zero")?;
+    Ok(zero.copy().ok().ok_or("no copy")?)
+}
+
 #[test]
 fn zeros_are_made_and_copied(rt: HostRuntime) -> Result<(), Fail> {
     for (kind, size) in [(Kind::Int, -1), (Kind::Bytes, 0)] {
-        let zero = Value::zero(rt.alloc(), kind).ok().ok_or("no zero")?;
-        let zero = zero.copy().ok().ok_or("no copy")?;
+        let zero = zero_of(rt.alloc(), kind)?;
         assert!(rt; zero.kind() == kind);
         assert_eq!(rt; size_of(&zero), size);
     }
