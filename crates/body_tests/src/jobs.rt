@@ -61,8 +61,8 @@ pub fn answer_to(alloc: Global, ask: &Ask<JobLocal>, steps: u64) -> Result<Answe
     }
 }
 
-/// A number that is pushed, as text.
-fn text_of_number(alloc: Global, number: i64) -> Result<String, NoMemory> {
+/// A number, as text.
+pub fn text_of_number(alloc: Global, number: i64) -> Result<String, NoMemory> {
     Ok(format!(in alloc; "{number}")?)
 }
 

@@ -1,5 +1,5 @@
 // Each line, in one task and in a child.
-use crate::jobs::{hold, plan_of_text, step, told};
+use crate::jobs::{hold, plan_of_text, step, text_of_number, told};
 use job_body::{JobBody, JobLocal};
 use std::alloc::Global;
 use std::test::Fail;
@@ -140,11 +140,6 @@ task main
 end
 ";
 
-/// A number, in words.
-fn words_of_number(alloc: Global, number: i64) -> Result<String, NoMemory> {
-    Ok(format!(in alloc; "{number}")?)
-}
-
 /// A record, in words.
 fn words_of_bytes(alloc: Global, record: &Record) -> Result<String, NoMemory> {
     let length = record.as_slice().len();
@@ -154,7 +149,7 @@ fn words_of_bytes(alloc: Global, record: &Record) -> Result<String, NoMemory> {
 /// A value, in words.
 fn words_of_value(alloc: Global, value: &Value) -> Result<String, NoMemory> {
     match value {
-        Value::Int(number) => words_of_number(alloc, *number),
+        Value::Int(number) => text_of_number(alloc, *number),
         Value::Bytes(record) => words_of_bytes(alloc, record),
     }
 }
