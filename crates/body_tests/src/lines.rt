@@ -51,10 +51,10 @@ fn blocks_go_on_where_they_should(rt: HostRuntime) -> Result<(), Fail> {
 
 /// A statement so many times, with a separator before each.
 fn repeated(alloc: Global, statement: &str, count: u32) -> Result<String, NoMemory> {
+    let one = format!(in alloc; "; {statement}")?;
     let mut all = String::new(alloc);
     for _ in 0..count {
-        all.push_str("; ")?;
-        all.push_str(statement)?;
+        all.push_str(one.as_str())?;
     }
     Ok(all)
 }

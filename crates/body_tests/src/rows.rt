@@ -6,7 +6,7 @@ use job_body::{JobBody, JobLocal};
 use std::alloc::Global;
 use std::process::Abort;
 use std::test::Fail;
-use swan_model::{Answer, Body, NoMemory, Plan, Stop, Worked};
+use swan_model::{Answer, Ask, Body, NoMemory, Plan, Stop, Worked};
 
 /// What stands before the statements, which begin at line 13. The first step makes the queue.
 pub const HEAD: &str = "\
@@ -76,14 +76,15 @@ fn work<B: Body>(
     body.work(alloc, local, answer, fuel, budget)
 }
 
-/// What the ask that ends a row is answered after so many steps, and what is told of it.
+/// What an ask that ends a row at this line is answered after so many steps, and what is told of it.
 fn told_at(
     alloc: Global,
-    stop: &Stop<JobLocal>,
+    ask: &Ask<JobLocal>,
+    place: u64,
     steps: u64,
 ) -> Result<(Answer, Option<String>), NoMemory> {
-    let answer = answer_to(alloc, &stop.ask, steps)?;
-    let what = told_by(alloc, &stop.ask, stop.place)?;
+    let what = told_by(alloc, ask, place)?;
+    let answer = answer_to(alloc, ask, steps)?;
     Ok((answer, what))
 }
 
@@ -110,7 +111,7 @@ fn take_row(
 {
     let Worked { local, works, stop } = work(alloc, body, local, answer, left, budget)?;
     let left = left.saturating_sub(works);
-    let Some(stop) = stop else {
+    let Some(Stop { ask, place }) = stop else {
         return Ok(Taken {
             local,
             answer: Answer::Nothing,
@@ -119,7 +120,7 @@ fn take_row(
         });
     };
     let left = left.saturating_sub(1);
-    let (answer, what) = told_at(alloc, &stop, fuel.saturating_sub(left))?;
+    let (answer, what) = told_at(alloc, &ask, place, fuel.saturating_sub(left))?;
     Ok(Taken {
         local,
         answer,
