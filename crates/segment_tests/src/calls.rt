@@ -110,9 +110,9 @@ fn goes_round(alloc: Global, size: u32) -> Result<bool, NoMemory>
 
 #[test]
 fn rings_of_one_two_and_sixteen_places_go_round(rt: HostRuntime) -> Result<(), Fail> {
-    assert!(rt; goes_round(rt.alloc(), 1)?);
-    assert!(rt; goes_round(rt.alloc(), 2)?);
-    assert!(rt; goes_round(rt.alloc(), 16)?);
+    for size in [1, 2, 16] {
+        assert!(rt; goes_round(rt.alloc(), size)?, "at {size}");
+    }
     Ok(())
 }
 
