@@ -1,5 +1,5 @@
 // Folds of texts, against answers worked out by hand.
-use crate::texts::{repeated, texts_of};
+use crate::texts::{in_turn, repeated, texts_of};
 use std::alloc::Global;
 use std::marker::{Send, Sync};
 use std::process::Abort;
@@ -32,19 +32,6 @@ fn counted(alloc: Global, last: usize, end: &str) -> Result<Vec<u8>, Fail> {
     for number in 1..=last {
         all.extend_from_slice(format!(in alloc; "{number}{end}")?.as_bytes())?;
     }
-    Ok(all)
-}
-
-/// A text so many times, and then another so many times.
-fn in_turn(
-    alloc: Global,
-    first: &[u8],
-    first_count: usize,
-    second: &[u8],
-    second_count: usize,
-) -> Result<Vec<u8>, Fail> {
-    let mut all = repeated(alloc, first, first_count)?;
-    all.extend_from_slice(&repeated(alloc, second, second_count)?)?;
     Ok(all)
 }
 

@@ -7,7 +7,6 @@ use std::alloc::{AllocError, Global};
 use std::mem;
 use std::process::Abort;
 use std::test::Fail;
-use swan_model::LinesAnswer;
 
 /// Whether this is the index of a text, with no line left and no fault.
 fn is_index(rt: &impl Abort, alloc: Global, text: &[u8], index: &[u8]) -> Result<bool, Fail> {
@@ -164,30 +163,6 @@ fn a_mixed_text_of_a_mebibyte_has_the_index_that_a_scan_finds(rt: HostRuntime) -
     let text = mixed_text(rt.alloc(), 1_048_576)?;
     let index = scanned(rt.alloc(), &text)?;
     assert!(rt; is_index(&rt, rt.alloc(), &text, &index)?);
-    Ok(())
-}
-
-/// How the plan of a text is refused.
-fn refusal(rt: &impl Abort, alloc: Global, text: &[u8]) -> Option<LinesAnswer> {
-    assert!(rt; text.len() <= TEXT_MOST);
-    index_plan(alloc, text).err()
-}
-
-#[test]
-fn a_text_past_the_limits_of_lines_is_refused(rt: HostRuntime) -> Result<(), Fail> {
-    let alloc = rt.alloc();
-    let mut text = repeated(alloc, b"a\n", 2)?;
-    text.extend_from_slice(&repeated(alloc, b"x", 65_535)?)?;
-    assert_eq!(rt; refusal(&rt, alloc, &text), None);
-    text.push(b'x')?;
-    assert_eq!(rt;
-        refusal(&rt, alloc, &text),
-        Some(LinesAnswer::TooLong { line: 3 })
-    );
-    let mut text = repeated(alloc, b"\n", 1_000_000)?;
-    assert_eq!(rt; refusal(&rt, alloc, &text), None);
-    text.push(b'a')?;
-    assert_eq!(rt; refusal(&rt, alloc, &text), Some(LinesAnswer::TooMany));
     Ok(())
 }
 

@@ -5,7 +5,6 @@ use record_pipeline::{record_names, record_plan};
 use std::alloc::Global;
 use std::process::Abort;
 use std::test::Fail;
-use swan_model::LinesAnswer;
 
 /// Whether a text is converted so, with this report of its faults.
 fn leaves(
@@ -78,29 +77,5 @@ fn long_records_are_left_out(rt: HostRuntime) -> Result<(), Fail> {
         }
         assert!(rt; leaves(&rt, alloc, &text, &out, faults)?, "at {bytes}");
     }
-    Ok(())
-}
-
-/// How the plan of a text is refused.
-fn refusal(rt: &impl Abort, alloc: Global, text: &[u8]) -> Option<LinesAnswer> {
-    assert!(rt; text.len() <= TEXT_MOST);
-    record_plan(alloc, text).err()
-}
-
-#[test]
-fn a_text_past_the_limits_of_lines_is_refused(rt: HostRuntime) -> Result<(), Fail> {
-    let alloc = rt.alloc();
-    let mut text = repeated(alloc, b"a\n", 2)?;
-    text.extend_from_slice(&repeated(alloc, b"x", 65_535)?)?;
-    assert_eq!(rt; refusal(&rt, alloc, &text), None);
-    text.push(b'x')?;
-    assert_eq!(rt;
-        refusal(&rt, alloc, &text),
-        Some(LinesAnswer::TooLong { line: 3 })
-    );
-    let mut text = repeated(alloc, b"\n", 1_000_000)?;
-    assert_eq!(rt; refusal(&rt, alloc, &text), None);
-    text.push(b'a')?;
-    assert_eq!(rt; refusal(&rt, alloc, &text), Some(LinesAnswer::TooMany));
     Ok(())
 }

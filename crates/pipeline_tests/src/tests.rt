@@ -1,5 +1,6 @@
 // Answers that no task has asked for are as none.
 use crate::asks::asks;
+use crate::texts::Of;
 use index_pipeline::index_plan;
 use record_pipeline::record_plan;
 use std::alloc::Global;
@@ -7,19 +8,8 @@ use std::process::Abort;
 use std::test::Fail;
 use swan_reducers::{SumReducer, fold_plan};
 
-/// A plan of the text of no line.
-#[derive(Clone, Copy)]
-enum Of {
-    /// Of the index.
-    Index,
-    /// Of the conversion.
-    Conversion,
-    /// Of the fold that adds.
-    Fold,
-}
-
-/// What a plan's root is told, and then the child that it asks for last, and what the two ask for. A star stands for each
-/// of some answers.
+/// What the root is told of a pipeline's plan of the text of no line, and then the child that it asks for last, and what the
+/// two ask for. A star stands for each of some answers.
 #[derive(Clone, Copy)]
 struct Row {
     of: Of,
