@@ -2,7 +2,7 @@
 ghost use Rattle.std.specs.Prelude.{◌≡◌, ◌≤◌, None, IfOk};
 
 use crate::helpers::{Step, drain, fill, follows, free_segment, pops};
-use ring_segments::{Consumer, Link, Producer, Tag};
+use ring_segments::{Consumer, Link, Note, Producer, Tag};
 use std::alloc::Global;
 use std::mem::size_of;
 use std::test::Fail;
@@ -86,13 +86,16 @@ fn a_link_is_followed_once_all_is_popped(rt: HostRuntime) -> Result<(), Fail> {
 #[test]
 fn a_note_of_a_link_is_learnt(rt: HostRuntime) -> Result<(), Fail> {
     let (mut consumer, mut link) = linked(rt.alloc())?;
-    let note = link.note();
-    assert_eq!(rt; size_of::<ring_segments::Note>(), 0);
-    consumer.learn(note);
+    consumer.learn(link.note());
     assert!(rt; pops(&mut consumer, &[2, 3]));
     consumer.learn(link.note());
     assert!(rt; consumer.advance(link).is_ok());
     Ok(())
+}
+
+#[test]
+fn a_note_has_no_bytes(rt: HostRuntime) {
+    assert_eq!(rt; size_of::<Note>(), 0);
 }
 
 /// Whether a ring of this size takes as many numbers as that, and gives them in order, many times round.

@@ -31,11 +31,11 @@ fn push_up_to(producer: &mut Producer, many: u32) -> bool
     false
 }
 
-/// Pushes all numbers, and says whether they went in.
-fn push_all(mut producer: Producer) -> bool
+/// Pushes so many numbers, from 0 on, and says whether all went in. Nothing is pushed after them.
+fn push_last(mut producer: Producer, many: u32) -> bool
     requires { producer.of.id.name ≡ None }
 {
-    push_up_to(&mut producer, MANY)
+    push_up_to(&mut producer, many)
 }
 
 /// Pops as many numbers, and says whether they came in order.
@@ -64,18 +64,18 @@ fn a_hundred_thousand_numbers_go_through_three_places_in_order(
     rt: HostRuntime,
 ) -> Result<(), Fail> {
     let (producer, consumer) = free_segment(rt.alloc(), 0, 3)?;
-    let (pushed, popped) = join(&rt, move || push_all(producer), move || pop_all(consumer));
+    let (pushed, popped) = join(
+        &rt,
+        move || push_last(producer, MANY),
+        move || pop_all(consumer),
+    );
     assert!(rt; pushed);
     assert!(rt; popped);
     Ok(())
 }
 
 /// Pushes 0 to 999, links to the next segment, and pushes 0 there. No link comes where a side had too many tries.
-fn push_and_link(
-    mut producer: Producer,
-    mut next_producer: Producer,
-    next: Consumer,
-) -> Option<Link>
+fn push_and_link(mut producer: Producer, next_producer: Producer, next: Consumer) -> Option<Link>
     requires free { (producer.of.id.name ≡ None) × (next_producer.of.id.name ≡ None) }
     requires next { next.popped ≡ 0 }
     ensures { IfSome result (λ link. link.of ≡ producer.of) }
@@ -84,7 +84,7 @@ fn push_and_link(
         return None;
     }
     let link = producer.link(next);
-    if push_up_to(&mut next_producer, 1) {
+    if push_last(next_producer, 1) {
         Some(link)
     } else {
         None
