@@ -79,7 +79,7 @@ pub struct Turns<'a> {
 }
 
 /// The frames that an opened run has after these turns.
-fn frames_after<B: Body, Q: Queues>(
+pub fn frames_after<B: Body, Q: Queues>(
     alloc: Global,
     opened: Opened<B, Q>,
     turns: &[Turn],

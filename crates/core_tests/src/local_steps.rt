@@ -1,0 +1,244 @@
+// Frames that take steps by themselves: what a frame answers, call by call, over queues whose ends serve nothing.
+ghost use Rattle.std.specs.Prelude.{◌≡◌, IfOk};
+ghost use Rattle.task_frames.specs.Resumes.{IsOpened, ends_of};
+
+use crate::plans::asks;
+use crate::stale::frames_after;
+use crate::turn::Turn;
+use elision_tests::AskList;
+use queue_book::BookQueues;
+use queues::Queues;
+use std::alloc::Global;
+use std::sync::Arc;
+use std::test::Fail;
+use swan_model::{Body, FUEL_MOST, Mode, Plan, PlanFuel, RootQueue, Roots, RunName, Values};
+use task_frames::{Core, Frame, Opened, Paused};
+
+/// What a call of `run_local` answers.
+#[derive(Clone, Copy, Debug, PartialEq, Eq)]
+enum Stop {
+    /// So many steps were taken, and the next one needs the core.
+    AtCore(u64),
+    /// So many steps were taken, which is the budget.
+    Budget(u64),
+    /// It found no memory for one of them.
+    NoMemory,
+}
+
+impl Stop {
+    /// What this answer tells.
+    fn of(paused: &Paused) -> Stop {
+        match paused {
+            Paused::AtCore(steps) => Stop::AtCore(steps.count()),
+            Paused::Budget(steps) => Stop::Budget(steps.count()),
+            Paused::NoMemory => Stop::NoMemory,
+        }
+    }
+}
+
+/// The budget of a call, and what it answers.
+type Call = (u64, Stop);
+
+/// The turns of a root whose first step is work. The core takes it.
+const BEGUN: &[Turn] = &[Turn::Runs(0, 0)];
+
+/// A plan whose root may push to one queue and pop from it, at place 0, and has these asks and this much fuel. No memory is found at one index
+/// of its asks.
+#[derive(Clone, Copy)]
+struct Root<'a> {
+    asks: &'a str,
+    fuel: u64,
+    fails: usize,
+}
+
+/// The queue at place 0, alone.
+fn one_queue(alloc: Global) -> Result<Roots, Fail> {
+    let mut roots = Roots::new(alloc);
+    let queue = RootQueue {
+        mode: Mode::PushPop,
+        items: Values::new(alloc),
+    };
+    match roots.push_queue(queue) {
+        Ok(()) => Ok(roots),
+        Err(_) => Err("no memory".into()),
+    }
+}
+
+/// The plan of this root.
+fn plan(alloc: Global, root: &Root<'_>) -> Result<Plan<AskList>, Fail> {
+    if root.fuel > FUEL_MOST {
+        return Err("fuel".into());
+    }
+    Ok(Plan {
+        body: asks(alloc, &[root.asks], root.fails)?,
+        root_local: 0,
+        roots: one_queue(alloc)?,
+        fuel: PlanFuel::new(root.fuel),
+    })
+}
+
+/// The frame answers these calls so, one after the other, and is the root's whatever comes. Err names the first call that is answered otherwise.
+fn answers<B: Body, Q: Queues>(
+    alloc: Global,
+    mut frame: Frame<B, Q>,
+    body: &B,
+    calls: &[Call],
+) -> Result<(), Fail>
+    requires { body.now ≡ frame.task.plan.body }
+{
+    for index in 0..calls.len() {
+        let (budget, stop) = calls[index];
+        let came = Stop::of(&frame.run_local(alloc, body, budget));
+        if came != stop {
+            return Err(Fail::new(format_args!("call {index} answers {came:?}")));
+        }
+    }
+    if frame.number() != 0 || !frame.path().parts().is_empty() {
+        return Err("another frame".into());
+    }
+    frame.tear();
+    Ok(())
+}
+
+/// The only frame of an opened run, after these turns.
+fn frame_after<B: Body, Q: Queues>(
+    alloc: Global,
+    opened: Opened<B, Q>,
+    turns: &[Turn],
+) -> Result<Frame<B, Q>, Fail>
+    requires opened { IsOpened (ends_of Q.Ends.LocalEnds) opened.core opened.root }
+    requires body { opened.body.value ≡ opened.core.plan.body }
+    ensures { IfOk result (λ frame. frame.task.plan ≡ opened.core.plan) }
+{
+    let mut frames = frames_after(alloc, opened, turns)?;
+    if frames.len() != 1 {
+        return Err("no frame, or several".into());
+    }
+    let frame = frames.remove(0);
+    Ok(frame)
+}
+
+/// The only frame of an opened run, after these turns, answers these calls so.
+fn answers_after<B: Body, Q: Queues>(
+    alloc: Global,
+    opened: Opened<B, Q>,
+    turns: &[Turn],
+    calls: &[Call],
+) -> Result<(), Fail>
+    requires opened { IsOpened (ends_of Q.Ends.LocalEnds) opened.core opened.root }
+    requires body { opened.body.value ≡ opened.core.plan.body }
+{
+    let body = Arc::try_clone(&opened.body)?;
+    let frame = frame_after(alloc, opened, turns)?;
+    answers(alloc, frame, &body, calls)
+}
+
+/// The frame of this root, after these turns, answers these calls so.
+fn stops_so(alloc: Global, root: &Root<'_>, turns: &[Turn], calls: &[Call]) -> Result<(), Fail> {
+    let plan = plan(alloc, root)?;
+    let queues = BookQueues::new(alloc, RunName::of(&plan));
+    answers_after(alloc, Core::open(alloc, plan, queues)?, turns, calls)
+}
+
+/// After three steps of work, of which the core takes the first one, comes each ask that isn't work. At place 7 the root has nothing.
+#[test]
+fn a_frame_stops_at_each_ask_that_needs_the_core(rt: HostRuntime) -> Result<(), Fail> {
+    for asks in [
+        "work work work read:0",
+        "work work work write:0:1",
+        "work work work push:0:1",
+        "work work work push:7:1",
+        "work work work pop:0",
+        "work work work empty:0",
+        "work work work queue",
+        "work work work object:1",
+        "work work work spawn:0:1:",
+        "work work work sync",
+        "work work work finish",
+        "work work work range",
+    ] {
+        let root = Root {
+            asks,
+            fuel: 9,
+            fails: 9,
+        };
+        stops_so(
+            rt.alloc(),
+            &root,
+            BEGUN,
+            &[(9, Stop::AtCore(2)), (9, Stop::AtCore(0))],
+        )?;
+    }
+    Ok(())
+}
+
+#[test]
+fn a_frame_that_has_taken_no_step_needs_the_core(rt: HostRuntime) -> Result<(), Fail> {
+    stops_so(
+        rt.alloc(),
+        &Root {
+            asks: "work work work work work finish",
+            fuel: 9,
+            fails: 9,
+        },
+        &[],
+        &[
+            (0, Stop::Budget(0)),
+            (4, Stop::AtCore(0)),
+            (1, Stop::AtCore(0)),
+        ],
+    )
+}
+
+#[test]
+fn a_frame_works_up_to_its_budget(rt: HostRuntime) -> Result<(), Fail> {
+    stops_so(
+        rt.alloc(),
+        &Root {
+            asks: "work work work work work work finish",
+            fuel: 20,
+            fails: 9,
+        },
+        BEGUN,
+        &[
+            (0, Stop::Budget(0)),
+            (2, Stop::Budget(2)),
+            (3, Stop::Budget(3)),
+            (1, Stop::AtCore(0)),
+            (0, Stop::Budget(0)),
+        ],
+    )
+}
+
+#[test]
+fn a_frame_without_fuel_needs_the_core(rt: HostRuntime) -> Result<(), Fail> {
+    stops_so(
+        rt.alloc(),
+        &Root {
+            asks: "work work work work work work finish",
+            fuel: 4,
+            fails: 9,
+        },
+        BEGUN,
+        &[(9, Stop::AtCore(3)), (1, Stop::AtCore(0))],
+    )
+}
+
+/// A torn frame is the root's still.
+#[test]
+fn a_frame_is_torn_where_its_body_finds_no_memory(rt: HostRuntime) -> Result<(), Fail> {
+    for fails in [3, 4] {
+        let root = Root {
+            asks: "work work work work work work finish",
+            fuel: 9,
+            fails,
+        };
+        stops_so(
+            rt.alloc(),
+            &root,
+            BEGUN,
+            &[(2, Stop::Budget(2)), (2, Stop::NoMemory)],
+        )?;
+    }
+    Ok(())
+}
