@@ -83,14 +83,14 @@ module _ {B L : Type 0} (G : Ghosts B L) (name : Option Script) where
       pub is-asking : IsAsking G task.plan task.path task.done top local asked
       is-asking = record { stands = is.alone.stands; paid = is.alone.stage.0; said = is.alone.stage.3 }
 
-      pub one-more-deed : (does : Deed) → deed_at s (time s task.path task.done) ≡ does
+      one-more-deed : (does : Deed) → deed_at s (time s task.path task.done) ≡ does
           → deeds_among s task.path (task.done + 1) ≡ deeds_among s task.path task.done + one_if (is_queue_deed does)
       one-more-deed does it =
           filtered_more (λ t. is_queue_deed (deed_at s t)) (times s task.path) task.done (time s task.path task.done) (slice_get-get_or (times s task.path) task.done 0 is.alone.stands.left)
           ∙ ap (λ d. deeds_among s task.path task.done + one_if (is_queue_deed d)) it
 
       -- the frame after a step, given with so many steps done
-      pub goes-to : (since : ℕ) (said : Answer) (does : Deed) (then_ends : LentEnds) → GoesOn G task.plan task.path task.done top local said does
+      goes-to : (since : ℕ) (said : Answer) (does : Deed) (then_ends : LentEnds) → GoesOn G task.plan task.path task.done top local said does
           → then_ends ≡ with_deeds ends (ends.deeds + one_if (is_queue_deed does)) → ends.before ≡ deeds_among s task.path since
           → AreLocal s task.path since (task.done + 1) → 0 < since
           → IsFrame G (record task { done = task.done + 1; since = since }) name then_ends (Ready local said)

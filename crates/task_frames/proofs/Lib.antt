@@ -9,8 +9,6 @@ pub mod Amid
 pub mod Served
 -- a frame over several steps
 pub mod Same
--- the root
-pub mod Root
 -- a reading that goes on
 pub mod GoneOn
 pub mod CatchUp

@@ -38,8 +38,6 @@
 //! frames that come of it (`Kept::answer`).
 #![tactic(auto)]
 
-#[cfg(test)]
-mod asks;
 mod at_core;
 mod begin;
 mod child_gives;
@@ -70,8 +68,6 @@ mod stage;
 mod step;
 mod stepping;
 mod steps;
-#[cfg(test)]
-mod tests;
 
 use at_core::{FrameAtCore, MidStep, StagedTask, TaskAtCore};
 pub use begin::Opened;
