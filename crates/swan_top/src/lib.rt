@@ -34,8 +34,6 @@ mod run;
 mod run_end;
 mod settle;
 mod status;
-#[cfg(test)]
-mod tests;
 mod top_call;
 mod verdict;
 mod way;

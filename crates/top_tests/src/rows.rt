@@ -1,6 +1,7 @@
 // What jobs write, with `run` by so many workers and with `elide`.
-use super::jobs::{NAMES, TEXTS};
-use super::*;
+use crate::helpers::{Over, called, hold};
+use crate::jobs::{NAMES, TEXTS};
+use std::test::Fail;
 
 /// Fuel, job and inputs; then the output, the report and the code.
 const RUNS: &str = "\
@@ -117,11 +118,12 @@ For example: swan run 1 100 examples/hello.swan";
 
 #[test]
 fn the_help_lists_each_command_range_and_status(rt: HostRuntime) -> Result<(), Fail> {
-    let got = called(&rt, rt.alloc(), Vec::new(rt.alloc()), "--help", 0)?;
+    let over = Over::files(Vec::new(rt.alloc()));
+    let got = called(&rt, rt.alloc(), "--help", over)?;
     for part in HELP_SAYS.lines() {
         assert!(rt; got.out.as_str().contains(part), "{part}");
     }
     assert_eq!(rt; got.report.as_str(), "");
-    assert_eq!(rt; got.code, 0);
+    assert_eq!(rt; got.status.code(), 0);
     Ok(())
 }

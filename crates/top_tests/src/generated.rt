@@ -1,6 +1,10 @@
 // Runs of the generated job.
-use super::*;
+use crate::helpers::{Over, assert_ended, called, file_of, hold, hold_row};
 use bulk_workload::{BULK_MOST, bulk_input, bulk_job};
+use std::alloc::Global;
+use std::test::Fail;
+use swan_model::NoMemory;
+use swan_outside::FileBlob;
 
 /// Whole command lines; then the output, the report and the code.
 const CALLS: &str = "\
@@ -38,20 +42,11 @@ fn a_generated_run_writes_its_sum_and_its_count(rt: HostRuntime) -> Result<(), F
 }
 
 // The files `job` and `input`: the generated job for so many lines, and its input from 7 on.
-fn generated_files(alloc: Global, size: u64) -> Result<Vec<FileBlob>, Fail> {
+fn generated_files(alloc: Global, size: u64) -> Result<Vec<FileBlob>, NoMemory> {
     let size = size.min(BULK_MOST);
-    let mut files = Vec::new(alloc);
-    let job = Blob::new(bulk_job(alloc, size)?);
-    files.push(FileBlob {
-        name: word(alloc, "job")?,
-        content: job,
-    })?;
-    let input = Blob::new(bulk_input(alloc, 7, size)?);
-    files.push(FileBlob {
-        name: word(alloc, "input")?,
-        content: input,
-    })?;
-    Ok(files)
+    let job = file_of(alloc, "job", bulk_job(alloc, size)?)?;
+    let input = file_of(alloc, "input", bulk_input(alloc, 7, size)?)?;
+    Ok(vec![in alloc; job, input]?)
 }
 
 /// The elision of the generated job with so many units: the number of lines, and then a row. So many units are spent or
@@ -68,7 +63,7 @@ fn a_generated_run_takes_so_many_units(rt: HostRuntime) -> Result<(), Fail> {
         let (size, row) = row.split_once(' ').ok_or("no size")?;
         let size = size.parse::<u64>().ok().ok_or("no number")?;
         let files = generated_files(rt.alloc(), size)?;
-        hold_row(&rt, rt.alloc(), files, "elide", 0, row)?;
+        hold_row(&rt, rt.alloc(), Over::files(files), "elide", row)?;
     }
     Ok(())
 }
@@ -77,13 +72,8 @@ fn a_generated_run_takes_so_many_units(rt: HostRuntime) -> Result<(), Fail> {
 fn the_generated_job_is_in_the_canonical_form(rt: HostRuntime) -> Result<(), Fail> {
     let job = bulk_job(rt.alloc(), 3)?;
     let job = String::from_utf8_lossy(rt.alloc(), job.as_slice())?;
-    let got = called(
-        &rt,
-        rt.alloc(),
-        generated_files(rt.alloc(), 3)?,
-        "check job",
-        0,
-    )?;
+    let files = generated_files(rt.alloc(), 3)?;
+    let got = called(&rt, rt.alloc(), "check job", Over::files(files))?;
     assert_ended(&rt, &got, "check job", job.as_str(), "checked\n", "0");
     Ok(())
 }

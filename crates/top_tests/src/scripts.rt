@@ -1,11 +1,14 @@
 // Scripts of known jobs. Each was traced by hand through the lines of its job.
-use super::jobs::{NAMES, TEXTS};
-use super::*;
-use crate::accept::accept;
+use crate::helpers::number_of;
+use crate::jobs::{NAMES, TEXTS};
 use job_body::{JobBody, plan_of};
-use privilege_check::CheckedJob;
+use job_reader::read_job;
+use privilege_check::{CheckedJob, check};
 use serial_elision::script_of;
-use swan_model::{Deed, Entry, Origin, OriginGive, Path, Plan, Script, Value};
+use std::alloc::Global;
+use std::process::Abort;
+use std::test::Fail;
+use swan_model::{Blob, Deed, Entry, Origin, OriginGive, Path, Plan, Script, Value};
 
 /// A job that counts to 2 in one child and to 0 in the other, and pushes two numbers in each.
 const SHORT: &str =
@@ -135,9 +138,10 @@ fn text_of(name: &str) -> Result<&'static str, Fail> {
 }
 
 // The job that has this name.
-pub(super) fn job_of(alloc: Global, name: &str) -> Result<CheckedJob, Fail> {
-    let job = accept(alloc, text_of(name)?.as_bytes().to_vec(alloc)?);
-    Ok(job.ok().ok_or("no job")?)
+fn job_of(alloc: Global, name: &str) -> Result<CheckedJob, Fail> {
+    let job = read_job(alloc, text_of(name)?.as_bytes());
+    let job = check(alloc, job.ok().ok_or("no job")?);
+    Ok(job.ok().ok_or("no checked job")?)
 }
 
 // The inputs of these names, which stand between spaces.
@@ -151,9 +155,9 @@ fn inputs_of(alloc: Global, names: &str) -> Result<Vec<Blob>, Fail> {
 }
 
 // The plan of a job over these inputs.
-pub(super) fn plan_of_files(
+pub fn plan_of_files(
     alloc: Global,
-    fuel: u16,
+    fuel: u32,
     job: &str,
     inputs: &str,
 ) -> Result<Plan<JobBody>, Fail> {
@@ -166,8 +170,7 @@ pub(super) fn plan_of_files(
 // The plan of a run: its fuel, its job and its inputs, with | between them.
 fn plan_of_run(alloc: Global, run: &str) -> Result<Plan<JobBody>, Fail> {
     let mut parts = run.split('|');
-    let fuel = parts.next().ok_or("no fuel")?.parse::<u16>();
-    let fuel = fuel.ok().ok_or("no number")?;
+    let fuel = number_of(parts.next())?;
     let job = parts.next().ok_or("no job")?;
     let inputs = parts.next().ok_or("no inputs")?;
     plan_of_files(alloc, fuel, job, inputs)
@@ -186,7 +189,7 @@ fn show_value(text: &mut String, alloc: Global, value: &Value) -> Result<(), Fai
 }
 
 // Adds a line of a word and values.
-pub(super) fn show_values(
+pub fn show_values(
     text: &mut String,
     alloc: Global,
     word: &str,

@@ -1,6 +1,12 @@
 // Failing reads and writes, cut jobs, and limits.
-use super::jobs::{HELLO, LEAVES};
-use super::*;
+use crate::helpers::{
+    Ended, Machine, Over, assert_ended, called, file_of, files_of, hold, hold_row, number_of,
+    with_line_feeds,
+};
+use crate::jobs::{HELLO, LEAVES};
+use std::alloc::{AllocError, Global};
+use std::test::Fail;
+use swan_model::NoMemory;
 
 /// The number of the read that fails; then the words, the output, the report and the code. Reads count from 1,
 /// so the rows show too that no read is made twice, and none that isn't needed.
@@ -31,15 +37,9 @@ const FAILING_READS: &str = "\
 fn a_failing_read_is_named_and_none_is_made_again(rt: HostRuntime) -> Result<(), Fail> {
     for row in FAILING_READS.lines() {
         let (number, row) = row.split_once(' ').ok_or("no number")?;
-        let files = files_of(rt.alloc(), "b x y", &[LEAVES, "1", "2"])?;
-        hold_row(
-            &rt,
-            rt.alloc(),
-            files,
-            "",
-            number_of(Some(number))? as u64,
-            row,
-        )?;
+        let mut over = Over::files(files_of(rt.alloc(), "b x y", &[LEAVES, "1", "2"])?);
+        over.read_fails = u64::from(number_of(Some(number))?);
+        hold_row(&rt, rt.alloc(), over, "", row)?;
     }
     Ok(())
 }
@@ -52,22 +52,15 @@ fn written(
     words: &str,
     out_fails: u64,
     report_fails: u64,
-) -> Result<Ended, AllocError> {
-    let words = words_of(alloc, words)?;
-    let files = files_of(alloc, "a", &[HELLO])?;
-    let mut files = MemoryFiles::new(files, Vec::new(alloc));
-    let mut out = sink(alloc, 2, out_fails)?;
-    let mut report = sink(alloc, 2, report_fails)?;
-    let status = swan(
-        rt,
-        alloc,
-        words.as_slice(),
-        &mut files,
-        &mut out,
-        &mut report,
-        &OpenGate,
-    );
-    end_of(alloc, &out, &report, status)
+) -> Result<Ended, NoMemory> {
+    let over = Over {
+        files: files_of(alloc, "a", &[HELLO])?,
+        read_fails: 0,
+        put_most: 2,
+        out_fails,
+        report_fails,
+    };
+    called(rt, alloc, words, over)
 }
 
 // The puts also count from 1: so the rows show that no put is made again after it failed, and none that
@@ -122,24 +115,32 @@ const FRONTS: &str = "\
 54 55 5 Unbalanced
 56 57 6 BadLine";
 
-// A number of a row.
-fn number_of(text: Option<&str>) -> Result<usize, Fail> {
-    let number = text.ok_or("no number")?;
-    Ok(number.parse::<usize>().ok().ok_or("no number")?)
+// Asserts what a check of a job says.
+fn hold_check(
+    rt: &impl Machine,
+    alloc: Global,
+    job: &str,
+    out: &str,
+    report: &str,
+    code: &str,
+) -> Result<(), Fail> {
+    let over = Over::files(files_of(alloc, "a", &[job])?);
+    let got = called(rt, alloc, "check a", over)?;
+    assert_ended(rt, &got, job, out, report, code);
+    Ok(())
 }
 
 // Asserts a row of the fronts.
 fn hold_front(rt: &impl Machine, alloc: Global, row: &str) -> Result<(), Fail> {
     let mut parts = row.split_whitespace();
-    let from = number_of(parts.next())?;
-    let to = number_of(parts.next())?;
+    let from = number_of(parts.next())? as usize;
+    let to = number_of(parts.next())? as usize;
     let line = parts.next().ok_or("no line")?;
     let kind = parts.next().ok_or("no kind")?;
     let report = format!(in alloc; "refused {line} {kind}\n")?;
     for len in from..=to {
         let front = HELLO.get(..len).ok_or("too long")?;
-        let got = called(rt, alloc, files_of(alloc, "a", &[front])?, "check a", 0)?;
-        assert_ended(rt, &got, row, "", report.as_str(), "3");
+        hold_check(rt, alloc, front, "", report.as_str(), "3")?;
     }
     Ok(())
 }
@@ -148,14 +149,7 @@ fn hold_front(rt: &impl Machine, alloc: Global, row: &str) -> Result<(), Fail> {
 fn a_whole_job_is_printed_with_and_without_its_last_line_feed(rt: HostRuntime) -> Result<(), Fail> {
     for len in [58, 59] {
         let front = HELLO.get(..len).ok_or("too long")?;
-        let got = called(
-            &rt,
-            rt.alloc(),
-            files_of(rt.alloc(), "a", &[front])?,
-            "check a",
-            0,
-        )?;
-        assert_ended(&rt, &got, front, HELLO, "checked\n", "0");
+        hold_check(&rt, rt.alloc(), front, HELLO, "checked\n", "0")?;
     }
     Ok(())
 }
@@ -191,25 +185,18 @@ fn with_input(
     alloc: Global,
     words: &str,
     text: String,
-) -> Result<Ended, AllocError> {
+) -> Result<Ended, NoMemory> {
     let mut files = files_of(alloc, "b", &[LEAVES])?;
-    let name = word(alloc, "x")?;
-    let content = Blob::new(text.into_bytes());
-    files.push(FileBlob { name, content })?;
-    called(rt, alloc, files, words, 0)
+    files.push(file_of(alloc, "x", text.into_bytes())?)?;
+    called(rt, alloc, words, Over::files(files))
 }
 
 // Asserts a row of the inputs.
-pub(super) fn hold_input(
-    rt: &impl Machine,
-    alloc: Global,
-    words: &str,
-    row: &str,
-) -> Result<(), Fail> {
+pub fn hold_input(rt: &impl Machine, alloc: Global, words: &str, row: &str) -> Result<(), Fail> {
     let mut parts = row.split('|');
     let first = parts.next().ok_or("no first bytes")?;
     let part = parts.next().ok_or("no part")?;
-    let times = number_of(parts.next())?;
+    let times = number_of(parts.next())? as usize;
     let last = with_line_feeds(alloc, parts.next().ok_or("no last bytes")?)?;
     let report = with_line_feeds(alloc, parts.next().ok_or("no report")?)?;
     let code = parts.next().ok_or("no code")?;
@@ -354,7 +341,8 @@ fn text_of(alloc: Global, pieces: &str) -> Result<String, Fail> {
     let mut text = String::new(alloc);
     for piece in pieces.split('^') {
         let (part, times) = piece.split_once('*').unwrap_or((piece, "1"));
-        let copies = with_line_feeds(alloc, part)?.repeat(alloc, number_of(Some(times))?)?;
+        let times = number_of(Some(times))? as usize;
+        let copies = with_line_feeds(alloc, part)?.repeat(alloc, times)?;
         text.push_str(copies.as_str())?;
     }
     Ok(text)
@@ -367,7 +355,7 @@ fn jobs_are_read_up_to_their_limits(rt: HostRuntime) -> Result<(), Fail> {
         let text = text_of(rt.alloc(), pieces)?;
         let row = format!(in rt.alloc(); "100 j|{row}")?;
         let files = files_of(rt.alloc(), "j", &[text.as_str()])?;
-        hold_row(&rt, rt.alloc(), files, "run 1", 0, row.as_str())?;
+        hold_row(&rt, rt.alloc(), Over::files(files), "run 1", row.as_str())?;
     }
     Ok(())
 }

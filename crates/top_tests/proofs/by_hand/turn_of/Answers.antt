@@ -1,7 +1,7 @@
 use Rattle.std.proofs.Common.{rules}
 use Rattle.task_frames.specs.Resumes.{ends_of}
 use Rattle.swan_runtime.proofs.Crews.{one_turned, this_has_met, worker_at}
-use Rattle.swan_top.proofs.tests.by_hand.turn_of.Goals as goal
+use Rattle.top_tests.proofs.by_hand.turn_of.Goals as goal
 
 pub turn-requires-clause-worker : goal.turn-requires-clause-worker
 turn-requires-clause-worker g c κs within = worker_at (ends_of g.Q.Ends.LocalEnds) c.args.workers.now.items 0 c.index_mut.result.now (search rules) c.index_mut.ensures.value c.requires.workers

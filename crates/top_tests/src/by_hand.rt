@@ -4,11 +4,13 @@ ghost use Rattle.task_frames.specs.Resumes.{ends_of};
 ghost use Rattle.swan_runtime.specs.Turned.{is_last};
 ghost use Rattle.swan_runtime.specs.Workers.{AreWorkers, OneHasMet};
 
-use super::scripts::plan_of_files;
-use super::shapes::shown;
-use super::*;
+use crate::scripts::plan_of_files;
+use crate::shapes::shown;
 use queue_book::Queues;
+use std::alloc::Global;
+use std::test::Fail;
 use swan_model::{Body, Outcome};
+use swan_outside::OpenGate;
 use swan_runtime::{Shape, Turn, Worker, close, open};
 
 /// How many turns are taken.

@@ -1,6 +1,7 @@
 // What `index` and `convert` write.
-use super::limits::hold_input;
-use super::*;
+use crate::helpers::{Over, files_of, hold, hold_row};
+use crate::limits::hold_input;
+use std::test::Fail;
 
 /// The names of the files, in order.
 const NAMES: &str = "cats tabs empty words wide";
@@ -34,7 +35,7 @@ fn an_index_and_a_conversion_write_what_they_are(rt: HostRuntime) -> Result<(), 
             let (command, row) = row.split_once(' ').ok_or("no command")?;
             let command = format!(in rt.alloc(); "{command} {workers}")?;
             let files = files_of(rt.alloc(), NAMES, &TEXTS)?;
-            hold_row(&rt, rt.alloc(), files, command.as_str(), 0, row)?;
+            hold_row(&rt, rt.alloc(), Over::files(files), command.as_str(), row)?;
         }
     }
     Ok(())

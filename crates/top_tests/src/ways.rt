@@ -1,6 +1,10 @@
 // By which way commands run.
-use super::jobs::{NAMES, TEXTS};
-use super::*;
+use crate::helpers::{Machine, Over, called, files_of};
+use crate::jobs::{NAMES, TEXTS};
+use std::alloc::Global;
+use std::test::Fail;
+use swan_model::NoMemory;
+use swan_top::{How, Status};
 
 /// Command lines, and by which way they run.
 const WAYS: &str = "\
@@ -34,21 +38,10 @@ fn way_of(status: &Status) -> &'static str {
 }
 
 // By which way a call with these words runs.
-fn way_of_words(rt: &impl Machine, alloc: Global, words: &str) -> Result<&'static str, AllocError> {
-    let words = words_of(alloc, words)?;
-    let mut files = MemoryFiles::new(files_of(alloc, NAMES, &TEXTS)?, Vec::new(alloc));
-    let mut out = sink(alloc, 4_096, 0)?;
-    let mut report = sink(alloc, 4_096, 0)?;
-    let status = swan(
-        rt,
-        alloc,
-        words.as_slice(),
-        &mut files,
-        &mut out,
-        &mut report,
-        &OpenGate,
-    );
-    Ok(way_of(&status))
+fn way_of_words(rt: &impl Machine, alloc: Global, words: &str) -> Result<&'static str, NoMemory> {
+    let over = Over::files(files_of(alloc, NAMES, &TEXTS)?);
+    let got = called(rt, alloc, words, over)?;
+    Ok(way_of(&got.status))
 }
 
 #[test]

@@ -1,7 +1,11 @@
 // Calls over files and sinks that never fail.
-use super::jobs::{NAMES, TEXTS};
-use super::*;
-use swan_outside::{HonestFiles, HonestSink};
+use crate::helpers::{Ended, Machine, assert_ended, file_of, files_of, with_line_feeds, words_of};
+use crate::jobs::{NAMES, TEXTS};
+use std::alloc::{AllocError, Global};
+use std::test::Fail;
+use swan_model::NoMemory;
+use swan_outside::{HonestFiles, HonestSink, OpenGate};
+use swan_top::honest_call;
 
 /// The words; then the output, the report and the code. A name that isn't there is an empty file.
 const CALLS: &str = "\
@@ -31,17 +35,16 @@ fn called_honestly(
     alloc: Global,
     words: &str,
     room: usize,
-) -> Result<Ended, AllocError> {
+) -> Result<Ended, NoMemory> {
     let mut files = files_of(alloc, NAMES, &TEXTS)?;
     if words.contains("long") {
-        let name = word(alloc, "long")?;
-        let content = Blob::new(vec![in alloc; b'x'; 67_108_865]?);
-        files.push(FileBlob { name, content })?;
+        let content = vec![in alloc; b'x'; 67_108_865]?;
+        files.push(file_of(alloc, "long", content)?)?;
     }
     let words = words_of(alloc, words)?;
     let mut files = HonestFiles::new(files);
-    let mut out = HonestSink::new(alloc, room).map_err(|_| AllocError)?;
-    let mut report = HonestSink::new(alloc, room).map_err(|_| AllocError)?;
+    let mut out = HonestSink::new(alloc, room)?;
+    let mut report = HonestSink::new(alloc, room)?;
     let status = honest_call(
         rt,
         alloc,
@@ -54,7 +57,7 @@ fn called_honestly(
     Ok(Ended {
         out: told(alloc, &out)?,
         report: told(alloc, &report)?,
-        code: status.code(),
+        status,
     })
 }
 

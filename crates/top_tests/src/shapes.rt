@@ -1,7 +1,10 @@
 // Runs of a plan by workers and rings of several numbers.
-use super::scripts::{plan_of_files, show_values};
-use super::*;
+use crate::helpers::{Machine, number_of, with_line_feeds};
+use crate::scripts::{plan_of_files, show_values};
+use std::alloc::Global;
+use std::test::Fail;
 use swan_model::Outcome;
+use swan_outside::OpenGate;
 use swan_runtime::{Shape, run};
 
 /// Workers, rings, fuel and job; then what each root queue has, what the objects have, and how many faults there are.
@@ -13,12 +16,6 @@ const SHAPES: &str = "\
 2 1 22 f|queue 'before' 'after'~objects~faults 1~
 3 2 15 g|queue 1 5~objects~faults 0~
 64 4096 20 i|queue 4 9~objects 9~faults 0~";
-
-// A number of a row.
-fn number_of(word: Option<&str>) -> Result<u16, Fail> {
-    let number = word.ok_or("no number")?.parse::<u16>();
-    Ok(number.ok().ok_or("no number")?)
-}
 
 // What an outcome has.
 pub fn shown(alloc: Global, outcome: &Outcome) -> Result<String, Fail> {
@@ -36,8 +33,8 @@ pub fn shown(alloc: Global, outcome: &Outcome) -> Result<String, Fail> {
 fn hold_shape(rt: &impl Machine, alloc: Global, row: &str) -> Result<(), Fail> {
     let (words, wanted) = row.split_once('|').ok_or("no outcome")?;
     let mut words = words.split_whitespace();
-    let workers = u32::from(number_of(words.next())?);
-    let ring = u32::from(number_of(words.next())?);
+    let workers = number_of(words.next())?;
+    let ring = number_of(words.next())?;
     let shape = Shape::new(workers, ring).ok_or("no shape")?;
     let fuel = number_of(words.next())?;
     let job = words.next().ok_or("no job")?;

@@ -1,7 +1,8 @@
 // Two workers go on with two tasks at the same time.
-use super::jobs::{NAMES, TEXTS};
-use super::*;
+use crate::helpers::{Over, assert_ended, called_at, files_of};
+use crate::jobs::{NAMES, TEXTS};
 use std::sync::atomic::{AtomicBool, Ordering};
+use std::test::Fail;
 use swan_model::Path;
 use swan_outside::Gate;
 
@@ -35,32 +36,19 @@ impl Gate for Together {
 
 #[test]
 fn two_frames_at_once(rt: HostRuntime) -> Result<(), Fail> {
-    let words = words_of(rt.alloc(), "run 2 2003 c")?;
-    let files = files_of(rt.alloc(), NAMES, &TEXTS)?;
-    let mut files = MemoryFiles::new(files, Vec::new(rt.alloc()));
-    let mut out = sink(rt.alloc(), 4_096, 0)?;
-    let mut report = sink(rt.alloc(), 4_096, 0)?;
     let gate = Together {
         first: AtomicBool::new(false),
         second: AtomicBool::new(false),
         failed: AtomicBool::new(false),
     };
-    let status = swan(
-        &rt,
-        rt.alloc(),
-        words.as_slice(),
-        &mut files,
-        &mut out,
-        &mut report,
-        &gate,
-    );
+    let over = Over::files(files_of(rt.alloc(), NAMES, &TEXTS)?);
+    let got = called_at(&rt, rt.alloc(), "run 2 2003 c", over, &gate)?;
     assert!(rt; gate.first.load(Ordering::SeqCst), "the first child came");
     assert!(rt; gate.second.load(Ordering::SeqCst), "the second child came");
     assert!(rt;
         !gate.failed.load(Ordering::SeqCst),
         "neither waited in vain"
     );
-    let got = end_of(rt.alloc(), &out, &report, status)?;
     assert_ended(
         &rt,
         &got,

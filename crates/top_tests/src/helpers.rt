@@ -1,0 +1,196 @@
+// What the tests share: calls of `swan` over files and sinks in memory, and rows that say how they end.
+use std::alloc::{AllocError, Global};
+use std::marker::Sync;
+use std::process::Abort;
+use std::sync::Wait;
+use std::test::Fail;
+use std::thread::Threads;
+use std::time::Clock;
+use swan_model::{Blob, NoMemory, Word, Words};
+use swan_outside::{FileBlob, Gate, MemoryFiles, MemorySink, OpenGate};
+use swan_top::{Status, swan};
+
+/// What a call of a test is made with.
+pub trait Machine: Abort + Threads + Wait + Clock + Sync {}
+
+impl<T: Abort + Threads + Wait + Clock + Sync> Machine for T {}
+
+/// How a call ended, and what it wrote.
+#[derive(Drop)]
+pub struct Ended {
+    /// The output.
+    pub out: String,
+    /// The report.
+    pub report: String,
+    /// How it ended.
+    pub status: Status,
+}
+
+/// What a call is made over. Reads and puts count from 1, so none has the number 0.
+#[derive(Drop)]
+pub struct Over {
+    /// Its files.
+    pub files: Vec<FileBlob>,
+    /// The number of the read that fails.
+    pub read_fails: u64,
+    /// How many bytes a put takes at most.
+    pub put_most: usize,
+    /// The number of the put to the output that fails.
+    pub out_fails: u64,
+    /// The number of the put to the report that fails.
+    pub report_fails: u64,
+}
+
+impl Over {
+    /// These files, where nothing fails.
+    pub fn files(files: Vec<FileBlob>) -> Over {
+        Over {
+            files,
+            read_fails: 0,
+            put_most: 4_096,
+            out_fails: 0,
+            report_fails: 0,
+        }
+    }
+}
+
+/// The words between the spaces of a text. A word `-` stands for the empty one.
+pub fn words_of(alloc: Global, text: &str) -> Result<Words, NoMemory> {
+    let mut words = Words::new(alloc);
+    for part in text.split_whitespace() {
+        let part = if part == "-" { "" } else { part };
+        words.push(Word::of(alloc, part)?).map_err(|_| NoMemory)?;
+    }
+    Ok(words)
+}
+
+/// A file of this name, with this content.
+pub fn file_of(alloc: Global, name: &str, content: Vec<u8>) -> Result<FileBlob, NoMemory> {
+    Ok(FileBlob {
+        name: Word::of(alloc, name)?,
+        content: Blob::new(content),
+    })
+}
+
+/// Files of these names, which stand between spaces, with these contents.
+pub fn files_of(alloc: Global, names: &str, texts: &[&str]) -> Result<Vec<FileBlob>, NoMemory> {
+    let mut files = Vec::new(alloc);
+    for (name, text) in names.split_whitespace().zip(texts) {
+        files.push(file_of(alloc, name, text.as_bytes().to_vec(alloc)?)?)?;
+    }
+    Ok(files)
+}
+
+/// A sink of which a put takes so many bytes at most, and the put of this number fails.
+fn sink(alloc: Global, most: usize, failing: u64) -> Result<MemorySink, NoMemory> {
+    let fail = vec![in alloc; failing]?;
+    MemorySink::new(alloc, most.max(1), 131_072, fail)
+}
+
+/// How a call ended, by its status and its sinks.
+fn end_of(
+    alloc: Global,
+    out: &MemorySink,
+    report: &MemorySink,
+    status: Status,
+) -> Result<Ended, NoMemory> {
+    Ok(Ended {
+        out: String::from_utf8_lossy(alloc, out.written())?,
+        report: String::from_utf8_lossy(alloc, report.written())?,
+        status,
+    })
+}
+
+/// A call with these words over all this, whose workers ask this gate.
+pub fn called_at<G: Gate>(
+    rt: &impl Machine,
+    alloc: Global,
+    words: &str,
+    over: Over,
+    gate: &G,
+) -> Result<Ended, NoMemory> {
+    let words = words_of(alloc, words)?;
+    let mut files = MemoryFiles::new(over.files, vec![in alloc; over.read_fails]?);
+    let mut out = sink(alloc, over.put_most, over.out_fails)?;
+    let mut report = sink(alloc, over.put_most, over.report_fails)?;
+    let status = swan(
+        rt,
+        alloc,
+        words.as_slice(),
+        &mut files,
+        &mut out,
+        &mut report,
+        gate,
+    );
+    end_of(alloc, &out, &report, status)
+}
+
+/// A call with these words over all this.
+pub fn called(
+    rt: &impl Machine,
+    alloc: Global,
+    words: &str,
+    over: Over,
+) -> Result<Ended, NoMemory> {
+    called_at(rt, alloc, words, over, &OpenGate)
+}
+
+/// A number of a row.
+pub fn number_of(text: Option<&str>) -> Result<u32, Fail> {
+    let number = text.ok_or("no number")?.parse::<u32>();
+    Ok(number.ok().ok_or("no number")?)
+}
+
+/// A text with line feeds in the place of each ~.
+pub fn with_line_feeds(alloc: Global, text: &str) -> Result<String, AllocError> {
+    text.chars()
+        .map(|c| if c == '~' { '\n' } else { c })
+        .collect(alloc)
+}
+
+/// Asserts that a call ended so.
+pub fn assert_ended(rt: &impl Abort, got: &Ended, row: &str, out: &str, report: &str, code: &str) {
+    assert_eq!(rt; got.out.as_str(), out, "the output of {row}");
+    assert_eq!(rt; got.report.as_str(), report, "the report of {row}");
+    assert_eq!(rt;
+        Ok(got.status.code()),
+        code.parse::<u8>(),
+        "the code of {row}"
+    );
+}
+
+/// Asserts a row over all this: the words, the output, the report and the code, with | between them and ~ for each line
+/// feed. The command stands before the words.
+pub fn hold_row(
+    rt: &impl Machine,
+    alloc: Global,
+    over: Over,
+    command: &str,
+    row: &str,
+) -> Result<(), Fail> {
+    let mut parts = row.split('|');
+    let words = parts.next().ok_or("no words")?;
+    let out = with_line_feeds(alloc, parts.next().ok_or("no output")?)?;
+    let report = with_line_feeds(alloc, parts.next().ok_or("no report")?)?;
+    let code = parts.next().ok_or("no code")?;
+    let words = format!(in alloc; "{command} {words}")?;
+    let got = called(rt, alloc, words.as_str(), over)?;
+    assert_ended(rt, &got, row, out.as_str(), report.as_str(), code);
+    Ok(())
+}
+
+/// Asserts each row of a table over these files.
+pub fn hold(
+    rt: &impl Machine,
+    alloc: Global,
+    names: &str,
+    texts: &[&str],
+    command: &str,
+    table: &str,
+) -> Result<(), Fail> {
+    for row in table.lines() {
+        let files = files_of(alloc, names, texts)?;
+        hold_row(rt, alloc, Over::files(files), command, row)?;
+    }
+    Ok(())
+}
