@@ -244,13 +244,18 @@ fn a_full_input_is_read_and_one_byte_more_is_too_long(rt: HostRuntime) -> Result
     Ok(())
 }
 
+// What the index of a text has of a word on the line after so many.
+fn full_pair(alloc: Global, word: &str, number: usize) -> Result<String, AllocError> {
+    let line = number as u64 + 1;
+    format!(in alloc; "{word} {line}\n")
+}
+
 // The index of a full text: the first 64 bytes of its one word on each line.
 fn full_index(alloc: Global) -> Result<String, AllocError> {
     let word = "x".repeat(alloc, 64)?;
     let mut index = String::new(alloc);
     for number in 0..FULL_LINES {
-        let line = number as u64 + 1;
-        index.push_str(format!(in alloc; "{word} {line}\n")?.as_str())?;
+        index.push_str(full_pair(alloc, word.as_str(), number)?.as_str())?;
     }
     Ok(index)
 }
@@ -268,14 +273,26 @@ fn a_full_text_is_indexed_and_one_byte_more_is_too_long(rt: HostRuntime) -> Resu
     )
 }
 
+// The task that has the line after so many, as the report says it.
+fn task_of_line(alloc: Global, number: usize) -> Result<String, AllocError> {
+    let block = number / 64;
+    let place = number % 64;
+    format!(in alloc; "/{block}/{place}")
+}
+
+// The fault of the line after so many.
+fn full_fault(alloc: Global, number: usize) -> Result<String, AllocError> {
+    let task = task_of_line(alloc, number)?;
+    let line = number as u64 + 1;
+    let place = format!(in alloc; "{task} {line}")?;
+    format!(in alloc; "fault {place} TooLong\n")
+}
+
 // The report of the conversion of a full text: the netstring of each line is too long.
 fn full_faults(alloc: Global) -> Result<String, AllocError> {
     let mut report = String::from_str(alloc, "left input 0\nfaults 1024\n")?;
     for number in 0..FULL_LINES {
-        let block = number / 64;
-        let place = number % 64;
-        let line = number as u64 + 1;
-        report.push_str(format!(in alloc; "fault /{block}/{place} {line} TooLong\n")?.as_str())?;
+        report.push_str(full_fault(alloc, number)?.as_str())?;
     }
     Ok(report)
 }

@@ -8,7 +8,10 @@ use serial_elision::script_of;
 use std::alloc::Global;
 use std::process::Abort;
 use std::test::Fail;
-use swan_model::{Blob, Deed, Entry, Origin, OriginGive, Path, Plan, Script, Value};
+use swan_model::{
+    Blob, Deed, Entry, NoMemory, Origin, OriginGive, Path, Plan, Record, Script, Value, ValueLists,
+    Values,
+};
 
 /// A job that counts to 2 in one child and to 0 in the other, and pushes two numbers in each.
 const SHORT: &str =
@@ -176,130 +179,193 @@ fn plan_of_run(alloc: Global, run: &str) -> Result<Plan<JobBody>, Fail> {
     plan_of_files(alloc, fuel, job, inputs)
 }
 
-// Adds a value; bytes stand in quotes.
-fn show_value(text: &mut String, alloc: Global, value: &Value) -> Result<(), Fail> {
-    match value {
-        Value::Int(number) => text.push_str(format!(in alloc; " {number}")?.as_str())?,
-        Value::Bytes(record) => {
-            let bytes = String::from_utf8_lossy(alloc, record.as_slice())?;
-            text.push_str(format!(in alloc; " '{bytes}'")?.as_str())?;
-        }
-    }
-    Ok(())
+// A number after a space.
+fn words_of_number(alloc: Global, number: i64) -> Result<String, NoMemory> {
+    Ok(format!(in alloc; " {number}")?)
 }
 
-// Adds a line of a word and values.
-pub fn show_values(
-    text: &mut String,
+// Bytes in quotes after a space.
+fn words_of_bytes(alloc: Global, record: &Record) -> Result<String, NoMemory> {
+    let bytes = String::from_utf8_lossy(alloc, record.as_slice())?;
+    Ok(format!(in alloc; " '{bytes}'")?)
+}
+
+// A value after a space.
+fn words_of_value(alloc: Global, value: &Value) -> Result<String, NoMemory> {
+    match value {
+        Value::Int(number) => words_of_number(alloc, *number),
+        Value::Bytes(record) => words_of_bytes(alloc, record),
+    }
+}
+
+// Values, each after a space.
+fn words_of_values(alloc: Global, values: &[Value]) -> Result<String, NoMemory> {
+    let mut words = String::new(alloc);
+    for value in values {
+        words.push_str(words_of_value(alloc, value)?.as_str())?;
+    }
+    Ok(words)
+}
+
+// A line of a word and what stands after it.
+fn line_of(alloc: Global, word: &str, others: &str) -> Result<String, NoMemory> {
+    Ok(format!(in alloc; "{word}{others}\n")?)
+}
+
+// A line of a word and values.
+pub fn line_of_values(alloc: Global, word: &str, values: &[Value]) -> Result<String, NoMemory> {
+    let values = words_of_values(alloc, values)?;
+    line_of(alloc, word, values.as_str())
+}
+
+// A line of values for each queue.
+pub fn lines_of_queues(alloc: Global, queues: &ValueLists) -> Result<String, NoMemory> {
+    let mut lines = String::new(alloc);
+    for items in queues.as_slice() {
+        lines.push_str(line_of_values(alloc, "queue", items.as_slice())?.as_str())?;
+    }
+    Ok(lines)
+}
+
+// A line for each object.
+fn lines_of_objects(alloc: Global, objects: &Values) -> Result<String, NoMemory> {
+    let mut lines = String::new(alloc);
+    for value in objects.as_slice() {
+        let value = words_of_value(alloc, value)?;
+        lines.push_str(line_of(alloc, "object", value.as_str())?.as_str())?;
+    }
+    Ok(lines)
+}
+
+// A root's number after a space.
+fn words_of_root(alloc: Global, index: u32) -> Result<String, NoMemory> {
+    Ok(format!(in alloc; " root {index}")?)
+}
+
+// A step's number after a space.
+fn words_of_step(alloc: Global, number: u64) -> Result<String, NoMemory> {
+    Ok(format!(in alloc; " step {number}")?)
+}
+
+// An origin after a space.
+fn words_of_origin(alloc: Global, origin: Origin) -> Result<String, NoMemory> {
+    match origin {
+        Origin::Root(index) => words_of_root(alloc, index),
+        Origin::Step(number) => words_of_step(alloc, number),
+    }
+}
+
+// One word after another.
+fn joined(alloc: Global, first: &str, second: &str) -> Result<String, NoMemory> {
+    Ok(format!(in alloc; "{first}{second}")?)
+}
+
+// A word and an origin.
+fn words_at(alloc: Global, word: &str, origin: Origin) -> Result<String, NoMemory> {
+    let origin = words_of_origin(alloc, origin)?;
+    joined(alloc, word, origin.as_str())
+}
+
+// A word and a value.
+fn words_with(alloc: Global, word: &str, value: &Value) -> Result<String, NoMemory> {
+    let value = words_of_value(alloc, value)?;
+    joined(alloc, word, value.as_str())
+}
+
+// A word, an origin and a value.
+fn words_at_with(
     alloc: Global,
     word: &str,
-    values: &[Value],
-) -> Result<(), Fail> {
-    text.push_str(word)?;
-    for value in values {
-        show_value(text, alloc, value)?;
-    }
-    text.push_str("\n")?;
-    Ok(())
+    origin: Origin,
+    value: &Value,
+) -> Result<String, NoMemory> {
+    let word = words_at(alloc, word, origin)?;
+    words_with(alloc, word.as_str(), value)
 }
 
-// Adds a word and an origin.
-fn show_at(text: &mut String, alloc: Global, word: &str, origin: Origin) -> Result<(), Fail> {
-    let shown = match origin {
-        Origin::Root(index) => format!(in alloc; "{word} root {index}")?,
-        Origin::Step(number) => format!(in alloc; "{word} step {number}")?,
-    };
-    text.push_str(shown.as_str())?;
-    Ok(())
+// An origin and a mode.
+fn words_of_give(alloc: Global, give: &OriginGive) -> Result<String, NoMemory> {
+    let origin = words_of_origin(alloc, give.origin)?;
+    let mode = give.mode;
+    Ok(format!(in alloc; "{origin} {mode:?}")?)
 }
 
-// Adds what a child is given.
-fn show_gives(text: &mut String, alloc: Global, gives: &[OriginGive]) -> Result<(), Fail> {
+// What a child is given.
+fn words_of_gives(alloc: Global, gives: &[OriginGive]) -> Result<String, NoMemory> {
+    let mut words = String::new(alloc);
     for give in gives {
-        show_at(text, alloc, "", give.origin)?;
-        text.push_str(format!(in alloc; " {:?}", give.mode)?.as_str())?;
+        words.push_str(words_of_give(alloc, give)?.as_str())?;
     }
-    Ok(())
+    Ok(words)
 }
 
-// Adds a deed.
-fn show_deed(text: &mut String, alloc: Global, deed: &Deed) -> Result<(), Fail> {
+// A spawn, with what the child is given.
+fn words_of_spawn(alloc: Global, gives: &[OriginGive]) -> Result<String, NoMemory> {
+    let gives = words_of_gives(alloc, gives)?;
+    joined(alloc, " spawn", gives.as_str())
+}
+
+// A deed that is its word.
+fn lone(alloc: Global, word: &str) -> Result<String, NoMemory> {
+    Ok(String::from_str(alloc, word)?)
+}
+
+// A deed after a space.
+fn words_of_deed(alloc: Global, deed: &Deed) -> Result<String, NoMemory> {
     match deed {
-        Deed::MakeQueue => text.push_str(" queue")?,
-        Deed::Sync => text.push_str(" sync")?,
-        Deed::Quiet => text.push_str(" quiet")?,
-        Deed::Pop(origin) => show_at(text, alloc, " pop", *origin)?,
-        Deed::Test(origin) => show_at(text, alloc, " test", *origin)?,
-        Deed::Read(origin) => show_at(text, alloc, " read", *origin)?,
-        deed => show_more(text, alloc, deed)?,
+        Deed::MakeQueue => lone(alloc, " queue"),
+        Deed::MakeObject(value) => words_with(alloc, " object", value),
+        Deed::Spawn(gives) => words_of_spawn(alloc, gives.as_slice()),
+        Deed::Push(origin, value) => words_at_with(alloc, " push", *origin, value),
+        Deed::Pop(origin) => words_at(alloc, " pop", *origin),
+        Deed::Test(origin) => words_at(alloc, " test", *origin),
+        Deed::Read(origin) => words_at(alloc, " read", *origin),
+        Deed::Write(origin, value) => words_at_with(alloc, " write", *origin, value),
+        Deed::Sync => lone(alloc, " sync"),
+        Deed::Quiet => lone(alloc, " quiet"),
     }
-    Ok(())
 }
 
-// Adds a deed that has a value, or gives.
-fn show_more(text: &mut String, alloc: Global, deed: &Deed) -> Result<(), Fail> {
-    match deed {
-        Deed::MakeObject(value) => {
-            text.push_str(" object")?;
-            show_value(text, alloc, value)?;
-        }
-        Deed::Push(origin, value) => {
-            show_at(text, alloc, " push", *origin)?;
-            show_value(text, alloc, value)?;
-        }
-        Deed::Write(origin, value) => {
-            show_at(text, alloc, " write", *origin)?;
-            show_value(text, alloc, value)?;
-        }
-        Deed::Spawn(gives) => {
-            text.push_str(" spawn")?;
-            show_gives(text, alloc, gives.as_slice())?;
-        }
-        _ => {}
-    }
-    Ok(())
+// A part of a path, as reports show it.
+fn words_of_part(alloc: Global, part: u32) -> Result<String, NoMemory> {
+    Ok(format!(in alloc; "/{part}")?)
 }
 
-// Adds a path, as reports show it.
-fn show_path(text: &mut String, alloc: Global, path: &Path) -> Result<(), Fail> {
+// A path, as reports show it.
+fn words_of_path(alloc: Global, path: &Path) -> Result<String, NoMemory> {
     if path.parts().is_empty() {
-        text.push_str("/")?;
+        return lone(alloc, "/");
     }
+    let mut words = String::new(alloc);
     for part in path.parts() {
-        text.push_str(format!(in alloc; "/{part}")?.as_str())?;
+        words.push_str(words_of_part(alloc, *part)?.as_str())?;
     }
-    Ok(())
+    Ok(words)
 }
 
-// Adds the line of an entry.
-fn show_entry(text: &mut String, alloc: Global, entry: &Entry) -> Result<(), Fail> {
-    show_path(text, alloc, &entry.path)?;
-    show_deed(text, alloc, &entry.deed)?;
-    text.push_str(if entry.ends { " end\n" } else { "\n" })?;
-    Ok(())
+// The path, the deed, and whether the task ends by it.
+fn line_of_entry(alloc: Global, entry: &Entry) -> Result<String, NoMemory> {
+    let path = words_of_path(alloc, &entry.path)?;
+    let deed = words_of_deed(alloc, &entry.deed)?;
+    let deed = joined(alloc, deed.as_str(), if entry.ends { " end" } else { "" })?;
+    line_of(alloc, path.as_str(), deed.as_str())
 }
 
-// Adds a line for each queue and each object.
-fn show_firsts(text: &mut String, alloc: Global, script: &Script) -> Result<(), Fail> {
-    for items in script.queues.as_slice() {
-        show_values(text, alloc, "queue", items.as_slice())?;
+// A line for each entry.
+fn lines_of_entries(alloc: Global, entries: &[Entry]) -> Result<String, NoMemory> {
+    let mut lines = String::new(alloc);
+    for entry in entries {
+        lines.push_str(line_of_entry(alloc, entry)?.as_str())?;
     }
-    for value in script.objects.as_slice() {
-        text.push_str("object")?;
-        show_value(text, alloc, value)?;
-        text.push_str("\n")?;
-    }
-    Ok(())
+    Ok(lines)
 }
 
 // All that a script says, one line for each queue, each object and each entry.
-fn shown(alloc: Global, script: &Script) -> Result<String, Fail> {
-    let mut text = String::new(alloc);
-    show_firsts(&mut text, alloc, script)?;
-    for entry in script.entries.as_slice() {
-        show_entry(&mut text, alloc, entry)?;
-    }
-    Ok(text)
+fn shown(alloc: Global, script: &Script) -> Result<String, NoMemory> {
+    let queues = lines_of_queues(alloc, &script.queues)?;
+    let objects = lines_of_objects(alloc, &script.objects)?;
+    let entries = lines_of_entries(alloc, script.entries.as_slice())?;
+    Ok(format!(in alloc; "{queues}{objects}{entries}")?)
 }
 
 // Asserts the script that stands below its run.

@@ -1,9 +1,9 @@
 // Runs of a plan by workers and rings of several numbers.
 use crate::helpers::{Machine, number_of, with_line_feeds};
-use crate::scripts::{plan_of_files, show_values};
+use crate::scripts::{line_of_values, lines_of_queues, plan_of_files};
 use std::alloc::Global;
 use std::test::Fail;
-use swan_model::Outcome;
+use swan_model::{NoMemory, Outcome};
 use swan_outside::OpenGate;
 use swan_runtime::{Shape, run};
 
@@ -17,16 +17,18 @@ const SHAPES: &str = "\
 3 2 15 g|queue 1 5~objects~faults 0~
 64 4096 20 i|queue 4 9~objects 9~faults 0~";
 
-// What an outcome has.
-pub fn shown(alloc: Global, outcome: &Outcome) -> Result<String, Fail> {
-    let mut text = String::new(alloc);
-    for items in outcome.queues.as_slice() {
-        show_values(&mut text, alloc, "queue", items.as_slice())?;
-    }
-    show_values(&mut text, alloc, "objects", outcome.objects.as_slice())?;
+// How many faults an outcome has, in a line.
+fn line_of_faults(alloc: Global, outcome: &Outcome) -> Result<String, NoMemory> {
     let faults = outcome.faults.len();
-    text.push_str(format!(in alloc; "faults {faults}\n")?.as_str())?;
-    Ok(text)
+    Ok(format!(in alloc; "faults {faults}\n")?)
+}
+
+// What an outcome has.
+pub fn shown(alloc: Global, outcome: &Outcome) -> Result<String, NoMemory> {
+    let queues = lines_of_queues(alloc, &outcome.queues)?;
+    let objects = line_of_values(alloc, "objects", outcome.objects.as_slice())?;
+    let faults = line_of_faults(alloc, outcome)?;
+    Ok(format!(in alloc; "{queues}{objects}{faults}")?)
 }
 
 // Asserts a row of the shapes.
