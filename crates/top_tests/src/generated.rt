@@ -1,5 +1,5 @@
 // Runs of the generated job.
-use crate::helpers::{Over, assert_ended, called, file_of, hold, hold_row};
+use crate::helpers::{Ended, Machine, Over, assert_ended, called, file_of, hold, hold_row};
 use bulk_workload::{BULK_MOST, bulk_input, bulk_job};
 use std::alloc::Global;
 use std::test::Fail;
@@ -68,12 +68,22 @@ fn a_generated_run_takes_so_many_units(rt: HostRuntime) -> Result<(), Fail> {
     Ok(())
 }
 
+// The text of the generated job for three lines.
+fn job_of_three(alloc: Global) -> Result<String, NoMemory> {
+    let job = bulk_job(alloc, 3)?;
+    Ok(String::from_utf8_lossy(alloc, job.as_slice())?)
+}
+
+// A check of that job.
+fn checked(rt: &impl Machine, alloc: Global) -> Result<Ended, NoMemory> {
+    let files = generated_files(alloc, 3)?;
+    called(rt, alloc, "check job", Over::files(files))
+}
+
 #[test]
 fn the_generated_job_is_in_the_canonical_form(rt: HostRuntime) -> Result<(), Fail> {
-    let job = bulk_job(rt.alloc(), 3)?;
-    let job = String::from_utf8_lossy(rt.alloc(), job.as_slice())?;
-    let files = generated_files(rt.alloc(), 3)?;
-    let got = called(&rt, rt.alloc(), "check job", Over::files(files))?;
+    let job = job_of_three(rt.alloc())?;
+    let got = checked(&rt, rt.alloc())?;
     assert_ended(&rt, &got, "check job", job.as_str(), "checked\n", "0");
     Ok(())
 }

@@ -148,15 +148,72 @@ pub fn with_line_feeds(alloc: Global, text: &str) -> Result<String, AllocError> 
         .collect(alloc)
 }
 
+/// Asserts that a text is this one.
+pub fn assert_text(rt: &impl Abort, got: &str, wanted: &str, of: &str, row: &str) {
+    assert_eq!(rt; got, wanted, "{of} of {row}");
+}
+
+/// Asserts that a code is this one.
+pub fn assert_code(rt: &impl Abort, got: u8, wanted: &str, row: &str) {
+    assert_eq!(rt; Ok(got), wanted.parse::<u8>(), "the code of {row}");
+}
+
 /// Asserts that a call ended so.
 pub fn assert_ended(rt: &impl Abort, got: &Ended, row: &str, out: &str, report: &str, code: &str) {
-    assert_eq!(rt; got.out.as_str(), out, "the output of {row}");
-    assert_eq!(rt; got.report.as_str(), report, "the report of {row}");
-    assert_eq!(rt;
-        Ok(got.status.code()),
-        code.parse::<u8>(),
-        "the code of {row}"
-    );
+    assert_text(rt, got.out.as_str(), out, "the output", row);
+    assert_text(rt, got.report.as_str(), report, "the report", row);
+    assert_code(rt, got.status.code(), code, row);
+}
+
+/// The two parts of a text before and after its first |.
+pub fn cut(text: &str) -> Result<(&str, &str), Fail> {
+    Ok(text.split_once('|').ok_or("no |")?)
+}
+
+/// A command and its words.
+fn words_after(alloc: Global, command: &str, words: &str) -> Result<String, AllocError> {
+    format!(in alloc; "{command} {words}")
+}
+
+/// Asserts that a text is this one, which has ~ for each line feed.
+fn assert_lines(
+    rt: &impl Abort,
+    alloc: Global,
+    got: &str,
+    wanted: &str,
+    of: &str,
+    row: &str,
+) -> Result<(), AllocError> {
+    let wanted = with_line_feeds(alloc, wanted)?;
+    assert_text(rt, got, wanted.as_str(), of, row);
+    Ok(())
+}
+
+/// Asserts the report and the code of a call, which have | between them and ~ for each line feed.
+pub fn assert_report(
+    rt: &impl Abort,
+    alloc: Global,
+    got: &Ended,
+    row: &str,
+    wanted: &str,
+) -> Result<(), Fail> {
+    let (report, code) = cut(wanted)?;
+    assert_lines(rt, alloc, got.report.as_str(), report, "the report", row)?;
+    assert_code(rt, got.status.code(), code, row);
+    Ok(())
+}
+
+/// Asserts the output, the report and the code of a call, which have | between them and ~ for each line feed.
+pub fn assert_row(
+    rt: &impl Abort,
+    alloc: Global,
+    got: &Ended,
+    row: &str,
+    wanted: &str,
+) -> Result<(), Fail> {
+    let (out, wanted) = cut(wanted)?;
+    assert_lines(rt, alloc, got.out.as_str(), out, "the output", row)?;
+    assert_report(rt, alloc, got, row, wanted)
 }
 
 /// Asserts a row over all this: the words, the output, the report and the code, with | between them and ~ for each line
@@ -168,15 +225,10 @@ pub fn hold_row(
     command: &str,
     row: &str,
 ) -> Result<(), Fail> {
-    let mut parts = row.split('|');
-    let words = parts.next().ok_or("no words")?;
-    let out = with_line_feeds(alloc, parts.next().ok_or("no output")?)?;
-    let report = with_line_feeds(alloc, parts.next().ok_or("no report")?)?;
-    let code = parts.next().ok_or("no code")?;
-    let words = format!(in alloc; "{command} {words}")?;
+    let (words, wanted) = cut(row)?;
+    let words = words_after(alloc, command, words)?;
     let got = called(rt, alloc, words.as_str(), over)?;
-    assert_ended(rt, &got, row, out.as_str(), report.as_str(), code);
-    Ok(())
+    assert_row(rt, alloc, &got, row, wanted)
 }
 
 /// Asserts each row of a table over these files.

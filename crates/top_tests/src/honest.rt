@@ -1,10 +1,10 @@
 // Calls over files and sinks that never fail.
-use crate::helpers::{Ended, Machine, assert_ended, file_of, files_of, with_line_feeds, words_of};
+use crate::helpers::{Ended, Machine, assert_ended, assert_row, cut, file_of, files_of, words_of};
 use crate::jobs::{NAMES, TEXTS};
 use std::alloc::{AllocError, Global};
 use std::test::Fail;
 use swan_model::NoMemory;
-use swan_outside::{HonestFiles, HonestSink, OpenGate};
+use swan_outside::{FileBlob, HonestFiles, HonestSink, OpenGate};
 use swan_top::honest_call;
 
 /// The words; then the output, the report and the code. A name that isn't there is an empty file.
@@ -29,20 +29,25 @@ fn told(alloc: Global, sink: &HonestSink) -> Result<String, AllocError> {
     }
 }
 
-// A call with these words over the known jobs, and where they name it, a file past the limit.
+// The known jobs, and where words name it, a file past the limit.
+fn files_for(alloc: Global, words: &str) -> Result<Vec<FileBlob>, NoMemory> {
+    let mut files = files_of(alloc, NAMES, &TEXTS)?;
+    if words.contains("long") {
+        let content = vec![in alloc; b'x'; 67_108_865]?;
+        files.push(file_of(alloc, "long", content)?)?;
+    }
+    Ok(files)
+}
+
+// A call with these words over those files.
 fn called_honestly(
     rt: &impl Machine,
     alloc: Global,
     words: &str,
     room: usize,
 ) -> Result<Ended, NoMemory> {
-    let mut files = files_of(alloc, NAMES, &TEXTS)?;
-    if words.contains("long") {
-        let content = vec![in alloc; b'x'; 67_108_865]?;
-        files.push(file_of(alloc, "long", content)?)?;
-    }
+    let mut files = HonestFiles::new(files_for(alloc, words)?);
     let words = words_of(alloc, words)?;
-    let mut files = HonestFiles::new(files);
     let mut out = HonestSink::new(alloc, room)?;
     let mut report = HonestSink::new(alloc, room)?;
     let status = honest_call(
@@ -61,16 +66,17 @@ fn called_honestly(
     })
 }
 
+// Asserts a row of the calls.
+fn hold_honestly(rt: &impl Machine, alloc: Global, row: &str) -> Result<(), Fail> {
+    let (words, wanted) = cut(row)?;
+    let got = called_honestly(rt, alloc, words, 4_096)?;
+    assert_row(rt, alloc, &got, row, wanted)
+}
+
 #[test]
 fn an_honest_call_ends_as_its_words_say(rt: HostRuntime) -> Result<(), Fail> {
     for row in CALLS.lines() {
-        let mut parts = row.split('|');
-        let words = parts.next().ok_or("no words")?;
-        let out = with_line_feeds(rt.alloc(), parts.next().ok_or("no output")?)?;
-        let report = with_line_feeds(rt.alloc(), parts.next().ok_or("no report")?)?;
-        let code = parts.next().ok_or("no code")?;
-        let got = called_honestly(&rt, rt.alloc(), words, 4_096)?;
-        assert_ended(&rt, &got, row, out.as_str(), report.as_str(), code);
+        hold_honestly(&rt, rt.alloc(), row)?;
     }
     Ok(())
 }

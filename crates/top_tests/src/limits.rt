@@ -1,7 +1,7 @@
 // Failing reads and writes, cut jobs, and limits.
 use crate::helpers::{
-    Ended, Machine, Over, assert_ended, called, file_of, files_of, hold, hold_row, number_of,
-    with_line_feeds,
+    Ended, Machine, Over, assert_ended, assert_report, assert_text, called, cut, file_of, files_of,
+    hold, hold_row, number_of, with_line_feeds,
 };
 use crate::jobs::{HELLO, LEAVES};
 use std::alloc::{AllocError, Global};
@@ -33,13 +33,18 @@ const FAILING_READS: &str = "\
 1 --version|swan 0.1.0~||0
 1 frob||usage~|2";
 
+// Asserts a row of the failing reads.
+fn hold_failing_read(rt: &impl Machine, alloc: Global, row: &str) -> Result<(), Fail> {
+    let (number, row) = row.split_once(' ').ok_or("no number")?;
+    let mut over = Over::files(files_of(alloc, "b x y", &[LEAVES, "1", "2"])?);
+    over.read_fails = u64::from(number_of(Some(number))?);
+    hold_row(rt, alloc, over, "", row)
+}
+
 #[test]
 fn a_failing_read_is_named_and_none_is_made_again(rt: HostRuntime) -> Result<(), Fail> {
     for row in FAILING_READS.lines() {
-        let (number, row) = row.split_once(' ').ok_or("no number")?;
-        let mut over = Over::files(files_of(rt.alloc(), "b x y", &[LEAVES, "1", "2"])?);
-        over.read_fails = u64::from(number_of(Some(number))?);
-        hold_row(&rt, rt.alloc(), over, "", row)?;
+        hold_failing_read(&rt, rt.alloc(), row)?;
     }
     Ok(())
 }
@@ -130,19 +135,28 @@ fn hold_check(
     Ok(())
 }
 
-// Asserts a row of the fronts.
-fn hold_front(rt: &impl Machine, alloc: Global, row: &str) -> Result<(), Fail> {
-    let mut parts = row.split_whitespace();
-    let from = number_of(parts.next())? as usize;
-    let to = number_of(parts.next())? as usize;
-    let line = parts.next().ok_or("no line")?;
-    let kind = parts.next().ok_or("no kind")?;
-    let report = format!(in alloc; "refused {line} {kind}\n")?;
+// Asserts that each front of the first job of these lengths is refused so.
+fn hold_fronts(
+    rt: &impl Machine,
+    alloc: Global,
+    from: u32,
+    to: u32,
+    refusal: &str,
+) -> Result<(), Fail> {
+    let report = format!(in alloc; "refused {refusal}\n")?;
     for len in from..=to {
-        let front = HELLO.get(..len).ok_or("too long")?;
+        let front = HELLO.get(..len as usize).ok_or("too long")?;
         hold_check(rt, alloc, front, "", report.as_str(), "3")?;
     }
     Ok(())
+}
+
+// Asserts a row of the fronts.
+fn hold_front(rt: &impl Machine, alloc: Global, row: &str) -> Result<(), Fail> {
+    let (from, others) = row.split_once(' ').ok_or("no lengths")?;
+    let (to, refusal) = others.split_once(' ').ok_or("no refusal")?;
+    let from = number_of(Some(from))?;
+    hold_fronts(rt, alloc, from, number_of(Some(to))?, refusal)
 }
 
 #[test]
@@ -171,12 +185,17 @@ a~|x|65536|~b|long line 1 2~|7
 |~|1000000||left text 1000000~faults 0~|0
 |~|1000000|~|too many lines 1~|7";
 
-// The input of a row, by its first three parts.
-fn input_of(alloc: Global, first: &str, part: &str, times: usize) -> Result<String, AllocError> {
-    let copies = with_line_feeds(alloc, part)?.repeat(alloc, times)?;
-    let mut text = with_line_feeds(alloc, first)?;
-    text.push_str(copies.as_str())?;
-    Ok(text)
+// The input of a row, by its first four parts.
+fn input_of(
+    alloc: Global,
+    first: &str,
+    part: &str,
+    times: u32,
+    last: &str,
+) -> Result<String, AllocError> {
+    let copies = part.repeat(alloc, times as usize)?;
+    let text = format!(in alloc; "{first}{copies}{last}")?;
+    with_line_feeds(alloc, text.as_str())
 }
 
 // A call with these words over this input.
@@ -191,35 +210,57 @@ fn with_input(
     called(rt, alloc, words, Over::files(files))
 }
 
+// Asserts a row of the inputs, of which the first two parts are these and the others are one text.
+fn hold_copies(
+    rt: &impl Machine,
+    alloc: Global,
+    words: &str,
+    first: &str,
+    part: &str,
+    others: &str,
+) -> Result<(), Fail> {
+    let (times, others) = cut(others)?;
+    let (last, wanted) = cut(others)?;
+    let text = input_of(alloc, first, part, number_of(Some(times))?, last)?;
+    let got = with_input(rt, alloc, words, text)?;
+    assert_text(rt, got.out.as_str(), "", "the output", words);
+    assert_report(rt, alloc, &got, words, wanted)
+}
+
 // Asserts a row of the inputs.
 pub fn hold_input(rt: &impl Machine, alloc: Global, words: &str, row: &str) -> Result<(), Fail> {
-    let mut parts = row.split('|');
-    let first = parts.next().ok_or("no first bytes")?;
-    let part = parts.next().ok_or("no part")?;
-    let times = number_of(parts.next())? as usize;
-    let last = with_line_feeds(alloc, parts.next().ok_or("no last bytes")?)?;
-    let report = with_line_feeds(alloc, parts.next().ok_or("no report")?)?;
-    let code = parts.next().ok_or("no code")?;
-    let mut text = input_of(alloc, first, part, times)?;
-    text.push_str(last.as_str())?;
-    let got = with_input(rt, alloc, words, text)?;
-    assert_ended(rt, &got, row, "", report.as_str(), code);
-    Ok(())
+    let (first, others) = cut(row)?;
+    let (part, others) = cut(others)?;
+    hold_copies(rt, alloc, words, first, part, others)
 }
 
 /// As many lines as a full file has, of as many bytes as a line may have.
-const FULL_LINES: usize = 1_024;
+const FULL_LINES: u32 = 1_024;
 
 // A file as long as one may be, in lines as long as they may be, and these last bytes.
 fn full_text(alloc: Global, last: &str) -> Result<String, AllocError> {
     let mut line = "x".repeat(alloc, 65_535)?;
     line.push_str("\n")?;
-    let mut text = line.repeat(alloc, FULL_LINES)?;
+    let mut text = line.repeat(alloc, FULL_LINES as usize)?;
     text.push_str(last)?;
     Ok(text)
 }
 
-// Asserts how a call over such a file ends, and that one byte more is too long.
+// Asserts how a call over such a file ends: the output, the report and the code.
+fn hold_over_full(
+    rt: &impl Machine,
+    alloc: Global,
+    words: &str,
+    last: &str,
+    wanted: (&str, &str, &str),
+) -> Result<(), Fail> {
+    let (out, report, code) = wanted;
+    let got = with_input(rt, alloc, words, full_text(alloc, last)?)?;
+    assert_ended(rt, &got, words, out, report, code);
+    Ok(())
+}
+
+// Asserts how a call over a full file ends, and that one byte more is too long.
 fn hold_full(
     rt: &impl Machine,
     alloc: Global,
@@ -228,11 +269,8 @@ fn hold_full(
     report: &str,
     code: &str,
 ) -> Result<(), Fail> {
-    let got = with_input(rt, alloc, words, full_text(alloc, "")?)?;
-    assert_ended(rt, &got, words, out, report, code);
-    let got = with_input(rt, alloc, words, full_text(alloc, "x")?)?;
-    assert_ended(rt, &got, words, "", "too long x\n", "4");
-    Ok(())
+    hold_over_full(rt, alloc, words, "", (out, report, code))?;
+    hold_over_full(rt, alloc, words, "x", ("", "too long x\n", "4"))
 }
 
 #[test]
@@ -245,8 +283,8 @@ fn a_full_input_is_read_and_one_byte_more_is_too_long(rt: HostRuntime) -> Result
 }
 
 // What the index of a text has of a word on the line after so many.
-fn full_pair(alloc: Global, word: &str, number: usize) -> Result<String, AllocError> {
-    let line = number as u64 + 1;
+fn full_pair(alloc: Global, word: &str, number: u32) -> Result<String, AllocError> {
+    let line = u64::from(number) + 1;
     format!(in alloc; "{word} {line}\n")
 }
 
@@ -274,16 +312,16 @@ fn a_full_text_is_indexed_and_one_byte_more_is_too_long(rt: HostRuntime) -> Resu
 }
 
 // The task that has the line after so many, as the report says it.
-fn task_of_line(alloc: Global, number: usize) -> Result<String, AllocError> {
+fn task_of_line(alloc: Global, number: u32) -> Result<String, AllocError> {
     let block = number / 64;
     let place = number % 64;
     format!(in alloc; "/{block}/{place}")
 }
 
 // The fault of the line after so many.
-fn full_fault(alloc: Global, number: usize) -> Result<String, AllocError> {
+fn full_fault(alloc: Global, number: u32) -> Result<String, AllocError> {
     let task = task_of_line(alloc, number)?;
-    let line = number as u64 + 1;
+    let line = u64::from(number) + 1;
     let place = format!(in alloc; "{task} {line}")?;
     format!(in alloc; "fault {place} TooLong\n")
 }

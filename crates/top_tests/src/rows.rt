@@ -1,6 +1,7 @@
 // What jobs write, with `run` by so many workers and with `elide`.
-use crate::helpers::{Over, called, hold};
+use crate::helpers::{Over, assert_code, assert_text, called, hold};
 use crate::jobs::{NAMES, TEXTS};
+use std::process::Abort;
 use std::test::Fail;
 
 /// Fuel, job and inputs; then the output, the report and the code.
@@ -116,14 +117,19 @@ NUMBER is 0 to 1000000000, and SIZE 0 to 300000.
 7 where the inputs are refused
 For example: swan run 1 100 examples/hello.swan";
 
+// Asserts that a text has each of these parts, which stand on lines of their own.
+fn assert_parts(rt: &impl Abort, text: &str, parts: &str) {
+    for part in parts.lines() {
+        assert!(rt; text.contains(part), "{part}");
+    }
+}
+
 #[test]
 fn the_help_lists_each_command_range_and_status(rt: HostRuntime) -> Result<(), Fail> {
     let over = Over::files(Vec::new(rt.alloc()));
     let got = called(&rt, rt.alloc(), "--help", over)?;
-    for part in HELP_SAYS.lines() {
-        assert!(rt; got.out.as_str().contains(part), "{part}");
-    }
-    assert_eq!(rt; got.report.as_str(), "");
-    assert_eq!(rt; got.status.code(), 0);
+    assert_parts(&rt, got.out.as_str(), HELP_SAYS);
+    assert_text(&rt, got.report.as_str(), "", "the report", "--help");
+    assert_code(&rt, got.status.code(), "0", "--help");
     Ok(())
 }

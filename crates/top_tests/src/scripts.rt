@@ -9,8 +9,8 @@ use std::alloc::Global;
 use std::process::Abort;
 use std::test::Fail;
 use swan_model::{
-    Blob, Deed, Entry, NoMemory, Origin, OriginGive, Path, Plan, Record, Script, Value, ValueLists,
-    Values,
+    Blob, Deed, Entry, FUEL_MOST, NoMemory, Origin, OriginGive, Path, Plan, Record, Script, Value,
+    ValueLists, Values,
 };
 
 /// A job that counts to 2 in one child and to 0 in the other, and pushes two numbers in each.
@@ -164,9 +164,13 @@ pub fn plan_of_files(
     job: &str,
     inputs: &str,
 ) -> Result<Plan<JobBody>, Fail> {
+    let fuel = u64::from(fuel);
+    if fuel > FUEL_MOST {
+        return Err("too much fuel".into());
+    }
     let job = job_of(alloc, job)?;
     let inputs = inputs_of(alloc, inputs)?;
-    let plan = plan_of(alloc, job, inputs, u64::from(fuel));
+    let plan = plan_of(alloc, job, inputs, fuel);
     Ok(plan.ok().ok_or("no plan")?)
 }
 

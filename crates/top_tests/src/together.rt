@@ -1,9 +1,11 @@
 // Two workers go on with two tasks at the same time.
-use crate::helpers::{Over, assert_ended, called_at, files_of};
+use crate::helpers::{Ended, Machine, Over, assert_ended, called_at, files_of};
 use crate::jobs::{NAMES, TEXTS};
+use std::alloc::Global;
+use std::process::Abort;
 use std::sync::atomic::{AtomicBool, Ordering};
 use std::test::Fail;
-use swan_model::Path;
+use swan_model::{NoMemory, Path};
 use swan_outside::Gate;
 
 /// How often a gate looks for the other task before it gives up.
@@ -15,6 +17,17 @@ struct Together {
     first: AtomicBool,
     second: AtomicBool,
     failed: AtomicBool,
+}
+
+impl Together {
+    // A gate at which nobody has come yet.
+    fn new() -> Together {
+        Together {
+            first: AtomicBool::new(false),
+            second: AtomicBool::new(false),
+            failed: AtomicBool::new(false),
+        }
+    }
 }
 
 impl Gate for Together {
@@ -34,21 +47,27 @@ impl Gate for Together {
     }
 }
 
-#[test]
-fn two_frames_at_once(rt: HostRuntime) -> Result<(), Fail> {
-    let gate = Together {
-        first: AtomicBool::new(false),
-        second: AtomicBool::new(false),
-        failed: AtomicBool::new(false),
-    };
-    let over = Over::files(files_of(rt.alloc(), NAMES, &TEXTS)?);
-    let got = called_at(&rt, rt.alloc(), "run 2 2003 c", over, &gate)?;
+// A run of two children by two workers, at this gate.
+fn called_together(rt: &impl Machine, alloc: Global, gate: &Together) -> Result<Ended, NoMemory> {
+    let over = Over::files(files_of(alloc, NAMES, &TEXTS)?);
+    called_at(rt, alloc, "run 2 2003 c", over, gate)
+}
+
+// Asserts that both have come to a gate, and neither has given up.
+fn assert_met(rt: &impl Abort, gate: &Together) {
     assert!(rt; gate.first.load(Ordering::SeqCst), "the first child came");
     assert!(rt; gate.second.load(Ordering::SeqCst), "the second child came");
     assert!(rt;
         !gate.failed.load(Ordering::SeqCst),
         "neither waited in vain"
     );
+}
+
+#[test]
+fn two_frames_at_once(rt: HostRuntime) -> Result<(), Fail> {
+    let gate = Together::new();
+    let got = called_together(&rt, rt.alloc(), &gate)?;
+    assert_met(&rt, &gate);
     assert_ended(
         &rt,
         &got,
