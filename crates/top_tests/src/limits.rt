@@ -1,7 +1,7 @@
 // Failing reads and writes, cut jobs, and limits.
 use crate::helpers::{
-    Ended, Machine, Over, assert_ended, assert_report, assert_text, called, cut, file_of, files_of,
-    hold, hold_row, number_of, with_line_feeds,
+    Ended, Machine, Over, assert_ended, assert_report, assert_row, assert_text, called, cut,
+    file_of, files_of, hold, hold_row, number_of, with_line_feeds,
 };
 use crate::jobs::{HELLO, LEAVES};
 use std::alloc::{AllocError, Global};
@@ -49,57 +49,51 @@ fn a_failing_read_is_named_and_none_is_made_again(rt: HostRuntime) -> Result<(),
     Ok(())
 }
 
-// A call over the first job, where each put to either sink takes 2 bytes, and the puts of these numbers
-// fail.
-fn written(
-    rt: &impl Machine,
-    alloc: Global,
-    words: &str,
-    out_fails: u64,
-    report_fails: u64,
-) -> Result<Ended, NoMemory> {
-    let over = Over {
+/// The numbers of the puts to the output and to the report that fail; then the words, the output, the report and the code. Puts also
+/// count from 1, so the rows show that no put is made again after it failed, and none that isn't needed.
+const FAILING_WRITES: &str = "\
+1 0 run 1 100 a|||5
+2 0 run 1 100 a|hi||5
+0 1 run 1 100 a|hi~||5
+0 2 run 1 100 a|hi~|fa|5
+3 6 run 1 100 a|hi~|faults 0~|0
+2 0 elide 100 a|hi||5
+2 0 index 1 a|1 ||5
+0 1 convert 1 a|6:swan 1,~16:output out bytes,~9:task main,~4:  do,~15:  push out \"hi\",~3:end,~||5
+2 0 bulk 7 3 1|40||5
+0 1 bulk 7 3 1|402~3~||5
+0 1 |||5
+0 3 ||usag|5
+1 4 ||usage~|2
+0 1 check x|||5
+1 8 check x||read failed x~|4
+6 1 --version|swan 0.1.0||5
+7 1 --version|swan 0.1.0~||0";
+
+// The first job, where each put to either sink takes 2 bytes, and the puts of these numbers fail.
+fn over_sinks(alloc: Global, out_fails: u32, report_fails: u32) -> Result<Over, NoMemory> {
+    Ok(Over {
         files: files_of(alloc, "a", &[HELLO])?,
         read_fails: 0,
         put_most: 2,
-        out_fails,
-        report_fails,
-    };
-    called(rt, alloc, words, over)
+        out_fails: u64::from(out_fails),
+        report_fails: u64::from(report_fails),
+    })
 }
 
-// The puts also count from 1: so the rows show that no put is made again after it failed, and none that
-// isn't needed.
+// Asserts a row of the failing writes.
+fn hold_failing_write(rt: &impl Machine, alloc: Global, row: &str) -> Result<(), Fail> {
+    let (out_fails, others) = row.split_once(' ').ok_or("no put")?;
+    let (report_fails, row) = others.split_once(' ').ok_or("no put")?;
+    let out_fails = number_of(Some(out_fails))?;
+    let over = over_sinks(alloc, out_fails, number_of(Some(report_fails))?)?;
+    hold_row(rt, alloc, over, "", row)
+}
+
 #[test]
 fn a_failing_write_leaves_a_front(rt: HostRuntime) -> Result<(), Fail> {
-    for (words, out_fails, report_fails, out, report, code) in [
-        ("run 1 100 a", 1u64, 0u64, "", "", "5"),
-        ("run 1 100 a", 2, 0, "hi", "", "5"),
-        ("run 1 100 a", 0, 1, "hi\n", "", "5"),
-        ("run 1 100 a", 0, 2, "hi\n", "fa", "5"),
-        ("run 1 100 a", 3, 6, "hi\n", "faults 0\n", "0"),
-        ("elide 100 a", 2, 0, "hi", "", "5"),
-        ("index 1 a", 2, 0, "1 ", "", "5"),
-        (
-            "convert 1 a",
-            0,
-            1,
-            "6:swan 1,\n16:output out bytes,\n9:task main,\n4:  do,\n15:  push out \"hi\",\n3:end,\n",
-            "",
-            "5",
-        ),
-        ("bulk 7 3 1", 2, 0, "40", "", "5"),
-        ("bulk 7 3 1", 0, 1, "402\n3\n", "", "5"),
-        ("", 0, 1, "", "", "5"),
-        ("", 0, 3, "", "usag", "5"),
-        ("", 1, 4, "", "usage\n", "2"),
-        ("check x", 0, 1, "", "", "5"),
-        ("check x", 1, 8, "", "read failed x\n", "4"),
-        ("--version", 6, 1, "swan 0.1.0", "", "5"),
-        ("--version", 7, 1, "swan 0.1.0\n", "", "0"),
-    ] {
-        let got = written(&rt, rt.alloc(), words, out_fails, report_fails)?;
-        assert_ended(&rt, &got, words, out, report, code);
+    for row in FAILING_WRITES.lines() {
+        hold_failing_write(&rt, rt.alloc(), row)?;
     }
     Ok(())
 }
@@ -403,14 +397,24 @@ fn text_of(alloc: Global, pieces: &str) -> Result<String, Fail> {
     Ok(text)
 }
 
+// The job of these pieces.
+fn over_job(alloc: Global, pieces: &str) -> Result<Over, Fail> {
+    let text = text_of(alloc, pieces)?;
+    Ok(Over::files(files_of(alloc, "j", &[text.as_str()])?))
+}
+
+// Asserts a row of the jobs.
+fn hold_job(rt: &impl Machine, alloc: Global, row: &str) -> Result<(), Fail> {
+    let (pieces, wanted) = cut(row)?;
+    let over = over_job(alloc, pieces)?;
+    let got = called(rt, alloc, "run 1 100 j", over)?;
+    assert_row(rt, alloc, &got, row, wanted)
+}
+
 #[test]
 fn jobs_are_read_up_to_their_limits(rt: HostRuntime) -> Result<(), Fail> {
     for row in JOBS.lines() {
-        let (pieces, row) = row.split_once('|').ok_or("no pieces")?;
-        let text = text_of(rt.alloc(), pieces)?;
-        let row = format!(in rt.alloc(); "100 j|{row}")?;
-        let files = files_of(rt.alloc(), "j", &[text.as_str()])?;
-        hold_row(&rt, rt.alloc(), Over::files(files), "run 1", row.as_str())?;
+        hold_job(&rt, rt.alloc(), row)?;
     }
     Ok(())
 }

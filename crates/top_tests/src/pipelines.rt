@@ -1,6 +1,7 @@
 // What `index` and `convert` write.
-use crate::helpers::{Over, files_of, hold, hold_row};
+use crate::helpers::{Machine, Over, files_of, hold, hold_row};
 use crate::limits::hold_input;
+use std::alloc::Global;
 use std::test::Fail;
 
 /// The names of the files, in order.
@@ -28,14 +29,19 @@ convert wide|1:a,~1:c,~|left input 0~faults 1~fault /0/1 2 User 1~|1
 index missing||read failed missing~|4
 convert missing||read failed missing~|4";
 
+// Asserts a row of the calls, by so many workers.
+fn hold_by(rt: &impl Machine, alloc: Global, workers: u32, row: &str) -> Result<(), Fail> {
+    let (command, row) = row.split_once(' ').ok_or("no command")?;
+    let command = format!(in alloc; "{command} {workers}")?;
+    let over = Over::files(files_of(alloc, NAMES, &TEXTS)?);
+    hold_row(rt, alloc, over, command.as_str(), row)
+}
+
 #[test]
 fn an_index_and_a_conversion_write_what_they_are(rt: HostRuntime) -> Result<(), Fail> {
     for workers in [1u32, 2, 3, 4, 8, 64] {
         for row in CALLS.lines() {
-            let (command, row) = row.split_once(' ').ok_or("no command")?;
-            let command = format!(in rt.alloc(); "{command} {workers}")?;
-            let files = files_of(rt.alloc(), NAMES, &TEXTS)?;
-            hold_row(&rt, rt.alloc(), Over::files(files), command.as_str(), row)?;
+            hold_by(&rt, rt.alloc(), workers, row)?;
         }
     }
     Ok(())

@@ -1,5 +1,5 @@
 // Scripts of known jobs. Each was traced by hand through the lines of its job.
-use crate::helpers::number_of;
+use crate::helpers::{assert_text, number_of};
 use crate::jobs::{NAMES, TEXTS};
 use job_body::{JobBody, plan_of};
 use job_reader::read_job;
@@ -372,12 +372,18 @@ fn shown(alloc: Global, script: &Script) -> Result<String, NoMemory> {
     Ok(format!(in alloc; "{queues}{objects}{entries}")?)
 }
 
+// What the script of a run says.
+fn shown_of(alloc: Global, run: &str) -> Result<String, Fail> {
+    let plan = plan_of_run(alloc, run)?;
+    let script = script_of(alloc, plan)?;
+    Ok(shown(alloc, &script)?)
+}
+
 // Asserts the script that stands below its run.
 fn hold_script(rt: &impl Abort, alloc: Global, block: &str) -> Result<(), Fail> {
     let (run, lines) = block.split_once('\n').ok_or("no script")?;
-    let script = script_of(alloc, plan_of_run(alloc, run)?)?;
-    let text = shown(alloc, &script)?;
-    assert_eq!(rt; text.as_str().trim_end(), lines, "the script of {run}");
+    let text = shown_of(alloc, run)?;
+    assert_text(rt, text.as_str().trim_end(), lines, "the script", run);
     Ok(())
 }
 
