@@ -213,12 +213,12 @@ fn hold_copies(
     part: &str,
     others: &str,
 ) -> Result<(), Fail> {
-    let (times, others) = cut(others)?;
-    let (last, wanted) = cut(others)?;
+    let (times, ending) = cut(others)?;
+    let (last, wanted) = cut(ending)?;
     let text = input_of(alloc, first, part, number_of(Some(times))?, last)?;
     let got = with_input(rt, alloc, words, text)?;
-    assert_text(rt, got.out.as_str(), "", "the output", words);
-    assert_report(rt, alloc, &got, words, wanted)
+    assert_text(rt, got.out.as_str(), "", "the output", others);
+    assert_report(rt, alloc, &got, others, wanted)
 }
 
 // Asserts a row of the inputs.
