@@ -1,5 +1,5 @@
 -- The earliest of a core's live frames: there is one, and it doesn't wait.
-use Rattle.std.proofs.Common.{◌≡◌, ◌≢◌, ◌⊎◌, inl, inr, ℕ, zero, suc, ◌<◌, Bool, true, false, nat_eq, None, Some, List, is_none, refl, sym, ap, ◌∙◌, arith}
+use Rattle.std.proofs.Common.{◌≡◌, ◌≢◌, ◌⊎◌, inl, inr, ℕ, zero, suc, ◌<◌, true, false, nat_eq, None, Some, List, is_none, refl, sym, ap, ◌∙◌, arith}
 use Rattle.std.proofs.lemmas.Bool.{cases_eq, cases_lt, false≢true}
 use Rattle.std.proofs.lemmas.Option.{same_Some}
 use Rattle.std.specs.Option.{ForSome, option_map}
@@ -12,7 +12,7 @@ use Rattle.swan_model.specs.PathOrder.{comes_before}
 use Rattle.swan_model.specs.Script.{script}
 use Rattle.swan_model.specs.SerialTime.{Progress, is_earlier}
 use Rattle.swan_model.proofs.Elements.{found_is, option_cases, answers_same}
-use Rattle.swan_model.proofs.PathOrder.{before-one_way, before-through, either_before, never_before-both}
+use Rattle.swan_model.proofs.PathOrder.{before-through, either_before, never_before-both}
 use Rattle.swan_model.proofs.Points.{before_earlier, earlier_before, same_frame}
 use Rattle.queues.specs.declared.answers.WaitFor.{WaitFor}
 use Rattle.serial_elision.proofs.Lawful as elision

@@ -1,15 +1,13 @@
 -- The record of live frames after a call, and its set of children.
-use Rattle.std.proofs.Common.{◌≡◌, ◌≢◌, inl, inr, ℕ, true, false, cond, Option, None, Some, Result, Ok, Err, IsSome, IfSome, IfNone, OnOk, OnErr, List, [], refl, sym, ap, subst, ◌∙◌, arith}
+use Rattle.std.proofs.Common.{◌≡◌, ◌≢◌, inl, inr, ℕ, true, false, Option, None, Some, Result, Ok, Err, IfSome, IfNone, OnOk, OnErr, List, [], refl, sym, ap, subst, ◌∙◌, arith}
 use Rattle.std.proofs.lemmas.Bool.{cases_eq, false≢true, or_right}
 use Rattle.std.proofs.lemmas.Bool.Decides.{nat_tests}
-use Rattle.std.proofs.lemmas.Cmp.{eq_by_cmp_equiv, nat_cmp_total}
-use Rattle.std.proofs.lemmas.Map.{lookup-set_value}
 use Rattle.std.proofs.lemmas.Map.Steps.{set_value_same}
 use Rattle.std.proofs.lemmas.Option.{same_Some}
 use Rattle.std.specs.BTreeMap.{is_at}
 use Rattle.std.specs.Map.{set_value}
 use Rattle.std.specs.Option.{option_map}
-use Rattle.std.specs.Ordering.{nat_cmp, eq_by_cmp}
+use Rattle.std.specs.Ordering.{nat_cmp}
 use Rattle.swan_model.proofs.Lookups.{at_set, by_set}
 use Rattle.swan_model.specs.SerialState.{Holding}
 use Rattle.task_frames.specs.Records.{HasChildren, IsLiveChild, IsOldest, IsOldestChild, IsOnlyLive, IsWith, IsWithout, LiveFrame, LiveFrames, ChildPair, come_at, come_to, has, holding_too, live_at}

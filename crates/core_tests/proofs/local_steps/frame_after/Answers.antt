@@ -1,3 +1,4 @@
+use Rattle.std.proofs.Common.{arith}
 use Rattle.core_tests.proofs.Coming.{taken-comes}
 use Rattle.core_tests.proofs.local_steps.frame_after.Goals as goal
 
