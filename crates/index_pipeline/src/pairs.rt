@@ -16,14 +16,14 @@ use swan_model::NoMemory;
 
 /// The numbers of each word.
 #[derive(Drop)]
-struct Kept {
+struct NumbersByWord {
     // the numbers of each word, by the words
     words: BTreeMap<Key, Numbers>,
     // where a word is written that is looked up
     asked: Key,
 }
 
-impl Kept {
+impl NumbersByWord {
     /// Adds the pair that this text tells, unless it is there.
     fn add(&mut self, alloc: Global, text: &[u8]) -> Result<(), NoMemory>
         ensures { OnOk result (kept_pairs self.new.words.entries ≡ insert_key pair_order (kept_pairs self.old.words.entries) (pair_of text.now)) }
@@ -45,7 +45,7 @@ impl Kept {
 /// its steps.
 #[derive(Drop)]
 pub struct Pairs {
-    kept: Box<Kept>,
+    kept: Box<NumbersByWord>,
 }
 
 impl Model for Pairs {
@@ -63,7 +63,7 @@ impl Pairs {
     pub fn new(alloc: Global) -> Result<Pairs, NoMemory>
         ensures { IfOk result (λ pairs. pairs ≡ []) }
     {
-        let kept = Kept {
+        let kept = NumbersByWord {
             words: BTreeMap::new(alloc),
             asked: Key::new(alloc),
         };
@@ -84,7 +84,7 @@ impl Pairs {
     pub fn into_left(self, alloc: Global) -> Result<PairsLeft, NoMemory>
         ensures { IfOk result (λ left. left ≡ map record_of self) }
     {
-        let Kept { words, asked: _ } = Box::into_inner(self.kept);
+        let NumbersByWord { words, asked: _ } = Box::into_inner(self.kept);
         pairs_of(alloc, words)
     }
 }

@@ -5,27 +5,27 @@ use Rattle.std.proofs.lemmas.Grind.{flat_map-append}
 use Rattle.std.proofs.lemmas.Option.{slice_get_within}
 use Rattle.job_reader.specs.declared.line.Line.{Line}
 use Rattle.job_reader.specs.declared.line.Line.TheVariants as line
-use Rattle.job_body.specs.declared.block.Block.{Block}
+use Rattle.job_body.specs.declared.block.BlockWithLine.{BlockWithLine}
 use Rattle.job_body.specs.declared.scope.Scope.{Scope as Known}
 use Rattle.job_body.specs.Blocks.{blocks_after, blocks_at, blocks_from}
 use Rattle.job_body.specs.Compiled.{entered, seen_at}
-use Rattle.job_body.specs.Tasks.{Scope, access_of, made_of, param_of, roots, scope_after, scope_at, scope_from, top_lines, var_of}
+use Rattle.job_body.specs.Tasks.{Scope, access_name_of, made_of, param_of, roots, scope_after, scope_at, scope_from, top_lines, var_of}
 use Rattle.privilege_check.specs.Names.{is_main}
 use Rattle.swan_model.proofs.Lists.{take_next}
 
 -- what a scope and open blocks say
-abbrev seen : List (List ℕ) → Scope → List Block → Known
+abbrev seen : List (List ℕ) → Scope → List BlockWithLine → Known
 seen names scope blocks = record {
   roots = names;
   is_main = is_main scope.name;
   params = flat_map param_of scope.lines;
   vars = flat_map var_of scope.lines;
-  accesses = flat_map access_of scope.lines;
+  accesses = flat_map access_name_of scope.lines;
   made = flat_map made_of scope.lines;
   blocks = blocks;
 }
 
-seen-after : (i : ℕ) (names : List (List ℕ)) (scope : Scope) (blocks : List Block) (line : Line) → entered i (seen names scope blocks) line ≡ seen names (scope_after scope line) (blocks_after i blocks line)
+seen-after : (i : ℕ) (names : List (List ℕ)) (scope : Scope) (blocks : List BlockWithLine) (line : Line) → entered i (seen names scope blocks) line ≡ seen names (scope_after scope line) (blocks_after i blocks line)
 seen-after i names scope blocks (line.Task name) = refl
 seen-after i names scope blocks line = simp (flat_map-append, append-nil)
 
@@ -33,7 +33,7 @@ pub scope-push : (scope : Scope) (lines : List Line) (line : Line) → scope_fro
 scope-push scope [] line = refl
 scope-push scope (first ∷ lines) line = scope-push (scope_after scope first) lines line
 
-blocks-push : (i : ℕ) (blocks : List Block) (lines : List Line) (line : Line) → blocks_from i blocks (lines ++ line ∷ []) ≡ blocks_after (i + length lines) (blocks_from i blocks lines) line
+blocks-push : (i : ℕ) (blocks : List BlockWithLine) (lines : List Line) (line : Line) → blocks_from i blocks (lines ++ line ∷ []) ≡ blocks_after (i + length lines) (blocks_from i blocks lines) line
 blocks-push i blocks [] line = ap (λ k. blocks_after k blocks line) (omega arith)
 blocks-push i blocks (first ∷ lines) line =
     blocks-push (i + 1) (blocks_after i blocks first) lines line

@@ -5,7 +5,7 @@ use Rattle.std.proofs.lemmas.List.Concat.{flat_map-append}
 use Rattle.job_reader.specs.declared.line.Line.{Line}
 use Rattle.job_reader.specs.declared.line.Line.TheVariants as line
 use Rattle.swan_model.specs.declared.rights.Mode.TheVariants.{InOut, Push, Pop, PushPop}
-use Rattle.job_body.specs.Tasks.{Scope, access_of, before_task, made_of, places, root_object_of, root_queue_of, roots, scope_at, top_lines}
+use Rattle.job_body.specs.Tasks.{Scope, access_name_of, before_task, made_of, places, root_object_of, root_queue_of, roots, scope_at, top_lines}
 use Rattle.privilege_check.specs.Names.{is_main}
 use Rattle.job_body.proofs.RightsNames.{Entry, names}
 
@@ -49,7 +49,7 @@ held_at job i = held_with job (scope_at job i) (drop i job)
 
 -- ---- the names are the places
 
-names-access : (lines : List Line) → names (flat_map access_entry lines) ≡ flat_map access_of lines
+names-access : (lines : List Line) → names (flat_map access_entry lines) ≡ flat_map access_name_of lines
 names-access [] = refl
 names-access (line.Access mode name k ∷ lines) = ap (λ ns. name ∷ ns) (names-access lines)
 names-access (line ∷ lines) = names-access lines

@@ -13,8 +13,8 @@ use Rattle.job_reader.specs.declared.line.Line.{Line}
 use Rattle.job_reader.specs.declared.line.Line.TheVariants as line
 use Rattle.job_reader.specs.declared.position.Position.{Position}
 use Rattle.job_reader.specs.declared.position.Position.TheVariants.{First, Top, InTask, InDo, Outside}
-use Rattle.job_body.specs.declared.block.Block.{Block}
-use Rattle.job_body.specs.declared.block.Block.TheVariants as block
+use Rattle.job_body.specs.declared.block.BlockWithLine.{BlockWithLine}
+use Rattle.job_body.specs.declared.block.BlockWithLine.TheVariants as block
 use Rattle.job_body.specs.declared.exit.Exit.{Exit}
 use Rattle.job_body.specs.declared.scope.Scope.{Scope as Known}
 use Rattle.job_body.specs.Blocks.{after_end, blocks_after, blocks_at, exit_at, exits, exits_with, first_exit}
@@ -45,16 +45,16 @@ statement inside line stands = (refl, refl)
 -- ---- loops
 
 -- each loop goes back to a line where the same is held
-abbrev pub LoopsStand : List Line → List Mode → List Block → Type 0
+abbrev pub LoopsStand : List Line → List Mode → List BlockWithLine → Type 0
 LoopsStand job held [] = Unit {0}
 LoopsStand job held (block.If ∷ blocks) = LoopsStand job held blocks
 LoopsStand job held (block.While i ∷ blocks) = Stands job i held × LoopsStand job held blocks
 
-abbrev pub BlocksStand : List Line → List Mode → List Opened → List Block → Type 0
+abbrev pub BlocksStand : List Line → List Mode → List Opened → List BlockWithLine → Type 0
 BlocksStand job held inside blocks = (length blocks ≡ length inside) × LoopsStand job held blocks
 
 -- the blocks that are open at a place are as many as the place says
-abbrev pub BlocksAt : Position → List Line → List Mode → List Block → Type 0
+abbrev pub BlocksAt : Position → List Line → List Mode → List BlockWithLine → Type 0
 BlocksAt InTask job held blocks = blocks ≡ []
 BlocksAt (InDo inside) job held blocks = BlocksStand job held inside blocks
 BlocksAt _ job held blocks = Unit {0}
@@ -67,7 +67,7 @@ blocks-next : (job : List Line) (i : ℕ) (line : Line) → slice_get job i ≡ 
 blocks-next job i line is =
     ap (λ (s : Known). s.blocks) (sym (seen-next job i line is)) ∙ entered-blocks i (seen_at job i) line
 
-declared-blocks : (job : List Line) (held : List Mode) (i : ℕ) (blocks : List Block) (line : Line) → may_stand InTask line ≡ true → blocks ≡ [] → BlocksAt (positions.after InTask line) job held (blocks_after i blocks line)
+declared-blocks : (job : List Line) (held : List Mode) (i : ℕ) (blocks : List BlockWithLine) (line : Line) → may_stand InTask line ≡ true → blocks ≡ [] → BlocksAt (positions.after InTask line) job held (blocks_after i blocks line)
 declared-blocks job held i blocks (line.Note text) stands none = none
 declared-blocks job held i blocks (line.Param name kind) stands none = none
 declared-blocks job held i blocks (line.Access mode name kind) stands none = none
@@ -77,21 +77,21 @@ declared-blocks job held i blocks (line.Object name kind) stands none = none
 declared-blocks job held i blocks line.Do stands none = subst (BlocksStand job held []) (sym none) (refl, tt)
 declared-blocks job held i blocks line stands none = absurd (false≢true stands)
 
-else-blocks : (job : List Line) (held : List Mode) (inside : List Opened) (blocks : List Block) → positions.takes_else inside ≡ true → BlocksStand job held inside blocks → BlocksAt (positions.after_else inside) job held blocks
+else-blocks : (job : List Line) (held : List Mode) (inside : List Opened) (blocks : List BlockWithLine) → positions.takes_else inside ≡ true → BlocksStand job held inside blocks → BlocksAt (positions.after_else inside) job held blocks
 else-blocks job held [] blocks stands b = absurd (false≢true stands)
 else-blocks job held (innermost ∷ inside) blocks stands b = b
 
-end-loops : (job : List Line) (held : List Mode) (block : Block) (blocks : List Block) → LoopsStand job held (block ∷ blocks) → LoopsStand job held blocks
+end-loops : (job : List Line) (held : List Mode) (block : BlockWithLine) (blocks : List BlockWithLine) → LoopsStand job held (block ∷ blocks) → LoopsStand job held blocks
 end-loops job held block.If blocks loops = loops
 end-loops job held (block.While i) blocks loops = loops.1
 
-end-blocks : (job : List Line) (held : List Mode) (inside : List Opened) (blocks : List Block) → BlocksStand job held inside blocks → BlocksAt (positions.after_end inside) job held (after_end blocks)
+end-blocks : (job : List Line) (held : List Mode) (inside : List Opened) (blocks : List BlockWithLine) → BlocksStand job held inside blocks → BlocksAt (positions.after_end inside) job held (after_end blocks)
 end-blocks job held [] blocks b = tt
 end-blocks job held (innermost ∷ inside) [] b = absurd (cc)
 end-blocks job held (innermost ∷ inside) (block ∷ blocks) b =
     (omega (arith, b.0), end-loops job held block blocks b.1)
 
-done-blocks : (job : List Line) (held : List Mode) (i : ℕ) (inside : List Opened) (blocks : List Block) (line : Line) → may_stand (InDo inside) line ≡ true → Stands job i held → BlocksStand job held inside blocks → BlocksAt (positions.after_statement inside line) job held (blocks_after i blocks line)
+done-blocks : (job : List Line) (held : List Mode) (i : ℕ) (inside : List Opened) (blocks : List BlockWithLine) (line : Line) → may_stand (InDo inside) line ≡ true → Stands job i held → BlocksStand job held inside blocks → BlocksAt (positions.after_statement inside line) job held (blocks_after i blocks line)
 done-blocks job held i inside blocks (line.If a) stands at b = (ap suc b.0, b.1)
 done-blocks job held i inside blocks (line.While a) stands at b = (ap suc b.0, (at, b.1))
 done-blocks job held i inside blocks line.Else stands at b = else-blocks job held inside blocks stands b
@@ -99,11 +99,11 @@ done-blocks job held i inside blocks line.End stands at b = end-blocks job held 
 done-blocks job held i inside blocks (line.Task name) stands at b = absurd (false≢true stands)
 done-blocks job held i inside blocks line stands at b = b
 
-opened-blocks : (job : List Line) (held : List Mode) (n i : ℕ) (blocks : List Block) (line : Line) → BlocksAt (positions.after_top n line) job held (blocks_after i blocks line)
+opened-blocks : (job : List Line) (held : List Mode) (n i : ℕ) (blocks : List BlockWithLine) (line : Line) → BlocksAt (positions.after_top n line) job held (blocks_after i blocks line)
 opened-blocks job held n i blocks (line.Task name) = refl
 opened-blocks job held n i blocks line = tt
 
-outside-blocks : (job : List Line) (held : List Mode) (i : ℕ) (blocks : List Block) (line : Line) → BlocksAt (positions.after_outside line) job held (blocks_after i blocks line)
+outside-blocks : (job : List Line) (held : List Mode) (i : ℕ) (blocks : List BlockWithLine) (line : Line) → BlocksAt (positions.after_outside line) job held (blocks_after i blocks line)
 outside-blocks job held i blocks (line.Task name) = refl
 outside-blocks job held i blocks line = tt
 

@@ -18,7 +18,7 @@ use Rattle.job_reader.specs.declared.position.Position.{Position}
 use Rattle.job_reader.specs.declared.position.Position.TheVariants.{First, Top, InTask, InDo, Outside}
 use Rattle.privilege_check.specs.FirstFault.{check_line, fresh}
 use Rattle.privilege_check.specs.Names as checks
-use Rattle.privilege_check.specs.Names.{Before, at_start, declared, declared_in, known, known_in, opened, taken, taken_by, with_name, with_taken, is_main}
+use Rattle.privilege_check.specs.Names.{Before, at_start, after_declare, after_declare_in, known, known_in, after_open, after_declare_taken, taken_by, with_name, with_taken, is_main}
 use Rattle.privilege_check.specs.declared.declaration.Declaration.{Declaration}
 use Rattle.privilege_check.specs.declared.declaration.Declaration.TheVariants.{Variable, Held}
 use Rattle.job_body.specs.Tasks.{Scope, before_task, scope_after, scope_from, top_lines}
@@ -65,8 +65,8 @@ or_first : (b : Bool) (meaning : Declaration) (own top : Option Declaration) →
 or_first true meaning own top = refl
 or_first false meaning own top = refl
 
-declared-own : (before : Before) (task name : List ℕ) (meaning : Declaration) → before.open_task ≡ Some task → declared name meaning before ≡ record before { own = with_name name meaning before.own }
-declared-own before task name meaning e = ap (λ t. declared_in t name meaning before) e
+declared-own : (before : Before) (task name : List ℕ) (meaning : Declaration) → before.open_task ≡ Some task → after_declare name meaning before ≡ record before { own = with_name name meaning before.own }
+declared-own before task name meaning e = ap (λ t. after_declare_in t name meaning before) e
 
 declares-own : (before : Before) (task name : List ℕ) (meaning : Declaration) → before.open_task ≡ Some task → Declares before (record before { own = with_name name meaning before.own }) name meaning
 declares-own before task name meaning e =
@@ -79,7 +79,7 @@ declares-own before task name meaning e =
           ∙ ap (λ t. cond (bytes_eq name query) (Some meaning) (known_in t before.own before.top query)) (sym e);
     }
 
-declares-declared : (before : Before) (task name : List ℕ) (meaning : Declaration) → before.open_task ≡ Some task → Declares before (declared name meaning before) name meaning
+declares-declared : (before : Before) (task name : List ℕ) (meaning : Declaration) → before.open_task ≡ Some task → Declares before (after_declare name meaning before) name meaning
 declares-declared before task name meaning e =
     subst (λ after. Declares before after name meaning) (sym (declared-own before task name meaning e)) (declares-own before task name meaning e)
 
@@ -87,9 +87,9 @@ declares-taken_by : (before after : Before) (task : Option (List ℕ)) (name : L
 declares-taken_by before after None name meaning d = d
 declares-taken_by before after (Some task) name meaning d = record { task = d.task; top = d.top; names = d.names }
 
-declares-taken : (before : Before) (task name : List ℕ) (meaning : Declaration) → before.open_task ≡ Some task → Declares before (taken name meaning before) name meaning
+declares-taken : (before : Before) (task name : List ℕ) (meaning : Declaration) → before.open_task ≡ Some task → Declares before (after_declare_taken name meaning before) name meaning
 declares-taken before task name meaning e =
-    declares-taken_by before (declared name meaning before) (declared name meaning before).open_task name meaning (declares-declared before task name meaning e)
+    declares-taken_by before (after_declare name meaning before) (after_declare name meaning before).open_task name meaning (declares-declared before task name meaning e)
 
 -- ---- lines of the top level
 
@@ -116,10 +116,10 @@ top-held : (done : List Line) (before : Before) (line : Line) (name : List ℕ) 
     → root_entries (done ++ line ∷ []) ≡ first ++ (name, mode) ∷ second
     → ((rest : List Line) → before_task (line ∷ rest) ≡ line ∷ before_task rest)
     → fresh (known before name) ≡ Ok tt
-    → KnownAtTop done before → KnownAtTop (done ++ line ∷ []) (declared name meaning before)
+    → KnownAtTop done before → KnownAtTop (done ++ line ∷ []) (after_declare name meaning before)
 top-held done before line name mode meaning first second held old new more is_fresh k =
     let after : Before = record before { top = with_name name meaning before.top } in
-    let is : declared name meaning before ≡ after = ap (λ t. declared_in t name meaning before) k.no_task in
+    let is : after_declare name meaning before ≡ after = ap (λ t. after_declare_in t name meaning before) k.no_task in
     let top_fresh : before.top name ≡ None = ap (λ t. known_in t before.own before.top name) (sym k.no_task) ∙ fresh_is (known before name) is_fresh in
     subst (KnownAtTop (done ++ line ∷ [])) (sym is) (record {
       no_task = k.no_task;
@@ -130,7 +130,7 @@ top-held done before line name mode meaning first second held old new more is_fr
     })
 
 -- a line that opens a task
-opens : (job : List Line) (before : Before) (name : List ℕ) → ((query : List ℕ) → mode_of (root_entries (top_lines job)) query ≡ mode_known (before.top query)) → KnownInTask job (record { name = name; lines = [] }) (opened name before)
+opens : (job : List Line) (before : Before) (name : List ℕ) → ((query : List ℕ) → mode_of (root_entries (top_lines job)) query ≡ mode_known (before.top query)) → KnownInTask job (record { name = name; lines = [] }) (after_open name before)
 opens job before name top =
     record {
       task = refl;
@@ -142,7 +142,7 @@ opens job before name top =
       choice true query = top query
       choice false query = refl
 
-top-opens : (job done rest : List Line) (before : Before) (name : List ℕ) → job ≡ done ++ line.Task name ∷ rest → KnownAtTop done before → KnownInTask job (record { name = name; lines = [] }) (opened name before)
+top-opens : (job done rest : List Line) (before : Before) (name : List ℕ) → job ≡ done ++ line.Task name ∷ rest → KnownAtTop done before → KnownInTask job (record { name = name; lines = [] }) (after_open name before)
 top-opens job done rest before name whole k =
     let top : top_lines job ≡ done = ap before_task whole ∙ k.all (line.Task name ∷ rest) ∙ append-nil done in
     opens job before name (λ query. ap (λ ls. mode_of (root_entries ls) query) top ∙ k.top query)
@@ -232,7 +232,7 @@ task-held job scope before after line name mode meaning first second held old ne
     }
 
 -- a line that makes a queue or an object
-task-makes : (job : List Line) (scope : Scope) (before : Before) (line : Line) (name : List ℕ) (mode : Mode) (meaning : Declaration) → access_entry line ≡ [] → made_entry line ≡ (name, mode) ∷ [] → mode_known (Some meaning) ≡ Some mode → fresh (known before name) ≡ Ok tt → KnownInTask job scope before → KnownInTask job (more_lines scope line) (declared name meaning before)
+task-makes : (job : List Line) (scope : Scope) (before : Before) (line : Line) (name : List ℕ) (mode : Mode) (meaning : Declaration) → access_entry line ≡ [] → made_entry line ≡ (name, mode) ∷ [] → mode_known (Some meaning) ≡ Some mode → fresh (known before name) ≡ Ok tt → KnownInTask job scope before → KnownInTask job (more_lines scope line) (after_declare name meaning before)
 task-makes job scope before line name mode meaning access made held is_fresh k =
     let first = roots_held job scope.name in
     let second = flat_map access_entry scope.lines in
@@ -242,24 +242,24 @@ task-makes job scope before line name mode meaning access made held is_fresh k =
     ∙ ap (λ es. first ++ ((second ++ es) ++ (third ++ made_entry line))) access
     ∙ ap (λ es. first ++ ((second ++ []) ++ (third ++ es))) made
     ∙ made-between first second third (name, mode) in
-    task-held job scope before (declared name meaning before) line name mode meaning (entries job scope) [] held (sym (append-nil (entries job scope))) new is_fresh (declares-declared before scope.name name meaning k.task) k
+    task-held job scope before (after_declare name meaning before) line name mode meaning (entries job scope) [] held (sym (append-nil (entries job scope))) new is_fresh (declares-declared before scope.name name meaning k.task) k
 
-task-takes : (job : List Line) (scope : Scope) (before : Before) (name : List ℕ) (mode : Mode) (kind : Kind) → fresh (known before name) ≡ Ok tt → KnownInTask job scope before → KnownInTask job (more_lines scope (line.Access mode name kind)) (taken name (Held mode kind) before)
+task-takes : (job : List Line) (scope : Scope) (before : Before) (name : List ℕ) (mode : Mode) (kind : Kind) → fresh (known before name) ≡ Ok tt → KnownInTask job scope before → KnownInTask job (more_lines scope (line.Access mode name kind)) (after_declare_taken name (Held mode kind) before)
 task-takes job scope before name mode kind is_fresh k =
     let first = roots_held job scope.name in
     let second = flat_map access_entry scope.lines in
     let third = flat_map made_entry scope.lines in
-    task-held job scope before (taken name (Held mode kind) before) (line.Access mode name kind) name mode (Held mode kind) (first ++ second) third refl (sym (append_assoc first second third))
+    task-held job scope before (after_declare_taken name (Held mode kind) before) (line.Access mode name kind) name mode (Held mode kind) (first ++ second) third refl (sym (append_assoc first second third))
     (entries-more job scope (line.Access mode name kind) ∙ access-between first second third (name, mode)) is_fresh (declares-taken before scope.name name (Held mode kind) k.task) k
 
 task-step : (job done : List Line) (scope : Scope) (before : Before) (line : Line) → IsTrue (may_stand InTask line) → check_line before line ≡ Ok tt → KnownInTask job scope before → KnownAt (positions.after InTask line) job (done ++ line ∷ []) (scope_after scope line) (checks.after before line)
 task-step job done scope before (line.Note text) stands passes k = task-quiet job scope before (line.Note text) refl refl k
 task-step job done scope before (line.Param name kind) stands passes k =
-    task-variable job scope before (taken name (Variable kind) before) (line.Param name kind) name (Variable kind) refl refl refl (first_of_two (fresh (known before name)) _ tt passes) (declares-taken before scope.name name (Variable kind) k.task) k
+    task-variable job scope before (after_declare_taken name (Variable kind) before) (line.Param name kind) name (Variable kind) refl refl refl (first_of_two (fresh (known before name)) _ tt passes) (declares-taken before scope.name name (Variable kind) k.task) k
 task-step job done scope before (line.Access mode name kind) stands passes k =
     task-takes job scope before name mode kind (first_of_two (fresh (known before name)) _ tt passes) k
 task-step job done scope before (line.Var name kind) stands passes k =
-    task-variable job scope before (declared name (Variable kind) before) (line.Var name kind) name (Variable kind) refl refl refl passes (declares-declared before scope.name name (Variable kind) k.task) k
+    task-variable job scope before (after_declare name (Variable kind) before) (line.Var name kind) name (Variable kind) refl refl refl passes (declares-declared before scope.name name (Variable kind) k.task) k
 task-step job done scope before (line.Queue name kind) stands passes k =
     task-makes job scope before (line.Queue name kind) name PushPop (Held PushPop kind) refl refl refl passes k
 task-step job done scope before (line.Object name kind) stands passes k =

@@ -29,8 +29,8 @@ use Rattle.privilege_check.specs.FirstFault.{checked}
 use Rattle.privilege_check.specs.Names.{Names, at_start, known}
 use Rattle.privilege_check.specs.Spawns.{lent}
 use Rattle.privilege_check.specs.Uses.{held, value, variable}
-use Rattle.job_body.specs.declared.block.Block.{Block}
-use Rattle.job_body.specs.declared.block.Block.TheVariants as block
+use Rattle.job_body.specs.declared.block.BlockWithLine.{BlockWithLine}
+use Rattle.job_body.specs.declared.block.BlockWithLine.TheVariants as block
 use Rattle.job_body.specs.declared.take.Take.{Take}
 use Rattle.job_body.specs.Blocks.{blocks_at, exit_at}
 use Rattle.job_body.specs.Standing.{Standing}
@@ -140,7 +140,7 @@ branch-fits job n store a true x y first second = work-fits job n store (moved a
 branch-fits job n store a false x y first second = work-fits job n store (moved a y) second
 
 -- the `end` of a block, or of the task
-ended-fits : (job : List Line) (n : ℕ) (store : Store) (a : Activation Standing) (s : Standing) (step : Step job store a s line.End) (inside : List Opened) (blocks : List Block) → place_at job s.at ≡ InDo inside → BlocksStand job (held_modes_of a.holdings) inside blocks → StepFits job n store a (steps.ended job s blocks)
+ended-fits : (job : List Line) (n : ℕ) (store : Store) (a : Activation Standing) (s : Standing) (step : Step job store a s line.End) (inside : List Opened) (blocks : List BlockWithLine) → place_at job s.at ≡ InDo inside → BlocksStand job (held_modes_of a.holdings) inside blocks → StepFits job n store a (steps.ended job s blocks)
 ended-fits job n store a s step inside [] at b = tt
 ended-fits job n store a s step [] (block ∷ blocks) at b = absurd (let e = b.0 in cc)
 ended-fits job n store a s step (innermost ∷ inside) (block.If ∷ blocks) at b =

@@ -13,7 +13,7 @@ use Rattle.job_reader.specs.declared.line.Line.{Line}
 use Rattle.job_reader.specs.declared.line.Line.TheVariants as line
 use Rattle.privilege_check.specs.FirstFault.{check_line, fault_from, fresh, has_main, or_later, outside_main}
 use Rattle.privilege_check.specs.Names as checks
-use Rattle.privilege_check.specs.Names.{Before, at_start, declared, declared_in, is_main, known, opened, taken, taken_by, with_next, with_taken}
+use Rattle.privilege_check.specs.Names.{Before, at_start, after_declare, after_declare_in, is_main, known, after_open, after_declare_taken, taken_by, with_next, with_taken}
 use Rattle.privilege_check.specs.declared.declaration.Declaration.{Declaration}
 use Rattle.privilege_check.specs.declared.declaration.Declaration.TheVariants.{Variable, Held}
 use Rattle.job_body.specs.declared.take.Take.{Take}
@@ -99,25 +99,25 @@ record IsQuiet (before after : Before) : Type 0 where
   pub entered : after.open_task ≡ before.open_task
   pub tasks : after.tasks ≡ before.tasks
 
-declared_in-quiet : (task : Option (List ℕ)) (name : List ℕ) (meaning : Declaration) (before : Before) → IsQuiet before (declared_in task name meaning before)
+declared_in-quiet : (task : Option (List ℕ)) (name : List ℕ) (meaning : Declaration) (before : Before) → IsQuiet before (after_declare_in task name meaning before)
 declared_in-quiet None name meaning before = record { entered = refl; tasks = refl }
 declared_in-quiet (Some task) name meaning before = record { entered = refl; tasks = refl }
 
-declared-quiet : (name : List ℕ) (meaning : Declaration) (before : Before) → IsQuiet before (declared name meaning before)
+declared-quiet : (name : List ℕ) (meaning : Declaration) (before : Before) → IsQuiet before (after_declare name meaning before)
 declared-quiet name meaning before = declared_in-quiet before.open_task name meaning before
 
 taken_by-open : (task : Option (List ℕ)) (meaning : Declaration) (before : Before) → (taken_by task meaning before).open_task ≡ before.open_task
 taken_by-open None meaning before = refl
 taken_by-open (Some task) meaning before = refl
 
-taken-open : (name : List ℕ) (meaning : Declaration) (before : Before) → (taken name meaning before).open_task ≡ before.open_task
+taken-open : (name : List ℕ) (meaning : Declaration) (before : Before) → (after_declare_taken name meaning before).open_task ≡ before.open_task
 taken-open name meaning before =
-    taken_by-open (declared name meaning before).open_task meaning (declared name meaning before) ∙ (declared-quiet name meaning before).entered
+    taken_by-open (after_declare name meaning before).open_task meaning (after_declare name meaning before) ∙ (declared-quiet name meaning before).entered
 
-taken-tasks : (name : List ℕ) (meaning : Declaration) (before : Before) (task : List ℕ) → before.open_task ≡ Some task → (taken name meaning before).tasks ≡ with_next task meaning before.tasks
+taken-tasks : (name : List ℕ) (meaning : Declaration) (before : Before) (task : List ℕ) → before.open_task ≡ Some task → (after_declare_taken name meaning before).tasks ≡ with_next task meaning before.tasks
 taken-tasks name meaning before task e =
     let quiet = declared-quiet name meaning before in
-    ap (λ t. (taken_by t meaning (declared name meaning before)).tasks) (quiet.entered ∙ e)
+    ap (λ t. (taken_by t meaning (after_declare name meaning before)).tasks) (quiet.entered ∙ e)
     ∙ ap (with_next task meaning) quiet.tasks
 
 -- ---- as the check knows it
@@ -138,10 +138,10 @@ kept-quiet : (before after : Before) (lines : List Line) (task name : List ℕ) 
 kept-quiet before after lines task name taken later quiet entered passes is =
     later after task name taken (quiet.entered ∙ entered) passes (ap (λ ts. ts name) quiet.tasks ∙ is)
 
-kept-task : (before : Before) (lines : List Line) (task name other : List ℕ) (taken : List Declaration) → KeptBy lines → fresh (before.tasks other) ≡ Ok tt → Passes (opened other before) lines → before.tasks name ≡ Some taken → (before_from (opened other before) lines).tasks name ≡ Some (taken ++ cond (bytes_eq task name) [] [])
+kept-task : (before : Before) (lines : List Line) (task name other : List ℕ) (taken : List Declaration) → KeptBy lines → fresh (before.tasks other) ≡ Ok tt → Passes (after_open other before) lines → before.tasks name ≡ Some taken → (before_from (after_open other before) lines).tasks name ≡ Some (taken ++ cond (bytes_eq task name) [] [])
 kept-task before lines task name other taken later is_fresh passes is =
     let apart : bytes_eq other name ≡ false = go (bytes_eq other name) refl in
-    later (opened other before) other name taken refl passes (ap (λ b. cond b (Some []) (before.tasks name)) apart ∙ is)
+    later (after_open other before) other name taken refl passes (ap (λ b. cond b (Some []) (before.tasks name)) apart ∙ is)
     ∙ ap (λ b. Some (taken ++ cond b (meanings (before_task lines)) [])) apart
     ∙ ap Some (append-nil taken ∙ sym (none-more (bytes_eq task name) taken)) where
       go : (b : Bool) → b ≡ bytes_eq other name → b ≡ false
@@ -151,10 +151,10 @@ kept-task before lines task name other taken later is_fresh passes is =
           let both : before.tasks name ≡ None = ap before.tasks (sym same) ∙ fresh_is (before.tasks other) is_fresh in
           absurd (cc)
 
-kept-taken : (before : Before) (lines : List Line) (task name other : List ℕ) (meaning : Declaration) (taken_so : List Declaration) → KeptBy lines → before.open_task ≡ Some task → Passes (taken other meaning before) lines → before.tasks name ≡ Some taken_so → (before_from (taken other meaning before) lines).tasks name ≡ Some (taken_so ++ cond (bytes_eq task name) (meaning ∷ meanings (before_task lines)) [])
+kept-taken : (before : Before) (lines : List Line) (task name other : List ℕ) (meaning : Declaration) (taken_so : List Declaration) → KeptBy lines → before.open_task ≡ Some task → Passes (after_declare_taken other meaning before) lines → before.tasks name ≡ Some taken_so → (before_from (after_declare_taken other meaning before) lines).tasks name ≡ Some (taken_so ++ cond (bytes_eq task name) (meaning ∷ meanings (before_task lines)) [])
 kept-taken before lines task name other meaning taken_so later entered passes is = go (bytes_eq task name) refl where
   after : Before
-  after = taken other meaning before
+  after = after_declare_taken other meaning before
 
   goes : after.open_task ≡ Some task
   goes = taken-open other meaning before ∙ entered
@@ -210,21 +210,21 @@ taken_by-none (Some task) meaning before name is = go (bytes_eq task name) refl 
       let same : task ≡ name = same_name task name (sym e) in
       ap (λ t. option_map (λ takes. takes ++ meaning ∷ []) (before.tasks t)) same ∙ ap (option_map (λ takes. takes ++ meaning ∷ [])) is
 
-taken-none : (other : List ℕ) (meaning : Declaration) (before : Before) (name : List ℕ) → before.tasks name ≡ None → (taken other meaning before).tasks name ≡ None
+taken-none : (other : List ℕ) (meaning : Declaration) (before : Before) (name : List ℕ) → before.tasks name ≡ None → (after_declare_taken other meaning before).tasks name ≡ None
 taken-none other meaning before name is =
     let quiet = declared-quiet other meaning before in
-    taken_by-none (declared other meaning before).open_task meaning (declared other meaning before) name (ap (λ ts. ts name) quiet.tasks ∙ is)
+    taken_by-none (after_declare other meaning before).open_task meaning (after_declare other meaning before) name (ap (λ ts. ts name) quiet.tasks ∙ is)
 
-declared-none : (other : List ℕ) (meaning : Declaration) (before : Before) (name : List ℕ) → before.tasks name ≡ None → (declared other meaning before).tasks name ≡ None
+declared-none : (other : List ℕ) (meaning : Declaration) (before : Before) (name : List ℕ) → before.tasks name ≡ None → (after_declare other meaning before).tasks name ≡ None
 declared-none other meaning before name is = ap (λ ts. ts name) (declared-quiet other meaning before).tasks ∙ is
 
 -- what a task takes that the check doesn't know yet
 pub learnt : (before : Before) (lines : List Line) (name : List ℕ) → Passes before lines → before.tasks name ≡ None → (before_from before lines).tasks name ≡ found lines name
 learnt before [] name passes is = is
-learnt before (line.Task other ∷ lines) name passes is = go (bytes_eq other name) refl (learnt (opened other before) lines name passes.1) where
-  go : (b : Bool) → bytes_eq other name ≡ b → ((opened other before).tasks name ≡ None → (before_from (opened other before) lines).tasks name ≡ found lines name) → (before_from (opened other before) lines).tasks name ≡ cond (bytes_eq other name) (Some (meanings (before_task lines))) (found lines name)
+learnt before (line.Task other ∷ lines) name passes is = go (bytes_eq other name) refl (learnt (after_open other before) lines name passes.1) where
+  go : (b : Bool) → bytes_eq other name ≡ b → ((after_open other before).tasks name ≡ None → (before_from (after_open other before) lines).tasks name ≡ found lines name) → (before_from (after_open other before) lines).tasks name ≡ cond (bytes_eq other name) (Some (meanings (before_task lines))) (found lines name)
   go true e later =
-      kept lines (opened other before) other name [] refl passes.1 (ap (λ b. cond b (Some []) (before.tasks name)) e)
+      kept lines (after_open other before) other name [] refl passes.1 (ap (λ b. cond b (Some []) (before.tasks name)) e)
       ∙ ap (λ b. Some (cond b (meanings (before_task lines)) [])) e
       ∙ ap (λ b. cond b (Some (meanings (before_task lines))) (found lines name)) (sym e)
   go false e later =
@@ -272,9 +272,9 @@ main-takes (line ∷ lines) before task entered named passes = main-takes lines 
 
 pub main-found : (lines : List Line) (before : Before) (taken : List Declaration) → Passes before lines → found lines (codes "main") ≡ Some taken → taken ≡ []
 main-found [] before taken passes is = absurd (cc)
-main-found (line.Task other ∷ lines) before taken passes is = go (bytes_eq other (codes "main")) refl is (main-found lines (opened other before) taken passes.1) where
+main-found (line.Task other ∷ lines) before taken passes is = go (bytes_eq other (codes "main")) refl is (main-found lines (after_open other before) taken passes.1) where
   go : (b : Bool) → bytes_eq other (codes "main") ≡ b → cond b (Some (meanings (before_task lines))) (found lines (codes "main")) ≡ Some taken → (found lines (codes "main") ≡ Some taken → taken ≡ []) → taken ≡ []
-  go true e here later = sym (same_Some _ _ here) ∙ main-takes lines (opened other before) other refl e passes.1
+  go true e here later = sym (same_Some _ _ here) ∙ main-takes lines (after_open other before) other refl e passes.1
   go false e here later = later here
 main-found (line ∷ lines) before taken passes is = main-found lines (checks.after before line) taken passes.1 is
 

@@ -12,8 +12,8 @@ use Rattle.swan_model.specs.declared.fault.Trouble.{Trouble}
 use Rattle.swan_model.specs.declared.fault.Trouble.TheVariants as trouble
 use Rattle.swan_model.specs.declared.value.Value.{Value}
 use Rattle.swan_model.specs.declared.value.Value.TheVariants.{Int}
-use Rattle.job_body.specs.declared.block.Block.{Block}
-use Rattle.job_body.specs.declared.block.Block.TheVariants as opened
+use Rattle.job_body.specs.declared.block.BlockWithLine.{BlockWithLine}
+use Rattle.job_body.specs.declared.block.BlockWithLine.TheVariants as opened
 use Rattle.job_body.specs.declared.instruction.IntOp.{IntOp}
 use Rattle.job_body.specs.declared.instruction.IntOp.TheVariants as int
 use Rattle.job_body.specs.declared.instruction.Operand.{Operand}
@@ -78,7 +78,7 @@ spawn-found lines s f fuel p found args begins (nowhere e none) =
 
 -- ---- the ends of blocks and of tasks
 
-end-is : (lines : List Line) (s : Standing) (fuel : ℕ) (blocks : List Block) → runs.done (program_of lines) s (compiled.after_end_of lines s.at (innermost blocks)) fuel (compiled.end_action (innermost blocks)) ≡ steps.ended lines s blocks
+end-is : (lines : List Line) (s : Standing) (fuel : ℕ) (blocks : List BlockWithLine) → runs.done (program_of lines) s (compiled.after_end_of lines s.at (innermost blocks)) fuel (compiled.end_action (innermost blocks)) ≡ steps.ended lines s blocks
 end-is lines s fuel [] = refl
 end-is lines s fuel (opened.If ∷ blocks) = refl
 end-is lines s fuel (opened.While i ∷ blocks) = refl
@@ -175,7 +175,7 @@ received-is lines s v new =
     ap (λ value. if is_kind (kind_of value) (kind_of new) then runs.with_slot s.values (slot (steps.names_at lines s.before) v) new else s.values) (sym (value-slot (steps.names_at lines s.before) s.values v))
     ∙ ap (λ values. if is_kind (kind_of (steps.value_named (steps.names_at lines s.before) s.values v)) (kind_of new) then values else s.values) (sym (set-slot (steps.names_at lines s.before) s.values v new))
 
-answered-end : (values : List Value) (block : Option Block) (a : Answer) → runs.answered values (compiled.end_action block) a ≡ values
+answered-end : (values : List Value) (block : Option BlockWithLine) (a : Answer) → runs.answered values (compiled.end_action block) a ≡ values
 answered-end values None a = refl
 answered-end values (Some block) a = refl
 

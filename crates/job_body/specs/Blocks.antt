@@ -1,35 +1,35 @@
 -- The blocks of a task: where one goes on at an `else`, an `end`, and a condition that is false.
 use Rattle.std.specs.Prelude.{ℕ, ◌+◌, Option, Some, None, List, [], ◌∷◌, take, drop, length}
-use Rattle.job_body.specs.declared.block.Block.{Block}
-use Rattle.job_body.specs.declared.block.Block.TheVariants as opened
+use Rattle.job_body.specs.declared.block.BlockWithLine.{BlockWithLine}
+use Rattle.job_body.specs.declared.block.BlockWithLine.TheVariants as opened
 use Rattle.job_body.specs.declared.exit.Exit.{Exit}
 use Rattle.job_reader.specs.declared.line.Line.{Line}
 use Rattle.job_reader.specs.declared.line.Line.TheVariants.{Task, If, Else, While, End}
 
 -- the innermost open block
-abbrev pub innermost : List Block → Option Block
+abbrev pub innermost : List BlockWithLine → Option BlockWithLine
 innermost [] = None
 innermost (block ∷ blocks) = Some block
 
 -- The blocks that are open after a line, the innermost first, by those that are open before it and the
 -- line's index. The `end` that closes no block closes the task.
-abbrev pub after_end : List Block → List Block
+abbrev pub after_end : List BlockWithLine → List BlockWithLine
 after_end [] = []
 after_end (block ∷ blocks) = blocks
 
-abbrev pub blocks_after : ℕ → List Block → Line → List Block
+abbrev pub blocks_after : ℕ → List BlockWithLine → Line → List BlockWithLine
 blocks_after i blocks (Task name) = []
 blocks_after i blocks (If a) = opened.If ∷ blocks
 blocks_after i blocks (While a) = opened.While i ∷ blocks
 blocks_after i blocks End = after_end blocks
 blocks_after i blocks _ = blocks
 
-abbrev pub blocks_from : ℕ → List Block → List Line → List Block
+abbrev pub blocks_from : ℕ → List BlockWithLine → List Line → List BlockWithLine
 blocks_from i blocks [] = blocks
 blocks_from i blocks (line ∷ lines) = blocks_from (i + 1) (blocks_after i blocks line) lines
 
 -- the blocks that are open before the line at an index
-abbrev pub blocks_at : List Line → ℕ → List Block
+abbrev pub blocks_at : List Line → ℕ → List BlockWithLine
 blocks_at lines i = blocks_from 0 [] (take i lines)
 
 -- the block that is closed first, where some block is; else one goes past all lines

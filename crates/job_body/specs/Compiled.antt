@@ -3,10 +3,10 @@
 use Rattle.std.specs.Prelude.{◌≡◌, ◌≤◌, ℕ, ◌+◌, false, Option, Some, None, List, [], ◌∷◌, ◌++◌, length, drop, flat_map, zip, slice_get, unwrap_or, pos, if◌then◌else◌}
 use Rattle.job_body.specs.Blocks.{after_end, blocks_at, exits, first_exit, innermost}
 use Rattle.job_body.specs.Names.{slot}
-use Rattle.job_body.specs.Tasks.{access_of, before_task, executed_from, made_of, param_of, roots, scope_at, takes, top_lines, var_kinds, var_of}
+use Rattle.job_body.specs.Tasks.{access_name_of, before_task, executed_from, made_of, param_of, roots, scope_at, takes, top_lines, var_kinds, var_of}
 use Rattle.privilege_check.specs.Names.{is_main}
-use Rattle.job_body.specs.declared.block.Block.{Block}
-use Rattle.job_body.specs.declared.block.Block.TheVariants as opened
+use Rattle.job_body.specs.declared.block.BlockWithLine.{BlockWithLine}
+use Rattle.job_body.specs.declared.block.BlockWithLine.TheVariants as opened
 use Rattle.job_body.specs.declared.exit.Exit.{Exit}
 use Rattle.job_body.specs.declared.instruction.Action.{Action}
 use Rattle.job_body.specs.declared.instruction.Action.TheVariants as action
@@ -102,7 +102,7 @@ seen_at lines i = record {
   is_main = is_main (scope_at lines i).name;
   params = flat_map param_of (scope_at lines i).lines;
   vars = flat_map var_of (scope_at lines i).lines;
-  accesses = flat_map access_of (scope_at lines i).lines;
+  accesses = flat_map access_name_of (scope_at lines i).lines;
   made = flat_map made_of (scope_at lines i).lines;
   blocks = blocks_at lines i;
 }
@@ -190,11 +190,11 @@ abbrev pub branch_of : List Line → Scope → Atom → ℕ → Action
 branch_of lines s a otherwise = action.Work (work.Branch (num_of (operand_of s a)) (executed_from lines otherwise))
 
 -- what the `end` of the innermost block does, or that of the task
-abbrev pub end_action : Option Block → Action
+abbrev pub end_action : Option BlockWithLine → Action
 end_action None = action.Demand demand.Finish
 end_action (Some block) = action.Work work.Go
 
-abbrev pub after_end_of : List Line → ℕ → Option Block → ℕ
+abbrev pub after_end_of : List Line → ℕ → Option BlockWithLine → ℕ
 after_end_of lines i (Some (opened.While index)) = executed_from lines index
 after_end_of lines i _ = executed_from lines (i + 1)
 

@@ -19,8 +19,8 @@ use Rattle.swan_model.specs.declared.value.Kind.TheVariants as kind
 use Rattle.swan_model.specs.declared.value.Value.{Value}
 use Rattle.swan_model.specs.declared.value.Value.TheVariants.{Int, Bytes}
 use Rattle.swan_model.specs.Values.{kind_of, zero_of}
-use Rattle.job_body.specs.declared.block.Block.{Block}
-use Rattle.job_body.specs.declared.block.Block.TheVariants as block
+use Rattle.job_body.specs.declared.block.BlockWithLine.{BlockWithLine}
+use Rattle.job_body.specs.declared.block.BlockWithLine.TheVariants as block
 use Rattle.job_body.specs.declared.take.Take.{Take}
 use Rattle.job_body.specs.declared.take.Take.TheVariants as given
 use Rattle.job_body.specs.Blocks.{blocks_at, exit_at}
@@ -126,7 +126,7 @@ spawned lines s (pos fuel) index given =
     (moved_on lines s, ask.Spawn (record { local = begun lines index (flat_map (value_given lines s) given); gives = flat_map (give_of lines s) given; fuel = fuel }))
 
 -- the end of the innermost of these blocks, or of the task where there is none
-abbrev pub ended : List Line → Standing → List Block → Standing × Ask Standing
+abbrev pub ended : List Line → Standing → List BlockWithLine → Standing × Ask Standing
 ended lines s [] = (s, ask.Finish)
 ended lines s (block.If ∷ blocks) = (moved_on lines s, ask.Work)
 ended lines s (block.While i ∷ blocks) = (moved_to lines s i, ask.Work)

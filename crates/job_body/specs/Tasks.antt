@@ -114,9 +114,9 @@ takes lines = flat_map take_of lines
 -- The objects and queues of a task by their places: what it is given in order, and then what it makes
 -- in order. The task `main` has the inputs and outputs in the order of their lines before these, and then
 -- the objects of the top level.
-abbrev pub access_of : Line → List (List ℕ)
-access_of (Access mode name kind) = name ∷ []
-access_of _ = []
+abbrev pub access_name_of : Line → List (List ℕ)
+access_name_of (Access mode name kind) = name ∷ []
+access_name_of _ = []
 
 abbrev pub made_of : Line → List (List ℕ)
 made_of (Queue name kind) = name ∷ []
@@ -140,4 +140,4 @@ roots_of lines name = if is_main name then roots (top_lines lines) else []
 
 abbrev pub places : List Line → Scope → List (List ℕ)
 places lines scope =
-    roots_of lines scope.name ++ (flat_map access_of scope.lines ++ flat_map made_of scope.lines)
+    roots_of lines scope.name ++ (flat_map access_name_of scope.lines ++ flat_map made_of scope.lines)

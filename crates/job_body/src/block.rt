@@ -8,7 +8,7 @@ use swan_model::NoMemory;
 
 /// An open block of statements.
 #[derive(Clone, Copy, Debug, PartialEq, Eq)]
-pub enum Block {
+pub enum BlockWithLine {
     /// An `if`.
     If,
     /// A `while` at the line with this index.
@@ -17,38 +17,38 @@ pub enum Block {
 
 /// The open blocks. Contracts see them as a list, the innermost first.
 #[derive(Drop)]
-pub struct Blocks {
-    from_outside: Vec<Block>,
+pub struct BlocksWithLines {
+    from_outside: Vec<BlockWithLine>,
 }
 
-impl Model for Blocks {
+impl Model for BlocksWithLines {
     ghost use Rattle.std.specs.Prelude.{List, reverse};
-    ghost use Rattle.job_body.specs.declared.block.Block.{Block};
+    ghost use Rattle.job_body.specs.declared.block.BlockWithLine.{BlockWithLine};
 
-    ghost Value = { List Block };
+    ghost Value = { List BlockWithLine };
 
     ghost view = { λ it. reverse it.from_outside.items };
 }
 
-impl Blocks {
+impl BlocksWithLines {
     /// No open block. It takes no memory. `O(1)`.
-    pub fn new(alloc: Global) -> Blocks
+    pub fn new(alloc: Global) -> BlocksWithLines
         ensures { result ≡ [] }
     {
-        Blocks {
+        BlocksWithLines {
             from_outside: Vec::new(alloc),
         }
     }
 
     /// The innermost block. `O(1)`.
-    pub fn innermost(&self) -> Option<Block>
+    pub fn innermost(&self) -> Option<BlockWithLine>
         ensures { result ≡ innermost self.now }
     {
         self.from_outside.last().copied()
     }
 
     /// Opens a block. `O(1)` amortised.
-    pub fn open(&mut self, block: Block) -> Result<(), NoMemory>
+    pub fn open(&mut self, block: BlockWithLine) -> Result<(), NoMemory>
         ensures { OnOk result (self.new ≡ block ∷ self.old) }
     {
         self.from_outside.push(block)?;

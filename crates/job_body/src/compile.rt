@@ -4,7 +4,7 @@ ghost use Rattle.job_body.specs.Compiled.{TakeFew, after_end_of, action_of, assi
 ghost use Rattle.job_body.specs.Blocks.{innermost};
 ghost use Rattle.job_body.specs.Tasks.{before_task, var_kinds};
 
-use crate::block::Block;
+use crate::block::BlockWithLine;
 use crate::exit::Exit;
 use crate::exits::exits_of;
 use crate::instruction::{Action, Demand, Instruction, IntOp, Num, Operand, Work};
@@ -235,12 +235,12 @@ fn action_of(
 }
 
 /// Where the task goes on after an `end`.
-fn after_end_of(job: &Source, index: u32, block: Option<Block>) -> u32
+fn after_end_of(job: &Source, index: u32, block: Option<BlockWithLine>) -> u32
     requires { index < u32.MAX }
     ensures { result ≡ after_end_of job.now index block }
 {
     match block {
-        Some(Block::While(opener)) => job.step_from(opener),
+        Some(BlockWithLine::While(opener)) => job.step_from(opener),
         _ => job.step_from(index + 1),
     }
 }

@@ -2,7 +2,7 @@
 ghost use Rattle.std.specs.Prelude.{◌≡◌, ◌+◌, ◌<◌, ◌≤◌, ℕ, IfOk, IfSome};
 ghost use Rattle.job_body.specs.Names.{joined_slot};
 
-use crate::block::{Block, Blocks};
+use crate::block::{BlockWithLine, BlocksWithLines};
 use crate::instruction::Operand;
 use crate::name_table::{NAMES_MOST, NameTable};
 use job_reader::{Atom, Line};
@@ -25,7 +25,7 @@ pub struct Scope {
     /// The names of the queues and objects that it makes.
     pub made: NameTable,
     /// The open blocks.
-    pub blocks: Blocks,
+    pub blocks: BlocksWithLines,
 }
 
 // The place in two lists of names, one after the other, by the place in each and the number of names in
@@ -59,7 +59,7 @@ impl Scope {
             vars: NameTable::new(alloc),
             accesses: NameTable::new(alloc),
             made: NameTable::new(alloc),
-            blocks: Blocks::new(alloc),
+            blocks: BlocksWithLines::new(alloc),
         }
     }
 
@@ -86,8 +86,8 @@ impl Scope {
             Line::Queue(name, _) | Line::Object(name, _) => {
                 self.made = self.made.with(alloc, name)?;
             }
-            Line::If(_) => self.blocks.open(Block::If)?,
-            Line::While(_) => self.blocks.open(Block::While(index))?,
+            Line::If(_) => self.blocks.open(BlockWithLine::If)?,
+            Line::While(_) => self.blocks.open(BlockWithLine::While(index))?,
             Line::End => self.blocks.close(),
             _ => {}
         }

@@ -5,7 +5,7 @@ use Rattle.swan_model.specs.declared.script.Deed.TheVariants as deed
 use Rattle.swan_model.specs.declared.script.OriginGive.{OriginGive}
 use Rattle.swan_model.specs.declared.script.Script.{Script}
 use Rattle.swan_model.specs.Lawful.{IsLawful}
-use Rattle.swan_model.specs.Readings.{next_deed, spawned}
+use Rattle.swan_model.specs.Readings.{next_deed, reading_after_spawn}
 use Rattle.swan_model.specs.SerialTime.{Progress, Reading, frame_of}
 use Rattle.swan_model.specs.Versions.{Placed, VersionState, owed, placed_at}
 use Rattle.swan_model.specs.VersionsFollow.{Access, ObjectsFollow, IsGiving, IsNewFrame, NextSpawnGivesObjects, is_object_give}
@@ -35,8 +35,8 @@ giving_begins s r state giver child accesses follows new spawn = record {
 -- a spawn that gives no object
 pub spawn_passes : (s : Script) (r : Reading) (state : VersionState) (parent : Progress) (child : ℕ) (gives : List OriginGive) → IsLawful s → ObjectsFollow s r state
     → frame_of r parent.number ≡ Some parent → next_deed s parent ≡ Some (deed.Spawn gives) → filter is_object_give gives ≡ [] → IsNewFrame r state child
-    → (queues : List Origin) → ObjectsFollow s (record (spawned s r parent child) { queues = queues }) state
+    → (queues : List Origin) → ObjectsFollow s (record (reading_after_spawn s r parent child) { queues = queues }) state
 spawn_passes s r state parent child gives lawful follows known next none new queues =
     let spawn : NextSpawnGivesObjects s r state parent [] = record { gives = gives; next = next; objects = ap (map Some) (sym none) } in
-    any_queues s (spawned s r parent child) state queues
+    any_queues s (reading_after_spawn s r parent child) state queues
     (ends_given s r state parent child [] lawful known (giving_begins s r state parent child [] follows new spawn))

@@ -3,7 +3,7 @@ use Rattle.std.proofs.Common.{◌≡◌, ◌≢◌, length, true, ℕ, None, Som
 use Rattle.swan_model.specs.declared.rights.Mode.{Mode}
 use Rattle.swan_model.specs.declared.script.Script.{Script}
 use Rattle.swan_model.specs.Lawful.{IsLawful}
-use Rattle.swan_model.specs.Readings.{gone_on, next_deed, spawned, with_object}
+use Rattle.swan_model.specs.Readings.{gone_on, next_deed, reading_after_spawn, with_object}
 use Rattle.swan_model.specs.SerialTime.{Progress, Reading, frame_of, point, times}
 use Rattle.swan_model.specs.Versions.{Holds, IsSettled, MayGet, Placed, VersionState, placed_at, after_access, after_create, after_finish, after_write}
 use Rattle.swan_model.specs.VersionsFollow.{Access, ObjectsFollow, IsGiving}
@@ -55,14 +55,14 @@ access_giving old now parent parent_place child child_place mode held free alone
 
 -- nothing is left to be given
 pub giving_ends : (s : Script) (r : Reading) (state : VersionState) (giver : Progress) (child : ℕ) (made : List Access) → IsLawful s → frame_of r giver.number ≡ Some giver
-    → IsGiving s r state giver child made [] → ObjectsFollow s (spawned s r giver child) state
+    → IsGiving s r state giver child made [] → ObjectsFollow s (reading_after_spawn s r giver child) state
 giving_ends s r state giver child made lawful known giving = ends_given s r state giver child made lawful known giving
 
 pub access_last : (old now : VersionState) (parent parent_place child child_place : ℕ) (mode : Mode) → Holds old parent parent_place mode → placed_at old child child_place ≡ None
     → ((object : Placed) → placed_at old parent parent_place ≡ Some object → MayGet old child object.object mode) → now ≡ after_access old parent parent_place child child_place mode
     → (s : Script) (r : Reading) (giver : Progress) (made : List Access) → IsLawful s → frame_of r parent ≡ Some giver
     → IsGiving s r old giver child made ((record { place = parent_place; child_place = child_place; mode = mode }) ∷ [])
-    → ObjectsFollow s (spawned s r giver child) now
+    → ObjectsFollow s (reading_after_spawn s r giver child) now
 access_last old now parent parent_place child child_place mode held free alone is = λ s r giver made lawful known giving.
     let this : Access = record { place = parent_place; child_place = child_place; mode = mode } in
     let known_too = ap (frame_of r) (frame_number r.frames parent giver known) ∙ known in

@@ -14,7 +14,7 @@ use Rattle.swan_model.specs.declared.script.OriginGive.{OriginGive}
 use Rattle.swan_model.specs.declared.script.Script.{Script}
 use Rattle.swan_model.specs.Granted.{child_path, children_before, holds, may_use}
 use Rattle.swan_model.specs.Lawful.{IsLawful}
-use Rattle.swan_model.specs.Readings.{end_time, next_deed, one_more, spawned}
+use Rattle.swan_model.specs.Readings.{end_time, next_deed, one_more, reading_after_spawn}
 use Rattle.swan_model.specs.Rights.{allows}
 use Rattle.swan_model.specs.SerialTime.{Progress, Reading, frame_of, point, time}
 use Rattle.swan_model.specs.Told.{cell, deed_at, is_given_out, is_out}
@@ -22,7 +22,7 @@ use Rattle.swan_model.specs.Values.{kind_of, zero_of}
 use Rattle.swan_model.specs.Versions.{Version, settled, owed, Placed, VersionState, owing, placed_at}
 use Rattle.swan_model.specs.VersionsFollow.{Access, Begins, ObjectsFollow, FollowsAt, IsGiving, IsVersionAt, is_object_give, object_give}
 use Rattle.object_versions.proofs.Differ.{reads_not-out, settled_not-owed}
-use Rattle.swan_model.proofs.MovedFrames.{IsMoved, child_of, frame_number, own_moves, other_stays, path_kept, spawned_back, spawned_there, done_spawned}
+use Rattle.swan_model.proofs.MovedFrames.{IsMoved, child_progress, frame_number, own_moves, other_stays, path_kept, spawned_back, spawned_there, done_spawned}
 use Rattle.object_versions.proofs.GivingAccess.{no_frame}
 use Rattle.object_versions.proofs.GivingPlaces.{owing_owed}
 use Rattle.object_versions.proofs.Moves.{IsSameTask, Owes, at_moves, does_now, held_on, one_object, same_task, version_moves}
@@ -69,13 +69,13 @@ module _ (s : Script) (r : Reading) (state : VersionState) (giver : Progress) (c
   gives = giving.spawn.gives
 
   abbrev after : Reading
-  after = spawned s r giver child
+  after = reading_after_spawn s r giver child
 
   abbrev path : List ℕ
   path = child_path s giver.path (point s giver)
 
   abbrev start : Progress
-  start = child_of s giver child
+  start = child_progress s giver child
 
   next : next_deed s giver ≡ Some (deed.Spawn gives)
   next = giving.spawn.next
@@ -328,7 +328,7 @@ module _ (s : Script) (r : Reading) (state : VersionState) (giver : Progress) (c
     | inr c ↦ subst (λ f. FollowsAt s after f has origin) (sym c.is) (follows_child place has origin (ap (λ k. placed_at state k place) (sym c.same) ∙ stands) made)
   ]
 
-  pub ends_given : ObjectsFollow s (spawned s r giver child) state
+  pub ends_given : ObjectsFollow s (reading_after_spawn s r giver child) state
   ends_given = record {
     tasks = tasks_spawned s r lawful follows.tasks giver child gives known next;
     root = (one_more giver.number follows.root.0, spawned_there s r giver child 0 follows.root.0 follows.root.1, path_kept giver.number follows.root.0 ∙ follows.root.2);

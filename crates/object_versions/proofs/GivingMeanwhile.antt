@@ -10,7 +10,7 @@ use Rattle.swan_model.specs.declared.script.OriginGive.{OriginGive}
 use Rattle.swan_model.specs.declared.script.Script.{Script}
 use Rattle.swan_model.specs.Granted.{is_spawn}
 use Rattle.swan_model.specs.Lawful.{IsLawful}
-use Rattle.swan_model.specs.Readings.{gone_on, next_deed, spawned}
+use Rattle.swan_model.specs.Readings.{gone_on, next_deed, reading_after_spawn}
 use Rattle.swan_model.specs.Rights.{allows}
 use Rattle.swan_model.specs.SerialTime.{Progress, Reading, frame_of}
 use Rattle.swan_model.specs.Versions.{Holds, MayGet, owed, Placed, VersionState, placed_at, after_access}
@@ -90,9 +90,9 @@ module _ (s : Script) (r : Reading) (state : VersionState) (parent : ℕ) (child
 
 -- ---- another parent's spawn is done
 
-spawn_unread : (s : Script) (r : Reading) (parent : Progress) (child_other child : ℕ) → frame_of r child ≡ None → child ≢ child_other → frame_of (spawned s r parent child_other) child ≡ None
-spawn_unread s r parent child_other child none apart = by (frame_of (spawned s r parent child_other) child) refl where
-  by : (o : Option Progress) → frame_of (spawned s r parent child_other) child ≡ o → o ≡ None
+spawn_unread : (s : Script) (r : Reading) (parent : Progress) (child_other child : ℕ) → frame_of r child ≡ None → child ≢ child_other → frame_of (reading_after_spawn s r parent child_other) child ≡ None
+spawn_unread s r parent child_other child none apart = by (frame_of (reading_after_spawn s r parent child_other) child) refl where
+  by : (o : Option Progress) → frame_of (reading_after_spawn s r parent child_other) child ≡ o → o ≡ None
   by None is = refl
   by (Some now) is = elim (spawned_back s r parent child_other child now is) [
     | inl m ↦ absurd (no_frame r child m.was none m.stood)
@@ -101,9 +101,9 @@ spawn_unread s r parent child_other child none apart = by (frame_of (spawned s r
 
 pub spawn_beside : (s : Script) (r : Reading) (state : VersionState) (parent giver : Progress) (child_other child : ℕ) (all made left : List Access) → IsLawful s
     → frame_of r parent.number ≡ Some parent → IsGiving s r state parent child_other all [] → child ≢ child_other → IsGiving s r state giver child made left
-    → IsGiving s (spawned s r parent child_other) state giver child made left
+    → IsGiving s (reading_after_spawn s r parent child_other) state giver child made left
 spawn_beside s r state parent giver child_other child all made left lawful known other apart giving =
-    others_leave s r (spawned s r parent child_other) state state giver child made left giving
+    others_leave s r (reading_after_spawn s r parent child_other) state state giver child made left giving
     (ends_given s r state parent child_other all lawful known other) (spawn_unread s r parent child_other child giving.unread apart)
     (λ p was stands number now owes there. elim (spawned_back s r parent child_other number now there) [
       | inl m ↦ same_task r parent.number number now m
@@ -116,7 +116,7 @@ spawn_beside s r state parent giver child_other child all made left lawful known
 -- a spawn that gives no object
 pub spawn_meanwhile : (s : Script) (r : Reading) (state : VersionState) (parent giver : Progress) (other child : ℕ) (gives : List OriginGive) (made left : List Access) → IsLawful s
     → frame_of r parent.number ≡ Some parent → next_deed s parent ≡ Some (deed.Spawn gives) → filter is_object_give gives ≡ [] → IsNewFrame r state other → child ≢ other
-    → IsGiving s r state giver child made left → IsGiving s (spawned s r parent other) state giver child made left
+    → IsGiving s r state giver child made left → IsGiving s (reading_after_spawn s r parent other) state giver child made left
 spawn_meanwhile s r state parent giver other child gives made left lawful known next none new apart giving =
     let spawn : NextSpawnGivesObjects s r state parent [] = record { gives = gives; next = next; objects = ap (map Some) (sym none) } in
     spawn_beside s r state parent giver other child [] made left lawful known (giving_begins s r state parent other [] giving.follows new spawn) apart giving
@@ -144,7 +144,7 @@ module _ (old now : VersionState) (parent parent_place child child_place : ℕ) 
   -- and so does the last one, by which the spawn is done
   pub last_meanwhile : (s : Script) (r : Reading) (own giver : Progress) (other : ℕ) (done made left : List Access) → IsLawful s → frame_of r parent ≡ Some own
       → IsGiving s r old own child done (this ∷ []) → frame_of r giver.number ≡ Some giver → parent ≢ giver.number → child ≢ other
-      → IsGiving s r old giver other made left → IsGiving s (spawned s r own child) now giver other made left
+      → IsGiving s r old giver other made left → IsGiving s (reading_after_spawn s r own child) now giver other made left
   last_meanwhile s r own giver other done made left lawful known giving giver_known not_giver apart beside =
       let number = frame_number r.frames parent own known in
       spawn_beside s r now own giver child other (done ++ this ∷ []) made left lawful (ap (frame_of r) number ∙ known)

@@ -15,9 +15,9 @@ use Rattle.swan_model.specs.declared.script.Script.{Script}
 use Rattle.swan_model.specs.Granted.{child_path, children_before}
 use Rattle.swan_model.specs.Lawful.{IsLawful}
 use Rattle.swan_model.specs.Nested.{HasTasks, IsSpawned, spawn_time}
-use Rattle.swan_model.specs.Readings.{gone_on, next_deed, one_more, spawned}
+use Rattle.swan_model.specs.Readings.{gone_on, next_deed, one_more, reading_after_spawn}
 use Rattle.swan_model.specs.SerialTime.{Progress, Reading, frame_of, is_done, is_of, is_past, point}
-use Rattle.swan_model.proofs.MovedFrames.{child_of, frame_in, own_moves, path_kept, done_spawned, done_stays}
+use Rattle.swan_model.proofs.MovedFrames.{child_progress, frame_in, own_moves, path_kept, done_spawned, done_stays}
 use Rattle.swan_model.proofs.Paths.{path_is-itself}
 use Rattle.swan_model.proofs.ScriptSteps.{at_next, point_rises, spawn_moves}
 use Rattle.swan_model.proofs.Elements.{more_cases}
@@ -62,14 +62,14 @@ done_then s r frame does known next =
     ap (λ o. option_map_or (λ entry. list_any (is_past s (point s frame) entry) (map (one_more frame.number) r.frames)) o false) step.stands ∙ any
 
 pub done_spawning : (s : Script) (r : Reading) (parent : Progress) (child : ℕ) (does : Deed) → frame_of r parent.number ≡ Some parent → next_deed s parent ≡ Some does
-    → IsTrue (is_done s (spawned s r parent child) (point s parent))
+    → IsTrue (is_done s (reading_after_spawn s r parent child) (point s parent))
 done_spawning s r parent child does known next =
     let step = at_next s parent does next in
     let here = frame_in r.frames parent.number parent known in
     let place = slice_get-map (one_more parent.number) r.frames here.index ∙ ap (option_map (one_more parent.number)) here.stands in
     let any = any_passes_from_place (is_past s (point s parent) step.entry) (map (one_more parent.number) r.frames) here.index (one_more parent.number parent) place (past_then s parent does next) in
-    ap (λ o. option_map_or (λ entry. list_any (is_past s (point s parent) entry) (map (one_more parent.number) r.frames ++ child_of s parent child ∷ [])) o false) step.stands
-    ∙ list_any-append (is_past s (point s parent) step.entry) (map (one_more parent.number) r.frames) (child_of s parent child ∷ [])
+    ap (λ o. option_map_or (λ entry. list_any (is_past s (point s parent) entry) (map (one_more parent.number) r.frames ++ child_progress s parent child ∷ [])) o false) step.stands
+    ∙ list_any-append (is_past s (point s parent) step.entry) (map (one_more parent.number) r.frames) (child_progress s parent child ∷ [])
     ∙ or_left _ _ any
 
 -- ---- the tasks
@@ -109,24 +109,24 @@ unlike s r lawful tasks parent gives known next i frame is path =
     not_done s r tasks parent (deed.Spawn gives) known next (ap (is_done s r) (sym same) ∙ spawn.done)
 
 pub tasks_spawned : (s : Script) (r : Reading) → IsLawful s → HasTasks s r → (parent : Progress) (child : ℕ) (gives : List OriginGive) → frame_of r parent.number ≡ Some parent
-    → next_deed s parent ≡ Some (deed.Spawn gives) → HasTasks s (spawned s r parent child)
+    → next_deed s parent ≡ Some (deed.Spawn gives) → HasTasks s (reading_after_spawn s r parent child)
 tasks_spawned s r lawful tasks parent child gives known next = record { different = different; spawned = spawns } where
   now : List Progress
   now = map (one_more parent.number) r.frames
 
-  different : (i j : ℕ) (frame other : Progress) → slice_get (map (one_more parent.number) r.frames ++ child_of s parent child ∷ []) i ≡ Some frame
-      → slice_get (map (one_more parent.number) r.frames ++ child_of s parent child ∷ []) j ≡ Some other → frame.path ≡ other.path → i ≡ j
+  different : (i j : ℕ) (frame other : Progress) → slice_get (map (one_more parent.number) r.frames ++ child_progress s parent child ∷ []) i ≡ Some frame
+      → slice_get (map (one_more parent.number) r.frames ++ child_progress s parent child ∷ []) j ≡ Some other → frame.path ≡ other.path → i ≡ j
   different i j frame other is also same =
-      elim (more_cases (map (one_more parent.number) r.frames) (child_of s parent child) i frame is) [
+      elim (more_cases (map (one_more parent.number) r.frames) (child_progress s parent child) i frame is) [
         | inl before ↦
             let a = from r.frames parent.number i frame before in
-            elim (more_cases (map (one_more parent.number) r.frames) (child_of s parent child) j other also) [
+            elim (more_cases (map (one_more parent.number) r.frames) (child_progress s parent child) j other also) [
               | inl also_before ↦
                   let b = from r.frames parent.number j other also_before in
                   tasks.different i j a.was b.was a.stood b.stood (sym a.path ∙ same ∙ b.path)
               | inr last ↦ absurd (unlike s r lawful tasks parent gives known next i a.was a.stood (sym a.path ∙ same ∙ ap (λ f. f.path) last.1))
             ]
-        | inr first ↦ elim (more_cases (map (one_more parent.number) r.frames) (child_of s parent child) j other also) [
+        | inr first ↦ elim (more_cases (map (one_more parent.number) r.frames) (child_progress s parent child) j other also) [
           | inl before ↦
               let b = from r.frames parent.number j other before in
               absurd (unlike s r lawful tasks parent gives known next j b.was b.stood (sym b.path ∙ sym same ∙ ap (λ f. f.path) first.1))
@@ -134,10 +134,10 @@ tasks_spawned s r lawful tasks parent child gives known next = record { differen
         ]
       ]
 
-  spawns : (i : ℕ) (frame : Progress) (path : List ℕ) (number : ℕ) → slice_get (map (one_more parent.number) r.frames ++ child_of s parent child ∷ []) i ≡ Some frame
-      → frame.path ≡ path ++ number ∷ [] → IsSpawned s (spawned s r parent child) path number
+  spawns : (i : ℕ) (frame : Progress) (path : List ℕ) (number : ℕ) → slice_get (map (one_more parent.number) r.frames ++ child_progress s parent child ∷ []) i ≡ Some frame
+      → frame.path ≡ path ++ number ∷ [] → IsSpawned s (reading_after_spawn s r parent child) path number
   spawns i frame path number is ends =
-      elim (more_cases (map (one_more parent.number) r.frames) (child_of s parent child) i frame is) [
+      elim (more_cases (map (one_more parent.number) r.frames) (child_progress s parent child) i frame is) [
         | inl before ↦
             let a = from r.frames parent.number i frame before in
             let spawn = tasks.spawned i a.was path number a.stood (sym a.path ∙ ends) in

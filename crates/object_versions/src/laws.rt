@@ -12,7 +12,7 @@ ghost use Rattle.swan_model.specs.declared.value.Value.{Value};
 ghost use Rattle.swan_model.specs.Granted.{is_spawn};
 ghost use Rattle.swan_model.specs.Lawful.{IsLawful};
 ghost use Rattle.swan_model.specs.PathOrder.{comes_before};
-ghost use Rattle.swan_model.specs.Readings.{gone_on, next_deed, spawned};
+ghost use Rattle.swan_model.specs.Readings.{gone_on, next_deed, reading_after_spawn};
 ghost use Rattle.swan_model.specs.SerialTime.{Progress, Reading, frame_of, is_earlier, times};
 ghost use Rattle.swan_model.specs.Values.{kind_of};
 ghost use Rattle.swan_model.specs.Versions.{settled, owed, Awaits, IsSettled, Placed, VersionState, after_access, after_create, after_finish, after_write, got, left_with, placed_at, settle_placed};
@@ -31,7 +31,7 @@ pub fn other_entries_pass()
     ensures spawns { (s : Script) (r : Reading) (state : VersionState) (parent : Progress) (child : ℕ) (gives : List OriginGive)
         → IsLawful s → ObjectsFollow s r state → frame_of r parent.number ≡ Some parent → next_deed s parent ≡ Some (deed.Spawn gives)
         → filter is_object_give gives ≡ [] → IsNewFrame r state child
-        → (queues : List Origin) → ObjectsFollow s (record (spawned s r parent child) { queues = queues }) state }
+        → (queues : List Origin) → ObjectsFollow s (record (reading_after_spawn s r parent child) { queues = queues }) state }
 
     // while a child is being given its objects
     ensures meanwhile { (s : Script) (r : Reading) (state : VersionState) (frame : Progress) (does : Deed) (giver : Progress) (child : ℕ) (made left : List Access)
@@ -41,7 +41,7 @@ pub fn other_entries_pass()
     ensures spawns_meanwhile { (s : Script) (r : Reading) (state : VersionState) (parent giver : Progress) (other child : ℕ) (gives : List OriginGive) (made left : List Access)
         → IsLawful s → frame_of r parent.number ≡ Some parent → next_deed s parent ≡ Some (deed.Spawn gives) → filter is_object_give gives ≡ []
         → IsNewFrame r state other → child ≢ other → IsGiving s r state giver child made left
-        → IsGiving s (spawned s r parent other) state giver child made left }
+        → IsGiving s (reading_after_spawn s r parent other) state giver child made left }
 {}
 
 /// The law by which a child begins to be given its objects: before the first of the accesses that its parent's next

@@ -5,7 +5,7 @@ ghost use Rattle.swan_model.specs.declared.origin.Origin.TheVariants.{Root, Step
 ghost use Rattle.swan_model.specs.declared.script.Deed.TheVariants as deed;
 ghost use Rattle.swan_model.specs.declared.script.Script.{Script};
 ghost use Rattle.swan_model.specs.Lawful.{IsLawful};
-ghost use Rattle.swan_model.specs.Readings.{at_start, gone_on, next_deed, spawned, with_object};
+ghost use Rattle.swan_model.specs.Readings.{at_start, gone_on, next_deed, reading_after_spawn, with_object};
 ghost use Rattle.swan_model.specs.SerialTime.{Progress, Reading, frame_of, point, times, version};
 ghost use Rattle.swan_model.specs.VersionsFollow.{Access, ObjectsFollow, IsGiving};
 ghost use Rattle.object_versions.specs.Following.{IsElsewhere, OnFollowing, OnMeanwhile, WaitsForNone, access_of};
@@ -120,7 +120,7 @@ impl Versions {
         ensures last { OnOk result ((s : Script) (r : Reading) (giver : Progress) (made : List Access) → IsLawful s
             → frame_of r parent ≡ Some giver
             → IsGiving s r self.old giver child made (access_of parent_place child_place mode ∷ [])
-            → ObjectsFollow s (spawned s r giver child) self.new) }
+            → ObjectsFollow s (reading_after_spawn s r giver child) self.new) }
 
         // while another frame gives another child its objects
         ensures beside { OnOk result ((s : Script) (r : Reading) (own giver : Progress) (other : ℕ) (done rest made left : List Access) → IsLawful s
@@ -130,7 +130,7 @@ impl Versions {
         ensures last_beside { OnOk result ((s : Script) (r : Reading) (own giver : Progress) (other : ℕ) (done made left : List Access) → IsLawful s
             → frame_of r parent ≡ Some own → IsGiving s r self.old own child done (access_of parent_place child_place mode ∷ [])
             → frame_of r giver.number ≡ Some giver → parent ≢ giver.number → child ≢ other → IsGiving s r self.old giver other made left
-            → IsGiving s (spawned s r own child) self.new giver other made left) }
+            → IsGiving s (reading_after_spawn s r own child) self.new giver other made left) }
     {
         let gift = Gift {
             parent,

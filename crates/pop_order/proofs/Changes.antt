@@ -2,7 +2,7 @@
 use Rattle.std.proofs.Common.{◌≡◌, ◌≢◌, ℕ, true, ◌&&◌, ◌||◌, not, List, refl, sym, ap, ◌∙◌, ◌⊎◌, inl, inr, arith}
 use Rattle.std.proofs.lemmas.Bool.{and_from, and_parts, false_from_ne_true, false≢true, not-true, or_cases, or_left, or_right}
 use Rattle.std.proofs.lemmas.Bool.Decides.{nat_tests}
-use Rattle.pop_order.specs.Children.{Entry, has, is_entry, IsWith, IsWithout, IsSameFor}
+use Rattle.pop_order.specs.Children.{ChildEntry, has, is_entry, IsWith, IsWithout, IsSameFor}
 use Rattle.pop_order.specs.Makers.{Maker, makes, is_maker, IsMakerIn, IsMakerOut}
 
 -- an entry is another one
@@ -22,7 +22,7 @@ is_entry_same : (parent queue child p q c : ℕ) → IsSame parent queue child p
 is_entry_same parent queue child p q c s =
     let a = s.parents in let b = s.queues in let d = s.children in grind (arith, nat_tests)
 
-module _ (before after : List Entry) (parent queue child : ℕ) (change : IsWith before parent queue child after) where
+module _ (before after : List ChildEntry) (parent queue child : ℕ) (change : IsWith before parent queue child after) where
   pub came_in : has after parent queue child ≡ true
   came_in = change parent queue child ∙ or_left _ _ (is_entry_same parent queue child parent queue child (record { parents = refl; queues = refl; children = refl }))
 
@@ -35,7 +35,7 @@ module _ (before after : List Entry) (parent queue child : ℕ) (change : IsWith
     | inr was ↦ inr was
   ]
 
-module _ (before after : List Entry) (parent queue child : ℕ) (change : IsWithout before parent queue child after) where
+module _ (before after : List ChildEntry) (parent queue child : ℕ) (change : IsWithout before parent queue child after) where
   pub was_in : (p q c : ℕ) → has after p q c ≡ true → has before p q c ≡ true
   was_in p q c h = (and_parts _ _ (sym (change p q c) ∙ h)).1
 
@@ -46,12 +46,12 @@ module _ (before after : List Entry) (parent queue child : ℕ) (change : IsWith
   stays_in p q c another h = change p q c ∙ and_from _ _ (ap not (false_from_ne_true _ (λ e. another (is_same parent queue child p q c e)))) h
 
 -- an entry of one queue changes nothing for another
-pub others_with : (before after : List Entry) (parent queue child : ℕ) → IsWith before parent queue child after
+pub others_with : (before after : List ChildEntry) (parent queue child : ℕ) → IsWith before parent queue child after
     → (other : ℕ) → other ≢ queue → IsSameFor other before after
 others_with before after parent queue child change other apart = λ p c.
     change p other c ∙ ap (λ b. b || has before p other c) (false_from_ne_true _ (λ e. apart (sym (is_same parent queue child p other c e).queues)))
 
-pub others_without : (before after : List Entry) (parent queue child : ℕ) → IsWithout before parent queue child after
+pub others_without : (before after : List ChildEntry) (parent queue child : ℕ) → IsWithout before parent queue child after
     → (other : ℕ) → other ≢ queue → IsSameFor other before after
 others_without before after parent queue child change other apart = λ p c.
     change p other c ∙ ap (λ b. not b && has before p other c) (false_from_ne_true _ (λ e. apart (sym (is_same parent queue child p other c e).queues)))

@@ -5,7 +5,7 @@ use Rattle.std.specs.List.Sorted.{IsStrictlySortedBy}
 use Rattle.std.specs.Ordering.{nat_cmp}
 use Rattle.std.specs.Map.{keys_of}
 use Rattle.swan_model.specs.declared.rights.Mode.{Mode}
-use Rattle.pop_order.specs.Children.{Entry, has}
+use Rattle.pop_order.specs.Children.{ChildEntry, has}
 use Rattle.pop_order.specs.Frames.{Frames}
 use Rattle.pop_order.specs.Order.{IsChild}
 use Rattle.pop_order.specs.Kept.{AreBelowParents, HasHolders, HasMakers, IsKeptFor, IsKept}
@@ -41,7 +41,7 @@ none_below = λ p n child. absurd (no_child child)
 none_for : (queue : ℕ) → IsKeptFor [] [] [] [] queue
 none_for queue = record { pops = no_holders _ queue; pushes = no_holders _ queue; makes = no_makers queue }
 
-pub empty_kept : (frames : Frames) (poppers pushers : List Entry) (makers : List Maker) → IsStrictlySortedBy nat_cmp (keys_of frames)
+pub empty_kept : (frames : Frames) (poppers pushers : List ChildEntry) (makers : List Maker) → IsStrictlySortedBy nat_cmp (keys_of frames)
     → frames ≡ [] → poppers ≡ [] → pushers ≡ [] → makers ≡ [] → IsKept frames poppers pushers makers
 empty_kept frames poppers pushers makers sorted f a b c = record {
   sorted = sorted;

@@ -10,8 +10,8 @@ use Rattle.swan_model.specs.Rights.{allows}
 use Rattle.swan_model.specs.SerialState.{Holding}
 use Rattle.swan_model.specs.declared.rights.Mode.{Mode}
 use Rattle.swan_model.specs.declared.rights.Mode.TheVariants.{Push, Pop}
-use Rattle.pop_order.specs.Children.{Entry}
-use Rattle.pop_order.specs.Frames.{TurnFrame, Frames, frame_at, holds, enlisted, enlisted_at, lent_to, lent_at, without, AreUpTo, HasNoChild, may_get, MayBeEnlisted}
+use Rattle.pop_order.specs.Children.{ChildEntry}
+use Rattle.pop_order.specs.Frames.{TurnFrame, Frames, frame_at, lets_use, frames_after_enlist, frames_after_enlist_at, frames_after_lend, frames_after_lend_at, without, AreUpTo, HasNoChild, may_get, MayBeEnlisted}
 use Rattle.pop_order.specs.Order.{IsChild}
 use Rattle.pop_order.specs.Turns.{IsHolder}
 use Rattle.pop_order.specs.Kept.{AreBelowParents, HasHolders, IsKeptFor, IsKept}
@@ -31,21 +31,21 @@ lets_own h mode a = and_from _ _ (eq-eqb h.number h.number refl) a
 lets_parts : (queue : ℕ) (mode : Mode) (h : Holding) → lets queue mode h ≡ true → (h.number ≡ queue) × (allows h.mode mode ≡ true)
 lets_parts queue mode h e = let parts = and_parts _ _ e in (eqb-true h.number queue parts.0, parts.1)
 
-one_lets : (queue : ℕ) (mode : Mode) (h : Holding) → holds (h ∷ []) queue mode ≡ true → lets queue mode h ≡ true
+one_lets : (queue : ℕ) (mode : Mode) (h : Holding) → lets_use (h ∷ []) queue mode ≡ true → lets queue mode h ≡ true
 one_lets queue mode h e = elim (or_cases (lets queue mode h) false e) [ inl is ↦ is | inr never ↦ absurd (false≢true never) ]
 
-more_lets : (hs : List Holding) (queue : ℕ) (mode : Mode) (h : Holding) → holds (hs ++ h ∷ []) queue mode ≡ true
-    → (holds hs queue mode ≡ true) ⊎ (lets queue mode h ≡ true)
+more_lets : (hs : List Holding) (queue : ℕ) (mode : Mode) (h : Holding) → lets_use (hs ++ h ∷ []) queue mode ≡ true
+    → (lets_use hs queue mode ≡ true) ⊎ (lets queue mode h ≡ true)
 more_lets hs queue mode h e =
-    elim (or_cases (holds hs queue mode) (holds (h ∷ []) queue mode) (sym (list_any-append (lets queue mode) hs (h ∷ [])) ∙ e)) [
+    elim (or_cases (lets_use hs queue mode) (lets_use (h ∷ []) queue mode) (sym (list_any-append (lets queue mode) hs (h ∷ [])) ∙ e)) [
       | inl was ↦ inl was
       | inr now ↦ inr (one_lets queue mode h now)
     ]
 
-still_lets : (hs : List Holding) (queue : ℕ) (mode : Mode) (h : Holding) → holds hs queue mode ≡ true → holds (hs ++ h ∷ []) queue mode ≡ true
+still_lets : (hs : List Holding) (queue : ℕ) (mode : Mode) (h : Holding) → lets_use hs queue mode ≡ true → lets_use (hs ++ h ∷ []) queue mode ≡ true
 still_lets hs queue mode h e = list_any-append (lets queue mode) hs (h ∷ []) ∙ or_left _ _ e
 
-now_lets : (hs : List Holding) (mode : Mode) (h : Holding) → allows h.mode mode ≡ true → holds (hs ++ h ∷ []) h.number mode ≡ true
+now_lets : (hs : List Holding) (mode : Mode) (h : Holding) → allows h.mode mode ≡ true → lets_use (hs ++ h ∷ []) h.number mode ≡ true
 now_lets hs mode h a = list_any-append (lets h.number mode) hs (h ∷ []) ∙ or_right _ _ (or_left _ false (lets_own h mode a))
 
 -- ---- enlisting
@@ -59,7 +59,7 @@ childless frames child rising newest n is =
 
 module _ (frames : Frames) (parent child : ℕ) (holding : Holding) (rising : AreBelowParents frames) (newest : AreUpTo frames child) where
   grown_at : (found : Option TurnFrame) → frame_at frames child ≡ found → may_get found parent holding.number ≡ true
-      → IsGrown frames (enlisted_at frames parent child holding found) parent child holding
+      → IsGrown frames (frames_after_enlist_at frames parent child holding found) parent child holding
   grown_at None e fits = record {
     frame = record { parent = parent; holdings = holding ∷ []; lent = false };
     one = record { changed = at_inserted frames child _; others = λ n apart. by_inserted frames child _ n apart };
@@ -80,23 +80,23 @@ module _ (frames : Frames) (parent child : ℕ) (holding : Holding) (rising : Ar
       | inr now ↦ inr (lets_parts queue mode holding now)
     ];
     still = λ queue mode is.
-        let P : TurnFrame → Type 0 = λ g. holds g.holdings queue mode ≡ true in
+        let P : TurnFrame → Type 0 = λ g. lets_use g.holdings queue mode ≡ true in
         still_lets f.holdings queue mode holding (subst P (one_answer (frame_at frames child) is.frame f is.active e) is.held);
     new = λ mode a. now_lets f.holdings mode holding a;
     childless = childless frames child rising newest;
   }
 
-  pub grown_enlisted : MayBeEnlisted frames parent child holding.number → IsGrown frames (enlisted frames parent child holding) parent child holding
+  pub grown_enlisted : MayBeEnlisted frames parent child holding.number → IsGrown frames (frames_after_enlist frames parent child holding) parent child holding
   grown_enlisted fits = grown_at (frame_at frames child) refl fits
 
-  pub below_enlisted : parent < child → MayBeEnlisted frames parent child holding.number → AreBelowParents (enlisted frames parent child holding)
+  pub below_enlisted : parent < child → MayBeEnlisted frames parent child holding.number → AreBelowParents (frames_after_enlist frames parent child holding)
   below_enlisted under fits p n is =
       let grown = grown_enlisted fits in
       elim (cases_eq n child) [
         | inl same ↦
-            let P : ℕ → Type 0 = λ k. IsChild (enlisted frames parent child holding) p k in
+            let P : ℕ → Type 0 = λ k. IsChild (frames_after_enlist frames parent child holding) p k in
             let is_child = subst P same is in
-            let one : p ≡ parent = sym is_child.of ∙ ap (λ (g : TurnFrame). g.parent) (one_answer (frame_at (enlisted frames parent child holding) child) is_child.frame grown.frame is_child.active grown.one.changed) ∙ grown.of in
+            let one : p ≡ parent = sym is_child.of ∙ ap (λ (g : TurnFrame). g.parent) (one_answer (frame_at (frames_after_enlist frames parent child holding) child) is_child.frame grown.frame is_child.active grown.one.changed) ∙ grown.of in
             omega arith
         | inr apart ↦ rising p n (record { frame = is.frame; active = sym (grown.one.others n apart) ∙ is.active; of = is.of })
       ]
@@ -132,17 +132,17 @@ module _ (before after : Frames) (alike : IsAlike before after) where
   holder_alike : (q : ℕ) (m : Mode) (n : ℕ) → IsHolder before q m n → IsHolder after q m n
   holder_alike q m n is =
       let g = alike.there n is.frame is.active in
-      let P : List Holding → Type 0 = λ hs. holds hs q m ≡ true in
+      let P : List Holding → Type 0 = λ hs. lets_use hs q m ≡ true in
       record { frame = g.0; active = g.1; held = subst P (sym g.3) is.held }
 
 module _ (before after : Frames) (alike : IsAlike before after) (back : IsAlike after before) where
-  holders_alike : (q : ℕ) (m : Mode) (set : List Entry) → HasHolders before m q set → HasHolders after m q set
+  holders_alike : (q : ℕ) (m : Mode) (set : List ChildEntry) → HasHolders before m q set → HasHolders after m q set
   holders_alike q m set h = record {
     holders = λ p c k. let was = h.holders p c k in (child_alike before after alike p c was.0, holder_alike before after alike q m c was.1);
     all = λ p c is holder. h.all p c (child_alike after before back p c is) (holder_alike after before back q m c holder);
   }
 
-  kept_for_alike : (poppers pushers : List Entry) (makers : List Maker) (q : ℕ) → IsKeptFor before poppers pushers makers q → IsKeptFor after poppers pushers makers q
+  kept_for_alike : (poppers pushers : List ChildEntry) (makers : List Maker) (q : ℕ) → IsKeptFor before poppers pushers makers q → IsKeptFor after poppers pushers makers q
   kept_for_alike poppers pushers makers q kept = record {
     pops = holders_alike q Pop poppers kept.pops;
     pushes = holders_alike q Push pushers kept.pushes;
@@ -153,14 +153,14 @@ module _ (before after : Frames) (alike : IsAlike before after) (back : IsAlike 
     };
   }
 
-  kept_alike : (poppers pushers : List Entry) (makers : List Maker) → IsStrictlySortedBy nat_cmp (keys_of after) → IsKept before poppers pushers makers → IsKept after poppers pushers makers
+  kept_alike : (poppers pushers : List ChildEntry) (makers : List Maker) → IsStrictlySortedBy nat_cmp (keys_of after) → IsKept before poppers pushers makers → IsKept after poppers pushers makers
   kept_alike poppers pushers makers sorted kept = record {
     sorted = sorted;
     below = λ p n is. kept.below p n (child_alike after before back p n is);
     sets = λ q. kept_for_alike poppers pushers makers q (kept.sets q);
   }
 
-lent_alike : (frames : Frames) (child : ℕ) (found : Option TurnFrame) → frame_at frames child ≡ found → IsAlike frames (lent_at frames child found)
+lent_alike : (frames : Frames) (child : ℕ) (found : Option TurnFrame) → frame_at frames child ≡ found → IsAlike frames (frames_after_lend_at frames child found)
 lent_alike frames child None e = record { there = λ n f is. (f, is, refl, refl) }
 lent_alike frames child (Some g) e = record {
   there = λ n f is. elim (cases_eq n child) [
@@ -168,28 +168,28 @@ lent_alike frames child (Some g) e = record {
         let P : ℕ → Type 0 = λ k. frame_at frames k ≡ Some f in
         let one = one_answer (frame_at frames child) f g (subst P same is) e in
         let lent : TurnFrame = record g { lent = true } in
-        let Q : ℕ → Type 0 = λ k. frame_at (lent_at frames child (Some g)) k ≡ Some lent in
+        let Q : ℕ → Type 0 = λ k. frame_at (frames_after_lend_at frames child (Some g)) k ≡ Some lent in
         (lent, subst Q (sym same) (at_set frames child g lent e), ap (λ (h : TurnFrame). h.parent) (sym one), ap (λ (h : TurnFrame). h.holdings) (sym one))
     | inr apart ↦ (f, by_set frames child g _ n e apart ∙ is, refl, refl)
   ];
 }
 
-lent_back : (frames : Frames) (child : ℕ) (found : Option TurnFrame) → frame_at frames child ≡ found → IsAlike (lent_at frames child found) frames
+lent_back : (frames : Frames) (child : ℕ) (found : Option TurnFrame) → frame_at frames child ≡ found → IsAlike (frames_after_lend_at frames child found) frames
 lent_back frames child None e = record { there = λ n f is. (f, is, refl, refl) }
 lent_back frames child (Some g) e = record {
   there = λ n f is. elim (cases_eq n child) [
     | inl same ↦
         let lent : TurnFrame = record g { lent = true } in
-        let P : ℕ → Type 0 = λ k. frame_at (lent_at frames child (Some g)) k ≡ Some f in
-        let one = one_answer (frame_at (lent_at frames child (Some g)) child) f lent (subst P same is) (at_set frames child g lent e) in
+        let P : ℕ → Type 0 = λ k. frame_at (frames_after_lend_at frames child (Some g)) k ≡ Some f in
+        let one = one_answer (frame_at (frames_after_lend_at frames child (Some g)) child) f lent (subst P same is) (at_set frames child g lent e) in
         let Q : ℕ → Type 0 = λ k. frame_at frames k ≡ Some g in
         (g, subst Q (sym same) e, ap (λ (h : TurnFrame). h.parent) (sym one), ap (λ (h : TurnFrame). h.holdings) (sym one))
     | inr apart ↦ (f, sym (by_set frames child g _ n e apart) ∙ is, refl, refl)
   ];
 }
 
-pub kept_lent : (frames : Frames) (child : ℕ) (poppers pushers : List Entry) (makers : List Maker) → IsStrictlySortedBy nat_cmp (keys_of (lent_to frames child))
-    → IsKept frames poppers pushers makers → IsKept (lent_to frames child) poppers pushers makers
+pub kept_lent : (frames : Frames) (child : ℕ) (poppers pushers : List ChildEntry) (makers : List Maker) → IsStrictlySortedBy nat_cmp (keys_of (frames_after_lend frames child))
+    → IsKept frames poppers pushers makers → IsKept (frames_after_lend frames child) poppers pushers makers
 kept_lent frames child poppers pushers makers sorted kept =
-    kept_alike frames (lent_to frames child) (lent_alike frames child (frame_at frames child) refl) (lent_back frames child (frame_at frames child) refl)
+    kept_alike frames (frames_after_lend frames child) (lent_alike frames child (frame_at frames child) refl) (lent_back frames child (frame_at frames child) refl)
     poppers pushers makers sorted kept

@@ -5,8 +5,8 @@ use Rattle.swan_model.specs.Rights.{allows}
 use Rattle.swan_model.specs.SerialState.{Holding}
 use Rattle.swan_model.specs.declared.rights.Mode.{Mode}
 use Rattle.swan_model.specs.declared.rights.Mode.TheVariants.{Push}
-use Rattle.pop_order.specs.Children.{Entry, has, IsWith, IsSameFor}
-use Rattle.pop_order.specs.Frames.{TurnFrame, Frames, frame_at, holds}
+use Rattle.pop_order.specs.Children.{ChildEntry, has, IsWith, IsSameFor}
+use Rattle.pop_order.specs.Frames.{TurnFrame, Frames, frame_at, lets_use}
 use Rattle.pop_order.specs.Order.{IsChild}
 use Rattle.pop_order.specs.Turns.{IsHolder}
 use Rattle.pop_order.specs.Kept.{HasHolders, HasMakers}
@@ -17,7 +17,7 @@ use Rattle.swan_model.proofs.Elements.{one_answer}
 
 -- ---- another set with the same children
 
-pub same_makers : (frames : Frames) (queue : ℕ) (set other : List Entry) (makers now : List Maker) → IsSameFor queue set other
+pub same_makers : (frames : Frames) (queue : ℕ) (set other : List ChildEntry) (makers now : List Maker) → IsSameFor queue set other
     → ((n : ℕ) → makes now queue n ≡ makes makers queue n) → HasMakers frames queue set makers → HasMakers frames queue other now
 same_makers frames queue set other makers now same still kept = record {
   made = λ n k. let child = kept.made n (sym (still n) ∙ k) in (child.0, same n child.0 ∙ child.1);
@@ -25,7 +25,7 @@ same_makers frames queue set other makers now same still kept = record {
   all = λ n c h never. still n ∙ kept.all n c (sym (same n c) ∙ h) never;
 }
 
-pub same_holders : (frames : Frames) (mode : Mode) (queue : ℕ) (set other : List Entry) → IsSameFor queue set other → HasHolders frames mode queue set → HasHolders frames mode queue other
+pub same_holders : (frames : Frames) (mode : Mode) (queue : ℕ) (set other : List ChildEntry) → IsSameFor queue set other → HasHolders frames mode queue set → HasHolders frames mode queue other
 same_holders frames mode queue set other same holders = record {
   holders = λ p c h. holders.holders p c (sym (same p c) ∙ h);
   all = λ p c child holder. same p c ∙ holders.all p c child holder;
@@ -64,7 +64,7 @@ module _ (before after : Frames) (parent child : ℕ) (holding : Holding) (grown
   -- what the child holds, it held before or was given now
   its_queues : (q : ℕ) (m : Mode) → IsHolder after q m child → IsHolder before q m child ⊎ ((holding.number ≡ q) × (allows holding.mode m ≡ true))
   its_queues q m is =
-      let P : TurnFrame → Type 0 = λ f. holds f.holdings q m ≡ true in
+      let P : TurnFrame → Type 0 = λ f. lets_use f.holdings q m ≡ true in
       grown.held q m (subst P (one_answer (frame_at after child) is.frame grown.frame is.active grown.one.changed) is.held)
 
   was_child : (q : ℕ) (m : Mode) → IsHolder before q m child → IsChild before parent child
@@ -74,7 +74,7 @@ module _ (before after : Frames) (parent child : ℕ) (holding : Holding) (grown
   child_now : IsChild after parent child
   child_now = record { frame = grown.frame; active = grown.one.changed; of = grown.of }
 
-  pub holders_with : (m : Mode) (q : ℕ) (set more : List Entry) → HasHolders before m q set → allows holding.mode m ≡ true
+  pub holders_with : (m : Mode) (q : ℕ) (set more : List ChildEntry) → HasHolders before m q set → allows holding.mode m ≡ true
       → IsWith set parent holding.number child more → HasHolders after m q more
   holders_with m q set more holders allowed change = record {
     holders = λ p c h. elim (in_after set more parent holding.number child change p q c h) [
@@ -104,7 +104,7 @@ module _ (before after : Frames) (parent child : ℕ) (holding : Holding) (grown
     ];
   }
 
-  pub holders_kept : (m : Mode) (q : ℕ) (set : List Entry) → HasHolders before m q set → allows holding.mode m ≡ false → HasHolders after m q set
+  pub holders_kept : (m : Mode) (q : ℕ) (set : List ChildEntry) → HasHolders before m q set → allows holding.mode m ≡ false → HasHolders after m q set
   holders_kept m q set holders refused = record {
     holders = λ p c h. let h = holders.holders p c h in (child_after p c h.0, holder_after q m c h.1);
     all = λ p c is holder. elim (cases_eq c child) [
@@ -123,11 +123,11 @@ module _ (before after : Frames) (parent child : ℕ) (holding : Holding) (grown
   }
 
   -- the child had no children, and has none
-  not_above : (q n c : ℕ) (set : List Entry) → HasHolders before Push q set → has set n q c ≡ true → n ≢ child
+  not_above : (q n c : ℕ) (set : List ChildEntry) → HasHolders before Push q set → has set n q c ≡ true → n ≢ child
   not_above q n c set pushes h same =
       grown.childless c (let P : ℕ → Type 0 = λ k. IsChild before k c in subst P same (pushes.holders n c h).0)
 
-  module _ (q : ℕ) (set more : List Entry) (pushes : HasHolders before Push q set) (now_pushes : HasHolders after Push q more) where
+  module _ (q : ℕ) (set more : List ChildEntry) (pushes : HasHolders before Push q set) (now_pushes : HasHolders after Push q more) where
     grew : (n c : ℕ) → has set n q c ≡ true → has more n q c ≡ true
     grew n c h = let was = pushes.holders n c h in now_pushes.all n c (child_after n c was.0) (holder_after q Push c was.1)
 

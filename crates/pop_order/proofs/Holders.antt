@@ -6,8 +6,8 @@ use Rattle.swan_model.specs.Rights.{allows}
 use Rattle.swan_model.specs.SerialState.{Holding}
 use Rattle.swan_model.specs.declared.rights.Mode.{Mode}
 use Rattle.swan_model.specs.declared.rights.Mode.TheVariants.{Pop}
-use Rattle.pop_order.specs.Children.{Entry, has, IsOldest}
-use Rattle.pop_order.specs.Frames.{Frames, holds}
+use Rattle.pop_order.specs.Children.{ChildEntry, has, IsOldest}
+use Rattle.pop_order.specs.Frames.{Frames, lets_use}
 use Rattle.pop_order.specs.Turns.{IsPoppingChild}
 use Rattle.pop_order.specs.Poppers.{IsAmong}
 use Rattle.pop_order.specs.Kept.{HasHolders}
@@ -19,23 +19,23 @@ abbrev lets : ℕ → Mode → Holding → Bool
 lets queue mode h = (h.number == queue) && allows h.mode mode
 
 pub holds_more : (hs : List Holding) (i queue : ℕ) (mode : Mode) (h : Holding) → i < length hs → h ≡ get_or hs i h
-    → holds (take (i + 1) hs) queue mode ≡ true → (holds (take i hs) queue mode ≡ true) ⊎ ((h.number ≡ queue) × (allows h.mode mode ≡ true))
+    → lets_use (take (i + 1) hs) queue mode ≡ true → (lets_use (take i hs) queue mode ≡ true) ⊎ ((h.number ≡ queue) × (allows h.mode mode ≡ true))
 holds_more hs i queue mode h l e t =
-    let more : (holds (take i hs) queue mode || lets queue mode (get_or hs i h)) ≡ true = sym (list_any_more (lets queue mode) hs i h l) ∙ t in
-    elim (or_cases (holds (take i hs) queue mode) (lets queue mode (get_or hs i h)) more) [
+    let more : (lets_use (take i hs) queue mode || lets queue mode (get_or hs i h)) ≡ true = sym (list_any_more (lets queue mode) hs i h l) ∙ t in
+    elim (or_cases (lets_use (take i hs) queue mode) (lets queue mode (get_or hs i h)) more) [
       | inl before ↦ inl before
       | inr last ↦ let parts = and_parts _ _ (ap (lets queue mode) e ∙ last) in inr (eqb-true h.number queue parts.0, parts.1)
     ]
 
 pub holds_last : (hs : List Holding) (i : ℕ) (mode : Mode) (h : Holding) → i < length hs → h ≡ get_or hs i h
-    → allows h.mode mode ≡ true → holds (take (i + 1) hs) h.number mode ≡ true
+    → allows h.mode mode ≡ true → lets_use (take (i + 1) hs) h.number mode ≡ true
 holds_last hs i mode h l e a =
     list_any_more (lets h.number mode) hs i h l
     ∙ or_right _ _ (ap (lets h.number mode) (sym e) ∙ and_from _ _ (eq-eqb h.number h.number refl) a)
 
 -- ---- the search for the oldest popper
 
-pub among_more : (set : List Entry) (p : ℕ) (hs : List Holding) (i n : ℕ) (h : Holding) → i < length hs → h ≡ get_or hs i h
+pub among_more : (set : List ChildEntry) (p : ℕ) (hs : List Holding) (i n : ℕ) (h : Holding) → i < length hs → h ≡ get_or hs i h
     → IsAmong set p (take (i + 1) hs) n → IsAmong set p (take i hs) n ⊎ ((allows h.mode Pop ≡ true) × (has set p h.number n ≡ true))
 among_more set p hs i n h l e a =
     elim (holds_more hs i a.queue Pop h l e a.popped) [
@@ -43,16 +43,16 @@ among_more set p hs i n h l e a =
       | inr last ↦ let P : ℕ → Type 0 = λ q. has set p q n ≡ true in inr (last.1, subst P (sym last.0) a.known)
     ]
 
-pub among_kept : (set : List Entry) (p : ℕ) (hs : List Holding) (i n : ℕ) → IsAmong set p (take i hs) n → IsAmong set p (take (i + 1) hs) n
+pub among_kept : (set : List ChildEntry) (p : ℕ) (hs : List Holding) (i n : ℕ) → IsAmong set p (take i hs) n → IsAmong set p (take (i + 1) hs) n
 among_kept set p hs i n a = record { queue = a.queue; popped = list_any_kept (lets a.queue Pop) hs i a.popped; known = a.known }
 
-pub among_last : (set : List Entry) (p : ℕ) (hs : List Holding) (i n : ℕ) (h : Holding) → i < length hs → h ≡ get_or hs i h
+pub among_last : (set : List ChildEntry) (p : ℕ) (hs : List Holding) (i n : ℕ) (h : Holding) → i < length hs → h ≡ get_or hs i h
     → allows h.mode Pop ≡ true → has set p h.number n ≡ true → IsAmong set p (take (i + 1) hs) n
 among_last set p hs i n h l e a known = record { queue = h.number; popped = holds_last hs i Pop h l e a; known = known }
 
 -- ---- what the sets have
 
-module _ (frames : Frames) (queue : ℕ) (set : List Entry) (pops : HasHolders frames Pop queue set) where
+module _ (frames : Frames) (queue : ℕ) (set : List ChildEntry) (pops : HasHolders frames Pop queue set) where
   pub oldest_pops : (frame child : ℕ) → IsOldest set frame queue child
       → IsPoppingChild frames frame queue child × ((other : ℕ) → IsPoppingChild frames frame queue other → child ≤ other)
   oldest_pops frame child oldest =

@@ -4,7 +4,7 @@ use Rattle.swan_model.specs.Rights.{allows}
 use Rattle.swan_model.specs.SerialState.{Holding}
 use Rattle.swan_model.specs.declared.rights.Mode.{Mode}
 use Rattle.swan_model.specs.declared.rights.Mode.TheVariants.{Push, Pop}
-use Rattle.pop_order.specs.Children.{Entry, IsWith, IsWithout}
+use Rattle.pop_order.specs.Children.{ChildEntry, IsWith, IsWithout}
 use Rattle.pop_order.specs.Frames.{Frames}
 use Rattle.pop_order.specs.Kept.{HasHolders, IsKeptFor}
 use Rattle.pop_order.specs.Makers.{Maker, makes, IsMakerSettled, stays, goes}
@@ -14,22 +14,22 @@ use Rattle.pop_order.proofs.Growing.{same_makers, same_holders, holders_with, ho
 use Rattle.pop_order.proofs.Shrinking.{holders_without, holders_again, makers_without, makers_again}
 
 module _ (before after : Frames) (parent child : ℕ) (holding : Holding) (grown : IsGrown before after parent child holding) where
-  holders_by : (m : Mode) (q : ℕ) (set more : List Entry) (b : Bool) → allows holding.mode m ≡ b → HasHolders before m q set
+  holders_by : (m : Mode) (q : ℕ) (set more : List ChildEntry) (b : Bool) → allows holding.mode m ≡ b → HasHolders before m q set
       → (allows holding.mode m ≡ true → IsWith set parent holding.number child more) → (allows holding.mode m ≡ false → more ≡ set)
       → HasHolders after m q more
   holders_by m q set more true e holders noted kept = holders_with before after parent child holding grown m q set more holders e (noted e)
   holders_by m q set more false e holders noted kept =
-      let P : List Entry → Type 0 = λ s. HasHolders after m q s in
+      let P : List ChildEntry → Type 0 = λ s. HasHolders after m q s in
       subst P (sym (kept e)) (holders_kept before after parent child holding grown m q set holders e)
 
-  pub holders_noted : (m : Mode) (q : ℕ) (set more : List Entry) → HasHolders before m q set
+  pub holders_noted : (m : Mode) (q : ℕ) (set more : List ChildEntry) → HasHolders before m q set
       → (allows holding.mode m ≡ true → IsWith set parent holding.number child more) → (allows holding.mode m ≡ false → more ≡ set)
       → HasHolders after m q more
   holders_noted m q set more = holders_by m q set more (allows holding.mode m) refl
 
 module _ (before after : Frames) (parent child : ℕ) (shrunk : IsShrunk before after parent child) where
   -- the sets of a queue after a child was taken out, whether or not it was out before
-  pub taken_out : (q : ℕ) (poppers pushers fewer_pop fewer_push : List Entry) (makers now : List Maker)
+  pub taken_out : (q : ℕ) (poppers pushers fewer_pop fewer_push : List ChildEntry) (makers now : List Maker)
       → IsWithout poppers parent q child fewer_pop → IsWithout pushers parent q child fewer_push → IsMakerSettled fewer_push parent q makers now
       → IsKeptFor before poppers pushers makers q ⊎ IsKeptFor after poppers pushers makers q
       → IsKeptFor after fewer_pop fewer_push now q
@@ -48,13 +48,13 @@ module _ (before after : Frames) (parent child : ℕ) (shrunk : IsShrunk before 
         makes = makers_again before after parent child shrunk q pushers fewer_push makers now pushes kept.pushes settled kept.makes;
       }
 
-other_settled : (pushers : List Entry) (parent q other : ℕ) (makers now : List Maker) → other ≢ q → IsMakerSettled pushers parent q makers now
+other_settled : (pushers : List ChildEntry) (parent q other : ℕ) (makers now : List Maker) → other ≢ q → IsMakerSettled pushers parent q makers now
     → (n : ℕ) → makes now other n ≡ makes makers other n
 other_settled pushers parent q other makers now apart (stays c h same) n = ap (λ m. makes m other n) same
 other_settled pushers parent q other makers now apart (goes none change) n = other_makers makers now q parent change other apart n
 
 -- the sets of another queue
-pub left_alone : (frames : Frames) (parent child q other : ℕ) (poppers pushers fewer_pop fewer_push : List Entry) (makers now : List Maker)
+pub left_alone : (frames : Frames) (parent child q other : ℕ) (poppers pushers fewer_pop fewer_push : List ChildEntry) (makers now : List Maker)
     → IsWithout poppers parent q child fewer_pop → IsWithout pushers parent q child fewer_push → IsMakerSettled fewer_push parent q makers now
     → other ≢ q → IsKeptFor frames poppers pushers makers other → IsKeptFor frames fewer_pop fewer_push now other
 left_alone frames parent child q other poppers pushers fewer_pop fewer_push makers now a b settled apart kept =

@@ -9,8 +9,8 @@ use Rattle.swan_model.specs.Rights.{allows}
 use Rattle.swan_model.specs.SerialState.{Holding}
 use Rattle.swan_model.specs.declared.rights.Mode.{Mode}
 use Rattle.swan_model.specs.declared.rights.Mode.TheVariants.{Push, Pop}
-use Rattle.pop_order.specs.Children.{Entry}
-use Rattle.pop_order.specs.Frames.{TurnFrame, Frames, frame_at, holds, without, HasNoChild}
+use Rattle.pop_order.specs.Children.{ChildEntry}
+use Rattle.pop_order.specs.Frames.{TurnFrame, Frames, frame_at, lets_use, without, HasNoChild}
 use Rattle.pop_order.specs.Turns.{IsHolder}
 use Rattle.pop_order.specs.Kept.{IsKeptFor}
 use Rattle.pop_order.specs.Makers.{Maker}
@@ -35,13 +35,13 @@ given_and true b c d h next = refl
 given_and false b c d h next = next h
 
 -- who may use a queue has it
-holds_given : (hs : List Holding) (queue : ℕ) (mode : Mode) → holds hs queue mode ≡ true → is_given hs queue ≡ true
+holds_given : (hs : List Holding) (queue : ℕ) (mode : Mode) → lets_use hs queue mode ≡ true → is_given hs queue ≡ true
 holds_given [] queue mode h = h
 holds_given (x ∷ xs) queue mode h =
-    given_and (x.number == queue) (allows x.mode mode) (holds xs queue mode) (is_given xs queue) h (λ t. holds_given xs queue mode t)
+    given_and (x.number == queue) (allows x.mode mode) (lets_use xs queue mode) (is_given xs queue) h (λ t. holds_given xs queue mode t)
 
 module _ (before after : Frames) (parent child : ℕ) (shrunk : IsShrunk before after parent child) where
-  settled_by : (poppers pushers : List Entry) (makers : List Maker) (queue : ℕ) (hs : List Holding) (b : Bool) → is_given hs queue ≡ b → HoldsNoOther before child hs
+  settled_by : (poppers pushers : List ChildEntry) (makers : List Maker) (queue : ℕ) (hs : List Holding) (b : Bool) → is_given hs queue ≡ b → HoldsNoOther before child hs
       → IsKeptFor before poppers pushers makers queue ⊎ IsKeptFor after poppers pushers makers queue
       → (is_given hs queue ≡ true → IsKeptFor after poppers pushers makers queue)
       → IsKeptFor after poppers pushers makers queue
@@ -56,7 +56,7 @@ module _ (before after : Frames) (parent child : ℕ) (shrunk : IsShrunk before 
       }
 
   -- the sets of each queue are right once the child is out of those of its own queues
-  pub settled_all : (poppers pushers : List Entry) (makers : List Maker) (queue : ℕ) (hs : List Holding) → HoldsNoOther before child hs
+  pub settled_all : (poppers pushers : List ChildEntry) (makers : List Maker) (queue : ℕ) (hs : List Holding) → HoldsNoOther before child hs
       → IsKeptFor before poppers pushers makers queue ⊎ IsKeptFor after poppers pushers makers queue
       → (is_given hs queue ≡ true → IsKeptFor after poppers pushers makers queue)
       → IsKeptFor after poppers pushers makers queue
@@ -72,5 +72,5 @@ module _ (frames after : Frames) (child parent : ℕ) (f : TurnFrame) (hs : List
   pub holds_no_other : f.holdings ≡ hs → HoldsNoOther frames child hs
   holds_no_other same queue mode holder =
       let P : List Holding → Type 0 = λ k. is_given k queue ≡ true in
-      let Q : TurnFrame → Type 0 = λ g. holds g.holdings queue mode ≡ true in
+      let Q : TurnFrame → Type 0 = λ g. lets_use g.holdings queue mode ≡ true in
       subst P same (holds_given f.holdings queue mode (subst Q (one_answer (frame_at frames child) holder.frame f holder.active active) holder.held))

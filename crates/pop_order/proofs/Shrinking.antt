@@ -3,7 +3,7 @@ use Rattle.std.proofs.Common.{◌≡◌, ◌≢◌, ℕ, true, List, refl, sym, 
 use Rattle.std.proofs.lemmas.Bool.{cases_eq, false≢true}
 use Rattle.swan_model.specs.declared.rights.Mode.{Mode}
 use Rattle.swan_model.specs.declared.rights.Mode.TheVariants.{Push}
-use Rattle.pop_order.specs.Children.{Entry, has, IsWithout}
+use Rattle.pop_order.specs.Children.{ChildEntry, has, IsWithout}
 use Rattle.pop_order.specs.Frames.{Frames}
 use Rattle.pop_order.specs.Order.{IsChild}
 use Rattle.pop_order.specs.Turns.{IsHolder}
@@ -38,7 +38,7 @@ module _ (before after : Frames) (parent child : ℕ) (shrunk : IsShrunk before 
       let P : ℕ → Type 0 = λ k. IsChild before p k in
       record { parents = same_parent before shrunk.was (subst P same is); queues = refl; children = sym same }
 
-  pub holders_without : (m : Mode) (q : ℕ) (set fewer : List Entry) → HasHolders before m q set → IsWithout set parent q child fewer → HasHolders after m q fewer
+  pub holders_without : (m : Mode) (q : ℕ) (set fewer : List ChildEntry) → HasHolders before m q set → IsWithout set parent q child fewer → HasHolders after m q fewer
   holders_without m q set fewer holders change = record {
     holders = λ p c h.
         let was = holders.holders p c (was_in set fewer parent q child change p q c h) in
@@ -49,14 +49,14 @@ module _ (before after : Frames) (parent child : ℕ) (shrunk : IsShrunk before 
         (holders.all p c (child_before p c is) (holder_before q m c holder));
   }
 
-  pub holders_again : (m : Mode) (q : ℕ) (set fewer : List Entry) → HasHolders after m q set → IsWithout set parent q child fewer → HasHolders after m q fewer
+  pub holders_again : (m : Mode) (q : ℕ) (set fewer : List ChildEntry) → HasHolders after m q set → IsWithout set parent q child fewer → HasHolders after m q fewer
   holders_again m q set fewer holders change = record {
     holders = λ p c h. holders.holders p c (was_in set fewer parent q child change p q c h);
     all = λ p c is holder.
         stays_in set fewer parent q child change p q c (λ same. not_child p c is (sym same.children)) (holders.all p c is holder);
   }
 
-  pub holders_untouched : (m : Mode) (q : ℕ) (set : List Entry) → HasHolders before m q set → (IsHolder before q m child → ⊥) → HasHolders after m q set
+  pub holders_untouched : (m : Mode) (q : ℕ) (set : List ChildEntry) → HasHolders before m q set → (IsHolder before q m child → ⊥) → HasHolders after m q set
   holders_untouched m q set holders never = record {
     holders = λ p c h.
         let was = holders.holders p c h in
@@ -66,11 +66,11 @@ module _ (before after : Frames) (parent child : ℕ) (shrunk : IsShrunk before 
   }
 
   -- the child had no children
-  not_above : (q n c : ℕ) (set : List Entry) → HasHolders before Push q set → has set n q c ≡ true → n ≢ child
+  not_above : (q n c : ℕ) (set : List ChildEntry) → HasHolders before Push q set → has set n q c ≡ true → n ≢ child
   not_above q n c set pushes h same =
       shrunk.childless c (let P : ℕ → Type 0 = λ k. IsChild before k c in subst P same (pushes.holders n c h).0)
 
-  module _ (q : ℕ) (set : List Entry) (pushes : HasHolders before Push q set) where
+  module _ (q : ℕ) (set : List ChildEntry) (pushes : HasHolders before Push q set) where
     was_apart : (n c : ℕ) → has set n q c ≡ true → ¬ IsHolder after q Push n → ¬ IsHolder before q Push n
     was_apart n c h never holder = never (holder_after q Push n (not_above q n c set pushes h) holder)
 
@@ -81,7 +81,7 @@ module _ (before after : Frames) (parent child : ℕ) (shrunk : IsShrunk before 
       all = λ n c h never. kept.all n c h (was_apart n c h never);
     }
 
-  module _ (q : ℕ) (set fewer : List Entry) (makers now : List Maker) (now_pushes : HasHolders after Push q fewer) where
+  module _ (q : ℕ) (set fewer : List ChildEntry) (makers now : List Maker) (now_pushes : HasHolders after Push q fewer) where
     -- the makers after the child went out, for what they were before
     pub makers_without : HasHolders before Push q set → IsMakerSettled fewer parent q makers now → HasMakers before q set makers → HasMakers after q fewer now
     makers_without pushes settled kept = by settled where

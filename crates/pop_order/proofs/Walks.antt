@@ -2,8 +2,8 @@
 use Rattle.std.proofs.Common.{◌≡◌, ◌≢◌, ℕ, suc, zero, ◌+◌, ◌<◌, ◌≤◌, Bool, true, false, Option, Some, None, List, refl, sym, subst, ◌∙◌, ◌⊎◌, inl, inr, arith}
 use Rattle.std.proofs.lemmas.Bool.{cases_eq, cases_lt, false≢true}
 use Rattle.swan_model.specs.declared.rights.Mode.TheVariants.{Push}
-use Rattle.pop_order.specs.Children.{Entry, has, IsOldest}
-use Rattle.pop_order.specs.Frames.{TurnFrame, Frames, frame_at, holds}
+use Rattle.pop_order.specs.Children.{ChildEntry, has, IsOldest}
+use Rattle.pop_order.specs.Frames.{TurnFrame, Frames, frame_at, lets_use}
 use Rattle.pop_order.specs.Makers.{Maker, makes, IsNext}
 use Rattle.pop_order.specs.Order.{IsChild, IsAtOrBelow, at, below, ComesBefore, inside, aside}
 use Rattle.pop_order.specs.Turns.{IsHolder}
@@ -16,12 +16,12 @@ use Rattle.swan_model.proofs.Elements.{one_answer}
 -- ---- down from a maker
 
 -- The pushers that a maker leads to are led to by the node too, or all at or below the node comes before them.
-pub record IsDown (frames : Frames) (set : List Entry) (queue maker node : ℕ) : Type 0 where
+pub record IsDown (frames : Frames) (set : List ChildEntry) (queue maker node : ℕ) : Type 0 where
   pub known : (node ≡ maker) ⊎ IsHolder frames queue Push node
   pub first : (other : ℕ) → IsLed set queue maker other → other ≢ maker
       → IsLed set queue node other ⊎ ((n : ℕ) → IsAtOrBelow frames node n → ComesBefore frames n other)
 
-module _ (set : List Entry) (queue : ℕ) where
+module _ (set : List ChildEntry) (queue : ℕ) where
   -- the child through which a frame leads to another one
   led_through : (top n : ℕ) → IsLed set queue top n → n ≢ top → (c : ℕ) × (has set top queue c ≡ true) × IsLed set queue c n
   led_through top n here apart = absurd (apart refl)
@@ -30,7 +30,7 @@ module _ (set : List Entry) (queue : ℕ) where
     | inr differ ↦ let up = led_through top parent q differ in (up.0, up.1, further parent n h up.2)
   ]
 
-module _ (frames : Frames) (queue : ℕ) (set : List Entry) (rising : AreBelowParents frames) (pushes : HasHolders frames Push queue set) where
+module _ (frames : Frames) (queue : ℕ) (set : List ChildEntry) (rising : AreBelowParents frames) (pushes : HasHolders frames Push queue set) where
   led_below : (top n : ℕ) → IsLed set queue top n → IsAtOrBelow frames top n
   led_below top n here = at
   led_below top n (further parent _ h q) = below parent n (pushes.holders parent n h).0 (led_below top parent q)
@@ -74,7 +74,7 @@ module _ (frames : Frames) (queue : ℕ) (set : List Entry) (rising : AreBelowPa
 -- ---- from maker to maker
 
 -- a pusher to which a maker leads whose number is lower than one
-pub record IsSeen (set : List Entry) (makers : List Maker) (queue from number : ℕ) : Type 0 where
+pub record IsSeen (set : List ChildEntry) (makers : List Maker) (queue from number : ℕ) : Type 0 where
   pub maker : ℕ
   pub known : makes makers queue maker ≡ true
   pub before : maker < from
@@ -82,20 +82,20 @@ pub record IsSeen (set : List Entry) (makers : List Maker) (queue from number : 
   pub younger : maker < number
 
 module _ (frames : Frames) (queue : ℕ) where
-  by_held : (n : ℕ) (f : TurnFrame) (b : Bool) → frame_at frames n ≡ Some f → holds f.holdings queue Push ≡ b → IsHolder frames queue Push n ⊎ (IsHolder frames queue Push n → ⊥)
+  by_held : (n : ℕ) (f : TurnFrame) (b : Bool) → frame_at frames n ≡ Some f → lets_use f.holdings queue Push ≡ b → IsHolder frames queue Push n ⊎ (IsHolder frames queue Push n → ⊥)
   by_held n f true active e = inl (record { frame = f; active = active; held = e })
   by_held n f false active e = inr (λ holder.
-      let P : TurnFrame → Type 0 = λ g. holds g.holdings queue Push ≡ true in
+      let P : TurnFrame → Type 0 = λ g. lets_use g.holdings queue Push ≡ true in
       false≢true (sym e ∙ subst P (one_answer (frame_at frames n) holder.frame f holder.active active) holder.held))
 
   by_frame : (n : ℕ) (found : Option TurnFrame) → frame_at frames n ≡ found → IsHolder frames queue Push n ⊎ (IsHolder frames queue Push n → ⊥)
   by_frame n None e = inr (λ holder. let never : None ≡ Some holder.frame = sym e ∙ holder.active in cc)
-  by_frame n (Some f) e = by_held n f (holds f.holdings queue Push) e refl
+  by_frame n (Some f) e = by_held n f (lets_use f.holdings queue Push) e refl
 
   pushes_or_not : (n : ℕ) → IsHolder frames queue Push n ⊎ (IsHolder frames queue Push n → ⊥)
   pushes_or_not n = by_frame n (frame_at frames n) refl
 
-module _ (frames : Frames) (queue : ℕ) (set : List Entry) (makers : List Maker) (rising : AreBelowParents frames)
+module _ (frames : Frames) (queue : ℕ) (set : List ChildEntry) (makers : List Maker) (rising : AreBelowParents frames)
     (pushes : HasHolders frames Push queue set) (kept : HasMakers frames queue set makers) where
   -- some maker leads to each pusher
   led_to : (most n : ℕ) → n < most → IsHolder frames queue Push n

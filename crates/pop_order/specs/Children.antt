@@ -6,19 +6,19 @@ use Rattle.std.specs.BTreeMap.{is_at}
 use Rattle.std.specs.declared.cmp.Ordering.{Ordering}
 
 -- a parent, a queue, and a child of that parent
-abbrev pub Entry : Type 0
-Entry = ℕ × ℕ × ℕ
+abbrev pub ChildEntry : Type 0
+ChildEntry = ℕ × ℕ × ℕ
 
 -- by parent, then by queue, then by child
-abbrev pub entry_cmp : Entry → Entry → Ordering
+abbrev pub entry_cmp : ChildEntry → ChildEntry → Ordering
 entry_cmp a b = ordering_then (ordering_then (nat_cmp a.0 b.0) (nat_cmp a.1 b.1)) (nat_cmp a.2 b.2)
 
 -- an entry isn't after another in that order
-unfoldable pub IsUpTo : Entry → Entry → Type 0
+unfoldable pub IsUpTo : ChildEntry → ChildEntry → Type 0
 IsUpTo a b = is_gt (entry_cmp a b) ≡ false
 
 -- whether a child of a parent is in the set for a queue
-unfoldable pub has : List Entry → ℕ → ℕ → ℕ → Bool
+unfoldable pub has : List ChildEntry → ℕ → ℕ → ℕ → Bool
 has entries parent queue child = list_any (is_at (entry_cmp (parent, queue, child))) entries
 
 -- whether a parent, a queue and a child are those of an entry
@@ -26,18 +26,18 @@ abbrev pub is_entry : ℕ → ℕ → ℕ → ℕ → ℕ → ℕ → Bool
 is_entry parent queue child p q c = (parent == p) && ((queue == q) && (child == c))
 
 -- the oldest child of a parent that the set has for a queue
-pub record IsOldest (set : List Entry) (parent queue oldest : ℕ) : Type 0 where
+pub record IsOldest (set : List ChildEntry) (parent queue oldest : ℕ) : Type 0 where
   pub known : has set parent queue oldest ≡ true
   pub least : (child : ℕ) → has set parent queue child ≡ true → oldest ≤ child
 
 -- the set after an entry came in
-abbrev pub IsWith : List Entry → ℕ → ℕ → ℕ → List Entry → Type 0
+abbrev pub IsWith : List ChildEntry → ℕ → ℕ → ℕ → List ChildEntry → Type 0
 IsWith before parent queue child after = (p q c : ℕ) → has after p q c ≡ (is_entry parent queue child p q c || has before p q c)
 
 -- the set after an entry went out
-abbrev pub IsWithout : List Entry → ℕ → ℕ → ℕ → List Entry → Type 0
+abbrev pub IsWithout : List ChildEntry → ℕ → ℕ → ℕ → List ChildEntry → Type 0
 IsWithout before parent queue child after = (p q c : ℕ) → has after p q c ≡ (not (is_entry parent queue child p q c) && has before p q c)
 
 -- the sets have the same children for a queue
-abbrev pub IsSameFor : ℕ → List Entry → List Entry → Type 0
+abbrev pub IsSameFor : ℕ → List ChildEntry → List ChildEntry → Type 0
 IsSameFor queue before after = (parent child : ℕ) → has after parent queue child ≡ has before parent queue child

@@ -28,26 +28,26 @@ abbrev pub frame_at : Frames → ℕ → Option TurnFrame
 frame_at frames number = lookup (is_at (nat_cmp number)) frames
 
 -- whether one of the holdings lets use a queue by a mode
-abbrev pub holds : List Holding → ℕ → Mode → Bool
-holds holdings queue mode = list_any (λ h. (h.number == queue) && allows h.mode mode) holdings
+abbrev pub lets_use : List Holding → ℕ → Mode → Bool
+lets_use holdings queue mode = list_any (λ h. (h.number == queue) && allows h.mode mode) holdings
 
-abbrev pub enlisted_at : Frames → ℕ → ℕ → Holding → Option TurnFrame → Frames
-enlisted_at frames parent child holding None =
+abbrev pub frames_after_enlist_at : Frames → ℕ → ℕ → Holding → Option TurnFrame → Frames
+frames_after_enlist_at frames parent child holding None =
     insert_entry nat_cmp frames child (record { parent = parent; holdings = holding ∷ []; lent = false })
-enlisted_at frames parent child holding (Some frame) =
+frames_after_enlist_at frames parent child holding (Some frame) =
     set_value (is_at (nat_cmp child)) frames (record frame { holdings = frame.holdings ++ holding ∷ [] })
 
 -- the frames after a child of a parent was given a queue: a new one, or one with a queue more
-abbrev pub enlisted : Frames → ℕ → ℕ → Holding → Frames
-enlisted frames parent child holding = enlisted_at frames parent child holding (frame_at frames child)
+abbrev pub frames_after_enlist : Frames → ℕ → ℕ → Holding → Frames
+frames_after_enlist frames parent child holding = frames_after_enlist_at frames parent child holding (frame_at frames child)
 
-abbrev pub lent_at : Frames → ℕ → Option TurnFrame → Frames
-lent_at frames child None = frames
-lent_at frames child (Some frame) = set_value (is_at (nat_cmp child)) frames (record frame { lent = true })
+abbrev pub frames_after_lend_at : Frames → ℕ → Option TurnFrame → Frames
+frames_after_lend_at frames child None = frames
+frames_after_lend_at frames child (Some frame) = set_value (is_at (nat_cmp child)) frames (record frame { lent = true })
 
 -- the frames after the queue views of a child's popped queues were moved to it
-abbrev pub lent_to : Frames → ℕ → Frames
-lent_to frames child = lent_at frames child (frame_at frames child)
+abbrev pub frames_after_lend : Frames → ℕ → Frames
+frames_after_lend frames child = frames_after_lend_at frames child (frame_at frames child)
 
 -- the frames without a child
 abbrev pub without : Frames → ℕ → Frames

@@ -4,7 +4,7 @@ use Rattle.std.specs.List.{list_any}
 use Rattle.std.specs.Ordering.{nat_cmp, ordering_then, is_gt}
 use Rattle.std.specs.BTreeMap.{is_at}
 use Rattle.std.specs.declared.cmp.Ordering.{Ordering}
-use Rattle.pop_order.specs.Children.{Entry, has}
+use Rattle.pop_order.specs.Children.{ChildEntry, has}
 
 -- a queue, and a frame
 abbrev pub Maker : Type 0
@@ -42,7 +42,7 @@ IsMakerOut before queue number after = (q n : ℕ) → makes after q n ≡ (not 
 
 -- The set after a child of a frame went out of the pushers of a queue: the frame stays in as long as it has
 -- another one there.
-pub data IsMakerSettled (pushers : List Entry) (parent queue : ℕ) (before after : List Maker) : Type 0 where
+pub data IsMakerSettled (pushers : List ChildEntry) (parent queue : ℕ) (before after : List Maker) : Type 0 where
   stays : (child : ℕ) → has pushers parent queue child ≡ true → after ≡ before → IsMakerSettled pushers parent queue before after
   goes : ((child : ℕ) → has pushers parent queue child ≡ false) → IsMakerOut before queue parent after
       → IsMakerSettled pushers parent queue before after

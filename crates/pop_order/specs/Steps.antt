@@ -5,7 +5,7 @@ use Rattle.swan_model.specs.Rights.{allows}
 use Rattle.swan_model.specs.SerialState.{Holding}
 use Rattle.swan_model.specs.declared.rights.Mode.{Mode}
 use Rattle.swan_model.specs.declared.rights.Mode.TheVariants.{Push}
-use Rattle.pop_order.specs.Frames.{TurnFrame, Frames, frame_at, holds}
+use Rattle.pop_order.specs.Frames.{TurnFrame, Frames, frame_at, lets_use}
 use Rattle.pop_order.specs.OneChange.{IsOnlyChange}
 use Rattle.pop_order.specs.Order.{IsChild}
 use Rattle.pop_order.specs.Turns.{IsHolder}
@@ -17,10 +17,10 @@ pub record IsGrown (before after : Frames) (parent child : ℕ) (holding : Holdi
   pub one : IsOnlyChange (frame_at before) (frame_at after) child (Some frame)
   pub of : frame.parent ≡ parent
   pub was_of : (other : ℕ) → IsChild before other child → other ≡ parent
-  pub held : (queue : ℕ) (mode : Mode) → holds frame.holdings queue mode ≡ true
+  pub held : (queue : ℕ) (mode : Mode) → lets_use frame.holdings queue mode ≡ true
       → IsHolder before queue mode child ⊎ ((holding.number ≡ queue) × (allows holding.mode mode ≡ true))
-  pub still : (queue : ℕ) (mode : Mode) → IsHolder before queue mode child → holds frame.holdings queue mode ≡ true
-  pub new : (mode : Mode) → allows holding.mode mode ≡ true → holds frame.holdings holding.number mode ≡ true
+  pub still : (queue : ℕ) (mode : Mode) → IsHolder before queue mode child → lets_use frame.holdings queue mode ≡ true
+  pub new : (mode : Mode) → allows holding.mode mode ≡ true → lets_use frame.holdings holding.number mode ≡ true
   pub childless : (number : ℕ) → ¬ IsChild before child number
 
 -- A child without children is gone, and all other frames are as they were.

@@ -2,7 +2,7 @@
 use Rattle.std.specs.Prelude.{◌≡◌, ◌≢◌, ℕ, ◌<◌, ◌≤◌, true, Some}
 use Rattle.swan_model.specs.declared.rights.Mode.{Mode}
 use Rattle.swan_model.specs.declared.rights.Mode.TheVariants.{Push, Pop}
-use Rattle.pop_order.specs.Frames.{TurnFrame, Frames, frame_at, holds}
+use Rattle.pop_order.specs.Frames.{TurnFrame, Frames, frame_at, lets_use}
 use Rattle.pop_order.specs.Order.{IsChild, ComesBefore}
 use Rattle.pop_order.specs.declared.certain.Certain.{Certain}
 use Rattle.pop_order.specs.declared.certain.Certain.TheVariants.{Yes, EarlierPusher, PoppingChild}
@@ -11,7 +11,7 @@ use Rattle.pop_order.specs.declared.certain.Certain.TheVariants.{Yes, EarlierPus
 pub record IsHolder (frames : Frames) (queue : ℕ) (mode : Mode) (number : ℕ) : Type 0 where
   pub frame : TurnFrame
   pub active : frame_at frames number ≡ Some frame
-  pub held : holds frame.holdings queue mode ≡ true
+  pub held : lets_use frame.holdings queue mode ≡ true
 
 -- an older sibling of a child, active too, that pops a queue which the child pops
 pub record Blocks (frames : Frames) (child number : ℕ) : Type 0 where

@@ -2,18 +2,18 @@
 -- their ways meet.
 use Rattle.std.specs.Prelude.{◌≡◌, ◌≢◌, ℕ, Bool, true, false, nat_lt, Option, None, Some, List}
 use Rattle.swan_model.specs.declared.rights.Mode.TheVariants.{Push}
-use Rattle.pop_order.specs.Children.{Entry, has}
+use Rattle.pop_order.specs.Children.{ChildEntry, has}
 use Rattle.pop_order.specs.Frames.{Frames}
 use Rattle.pop_order.specs.Order.{ComesBefore}
 use Rattle.pop_order.specs.Turns.{IsHolder, IsEarlierPusher}
 
 -- A top leads to a number where the number is its own, or the set has it as a child of one to which the top leads.
-pub data IsLed (set : List Entry) (queue top : ℕ) : ℕ → Type 0 where
+pub data IsLed (set : List ChildEntry) (queue top : ℕ) : ℕ → Type 0 where
   here : IsLed set queue top top
   further : (parent number : ℕ) → has set parent queue number ≡ true → IsLed set queue top parent → IsLed set queue top number
 
 -- the first, in serial order, of the pushers that a maker leads to
-pub record IsFirstUnder (frames : Frames) (set : List Entry) (queue maker number : ℕ) : Type 0 where
+pub record IsFirstUnder (frames : Frames) (set : List ChildEntry) (queue maker number : ℕ) : Type 0 where
   pub pushes : IsHolder frames queue Push number
   pub first : (other : ℕ) → IsLed set queue maker other → other ≢ maker → other ≢ number → ComesBefore frames number other
 

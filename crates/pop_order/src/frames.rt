@@ -3,7 +3,7 @@ ghost use Rattle.std.specs.Prelude.{◌≡◌, ℕ, ◌<◌, OnOk};
 ghost use Rattle.std.specs.Ordering.{nat_cmp};
 ghost use Rattle.std.specs.List.Sorted.{IsStrictlySortedBy};
 ghost use Rattle.std.specs.Map.{keys_of};
-ghost use Rattle.pop_order.specs.Frames.{Frames, enlisted, lent_to, AreUpTo, MayBeEnlisted};
+ghost use Rattle.pop_order.specs.Frames.{Frames, frames_after_enlist, frames_after_lend, AreUpTo, MayBeEnlisted};
 ghost use Rattle.pop_order.specs.Kept.{IsKept, IsKeptFor};
 ghost use Rattle.pop_order.specs.Steps.{IsShrunk, HoldsNoOther};
 
@@ -20,7 +20,7 @@ pub fn give(
     child: u64,
     holding: QueueHolding,
 ) -> Result<(), NoMemory>
-    ensures given { OnOk result (frames.new.entries ≡ enlisted frames.old.entries parent child holding) }
+    ensures given { OnOk result (frames.new.entries ≡ frames_after_enlist frames.old.entries parent child holding) }
     ensures sorted { IsStrictlySortedBy nat_cmp (keys_of frames.new.entries) }
 {
     if let Some(frame) = frames.get_mut(&child) {
@@ -39,7 +39,7 @@ pub fn give(
 
 /// Notes that the queue views of a child's popped queues were moved to it. `O(log n)`.
 pub fn lend(frames: &mut BTreeMap<u64, TurnFrame>, child: u64)
-    ensures lent { frames.new.entries ≡ lent_to frames.old.entries child }
+    ensures lent { frames.new.entries ≡ frames_after_lend frames.old.entries child }
     ensures sorted { IsStrictlySortedBy nat_cmp (keys_of frames.new.entries) }
 {
     if let Some(frame) = frames.get_mut(&child) {
@@ -60,7 +60,7 @@ pub fn add(
     requires rising { parent < child }
     requires newest { AreUpTo frames.old.entries child }
     requires fits { MayBeEnlisted frames.old.entries parent child holding.number }
-    ensures given { OnOk result (frames.new.entries ≡ enlisted frames.old.entries parent child holding) }
+    ensures given { OnOk result (frames.new.entries ≡ frames_after_enlist frames.old.entries parent child holding) }
     ensures kept { OnOk result (IsKept frames.new.entries sets.new.poppers sets.new.pushers sets.new.makers) }
 {
     give(alloc, frames, parent, child, holding)?;

@@ -3,7 +3,7 @@ ghost use Rattle.std.specs.Prelude.{◌≡◌, ℕ, ◌≤◌, true, ◌⊎◌};
 ghost use Rattle.swan_model.specs.Rights.{allows};
 ghost use Rattle.swan_model.specs.declared.rights.Mode.TheVariants.{Pop};
 ghost use Rattle.pop_order.specs.Children.{has};
-ghost use Rattle.pop_order.specs.Frames.{holds};
+ghost use Rattle.pop_order.specs.Frames.{lets_use};
 ghost use Rattle.pop_order.specs.Poppers.{IsAmong};
 
 use crate::{Children, QueueHolding};

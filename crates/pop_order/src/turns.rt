@@ -1,7 +1,7 @@
 // The turns of poppers.
 ghost use Rattle.std.specs.Prelude.{◌≡◌, ℕ, ◌<◌, ◌≤◌, [], IfErr, IfSome, IfNone, OnOk, OnErr, IsTrue};
 ghost use Rattle.swan_model.specs.Rights.{is_queue_mode};
-ghost use Rattle.pop_order.specs.Frames.{enlisted, lent_to, without, AreUpTo, HasNoChild, MayBeEnlisted};
+ghost use Rattle.pop_order.specs.Frames.{frames_after_enlist, frames_after_lend, without, AreUpTo, HasNoChild, MayBeEnlisted};
 ghost use Rattle.pop_order.specs.Turns.{Blocks, IsPoppingChild, IsAnswer};
 
 use crate::frames::{add, lend, take_out};
@@ -60,7 +60,7 @@ impl PopTurns {
         requires newest { AreUpTo self.old child }
         requires fits { MayBeEnlisted self.old parent child queue }
         requires of_queues { IsTrue (is_queue_mode mode) }
-        ensures ok { OnOk result (self.new ≡ enlisted self.old parent child (record { mode = mode; number = queue })) }
+        ensures ok { OnOk result (self.new ≡ frames_after_enlist self.old parent child (record { mode = mode; number = queue })) }
     {
         let holding = QueueHolding { mode, queue };
         match add(
@@ -84,7 +84,7 @@ impl PopTurns {
     /// frame that was not enlisted, or was given back. `O(log n)`; it takes no memory.
     pub fn lend(&mut self, child: u64)
         requires { (number : ℕ) → ¬ Blocks self.old child number }
-        ensures { self.new ≡ lent_to self.old child }
+        ensures { self.new ≡ frames_after_lend self.old child }
     {
         lend(&mut self.frames, child);
     }

@@ -46,12 +46,12 @@ known before = known_in before.open_task before.own before.top
 abbrev pub with_name : List ℕ → Declaration → Names → Names
 with_name name declaration names = update bytes_eq names name (Some declaration)
 
-abbrev pub declared_in : Option (List ℕ) → List ℕ → Declaration → Before → Before
-declared_in None name declaration before = record before { top = with_name name declaration before.top }
-declared_in (Some task) name declaration before = record before { own = with_name name declaration before.own }
+abbrev pub after_declare_in : Option (List ℕ) → List ℕ → Declaration → Before → Before
+after_declare_in None name declaration before = record before { top = with_name name declaration before.top }
+after_declare_in (Some task) name declaration before = record before { own = with_name name declaration before.own }
 
-abbrev pub declared : List ℕ → Declaration → Before → Before
-declared name declaration before = declared_in before.open_task name declaration before
+abbrev pub after_declare : List ℕ → Declaration → Before → Before
+after_declare name declaration before = after_declare_in before.open_task name declaration before
 
 -- A `param` or access line says what the open task takes next.
 abbrev pub with_next : List ℕ → Declaration → (List ℕ → Option (List Declaration)) → List ℕ → Option (List Declaration)
@@ -64,12 +64,12 @@ taken_by (Some task) declaration before = record before { tasks = with_next task
 abbrev pub with_taken : Declaration → Before → Before
 with_taken declaration before = taken_by before.open_task declaration before
 
-abbrev pub taken : List ℕ → Declaration → Before → Before
-taken name declaration before = with_taken declaration (declared name declaration before)
+abbrev pub after_declare_taken : List ℕ → Declaration → Before → Before
+after_declare_taken name declaration before = with_taken declaration (after_declare name declaration before)
 
 -- a `task` line opens a task, which takes and declares nothing so far
-abbrev pub opened : List ℕ → Before → Before
-opened task before =
+abbrev pub after_open : List ℕ → Before → Before
+after_open task before =
     record {
       top = before.top;
       open_task = Some task;
@@ -79,12 +79,12 @@ opened task before =
 
 -- what the lines up to a line say, by what the lines before it say
 abbrev pub after : Before → Line → Before
-after before (line.Input name) = declared name (Held Pop kind.Bytes) before
-after before (line.Output name k) = declared name (Held Push k) before
-after before (line.Object name k) = declared name (Held InOut k) before
-after before (line.Task name) = opened name before
-after before (line.Param name k) = taken name (Variable k) before
-after before (line.Access mode name k) = taken name (Held mode k) before
-after before (line.Var name k) = declared name (Variable k) before
-after before (line.Queue name k) = declared name (Held PushPop k) before
+after before (line.Input name) = after_declare name (Held Pop kind.Bytes) before
+after before (line.Output name k) = after_declare name (Held Push k) before
+after before (line.Object name k) = after_declare name (Held InOut k) before
+after before (line.Task name) = after_open name before
+after before (line.Param name k) = after_declare_taken name (Variable k) before
+after before (line.Access mode name k) = after_declare_taken name (Held mode k) before
+after before (line.Var name k) = after_declare name (Variable k) before
+after before (line.Queue name k) = after_declare name (Held PushPop k) before
 after before _ = before

@@ -3,7 +3,7 @@ ghost use Rattle.std.specs.Prelude.{◌≡◌, Some, OnOk, bytes_eq, codes};
 ghost use Rattle.std.specs.Map.{update};
 ghost use Rattle.std.specs.Option.{option_copied};
 ghost use Rattle.privilege_check.specs.Checking.{by_name, state_of};
-ghost use Rattle.privilege_check.specs.Names.{after, at_start, declared, is_main, known, opened, taken, with_next, with_taken};
+ghost use Rattle.privilege_check.specs.Names.{after, at_start, after_declare, is_main, known, after_open, after_declare_taken, with_next, with_taken};
 ghost use Rattle.privilege_check.specs.FirstFault.{has_main, is_in_main};
 
 use crate::declaration::Declaration;
@@ -149,7 +149,7 @@ impl<'a> Checker<'a> {
 
     /// Adds a name at the top level, or to the open task.
     fn declare(&mut self, name: &'a Word, declaration: Declaration) -> Result<(), NoMemory>
-        ensures { OnOk result (state_of self.new ≡ declared name.now declaration (state_of self.old)) }
+        ensures { OnOk result (state_of self.new ≡ after_declare name.now declaration (state_of self.old)) }
     {
         if self.open_task.is_some() {
             set(&mut self.own, name, declaration)
@@ -171,7 +171,7 @@ impl<'a> Checker<'a> {
 
     /// Adds a name that the open task takes.
     fn declare_taken(&mut self, name: &'a Word, declaration: Declaration) -> Result<(), NoMemory>
-        ensures { OnOk result (state_of self.new ≡ taken name.now declaration (state_of self.old)) }
+        ensures { OnOk result (state_of self.new ≡ after_declare_taken name.now declaration (state_of self.old)) }
     {
         self.declare(name, declaration)?;
         self.take(declaration)?;
@@ -180,7 +180,7 @@ impl<'a> Checker<'a> {
 
     /// Opens a task.
     fn open(&mut self, task: &'a Word) -> Result<(), NoMemory>
-        ensures { OnOk result (state_of self.new ≡ opened task.now (state_of self.old)) }
+        ensures { OnOk result (state_of self.new ≡ after_open task.now (state_of self.old)) }
     {
         set(&mut self.tasks, task, Listed::new(self.alloc))?;
         self.open_task = Some(task);

@@ -6,7 +6,7 @@ use Rattle.slab.specs.Slab.{Slab, get, Updates}
 use Rattle.swan_model.specs.declared.value.Value.{Value}
 use Rattle.queues.specs.Chunks.{Chunk, Chunks, with_item, after_close}
 use Rattle.queue_book.specs.Chains.{Link, chunk_of, IsChain, AreChained, in_line, put_at}
-use Rattle.queue_book.proofs.ChainKept.{IsChange, pushed_is, closed_is, line_changed}
+use Rattle.queue_book.proofs.ChainKept.{IsOwnLinkChanged, pushed_is, closed_is, line_changed}
 use Rattle.swan_model.proofs.Elements.{one_answer}
 
 -- the same chunks and nodes, said in another way
@@ -61,7 +61,7 @@ module _ (at : ℕ → ℕ → Option ℕ) (heads : List (Option ℕ)) (nodes : 
       one_answer (at number queue) j key (subst P of (is.placed j number other stands owner)) mine
 
   change_of : (after : Slab Link) (link new : Link) (change : Chunk → Chunk) → get nodes key ≡ Some link → Updates nodes after key (Some new)
-      → new.queue ≡ link.queue → new.next ≡ link.next → chunk_of new ≡ change (chunk_of link) → IsChange nodes after queue number key link new change
+      → new.queue ≡ link.queue → new.next ≡ link.next → chunk_of new ≡ change (chunk_of link) → IsOwnLinkChanged nodes after queue number key link new change
   change_of after link new change stands updates same_queue same_next changed =
       let known = is.owned number queue key mine in
       let same : known.0 ≡ link = one_answer (get nodes key) known.0 link known.1 stands in

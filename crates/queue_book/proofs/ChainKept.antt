@@ -79,7 +79,7 @@ apart_from key other keys apart among e =
     false≢true (sym apart ∙ subst P e among)
 
 -- The node of a frame's own chunk of a queue, and what is made of it.
-pub record IsChange (nodes after : Slab Link) (queue number key : ℕ) (link new : Link) (change : Chunk → Chunk) : Type 0 where
+pub record IsOwnLinkChanged (nodes after : Slab Link) (queue number key : ℕ) (link new : Link) (change : Chunk → Chunk) : Type 0 where
   pub stands : get nodes key ≡ Some link
   pub owner : link.owner ≡ Some number
   pub mine : link.queue ≡ queue
@@ -90,7 +90,7 @@ pub record IsChange (nodes after : Slab Link) (queue number key : ℕ) (link new
   -- it has one own chunk there
   pub sole : (j : ℕ) (other : Link) → get nodes j ≡ Some other → other.queue ≡ queue → other.owner ≡ Some number → j ≡ key
 
-module _ (nodes after : Slab Link) (queue number key : ℕ) (link new : Link) (change : Chunk → Chunk) (is : IsChange nodes after queue number key link new change) where
+module _ (nodes after : Slab Link) (queue number key : ℕ) (link new : Link) (change : Chunk → Chunk) (is : IsOwnLinkChanged nodes after queue number key link new change) where
   pub chain_changed : (head : Option ℕ) (keys : List ℕ) (chunks : Chunks) → IsChain nodes queue head keys chunks
       → IsChain after queue head keys (at_owned number change chunks)
   chain_changed head [] [] e = e

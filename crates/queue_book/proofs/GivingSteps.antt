@@ -3,7 +3,7 @@ use Rattle.std.proofs.Common.{◌≡◌, ◌≢◌, ℕ, true, false, Option, So
 use Rattle.std.proofs.lemmas.Bool.{cases_eq, false≢true}
 use Rattle.std.specs.Prelude.{slice_get, is_some, IsSome}
 use Rattle.slab.specs.Slab.{ContainsKey, Slab}
-use Rattle.pop_order.specs.Frames.{Frames, enlisted, AreUpTo, MayBeEnlisted}
+use Rattle.pop_order.specs.Frames.{Frames, frames_after_enlist, AreUpTo, MayBeEnlisted}
 use Rattle.swan_model.specs.declared.rights.Mode.TheVariants.{Push}
 use Rattle.swan_model.specs.QueueState.{QueueRight}
 use Rattle.swan_model.specs.Rights.{allows}
@@ -78,7 +78,7 @@ module _ (before now : LiveFrames) (parent child : ℕ) (all : List QueueRight) 
   -- one more
   pub given_more : (after : LiveFrames) (then_places : OwnChunks) (then_nodes : Slab Link) (then_turns : Frames)
       → IsHandedIn now after parent child give.queue (allows give.mode Push) places then_places heads now_nodes then_nodes
-      → then_turns ≡ enlisted now_turns parent child (holding_of give)
+      → then_turns ≡ frames_after_enlist now_turns parent child (holding_of give)
       → AreGiven before after parent child (take i all ++ give ∷ []) then_places heads nodes then_nodes turns then_turns
   given_more after then_places then_nodes then_turns handed turned = record {
     others = step_others before now after parent child (take i all) give places then_places heads nodes now_nodes then_nodes turns now_turns is handed fresh two may.kept may.live;

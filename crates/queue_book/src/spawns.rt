@@ -3,7 +3,7 @@ ghost use Rattle.std.specs.Prelude.{◌≡◌, ℕ, ◌<◌, Some, None, OnOk, I
 ghost use Rattle.slab.specs.Slab.{ContainsKey};
 ghost use Rattle.swan_model.specs.declared.rights.Mode.TheVariants.{Push};
 ghost use Rattle.swan_model.specs.Rights.{allows, is_queue_mode};
-ghost use Rattle.pop_order.specs.Frames.{enlisted, AreUpTo, MayBeEnlisted};
+ghost use Rattle.pop_order.specs.Frames.{frames_after_enlist, AreUpTo, MayBeEnlisted};
 ghost use Rattle.queues.specs.Chunks.{Chunks};
 ghost use Rattle.queues.specs.Turned.{holding_of};
 ghost use Rattle.queue_book.specs.Chains.{AreChained};
@@ -61,7 +61,7 @@ impl QueueStore {
         // what it leaves
         ensures heads { OnOk result (self.new.chains.heads.items ≡ self.old.chains.heads.items) }
         ensures given { OnOk result (IsHandedIn self.old.frames self.new.frames parent child one.queue (allows one.mode Push) places.old.entries places.new.entries self.old.chains.heads.items self.old.chains.nodes self.new.chains.nodes) }
-        ensures turns { OnOk result (self.new.turns ≡ enlisted self.old.turns parent child (holding_of one)) }
+        ensures turns { OnOk result (self.new.turns ≡ frames_after_enlist self.old.turns parent child (holding_of one)) }
     {
         let Some(place) = self.frames.place(parent, one.queue) else {
             unreachable!()

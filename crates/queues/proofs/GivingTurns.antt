@@ -6,18 +6,18 @@ use Rattle.std.proofs.Common.{Option, ◌≡◌, ◌≢◌, ℕ, true, false, �
 use Rattle.std.specs.List.{list_any}
 use Rattle.std.specs.Prelude.{◌&&◌, slice_get}
 use Rattle.swan_model.proofs.Lookups.{at_inserted, at_set, by_inserted, by_set}
-use Rattle.pop_order.specs.Frames.{TurnFrame, Frames, enlisted, enlisted_at, frame_at, may_get, AreUpTo, MayBeEnlisted}
+use Rattle.pop_order.specs.Frames.{TurnFrame, Frames, frames_after_enlist, frames_after_enlist_at, frame_at, may_get, AreUpTo, MayBeEnlisted}
 use Rattle.swan_model.specs.QueueState.{QueueRight, ActiveFrame, MayGive}
 use Rattle.queues.specs.Turned.{holding_of, gives_queue, turn_of, AreApart, AreGivenTurns}
 
 -- what a child has after one more
 turn_now : (turns : Frames) (parent child : ℕ) (gives : List QueueRight) (give : QueueRight) → frame_at turns child ≡ turn_of parent gives
-    → frame_at (enlisted turns parent child (holding_of give)) child ≡ turn_of parent (gives ++ give ∷ [])
+    → frame_at (frames_after_enlist turns parent child (holding_of give)) child ≡ turn_of parent (gives ++ give ∷ [])
 turn_now turns parent child [] give is =
-    ap (λ o. frame_at (enlisted_at turns parent child (holding_of give) o) child) is ∙ at_inserted turns child (record { parent = parent; holdings = holding_of give ∷ []; lent = false })
+    ap (λ o. frame_at (frames_after_enlist_at turns parent child (holding_of give) o) child) is ∙ at_inserted turns child (record { parent = parent; holdings = holding_of give ∷ []; lent = false })
 turn_now turns parent child (first ∷ gives) give is =
     let frame : TurnFrame = record { parent = parent; holdings = map holding_of (first ∷ gives); lent = false } in
-    ap (λ o. frame_at (enlisted_at turns parent child (holding_of give) o) child) is
+    ap (λ o. frame_at (frames_after_enlist_at turns parent child (holding_of give) o) child) is
     ∙ at_set turns child frame (record frame { holdings = frame.holdings ++ holding_of give ∷ [] }) is
     ∙ ap (λ hs. Some (record frame { holdings = hs })) (sym (mapped (first ∷ gives))) where
       mapped : (rights : List QueueRight) → map holding_of (rights ++ give ∷ []) ≡ map holding_of rights ++ holding_of give ∷ []
@@ -25,12 +25,12 @@ turn_now turns parent child (first ∷ gives) give is =
       mapped (right ∷ rights) = ap (λ hs. holding_of right ∷ hs) (mapped rights)
 
 turn_others : (turns : Frames) (parent child : ℕ) (gives : List QueueRight) (give : QueueRight) → frame_at turns child ≡ turn_of parent gives
-    → (other : ℕ) → other ≢ child → frame_at (enlisted turns parent child (holding_of give)) other ≡ frame_at turns other
+    → (other : ℕ) → other ≢ child → frame_at (frames_after_enlist turns parent child (holding_of give)) other ≡ frame_at turns other
 turn_others turns parent child [] give is other apart =
-    ap (λ o. frame_at (enlisted_at turns parent child (holding_of give) o) other) is ∙ by_inserted turns child (record { parent = parent; holdings = holding_of give ∷ []; lent = false }) other apart
+    ap (λ o. frame_at (frames_after_enlist_at turns parent child (holding_of give) o) other) is ∙ by_inserted turns child (record { parent = parent; holdings = holding_of give ∷ []; lent = false }) other apart
 turn_others turns parent child (first ∷ gives) give is other apart =
     let frame : TurnFrame = record { parent = parent; holdings = map holding_of (first ∷ gives); lent = false } in
-    ap (λ o. frame_at (enlisted_at turns parent child (holding_of give) o) other) is
+    ap (λ o. frame_at (frames_after_enlist_at turns parent child (holding_of give) o) other) is
     ∙ by_set turns child frame (record frame { holdings = frame.holdings ++ holding_of give ∷ [] }) other is apart
 
 -- it may get a queue that it doesn't have
@@ -91,7 +91,7 @@ module _ (before now : Frames) (parent child : ℕ) (gives : List QueueRight) wh
     turns_may_get queue fresh = ap (λ o. may_get o parent queue) is.one.changed ∙ may_get_more parent gives queue fresh
 
     -- and then it was given one more
-    pub turns_given_more : (give : QueueRight) → AreGivenTurns before (enlisted now parent child (holding_of give)) parent child (gives ++ give ∷ [])
+    pub turns_given_more : (give : QueueRight) → AreGivenTurns before (frames_after_enlist now parent child (holding_of give)) parent child (gives ++ give ∷ [])
     turns_given_more give = record {
       one = record {
         changed = turn_now now parent child gives give is.one.changed;

@@ -10,7 +10,7 @@ use Rattle.swan_model.specs.QueueState.{ActiveFrame, QueueMaker, QueueRight, Que
 use Rattle.swan_model.specs.Rights.{allows, is_queue_mode}
 use Rattle.queues.specs.Tree.{IsHeld, made, IsTree, has_queue, maker_path}
 use Rattle.queues.proofs.Frames.{active_number}
-use Rattle.queues.proofs.TreeChanged.{IsChanged}
+use Rattle.queues.proofs.TreeChanged.{EachIsChanged}
 use Rattle.swan_model.proofs.Elements.{last_more, any_before, any_either, before_more}
 
 -- ---- rights with one more
@@ -57,7 +57,7 @@ module _ (state : QueueState) (tree : IsTree state) (n : ℕ) (change : ActiveFr
     same_holds frame queue mode = by_cases (λ now. holds_queue now queue mode ≡ holds_queue frame queue mode) frame
         (ap (λ rs. list_any (λ (r : QueueRight). (r.queue == queue) && allows r.mode mode) rs) (rights frame)) refl
 
-    pub goes_on : IsChanged state (changing state n change) (changed n change) n
+    pub goes_on : EachIsChanged state (changing state n change) (changed n change) n
     goes_on = record {
       frames = refl;
       makers = λ queue maker at. at;
@@ -117,7 +117,7 @@ module _ (state : QueueState) (tree : IsTree state) (n : ℕ) (change : ActiveFr
         ])
         (tree.modes number queue frame mode live)
 
-    pub makes : IsChanged state with_queue (changed n change) n
+    pub makes : EachIsChanged state with_queue (changed n change) n
     makes = record {
       frames = refl;
       makers = λ queue other at. before_more state.makers maker queue other at;

@@ -13,13 +13,13 @@ use Rattle.queues.proofs.Frames.{active_number}
 use Rattle.queues.proofs.Owners.{IsHolder}
 use Rattle.queues.proofs.OneChanged.{both_on}
 use Rattle.queues.proofs.TreeAdded.{IsNewest, new_live, still_live, was_live, with_frame}
-use Rattle.queues.proofs.TreeChanged.{IsChanged, still, was}
+use Rattle.queues.proofs.TreeChanged.{EachIsChanged, still, was}
 use Rattle.queues.proofs.TreeWithout.{stays, was_there}
 use Rattle.swan_model.proofs.Elements.{any_last}
 
 -- ---- frames that were changed
 
-module _ (before after : QueueState) (each : ActiveFrame → ActiveFrame) (actor : ℕ) (tree : IsTree before) (change : IsChanged before after each actor) (queue : ℕ) where
+module _ (before after : QueueState) (each : ActiveFrame → ActiveFrame) (actor : ℕ) (tree : IsTree before) (change : EachIsChanged before after each actor) (queue : ℕ) where
   -- who has a queue that isn't new had it before
   pub changed_was : (queue < length before.makers) ⊎ (length after.makers ≤ queue) → (number : ℕ) (path : List ℕ) → IsHolder after queue number path → IsHolder before queue number path
   changed_was there number path now =

@@ -14,7 +14,7 @@ use Rattle.swan_model.specs.Lawful.{IsLawful}
 use Rattle.swan_model.specs.Nested.{IsEntryOf, IsSpawned, spawn_time}
 use Rattle.swan_model.specs.QueueFollows.{Fits, FitsFrame, QueuesFollow}
 use Rattle.swan_model.specs.QueueState.{ActiveFrame, QueueRight, QueueState, active, after_spawn, changing, child_of, with_deed}
-use Rattle.swan_model.specs.Readings.{more_by, next_deed, spawned}
+use Rattle.swan_model.specs.Readings.{more_by, next_deed, reading_after_spawn}
 use Rattle.swan_model.specs.SerialTime.{Progress, Reading, frame_of, point, times}
 use Rattle.swan_model.proofs.Paths.{not_below-itself}
 use Rattle.swan_model.proofs.Places.{passing, placed}
@@ -44,7 +44,7 @@ module _ (s : Script) (lawful : IsLawful s) (state : QueueState) (follows : Queu
   after = record p { done = p.done + 1 }
 
   abbrev other : Reading
-  other = spawned s r p child
+  other = reading_after_spawn s r p child
 
   moves : IsSpawnOf s p (child_path s p.path (point s p))
   moves = spawn_moves s lawful p gives next
@@ -214,7 +214,7 @@ module _ (s : Script) (lawful : IsLawful s) (state : QueueState) (follows : Queu
 
 pub spawned_fits : (s : Script) → IsLawful s → (state : QueueState) → QueuesFollow s state → (r : Reading) → Fits s state r → (number child : ℕ) (parent : ActiveFrame) (p : Progress) (gives : List OriginGive) (queues : List QueueRight)
     → active state number ≡ Some parent → frame_of r number ≡ Some p → active state child ≡ None → frame_of r child ≡ None → next_deed s p ≡ Some (deed.Spawn gives)
-    → Fits s (after_spawn state parent child queues) (spawned s r p child)
+    → Fits s (after_spawn state parent child queues) (reading_after_spawn s r p child)
 spawned_fits s lawful state follows r fits number child parent p gives queues live known free unread next =
     let one = active_number state number parent live in
     let two = frame_number r.frames number p known in

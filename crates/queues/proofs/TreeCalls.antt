@@ -10,14 +10,14 @@ use Rattle.queues.proofs.Frames.{active_number}
 use Rattle.queues.proofs.Gives.{gives_had, gives_held}
 use Rattle.queues.proofs.OneChanged.{goes_on, makes}
 use Rattle.queues.proofs.TreeAdded.{IsNewest}
-use Rattle.queues.proofs.TreeChanged.{IsChanged, still, tree_changed, was}
+use Rattle.queues.proofs.TreeChanged.{EachIsChanged, still, tree_changed, was}
 use Rattle.swan_model.proofs.Elements.{one_answer}
 
 in_place : (change : ActiveFrame → ActiveFrame) → ((frame : ActiveFrame) → (change frame).number ≡ frame.number) → ((frame : ActiveFrame) → (change frame).parent ≡ frame.parent)
     → ((frame : ActiveFrame) → (change frame).path ≡ frame.path) → ((frame : ActiveFrame) → frame.children ≤ (change frame).children) → KeepsTask change
 in_place change numbers parents paths children = record { number = numbers; parent = parents; path = paths; children = children }
 
-pub root_changed : (state : QueueState) → IsTree state → IsChanged state (after_create_root state) (changed 0 (with_made (length state.makers))) 0
+pub root_changed : (state : QueueState) → IsTree state → EachIsChanged state (after_create_root state) (changed 0 (with_made (length state.makers))) 0
 root_changed state tree =
     let queue = length state.makers in
     makes state tree 0 (with_made queue)
@@ -32,28 +32,28 @@ module _ (state : QueueState) (tree : IsTree state) (n : ℕ) (frame : ActiveFra
   pub own_live : active state frame.number ≡ Some frame
   own_live = ap (active state) (active_number state n frame may.live) ∙ may.live
 
-  pub create_changed : IsChanged state (after_create state frame) (changed frame.number (maker_now state)) frame.number
+  pub create_changed : EachIsChanged state (after_create state frame) (changed frame.number (maker_now state)) frame.number
   create_changed =
       makes state tree frame.number (maker_now state)
       (in_place (maker_now state) (λ f. refl) (λ f. refl) (λ f. refl) (λ f. omega arith))
       (λ f. refl) (made_by frame.path frame.deeds)
       (λ f live. ap (λ (g : ActiveFrame). g.path) (one_answer (active state frame.number) f frame live own_live))
 
-  deed : IsChanged state (after_deed state frame.number) (changed frame.number with_deed) frame.number
+  deed : EachIsChanged state (after_deed state frame.number) (changed frame.number with_deed) frame.number
   deed =
       goes_on state tree frame.number with_deed
       (in_place with_deed (λ f. refl) (λ f. refl) (λ f. refl) (λ f. omega arith))
       (λ f. refl)
 
-  pub deed_changed : IsChanged state (after_deed state n) (changed n with_deed) n
-  deed_changed = subst (λ k. IsChanged state (after_deed state k) (changed k with_deed) k) (active_number state n frame may.live) deed
+  pub deed_changed : EachIsChanged state (after_deed state n) (changed n with_deed) n
+  deed_changed = subst (λ k. EachIsChanged state (after_deed state k) (changed k with_deed) k) (active_number state n frame may.live) deed
 
 -- a frame with lent ends
 abbrev pub lent_now : ActiveFrame → List LentEnd → ActiveFrame → ActiveFrame
 lent_now frame ends f = record f { lent = Some (record { deeds = frame.deeds; ends = ends }) }
 
 pub lend_changed : (state : QueueState) (frame : ActiveFrame) (ends : List LentEnd) → IsTree state
-    → IsChanged state (after_lend state frame ends) (changed frame.number (lent_now frame ends)) frame.number
+    → EachIsChanged state (after_lend state frame ends) (changed frame.number (lent_now frame ends)) frame.number
 lend_changed state frame ends tree =
     goes_on state tree frame.number (lent_now frame ends)
     (in_place (lent_now frame ends) (λ f. refl) (λ f. refl) (λ f. refl) (λ f. omega arith))
@@ -63,7 +63,7 @@ lend_changed state frame ends tree =
 abbrev pub back_now : ℕ → ActiveFrame → ActiveFrame
 back_now deeds f = record f { deeds = deeds; lent = None }
 
-pub back_changed : (state : QueueState) (n deeds : ℕ) → IsTree state → IsChanged state (after_back state n deeds) (changed n (back_now deeds)) n
+pub back_changed : (state : QueueState) (n deeds : ℕ) → IsTree state → EachIsChanged state (after_back state n deeds) (changed n (back_now deeds)) n
 back_changed state n deeds tree =
     goes_on state tree n (back_now deeds)
     (in_place (back_now deeds) (λ f. refl) (λ f. refl) (λ f. refl) (λ f. omega arith))
@@ -74,7 +74,7 @@ map_same [] = refl
 map_same (f ∷ fs) = ap (λ xs. f ∷ xs) (map_same fs)
 
 -- no frame changes where a rest is taken
-pub rest_changed : (state : QueueState) (queue : ℕ) → IsTree state → IsChanged state (after_take_rest state queue) (λ f. f) 0
+pub rest_changed : (state : QueueState) (queue : ℕ) → IsTree state → EachIsChanged state (after_take_rest state queue) (λ f. f) 0
 rest_changed state queue tree = record {
   frames = map_same state.frames;
   makers = λ other maker at. at;
@@ -97,7 +97,7 @@ with_one_more state frame = changing state frame.number one_more
 -- A spawn changes the parent in its place, and then its child comes in.
 module _ (state : QueueState) (tree : IsTree state) (p child : ℕ) (gives : List QueueRight) (frame : ActiveFrame) (may : MayAct state p frame)
     (newest : state.latest < child) (lawful : MayGive frame gives) where
-  pub parent_changed : IsChanged state (with_one_more state frame) (changed frame.number one_more) frame.number
+  pub parent_changed : EachIsChanged state (with_one_more state frame) (changed frame.number one_more) frame.number
   parent_changed =
       goes_on state tree frame.number one_more
       (in_place one_more (λ f. refl) (λ f. refl) (λ f. refl) (λ f. omega arith))

@@ -16,7 +16,7 @@ use Rattle.queues.proofs.FramesChanged.{find_changed}
 use Rattle.swan_model.proofs.Elements.{mapped_is}
 
 -- Each frame is changed so: it keeps its place, and its rights on all queues that were there.
-pub record IsChanged (before after : QueueState) (each : ActiveFrame → ActiveFrame) (actor : ℕ) : Type 0 where
+pub record EachIsChanged (before after : QueueState) (each : ActiveFrame → ActiveFrame) (actor : ℕ) : Type 0 where
   pub frames : after.frames ≡ map each before.frames
   pub makers : (queue : ℕ) (maker : QueueMaker) → slice_get before.makers queue ≡ Some maker → slice_get after.makers queue ≡ Some maker
   pub more : length before.makers ≤ length after.makers
@@ -29,7 +29,7 @@ pub record IsChanged (before after : QueueState) (each : ActiveFrame → ActiveF
       → (number ≡ actor) × (queue < length after.makers) × IsHeld after (each frame) queue
   pub modes : (number queue : ℕ) (frame : ActiveFrame) (mode : Mode) → active before number ≡ Some frame → holds_queue (each frame) queue mode ≡ true → is_queue_mode mode ≡ true
 
-module _ (before after : QueueState) (each : ActiveFrame → ActiveFrame) (actor : ℕ) (tree : IsTree before) (change : IsChanged before after each actor) where
+module _ (before after : QueueState) (each : ActiveFrame → ActiveFrame) (actor : ℕ) (tree : IsTree before) (change : EachIsChanged before after each actor) where
   same_active : (number : ℕ) → active after number ≡ active (record before { frames = map each before.frames }) number
   same_active number = ap (λ frames. active (record before { frames = frames }) number) change.frames
 

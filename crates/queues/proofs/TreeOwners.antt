@@ -15,7 +15,7 @@ use Rattle.queues.proofs.Frames.{active_number}
 use Rattle.queues.proofs.QueueHolders.{changed_new, changed_still, changed_was, gone_still, gone_was, has_made, none_after_maker}
 use Rattle.queues.proofs.Owners.{has_owners, IsHolder, ordered_left_out, ordered_owners, ordered_same, ordered_without, owner_at, owns_at, owns_one}
 use Rattle.queues.proofs.OwnersSpawned.{spawn_given, spawn_kept}
-use Rattle.queues.proofs.TreeChanged.{IsChanged, still}
+use Rattle.queues.proofs.TreeChanged.{EachIsChanged, still}
 use Rattle.swan_model.proofs.Elements.{one_answer}
 
 -- ---- the same chunks
@@ -28,7 +28,7 @@ owners_same before after queue chunks now was stays same owners =
     has_owners after queue now
     (ordered_same (IsHolder before queue) (owner_at chunks) (ordered_owners before queue chunks owners) (IsHolder after queue) (owner_at now) was stays same)
 
-owners_changed : (before after : QueueState) (each : ActiveFrame → ActiveFrame) (actor : ℕ) → IsTree before → IsChanged before after each actor
+owners_changed : (before after : QueueState) (each : ActiveFrame → ActiveFrame) (actor : ℕ) → IsTree before → EachIsChanged before after each actor
     → (queue : ℕ) (chunks now : Chunks) → (queue < length before.makers) ⊎ (length after.makers ≤ queue) → ((index : ℕ) → owner_at now index ≡ owner_at chunks index)
     → HasOwners before queue chunks → HasOwners after queue now
 owners_changed before after each actor tree change queue chunks now there same owners =
@@ -95,7 +95,7 @@ owners_without_first state q chunks owners =
 -- ---- a new queue
 
 -- the maker alone has it, and owns its only chunk
-owners_new : (before after : QueueState) (each : ActiveFrame → ActiveFrame) (actor : ℕ) (frame : ActiveFrame) (first : List Value) → IsTree before → IsChanged before after each actor
+owners_new : (before after : QueueState) (each : ActiveFrame → ActiveFrame) (actor : ℕ) (frame : ActiveFrame) (first : List Value) → IsTree before → EachIsChanged before after each actor
     → active before actor ≡ Some frame → has_queue (each frame) (length before.makers) ≡ true → HasOwners after (length before.makers) (own actor first ∷ [])
 owners_new before after each actor frame first tree change live has = has_owners after queue (own actor first ∷ []) (record {
   owners = λ index number at. (frame.path, subst (λ k. IsHolder after queue k frame.path) (one index number at) maker);

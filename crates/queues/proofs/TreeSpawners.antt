@@ -9,7 +9,7 @@ use Rattle.queues.specs.Tree.{SpawnersHaveTurns, IsTree}
 use Rattle.queues.proofs.Frames.{active_number}
 use Rattle.queues.proofs.TreeAdded.{for_both, IsNewest, older_before as older_than_both, with_frame}
 use Rattle.queues.proofs.TreeCalls.{back_changed, back_now, child_newest, create_changed, deed_changed, lend_changed, lent_now, maker_now, one_more, own_live, parent_changed, rest_changed, root_changed, tree_between, with_one_more}
-use Rattle.queues.proofs.TreeChanged.{for_each, IsChanged, older_before}
+use Rattle.queues.proofs.TreeChanged.{for_each, EachIsChanged, older_before}
 use Rattle.queues.proofs.TreeKept.{only_root}
 use Rattle.queues.proofs.TreeWithout.{older_left, was_there}
 use Rattle.swan_model.proofs.Elements.{one_answer}
@@ -20,7 +20,7 @@ use Rattle.swan_model.proofs.Elements.{one_answer}
 abbrev AreTurned : QueueState → (ActiveFrame → ActiveFrame) → Type 0
 AreTurned before each = (number : ℕ) (frame : ActiveFrame) → active before number ≡ Some frame → 0 < (each frame).children → HasTurn before frame
 
-spawners_changed : (before after : QueueState) (each : ActiveFrame → ActiveFrame) (actor : ℕ) → IsTree before → IsChanged before after each actor → AreTurned before each
+spawners_changed : (before after : QueueState) (each : ActiveFrame → ActiveFrame) (actor : ℕ) → IsTree before → EachIsChanged before after each actor → AreTurned before each
     → SpawnersHaveTurns after
 spawners_changed before after each actor tree change turned = record {
   turns = for_each before after each actor tree change (λ number frame. 0 < frame.children → HasTurn after frame)

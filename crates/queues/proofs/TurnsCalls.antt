@@ -3,7 +3,7 @@ use Rattle.std.proofs.Common.{◌≡◌, ℕ, true, Option, None, Some, List, re
 use Rattle.std.proofs.lemmas.Bool.{cases_eq}
 use Rattle.std.proofs.lemmas.Option.{same_Some}
 use Rattle.swan_model.proofs.Lookups.{at_set, by_set}
-use Rattle.pop_order.specs.Frames.{TurnFrame, Frames, frame_at, holds, lent_at, lent_to, without}
+use Rattle.pop_order.specs.Frames.{TurnFrame, Frames, frame_at, lets_use, frames_after_lend_at, frames_after_lend, without}
 use Rattle.swan_model.specs.QueueState.{ActiveFrame, LentEnd, QueueState, active, after_back, after_deed, after_finish, after_lend, after_take_rest}
 use Rattle.queues.specs.Asks.{MayDo}
 use Rattle.queues.specs.Turned.{AreTurns}
@@ -30,9 +30,9 @@ module _ (state : QueueState) (turns : Frames) (is : AreTurns state turns) where
   turns_rest queue = turns_held state (after_take_rest state queue) turns (holders_rest state queue) refl is
 
   -- the queue views of a child move to it, which leaves whose turn it is
-  pub turns_moved : (child : ℕ) → AreTurns state (lent_to turns child)
+  pub turns_moved : (child : ℕ) → AreTurns state (frames_after_lend turns child)
   turns_moved child = by (frame_at turns child) refl where
-    by : (o : Option TurnFrame) → frame_at turns child ≡ o → AreTurns state (lent_at turns child o)
+    by : (o : Option TurnFrame) → frame_at turns child ≡ o → AreTurns state (frames_after_lend_at turns child o)
     by None none = is
     by (Some turn) found =
         let moved : TurnFrame = record turn { lent = true } in
@@ -40,12 +40,12 @@ module _ (state : QueueState) (turns : Frames) (is : AreTurns state turns) where
           apart = apart_set turns child moved is.apart;
           known = λ n other stands. elim (cases_eq n child) [
             | inl here ↦
-                let now : moved ≡ other = same_Some moved other (sym (at_set turns child turn moved found) ∙ ap (frame_at (lent_at turns child (Some turn))) (sym here) ∙ stands) in
+                let now : moved ≡ other = same_Some moved other (sym (at_set turns child turn moved found) ∙ ap (frame_at (frames_after_lend_at turns child (Some turn))) (sym here) ∙ stands) in
                 let was = is.known child turn found in (
                   was.0,
                   ap (active state) here ∙ was.1,
                   was.2 ∙ ap (λ (t : TurnFrame). Some t.parent) now,
-                  λ queue mode held. was.3 queue mode (ap (λ (t : TurnFrame). holds t.holdings queue mode) now ∙ held),
+                  λ queue mode held. was.3 queue mode (ap (λ (t : TurnFrame). lets_use t.holdings queue mode) now ∙ held),
                 )
             | inr apart ↦ is.known n other (sym (by_set turns child turn moved n found apart) ∙ stands)
           ];
@@ -55,9 +55,9 @@ module _ (state : QueueState) (turns : Frames) (is : AreTurns state turns) where
                 | inl here ↦
                     let same : t.0 ≡ turn = same_Some t.0 turn (sym t.1 ∙ ap (frame_at turns) here ∙ found) in (
                       moved,
-                      ap (frame_at (lent_at turns child (Some turn))) here ∙ at_set turns child turn moved found,
+                      ap (frame_at (frames_after_lend_at turns child (Some turn))) here ∙ at_set turns child turn moved found,
                       ap (λ (u : TurnFrame). u.parent) (sym same) ∙ t.2,
-                      ap (λ (u : TurnFrame). holds u.holdings queue mode) (sym same) ∙ t.3,
+                      ap (λ (u : TurnFrame). lets_use u.holdings queue mode) (sym same) ∙ t.3,
                     )
                 | inr apart ↦ (t.0, by_set turns child turn moved n found apart ∙ t.1, t.2, t.3)
               ];

@@ -9,7 +9,7 @@ use Rattle.std.specs.Ordering.{nat_cmp, is_eq, match_ordering}
 use Rattle.std.specs.declared.cmp.Ordering.{Ordering}
 use Rattle.std.specs.declared.cmp.Ordering.TheVariants.{Less, Equal, Greater}
 use Rattle.std.specs.Prelude.{nat_le}
-use Rattle.pop_order.specs.Frames.{TurnFrame, Frames, enlisted, enlisted_at, frame_at, AreUpTo}
+use Rattle.pop_order.specs.Frames.{TurnFrame, Frames, frames_after_enlist, frames_after_enlist_at, frame_at, AreUpTo}
 use Rattle.swan_model.specs.SerialState.{Holding}
 use Rattle.queues.specs.Turned.{AreApart}
 use Rattle.swan_model.proofs.Lookups.{by_inserted, tied, untied}
@@ -49,9 +49,9 @@ apart_set (e ∷ es) k v (first, apart) = by (is_at (nat_cmp k) e.0) (apart_set 
   by false rest = (none_set es k e.0 v first, rest)
 
 -- no number stands twice once a child was given one more queue
-pub apart_enlisted : (turns : Frames) (parent child : ℕ) (holding : Holding) → AreApart turns → AreApart (enlisted turns parent child holding)
+pub apart_enlisted : (turns : Frames) (parent child : ℕ) (holding : Holding) → AreApart turns → AreApart (frames_after_enlist turns parent child holding)
 apart_enlisted turns parent child holding apart = by (frame_at turns child) refl where
-  by : (o : Option TurnFrame) → frame_at turns child ≡ o → AreApart (enlisted_at turns parent child holding o)
+  by : (o : Option TurnFrame) → frame_at turns child ≡ o → AreApart (frames_after_enlist_at turns parent child holding o)
   by None fresh = apart_inserted turns child (record { parent = parent; holdings = holding ∷ []; lent = false }) fresh apart
   by (Some frame) found = apart_set turns child _ apart
 

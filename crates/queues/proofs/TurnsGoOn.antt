@@ -5,12 +5,12 @@ use Rattle.queues.specs.Asks.{MayDo, MayJoin, MaySpawn}
 use Rattle.queues.specs.Tree.{IsTree, TurnsGoOn}
 use Rattle.queues.proofs.TreeAdded.{for_both, IsNewest, older_before as older_than_both, with_frame}
 use Rattle.queues.proofs.TreeCalls.{back_changed, back_now, child_newest, create_changed, deed_changed, lend_changed, lent_now, maker_now, one_more, parent_changed, rest_changed, root_changed, tree_between, with_one_more}
-use Rattle.queues.proofs.TreeChanged.{for_each, IsChanged, older_before, still}
+use Rattle.queues.proofs.TreeChanged.{for_each, EachIsChanged, older_before, still}
 use Rattle.queues.proofs.TreeSpawners.{turn_of}
 use Rattle.queues.proofs.TreeWithout.{older_left, was_there}
 
 -- frames in their places
-go_on-changed : (before after : QueueState) (each : ActiveFrame → ActiveFrame) (actor : ℕ) → IsTree before → IsChanged before after each actor → TurnsGoOn before after
+go_on-changed : (before after : QueueState) (each : ActiveFrame → ActiveFrame) (actor : ℕ) → IsTree before → EachIsChanged before after each actor → TurnsGoOn before after
 go_on-changed before after each actor tree change number frame now live after_live turn =
     for_each before after each actor tree change (λ n now. (frame : ActiveFrame) → active before n ≡ Some frame → HasTurn before frame → HasTurn after now)
     (λ n was there frame live turn older is. turn_of before n frame live turn was there older (older_before before after each actor tree change n older was there is))

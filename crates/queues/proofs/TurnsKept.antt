@@ -1,7 +1,7 @@
 -- The turns of poppers say the same of the state after each call that changes no rights.
 use Rattle.std.proofs.Common.{◌≡◌, ◌≢◌, ℕ, ◌+◌, true, Some, None, List, [], ◌∷◌, ◌++◌, length, sym, ap, ◌∙◌, arith, length-append}
 use Rattle.std.specs.Prelude.{slice_get}
-use Rattle.pop_order.specs.Frames.{TurnFrame, Frames, holds}
+use Rattle.pop_order.specs.Frames.{TurnFrame, Frames, lets_use}
 use Rattle.pop_order.specs.Turns.{IsPoppingChild as PopsTurn}
 use Rattle.swan_model.specs.declared.rights.Mode.{Mode}
 use Rattle.swan_model.specs.declared.rights.Mode.TheVariants.{Pop}
@@ -52,7 +52,7 @@ module _ (state : QueueState) (tree : IsTree state) (turns : Frames) (is : AreTu
         frame = was.0;
         live = was.1;
         of = was.2 ∙ ap Some pops.0.of;
-        pops = was.3 queue Pop (ap (λ (t : TurnFrame). holds t.holdings queue Pop) (sym same) ∙ pops.1.held);
+        pops = was.3 queue Pop (ap (λ (t : TurnFrame). lets_use t.holdings queue Pop) (sym same) ∙ pops.1.held);
       }
 
   pub pops_turn : (child : ℕ) → IsPoppingChild state n queue child → PopsTurn turns n queue child

@@ -3,7 +3,7 @@ use Rattle.std.proofs.Common.{false, ◌≡◌, ◌≢◌, ℕ, ◌+◌, ◌<◌
 use Rattle.std.proofs.lemmas.Bool.{cases_eq, false≢true}
 use Rattle.std.specs.List.{list_any}
 use Rattle.std.specs.Prelude.{slice_get}
-use Rattle.pop_order.specs.Frames.{TurnFrame, Frames, frame_at, holds}
+use Rattle.pop_order.specs.Frames.{TurnFrame, Frames, frame_at, lets_use}
 use Rattle.swan_model.specs.declared.rights.Mode.{Mode}
 use Rattle.swan_model.specs.QueueState.{ActiveFrame, QueueMaker, QueueRight, QueueState, active, after_spawn, child_of, holds_queue, with_deed}
 use Rattle.swan_model.specs.Rights.{allows}
@@ -19,21 +19,21 @@ use Rattle.swan_model.proofs.Elements.{one_answer}
 abbrev rights_for : List QueueRight → ℕ → Mode → Bool
 rights_for gives queue mode = list_any (λ right. (right.queue == queue) && allows right.mode mode) gives
 
-holds_given : (gives : List QueueRight) (queue : ℕ) (mode : Mode) → holds (map holding_of gives) queue mode ≡ rights_for gives queue mode
+holds_given : (gives : List QueueRight) (queue : ℕ) (mode : Mode) → lets_use (map holding_of gives) queue mode ≡ rights_for gives queue mode
 holds_given [] queue mode = refl
 holds_given (give ∷ gives) queue mode = ap (λ b. ((give.queue == queue) && allows give.mode mode) || b) (holds_given gives queue mode)
 
 turn_known : (parent : ℕ) (gives : List QueueRight) (turn : TurnFrame) → turn_of parent gives ≡ Some turn
-    → (turn.parent ≡ parent) × ((queue : ℕ) (mode : Mode) → holds turn.holdings queue mode ≡ true → rights_for gives queue mode ≡ true)
+    → (turn.parent ≡ parent) × ((queue : ℕ) (mode : Mode) → lets_use turn.holdings queue mode ≡ true → rights_for gives queue mode ≡ true)
 turn_known parent [] turn is = let never : None ≡ Some turn = is in absurd (cc)
 turn_known parent (give ∷ gives) turn is =
     let whole : record { parent = parent; holdings = map holding_of (give ∷ gives); lent = false } ≡ turn = cc in (
       ap (λ (t : TurnFrame). t.parent) (sym whole),
-      λ queue mode held. sym (holds_given (give ∷ gives) queue mode) ∙ ap (λ (t : TurnFrame). holds t.holdings queue mode) whole ∙ held,
+      λ queue mode held. sym (holds_given (give ∷ gives) queue mode) ∙ ap (λ (t : TurnFrame). lets_use t.holdings queue mode) whole ∙ held,
     )
 
 turn_some : (parent : ℕ) (gives : List QueueRight) (queue : ℕ) (mode : Mode) → rights_for gives queue mode ≡ true
-    → (turn : TurnFrame) × (turn_of parent gives ≡ Some turn) × (turn.parent ≡ parent) × (holds turn.holdings queue mode ≡ true)
+    → (turn : TurnFrame) × (turn_of parent gives ≡ Some turn) × (turn.parent ≡ parent) × (lets_use turn.holdings queue mode ≡ true)
 turn_some parent [] queue mode some = absurd (false≢true some)
 turn_some parent (give ∷ gives) queue mode some =
     (record { parent = parent; holdings = map holding_of (give ∷ gives); lent = false }, refl, refl, holds_given (give ∷ gives) queue mode ∙ some)
@@ -70,11 +70,11 @@ module _ (state : QueueState) (tree : IsTree state) (turns : Frames) (is : AreTu
     turns_spawned = record { apart = given.apart is.apart; known = known_now; all = all_now } where
       known_now : (m : ℕ) (turn : TurnFrame) → frame_at then_turns m ≡ Some turn
           → (frame : ActiveFrame) × (active after m ≡ Some frame) × (frame.parent ≡ Some turn.parent)
-          × ((queue : ℕ) (mode : Mode) → holds turn.holdings queue mode ≡ true → holds_queue frame queue mode ≡ true)
+          × ((queue : ℕ) (mode : Mode) → lets_use turn.holdings queue mode ≡ true → holds_queue frame queue mode ≡ true)
       known_now m turn at = by (cases_eq m child) (cases_eq m p) where
         by : (m ≡ child) ⊎ (m ≢ child) → (m ≡ p) ⊎ (m ≢ p)
             → (frame : ActiveFrame) × (active after m ≡ Some frame) × (frame.parent ≡ Some turn.parent)
-            × ((queue : ℕ) (mode : Mode) → holds turn.holdings queue mode ≡ true → holds_queue frame queue mode ≡ true)
+            × ((queue : ℕ) (mode : Mode) → lets_use turn.holdings queue mode ≡ true → holds_queue frame queue mode ≡ true)
         by (inl is_child) c =
             let told = turn_known p gives turn (sym given.one.changed ∙ ap (frame_at then_turns) (sym is_child) ∙ at) in (
               child_of may.act.frame child gives,
@@ -96,9 +96,9 @@ module _ (state : QueueState) (tree : IsTree state) (turns : Frames) (is : AreTu
 
       all_now : (m above q : ℕ) (mode : Mode) (one : ActiveFrame) → active after m ≡ Some one → one.parent ≡ Some above
           → holds_queue one q mode ≡ true → ((maker : QueueMaker) → slice_get state.makers q ≡ Some maker → one.path ≢ maker_path maker)
-          → (turn : TurnFrame) × (frame_at then_turns m ≡ Some turn) × (turn.parent ≡ above) × (holds turn.holdings q mode ≡ true)
+          → (turn : TurnFrame) × (frame_at then_turns m ≡ Some turn) × (turn.parent ≡ above) × (lets_use turn.holdings q mode ≡ true)
       all_now m above q mode one live of held foreign = by (cases_eq m child) (cases_eq m p) where
-        by : (m ≡ child) ⊎ (m ≢ child) → (m ≡ p) ⊎ (m ≢ p) → (turn : TurnFrame) × (frame_at then_turns m ≡ Some turn) × (turn.parent ≡ above) × (holds turn.holdings q mode ≡ true)
+        by : (m ≡ child) ⊎ (m ≢ child) → (m ≡ p) ⊎ (m ≢ p) → (turn : TurnFrame) × (frame_at then_turns m ≡ Some turn) × (turn.parent ≡ above) × (lets_use turn.holdings q mode ≡ true)
         by (inl is_child) c =
             let same : one ≡ child_of may.act.frame child gives =
             one_answer (active after child) one (child_of may.act.frame child gives)

@@ -4,7 +4,7 @@ use Rattle.std.specs.List.{list_any}
 use Rattle.swan_model.specs.declared.rights.Mode.{Mode}
 use Rattle.swan_model.specs.QueueState.{ActiveFrame, QueueMaker, QueueState, active, holds_queue, QueueRight, IsEarlierPusher, IsPoppingChild}
 use Rattle.swan_model.specs.SerialState.{Holding}
-use Rattle.pop_order.specs.Frames.{TurnFrame, Frames, frame_at, holds}
+use Rattle.pop_order.specs.Frames.{TurnFrame, Frames, frame_at, lets_use}
 use Rattle.pop_order.specs.OneChange.{IsOnlyChange}
 use Rattle.pop_order.specs.declared.certain.Certain.{Certain}
 use Rattle.pop_order.specs.declared.certain.Certain.TheVariants.{Yes, EarlierPusher, PoppingChild}
@@ -22,10 +22,10 @@ pub record AreTurns (state : QueueState) (turns : Frames) : Type 0 where
   pub apart : AreApart turns
   pub known : (number : ℕ) (turn : TurnFrame) → frame_at turns number ≡ Some turn
       → (frame : ActiveFrame) × (active state number ≡ Some frame) × (frame.parent ≡ Some turn.parent)
-      × ((queue : ℕ) (mode : Mode) → holds turn.holdings queue mode ≡ true → holds_queue frame queue mode ≡ true)
+      × ((queue : ℕ) (mode : Mode) → lets_use turn.holdings queue mode ≡ true → holds_queue frame queue mode ≡ true)
   pub all : (number parent queue : ℕ) (mode : Mode) (frame : ActiveFrame) → active state number ≡ Some frame → frame.parent ≡ Some parent
       → holds_queue frame queue mode ≡ true → ((maker : QueueMaker) → slice_get state.makers queue ≡ Some maker → frame.path ≢ maker_path maker)
-      → (turn : TurnFrame) × (frame_at turns number ≡ Some turn) × (turn.parent ≡ parent) × (holds turn.holdings queue mode ≡ true)
+      → (turn : TurnFrame) × (frame_at turns number ≡ Some turn) × (turn.parent ≡ parent) × (lets_use turn.holdings queue mode ≡ true)
 
 -- whether a queue is among what a child is given
 abbrev pub gives_queue : List QueueRight → ℕ → Bool

@@ -9,7 +9,7 @@ ghost use Rattle.swan_model.specs.Granted.{is_spawn};
 ghost use Rattle.swan_model.specs.Lawful.{IsLawful};
 ghost use Rattle.swan_model.specs.QueueFollows.{AreByEnds, Fits, FitsFrame, next_queue_deed, queue_time};
 ghost use Rattle.swan_model.specs.QueueState.{ActiveFrame, LentEnd, QueueRight, QueueState, active, after_back, after_create, after_create_root, after_deed, after_finish, after_lend, after_spawn, after_take_rest, new_state};
-ghost use Rattle.swan_model.specs.Readings.{at_start, gone_on, gone_on_by, spawned, with_queue};
+ghost use Rattle.swan_model.specs.Readings.{at_start, gone_on, gone_on_by, reading_after_spawn, with_queue};
 ghost use Rattle.swan_model.specs.SerialTime.{Progress, Reading, frame_of, is_queue_deed, point, time};
 ghost use Rattle.queues.specs.Reads.{DiffersIdly, HasMore, IsAtLast, OnActiveEntry, OnEntry, OnFitting, OnQueueStep, deeds_among};
 
@@ -31,7 +31,7 @@ pub fn readings_go_on()
     // a spawn
     ensures spawn { OnActiveEntry (λ s state r number progress does parent. (child : ℕ) (all : List OriginGive) (gives : List QueueRight)
         → does ≡ Spawn all → active state child ≡ None → frame_of r child ≡ None
-        → Fits s (after_spawn state parent child gives) (spawned s r progress child)) }
+        → Fits s (after_spawn state parent child gives) (reading_after_spawn s r progress child)) }
 
     // another deed of queues, and an entry that is none
     ensures deed { OnEntry (λ s state r number progress does. is_queue_deed does ≡ true → is_spawn does ≡ false → does ≢ MakeQueue → HasMore s progress

@@ -1,6 +1,6 @@
 // Laws of the turns of poppers beside hyperqueues.
 ghost use Rattle.std.specs.Prelude.{◌≡◌, ℕ, ◌++◌, ◌∷◌, List, [], Some, false, true};
-ghost use Rattle.pop_order.specs.Frames.{AreUpTo, Frames, HasNoChild, MayBeEnlisted, enlisted, lent_to, without};
+ghost use Rattle.pop_order.specs.Frames.{AreUpTo, Frames, HasNoChild, MayBeEnlisted, frames_after_enlist, frames_after_lend, without};
 ghost use Rattle.pop_order.specs.Order.{ComesBefore};
 ghost use Rattle.pop_order.specs.Turns.{Blocks, IsAnswer};
 ghost use Rattle.pop_order.specs.declared.certain.Certain.{Certain};
@@ -29,7 +29,7 @@ pub fn turns_stay()
     ensures may_get { (before now : Frames) (parent child queue : ℕ) (gives : List QueueRight) → AreGivenTurns before now parent child gives
         → gives_queue gives queue ≡ false → MayBeEnlisted now parent child queue }
     ensures more { (before now : Frames) (parent child : ℕ) (gives : List QueueRight) (give : QueueRight) → AreGivenTurns before now parent child gives
-        → AreGivenTurns before (enlisted now parent child (holding_of give)) parent child (gives ++ give ∷ []) }
+        → AreGivenTurns before (frames_after_enlist now parent child (holding_of give)) parent child (gives ++ give ∷ []) }
     ensures spawn { OnTreeTurns (λ state turns. (now : Frames) (n child : ℕ) (gives : List QueueRight) (may : MaySpawn state n child gives)
         → AreGivenTurns turns now n child gives → AreTurns (after_spawn state may.act.frame child gives) now) }
 
@@ -38,7 +38,7 @@ pub fn turns_stay()
     ensures lend { OnTurns (λ state turns. (n : ℕ) (frame : ActiveFrame) (ends : List LentEnd) → active state n ≡ Some frame
         → AreTurns (after_lend state frame ends) turns) }
     ensures back { OnTurns (λ state turns. (n deeds : ℕ) (frame : ActiveFrame) → active state n ≡ Some frame → AreTurns (after_back state n deeds) turns) }
-    ensures moved { OnTurns (λ state turns. (child : ℕ) → AreTurns state (lent_to turns child)) }
+    ensures moved { OnTurns (λ state turns. (child : ℕ) → AreTurns state (frames_after_lend turns child)) }
 
     // the end of a frame, and of all
     ensures childless { OnTurns (λ state turns. (n : ℕ) → MayJoin state n → HasNoChild turns n) }

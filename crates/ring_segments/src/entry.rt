@@ -30,13 +30,13 @@ impl Means<Tagged> for About {
 
 /// An item with its index, which stands there on the list that its segment owes.
 #[derive(Drop)]
-pub(crate) struct Entry {
+pub(crate) struct OwedItem {
     item: Value,
     index: u64,
     of: Meaning<Tagged>,
 }
 
-impl Model for Entry {
+impl Model for OwedItem {
     ghost use Rattle.ring_segments.specs.Entries.{IndexedItem};
     ghost use Rattle.ring_segments.specs.Tags.{IsItem};
 
@@ -47,13 +47,13 @@ impl Model for Entry {
     ghost invariant = { λ e. IsItem e.of.means e.index e.item };
 }
 
-impl Entry {
+impl OwedItem {
     /// The item that its segment owes at this index. `O(1)`.
-    pub(crate) fn new(item: Value, index: u64, of: Meaning<Tagged>) -> Entry
+    pub(crate) fn new(item: Value, index: u64, of: Meaning<Tagged>) -> OwedItem
         requires { IsItem of.means index item }
         ensures { result ≡ record { item = item; index = index; of = of.means } }
     {
-        Entry { item, index, of }
+        OwedItem { item, index, of }
     }
 
     /// The item. `O(1)`.

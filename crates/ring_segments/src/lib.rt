@@ -19,7 +19,7 @@
 //! Inside, both ends share one `atomic_table`. Its first word counts what was popped and its last one what was pushed, a
 //! cache line apart, and the item of index i stands in the slot i modulo the size. The rule of the table (`IsRing` in
 //! `specs/Words`) speaks of indexes alone: between head and tail each slot has the item of its index. That the item is
-//! the one that is owed there is a fact of the private type of what a slot keeps (`Entry`). What a seat knows of the
+//! the one that is owed there is a fact of the private type of what a slot keeps (`OwedItem`). What a seat knows of the
 //! ring, as how often it has looked, stands in its view (`SeatView`), which exists in proofs alone.
 #![tactic(auto)]
 
@@ -35,7 +35,7 @@ mod steps;
 mod tag;
 
 pub use consumer::Consumer;
-use entry::{Entry, Tagged};
+use entry::{OwedItem, Tagged};
 pub use link::Link;
 pub use note::Note;
 use plays::{Ends, Hear, LastNotes, Notes, Put, Reach, SeeHead, SeeTail, Take};

@@ -1,11 +1,11 @@
 // What each step on a ring's words tells.
-use crate::{Entry, Seen, Tagged};
+use crate::{OwedItem, Seen, Tagged};
 use atomic_table::{Join, Play, Split};
 
 /// The producer looks at the head.
 pub(crate) struct SeeHead;
 
-impl Play<Option<Entry>, Seen> for SeeHead {
+impl Play<Option<OwedItem>, Seen> for SeeHead {
     ghost use Rattle.ring_segments.specs.Words.{saw_head};
 
     ghost then = { saw_head };
@@ -14,7 +14,7 @@ impl Play<Option<Entry>, Seen> for SeeHead {
 /// The producer stores the tail.
 pub(crate) struct Put;
 
-impl Play<Option<Entry>, Seen> for Put {
+impl Play<Option<OwedItem>, Seen> for Put {
     ghost use Rattle.ring_segments.specs.Words.{put};
 
     ghost then = { put };
@@ -23,7 +23,7 @@ impl Play<Option<Entry>, Seen> for Put {
 /// The consumer looks at the tail, to take the next item.
 pub(crate) struct Reach;
 
-impl Play<Option<Entry>, Seen> for Reach {
+impl Play<Option<OwedItem>, Seen> for Reach {
     ghost use Rattle.ring_segments.specs.Tags.{HasRoomFor};
     ghost use Rattle.ring_segments.specs.Words.{reached};
 
@@ -33,7 +33,7 @@ impl Play<Option<Entry>, Seen> for Reach {
 /// The consumer looks at the tail, and no more.
 pub(crate) struct SeeTail;
 
-impl Play<Option<Entry>, Seen> for SeeTail {
+impl Play<Option<OwedItem>, Seen> for SeeTail {
     ghost use Rattle.ring_segments.specs.Tags.{HasRoomFor};
     ghost use Rattle.ring_segments.specs.Words.{saw_tail};
 
@@ -43,7 +43,7 @@ impl Play<Option<Entry>, Seen> for SeeTail {
 /// The consumer looks at the tail once it has learnt a note.
 pub(crate) struct Hear;
 
-impl Play<Option<Entry>, Seen> for Hear {
+impl Play<Option<OwedItem>, Seen> for Hear {
     ghost use Rattle.ring_segments.specs.Tags.{HasRoomFor};
     ghost use Rattle.ring_segments.specs.Words.{heard};
 
@@ -53,7 +53,7 @@ impl Play<Option<Entry>, Seen> for Hear {
 /// The consumer stores the head.
 pub(crate) struct Take;
 
-impl Play<Option<Entry>, Seen> for Take {
+impl Play<Option<OwedItem>, Seen> for Take {
     ghost use Rattle.ring_segments.specs.Words.{took};
 
     ghost then = { took };

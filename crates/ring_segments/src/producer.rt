@@ -6,7 +6,7 @@ ghost use Rattle.ring_segments.specs.Sits.{IsPushing, producer_state};
 ghost use Rattle.ring_segments.specs.Tags.{HasRoomFor, IsItem, OwesRest, tag_of};
 
 use crate::steps::{note_down, put_in};
-use crate::{Consumer, Entry, Link, Note, Place, Ring, Tag};
+use crate::{Consumer, Link, Note, OwedItem, Place, Ring, Tag};
 use std::alloc::Global;
 use std::marker::Model;
 use std::sync::Arc;
@@ -60,7 +60,7 @@ impl Producer {
         if self.pushed == u64::MAX {
             return Err(item);
         }
-        let entry = Entry::new(item, self.pushed, Meaning::of(&self.ring.about));
+        let entry = OwedItem::new(item, self.pushed, Meaning::of(&self.ring.about));
         put_in(&self.ring, &mut self.seat, self.pushed, entry)?;
         self.pushed += 1;
         Ok(())

@@ -5,7 +5,7 @@ ghost use Rattle.swan_model.specs.Segments.{IsSegmentOf};
 ghost use Rattle.ring_segments.specs.Ends.{new_consumer, new_producer};
 ghost use Rattle.ring_segments.specs.Tags.{tag_of};
 
-use crate::{About, Consumer, Ends, Entry, Producer, RingRule, Seen, Tag};
+use crate::{About, Consumer, Ends, OwedItem, Producer, RingRule, Seen, Tag};
 use atomic_table::{Seat, Table};
 use std::alloc::Global;
 use std::sync::Arc;
@@ -17,9 +17,9 @@ pub(crate) const HEAD: usize = 0;
 /// The word that counts what was pushed. It stands a cache line behind the other.
 pub(crate) const TAIL: usize = 8;
 
-pub(crate) type RingTable = Table<Option<Entry>, Seen, About, RingRule, Global>;
+pub(crate) type RingTable = Table<Option<OwedItem>, Seen, About, RingRule, Global>;
 
-pub(crate) type Place = Seat<Option<Entry>, Seen>;
+pub(crate) type Place = Seat<Option<OwedItem>, Seen>;
 
 /// What both ends of a segment share.
 #[derive(Drop)]

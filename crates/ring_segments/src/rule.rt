@@ -1,5 +1,5 @@
 // What is true of a ring between any two steps.
-use crate::{Entry, Tag, Tagged};
+use crate::{OwedItem, Tag, Tagged};
 use atomic_table::TableRule;
 use swan_model::RunName;
 
@@ -44,7 +44,7 @@ pub(crate) struct About {
 
 pub(crate) struct RingRule;
 
-impl TableRule<Option<Entry>, Seen, About> for RingRule {
+impl TableRule<Option<OwedItem>, Seen, About> for RingRule {
     ghost use Rattle.ring_segments.specs.Seating.{IsRingOf, first_view};
 
     ghost holds = { IsRingOf };

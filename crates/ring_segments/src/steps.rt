@@ -8,11 +8,16 @@ ghost use Rattle.ring_segments.specs.Tags.{HasRoomFor, IsInside, IsItem};
 ghost use Rattle.ring_segments.specs.Words.{last_note_of, learnt, looked, missed, note_of, sealed_of};
 
 use crate::ring::{HEAD, TAIL};
-use crate::{Entry, Hear, LastNotes, Notes, Place, Put, Reach, Ring, SeeHead, SeeTail, Take};
+use crate::{Hear, LastNotes, Notes, OwedItem, Place, Put, Reach, Ring, SeeHead, SeeTail, Take};
 use swan_model::Value;
 
 /// Puts an item into its slot, where that is free, and then counts it as pushed. One load, and one store. `O(1)`.
-pub(crate) fn put_in(ring: &Ring, seat: &mut Place, pushed: u64, entry: Entry) -> Result<(), Value>
+pub(crate) fn put_in(
+    ring: &Ring,
+    seat: &mut Place,
+    pushed: u64,
+    entry: OwedItem,
+) -> Result<(), Value>
     requires seat { IsPushing ring.now seat.old pushed × (seat.old.me.0.sealed ≡ false) }
     requires entry { (entry.index ≡ pushed) × (entry.of ≡ id_of ring.now.about) × (pushed + 1 < 2 ^ 64) × HasRoomFor entry.of (pushed + 1) }
     ensures ok { OnOk result (IsPushing ring.now seat.new (pushed + 1) × (seat.new.me.0 ≡ record seat.old.me.0 { pushed = pushed + 1; looks = seat.old.me.0.looks + 1 })) }

@@ -33,7 +33,7 @@ use Rattle.swan_model.specs.Values.{kind_of}
 use Rattle.swan_model.proofs.Elements.{last_more}
 use Rattle.swan_model.proofs.Times.{times_rise}
 use Rattle.serial_elision.specs.Laws.{named_give}
-use Rattle.serial_elision.specs.TaskSteps.{Faults, GetsPlace, IsAsking, MayUseAt, child_of, parent_of}
+use Rattle.serial_elision.specs.TaskSteps.{Faults, GetsPlace, IsAsking, MayUseAt, child_activation, parent_activation}
 use Rattle.serial_elision.specs.TaskSteps as step
 use Rattle.serial_elision.proofs.AskSteps.{deed-is, effect-is, faults-by, used}
 use Rattle.serial_elision.proofs.Held.{gives-held, give-of, given-each, used-at}
@@ -125,16 +125,16 @@ module _ {B L : Type 0} (G : Ghosts B L) (plan : Plan B L) (path : List ℕ) (k 
       deeper : Bool → Effect L
       deeper b = cond (nat_le PATH_MOST (length top.path)) (faults kind.Depth)
           (cond (nat_lt (top.fuel - 1) child.fuel) (faults kind.Fuel)
-          (spawns (parent_of (moved top local) child) (child_of top child hs) (record store { cells = zeroed store.cells hs })))
+          (spawns (parent_activation (moved top local) child) (child_activation top child hs) (record store { cells = zeroed store.cells hs })))
 
     module _ (once : is_aliased child.gives ≡ false) where
       deeper-is : spawned store (moved top local) child (Some hs)
           ≡ cond (nat_le PATH_MOST (length top.path)) (faults kind.Depth)
           (cond (nat_lt (top.fuel - 1) child.fuel) (faults kind.Fuel)
-          (spawns (parent_of (moved top local) child) (child_of top child hs) (record store { cells = zeroed store.cells hs })))
+          (spawns (parent_activation (moved top local) child) (child_activation top child hs) (record store { cells = zeroed store.cells hs })))
       deeper-is = ap (λ b. cond b (faults kind.Alias) (cond (nat_le PATH_MOST (length top.path)) (faults kind.Depth)
           (cond (nat_lt (top.fuel - 1) child.fuel) (faults kind.Fuel)
-          (spawns (parent_of (moved top local) child) (child_of top child hs) (record store { cells = zeroed store.cells hs }))))) once
+          (spawns (parent_activation (moved top local) child) (child_activation top child hs) (record store { cells = zeroed store.cells hs }))))) once
 
       pub too-deep : PATH_MOST ≤ length top.path → Faults G plan path k top kind.Depth deed.Quiet
       too-deep deep =
@@ -142,31 +142,31 @@ module _ {B L : Type 0} (G : Ghosts B L) (plan : Plan B L) (path : List ℕ) (k 
           faults-by G plan path k top local (ask.Spawn child) kind.Depth is
           (spawned-is ∙ deeper-is ∙ ap (λ b. cond b (faults kind.Depth)
           (cond (nat_lt (top.fuel - 1) child.fuel) (faults kind.Fuel)
-          (spawns (parent_of (moved top local) child) (child_of top child hs) (record store { cells = zeroed store.cells hs })))) yes)
+          (spawns (parent_activation (moved top local) child) (child_activation top child hs) (record store { cells = zeroed store.cells hs })))) yes)
 
       module _ (shallow : length top.path < PATH_MOST) where
         fuel-is : spawned store (moved top local) child (Some hs)
             ≡ cond (nat_lt (top.fuel - 1) child.fuel) (faults kind.Fuel)
-            (spawns (parent_of (moved top local) child) (child_of top child hs) (record store { cells = zeroed store.cells hs }))
+            (spawns (parent_activation (moved top local) child) (child_activation top child hs) (record store { cells = zeroed store.cells hs }))
         fuel-is =
             let no : nat_le PATH_MOST (length top.path) ≡ false = search (rules, tests) in
             deeper-is ∙ ap (λ b. cond b (faults kind.Depth)
             (cond (nat_lt (top.fuel - 1) child.fuel) (faults kind.Fuel)
-            (spawns (parent_of (moved top local) child) (child_of top child hs) (record store { cells = zeroed store.cells hs })))) no
+            (spawns (parent_activation (moved top local) child) (child_activation top child hs) (record store { cells = zeroed store.cells hs })))) no
 
         pub too-dear : top.fuel - 1 < child.fuel → Faults G plan path k top kind.Fuel deed.Quiet
         too-dear dear =
             let yes : nat_lt (top.fuel - 1) child.fuel ≡ true = search (rules, tests) in
             faults-by G plan path k top local (ask.Spawn child) kind.Fuel is
             (spawned-is ∙ fuel-is ∙ ap (λ b. cond b (faults kind.Fuel)
-            (spawns (parent_of (moved top local) child) (child_of top child hs) (record store { cells = zeroed store.cells hs }))) yes)
+            (spawns (parent_activation (moved top local) child) (child_activation top child hs) (record store { cells = zeroed store.cells hs }))) yes)
 
         module _ (enough : child.fuel ≤ top.fuel - 1) (bounds : IsWithinBounds plan.roots.queues plan.roots.objects) where
           abbrev parent : Activation L
-          parent = parent_of (moved top local) child
+          parent = parent_activation (moved top local) child
 
           abbrev begun : Activation L
-          begun = child_of top child hs
+          begun = child_activation top child hs
 
           abbrev then : Store
           then = record store { cells = zeroed store.cells hs }

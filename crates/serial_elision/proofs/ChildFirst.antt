@@ -25,7 +25,7 @@ use Rattle.serial_elision.proofs.MadeAbove.{given_from-parent}
 use Rattle.swan_model.proofs.Paths.{path_is-itself, same_path, not_root}
 use Rattle.swan_model.proofs.Times.{times_rise, times_all}
 use Rattle.swan_model.proofs.Uses.{IsGrantedBy, holds-cases}
-use Rattle.swan_model.proofs.MovedFrames.{child_of}
+use Rattle.swan_model.proofs.MovedFrames.{child_progress}
 
 -- ---- a frame whose next deed is a spawn
 
@@ -103,11 +103,11 @@ child-next s lawful n entry gives stands is = by (slice_get s.entries (n + 1)) r
       past (inl more) = let some = slice_get-get_or s.entries (n + 1) entry more in absurd (cc)
 
 -- the child's first entry is the frame's point
-first-own : (s : Script) → IsLawful s → (parent : Progress) (gives : List OriginGive) (number : ℕ) → IsSpawning s parent gives → IsEntryOf s (child_path s parent.path (point s parent)) (point s (child_of s parent number)) × (point s (child_of s parent number) ≡ time s (child_path s parent.path (point s parent)) 0)
+first-own : (s : Script) → IsLawful s → (parent : Progress) (gives : List OriginGive) (number : ℕ) → IsSpawning s parent gives → IsEntryOf s (child_path s parent.path (point s parent)) (point s (child_progress s parent number)) × (point s (child_progress s parent number) ≡ time s (child_path s parent.path (point s parent)) 0)
 first-own s lawful parent gives number now =
     let n = point s parent in
     let path = child_path s parent.path n in
-    let child = child_of s parent number in
+    let child = child_progress s parent number in
     let then : IsEntryOf s path (n + 1) = subst (λ p. IsEntryOf s (child_path s p n) (n + 1)) now.own (child-next s lawful n now.entry gives now.stands now.deed_is) in
     let some = some_own s path (n + 1) then in
     (point_own s child some, point_is s child some)
@@ -153,9 +153,9 @@ from-parent s lawful parent gives now (suc m) mode origin early may =
     ]
 
 -- where a child may push to a queue at its first entry, its parent may at the spawn, which comes before
-pub child_pushes : (s : Script) → IsLawful s → (parent : Progress) (gives : List OriginGive) (number : ℕ) → IsSpawning s parent gives → (queue : Origin) → let child = child_of s parent number in may_use (holds s child.path (point s child)) Push queue ≡ true → (may_use (holds s parent.path (point s parent)) Push queue ≡ true) × (point s parent < point s child)
+pub child_pushes : (s : Script) → IsLawful s → (parent : Progress) (gives : List OriginGive) (number : ℕ) → IsSpawning s parent gives → (queue : Origin) → let child = child_progress s parent number in may_use (holds s child.path (point s child)) Push queue ≡ true → (may_use (holds s parent.path (point s parent)) Push queue ≡ true) × (point s parent < point s child)
 child_pushes s lawful parent gives number now queue may =
-    let child = child_of s parent number in
+    let child = child_progress s parent number in
     let first = first-own s lawful parent gives number now in
     let from = from-parent s lawful parent gives now (point s child) Push queue (omega (arith, first.1)) may in
     (from.may, from.before)

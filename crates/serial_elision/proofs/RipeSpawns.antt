@@ -12,7 +12,7 @@ use Rattle.swan_model.specs.declared.script.Script.{Script}
 use Rattle.swan_model.specs.Granted.{holds, may_use}
 use Rattle.swan_model.specs.Lawful.{IsLawful}
 use Rattle.swan_model.specs.Nested.{HasTasks}
-use Rattle.swan_model.specs.Readings.{next_deed, one_more, spawned}
+use Rattle.swan_model.specs.Readings.{next_deed, one_more, reading_after_spawn}
 use Rattle.swan_model.specs.Ripe.{is_ripe, may_push_too, push_time}
 use Rattle.swan_model.specs.SerialTime.{Progress, Reading, is_done, point}
 use Rattle.swan_model.specs.Told.{first_items, taken}
@@ -20,7 +20,7 @@ use Rattle.serial_elision.specs.Laws.{AreFramesOf}
 use Rattle.serial_elision.proofs.ChildFirst.{IsSpawning, spawning, child_pushes}
 use Rattle.serial_elision.proofs.RipeStays.{all-first, all-more, all_stay, push-at}
 use Rattle.swan_model.proofs.Elements.{filtered_each, filtered_from}
-use Rattle.swan_model.proofs.MovedFrames.{done_spawned, child_of}
+use Rattle.swan_model.proofs.MovedFrames.{done_spawned, child_progress}
 
 all-push : {X : Type 0} (passes test : X → Bool) (xs : List X) (x : X) → list_all test (filter passes xs) ≡ true → (passes x ≡ true → test x ≡ true) → list_all test (filter passes (xs ++ x ∷ [])) ≡ true
 all-push passes test [] x is last = all-more passes test x [] last refl
@@ -30,14 +30,14 @@ all-push passes test (y ∷ xs) x is last =
 
 -- the frames once the parent has done its spawn
 abbrev with_child : Script → List Progress → Progress → ℕ → List Progress
-with_child s frames parent number = map (one_more parent.number) frames ++ child_of s parent number ∷ []
+with_child s frames parent number = map (one_more parent.number) frames ++ child_progress s parent number ∷ []
 
 -- the child can't push before what is ripe, since its parent couldn't
 child-later : (s : Script) → IsLawful s → (active : List Progress) (frame parent : Progress) (queue : Origin) (gives : List OriginGive) (number t i : ℕ) → slice_get active i ≡ Some parent → IsSpawning s parent gives → parent.number ≢ frame.number
     → list_all (λ other. nat_lt t (point s other)) (filter (may_push_too s frame queue) active) ≡ true
-    → may_push_too s frame queue (child_of s parent number) ≡ true → nat_lt t (point s (child_of s parent number)) ≡ true
+    → may_push_too s frame queue (child_progress s parent number) ≡ true → nat_lt t (point s (child_progress s parent number)) ≡ true
 child-later s lawful active frame parent queue gives number t i stands now apart all may =
-    let child = child_of s parent number in
+    let child = child_progress s parent number in
     let both = and_parts (not (nat_eq number frame.number)) (may_use (holds s child.path (point s child)) Push queue) may in
     let from = child_pushes s lawful parent gives number now queue both.1 in
     let other : not (nat_eq parent.number frame.number) ≡ true = not_from_false (nat_eq parent.number frame.number) (ne_eqb parent.number frame.number apart) in
@@ -48,23 +48,23 @@ child-later s lawful active frame parent queue gives number t i stands now apart
 module _ (s : Script) (r : Reading) (active : List Progress) (frame : Progress) (queue : Origin) (parent : Progress) (gives : List OriginGive) (number i : ℕ) where
   after-spawn : IsLawful s → HasTasks s r → AreFramesOf r active → slice_get active i ≡ Some parent → IsSpawning s parent gives → parent.number ≢ frame.number → (index : ℕ) (found : Option ℕ) → push_time s queue index ≡ found
       → option_map_or (λ t. is_done s r t && list_all (λ other. nat_lt t (point s other)) (filter (may_push_too s frame queue) active)) found false ≡ true
-      → option_map_or (λ t. is_done s (spawned s r parent number) t && list_all (λ other. nat_lt t (point s other)) (filter (may_push_too s frame queue) (with_child s active parent number))) found false ≡ true
+      → option_map_or (λ t. is_done s (reading_after_spawn s r parent number) t && list_all (λ other. nat_lt t (point s other)) (filter (may_push_too s frame queue) (with_child s active parent number))) found false ≡ true
   after-spawn lawful tasks are stands now apart index None at is = absurd (cc)
   after-spawn lawful tasks are stands now apart index (Some t) at is =
       let all = list_all (λ (other : Progress). nat_lt t (point s other)) (filter (may_push_too s frame queue) active) in
       let both = and_parts (is_done s r t) all is in
       let kept = all_stay s r lawful tasks frame queue t (push-at s queue index t at) both.0 parent.number active are.each both.1 in
       let last = child-later s lawful active frame parent queue gives number t i stands now apart both.1 in
-      and_from (is_done s (spawned s r parent number) t) (list_all (λ other. nat_lt t (point s other)) (filter (may_push_too s frame queue) (with_child s active parent number)))
+      and_from (is_done s (reading_after_spawn s r parent number) t) (list_all (λ other. nat_lt t (point s other)) (filter (may_push_too s frame queue) (with_child s active parent number)))
       (done_spawned s r parent number t both.0)
-      (all-push (may_push_too s frame queue) (λ x. nat_lt t (point s x)) (map (one_more parent.number) active) (child_of s parent number) kept last)
+      (all-push (may_push_too s frame queue) (λ x. nat_lt t (point s x)) (map (one_more parent.number) active) (child_progress s parent number) kept last)
 
-  pub ripe_spawns : IsLawful s → HasTasks s r → AreFramesOf r active → slice_get active i ≡ Some parent → next_deed s parent ≡ Some (deed.Spawn gives) → parent.number ≢ frame.number → is_ripe s r active frame queue ≡ true → is_ripe s (spawned s r parent number) (with_child s active parent number) frame queue ≡ true
+  pub ripe_spawns : IsLawful s → HasTasks s r → AreFramesOf r active → slice_get active i ≡ Some parent → next_deed s parent ≡ Some (deed.Spawn gives) → parent.number ≢ frame.number → is_ripe s r active frame queue ≡ true → is_ripe s (reading_after_spawn s r parent number) (with_child s active parent number) frame queue ≡ true
   ripe_spawns lawful tasks are stands next apart is =
       let index = taken s queue (point s frame) in
       let first = nat_lt index (length (first_items s queue)) in
       let before = option_map_or (λ t. is_done s r t && list_all (λ other. nat_lt t (point s other)) (filter (may_push_too s frame queue) active)) (push_time s queue index) false in
-      let after = option_map_or (λ t. is_done s (spawned s r parent number) t && list_all (λ other. nat_lt t (point s other)) (filter (may_push_too s frame queue) (with_child s active parent number))) (push_time s queue index) false in
+      let after = option_map_or (λ t. is_done s (reading_after_spawn s r parent number) t && list_all (λ other. nat_lt t (point s other)) (filter (may_push_too s frame queue) (with_child s active parent number))) (push_time s queue index) false in
       elim (or_cases first before is) [
         | inl early ↦ or_left first after early
         | inr pushed ↦ or_right first after (after-spawn lawful tasks are stands (spawning s parent gives next) apart index (push_time s queue index) refl pushed)

@@ -15,7 +15,7 @@ use Rattle.swan_model.specs.SerialStep.{told, moved, after, effect, effect_of, s
 use Rattle.std.specs.Prelude.{slice_get}
 use Rattle.serial_elision.specs.declared.effect.Effect as code
 use Rattle.serial_elision.specs.declared.effect.Effect.TheVariants.{Answered, Spawned, Ended, Faulted}
-use Rattle.serial_elision.specs.Effects.{IsEffect, settled}
+use Rattle.serial_elision.specs.Effects.{IsEffect, after_effect}
 
 -- An ask's effect doesn't depend on what the activation was told before.
 popped-told : {L : Type 0} (store : Store) (a : Activation L) (x : Answer) (number : ℕ) (queue : Queue) (items : List Value) → popped store (told a x) number queue items ≡ popped store a number queue items
@@ -49,13 +49,13 @@ effect-told n store a x ask.Finish = refl
 effect-told n store a x (ask.Fail trouble) = refl
 
 -- the state once the effect of the top activation's ask has come to it
-pub settled-after : {L : Type 0} (s : State L) (a : Activation L) (below : List (Activation L)) (place : ℕ) (store : Store) (done : code.Effect L) (said : serial.Effect L) → IsEffect done a s.store store said → settled done a place (record s { stack = below; store = store }) ≡ after s below a.path place said
+pub settled-after : {L : Type 0} (s : State L) (a : Activation L) (below : List (Activation L)) (place : ℕ) (store : Store) (done : code.Effect L) (said : serial.Effect L) → IsEffect done a s.store store said → after_effect done a place (record s { stack = below; store = store }) ≡ after s below a.path place said
 settled-after s a below place store (Answered answer) said is = ap (after s below a.path place) (sym is)
 settled-after s a below place store (Spawned child) said is = ap (after s below a.path place) (sym is)
 settled-after s a below place store Ended said is =
-    ap (λ o. settled Ended a place (record s { stack = below; store = o })) is.1 ∙ ap (after s below a.path place) (sym is.0)
+    ap (λ o. after_effect Ended a place (record s { stack = below; store = o })) is.1 ∙ ap (after s below a.path place) (sym is.0)
 settled-after s a below place store (Faulted kind) said is =
-    ap (λ o. settled (Faulted kind) a place (record s { stack = below; store = o })) is.1
+    ap (λ o. after_effect (Faulted kind) a place (record s { stack = below; store = o })) is.1
     ∙ ap (after s below a.path place) (sym is.0)
 
 pub with_rest : {L : Type 0} (s new : State L) (below : List (Activation L)) → new.steps ≡ s.steps → new.stack ≡ below → new.faults ≡ s.faults → new ≡ record s { stack = below; store = new.store }
@@ -81,12 +81,12 @@ module _ {B L : Type 0} (G : Ghosts B L) where
 
   -- A step that costs fuel: the body has said what it asks for, the ask has its effect on the
   -- activation and on the store, and the rest of the state is the old one without its top.
-  pub step-paid : (body : B) (s new : State L) (top paid a : Activation L) (asked : Ask L) (below : List (Activation L)) (done : code.Effect L) → s.stack ≡ top ∷ below → (top.fuel ≡ 0 → ⊥) → paid ≡ told (moved top (stepped body top).0) answer.Nothing → asked ≡ (stepped body top).1 → a.path ≡ paid.path → IsEffect done a s.store new.store (effect s.steps s.store paid asked) → new.steps ≡ s.steps → new.stack ≡ below → new.faults ≡ s.faults → settled done a (G.place_of body top.local) new ≡ step G body s
+  pub step-paid : (body : B) (s new : State L) (top paid a : Activation L) (asked : Ask L) (below : List (Activation L)) (done : code.Effect L) → s.stack ≡ top ∷ below → (top.fuel ≡ 0 → ⊥) → paid ≡ told (moved top (stepped body top).0) answer.Nothing → asked ≡ (stepped body top).1 → a.path ≡ paid.path → IsEffect done a s.store new.store (effect s.steps s.store paid asked) → new.steps ≡ s.steps → new.stack ≡ below → new.faults ≡ s.faults → after_effect done a (G.place_of body top.local) new ≡ step G body s
   step-paid body s new top paid a asked below done stack fuel moved_is asked_is path is steps stack_is faults_is =
       let place = G.place_of body top.local in
       let said : serial.Effect L = effect s.steps s.store paid asked in
       let same : said ≡ effect_of G body s.steps s.store top = effect-paid body s.steps s.store top paid asked fuel moved_is asked_is in
-      ap (settled done a place) (with_rest s new below steps stack_is faults_is)
+      ap (after_effect done a place) (with_rest s new below steps stack_is faults_is)
       ∙ settled-after s a below place new.store done said is
       ∙ ap (λ p. after s below p place said) (path ∙ ap (λ p. p.path) moved_is)
       ∙ ap (after s below top.path place) same

@@ -39,11 +39,11 @@ IsReply (reply.Fault kind) a before after asks effect = (effect ≡ serial.fault
 IsReply (reply.Own task) a before after asks effect = (asks ≡ as_ask task) × (after ≡ before)
 
 -- The state once an effect has come to the activation that was taken off its stack.
-abbrev pub settled : {L : Type 0} → Effect L → Activation L → ℕ → State L → State L
-settled (Answered answer) a place s = record s { steps = s.steps + 1; stack = told a answer ∷ s.stack }
-settled (Spawned child) a place s = record s { steps = s.steps + 1; stack = child ∷ a ∷ s.stack }
-settled Ended a place s = record s { steps = s.steps + 1 }
-settled (Faulted kind) a place s = record s { steps = s.steps + 1; faults = s.faults ++ (record { path = a.path; place = place; kind = kind }) ∷ [] }
+abbrev pub after_effect : {L : Type 0} → Effect L → Activation L → ℕ → State L → State L
+after_effect (Answered answer) a place s = record s { steps = s.steps + 1; stack = told a answer ∷ s.stack }
+after_effect (Spawned child) a place s = record s { steps = s.steps + 1; stack = child ∷ a ∷ s.stack }
+after_effect Ended a place s = record s { steps = s.steps + 1 }
+after_effect (Faulted kind) a place s = record s { steps = s.steps + 1; faults = s.faults ++ (record { path = a.path; place = place; kind = kind }) ∷ [] }
 
 -- What an ask with this effect did, where it was to do that; and whether its activation ends by it.
 abbrev pub kept : {L : Type 0} → Deed → Effect L → Deed

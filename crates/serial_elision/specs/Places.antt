@@ -22,23 +22,23 @@ abbrev pub queue_at : Store → List Holding → ℕ → Mode → Option (ℕ ×
 queue_at store holdings place mode = at_number store.queues (number_at holdings place mode)
 
 -- the store once the object has this value
-abbrev pub written : Store → Value → Option (ℕ × Cell) → Store
-written store value None = store
-written store value (Some at) = with_value store at.0 at.1 value
+abbrev pub after_write : Store → Value → Option (ℕ × Cell) → Store
+after_write store value None = store
+after_write store value (Some at) = with_value store at.0 at.1 value
 
 -- the store once this item is pushed to the queue
-abbrev pub pushed : Store → Value → Option (ℕ × Queue) → Store
-pushed store value None = store
-pushed store value (Some at) = with_items store at.0 at.1 (at.1.items ++ value ∷ [])
+abbrev pub after_push : Store → Value → Option (ℕ × Queue) → Store
+after_push store value None = store
+after_push store value (Some at) = with_items store at.0 at.1 (at.1.items ++ value ∷ [])
 
 -- the first item, or by which fault the pop ends
-abbrev pub first_item : List Value → Result Value FaultKind
-first_item [] = Err PopEmpty
-first_item (item ∷ items) = Ok item
+abbrev pub item_or_fault : List Value → Result Value FaultKind
+item_or_fault [] = Err PopEmpty
+item_or_fault (item ∷ items) = Ok item
 
 abbrev pub popped_item : Option (ℕ × Queue) → Result Value FaultKind
 popped_item None = Err Privilege
-popped_item (Some at) = first_item at.1.items
+popped_item (Some at) = item_or_fault at.1.items
 
 -- the store once the first item has left the queue
 abbrev pub without_item : Store → ℕ → Queue → List Value → Store

@@ -27,12 +27,12 @@ use Rattle.swan_model.specs.Told.{deed_at}
 use Rattle.swan_model.specs.TrueFrames.{StandsAt, effect_at, gives_at}
 
 -- a parent once it has spawned this child
-abbrev pub parent_of : {L : Type 0} → Activation L → Child L → Activation L
-parent_of a child = record a { answer = answer.Nothing; fuel = a.fuel - child.fuel; children = a.children + 1 }
+abbrev pub parent_activation : {L : Type 0} → Activation L → Child L → Activation L
+parent_activation a child = record a { answer = answer.Nothing; fuel = a.fuel - child.fuel; children = a.children + 1 }
 
 -- the child as it begins, with what it is given
-abbrev pub child_of : {L : Type 0} → Activation L → Child L → List Holding → Activation L
-child_of a child holdings = record { path = a.path ++ a.children ∷ []; local = child.local; answer = answer.Start; fuel = child.fuel; holdings = holdings; children = 0 }
+abbrev pub child_activation : {L : Type 0} → Activation L → Child L → List Holding → Activation L
+child_activation a child holdings = record { path = a.path ++ a.children ∷ []; local = child.local; answer = answer.Start; fuel = child.fuel; holdings = holdings; children = 0 }
 
 module _ {B L : Type 0} (G : Ghosts B L) (plan : Plan B L) (path : List ℕ) (k : ℕ) (top : Activation L) where
   -- The task stands at this step and has fuel for it; its body leaves this local, and asks for this.
@@ -93,14 +93,14 @@ module _ {B L : Type 0} (G : Ghosts B L) (plan : Plan B L) (path : List ℕ) (k 
     pub holdings : List Holding
     pub held : given top.holdings child.gives ≡ Some holdings
     pub store : Store
-    pub effect : effect_at G plan path k top ≡ spawns (parent_of (moved top local) child) (child_of top child holdings) store
+    pub effect : effect_at G plan path k top ≡ spawns (parent_activation (moved top local) child) (child_activation top child holdings) store
     pub gives : List OriginGive
     pub deed : Does (deed.Spawn gives)
     pub many : length gives ≡ length child.gives
     pub each : (i : ℕ) (give : Give) → slice_get child.gives i ≡ Some give
         → (origin : Origin) × MayUseAt give.place give.mode origin × (slice_get gives i ≡ Some (record { origin = origin; mode = give.mode }))
-    pub names : gives_at G plan path (k + 1) (parent_of (moved top local) child) ≡ gives_at G plan path k top
-    pub begins : gives_at G plan (top.path ++ top.children ∷ []) 0 (child_of top child holdings) ≡ map Some gives
+    pub names : gives_at G plan path (k + 1) (parent_activation (moved top local) child) ≡ gives_at G plan path k top
+    pub begins : gives_at G plan (top.path ++ top.children ∷ []) 0 (child_activation top child holdings) ≡ map Some gives
 
 module _ {B L : Type 0} (G : Ghosts B L) (plan : Plan B L) where
   -- a fault is that of a task's last step, which is this fault

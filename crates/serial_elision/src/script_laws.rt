@@ -14,7 +14,7 @@ ghost use Rattle.swan_model.specs.Lawful.{IsLawful};
 ghost use Rattle.swan_model.specs.Roots.{IsWithinBounds};
 ghost use Rattle.swan_model.specs.Nested.{spawn_time, IsEntryUnder, IsEndOf, IsNested, IsLeft, HasTasks};
 ghost use Rattle.swan_model.specs.PathOrder.{comes_before};
-ghost use Rattle.swan_model.specs.Readings.{gone_on, next_deed, one_more, spawned};
+ghost use Rattle.swan_model.specs.Readings.{gone_on, next_deed, one_more, reading_after_spawn};
 ghost use Rattle.swan_model.specs.Ripe.{is_push_to, is_ripe, push_time};
 ghost use Rattle.swan_model.specs.Script.{next_entry, script};
 ghost use Rattle.swan_model.specs.SerialTime.{Progress, Reading, is_done, is_of, times, time, point, is_earlier};
@@ -156,7 +156,7 @@ pub fn a_ripe_item_stays()
         → let child : Progress = record { number = number; path = child_path s parent.path (point s parent); done = 0 } in
         IsLawful s → HasTasks s r → AreFramesOf r active → slice_get active i ≡ Some parent
         → next_deed s parent ≡ Some (Spawn gives) → parent.number ≢ frame.number → IsTrue (is_ripe s r active frame queue)
-        → IsTrue (is_ripe s (spawned s r parent number) (map (one_more parent.number) active ++ child ∷ []) frame queue) }
+        → IsTrue (is_ripe s (reading_after_spawn s r parent number) (map (one_more parent.number) active ++ child ∷ []) frame queue) }
     ensures fewer { (s : Script) (r : Reading) (active fewer : List Progress) (frame : Progress) (queue : Origin)
         → ((i : ℕ) (other : Progress) → slice_get fewer i ≡ Some other → (j : ℕ) × (slice_get active j ≡ Some other))
         → IsTrue (is_ripe s r active frame queue) → IsTrue (is_ripe s r fewer frame queue) }

@@ -3,7 +3,7 @@ ghost use Rattle.std.specs.Prelude.{◌≡◌, ℕ, suc, ◌+◌, ◌^◌, ◌<�
 ghost use Rattle.swan_model.specs.SerialStep.{after, effect, faults};
 ghost use Rattle.swan_model.specs.declared.plan.TheConstants.{FUEL_MOST};
 ghost use Rattle.serial_elision.specs.Bounds.{HasPaid};
-ghost use Rattle.serial_elision.specs.Effects.{as_ask, IsEffect, settled};
+ghost use Rattle.serial_elision.specs.Effects.{as_ask, IsEffect, after_effect};
 ghost use Rattle.serial_elision.specs.Working.{after_steps};
 
 use crate::spawn::spawn;
@@ -98,7 +98,7 @@ impl<L: Drop> State<L> {
         effect: Effect<L>,
     ) -> Result<(), NoMemory>
         requires { self.old.steps + 1 < 2 ^ 64 }
-        ensures { OnOk result (self.new ≡ settled effect top place self.old) }
+        ensures { OnOk result (self.new ≡ after_effect effect top place self.old) }
     {
         self.steps += 1;
         match effect {

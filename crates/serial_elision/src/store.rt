@@ -7,7 +7,7 @@ ghost use Rattle.swan_model.specs.declared.body.Ask.TheVariants as ask;
 ghost use Rattle.swan_model.specs.declared.rights.Mode.TheVariants.{In, Out, Push, Pop};
 ghost use Rattle.serial_elision.specs.Bounds.{HasPaid};
 ghost use Rattle.serial_elision.specs.Effects.{IsEffect};
-ghost use Rattle.serial_elision.specs.Places.{after_pop, cell_at, popped_item, pushed, queue_at, written};
+ghost use Rattle.serial_elision.specs.Places.{after_pop, cell_at, popped_item, after_push, queue_at, after_write};
 
 use crate::holding::number_at;
 use crate::{Activation, Cell, Effect, Holding, Queue};
@@ -55,7 +55,7 @@ impl Store {
     #[inline(always)]
     pub fn write(&mut self, holdings: &[Holding], place: u32, value: Value) -> bool
         ensures usable { result ≡ is_some (cell_at self.old holdings.now place Out) }
-        ensures store { self.new ≡ written self.old value (cell_at self.old holdings.now place Out) }
+        ensures store { self.new ≡ after_write self.old value (cell_at self.old holdings.now place Out) }
     {
         let Some(number) = number_at(holdings, place, Mode::Out) else {
             return false;
@@ -74,7 +74,7 @@ impl Store {
         ensures usable { IfOk result (λ usable.
             usable ≡ is_some (queue_at self.old holdings.now place Push)) }
         ensures store { OnOk result
-            (self.new ≡ pushed self.old value (queue_at self.old holdings.now place Push)) }
+            (self.new ≡ after_push self.old value (queue_at self.old holdings.now place Push)) }
     {
         let Some(number) = number_at(holdings, place, Mode::Push) else {
             return Ok(false);

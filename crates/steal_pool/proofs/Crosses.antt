@@ -11,7 +11,7 @@ use Rattle.named_lock.specs.declared.named.Named.{Ghosts}
 use Rattle.steal_pool.specs.contracts.peer.Peer
 use Rattle.steal_pool.specs.contracts.parcel.Parcel
 use Rattle.steal_pool.specs.contracts.seat.PoolSeat
-use Rattle.steal_pool.specs.contracts.kept.Kept
+use Rattle.steal_pool.specs.contracts.kept.NamedFrame
 
 module _ (T N : RattleType) (g : Ghosts T.Denot N.Denot) (sent : IsSend T) where
   parcel_send : IsSend (Parcel.the_row T N g)
@@ -23,8 +23,8 @@ module _ (T N : RattleType) (g : Ghosts T.Denot N.Denot) (sent : IsSend T) where
     (search (parcel_send, seat.the_send, heap.the_send, frees.the_frees, crosses, sendable) depth 60 fits 20000, (search (crosses, sendable) depth 60 fits 20000, tt)),
   ))
 
-  kept_send : IsSend (Kept.the_row T N g)
-  kept_send = recorded_send (Kept.the_field T N g).row _ _ (Kept.the_type T N g).to_one (struct_send (shape (Kept.the_type T N g)) (search (sent, crosses, sendable) depth 60 fits 20000, (search (crosses, sendable) depth 60 fits 20000, tt)))
+  kept_send : IsSend (NamedFrame.the_row T N g)
+  kept_send = recorded_send (NamedFrame.the_field T N g).row _ _ (NamedFrame.the_type T N g).to_one (struct_send (shape (NamedFrame.the_type T N g)) (search (sent, crosses, sendable) depth 60 fits 20000, (search (crosses, sendable) depth 60 fits 20000, tt)))
 
   pub seat_send : IsSend (PoolSeat.the_row T N g)
   seat_send = recorded_send (PoolSeat.the_field T N g).row _ _ (PoolSeat.the_type T N g).to_one (struct_send (shape (PoolSeat.the_type T N g)) (

@@ -10,7 +10,7 @@ use Rattle.crossbeam_deque.proofs.Lists.{at_set, at_snoc}
 use Rattle.steal_pool.specs.declared.parcel.Parcel.{Parcel}
 use Rattle.steal_pool.specs.declared.parcel.Parcel.TheVariants.{Label, Item}
 use Rattle.steal_pool.specs.declared.rule.PoolView.{PoolView}
-use Rattle.steal_pool.specs.Rule.{at_stage, new_pass, IsAt, Single, AllOf, Stands, Pooled, taken, labelled, opened, same}
+use Rattle.steal_pool.specs.Rule.{at_stage, new_pass, IsAt, Single, AllOf, Stands, Pooled, IsTaken, IsLabelled, IsOpened, same}
 
 two-ne : (n : ℕ) → suc (suc n) ≡ suc zero → ⊥
 two-ne n e = omega arith
@@ -61,7 +61,7 @@ module _ {T N : Type 0} (name : T → N) where
   staged v items views port h at = let e = h.2 port v at in
       subst (λ (z : ℕ × Option N). Each (IsAt z.0 z.1) views × Stands name z.0 z.1 items views) (λ i. (sym e.0 i, sym e.1 i)) (h.2, h.3)
 
-  labels : (port k : ℕ) (n : N) → Pushes Rule port (at_stage 0 None k) (Label n ∷ []) (labelled {T = T} (at_stage 0 None k) (Label n ∷ []))
+  labels : (port k : ℕ) (n : N) → Pushes Rule port (at_stage 0 None k) (Label n ∷ []) (IsLabelled {T = T} (at_stage 0 None k) (Label n ∷ []))
   labels port k n items views h at = let s = staged (at_stage 0 None k) items views port h at in let w : PoolView N = at_stage 1 (Some n) k in
       let one = set_single (IsAt 1 (Some n)) views port (at_stage 0 None k) w at s.1.1 (refl, refl) in
       (w, (1, Some n, (λ j v e. (one j v e).1), (n, ap (λ l. l ++ Label n ∷ []) s.1.0, refl, λ j v e. (one j v e).0)), (n, refl, refl))
@@ -71,7 +71,7 @@ module _ {T N : Type 0} (name : T → N) where
   cons_append x y [] (z ∷ zs) e = absurd (two-ne (length zs) (ap length e))
   cons_append x y (a ∷ xs) items e = absurd (two-ne (length (xs ++ items)) (ap length e))
 
-  opens : (port k : ℕ) (m : Option N) → Takes Rule port (at_stage 1 m k) 1 (opened (at_stage 1 m k))
+  opens : (port k : ℕ) (m : Option N) → Takes Rule port (at_stage 1 m k) 1 (IsOpened (at_stage 1 m k))
   opens port k m [] items views some_one at_most h at = absurd (omega arith)
   opens port k m (x ∷ xs) items views some_one at_most h at = let s = staged (at_stage 1 m k) ((x ∷ xs) ++ items) views port h at in let w : PoolView N = at_stage 2 m k in
       let one = set_single (IsAt 2 m) views port (at_stage 1 m k) w at s.1.3 (refl, refl) in
@@ -84,7 +84,7 @@ module _ {T N : Type 0} (name : T → N) where
   puts port k m x is items views h at = let s = staged (at_stage 2 m k) items views port h at in
       (at_stage 2 m k, (2, m, set_each (IsAt 2 m) views port (at_stage 2 m k) (refl, refl) s.0, all_append m items (Item x ∷ []) s.1 (is, tt)), refl)
 
-  takes : (port k : ℕ) (m : Option N) → Takes Rule port (at_stage 2 m k) 1 (taken name (at_stage 2 m k))
+  takes : (port k : ℕ) (m : Option N) → Takes Rule port (at_stage 2 m k) 1 (IsTaken name (at_stage 2 m k))
   takes port k m xs items views _ _ h at = let s = staged (at_stage 2 m k) (xs ++ items) views port h at in let w : PoolView N = at_stage 2 m (k + 1) in
       (w, (2, m, set_each (IsAt 2 m) views port w (refl, refl) s.0, all_right m xs items s.1), (refl, all_left m xs items s.1))
 
@@ -93,11 +93,11 @@ module _ {T N : Type 0} (name : T → N) where
       (2, m, (λ j v e. ⊎_elim (set_each (IsAt 2 m) views port (at_stage 2 m k) (refl, refl) s.0 j v) (λ t. subst (IsAt 2 m) t (refl, refl)) (at_snoc (set views port (at_stage 2 m k)) (at_stage 2 m 0) v j e)), s.1)
 
   -- the same of a view that is at a stage
-  pub labels_at : (port k : ℕ) (v : PoolView N) (n : N) → v ≡ at_stage 0 None k → Pushes Rule port v (Label n ∷ []) (labelled {T = T} v (Label n ∷ []))
-  labels_at port k v n e = subst (λ (u : PoolView N). Pushes Rule port u (Label n ∷ []) (labelled {T = T} u (Label n ∷ []))) (sym e) (labels port k n)
+  pub labels_at : (port k : ℕ) (v : PoolView N) (n : N) → v ≡ at_stage 0 None k → Pushes Rule port v (Label n ∷ []) (IsLabelled {T = T} v (Label n ∷ []))
+  labels_at port k v n e = subst (λ (u : PoolView N). Pushes Rule port u (Label n ∷ []) (IsLabelled {T = T} u (Label n ∷ []))) (sym e) (labels port k n)
 
-  pub opens_at : (port k : ℕ) (v : PoolView N) (m : Option N) → v ≡ at_stage 1 m k → Takes Rule port v 1 (opened v)
-  opens_at port k v m e = subst (λ (u : PoolView N). Takes Rule port u 1 (opened u)) (sym e) (opens port k m)
+  pub opens_at : (port k : ℕ) (v : PoolView N) (m : Option N) → v ≡ at_stage 1 m k → Takes Rule port v 1 (IsOpened v)
+  opens_at port k v m e = subst (λ (u : PoolView N). Takes Rule port u 1 (IsOpened u)) (sym e) (opens port k m)
 
   pub opens_full_at : (port k : ℕ) (v : PoolView N) (m : Option N) → v ≡ at_stage 1 m k → Finds Rule port v ⊥
   opens_full_at port k v m e = subst (λ (u : PoolView N). Finds Rule port u ⊥) (sym e) (opens_full port k m)
@@ -105,8 +105,8 @@ module _ {T N : Type 0} (name : T → N) where
   pub puts_at : (port : ℕ) (v : PoolView N) (x : T) → v.stage ≡ 2 → v.name ≡ Some (name x) → Pushes Rule port v (Item x ∷ []) (same v (Item x ∷ []))
   puts_at port v x stage named = subst (λ (u : PoolView N). Pushes Rule port u (Item x ∷ []) (same u (Item x ∷ []))) (λ i. record { stage = sym stage i; name = v.name; taken = v.taken }) (puts port v.taken v.name x named)
 
-  pub takes_at : (port : ℕ) (v : PoolView N) → v.stage ≡ 2 → Takes Rule port v 1 (taken name v)
-  takes_at port v stage = subst (λ (u : PoolView N). Takes Rule port u 1 (taken name u)) (λ i. record { stage = sym stage i; name = v.name; taken = v.taken }) (takes port v.taken v.name)
+  pub takes_at : (port : ℕ) (v : PoolView N) → v.stage ≡ 2 → Takes Rule port v 1 (IsTaken name v)
+  takes_at port v stage = subst (λ (u : PoolView N). Takes Rule port u 1 (IsTaken name u)) (λ i. record { stage = sym stage i; name = v.name; taken = v.taken }) (takes port v.taken v.name)
 
   pub forks_at : (port : ℕ) (v : PoolView N) → v.stage ≡ 2 → Forks Rule port v v (new_pass v)
   forks_at port v stage = subst (λ (u : PoolView N). Forks Rule port u u (new_pass u)) (λ i. record { stage = sym stage i; name = v.name; taken = v.taken }) (forks port v.taken v.name)

@@ -47,15 +47,15 @@ module _ {T N : Type 0} (name : T → N) where
   abbrev pub Pooled : List (Parcel T N) → List (PoolView N) → Type 0
   Pooled items views = (k : ℕ) × (m : Option N) × ((j : ℕ) (v : PoolView N) → get_elem? views j ≡ some v → IsAt k m v) × Stands k m items views
 
-  abbrev pub taken : PoolView N → List (Parcel T N) → PoolView N → Type 0
-  taken v xs w = (w ≡ one_more v) × AllOf v.name xs
+  abbrev pub IsTaken : PoolView N → List (Parcel T N) → PoolView N → Type 0
+  IsTaken v xs w = (w ≡ one_more v) × AllOf v.name xs
 
 module _ {T N : Type 0} where
-  abbrev pub labelled : PoolView N → List (Parcel T N) → PoolView N → Type 0
-  labelled v xs w = (n : N) × (xs ≡ Label n ∷ []) × (w ≡ record v { stage = 1; name = Some n })
+  abbrev pub IsLabelled : PoolView N → List (Parcel T N) → PoolView N → Type 0
+  IsLabelled v xs w = (n : N) × (xs ≡ Label n ∷ []) × (w ≡ record v { stage = 1; name = Some n })
 
-  abbrev pub opened : PoolView N → List (Parcel T N) → PoolView N → Type 0
-  opened v xs w = w ≡ record v { stage = 2 }
+  abbrev pub IsOpened : PoolView N → List (Parcel T N) → PoolView N → Type 0
+  IsOpened v xs w = w ≡ record v { stage = 2 }
 
   abbrev pub same : PoolView N → List (Parcel T N) → PoolView N → Type 0
   same v xs w = w ≡ v

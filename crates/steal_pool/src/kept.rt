@@ -8,19 +8,19 @@ use std::collections::VecDeque;
 
 /// A frame with the name that it has.
 #[derive(Drop)]
-pub(crate) struct Kept<T: Named> {
+pub(crate) struct NamedFrame<T: Named> {
     pub(crate) frame: T,
     pub(crate) name: NameOf<T>,
     ghost same: { T.name frame ≡ name } by { Coded-set T.Name.code (T.name frame) name },
 }
 
-impl<T: Named> Kept<T> {
+impl<T: Named> NamedFrame<T> {
     /// The frame, with its name. `O(1)`.
-    pub(crate) fn new(frame: T) -> Kept<T>
+    pub(crate) fn new(frame: T) -> NamedFrame<T>
         ensures { (result.frame ≡ frame) × (result.name ≡ T.name frame) }
     {
         let name = NameOf::of(&frame);
-        Kept { frame, name }
+        NamedFrame { frame, name }
     }
 
     /// The frame. `O(1)`.
@@ -35,7 +35,7 @@ impl<T: Named> Kept<T> {
 /// Frames of one name, the next one first.
 #[derive(Drop)]
 pub(crate) struct KeptList<T: Named> {
-    pub(crate) kept: VecDeque<Kept<T>>,
+    pub(crate) kept: VecDeque<NamedFrame<T>>,
     pub(crate) name: NameOf<T>,
     ghost named: { All (λ one. one.name ≡ name) kept.items } by { Π_prop (λ k. Π_prop (λ d. →_prop (Coded-set T.Name.code _ _))) },
 }
@@ -60,7 +60,7 @@ impl<T: Named> KeptList<T> {
         ensures ok { OnOk result (frames self.new ≡ frames self.old ++ frame ∷ []) }
         ensures err { IfErr result (λ given. (given ≡ frame) × (frames self.new ≡ frames self.old)) }
     {
-        match self.kept.push_back(Kept::new(frame)) {
+        match self.kept.push_back(NamedFrame::new(frame)) {
             Ok(()) => Ok(()),
             Err(failed) => Err(failed.value.into_frame()),
         }

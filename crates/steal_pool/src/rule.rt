@@ -32,18 +32,18 @@ impl<T: Named> Protocol<Parcel<T>, PoolView<T::Name>> for PoolRule {
 pub(crate) struct Labels;
 
 impl<T: Named> Outcome<Parcel<T>, PoolView<T::Name>> for Labels {
-    ghost use Rattle.steal_pool.specs.Rule.{labelled};
+    ghost use Rattle.steal_pool.specs.Rule.{IsLabelled};
 
-    ghost then = { labelled };
+    ghost then = { IsLabelled };
 }
 
 /// The label leaves.
 pub(crate) struct Opens;
 
 impl<T: Named> Outcome<Parcel<T>, PoolView<T::Name>> for Opens {
-    ghost use Rattle.steal_pool.specs.Rule.{opened};
+    ghost use Rattle.steal_pool.specs.Rule.{IsOpened};
 
-    ghost then = { opened };
+    ghost then = { IsOpened };
 
     ghost empty = { λ _. ⊥ };
 }
@@ -64,9 +64,9 @@ pub(crate) struct Takes<M> {
 
 impl<T: Named, M: Outcome<T, PoolView<T::Name>>> Outcome<Parcel<T>, PoolView<T::Name>>
     for Takes<M> {
-    ghost use Rattle.steal_pool.specs.Rule.{taken};
+    ghost use Rattle.steal_pool.specs.Rule.{IsTaken};
 
-    ghost then = { taken T.name };
+    ghost then = { IsTaken T.name };
 
     ghost empty = { M.empty };
 }

@@ -11,7 +11,7 @@ use Rattle.std.specs.Option.{option_map, option_map_or}
 use Rattle.swan_model.specs.declared.script.Script.{Script}
 use Rattle.swan_model.specs.declared.script.Entry.{Entry}
 use Rattle.swan_model.specs.Granted.{child_path}
-use Rattle.swan_model.specs.Readings.{gone_on, one_more, spawned}
+use Rattle.swan_model.specs.Readings.{gone_on, one_more, reading_after_spawn}
 use Rattle.swan_model.specs.SerialTime.{Progress, Reading, frame_of, point, time, times, is_done, is_of, is_past}
 use Rattle.swan_model.proofs.ScriptSteps.{point_rises}
 use Rattle.swan_model.proofs.Elements.{any_changed, find_map, found_is, found_before, found_cases, option_cases}
@@ -96,19 +96,19 @@ pub gone_there : (r : Reading) (n number : ℕ) (was : Progress) → frame_of r 
 gone_there r n number was is = find_gone n r.frames number ∙ ap (option_map (one_more n)) is
 
 -- the child that a spawn brings
-abbrev pub child_of : Script → Progress → ℕ → Progress
-child_of s parent child = record { number = child; path = child_path s parent.path (point s parent); done = 0 }
+abbrev pub child_progress : Script → Progress → ℕ → Progress
+child_progress s parent child = record { number = child; path = child_path s parent.path (point s parent); done = 0 }
 
 -- a frame is the new child
 pub record IsChild (s : Script) (r : Reading) (parent : Progress) (child number : ℕ) (now : Progress) : Type 0 where
   pub unread : frame_of r number ≡ None
   pub same : number ≡ child
-  pub is : now ≡ child_of s parent child
+  pub is : now ≡ child_progress s parent child
 
-pub spawned_back : (s : Script) (r : Reading) (parent : Progress) (child number : ℕ) (now : Progress) → frame_of (spawned s r parent child) number ≡ Some now
+pub spawned_back : (s : Script) (r : Reading) (parent : Progress) (child number : ℕ) (now : Progress) → frame_of (reading_after_spawn s r parent child) number ≡ Some now
     → IsMoved r parent.number number now ⊎ IsChild s r parent child number now
 spawned_back s r parent child number now is =
-    elim (found_cases (λ (f : Progress). nat_eq f.number number) (map (one_more parent.number) r.frames) (child_of s parent child) now is) [
+    elim (found_cases (λ (f : Progress). nat_eq f.number number) (map (one_more parent.number) r.frames) (child_progress s parent child) now is) [
       | inl was ↦ inl (gone_back r parent.number number now was)
       | inr new ↦ inr (record { unread = unread new.0; same = sym (eqb-true child number new.1); is = sym new.2 })
     ]
@@ -120,9 +120,9 @@ spawned_back s r parent child number now is =
     ]
 
 pub spawned_there : (s : Script) (r : Reading) (parent : Progress) (child number : ℕ) (was : Progress) → frame_of r number ≡ Some was
-    → frame_of (spawned s r parent child) number ≡ Some (one_more parent.number was)
+    → frame_of (reading_after_spawn s r parent child) number ≡ Some (one_more parent.number was)
 spawned_there s r parent child number was is =
-    found_before (λ (f : Progress). nat_eq f.number number) (map (one_more parent.number) r.frames) (child_of s parent child) (one_more parent.number was)
+    found_before (λ (f : Progress). nat_eq f.number number) (map (one_more parent.number) r.frames) (child_progress s parent child) (one_more parent.number was)
     (gone_there r parent.number number was is)
 
 -- ---- what is done stays done
@@ -143,11 +143,11 @@ done_stays s r n t is = by (slice_get s.entries t) is where
   by None none = none
   by (Some entry) any = any_changed (is_past s t entry) (is_past s t entry) (one_more n) (past_stays s t entry n) r.frames any
 
-pub done_spawned : (s : Script) (r : Reading) (parent : Progress) (child t : ℕ) → is_done s r t ≡ true → is_done s (spawned s r parent child) t ≡ true
+pub done_spawned : (s : Script) (r : Reading) (parent : Progress) (child t : ℕ) → is_done s r t ≡ true → is_done s (reading_after_spawn s r parent child) t ≡ true
 done_spawned s r parent child t is = by (slice_get s.entries t) (done_stays s r parent.number t is) where
   by : (o : Option Entry) → option_map_or (λ entry. list_any (is_past s t entry) (map (one_more parent.number) r.frames)) o false ≡ true
-      → option_map_or (λ entry. list_any (is_past s t entry) (map (one_more parent.number) r.frames ++ child_of s parent child ∷ [])) o false ≡ true
+      → option_map_or (λ entry. list_any (is_past s t entry) (map (one_more parent.number) r.frames ++ child_progress s parent child ∷ [])) o false ≡ true
   by None none = none
   by (Some entry) any =
-      list_any-append (is_past s t entry) (map (one_more parent.number) r.frames) (child_of s parent child ∷ [])
-      ∙ or_left (list_any (is_past s t entry) (map (one_more parent.number) r.frames)) (list_any (is_past s t entry) (child_of s parent child ∷ [])) any
+      list_any-append (is_past s t entry) (map (one_more parent.number) r.frames) (child_progress s parent child ∷ [])
+      ∙ or_left (list_any (is_past s t entry) (map (one_more parent.number) r.frames)) (list_any (is_past s t entry) (child_progress s parent child ∷ [])) any

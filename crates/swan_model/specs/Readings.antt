@@ -35,8 +35,8 @@ abbrev pub gone_on_by : Reading → (number many : ℕ) → Reading
 gone_on_by r number many = record r { frames = map (more_by number many) r.frames }
 
 -- the reading once a frame has done a spawn, whose child has this number
-abbrev pub spawned : Script → Reading → Progress → ℕ → Reading
-spawned s r parent child =
+abbrev pub reading_after_spawn : Script → Reading → Progress → ℕ → Reading
+reading_after_spawn s r parent child =
     let path = child_path s parent.path (point s parent) in
     record r { frames = map (one_more parent.number) r.frames ++ (record { number = child; path = path; done = 0 }) ∷ [] }
 

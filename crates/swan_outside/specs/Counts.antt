@@ -5,12 +5,12 @@ use Rattle.swan_outside.specs.declared.answer.ReadAnswer.TheVariants as answer
 use Rattle.swan_outside.specs.declared.counts.ReadCounts.{ReadCounts}
 
 -- the count after one more
-abbrev pub raised : ℕ → ℕ
-raised count = min (count + 1) (2 ^ 64 - 1)
+abbrev pub next_count : ℕ → ℕ
+next_count count = min (count + 1) (2 ^ 64 - 1)
 
 -- the count rose, or stands at its last value
 abbrev pub Rose : ℕ → ℕ → Type 0
-Rose before now = raised before ≤ now
+Rose before now = next_count before ≤ now
 
 -- nothing went wrong yet
 abbrev pub no_counts : ReadCounts
@@ -18,8 +18,8 @@ no_counts = record { faults = 0; long_reads = 0 }
 
 -- the counts after a read was refused so
 abbrev pub counts_after : ReadCounts → ReadAnswer → ReadCounts
-counts_after counts answer.Failed = record counts { faults = raised counts.faults }
-counts_after counts answer.TooLong = record counts { long_reads = raised counts.long_reads }
+counts_after counts answer.Failed = record counts { faults = next_count counts.faults }
+counts_after counts answer.TooLong = record counts { long_reads = next_count counts.long_reads }
 counts_after counts answer.NoMemory = counts
 
 -- the counts after a read
@@ -30,4 +30,4 @@ counts_after_read counts (Err refusal) = counts_after counts refusal
 -- a count of faults after a put
 abbrev pub faults_after_put : {T E : Type 0} → ℕ → Result T E → ℕ
 faults_after_put faults (Ok _) = faults
-faults_after_put faults (Err _) = raised faults
+faults_after_put faults (Err _) = next_count faults

@@ -8,7 +8,7 @@ use Rattle.swan_outside.specs.declared.answer.ReadAnswer.TheVariants as answer
 use Rattle.swan_outside.specs.declared.counts.ReadCounts.{ReadCounts}
 use Rattle.swan_outside.specs.declared.files.FileBlob.{FileBlob}
 use Rattle.swan_outside.specs.declared.files.TheConstants.{FILE_MOST}
-use Rattle.swan_outside.specs.Counts.{raised, no_counts, counts_after_read}
+use Rattle.swan_outside.specs.Counts.{next_count, no_counts, counts_after_read}
 
 -- the files, the numbers of the calls that fail, the number of calls so far, and the counts
 pub record FilesState : Type 0 where
@@ -27,7 +27,7 @@ content_of files name = option_map (λ file. file.content) (find (λ file. bytes
 
 -- whether the next call is one of those that fail
 abbrev pub fails_next : List ℕ → ℕ → Bool
-fails_next fail calls = list_any (λ number. number == raised calls) fail
+fails_next fail calls = list_any (λ number. number == next_count calls) fail
 
 -- the content that the next call finds: none where the call is one of those that fail, or where no file has the name
 abbrev pub content_found : FilesState → List ℕ → Option (List ℕ)
@@ -44,4 +44,4 @@ IsAnswerTo (Some content) (Ok _) = length content ≤ FILE_MOST
 -- the state after a call that answered so
 abbrev pub after_read : {T : Type 0} → FilesState → Result T ReadAnswer → FilesState
 after_read state result =
-    record state { calls = raised state.calls; counts = counts_after_read state.counts result }
+    record state { calls = next_count state.calls; counts = counts_after_read state.counts result }

@@ -1,6 +1,6 @@
 -- Files and sinks that never fail.
 use Rattle.std.specs.Prelude.{◌≡◌, ℕ, ◌+◌, List, [], ◌++◌, length, nat_le, if◌then◌else◌, Option, Some, None, Result, Ok, Err}
-use Rattle.swan_outside.specs.Counts.{raised}
+use Rattle.swan_outside.specs.Counts.{next_count}
 use Rattle.swan_outside.specs.FilesState.{content_of}
 use Rattle.swan_outside.specs.declared.answer.ReadAnswer.{ReadAnswer}
 use Rattle.swan_outside.specs.declared.answer.ReadAnswer.TheVariants as answer
@@ -23,7 +23,7 @@ honest_content files name = or_empty (content_of files name)
 abbrev pub long_reads_after : {T : Type 0} → ℕ → Result T ReadAnswer → ℕ
 long_reads_after count (Ok _) = count
 long_reads_after count (Err answer.Failed) = count
-long_reads_after count (Err answer.TooLong) = raised count
+long_reads_after count (Err answer.TooLong) = next_count count
 long_reads_after count (Err answer.NoMemory) = count
 
 -- all bytes so far, where they are told, and the room for them

@@ -1,7 +1,7 @@
 -- A sink in memory, and what a put into it answers.
 use Rattle.std.specs.Prelude.{ℕ, ◌==◌, ◌-◌, List, [], ◌++◌, length, take, min, Bool, ◌||◌, if◌then◌else◌, Result, Ok, Err}
 use Rattle.swan_outside.specs.declared.answer.Failed.{Failed}
-use Rattle.swan_outside.specs.Counts.{raised}
+use Rattle.swan_outside.specs.Counts.{next_count}
 use Rattle.swan_outside.specs.FilesState.{fails_next}
 
 -- the bytes so far, the most that one put takes, the room for all bytes, the numbers of the calls that fail, the
@@ -35,5 +35,5 @@ put_answer state piece = if put_fails state then Err (record {}) else Ok (bytes_
 abbrev pub after_put : SinkState → List ℕ → SinkState
 after_put state piece =
     if put_fails state
-    then record state { calls = raised state.calls; faults = raised state.faults }
-    else record state { calls = raised state.calls; written = state.written ++ take (bytes_taken state piece) piece }
+    then record state { calls = next_count state.calls; faults = next_count state.faults }
+    else record state { calls = next_count state.calls; written = state.written ++ take (bytes_taken state piece) piece }

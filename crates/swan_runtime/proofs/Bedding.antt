@@ -12,7 +12,7 @@ use Rattle.std.specs.List.{filter_map, find, swap_remove}
 use Rattle.std.specs.Map.{lookup}
 use Rattle.std.specs.Option.{option_or, option_to_list}
 use Rattle.std.specs.Ordering.{nat_cmp}
-use Rattle.pop_order.specs.Frames.{holds}
+use Rattle.pop_order.specs.Frames.{lets_use}
 use Rattle.pop_order.proofs.Holders.{holds_more as holds_one_more}
 use Rattle.swan_model.specs.Rights.{allows}
 use Rattle.swan_model.specs.SerialState.{Holding}
@@ -58,25 +58,25 @@ not_chosen false true = refl
 not_chosen false false = refl
 
 holds_more : (hs : List Holding) (i : ℕ) (h : Holding) (q : ℕ) → i < length hs → h ≡ get_or hs i h
-    → holds (take (i + 1) hs) q Pop ≡ (holds (take i hs) q Pop || (((h.number == q) && allows h.mode Pop) || false))
+    → lets_use (take (i + 1) hs) q Pop ≡ (lets_use (take i hs) q Pop || (((h.number == q) && allows h.mode Pop) || false))
 holds_more hs i h q within is =
-    ap (λ (some : List Holding). holds some q Pop) (next hs i h within is) ∙ list_any-append (λ (x : Holding). (x.number == q) && allows x.mode Pop) (take i hs) (h ∷ [])
+    ap (λ (some : List Holding). lets_use some q Pop) (next hs i h within is) ∙ list_any-append (λ (x : Holding). (x.number == q) && allows x.mode Pop) (take i hs) (h ∷ [])
 
 pub noted_more : (first was now : ℕ → Option ℕ) (child : ℕ) (hs : List Holding) (i : ℕ) (h : Holding) → i < length hs → h ≡ get_or hs i h → allows h.mode Pop ≡ true
-    → ((q : ℕ) → was q ≡ (if holds (take i hs) q Pop then Some child else first q)) → ((q : ℕ) → now q ≡ cond (is_at (nat_cmp h.number) q) (Some child) (was q))
-    → (q : ℕ) → now q ≡ (if holds (take (i + 1) hs) q Pop then Some child else first q)
+    → ((q : ℕ) → was q ≡ (if lets_use (take i hs) q Pop then Some child else first q)) → ((q : ℕ) → now q ≡ cond (is_at (nat_cmp h.number) q) (Some child) (was q))
+    → (q : ℕ) → now q ≡ (if lets_use (take (i + 1) hs) q Pop then Some child else first q)
 noted_more first was now child hs i h within is pops so moves q =
     moves q ∙ ap (λ b. cond b (Some child) (was q)) (at_is h.number q) ∙ ap (λ o. cond (h.number == q) (Some child) o) (so q)
-    ∙ chosen (holds (take i hs) q Pop) (h.number == q) child (first q)
-    ∙ ap (λ b. if holds (take i hs) q Pop || (((h.number == q) && b) || false) then Some child else first q) (sym pops)
+    ∙ chosen (lets_use (take i hs) q Pop) (h.number == q) child (first q)
+    ∙ ap (λ b. if lets_use (take i hs) q Pop || (((h.number == q) && b) || false) then Some child else first q) (sym pops)
     ∙ ap (λ b. if b then Some child else first q) (sym (holds_more hs i h q within is))
 
 pub noted_none : (first was : ℕ → Option ℕ) (child : ℕ) (hs : List Holding) (i : ℕ) (h : Holding) → i < length hs → h ≡ get_or hs i h → allows h.mode Pop ≡ false
-    → ((q : ℕ) → was q ≡ (if holds (take i hs) q Pop then Some child else first q))
-    → (q : ℕ) → was q ≡ (if holds (take (i + 1) hs) q Pop then Some child else first q)
+    → ((q : ℕ) → was q ≡ (if lets_use (take i hs) q Pop then Some child else first q))
+    → (q : ℕ) → was q ≡ (if lets_use (take (i + 1) hs) q Pop then Some child else first q)
 noted_none first was child hs i h within is pops so q =
     so q ∙ ap (λ b. if b then Some child else first q)
-    (sym (holds_more hs i h q within is ∙ ap (λ b. holds (take i hs) q Pop || (((h.number == q) && b) || false)) pops ∙ not_chosen (holds (take i hs) q Pop) (h.number == q)))
+    (sym (holds_more hs i h q within is ∙ ap (λ b. lets_use (take i hs) q Pop || (((h.number == q) && b) || false)) pops ∙ not_chosen (lets_use (take i hs) q Pop) (h.number == q)))
 
 -- ---- the first that passes
 
@@ -184,8 +184,8 @@ module _ {B Q L E : Type 0} where
 
   -- one place more of what a child was given
   pub woken_more : (hs : List Holding) (i : ℕ) (h : Holding) (before after : Option (Row B Q L E)) → i < length hs → h ≡ get_or hs i h
-      → ((queue : ℕ) → NoneAwaits queue before → NoneAwaits queue after) → ((queue : ℕ) → holds (take i hs) queue Push ≡ true → NoneAwaits queue before)
-      → (allows h.mode Push ≡ true → NoneAwaits h.number after) → (queue : ℕ) → holds (take (i + 1) hs) queue Push ≡ true → NoneAwaits queue after
+      → ((queue : ℕ) → NoneAwaits queue before → NoneAwaits queue after) → ((queue : ℕ) → lets_use (take i hs) queue Push ≡ true → NoneAwaits queue before)
+      → (allows h.mode Push ≡ true → NoneAwaits h.number after) → (queue : ℕ) → lets_use (take (i + 1) hs) queue Push ≡ true → NoneAwaits queue after
   woken_more hs i h before after within is still so here queue held = elim (holds_one_more hs i queue Push h within is held) [
     | inl earlier ↦ still queue (so queue earlier)
     | inr now ↦ subst (λ (q : ℕ). NoneAwaits q after) now.0 (here now.1)
@@ -205,7 +205,7 @@ module _ {B Q L E : Type 0} where
   noted_on (Some x) (Some y) None child hs notes noted = absurd noted
   noted_on (Some x) (Some y) (Some z) child hs notes noted = record {
     newest = noted.notes.newest;
-    poppers = λ queue. noted.notes.poppers queue ∙ ap (λ m. if holds hs queue Pop then Some child else get nat_cmp m queue) notes.poppers;
+    poppers = λ queue. noted.notes.poppers queue ∙ ap (λ m. if lets_use hs queue Pop then Some child else get nat_cmp m queue) notes.poppers;
     given_before = noted.notes.given_before ∙ notes.given_before;
   }
 
@@ -217,7 +217,7 @@ module _ {B Q L E : Type 0} where
 
   -- first some were woken, then the child was noted, and then its row was put in
   pub has_entered : (a b c d : Asleep B Q L E) (parent child : ℕ) (hs : List Holding) (before : List ℕ) (row : Row B Q L E) → OnlyWoke parent a b
-      → ((queue : ℕ) → holds hs queue Push ≡ true → NoneAwaits queue (row_at b parent)) → HasNotedAt (row_at b parent) (row_at c parent) child hs → OtherRowsStay b c parent
+      → ((queue : ℕ) → lets_use hs queue Push ≡ true → NoneAwaits queue (row_at b parent)) → HasNotedAt (row_at b parent) (row_at c parent) child hs → OtherRowsStay b c parent
       → before ≡ before_child (row_at b parent) hs → IsNewRow row before → UpdatesBy nat_cmp (nat_cmp child) c.rows d.rows (Some row) → HasEntered a d parent child hs
   has_entered a b c d parent child hs before row woke woken noted others given is put =
       let stays : (other : ℕ) → other ≢ child → row_at d other ≡ row_at c other = λ other ne. put.2 other (untied child other ne) in

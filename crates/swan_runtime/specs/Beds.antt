@@ -7,7 +7,7 @@ use Rattle.std.specs.Ordering.{nat_cmp}
 use Rattle.swan_model.specs.Rights.{allows}
 use Rattle.swan_model.specs.SerialState.{Holding}
 use Rattle.swan_model.specs.declared.rights.Mode.TheVariants.{Pop, Push}
-use Rattle.pop_order.specs.Frames.{holds}
+use Rattle.pop_order.specs.Frames.{lets_use}
 use Rattle.queues.specs.declared.answers.WaitFor.{WaitFor}
 use Rattle.queues.specs.declared.answers.WaitFor.TheVariants as wait
 use Rattle.task_frames.specs.Asked.{asked_queue}
@@ -44,7 +44,7 @@ module _ {B Q L E : Type 0} where
   -- A child was noted that was given these: it is the one spawned last, and the last one that was given what it may pop.
   pub record IsNoted (before after : Row B Q L E) (child : ℕ) (holdings : List Holding) : Type 0 where
     pub newest : after.newest ≡ Some child
-    pub poppers : (queue : ℕ) → popper_of after queue ≡ (if holds holdings queue Pop then Some child else popper_of before queue)
+    pub poppers : (queue : ℕ) → popper_of after queue ≡ (if lets_use holdings queue Pop then Some child else popper_of before queue)
     pub given_before : after.before ≡ before.before
 
   -- Nothing else was changed.
@@ -140,5 +140,5 @@ module _ {B Q L E : Type 0} where
   pub record HasEntered (before after : Asleep B Q L E) (parent child : ℕ) (holdings : List Holding) : Type 0 where
     pub own : IsSomeAnd (row_at after child) (λ (row : Row B Q L E). IsNewRow row (before_child (row_at before parent) holdings))
     pub noted : parent ≢ child → IfSome (row_at before parent) (λ (was : Row B Q L E). IsSomeAnd (row_at after parent) (λ (now : Row B Q L E). IsNoted was now child holdings))
-    pub woken : parent ≢ child → (queue : ℕ) → holds holdings queue Push ≡ true → NoneAwaits queue (row_at after parent)
+    pub woken : parent ≢ child → (queue : ℕ) → lets_use holdings queue Push ≡ true → NoneAwaits queue (row_at after parent)
     pub others : (other : ℕ) → other ≢ parent → other ≢ child → row_at after other ≡ row_at before other

@@ -1,7 +1,7 @@
 // The frames of a run that sleep.
 ghost use Rattle.std.specs.Prelude.{◌≡◌, ◌≢◌, ◌+◌, ◌∷◌, [], ℕ, List, None, IfOk, IfSome, IsSomeAnd, OnOk, false, true, vec_len};
 ghost use Rattle.std.specs.List.{find};
-ghost use Rattle.pop_order.specs.Frames.{holds};
+ghost use Rattle.pop_order.specs.Frames.{lets_use};
 ghost use Rattle.swan_model.specs.Rights.{allows};
 ghost use Rattle.swan_model.specs.declared.plan.Plan.{Plan};
 ghost use Rattle.swan_model.specs.declared.rights.Mode.TheVariants.{Push};
@@ -173,7 +173,7 @@ impl<B: Body, Q: Queues> Asleep<B, Q> {
         holdings: &[Holding],
     ) -> Result<(), NoMemory>
         ensures kept { KeepsOfRun (ends_of Q.Ends.LocalEnds) [] self.old self.new ready.old.items ready.new.items }
-        ensures woken { OnOk result ((queue : ℕ) → holds holdings.now queue Push ≡ true → NoneAwaits queue (row_at self.new number)) }
+        ensures woken { OnOk result ((queue : ℕ) → lets_use holdings.now queue Push ≡ true → NoneAwaits queue (row_at self.new number)) }
         ensures rows { OnlyWoke number self.old self.new }
     {
         for holding in holdings {

@@ -9,7 +9,7 @@ use Rattle.swan_model.specs.declared.rights.Give.{Give}
 use Rattle.swan_model.specs.QueueState.{QueueRight}
 use Rattle.swan_model.specs.Rights.{is_queue_mode}
 use Rattle.swan_model.specs.Versions.{Holds, MayGet, Placed, VersionState, after_access, placed_at}
-use Rattle.pop_order.specs.Frames.{AreUpTo, Frames, MayBeEnlisted as MayGetQueue, enlisted}
+use Rattle.pop_order.specs.Frames.{AreUpTo, Frames, MayBeEnlisted as MayGetQueue, frames_after_enlist}
 use Rattle.queues.specs.Turned.{AreApart, AreGivenTurns, AreOlder, gives_queue, holding_of}
 use Rattle.queues.proofs.GivingTurns.{turns_given_more, turns_may_get, turns_newest}
 use Rattle.task_frames.specs.Giving.{AreGivesOfQueues, AreMade, GivesObjects}
@@ -44,10 +44,10 @@ module _ (before now : Frames) (parent child : ℕ) (rights : List QueueRight) (
     pub next-fits : MayGetQueue now parent child right.queue
     next-fits = turns_may_get before now parent child (take i rights) given right.queue (fresh-before rights are i right at)
 
-    pub next-given : (then : Frames) → then ≡ enlisted now parent child (holding_of right) → AreGivenTurns before then parent child (take (i + 1) rights)
+    pub next-given : (then : Frames) → then ≡ frames_after_enlist now parent child (holding_of right) → AreGivenTurns before then parent child (take (i + 1) rights)
     next-given then is =
         subst (λ q. AreGivenTurns before q parent child (take (i + 1) rights)) (sym is)
-        (subst (AreGivenTurns before (enlisted now parent child (holding_of right)) parent child) (sym (take_next rights i right at)) (turns_given_more before now parent child (take i rights) given right))
+        (subst (AreGivenTurns before (frames_after_enlist now parent child (holding_of right)) parent child) (sym (take_next rights i right at)) (turns_given_more before now parent child (take i rights) given right))
 
 -- ---- objects
 

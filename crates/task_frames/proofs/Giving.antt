@@ -13,7 +13,7 @@ use Rattle.swan_model.specs.declared.script.Deed.TheVariants.{Spawn}
 use Rattle.swan_model.specs.declared.script.OriginGive.{OriginGive}
 use Rattle.swan_model.specs.declared.script.Script.{Script}
 use Rattle.swan_model.specs.Lawful.{IsLawful}
-use Rattle.swan_model.specs.Readings.{next_deed, spawned}
+use Rattle.swan_model.specs.Readings.{next_deed, reading_after_spawn}
 use Rattle.swan_model.specs.Rights.{allows, clash, is_aliased, is_in, is_queue_mode}
 use Rattle.swan_model.specs.SerialState.{Holding}
 use Rattle.swan_model.specs.SerialStep.{given, number_at}
@@ -26,7 +26,7 @@ use Rattle.object_versions.proofs.NoMoreWaits.{access_waits}
 use Rattle.object_versions.proofs.PlacesStay.{access_keeps, access_leaves}
 use Rattle.swan_model.proofs.Elements.{option_cases, taken_stands}
 use Rattle.task_frames.specs.Cores.{AreObjects, AwaitsNone, HasObjects, IsPlacedSo}
-use Rattle.task_frames.specs.Giving.{AreMade, access_of, accesses_from, with_access}
+use Rattle.task_frames.specs.Giving.{AreMade, access_of_give, accesses_from, with_access}
 use Rattle.task_frames.specs.Records.{LiveFrame, LiveFrames, live_at}
 use Rattle.task_frames.proofs.GoneOn.{with-child}
 use Rattle.task_frames.proofs.Names.{AreGivenSo, IsHeldSo, first-given, held-origin}
@@ -40,10 +40,10 @@ accesses-append : (n : ℕ) (xs ys : List Give) → accesses_from n (xs ++ ys) �
 accesses-append n [] ys = let none : n ≡ n + 0 = omega arith in ap (λ k. accesses_from k ys) none
 accesses-append n (x ∷ xs) ys =
     let more : n + 1 + length xs ≡ n + suc (length xs) = omega arith in
-    ap (with_access (is_queue_mode x.mode) (access_of n x)) (accesses-append (n + 1) xs ys ∙ ap (λ k. accesses_from (n + 1) xs ++ accesses_from k ys) more)
+    ap (with_access (is_queue_mode x.mode) (access_of_give n x)) (accesses-append (n + 1) xs ys ∙ ap (λ k. accesses_from (n + 1) xs ++ accesses_from k ys) more)
     ∙ by (is_queue_mode x.mode)
   where
-    by : (b : Bool) → with_access b (access_of n x) (accesses_from (n + 1) xs ++ accesses_from (n + suc (length xs)) ys) ≡ with_access b (access_of n x) (accesses_from (n + 1) xs) ++ accesses_from (n + suc (length xs)) ys
+    by : (b : Bool) → with_access b (access_of_give n x) (accesses_from (n + 1) xs ++ accesses_from (n + suc (length xs)) ys) ≡ with_access b (access_of_give n x) (accesses_from (n + 1) xs) ++ accesses_from (n + suc (length xs)) ys
     by true = refl
     by false = refl
 
@@ -53,39 +53,39 @@ record IsOfObject (n : ℕ) (gives : List Give) (access : Access) : Type 0 where
   pub give : Give
   pub stands : slice_get gives i ≡ Some give
   pub kind : is_queue_mode give.mode ≡ false
-  pub is : access ≡ access_of (n + i) give
+  pub is : access ≡ access_of_give (n + i) give
 
 of-later : (n : ℕ) (x : Give) (gives : List Give) (access : Access) → IsOfObject (n + 1) gives access → IsOfObject n (x ∷ gives) access
 of-later n x gives access it =
     let more : n + 1 + it.i ≡ n + suc it.i = omega arith in
-    record { i = suc it.i; give = it.give; stands = it.stands; kind = it.kind; is = it.is ∙ ap (λ k. access_of k it.give) more }
+    record { i = suc it.i; give = it.give; stands = it.stands; kind = it.kind; is = it.is ∙ ap (λ k. access_of_give k it.give) more }
 
 access-of_give : (n : ℕ) (gives : List Give) (j : ℕ) (access : Access) → slice_get (accesses_from n gives) j ≡ Some access → IsOfObject n gives access
 access-of_give n [] j access at = absurd (cc)
 access-of_give n (x ∷ gives) j access at = by (is_queue_mode x.mode) refl j at (λ k there. access-of_give (n + 1) gives k access there) where
-  by : (b : Bool) → is_queue_mode x.mode ≡ b → (j : ℕ) → slice_get (with_access b (access_of n x) (accesses_from (n + 1) gives)) j ≡ Some access
+  by : (b : Bool) → is_queue_mode x.mode ≡ b → (j : ℕ) → slice_get (with_access b (access_of_give n x) (accesses_from (n + 1) gives)) j ≡ Some access
       → ((k : ℕ) → slice_get (accesses_from (n + 1) gives) k ≡ Some access → IsOfObject (n + 1) gives access) → IsOfObject n (x ∷ gives) access
   by true kind j at rest = of-later n x gives access (rest j at)
   by false kind zero at rest =
       let none : n ≡ n + 0 = omega arith in
-      record { i = 0; give = x; stands = refl; kind = kind; is = sym (same_Some (access_of n x) access at) ∙ ap (λ k. access_of k x) none }
+      record { i = 0; give = x; stands = refl; kind = kind; is = sym (same_Some (access_of_give n x) access at) ∙ ap (λ k. access_of_give k x) none }
   by false kind (suc j) at rest = of-later n x gives access (rest j at)
 
-give-of_access : (n : ℕ) (gives : List Give) (i : ℕ) (give : Give) → slice_get gives i ≡ Some give → is_queue_mode give.mode ≡ false → (j : ℕ) × (slice_get (accesses_from n gives) j ≡ Some (access_of (n + i) give))
+give-of_access : (n : ℕ) (gives : List Give) (i : ℕ) (give : Give) → slice_get gives i ≡ Some give → is_queue_mode give.mode ≡ false → (j : ℕ) × (slice_get (accesses_from n gives) j ≡ Some (access_of_give (n + i) give))
 give-of_access n [] i give at kind = absurd (cc)
 give-of_access n (x ∷ gives) zero give at kind =
     let same : x ≡ give = same_Some x give at in
     let none : n ≡ n + 0 = omega arith in
-    let here : slice_get (with_access false (access_of n x) (accesses_from (n + 1) gives)) 0 ≡ Some (access_of (n + 0) give) = ap Some (ap (access_of n) same ∙ ap (λ k. access_of k give) none) in
-    (0, ap (λ b. slice_get (with_access b (access_of n x) (accesses_from (n + 1) gives)) 0) (ap (λ (g : Give). is_queue_mode g.mode) same ∙ kind) ∙ here)
+    let here : slice_get (with_access false (access_of_give n x) (accesses_from (n + 1) gives)) 0 ≡ Some (access_of_give (n + 0) give) = ap Some (ap (access_of_give n) same ∙ ap (λ k. access_of_give k give) none) in
+    (0, ap (λ b. slice_get (with_access b (access_of_give n x) (accesses_from (n + 1) gives)) 0) (ap (λ (g : Give). is_queue_mode g.mode) same ∙ kind) ∙ here)
 give-of_access n (x ∷ gives) (suc i) give at kind = by (is_queue_mode x.mode) refl (give-of_access (n + 1) gives i give at kind) where
   more : n + 1 + i ≡ n + suc i
   more = omega arith
 
-  by : (b : Bool) → is_queue_mode x.mode ≡ b → (j : ℕ) × (slice_get (accesses_from (n + 1) gives) j ≡ Some (access_of (n + 1 + i) give))
-      → (j : ℕ) × (slice_get (with_access (is_queue_mode x.mode) (access_of n x) (accesses_from (n + 1) gives)) j ≡ Some (access_of (n + suc i) give))
-  by true queue rest = (rest.0, ap (λ b. slice_get (with_access b (access_of n x) (accesses_from (n + 1) gives)) rest.0) queue ∙ rest.1 ∙ ap (λ k. Some (access_of k give)) more)
-  by false queue rest = (suc rest.0, ap (λ b. slice_get (with_access b (access_of n x) (accesses_from (n + 1) gives)) (suc rest.0)) queue ∙ rest.1 ∙ ap (λ k. Some (access_of k give)) more)
+  by : (b : Bool) → is_queue_mode x.mode ≡ b → (j : ℕ) × (slice_get (accesses_from (n + 1) gives) j ≡ Some (access_of_give (n + 1 + i) give))
+      → (j : ℕ) × (slice_get (with_access (is_queue_mode x.mode) (access_of_give n x) (accesses_from (n + 1) gives)) j ≡ Some (access_of_give (n + suc i) give))
+  by true queue rest = (rest.0, ap (λ b. slice_get (with_access b (access_of_give n x) (accesses_from (n + 1) gives)) rest.0) queue ∙ rest.1 ∙ ap (λ k. Some (access_of_give k give)) more)
+  by false queue rest = (suc rest.0, ap (λ b. slice_get (with_access b (access_of_give n x) (accesses_from (n + 1) gives)) (suc rest.0)) queue ∙ rest.1 ∙ ap (λ k. Some (access_of_give k give)) more)
 
 -- ---- so many of them are made
 
@@ -103,7 +103,7 @@ giving-starts s r before parent child gives follow new spawn = record {
 
 -- the accesses before the next give, and after it
 made-next : (gives : List Give) (done : ℕ) (give : Give) → slice_get gives done ≡ Some give
-    → accesses_from 0 (take (done + 1) gives) ≡ accesses_from 0 (take done gives) ++ with_access (is_queue_mode give.mode) (access_of done give) []
+    → accesses_from 0 (take (done + 1) gives) ≡ accesses_from 0 (take done gives) ++ with_access (is_queue_mode give.mode) (access_of_give done give) []
 made-next gives done give at =
     let within = slice_get_within gives done give at in
     let place : 0 + length (take done gives) ≡ done = omega (arith, length-take-le done gives (omega (arith, within))) in
@@ -111,7 +111,7 @@ made-next gives done give at =
     ∙ ap (λ k. accesses_from 0 (take done gives) ++ accesses_from k (give ∷ [])) place
 
 left-next : (gives : List Give) (done : ℕ) (give : Give) → slice_get gives done ≡ Some give
-    → accesses_from done (drop done gives) ≡ with_access (is_queue_mode give.mode) (access_of done give) (accesses_from (done + 1) (drop (done + 1) gives))
+    → accesses_from done (drop done gives) ≡ with_access (is_queue_mode give.mode) (access_of_give done give) (accesses_from (done + 1) (drop (done + 1) gives))
 left-next gives done give at = ap (accesses_from done) (drop_next gives done give at)
 
 -- a give of a queue is no access
@@ -120,9 +120,9 @@ pub giving-queue : (s : Script) (r : Reading) (before now : VersionState) (paren
 giving-queue s r before now parent child gives done give at queue are = record {
   giving =
       let made : accesses_from 0 (take done gives) ≡ accesses_from 0 (take (done + 1) gives) =
-      sym (made-next gives done give at ∙ ap (λ b. accesses_from 0 (take done gives) ++ with_access b (access_of done give) []) queue ∙ append-nil (accesses_from 0 (take done gives))) in
+      sym (made-next gives done give at ∙ ap (λ b. accesses_from 0 (take done gives) ++ with_access b (access_of_give done give) []) queue ∙ append-nil (accesses_from 0 (take done gives))) in
       let left : accesses_from done (drop done gives) ≡ accesses_from (done + 1) (drop (done + 1) gives) =
-      left-next gives done give at ∙ ap (λ b. with_access b (access_of done give) (accesses_from (done + 1) (drop (done + 1) gives))) queue in
+      left-next gives done give at ∙ ap (λ b. with_access b (access_of_give done give) (accesses_from (done + 1) (drop (done + 1) gives))) queue in
       subst (λ xs. IsGiving s r now parent child xs (accesses_from (done + 1) (drop (done + 1) gives))) made
       (subst (λ ys. IsGiving s r now parent child (accesses_from 0 (take done gives)) ys) left are.giving);
   on = are.on;
@@ -203,12 +203,12 @@ module _ (s : Script) (lawful : IsLawful s) (r : Reading) (before now : VersionS
     }
 
     -- an access that was made is for an earlier give
-    earlier : (access : Access) (i : ℕ) → slice_get (accesses_from 0 (take done gives)) i ≡ Some access → (k : ℕ) × (g : Give) × (k < done) × (slice_get gives k ≡ Some g) × (access ≡ access_of k g)
+    earlier : (access : Access) (i : ℕ) → slice_get (accesses_from 0 (take done gives)) i ≡ Some access → (k : ℕ) × (g : Give) × (k < done) × (slice_get gives k ≡ Some g) × (access ≡ access_of_give k g)
     earlier access i there =
         let it = access-of_give 0 (take done gives) i access there in
         let stands = taken_stands done gives it.i it.give it.stands in
         let none : 0 + it.i ≡ it.i = omega arith in
-        (it.i, it.give, stands.0, stands.1, it.is ∙ ap (λ k. access_of k it.give) none)
+        (it.i, it.give, stands.0, stands.1, it.is ∙ ap (λ k. access_of_give k it.give) none)
 
     pub free-access : placed_at now child done ≡ None
     free-access = elim (option_cases (placed_at now child done)) [
@@ -247,10 +247,10 @@ module _ (s : Script) (lawful : IsLawful s) (r : Reading) (before now : VersionS
     pub giving-object : (then : VersionState) → then ≡ after_access now parent.number give.place child done give.mode → AreMade s r before then parent child gives (done + 1)
     giving-object then is = record {
       giving =
-          let left : accesses_from done (drop done gives) ≡ access_of done give ∷ accesses_from (done + 1) (drop (done + 1) gives) =
-          left-next gives done give at ∙ ap (λ b. with_access b (access_of done give) (accesses_from (done + 1) (drop (done + 1) gives))) object_mode in
-          let made : accesses_from 0 (take done gives) ++ access_of done give ∷ [] ≡ accesses_from 0 (take (done + 1) gives) =
-          sym (made-next gives done give at ∙ ap (λ b. accesses_from 0 (take done gives) ++ with_access b (access_of done give) []) object_mode) in
+          let left : accesses_from done (drop done gives) ≡ access_of_give done give ∷ accesses_from (done + 1) (drop (done + 1) gives) =
+          left-next gives done give at ∙ ap (λ b. with_access b (access_of_give done give) (accesses_from (done + 1) (drop (done + 1) gives))) object_mode in
+          let made : accesses_from 0 (take done gives) ++ access_of_give done give ∷ [] ≡ accesses_from 0 (take (done + 1) gives) =
+          sym (made-next gives done give at ∙ ap (λ b. accesses_from 0 (take done gives) ++ with_access b (access_of_give done give) []) object_mode) in
           subst (λ xs. IsGiving s r then parent child xs (accesses_from (done + 1) (drop (done + 1) gives))) made
           (access_giving now then parent.number give.place child done give.mode may-access free-access alone-access is s r parent (accesses_from 0 (take done gives)) (accesses_from (done + 1) (drop (done + 1) gives)) lawful known
           (subst (λ ys. IsGiving s r now parent child (accesses_from 0 (take done gives)) ys) left are.giving));
@@ -292,7 +292,7 @@ module _ (s : Script) (lawful : IsLawful s) (r : Reading) (before now : VersionS
 
 -- the versions follow the reading with the child
 pub giving-over : (s : Script) (r : Reading) (before now : VersionState) (parent : Progress) (child : ℕ) (gives : List Give) → IsLawful s → frame_of r parent.number ≡ Some parent
-    → AreMade s r before now parent child gives (length gives) → ObjectsFollow s (spawned s r parent child) now
+    → AreMade s r before now parent child gives (length gives) → ObjectsFollow s (reading_after_spawn s r parent child) now
 giving-over s r before now parent child gives lawful known are =
     let none : accesses_from (length gives) (drop (length gives) gives) ≡ [] = ap (accesses_from (length gives)) (drop_all (length gives) gives (omega arith)) in
     giving_ends s r now parent child (accesses_from 0 (take (length gives) gives)) lawful known
@@ -311,8 +311,8 @@ module _ (s : Script) (lawful : IsLawful s) (r : Reading) (before now : VersionS
       let mode : is_queue_mode of.give.mode ≡ false = ap is_queue_mode (sym of.mode) ∙ kind in
       let access = give-of_access 0 gives place of.give of.stands mode in
       let none : 0 + place ≡ place = omega arith in
-      let here : slice_get (accesses_from 0 (take (length gives) gives)) access.0 ≡ Some (access_of place of.give) = ap (λ xs. slice_get xs access.0) all-made ∙ access.1 ∙ ap (λ k. Some (access_of k of.give)) none in
-      let made = are.giving.each access.0 (access_of place of.give) here in
+      let here : slice_get (accesses_from 0 (take (length gives) gives)) access.0 ≡ Some (access_of_give place of.give) = ap (λ xs. slice_get xs access.0) all-made ∙ access.1 ∙ ap (λ k. Some (access_of_give k of.give)) none in
+      let made = are.giving.each access.0 (access_of_give place of.give) here in
       let was = has.each of.give.place of.used.holding of.used.stands (same_kind of.used.holding.mode of.give.mode of.used.allowed ∙ mode) in
       let then = are.on of.give.place was.object was.stands in
       let above : then.0 ≡ made.above = same_Some then.0 made.above (sym then.1 ∙ made.stands) in
@@ -351,7 +351,7 @@ pub spawned-objects : (s : Script) → IsLawful s → (r : Reading) (before now 
     → (n : ℕ) (path : List ℕ) (k : ℕ) → frame_of r n ≡ Some (record { number = n; path = path; done = k }) → (f c : LiveFrame) → live_at live n ≡ Some f
     → (child : ℕ) → n ≢ child → child ≢ 0 → (gives : List Give) → given f.holdings gives ≡ Some c.holdings
     → AreMade s r before now (record { number = n; path = path; done = k }) child gives (length gives) → (new : Progress)
-    → spawned s r (record { number = n; path = path; done = k }) child ≡ with-child r n new → AwaitsNone before n
+    → reading_after_spawn s r (record { number = n; path = path; done = k }) child ≡ with-child r n new → AwaitsNone before n
     → live_at then_live n ≡ Some (record f { done = k + 1 }) → live_at then_live child ≡ Some c → c.done ≡ 0 → ((m : ℕ) → m ≢ n → m ≢ child → live_at then_live m ≡ live_at live m)
     → AreObjects s (with-child r n new) now then_live objects
 spawned-objects s lawful r before now live then_live objects have n path k known f c there child differ root gives given_is are new reads none parent_live child_live fresh others_live = record {
@@ -423,7 +423,7 @@ spawned-objects s lawful r before now live then_live objects have n path k known
 
 module _ (s : Script) (r : Reading) (before : VersionState) (parent : Progress) (held : List Holding) (has : HasObjects before parent.number held) where
   one-object : (i : ℕ) (give : Give) (name : OriginGive) → (origin : Origin) × IsHeldSo r held give.place give.mode origin × (Some name ≡ Some (record { origin = origin; mode = give.mode })) → is_queue_mode give.mode ≡ false
-      → object_give r before parent.number (access_of i give) ≡ Some name
+      → object_give r before parent.number (access_of_give i give) ≡ Some name
   one-object i give name it kind =
       let own = it.1 in
       let placed = has.each give.place own.holding own.stands (same_kind own.holding.mode give.mode own.may ∙ kind) in
@@ -448,11 +448,11 @@ module _ (s : Script) (r : Reading) (before : VersionState) (parent : Progress) 
           → map (object_give r before parent.number) (accesses_from (n + 1) gives) ≡ map Some (filter is_object_give all)
           → map (object_give r before parent.number) (accesses_from n (x ∷ gives)) ≡ map Some (filter is_object_give (o ∷ all))
       by true kind same first rest =
-          ap (λ b. map (object_give r before parent.number) (with_access b (access_of n x) (accesses_from (n + 1) gives))) kind
+          ap (λ b. map (object_give r before parent.number) (with_access b (access_of_give n x) (accesses_from (n + 1) gives))) kind
           ∙ rest
           ∙ sym (ap (λ b. map Some (cond (not b) (o ∷ filter is_object_give all) (filter is_object_give all))) (same ∙ kind))
       by false kind same first rest =
-          ap (λ b. map (object_give r before parent.number) (with_access b (access_of n x) (accesses_from (n + 1) gives))) kind
+          ap (λ b. map (object_give r before parent.number) (with_access b (access_of_give n x) (accesses_from (n + 1) gives))) kind
           ∙ ap {B = List (Option OriginGive)} (λ g. g ∷ map (object_give r before parent.number) (accesses_from (n + 1) gives)) (one-object n x o first kind)
           ∙ ap {B = List (Option OriginGive)} (λ gs. Some o ∷ gs) rest
           ∙ sym (ap (λ b. map Some (cond (not b) (o ∷ filter is_object_give all) (filter is_object_give all))) (same ∙ kind))

@@ -11,7 +11,7 @@ use Rattle.swan_model.specs.Granted.{children_before, is_spawn}
 use Rattle.swan_model.specs.Lawful.{IsLawful}
 use Rattle.swan_model.specs.QueueFollows.{AreByEnds, Fits, FitsFrame, NextSpawnGivesQueues, QueuesFollow}
 use Rattle.swan_model.specs.QueueState.{ActiveFrame, LentEnd, QueueRight, QueueState, active, after_back, after_create, after_deed, after_finish, after_lend, after_spawn, planned}
-use Rattle.swan_model.specs.Readings.{next_deed, spawned, with_queue}
+use Rattle.swan_model.specs.Readings.{next_deed, reading_after_spawn, with_queue}
 use Rattle.swan_model.specs.SerialTime.{Progress, Reading, frame_of, is_queue_deed, point, time, times}
 use Rattle.swan_model.specs.Told.{deed_at}
 use Rattle.pop_order.specs.Frames.{Frames, without}
@@ -161,7 +161,7 @@ module _ (s : Script) (lawful : IsLawful s) (r : Reading) (state : QueueState) (
 
   -- a spawn
   pub spawned-is : (a : ActiveFrame) (child : ℕ) → active state n ≡ Some a → k < length (times s path)
-      → spawned s r p child ≡ with-child r n (record { number = child; path = path ++ a.children ∷ []; done = 0 })
+      → reading_after_spawn s r p child ≡ with-child r n (record { number = child; path = path ++ a.children ∷ []; done = 0 })
   spawned-is a child live left =
       let fit = fit-now a live in
       let count : a.children ≡ children_before s a.path (point s p) =
@@ -178,7 +178,7 @@ module _ (s : Script) (lawful : IsLawful s) (r : Reading) (state : QueueState) (
       let one : may.act.frame ≡ a = same_Some may.act.frame a (sym may.act.may.live ∙ live) in
       let free = not_active state are.tree child may.newest in
       let then = after_spawn state a child gives in
-      let whole : AreQueues s (spawned s r p child) then then_turns = record {
+      let whole : AreQueues s (reading_after_spawn s r p child) then then_turns = record {
         follow = spawned_follows s lawful state are.follow n child a gives live free next_gives;
         fit = spawned_fits s lawful state are.follow r are.fit n child a p all gives live known free unread next;
         tree = subst (λ f. IsTree (after_spawn state f child gives)) one (tree_spawn state n child gives are.tree may);
@@ -186,7 +186,7 @@ module _ (s : Script) (lawful : IsLawful s) (r : Reading) (state : QueueState) (
         roots = are.roots;
         whole = are.whole;
       } in
-      subst (λ q. AreQueues s q after then_turns) (spawned-is a child live left) (subst (λ q. AreQueues s (spawned s r p child) q then_turns) (sym same) whole)
+      subst (λ q. AreQueues s q after then_turns) (spawned-is a child live left) (subst (λ q. AreQueues s (reading_after_spawn s r p child) q then_turns) (sym same) whole)
 
 -- ends that are lent
 pub lent : (s : Script) (r : Reading) (state : QueueState) (turns : Frames) → AreQueues s r state turns → (n : ℕ) (a : ActiveFrame) (list : List LentEnd) (after : QueueState)

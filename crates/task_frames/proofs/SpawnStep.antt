@@ -19,7 +19,7 @@ use Rattle.swan_model.specs.declared.script.Script.{Script}
 use Rattle.swan_model.specs.Granted.{is_spawn}
 use Rattle.swan_model.specs.Lawful.{IsLawful}
 use Rattle.swan_model.specs.QueueFollows.{NextSpawnGivesQueues}
-use Rattle.swan_model.specs.QueueState.{ActiveFrame, MayGive, QueueRight, QueueState, active, after_spawn, child_of as active_child, with_deed, COUNT_MOST}
+use Rattle.swan_model.specs.QueueState.{ActiveFrame, MayGive, QueueRight, QueueState, active, after_spawn, child_of, with_deed, COUNT_MOST}
 use Rattle.swan_model.specs.Rights.{allows, is_aliased}
 use Rattle.swan_model.specs.Script.{script}
 use Rattle.swan_model.specs.SerialState.{Activation, Holding}
@@ -32,7 +32,7 @@ use Rattle.queues.specs.Turned.{AreApart, AreGivenTurns, AreOlder}
 use Rattle.queues.proofs.ActiveAfter.{child_spawned, others_spawned, parent_spawned}
 use Rattle.queues.proofs.Match.{not_active}
 use Rattle.queues.proofs.TurnsSpawned.{turns_older}
-use Rattle.serial_elision.specs.TaskSteps.{IsAsking, Spawns, child_of, parent_of}
+use Rattle.serial_elision.specs.TaskSteps.{IsAsking, Spawns, child_activation, parent_activation}
 use Rattle.serial_elision.proofs.AskMakes.{aliased, spawns-child, too-dear, too-deep}
 use Rattle.serial_elision.proofs.FewHeld.{given-many}
 use Rattle.serial_elision.proofs.Held.{used-at}
@@ -318,8 +318,8 @@ module _ {B L : Type 0} (G : Ghosts B L) (kept : KeptView) (mid : Mid B L) (chil
           parent-at = record {
             plan = has.is.plan;
             alone = record {
-              top = parent_of (moved top mid.local) child;
-              stands = spawns_next G plan task.path task.done top has.is.alone.stands (parent_of (moved top mid.local) child) (child_of top child spawn.holdings) spawn.store spawn.effect;
+              top = parent_activation (moved top mid.local) child;
+              stands = spawns_next G plan task.path task.done top has.is.alone.stands (parent_activation (moved top mid.local) child) (child_activation top child spawn.holdings) spawn.store spawn.effect;
               stage = (refl, ap (λ k. k - child.fuel) has.is.alone.stage.1, refl);
               modes = has.is.alone.modes;
               children = ap (λ k. k + 1) has.is.alone.children;
@@ -331,17 +331,17 @@ module _ {B L : Type 0} (G : Ghosts B L) (kept : KeptView) (mid : Mid B L) (chil
             since = refl;
           }
 
-          child-stands : StandsAt G plan (task.path ++ task.children ∷ []) 0 (child_of top child spawn.holdings)
+          child-stands : StandsAt G plan (task.path ++ task.children ∷ []) 0 (child_activation top child spawn.holdings)
           child-stands =
-              subst (λ i. StandsAt G plan (task.path ++ i ∷ []) 0 (child_of top child spawn.holdings)) (sym children-so)
-              (subst (λ q. StandsAt G plan (q ++ top.children ∷ []) 0 (child_of top child spawn.holdings)) path-so
-              (spawns_child G plan task.path task.done top has.is.alone.stands (parent_of (moved top mid.local) child) (child_of top child spawn.holdings) spawn.store spawn.effect))
+              subst (λ i. StandsAt G plan (task.path ++ i ∷ []) 0 (child_activation top child spawn.holdings)) (sym children-so)
+              (subst (λ q. StandsAt G plan (q ++ top.children ∷ []) 0 (child_activation top child spawn.holdings)) path-so
+              (spawns_child G plan task.path task.done top has.is.alone.stands (parent_activation (moved top mid.local) child) (child_activation top child spawn.holdings) spawn.store spawn.effect))
 
           child-at : IsAtCore G (record { task = child-task; stage = Ready child.local answer.Start })
           child-at = record {
             plan = has.is.plan;
             alone = record {
-              top = child_of top child spawn.holdings;
+              top = child_activation top child spawn.holdings;
               stands = child-stands;
               stage = (refl, refl, refl);
               modes = given-modes task.holdings child.gives hs given_is ∙ sym (given-modes top.holdings child.gives spawn.holdings spawn.held);
@@ -369,7 +369,7 @@ module _ {B L : Type 0} (G : Ghosts B L) (kept : KeptView) (mid : Mid B L) (chil
               core = core-after;
               is = child-at;
               of = record { frame = record { parent = Some n; path = task.path ++ task.children ∷ []; done = 0; holdings = hs }; live = is.new; path = refl; done = refl; holdings = refl };
-              back = λ x now. ap (λ (y : ActiveFrame). y.lent) (same_Some x (active_child a kept.frames (queue_rights hs)) (sym now ∙ active-after kept.frames ∙ child_spawned kept.state n kept.frames a (queue_rights hs) own-live free));
+              back = λ x now. ap (λ (y : ActiveFrame). y.lent) (same_Some x (child_of a kept.frames (queue_rights hs)) (sym now ∙ active-after kept.frames ∙ child_spawned kept.state n kept.frames a (queue_rights hs) own-live free));
             },
             refl,
             record { plan = refl; path = refl; done = refl; other = other-number },

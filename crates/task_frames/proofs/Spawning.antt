@@ -12,7 +12,7 @@ use Rattle.swan_model.specs.Granted.{children_before}
 use Rattle.swan_model.specs.Lawful.{IsLawful}
 use Rattle.swan_model.specs.QueueFollows.{NextSpawnGivesQueues}
 use Rattle.swan_model.specs.QueueState.{ActiveFrame, HasTurn, QueueState, active, after_spawn}
-use Rattle.swan_model.specs.Readings.{spawned}
+use Rattle.swan_model.specs.Readings.{reading_after_spawn}
 use Rattle.swan_model.specs.Rights.{is_aliased}
 use Rattle.swan_model.specs.Script.{script}
 use Rattle.swan_model.specs.SerialState.{Activation, Holding}
@@ -28,7 +28,7 @@ use Rattle.queues.specs.Asks.{MaySpawn}
 use Rattle.queues.specs.Turned.{AreGivenTurns}
 use Rattle.queues.proofs.Fitting.{fits_comes}
 use Rattle.queues.proofs.Lineage.{spawns_by}
-use Rattle.serial_elision.specs.TaskSteps.{Spawns, child_of, parent_of}
+use Rattle.serial_elision.specs.TaskSteps.{Spawns, child_activation, parent_activation}
 use Rattle.serial_elision.proofs.Room.{children-told, room-children}
 use Rattle.serial_elision.proofs.TaskSteps.{spawns_child, spawns_next, top_path}
 use Rattle.task_frames.specs.Cores.{HasQueuesOnce, AreBooked, AreFrames, AreObjects, AreQueues, AwaitsNone}
@@ -143,21 +143,21 @@ module _ {B L : Type 0} (G : Ghosts B L) (plan : Plan B L) (sound : IsPlan plan)
   abbrev pub new-frame : Progress
   new-frame = record { number = frames; path = path ++ top.children ∷ []; done = 0 }
 
-  parent-stands : StandsAt G plan path (k + 1) (parent_of (moved top local) child)
-  parent-stands = spawns_next G plan path k top at (parent_of (moved top local) child) (child_of top child spawn.holdings) spawn.store spawn.effect
+  parent-stands : StandsAt G plan path (k + 1) (parent_activation (moved top local) child)
+  parent-stands = spawns_next G plan path k top at (parent_activation (moved top local) child) (child_activation top child spawn.holdings) spawn.store spawn.effect
 
   own-path : top.path ≡ path
   own-path = (top_path G plan path k top at).1
 
-  child-stands : StandsAt G plan (path ++ top.children ∷ []) 0 (child_of top child spawn.holdings)
+  child-stands : StandsAt G plan (path ++ top.children ∷ []) 0 (child_activation top child spawn.holdings)
   child-stands =
-      subst (λ q. StandsAt G plan (q ++ top.children ∷ []) 0 (child_of top child spawn.holdings)) own-path
-      (spawns_child G plan path k top at (parent_of (moved top local) child) (child_of top child spawn.holdings) spawn.store spawn.effect)
+      subst (λ q. StandsAt G plan (q ++ top.children ∷ []) 0 (child_activation top child spawn.holdings)) own-path
+      (spawns_child G plan path k top at (parent_activation (moved top local) child) (child_activation top child spawn.holdings) spawn.store spawn.effect)
 
   differ : n ≢ frames
   differ same = let less = lesser-number G plan r state live frames are n p known in absurd (omega (arith, less, same))
 
-  reads : spawned s r p frames ≡ with-child r n new-frame
+  reads : reading_after_spawn s r p frames ≡ with-child r n new-frame
   reads = spawned-is s lawful r state turns queues n path k known a frames own at.left ∙ ap (λ i. with-child r n (record { number = frames; path = path ++ i ∷ []; done = 0 })) same-children
 
   -- The core's part of queues, of objects, of frames and of faults, once the calls are made and the record has both frames.
@@ -184,9 +184,9 @@ module _ {B L : Type 0} (G : Ghosts B L) (plan : Plan B L) (sound : IsPlan plan)
 
     pub frames-then : HasTurn state a → AreFrames G plan (with-child r n new-frame) then_state then_live (frames + 1)
     frames-then turn =
-        live_frames.spawns G plan r state live frames are n f there a own then_live sound.lists queues.tree path k top (parent_of (moved top local) child) (child_of top child spawn.holdings) top.children hs
+        live_frames.spawns G plan r state live frames are n f there a own then_live sound.lists queues.tree path k top (parent_activation (moved top local) child) (child_activation top child spawn.holdings) top.children hs
         (queue_rights hs) (may-spawn back deep) then_state path_is done_is at parent-stands spawn.names child-stands
-        (child-named ∙ sym (sym (ap (λ q. gives_at G plan (q ++ top.children ∷ []) 0 (child_of top child spawn.holdings)) own-path) ∙ spawn.begins)) child-once turn is.state_is is.parent is.new is.others
+        (child-named ∙ sym (sym (ap (λ q. gives_at G plan (q ++ top.children ∷ []) 0 (child_activation top child spawn.holdings)) own-path) ∙ spawn.begins)) child-once turn is.state_is is.parent is.new is.others
 
     pub booked-then : (faults : List Fault) → AreBooked G plan r faults → AreBooked G plan (with-child r n new-frame) faults
     booked-then faults have =

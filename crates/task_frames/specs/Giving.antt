@@ -30,8 +30,8 @@ AreGivesOfQueues (give ∷ gives) = (is_queue_mode give.mode ≡ true) × (list_
 -- ---- objects
 
 -- the access that a give of an object stands for, which is for this place of the child
-abbrev pub access_of : ℕ → Give → Access
-access_of place give = record { place = give.place; child_place = place; mode = give.mode }
+abbrev pub access_of_give : ℕ → Give → Access
+access_of_give place give = record { place = give.place; child_place = place; mode = give.mode }
 
 -- one more access, but for a give of a queue
 abbrev pub with_access : (of_queue : Bool) → Access → List Access → List Access
@@ -40,7 +40,7 @@ with_access of_queue access rest = if of_queue then rest else access ∷ rest
 -- the accesses of a child's gives, of which the first is for this place
 abbrev pub accesses_from : (place : ℕ) → List Give → List Access
 accesses_from place [] = []
-accesses_from place (give ∷ gives) = with_access (is_queue_mode give.mode) (access_of place give) (accesses_from (place + 1) gives)
+accesses_from place (give ∷ gives) = with_access (is_queue_mode give.mode) (access_of_give place give) (accesses_from (place + 1) gives)
 
 -- Of a child's gives the objects among so many were given to it. The parent has the same objects at the same places, and all
 -- others have what they had.

@@ -244,7 +244,7 @@ impl<B: Body, Q: Queues> Frame<B, Q> {
 
     /// Takes a row of steps of work, at most so many steps together, and after it the step that is asked for, where the
     /// frame's ends serve it. Err is want of memory: the frame has no local then. It costs what the steps cost.
-    fn turn(&mut self, alloc: Global, body: &B, budget: u64) -> Result<Turn, NoMemory>
+    fn turn(&mut self, alloc: Global, body: &B, budget: u64) -> Result<OwnSteps, NoMemory>
         // how the frame stands
         requires body { body.now ≡ self.old.task.plan.body }
         requires whole { is_whole self.old ≡ true }
@@ -267,18 +267,18 @@ impl<B: Body, Q: Queues> Frame<B, Q> {
     {
         let works = self.work(alloc, body, budget)?;
         if works == budget {
-            return Ok(Turn {
+            return Ok(OwnSteps {
                 taken: works,
                 at_core: false,
             });
         }
         if self.step() {
-            Ok(Turn {
+            Ok(OwnSteps {
                 taken: works + 1,
                 at_core: false,
             })
         } else {
-            Ok(Turn {
+            Ok(OwnSteps {
                 taken: works,
                 at_core: true,
             })
@@ -417,7 +417,7 @@ fn same_parts(parts: &[u32], others: &[u32]) -> bool
 
 /// What came of a turn of steps that a frame takes by itself.
 #[derive(Drop)]
-struct Turn {
+struct OwnSteps {
     taken: u64,
     at_core: bool,
 }

@@ -2,7 +2,7 @@
 use Rattle.std.specs.Prelude.{Bool, true, ◌&&◌, ◌==◌, nat_lt, nat_le, not, List, [], ◌∷◌}
 use Rattle.std.specs.List.{list_all}
 use Rattle.swan_model.specs.Rights.{is_queue_mode}
-use Rattle.pop_order.specs.Frames.{Frames, frame_at, enlisted, lent_to, without, may_get}
+use Rattle.pop_order.specs.Frames.{Frames, frame_at, frames_after_enlist, frames_after_lend, without, may_get}
 use Rattle.turn_tests.specs.declared.step.Step.{Step}
 use Rattle.turn_tests.specs.declared.step.Step.TheVariants.{Enlist, Lend, Back}
 
@@ -15,8 +15,8 @@ allows_step frames _ = true
 
 -- the frames after a step that has its answer
 abbrev pub after_step : Frames → Step → Frames
-after_step frames (Enlist parent child queue mode) = enlisted frames parent child (record { mode = mode; number = queue })
-after_step frames (Lend child) = lent_to frames child
+after_step frames (Enlist parent child queue mode) = frames_after_enlist frames parent child (record { mode = mode; number = queue })
+after_step frames (Lend child) = frames_after_lend frames child
 after_step frames (Back child) = without frames child
 after_step frames _ = frames
 

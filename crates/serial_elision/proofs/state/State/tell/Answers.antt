@@ -2,7 +2,7 @@ use Rattle.std.proofs.Common.{◌≡◌, Some, ◌∙◌, ap}
 use Rattle.swan_model.specs.Script.{next_entry}
 use Rattle.swan_model.specs.SerialState.{State}
 use Rattle.swan_model.specs.SerialStep.{step}
-use Rattle.serial_elision.specs.Effects.{settled}
+use Rattle.serial_elision.specs.Effects.{after_effect}
 use Rattle.serial_elision.proofs.Scripts.{entry-paid}
 use Rattle.serial_elision.proofs.Steps.{step-paid}
 use Rattle.serial_elision.proofs.state.State.tell.Goals as goal
@@ -14,7 +14,7 @@ returns-clause-state g c =
     let place : c.place-place.result ≡ g.B.Body.place_of body c.in-Some.top.local = c.place-place.ensures ∙ ap (λ a. g.B.Body.place_of body a.local) c.top.view_is in
     let paid = step-paid g.B.Body body _ c.perform.new.self c.in-Some.top c.in_ok-top.top c.perform.new.top c.in_ok-top.ask _ c.in_ok-effect.effect c.in-Some.ensures.top fuelled c.in_ok-top.ensures.moved c.in_ok-top.ensures.ask c.in_ok-effect.ensures.path c.in_ok-effect.ensures.effect c.in_ok-effect.ensures.steps c.in_ok-effect.ensures.stack c.in_ok-effect.ensures.faults in
     c.in_ok-settle-2.ensures
-    ∙ ap (λ p. settled c.in_ok-effect.effect c.perform.new.top p c.perform.new.self) place
+    ∙ ap (λ p. after_effect c.in_ok-effect.effect c.perform.new.top p c.perform.new.self) place
     ∙ paid
     ∙ ap (step g.B.Body body) c.self.view_is
 

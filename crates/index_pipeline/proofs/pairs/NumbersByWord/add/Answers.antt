@@ -7,7 +7,7 @@ use Rattle.std.specs.Ordering.{nat_cmp}
 use Rattle.index_pipeline.specs.KeptPairs.{kept_pairs}
 use Rattle.index_pipeline.specs.Pairs.{pair_of, pair_order}
 use Rattle.index_pipeline.proofs.KeptOrder.{at_word, one_number_more, one_word_more, paired, word_cmp}
-use Rattle.index_pipeline.proofs.pairs.Kept.add.Goals as goal
+use Rattle.index_pipeline.proofs.pairs.NumbersByWord.add.Goals as goal
 
 pub returns-in-Some : goal.returns-in-Some
 returns-in-Some c =
