@@ -22,14 +22,14 @@ abbrev pub queue_at : Store → List Holding → ℕ → Mode → Option (ℕ ×
 queue_at store holdings place mode = at_number store.queues (number_at holdings place mode)
 
 -- the store once the object has this value
-abbrev pub after_write : Store → Value → Option (ℕ × Cell) → Store
-after_write store value None = store
-after_write store value (Some at) = with_value store at.0 at.1 value
+abbrev pub store_after_write : Store → Value → Option (ℕ × Cell) → Store
+store_after_write store value None = store
+store_after_write store value (Some at) = with_value store at.0 at.1 value
 
 -- the store once this item is pushed to the queue
-abbrev pub after_push : Store → Value → Option (ℕ × Queue) → Store
-after_push store value None = store
-after_push store value (Some at) = with_items store at.0 at.1 (at.1.items ++ value ∷ [])
+abbrev pub store_after_push : Store → Value → Option (ℕ × Queue) → Store
+store_after_push store value None = store
+store_after_push store value (Some at) = with_items store at.0 at.1 (at.1.items ++ value ∷ [])
 
 -- the first item, or by which fault the pop ends
 abbrev pub item_or_fault : List Value → Result Value FaultKind
@@ -45,6 +45,6 @@ abbrev pub without_item : Store → ℕ → Queue → List Value → Store
 without_item store number queue [] = store
 without_item store number queue (item ∷ items) = with_items store number queue items
 
-abbrev pub after_pop : Store → Option (ℕ × Queue) → Store
-after_pop store None = store
-after_pop store (Some at) = without_item store at.0 at.1 at.1.items
+abbrev pub store_after_pop : Store → Option (ℕ × Queue) → Store
+store_after_pop store None = store
+store_after_pop store (Some at) = without_item store at.0 at.1 at.1.items

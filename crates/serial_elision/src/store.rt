@@ -7,7 +7,7 @@ ghost use Rattle.swan_model.specs.declared.body.Ask.TheVariants as ask;
 ghost use Rattle.swan_model.specs.declared.rights.Mode.TheVariants.{In, Out, Push, Pop};
 ghost use Rattle.serial_elision.specs.Bounds.{HasPaid};
 ghost use Rattle.serial_elision.specs.Effects.{IsEffect};
-ghost use Rattle.serial_elision.specs.Places.{after_pop, cell_at, popped_item, after_push, queue_at, after_write};
+ghost use Rattle.serial_elision.specs.Places.{store_after_pop, cell_at, popped_item, store_after_push, queue_at, store_after_write};
 
 use crate::holding::number_at;
 use crate::{Activation, Cell, Effect, Holding, Queue};
@@ -55,7 +55,7 @@ impl Store {
     #[inline(always)]
     pub fn write(&mut self, holdings: &[Holding], place: u32, value: Value) -> bool
         ensures usable { result ≡ is_some (cell_at self.old holdings.now place Out) }
-        ensures store { self.new ≡ after_write self.old value (cell_at self.old holdings.now place Out) }
+        ensures store { self.new ≡ store_after_write self.old value (cell_at self.old holdings.now place Out) }
     {
         let Some(number) = number_at(holdings, place, Mode::Out) else {
             return false;
@@ -74,7 +74,7 @@ impl Store {
         ensures usable { IfOk result (λ usable.
             usable ≡ is_some (queue_at self.old holdings.now place Push)) }
         ensures store { OnOk result
-            (self.new ≡ after_push self.old value (queue_at self.old holdings.now place Push)) }
+            (self.new ≡ store_after_push self.old value (queue_at self.old holdings.now place Push)) }
     {
         let Some(number) = number_at(holdings, place, Mode::Push) else {
             return Ok(false);
@@ -91,7 +91,7 @@ impl Store {
     #[inline(always)]
     pub fn pop(&mut self, holdings: &[Holding], place: u32) -> Result<Value, FaultKind>
         ensures item { result ≡ popped_item (queue_at self.old holdings.now place Pop) }
-        ensures store { self.new ≡ after_pop self.old (queue_at self.old holdings.now place Pop) }
+        ensures store { self.new ≡ store_after_pop self.old (queue_at self.old holdings.now place Pop) }
     {
         let Some(number) = number_at(holdings, place, Mode::Pop) else {
             return Err(FaultKind::Privilege);

@@ -10,7 +10,7 @@ use Rattle.crossbeam_deque.proofs.Lists.{at_set, at_snoc}
 use Rattle.steal_pool.specs.declared.parcel.Parcel.{Parcel}
 use Rattle.steal_pool.specs.declared.parcel.Parcel.TheVariants.{Label, Item}
 use Rattle.steal_pool.specs.declared.rule.PoolView.{PoolView}
-use Rattle.steal_pool.specs.Rule.{at_stage, new_pass, IsAt, Single, AllOf, Stands, Pooled, IsTaken, IsLabelled, IsOpened, same}
+use Rattle.steal_pool.specs.Rule.{at_stage, new_pass, IsAt, Single, AllOf, Stands, Pooled, IsTaken, IsLabelled, IsPoolOpened, IsUnchanged}
 
 two-ne : (n : ℕ) → suc (suc n) ≡ suc zero → ⊥
 two-ne n e = omega arith
@@ -71,7 +71,7 @@ module _ {T N : Type 0} (name : T → N) where
   cons_append x y [] (z ∷ zs) e = absurd (two-ne (length zs) (ap length e))
   cons_append x y (a ∷ xs) items e = absurd (two-ne (length (xs ++ items)) (ap length e))
 
-  opens : (port k : ℕ) (m : Option N) → Takes Rule port (at_stage 1 m k) 1 (IsOpened (at_stage 1 m k))
+  opens : (port k : ℕ) (m : Option N) → Takes Rule port (at_stage 1 m k) 1 (IsPoolOpened (at_stage 1 m k))
   opens port k m [] items views some_one at_most h at = absurd (omega arith)
   opens port k m (x ∷ xs) items views some_one at_most h at = let s = staged (at_stage 1 m k) ((x ∷ xs) ++ items) views port h at in let w : PoolView N = at_stage 2 m k in
       let one = set_single (IsAt 2 m) views port (at_stage 1 m k) w at s.1.3 (refl, refl) in
@@ -80,7 +80,7 @@ module _ {T N : Type 0} (name : T → N) where
   opens_full : (port k : ℕ) (m : Option N) → Finds Rule port (at_stage 1 m k) ⊥
   opens_full port k m views h at = let s = staged (at_stage 1 m k) [] views port h at in absurd (one-ne 0 (ap length s.1.1))
 
-  puts : (port k : ℕ) (m : Option N) (x : T) → m ≡ Some (name x) → Pushes Rule port (at_stage 2 m k) (Item x ∷ []) (same (at_stage 2 m k) (Item x ∷ []))
+  puts : (port k : ℕ) (m : Option N) (x : T) → m ≡ Some (name x) → Pushes Rule port (at_stage 2 m k) (Item x ∷ []) (IsUnchanged (at_stage 2 m k) (Item x ∷ []))
   puts port k m x is items views h at = let s = staged (at_stage 2 m k) items views port h at in
       (at_stage 2 m k, (2, m, set_each (IsAt 2 m) views port (at_stage 2 m k) (refl, refl) s.0, all_append m items (Item x ∷ []) s.1 (is, tt)), refl)
 
@@ -96,14 +96,14 @@ module _ {T N : Type 0} (name : T → N) where
   pub labels_at : (port k : ℕ) (v : PoolView N) (n : N) → v ≡ at_stage 0 None k → Pushes Rule port v (Label n ∷ []) (IsLabelled {T = T} v (Label n ∷ []))
   labels_at port k v n e = subst (λ (u : PoolView N). Pushes Rule port u (Label n ∷ []) (IsLabelled {T = T} u (Label n ∷ []))) (sym e) (labels port k n)
 
-  pub opens_at : (port k : ℕ) (v : PoolView N) (m : Option N) → v ≡ at_stage 1 m k → Takes Rule port v 1 (IsOpened v)
-  opens_at port k v m e = subst (λ (u : PoolView N). Takes Rule port u 1 (IsOpened u)) (sym e) (opens port k m)
+  pub opens_at : (port k : ℕ) (v : PoolView N) (m : Option N) → v ≡ at_stage 1 m k → Takes Rule port v 1 (IsPoolOpened v)
+  opens_at port k v m e = subst (λ (u : PoolView N). Takes Rule port u 1 (IsPoolOpened u)) (sym e) (opens port k m)
 
   pub opens_full_at : (port k : ℕ) (v : PoolView N) (m : Option N) → v ≡ at_stage 1 m k → Finds Rule port v ⊥
   opens_full_at port k v m e = subst (λ (u : PoolView N). Finds Rule port u ⊥) (sym e) (opens_full port k m)
 
-  pub puts_at : (port : ℕ) (v : PoolView N) (x : T) → v.stage ≡ 2 → v.name ≡ Some (name x) → Pushes Rule port v (Item x ∷ []) (same v (Item x ∷ []))
-  puts_at port v x stage named = subst (λ (u : PoolView N). Pushes Rule port u (Item x ∷ []) (same u (Item x ∷ []))) (λ i. record { stage = sym stage i; name = v.name; taken = v.taken }) (puts port v.taken v.name x named)
+  pub puts_at : (port : ℕ) (v : PoolView N) (x : T) → v.stage ≡ 2 → v.name ≡ Some (name x) → Pushes Rule port v (Item x ∷ []) (IsUnchanged v (Item x ∷ []))
+  puts_at port v x stage named = subst (λ (u : PoolView N). Pushes Rule port u (Item x ∷ []) (IsUnchanged u (Item x ∷ []))) (λ i. record { stage = sym stage i; name = v.name; taken = v.taken }) (puts port v.taken v.name x named)
 
   pub takes_at : (port : ℕ) (v : PoolView N) → v.stage ≡ 2 → Takes Rule port v 1 (IsTaken name v)
   takes_at port v stage = subst (λ (u : PoolView N). Takes Rule port u 1 (IsTaken name u)) (λ i. record { stage = sym stage i; name = v.name; taken = v.taken }) (takes port v.taken v.name)

@@ -54,8 +54,8 @@ module _ {T N : Type 0} where
   abbrev pub IsLabelled : PoolView N → List (Parcel T N) → PoolView N → Type 0
   IsLabelled v xs w = (n : N) × (xs ≡ Label n ∷ []) × (w ≡ record v { stage = 1; name = Some n })
 
-  abbrev pub IsOpened : PoolView N → List (Parcel T N) → PoolView N → Type 0
-  IsOpened v xs w = w ≡ record v { stage = 2 }
+  abbrev pub IsPoolOpened : PoolView N → List (Parcel T N) → PoolView N → Type 0
+  IsPoolOpened v xs w = w ≡ record v { stage = 2 }
 
-  abbrev pub same : PoolView N → List (Parcel T N) → PoolView N → Type 0
-  same v xs w = w ≡ v
+  abbrev pub IsUnchanged : PoolView N → List (Parcel T N) → PoolView N → Type 0
+  IsUnchanged v xs w = w ≡ v

@@ -41,9 +41,9 @@ impl<T: Named> Outcome<Parcel<T>, PoolView<T::Name>> for Labels {
 pub(crate) struct Opens;
 
 impl<T: Named> Outcome<Parcel<T>, PoolView<T::Name>> for Opens {
-    ghost use Rattle.steal_pool.specs.Rule.{IsOpened};
+    ghost use Rattle.steal_pool.specs.Rule.{IsPoolOpened};
 
-    ghost then = { IsOpened };
+    ghost then = { IsPoolOpened };
 
     ghost empty = { λ _. ⊥ };
 }
@@ -52,9 +52,9 @@ impl<T: Named> Outcome<Parcel<T>, PoolView<T::Name>> for Opens {
 pub(crate) struct Puts;
 
 impl<T: Named> Outcome<Parcel<T>, PoolView<T::Name>> for Puts {
-    ghost use Rattle.steal_pool.specs.Rule.{same};
+    ghost use Rattle.steal_pool.specs.Rule.{IsUnchanged};
 
-    ghost then = { same };
+    ghost then = { IsUnchanged };
 }
 
 /// A frame leaves, and of an empty deque is learnt what `M` says.
