@@ -2,11 +2,11 @@
 use Rattle.std.proofs.Common.{◌+◌, ◌≤◌, ◌<◌, ℕ, suc, true, false, List, [], ◌∷◌, Option, Some, None, IfSome, length, bytes_eq, option_map, if◌then◌else◌, arith, length-append}
 use Rattle.job_reader.specs.declared.line.Line.{Line}
 use Rattle.job_body.specs.declared.scope.Scope.{Scope}
-use Rattle.job_body.specs.Compiled.{KnowsFew, entered}
+use Rattle.job_body.specs.Compiled.{KnowsFew, scope_past}
 use Rattle.job_body.specs.Names.{slot}
 use Rattle.job_body.specs.declared.name_table.TheConstants.{NAMES_MOST}
 
-pub knows_more : (i : ℕ) (s : Scope) (l : Line) (n : ℕ) → KnowsFew s n → KnowsFew (entered i s l) (n + 1)
+pub knows_more : (i : ℕ) (s : Scope) (l : Line) (n : ℕ) → KnowsFew s n → KnowsFew (scope_past i s l) (n + 1)
 knows_more i s l n few = grind (arith, length-append)
 
 shifted : (found : Option ℕ) (most : ℕ) → IfSome found (λ place. place < most) → IfSome (option_map (λ i. suc i) found) (λ place. place < suc most)

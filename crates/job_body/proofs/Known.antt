@@ -8,7 +8,7 @@ use Rattle.job_reader.specs.declared.line.Line.TheVariants as line
 use Rattle.job_body.specs.declared.block.BlockWithLine.{BlockWithLine}
 use Rattle.job_body.specs.declared.scope.Scope.{Scope as Known}
 use Rattle.job_body.specs.Blocks.{blocks_after, blocks_at, blocks_from}
-use Rattle.job_body.specs.Compiled.{entered, seen_at}
+use Rattle.job_body.specs.Compiled.{scope_past, seen_at}
 use Rattle.job_body.specs.Tasks.{Scope, access_name_of, made_of, param_of, roots, scope_after, scope_at, scope_from, top_lines, var_of}
 use Rattle.privilege_check.specs.Names.{is_main}
 use Rattle.swan_model.proofs.Lists.{take_next}
@@ -25,7 +25,7 @@ seen names scope blocks = record {
   blocks = blocks;
 }
 
-seen-after : (i : ℕ) (names : List (List ℕ)) (scope : Scope) (blocks : List BlockWithLine) (line : Line) → entered i (seen names scope blocks) line ≡ seen names (scope_after scope line) (blocks_after i blocks line)
+seen-after : (i : ℕ) (names : List (List ℕ)) (scope : Scope) (blocks : List BlockWithLine) (line : Line) → scope_past i (seen names scope blocks) line ≡ seen names (scope_after scope line) (blocks_after i blocks line)
 seen-after i names scope blocks (line.Task name) = refl
 seen-after i names scope blocks line = simp (flat_map-append, append-nil)
 
@@ -40,7 +40,7 @@ blocks-push i blocks (first ∷ lines) line =
     ∙ ap (λ k. blocks_after k (blocks_from (i + 1) (blocks_after i blocks first) lines) line) (omega arith)
 
 -- what is known after the line at an index
-pub seen-next : (lines : List Line) (i : ℕ) (line : Line) → slice_get lines i ≡ Some line → entered i (seen_at lines i) line ≡ seen_at lines (i + 1)
+pub seen-next : (lines : List Line) (i : ℕ) (line : Line) → slice_get lines i ≡ Some line → scope_past i (seen_at lines i) line ≡ seen_at lines (i + 1)
 seen-next lines i line h =
     seen-after i (roots (top_lines lines)) (scope_at lines i) (blocks_at lines i) line
     ∙ ap (λ scope. seen (roots (top_lines lines)) scope (blocks_after i (blocks_at lines i) line)) (sym scopes)

@@ -14,7 +14,7 @@ use Rattle.swan_model.specs.declared.value.Value.{Value}
 use Rattle.swan_model.specs.Rights.{is_aliased, is_queue_mode}
 use Rattle.swan_model.specs.SerialState.{Activation, Cell, Holding, Queue, Store}
 use Rattle.swan_model.specs.SerialStep as serial
-use Rattle.swan_model.specs.SerialStep.{Effect, goes_on, spawns, ends, faults, effect, number_at, on_cell, on_list, on_object, on_queue, popped, spawned, told, zero_cell, zeroed, zeroed_by}
+use Rattle.swan_model.specs.SerialStep.{Effect, goes_on, spawns, ends, faults, effect, number_at, on_cell, on_list, on_object, on_queue, popped, spawn_effect, told, zero_cell, zeroed, zeroed_by}
 use Rattle.swan_model.specs.Values.{kind_of}
 use Rattle.job_reader.specs.declared.line.Line.{Line}
 use Rattle.job_body.specs.RightsKept.{is_of_rights}
@@ -166,7 +166,7 @@ either-fits P false x y p q = q
 
 pub spawn-fits : (job : List Line) (n : ℕ) (store : Store) (a : Activation Standing) (child : Child Standing) (held : List Mode) → is_aliased child.gives ≡ false → ChildHolds (length store.cells) (length store.queues) a.holdings child.gives held → Stands job child.local.at held → Fits job store a → EffectFits job store (effect n store a (ask.Spawn child))
 spawn-fits job n store a child held apart holds stands fits =
-    subst (λ given. EffectFits job store (spawned store a child given)) (sym holds.given)
+    subst (λ given. EffectFits job store (spawn_effect store a child given)) (sym holds.given)
     (subst (λ b. EffectFits job store (if b then faults kind.Alias else rest)) (sym apart)
     (either-fits (EffectFits job store) (nat_le PATH_MOST (length a.path)) (faults kind.Depth) more refl
     (either-fits (EffectFits job store) (nat_lt a.fuel child.fuel) (faults kind.Fuel) goes refl (

@@ -18,7 +18,7 @@ use Rattle.job_body.specs.declared.block.BlockWithLine.TheVariants as block
 use Rattle.job_body.specs.declared.exit.Exit.{Exit}
 use Rattle.job_body.specs.declared.scope.Scope.{Scope as Known}
 use Rattle.job_body.specs.Blocks.{after_end, blocks_after, blocks_at, exit_at, exits, exits_with, first_exit}
-use Rattle.job_body.specs.Compiled.{entered, seen_at}
+use Rattle.job_body.specs.Compiled.{scope_past, seen_at}
 use Rattle.job_body.proofs.Known.{seen-next}
 use Rattle.job_body.proofs.RightsEntries.{held_at, made_entry}
 use Rattle.job_body.proofs.RightsNames.{modes}
@@ -59,7 +59,7 @@ BlocksAt InTask job held blocks = blocks ≡ []
 BlocksAt (InDo inside) job held blocks = BlocksStand job held inside blocks
 BlocksAt _ job held blocks = Unit {0}
 
-entered-blocks : (i : ℕ) (s : Known) (line : Line) → (entered i s line).blocks ≡ blocks_after i s.blocks line
+entered-blocks : (i : ℕ) (s : Known) (line : Line) → (scope_past i s line).blocks ≡ blocks_after i s.blocks line
 entered-blocks i s line.End = refl
 entered-blocks i s line = refl
 

@@ -5,7 +5,7 @@ use Rattle.std.proofs.lemmas.Bool.{cases_Bool}
 use Rattle.std.proofs.lemmas.Option.{none-some}
 use Rattle.std.proofs.lemmas.Slice.Eq.{bytes_eq-Decides}
 use Rattle.swan_model.specs.declared.rights.Mode.{Mode}
-use Rattle.privilege_check.specs.Names.{Names}
+use Rattle.privilege_check.specs.Names.{KnownNames}
 use Rattle.privilege_check.specs.declared.declaration.Declaration.{Declaration}
 use Rattle.privilege_check.specs.declared.declaration.Declaration.TheVariants.{Variable, Held}
 
@@ -61,7 +61,7 @@ mode_of-between ((first, held) ∷ before) after name mode fresh query =
           absurd (none-some held (sym (ap (λ t. cond t (Some held) (mode_of (before ++ after) name)) (sym same_first) ∙ e)))
 
 -- a name that is new, and stands for something held
-pub declared-held : (before after : List Entry) (old new : Names) (name : List ℕ) (mode : Mode) (meaning : Declaration) → mode_known (Some meaning) ≡ Some mode
+pub declared-held : (before after : List Entry) (old new : KnownNames) (name : List ℕ) (mode : Mode) (meaning : Declaration) → mode_known (Some meaning) ≡ Some mode
     → ((query : List ℕ) → mode_of (before ++ after) query ≡ mode_known (old query))
     → old name ≡ None
     → ((query : List ℕ) → new query ≡ cond (bytes_eq name query) (Some meaning) (old query))
@@ -75,7 +75,7 @@ declared-held before after old new name mode meaning held known fresh more query
       choice false = known query
 
 -- a name that is new, and stands for a variable
-pub declared-variable : (entries : List Entry) (old new : Names) (name : List ℕ) (meaning : Declaration) → mode_known (Some meaning) ≡ None
+pub declared-variable : (entries : List Entry) (old new : KnownNames) (name : List ℕ) (meaning : Declaration) → mode_known (Some meaning) ≡ None
     → ((query : List ℕ) → mode_of entries query ≡ mode_known (old query))
     → old name ≡ None
     → ((query : List ℕ) → new query ≡ cond (bytes_eq name query) (Some meaning) (old query))

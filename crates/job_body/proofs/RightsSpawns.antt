@@ -16,7 +16,7 @@ use Rattle.job_reader.specs.declared.atom.Atom.{Atom}
 use Rattle.job_reader.specs.declared.atom.Atom.TheVariants as atom
 use Rattle.job_reader.specs.declared.fault.JobKind.TheVariants as fault
 use Rattle.job_reader.specs.declared.line.Line.{Line}
-use Rattle.privilege_check.specs.Names.{Names}
+use Rattle.privilege_check.specs.Names.{KnownNames}
 use Rattle.privilege_check.specs.Spawns as spawns
 use Rattle.privilege_check.specs.Spawns.{argument, arguments, is_lent_twice, lent}
 use Rattle.privilege_check.specs.Uses.{as_held, held, is_asked, is_same_sort}
@@ -47,7 +47,7 @@ as_held-may asked mode (Some (Held own kind)) k e =
       go false b e = absurd (cc)
 
 -- a use that passes the check is one of what is held so
-pub held-may : (entries : List Entry) (known : Names) (asked : Option Kind) (mode : Mode) (name : List ℕ) (k : Kind) → ((query : List ℕ) → mode_of entries query ≡ mode_known (known query)) → held known asked mode name ≡ Ok k → MayUse entries name mode
+pub held-may : (entries : List Entry) (known : KnownNames) (asked : Option Kind) (mode : Mode) (name : List ℕ) (k : Kind) → ((query : List ℕ) → mode_of entries query ≡ mode_known (known query)) → held known asked mode name ≡ Ok k → MayUse entries name mode
 held-may entries known asked mode name k names e =
     let may = as_held-may asked mode (known name) k e in
     record { own = may.0; held = names name ∙ may.1; allowed = may.2 }
@@ -108,7 +108,7 @@ abbrev pub AllMayUse : List Entry → List (List ℕ × Mode) → Type 0
 AllMayUse entries [] = Unit {0}
 AllMayUse entries (gift ∷ gifts) = MayUse entries gift.0 gift.1 × AllMayUse entries gifts
 
-pub lent-may : (entries : List Entry) (known : Names) → ((query : List ℕ) → mode_of entries query ≡ mode_known (known query)) → (taken : List Declaration) (args : List Atom) → arguments known taken args ≡ Ok tt → AllMayUse entries (lent taken args)
+pub lent-may : (entries : List Entry) (known : KnownNames) → ((query : List ℕ) → mode_of entries query ≡ mode_known (known query)) → (taken : List Declaration) (args : List Atom) → arguments known taken args ≡ Ok tt → AllMayUse entries (lent taken args)
 lent-may entries known names [] args e = tt
 lent-may entries known names (t ∷ taken) [] e = tt
 lent-may entries known names (Variable k ∷ taken) (a ∷ args) e =
@@ -119,7 +119,7 @@ lent-may entries known names (Held mode k ∷ taken) (atom.Name name ∷ args) e
     let parts = bind-parts (held known (Some k) mode name) (arguments known taken args) e in
     (held-may entries known (Some k) mode name parts.0.0 names parts.0.1, lent-may entries known names taken args parts.1)
 
-pub gives-lent : (job : List Line) (s : Standing) (known : Names) (taken : List Declaration) (args : List Atom) → arguments known taken args ≡ Ok tt → flat_map (give_of job s) (zip (map take_of_meaning taken) args) ≡ map (to_give job s.at) (lent taken args)
+pub gives-lent : (job : List Line) (s : Standing) (known : KnownNames) (taken : List Declaration) (args : List Atom) → arguments known taken args ≡ Ok tt → flat_map (give_of job s) (zip (map take_of_meaning taken) args) ≡ map (to_give job s.at) (lent taken args)
 gives-lent job s known [] args e = refl
 gives-lent job s known (t ∷ taken) [] e = refl
 gives-lent job s known (Variable k ∷ taken) (a ∷ args) e =
@@ -131,7 +131,7 @@ gives-lent job s known (Held mode k ∷ taken) (atom.Name name ∷ args) e =
     ap (λ gives. record { place = place_at job s.at name; mode = mode } ∷ gives) (gives-lent job s known taken args parts.1)
 
 -- the child gets what its task takes
-pub modes-lent : (known : Names) (taken : List Declaration) (args : List Atom) → length args ≡ length taken → arguments known taken args ≡ Ok tt → map (λ (gift : List ℕ × Mode). gift.1) (lent taken args) ≡ held_modes taken
+pub modes-lent : (known : KnownNames) (taken : List Declaration) (args : List Atom) → length args ≡ length taken → arguments known taken args ≡ Ok tt → map (λ (gift : List ℕ × Mode). gift.1) (lent taken args) ≡ held_modes taken
 modes-lent known [] args same e = refl
 modes-lent known (t ∷ taken) [] same e = absurd (cc)
 modes-lent known (Variable k ∷ taken) (a ∷ args) same e =

@@ -25,8 +25,8 @@ use Rattle.job_reader.specs.declared.line.Line.{Line}
 use Rattle.job_reader.specs.declared.line.Line.TheVariants as line
 use Rattle.job_reader.specs.declared.position.Position.{Position}
 use Rattle.job_reader.specs.declared.position.Position.TheVariants.{First, Top, InTask, InDo, Outside}
-use Rattle.privilege_check.specs.FirstFault.{checked}
-use Rattle.privilege_check.specs.Names.{Names, at_start, known}
+use Rattle.privilege_check.specs.FirstFault.{kind_dropped}
+use Rattle.privilege_check.specs.Names.{KnownNames, at_start, known}
 use Rattle.privilege_check.specs.Spawns.{lent}
 use Rattle.privilege_check.specs.Uses.{held, value, variable}
 use Rattle.job_body.specs.declared.block.BlockWithLine.{BlockWithLine}
@@ -115,14 +115,14 @@ module _ (job : List Line) (store : Store) (a : Activation Standing) (s : Standi
 
 -- ---- parts of a check
 
-checked-second : (r : Result Kind JobKind) (f : Kind → Result Kind JobKind) → checked (r >>= f) ≡ Ok tt → (j : Kind) × (k : Kind) × (f j ≡ Ok k)
+checked-second : (r : Result Kind JobKind) (f : Kind → Result Kind JobKind) → kind_dropped (r >>= f) ≡ Ok tt → (j : Kind) × (k : Kind) × (f j ≡ Ok k)
 checked-second (Err k) f e = absurd (cc)
 checked-second (Ok j) f e = go (f j) refl e where
-  go : (r : Result Kind JobKind) → f j ≡ r → checked r ≡ Ok tt → (j : Kind) × (k : Kind) × (f j ≡ Ok k)
+  go : (r : Result Kind JobKind) → f j ≡ r → kind_dropped r ≡ Ok tt → (j : Kind) × (k : Kind) × (f j ≡ Ok k)
   go (Ok k) is e = (j, k, is)
   go (Err k) is e = absurd (cc)
 
-pub checked-first : (r : Result Kind JobKind) (f : Kind → Result Kind JobKind) → checked (r >>= f) ≡ Ok tt → (k : Kind) × (r ≡ Ok k)
+pub checked-first : (r : Result Kind JobKind) (f : Kind → Result Kind JobKind) → kind_dropped (r >>= f) ≡ Ok tt → (k : Kind) × (r ≡ Ok k)
 checked-first (Err k) f e = absurd (cc)
 checked-first (Ok k) f e = (k, refl)
 
@@ -131,7 +131,7 @@ checked-first (Ok k) f e = (k, refl)
 abbrev StepFits : List Line → ℕ → Store → Activation Standing → Standing × Ask Standing → Type 0
 StepFits job n store a taken = EffectFits job store (effect n store (moved a taken.0) taken.1)
 
-assigned-fits : (job : List Line) (n : ℕ) (store : Store) (a : Activation Standing) (s : Standing) (name : List ℕ) (r : Result Value Trouble) → ((new : Value) → Fits job store (moved a (steps.with_variable job s name new))) → StepFits job n store a (steps.assigned job s name r)
+assigned-fits : (job : List Line) (n : ℕ) (store : Store) (a : Activation Standing) (s : Standing) (name : List ℕ) (r : Result Value Trouble) → ((new : Value) → Fits job store (moved a (steps.with_variable job s name new))) → StepFits job n store a (steps.step_of_assignment job s name r)
 assigned-fits job n store a s name (Ok new) fits = work-fits job n store (moved a (steps.with_variable job s name new)) (fits new)
 assigned-fits job n store a s name (Err why) fits = refl
 
@@ -191,14 +191,14 @@ else-fits job n store a s step =
 
 -- ---- spawns
 
-spawned-fits : (job : List Line) (n : ℕ) (store : Store) (a : Activation Standing) (s : Standing) (fuel : ℤ) (index : ℕ) (given : List (Take × Atom)) (held : List Mode) → Fits job store (moved a (steps.moved_on job s)) → is_aliased (flat_map (steps.give_of job s) given) ≡ false → ChildHolds (length store.cells) (length store.queues) a.holdings (flat_map (steps.give_of job s) given) held → Stands job (executed_from job (index + 1)) held → StepFits job n store a (steps.spawned job s fuel index given)
+spawned-fits : (job : List Line) (n : ℕ) (store : Store) (a : Activation Standing) (s : Standing) (fuel : ℤ) (index : ℕ) (given : List (Take × Atom)) (held : List Mode) → Fits job store (moved a (steps.moved_on job s)) → is_aliased (flat_map (steps.give_of job s) given) ≡ false → ChildHolds (length store.cells) (length store.queues) a.holdings (flat_map (steps.give_of job s) given) held → Stands job (executed_from job (index + 1)) held → StepFits job n store a (steps.step_of_spawn job s fuel index given)
 spawned-fits job n store a s (negsuc k) index given held fits apart holds stands = refl
 spawned-fits job n store a s (pos fuel) index given held fits apart holds stands =
     spawn-fits job n store (moved a (steps.moved_on job s))
     (record { local = steps.begun job index (flat_map (steps.value_given job s) given); gives = flat_map (steps.give_of job s) given; fuel = fuel })
     held apart holds stands fits
 
-spawn-step : (job : List Line) (n : ℕ) (store : Store) (a : Activation Standing) (s : Standing) (fuel : Atom) (task : List ℕ) (args : List Atom) (step : Step job store a s (line.Spawn fuel task args)) (amount : ℤ) → StepFits job n store a (steps.spawned job s amount (task_index job task) (zip (takes (lines_of_task job (task_index job task))) args))
+spawn-step : (job : List Line) (n : ℕ) (store : Store) (a : Activation Standing) (s : Standing) (fuel : Atom) (task : List ℕ) (args : List Atom) (step : Step job store a s (line.Spawn fuel task args)) (amount : ℤ) → StepFits job n store a (steps.step_of_spawn job s amount (task_index job task) (zip (takes (lines_of_task job (task_index job task))) args))
 spawn-step job n store a s fuel task args step amount =
     spawned-fits job n store a s amount index given (held_modes p.taken) (on-fits job store a s here step refl refl refl)
     (ap is_aliased gives ∙ gives-apart job s.at all d.place gifts may p.once)
@@ -221,7 +221,7 @@ spawn-step job n store a s fuel task args step amount =
       found : IsTaskAt job (task_index job task) task p.taken
       found = task-known job step.passes s.at (held_modes_of a.holdings) d task p.taken p.known
 
-      names : Names
+      names : KnownNames
       names = known (before_at job s.at)
 
       all : List Entry

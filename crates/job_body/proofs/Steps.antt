@@ -39,7 +39,7 @@ use Rattle.job_body.proofs.Values.{value-slot, set-slot, place-name, value-opera
 
 -- ---- assignments
 
-assigned-is : (lines : List Line) (s : Standing) (v : List ℕ) (result : Result Value Trouble) → runs.assigned s (executed_from lines (s.at + 1)) (compiled.slot_in (seen_at lines s.at) v) result ≡ steps.assigned lines s v result
+assigned-is : (lines : List Line) (s : Standing) (v : List ℕ) (result : Result Value Trouble) → runs.run_of_assignment s (executed_from lines (s.at + 1)) (compiled.slot_in (seen_at lines s.at) v) result ≡ steps.step_of_assignment lines s v result
 assigned-is lines s v (Ok value) = ap (λ values. (runs.gone_with s (executed_from lines (s.at + 1)) values, ask.Work)) (sym (set-slot (steps.names_at lines s.at) s.values v value))
 assigned-is lines s v (Err why) = refl
 
@@ -51,8 +51,8 @@ argument-is lines s (Some a) = value-operand lines s.at s.values a
 
 spawned-is : (lines : List Line) (s : Standing) (n : ℤ) (p : ℕ) (given : List (Take × Atom))
     → ((values : List Value) → runs.begun_in (program_of lines) p values ≡ steps.begun lines p values)
-    → runs.spawned (program_of lines) s (executed_from lines (s.at + 1)) n p (flat_map (compiled.param_given (seen_at lines s.at)) given) (flat_map (compiled.give_given (seen_at lines s.at)) given)
-    ≡ steps.spawned lines s n p given
+    → runs.run_of_spawn (program_of lines) s (executed_from lines (s.at + 1)) n p (flat_map (compiled.param_given (seen_at lines s.at)) given) (flat_map (compiled.give_given (seen_at lines s.at)) given)
+    ≡ steps.step_of_spawn lines s n p given
 spawned-is lines s (negsuc n) p given begins = refl
 spawned-is lines s (pos fuel) p given begins =
     ap (λ local. (steps.moved_on lines s, ask.Spawn (record { local = local; gives = flat_map (compiled.give_given (seen_at lines s.at)) given; fuel = fuel })))
@@ -65,16 +65,16 @@ spawn lines s f fuel found args = runs.done (program_of lines) s (executed_from 
 spawn-found : (lines : List Line) (s : Standing) (f : ℕ) (fuel : Atom) (p : ℕ) (found : Option Task) (args : List Atom)
     → ((values : List Value) → runs.begun_in (program_of lines) p values ≡ steps.begun lines p values)
     → IsFound lines 0 p found
-    → spawn lines s f fuel found args ≡ steps.spawned lines s (number_of (runs.value_of s.values (compiled.operand_of (seen_at lines s.at) fuel))) p (zip (takes (lines_of_task lines p)) args)
+    → spawn lines s f fuel found args ≡ steps.step_of_spawn lines s (number_of (runs.value_of s.values (compiled.operand_of (seen_at lines s.at) fuel))) p (zip (takes (lines_of_task lines p)) args)
 spawn-found lines s f fuel p found args begins (at_line name h e) =
     ap (λ found. spawn lines s f fuel found args) e
     ∙ ap (λ i. spawn lines s f fuel (Some (record { index = i; takes = takes (before_task (drop (p + 1) lines)) })) args) (let same : 0 + p ≡ p = omega arith in same)
     ∙ spawned-is lines s (number_of (runs.value_of s.values (compiled.operand_of (seen_at lines s.at) fuel))) p (zip (takes (lines_of_task lines p)) args) begins
 spawn-found lines s f fuel p found args begins (nowhere e none) =
     ap (λ found. spawn lines s f fuel found args) none
-    ∙ ap (λ i. runs.spawned (program_of lines) s (executed_from lines (s.at + 1)) (number_of (runs.value_of s.values (compiled.operand_of (seen_at lines s.at) fuel))) i [] []) (sym e)
+    ∙ ap (λ i. runs.run_of_spawn (program_of lines) s (executed_from lines (s.at + 1)) (number_of (runs.value_of s.values (compiled.operand_of (seen_at lines s.at) fuel))) i [] []) (sym e)
     ∙ spawned-is lines s (number_of (runs.value_of s.values (compiled.operand_of (seen_at lines s.at) fuel))) p [] begins
-    ∙ ap (λ rest. steps.spawned lines s (number_of (runs.value_of s.values (compiled.operand_of (seen_at lines s.at) fuel))) p (zip (takes (before_task rest)) args)) (sym (drop_all (p + 1) lines (omega arith)))
+    ∙ ap (λ rest. steps.step_of_spawn lines s (number_of (runs.value_of s.values (compiled.operand_of (seen_at lines s.at) fuel))) p (zip (takes (before_task rest)) args)) (sym (drop_all (p + 1) lines (omega arith)))
 
 -- ---- the ends of blocks and of tasks
 
@@ -109,17 +109,17 @@ of-numbers int.And a b c = refl
 of-numbers int.Or a b c = refl
 of-numbers int.Not a b c = refl
 
-ints-is : (s : Standing) (to slot : ℕ) (o : IntOp) (a b c : Operand) → runs.assigned s to (Some slot) (runs.int_operation o (runs.number_in s.values (compiled.num_of a)) (runs.number_in s.values (compiled.num_of b))) ≡ runs.assigned s to (Some slot) (operation (runs.op_of o) (runs.value_of s.values a) (runs.value_of s.values b) (runs.value_of s.values c))
+ints-is : (s : Standing) (to slot : ℕ) (o : IntOp) (a b c : Operand) → runs.run_of_assignment s to (Some slot) (runs.int_operation o (runs.number_in s.values (compiled.num_of a)) (runs.number_in s.values (compiled.num_of b))) ≡ runs.run_of_assignment s to (Some slot) (operation (runs.op_of o) (runs.value_of s.values a) (runs.value_of s.values b) (runs.value_of s.values c))
 ints-is s to slot o a b c =
-    ap (λ n. runs.assigned s to (Some slot) (runs.int_operation o n (runs.number_in s.values (compiled.num_of b)))) (number-is s.values a)
-    ∙ ap (λ n. runs.assigned s to (Some slot) (runs.int_operation o (number_of (runs.value_of s.values a)) n)) (number-is s.values b)
-    ∙ ap (runs.assigned s to (Some slot)) (of-numbers o (runs.value_of s.values a) (runs.value_of s.values b) (runs.value_of s.values c))
+    ap (λ n. runs.run_of_assignment s to (Some slot) (runs.int_operation o n (runs.number_in s.values (compiled.num_of b)))) (number-is s.values a)
+    ∙ ap (λ n. runs.run_of_assignment s to (Some slot) (runs.int_operation o (number_of (runs.value_of s.values a)) n)) (number-is s.values b)
+    ∙ ap (runs.run_of_assignment s to (Some slot)) (of-numbers o (runs.value_of s.values a) (runs.value_of s.values b) (runs.value_of s.values c))
 
-assign-none : (s : Standing) (to fuel : ℕ) (found : Option IntOp) (o : Op) (a b c : Operand) → runs.worked s to fuel (compiled.assign_by found o None a b c) ≡ runs.assigned s to None (operation o (runs.value_of s.values a) (runs.value_of s.values b) (runs.value_of s.values c))
+assign-none : (s : Standing) (to fuel : ℕ) (found : Option IntOp) (o : Op) (a b c : Operand) → runs.worked s to fuel (compiled.assign_by found o None a b c) ≡ runs.run_of_assignment s to None (operation o (runs.value_of s.values a) (runs.value_of s.values b) (runs.value_of s.values c))
 assign-none s to fuel None o a b c = refl
 assign-none s to fuel (Some found) o a b c = refl
 
-assign-is : (s : Standing) (to fuel : ℕ) (o : Op) (slot : Option ℕ) (a b c : Operand) → runs.worked s to fuel (compiled.assign_of o slot a b c) ≡ runs.assigned s to slot (operation o (runs.value_of s.values a) (runs.value_of s.values b) (runs.value_of s.values c))
+assign-is : (s : Standing) (to fuel : ℕ) (o : Op) (slot : Option ℕ) (a b c : Operand) → runs.worked s to fuel (compiled.assign_of o slot a b c) ≡ runs.run_of_assignment s to slot (operation o (runs.value_of s.values a) (runs.value_of s.values b) (runs.value_of s.values c))
 assign-is s to fuel o None a b c = assign-none s to fuel (compiled.int_op o) o a b c
 assign-is s to fuel op.Add (Some slot) a b c = ints-is s to slot int.Add a b c
 assign-is s to fuel op.Sub (Some slot) a b c = ints-is s to slot int.Sub a b c
@@ -139,9 +139,9 @@ assign-is s to fuel o (Some slot) a b c = refl
 done-line : (lines : List Line) (s : Standing) (fuel : ℕ) (line : Line) → runs.done (program_of lines) s (next_of lines (seen_at lines s.at) (exit_at lines s.at) s.at line) fuel (action_of lines (tasks_of lines) (seen_at lines s.at) (exit_at lines s.at) s.at line) ≡ steps.step lines s fuel line
 done-line lines s fuel (line.Assign v o args) =
     assign-is s (executed_from lines (s.at + 1)) fuel o (compiled.slot_in (seen_at lines s.at) v) (compiled.or_zero (seen_at lines s.at) (slice_get args 0)) (compiled.or_zero (seen_at lines s.at) (slice_get args 1)) (compiled.or_zero (seen_at lines s.at) (slice_get args 2))
-    ∙ ap (λ a. runs.assigned s (executed_from lines (s.at + 1)) (compiled.slot_in (seen_at lines s.at) v) (operation o a (runs.value_of s.values (compiled.or_zero (seen_at lines s.at) (slice_get args 1))) (runs.value_of s.values (compiled.or_zero (seen_at lines s.at) (slice_get args 2))))) (sym (argument-is lines s (slice_get args 0)))
-    ∙ ap (λ b. runs.assigned s (executed_from lines (s.at + 1)) (compiled.slot_in (seen_at lines s.at) v) (operation o (steps.result_of lines s args 0) b (runs.value_of s.values (compiled.or_zero (seen_at lines s.at) (slice_get args 2))))) (sym (argument-is lines s (slice_get args 1)))
-    ∙ ap (λ c. runs.assigned s (executed_from lines (s.at + 1)) (compiled.slot_in (seen_at lines s.at) v) (operation o (steps.result_of lines s args 0) (steps.result_of lines s args 1) c)) (sym (argument-is lines s (slice_get args 2)))
+    ∙ ap (λ a. runs.run_of_assignment s (executed_from lines (s.at + 1)) (compiled.slot_in (seen_at lines s.at) v) (operation o a (runs.value_of s.values (compiled.or_zero (seen_at lines s.at) (slice_get args 1))) (runs.value_of s.values (compiled.or_zero (seen_at lines s.at) (slice_get args 2))))) (sym (argument-is lines s (slice_get args 0)))
+    ∙ ap (λ b. runs.run_of_assignment s (executed_from lines (s.at + 1)) (compiled.slot_in (seen_at lines s.at) v) (operation o (steps.result_of lines s args 0) b (runs.value_of s.values (compiled.or_zero (seen_at lines s.at) (slice_get args 2))))) (sym (argument-is lines s (slice_get args 1)))
+    ∙ ap (λ c. runs.run_of_assignment s (executed_from lines (s.at + 1)) (compiled.slot_in (seen_at lines s.at) v) (operation o (steps.result_of lines s args 0) (steps.result_of lines s args 1) c)) (sym (argument-is lines s (slice_get args 2)))
     ∙ assigned-is lines s v (operation o (steps.result_of lines s args 0) (steps.result_of lines s args 1) (steps.result_of lines s args 2))
 done-line lines s fuel (line.Read v o) = ap (λ place. (steps.moved_on lines s, ask.Read place)) (sym (place-name lines s.at o))
 done-line lines s fuel (line.Write o a) =
@@ -154,7 +154,7 @@ done-line lines s fuel (line.Pop v q) = ap (λ place. (steps.moved_on lines s, a
 done-line lines s fuel (line.Empty v q) = ap (λ place. (steps.moved_on lines s, ask.Empty place)) (sym (place-name lines s.at q))
 done-line lines s fuel (line.Spawn a task args) =
     spawn-found lines s fuel a (task_index lines task) (task_named (tasks_of lines) task) args (begun-named lines task) (task-found lines task)
-    ∙ ap (λ value. steps.spawned lines s (number_of value) (task_index lines task) (zip (takes (lines_of_task lines (task_index lines task))) args)) (sym (value-operand lines s.at s.values a))
+    ∙ ap (λ value. steps.step_of_spawn lines s (number_of value) (task_index lines task) (zip (takes (lines_of_task lines (task_index lines task))) args)) (sym (value-operand lines s.at s.values a))
 done-line lines s fuel (line.Fuel v) = ap (λ values. (runs.gone_with s (executed_from lines (s.at + 1)) values, ask.Work)) (sym (set-slot (steps.names_at lines s.at) s.values v (Int (pos (min fuel (2 ^ 63 - 1))))))
 done-line lines s fuel (line.Fail a) = ap (λ value. (s, ask.Fail (trouble.User (number_of value)))) (sym (value-operand lines s.at s.values a))
 done-line lines s fuel (line.If a) =

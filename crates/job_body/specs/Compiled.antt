@@ -72,21 +72,21 @@ exits_of lines = exits_from (length lines) 0 lines
 abbrev pub scope_before : List (List ℕ) → Scope
 scope_before roots = record { roots = roots; is_main = false; params = []; vars = []; accesses = []; made = []; blocks = [] }
 
-abbrev pub entered_task : List (List ℕ) → List ℕ → Scope
-entered_task roots name = record { roots = roots; is_main = is_main name; params = []; vars = []; accesses = []; made = []; blocks = [] }
+abbrev pub scope_past_task : List (List ℕ) → List ℕ → Scope
+scope_past_task roots name = record { roots = roots; is_main = is_main name; params = []; vars = []; accesses = []; made = []; blocks = [] }
 
 -- what is known after a line
-abbrev pub entered : ℕ → Scope → Line → Scope
-entered i s (line.Task name) = entered_task s.roots name
-entered i s (line.Param name kind) = record s { params = s.params ++ name ∷ [] }
-entered i s (line.Var name kind) = record s { vars = s.vars ++ name ∷ [] }
-entered i s (line.Access mode name kind) = record s { accesses = s.accesses ++ name ∷ [] }
-entered i s (line.Queue name kind) = record s { made = s.made ++ name ∷ [] }
-entered i s (line.Object name kind) = record s { made = s.made ++ name ∷ [] }
-entered i s (line.If a) = record s { blocks = opened.If ∷ s.blocks }
-entered i s (line.While a) = record s { blocks = opened.While i ∷ s.blocks }
-entered i s line.End = record s { blocks = after_end s.blocks }
-entered i s _ = s
+abbrev pub scope_past : ℕ → Scope → Line → Scope
+scope_past i s (line.Task name) = scope_past_task s.roots name
+scope_past i s (line.Param name kind) = record s { params = s.params ++ name ∷ [] }
+scope_past i s (line.Var name kind) = record s { vars = s.vars ++ name ∷ [] }
+scope_past i s (line.Access mode name kind) = record s { accesses = s.accesses ++ name ∷ [] }
+scope_past i s (line.Queue name kind) = record s { made = s.made ++ name ∷ [] }
+scope_past i s (line.Object name kind) = record s { made = s.made ++ name ∷ [] }
+scope_past i s (line.If a) = record s { blocks = opened.If ∷ s.blocks }
+scope_past i s (line.While a) = record s { blocks = opened.While i ∷ s.blocks }
+scope_past i s line.End = record s { blocks = after_end s.blocks }
+scope_past i s _ = s
 
 -- no more names of one sort than this are known of a task
 pub record KnowsFew (s : Scope) (most : ℕ) : Type 0 where

@@ -98,9 +98,9 @@ gone s to = record { before = s.at; at = to; values = s.values }
 abbrev pub gone_with : Standing → ℕ → List Value → Standing
 gone_with s to values = record { before = s.at; at = to; values = values }
 
-abbrev pub assigned : Standing → ℕ → Option ℕ → Result Value Trouble → Standing × Ask Standing
-assigned s to slot (Ok value) = (gone_with s to (with_slot s.values slot value), ask.Work)
-assigned s to slot (Err why) = (s, ask.Fail why)
+abbrev pub run_of_assignment : Standing → ℕ → Option ℕ → Result Value Trouble → Standing × Ask Standing
+run_of_assignment s to slot (Ok value) = (gone_with s to (with_slot s.values slot value), ask.Work)
+run_of_assignment s to slot (Err why) = (s, ask.Fail why)
 
 -- an activation of the task at an index before its first step
 abbrev pub begun_at : ℕ → List Value → ℕ → Action → Standing
@@ -114,9 +114,9 @@ begun_by index values (Some instruction) = begun_at index values instruction.nex
 abbrev pub begun_in : List Instruction → ℕ → List Value → Standing
 begun_in program index values = begun_by index values (slice_get program index)
 
-abbrev pub spawned : List Instruction → Standing → ℕ → ℤ → ℕ → List Operand → List Give → Standing × Ask Standing
-spawned program s to (negsuc n) index params gives = (s, ask.Fail trouble.Range)
-spawned program s to (pos fuel) index params gives =
+abbrev pub run_of_spawn : List Instruction → Standing → ℕ → ℤ → ℕ → List Operand → List Give → Standing × Ask Standing
+run_of_spawn program s to (negsuc n) index params gives = (s, ask.Fail trouble.Range)
+run_of_spawn program s to (pos fuel) index params gives =
     (gone s to, ask.Spawn (record { local = begun_in program index (map (value_of s.values) params); gives = gives; fuel = fuel }))
 
 -- what a line asks for that is the task's own work, by the trouble that it meets, if any
@@ -128,8 +128,8 @@ ask_by (Some why) = ask.Fail why
 abbrev pub worked : Standing → ℕ → ℕ → Work → Standing × Ask Standing
 worked s to fuel work.Go = (gone s to, ask.Work)
 worked s to fuel (work.Assign slot op a b c) =
-    assigned s to slot (operation op (value_of s.values a) (value_of s.values b) (value_of s.values c))
-worked s to fuel (work.Ints o slot a b) = assigned s to (Some slot) (int_operation o (number_in s.values a) (number_in s.values b))
+    run_of_assignment s to slot (operation op (value_of s.values a) (value_of s.values b) (value_of s.values c))
+worked s to fuel (work.Ints o slot a b) = run_of_assignment s to (Some slot) (int_operation o (number_in s.values a) (number_in s.values b))
 worked s to fuel (work.Branch a otherwise) =
     (gone s (if is_true (Int (number_in s.values a)) then to else otherwise), ask.Work)
 worked s to fuel (work.Fuel slot) =
@@ -146,7 +146,7 @@ demanded program s to (demand.Push place a) = (gone s to, ask.Push place (value_
 demanded program s to (demand.Pop slot place) = (gone s to, ask.Pop place)
 demanded program s to (demand.Empty slot place) = (gone s to, ask.Empty place)
 demanded program s to (demand.Spawn a index params gives) =
-    spawned program s to (number_of (value_of s.values a)) index params gives
+    run_of_spawn program s to (number_of (value_of s.values a)) index params gives
 demanded program s to demand.Sync = (gone s to, ask.Sync)
 demanded program s to (demand.Fail a) = (s, ask.Fail (trouble.User (number_of (value_of s.values a))))
 demanded program s to demand.Finish = (s, ask.Finish)

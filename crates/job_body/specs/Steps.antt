@@ -93,9 +93,9 @@ with_variable lines s name new =
     record { before = s.at; at = executed_from lines (s.at + 1); values = with_value (names_at lines s.at) s.values name new }
 
 -- an assignment, by what its operation gives
-abbrev pub assigned : List Line → Standing → List ℕ → Result Value Trouble → Standing × Ask Standing
-assigned lines s name (Ok value) = (with_variable lines s name value, ask.Work)
-assigned lines s name (Err why) = (s, ask.Fail why)
+abbrev pub step_of_assignment : List Line → Standing → List ℕ → Result Value Trouble → Standing × Ask Standing
+step_of_assignment lines s name (Ok value) = (with_variable lines s name value, ask.Work)
+step_of_assignment lines s name (Err why) = (s, ask.Fail why)
 
 -- the value of the atom at an index among those of an operation, or the number 0 where there is none
 abbrev pub value_of_argument : List Line → Standing → Option Atom → Value
@@ -120,9 +120,9 @@ begun lines index values =
     record { before = index; at = executed_from lines (index + 1); values = values ++ zeros (lines_of_task lines index) }
 
 -- a spawn, by its fuel, by the index of its task, and by what the task is given
-abbrev pub spawned : List Line → Standing → ℤ → ℕ → List (Take × Atom) → Standing × Ask Standing
-spawned lines s (negsuc n) index given = (s, ask.Fail trouble.Range)
-spawned lines s (pos fuel) index given =
+abbrev pub step_of_spawn : List Line → Standing → ℤ → ℕ → List (Take × Atom) → Standing × Ask Standing
+step_of_spawn lines s (negsuc n) index given = (s, ask.Fail trouble.Range)
+step_of_spawn lines s (pos fuel) index given =
     (moved_on lines s, ask.Spawn (record { local = begun lines index (flat_map (value_given lines s) given); gives = flat_map (give_of lines s) given; fuel = fuel }))
 
 -- the end of the innermost of these blocks, or of the task where there is none
@@ -137,14 +137,14 @@ abbrev pub step : List Line → Standing → ℕ → Line → Standing × Ask St
 step lines s fuel (line.Queue name kind) = (moved_on lines s, ask.NewQueue)
 step lines s fuel (line.Object name kind) = (moved_on lines s, ask.NewObject (zero_of kind))
 step lines s fuel (line.Assign v o args) =
-    assigned lines s v (operation o (result_of lines s args 0) (result_of lines s args 1) (result_of lines s args 2))
+    step_of_assignment lines s v (operation o (result_of lines s args 0) (result_of lines s args 1) (result_of lines s args 2))
 step lines s fuel (line.Read v o) = (moved_on lines s, ask.Read (place_at lines s.at o))
 step lines s fuel (line.Write o a) = (moved_on lines s, ask.Write (place_at lines s.at o) (value_at lines s.at s.values a))
 step lines s fuel (line.Push q a) = (moved_on lines s, ask.Push (place_at lines s.at q) (value_at lines s.at s.values a))
 step lines s fuel (line.Pop v q) = (moved_on lines s, ask.Pop (place_at lines s.at q))
 step lines s fuel (line.Empty v q) = (moved_on lines s, ask.Empty (place_at lines s.at q))
 step lines s fuel (line.Spawn a task args) =
-    spawned lines s (number_of (value_at lines s.at s.values a)) (task_index lines task)
+    step_of_spawn lines s (number_of (value_at lines s.at s.values a)) (task_index lines task)
     (zip (takes (lines_of_task lines (task_index lines task))) args)
 step lines s fuel line.Sync = (moved_on lines s, ask.Sync)
 step lines s fuel (line.Fuel v) = (with_variable lines s v (Int (pos (min fuel (2 ^ 63 - 1)))), ask.Work)

@@ -1,6 +1,6 @@
 // Running instructions.
 ghost use Rattle.std.specs.Prelude.{◌≡◌, ◌++◌, ◌+◌, ◌-◌, ◌^◌, ◌<◌, ◌≤◌, suc, min, map, pos, Some, None, IfOk, IfSome, IfNone};
-ghost use Rattle.job_body.specs.Runs.{ask_by, begun_in, demanded, gone, last_of, next_by, spawned, told_by, value_of, worked};
+ghost use Rattle.job_body.specs.Runs.{ask_by, begun_in, demanded, gone, last_of, next_by, run_of_spawn, told_by, value_of, worked};
 ghost use Rattle.swan_model.specs.Work.{ask_after, AreWork, local_after};
 ghost use Rattle.swan_model.specs.declared.body.Ask.TheVariants as ask;
 ghost use Rattle.swan_model.specs.declared.value.Value.TheVariants as value;
@@ -67,7 +67,7 @@ fn spawn(
     params: &Listed<Operand>,
     gives: &Gives,
 ) -> Result<Ask<JobLocal>, NoMemory>
-    ensures does { IfOk result (λ ask. (local.new, ask) ≡ spawned program.now local.old to fuel task.now params.now gives.now) }
+    ensures does { IfOk result (λ ask. (local.new, ask) ≡ run_of_spawn program.now local.old to fuel task.now params.now gives.now) }
     ensures other { IfOk result (λ it. it ≡ ask.Work → ⊥) }
 {
     let Ok(fuel) = u64::try_from(fuel) else {

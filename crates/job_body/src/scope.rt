@@ -44,7 +44,7 @@ fn joined(first: Option<u32>, count: u32, second: Option<u32>) -> Option<u32>
 
 impl Scope {
     ghost use Rattle.std.specs.Prelude.{◌≡◌, ◌<◌, ◌≤◌, ◌+◌, ◌++◌, length, IfOk, IfSome};
-    ghost use Rattle.job_body.specs.Compiled.{KnowsFew, entered, entered_task, operand_of, place_in, place_of_atom, places_in, roots_in, scope_before, slot_in};
+    ghost use Rattle.job_body.specs.Compiled.{KnowsFew, scope_past, scope_past_task, operand_of, place_in, place_of_atom, places_in, roots_in, scope_before, slot_in};
     ghost use Rattle.job_body.specs.Names.{slot};
     ghost use Rattle.privilege_check.specs.Names.{is_main};
 
@@ -65,7 +65,7 @@ impl Scope {
 
     /// What is known after the `task` line of a task.
     fn enter_task(self, alloc: Global, name: &Word) -> Scope
-        ensures { result ≡ entered_task self.roots name.now }
+        ensures { result ≡ scope_past_task self.roots name.now }
     {
         let mut scope = Scope::new(alloc, self.roots);
         scope.is_main = name.as_str() == "main";
@@ -76,7 +76,7 @@ impl Scope {
     pub fn enter(mut self, alloc: Global, index: u32, line: &Line) -> Result<Scope, NoMemory>
         requires few { KnowsFew self index }
         requires within { index < NAMES_MOST }
-        ensures { IfOk result (λ scope. scope ≡ entered index self line.now) }
+        ensures { IfOk result (λ scope. scope ≡ scope_past index self line.now) }
     {
         match line {
             Line::Task(name) => return Ok(self.enter_task(alloc, name)),

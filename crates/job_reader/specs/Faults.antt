@@ -38,10 +38,10 @@ abbrev pub ◌>>=◌ : {A B : Type 0} → Result A JobKind → (A → Result B J
 (Err k) >>= f = Err k
 
 -- what a function answered is this reading, unless memory ran out
-abbrev pub Fails : {A : Type 0} → ReadLine → Result A JobKind → Type 0
-Fails (refusal.Refused k) reading = reading ≡ Err k
-Fails refusal.NoMemory reading = Unit {0}
+abbrev pub IsRefusedAs : {A : Type 0} → ReadLine → Result A JobKind → Type 0
+IsRefusedAs (refusal.Refused k) reading = reading ≡ Err k
+IsRefusedAs refusal.NoMemory reading = Unit {0}
 
-abbrev pub Gives : {A : Type 0} → Result A ReadLine → Result A JobKind → Type 0
-Gives (Ok a) reading = reading ≡ Ok a
-Gives (Err refused) reading = Fails refused reading
+abbrev pub IsReadAs : {A : Type 0} → Result A ReadLine → Result A JobKind → Type 0
+IsReadAs (Ok a) reading = reading ≡ Ok a
+IsReadAs (Err refused) reading = IsRefusedAs refused reading

@@ -3,7 +3,7 @@ ghost use Rattle.std.specs.Prelude.{◌≡◌, IfOk};
 ghost use Rattle.std.specs.List.{list_all};
 ghost use Rattle.std.specs.Prelude.{IsUtf8};
 ghost use Rattle.job_reader.specs.Atoms.{atom, atoms, is_name, is_name_byte, name};
-ghost use Rattle.job_reader.specs.Faults.{Gives, named};
+ghost use Rattle.job_reader.specs.Faults.{IsReadAs, named};
 ghost use Rattle.job_reader.specs.Texts.{texts};
 
 use crate::JobKind;
@@ -69,7 +69,7 @@ pub fn word(alloc: Global, text: &[u8]) -> Result<Word, NoMemory>
 
 /// The atom that a token is. `O(length)`.
 pub fn read_atom(alloc: Global, token: &[u8]) -> Result<Atom, ReadLine>
-    ensures { Gives result (atom token.now) }
+    ensures { IsReadAs result (atom token.now) }
 {
     let Some((first, others)) = token.split_first() else {
         return Err(ReadLine::Refused(JobKind::BadName));
@@ -92,7 +92,7 @@ pub fn read_atom(alloc: Global, token: &[u8]) -> Result<Atom, ReadLine>
 
 /// The name that a token in a name's position is. `O(length)`.
 pub fn read_name(alloc: Global, token: &[u8]) -> Result<Word, ReadLine>
-    ensures { Gives result (name token.now) }
+    ensures { IsReadAs result (name token.now) }
 {
     match read_atom(alloc, token) {
         Ok(Atom::Name(name)) => Ok(name),
@@ -115,7 +115,7 @@ fn first_of(kind: Option<JobKind>, next: JobKind) -> JobKind
 
 /// The atoms that tokens are. `O(length)`.
 pub fn read_atoms(alloc: Global, tokens: &[&[u8]]) -> Result<Atoms, ReadLine>
-    ensures { Gives result (atoms (texts tokens.now)) }
+    ensures { IsReadAs result (atoms (texts tokens.now)) }
 {
     let mut read = Listed::new(alloc);
     let mut kind = None;

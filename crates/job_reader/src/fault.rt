@@ -1,6 +1,6 @@
 // What can be wrong with a job.
 ghost use Rattle.std.specs.Prelude.{◌≡◌};
-ghost use Rattle.job_reader.specs.Faults.{Gives, both, first_kind, order_of};
+ghost use Rattle.job_reader.specs.Faults.{IsReadAs, both, first_kind, order_of};
 ghost use Rattle.job_reader.specs.declared.fault.ReadLine.TheVariants as refusal;
 ghost use Rattle.job_reader.specs.declared.fault.ReadJob.TheVariants as read;
 ghost use Rattle.std.specs.Prelude.{Result};
@@ -136,7 +136,7 @@ pub fn both<A: Drop, B: Drop>(
     a: Result<A, ReadLine>,
     b: Result<B, ReadLine>,
 ) -> Result<(A, B), ReadLine>
-    ensures { (x : Result A JobKind) (y : Result B JobKind) → Gives a x → Gives b y → Gives result (both x y) }
+    ensures { (x : Result A JobKind) (y : Result B JobKind) → IsReadAs a x → IsReadAs b y → IsReadAs result (both x y) }
 {
     match (a, b) {
         (Ok(a), Ok(b)) => Ok((a, b)),

@@ -2,7 +2,7 @@
 ghost use Rattle.std.specs.Prelude.{◌≡◌, ◌∷◌, length, true, false, MatchOption, IsUtf8};
 ghost use Rattle.std.specs.List.{list_all};
 ghost use Rattle.job_reader.specs.Characters.{is_allowed};
-ghost use Rattle.job_reader.specs.Faults.{Gives};
+ghost use Rattle.job_reader.specs.Faults.{IsReadAs};
 ghost use Rattle.job_reader.specs.LineShape.{after_equals, assigned, assignment, form, formed, header, is_assignment, is_note, shape, statement};
 ghost use Rattle.job_reader.specs.Texts.{texts};
 ghost use Rattle.job_reader.specs.Tokens.{tokens};
@@ -17,7 +17,7 @@ use std::alloc::Global;
 
 /// The first line.
 fn header(first: &[u8], rest: &[&[u8]]) -> Result<Line, ReadLine>
-    ensures { Gives result (header (first.now ∷ texts rest.now)) }
+    ensures { IsReadAs result (header (first.now ∷ texts rest.now)) }
 {
     match rest {
         [second] => {
@@ -46,7 +46,7 @@ pub fn after_equals<'a, 'b>(tokens: &'a [&'b [u8]]) -> Option<&'a [&'b [u8]]>
 
 /// An assignment by an operation.
 fn assigned(alloc: Global, variable: &[u8], op: Op, args: &[&[u8]]) -> Result<Line, ReadLine>
-    ensures { Gives result (assigned variable.now op (texts args.now)) }
+    ensures { IsReadAs result (assigned variable.now op (texts args.now)) }
 {
     if args.len() != op.arity() {
         return Err(ReadLine::Refused(JobKind::BadLine));
@@ -57,7 +57,7 @@ fn assigned(alloc: Global, variable: &[u8], op: Op, args: &[&[u8]]) -> Result<Li
 
 /// An assignment, by what follows its `=`.
 fn assignment(alloc: Global, variable: &[u8], tokens: &[&[u8]]) -> Result<Line, ReadLine>
-    ensures { Gives result (assignment variable.now (texts tokens.now)) }
+    ensures { IsReadAs result (assignment variable.now (texts tokens.now)) }
 {
     let Some((op, args)) = tokens.split_first() else {
         return Err(ReadLine::Refused(JobKind::BadLine));
@@ -70,7 +70,7 @@ fn assignment(alloc: Global, variable: &[u8], tokens: &[&[u8]]) -> Result<Line, 
 
 /// A statement.
 fn statement(alloc: Global, first: &[u8], rest: &[&[u8]]) -> Result<Line, ReadLine>
-    ensures { Gives result (statement first.now (texts rest.now)) }
+    ensures { IsReadAs result (statement first.now (texts rest.now)) }
 {
     match after_equals(rest) {
         Some(tokens) => assignment(alloc, first, tokens),
@@ -83,7 +83,7 @@ fn statement(alloc: Global, first: &[u8], rest: &[&[u8]]) -> Result<Line, ReadLi
 
 /// The line that tokens make at a position.
 fn form(alloc: Global, position: &Position, first: &[u8], rest: &[&[u8]]) -> Result<Line, ReadLine>
-    ensures { Gives result (form position.now first.now (texts rest.now)) }
+    ensures { IsReadAs result (form position.now first.now (texts rest.now)) }
 {
     match position {
         Position::First => header(first, rest),
@@ -122,7 +122,7 @@ pub fn shape(
 ) -> Result<Line, ReadLine>
     requires tokens { texts found.now ≡ tokens text.now }
     requires ascii { IsUtf8 text.now }
-    ensures { Gives result (shape position.now text.now) }
+    ensures { IsReadAs result (shape position.now text.now) }
 {
     if is_note(text) && !position.is_first() {
         return Ok(Line::Note(word(alloc, text)?));

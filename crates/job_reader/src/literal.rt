@@ -2,7 +2,7 @@
 ghost use Rattle.std.specs.Prelude.{◌≡◌, ◌<◌, IfSome, SomeIff};
 ghost use Rattle.std.specs.Char.{digit_value};
 ghost use Rattle.job_reader.specs.Atoms.{decode, literal, IsDecoding};
-ghost use Rattle.job_reader.specs.Faults.{Gives};
+ghost use Rattle.job_reader.specs.Faults.{IsReadAs};
 
 use crate::JobKind;
 use crate::fault::ReadLine;
@@ -84,7 +84,7 @@ fn digit(byte: u8) -> Option<u8>
 /// The record that a literal stands for, by what follows its first quote. BadLine comes exactly where it
 /// is no literal or doesn't fit a record. `O(length)`.
 pub fn read_literal(alloc: Global, rest: &[u8]) -> Result<Record, ReadLine>
-    ensures { Gives result (literal rest.now) }
+    ensures { IsReadAs result (literal rest.now) }
 {
     let mut bytes = Vec::new(alloc);
     let mut inside = Inside::Plain;

@@ -1,6 +1,6 @@
 // Reading a job.
 ghost use Rattle.std.specs.Prelude.{◌≡◌, IfOk, Some, if◌then◌else◌};
-ghost use Rattle.job_reader.specs.Faults.{Gives};
+ghost use Rattle.job_reader.specs.Faults.{IsReadAs};
 ghost use Rattle.job_reader.specs.FirstFault.{balanced, first_fault, is_one_too_many, job_of, line_alone, line_at, opens_block, with_position};
 ghost use Rattle.job_reader.specs.Texts.{texts};
 
@@ -46,7 +46,7 @@ fn line_alone(
     position: &Position,
     bytes: &[u8],
 ) -> Result<Line, ReadLine>
-    ensures { Gives result (line_alone number position.now bytes.now) }
+    ensures { IsReadAs result (line_alone number position.now bytes.now) }
 {
     if !are_allowed(bytes) {
         return Err(ReadLine::Refused(JobKind::BadByte));
@@ -69,7 +69,7 @@ fn balanced(
     position: Position,
     line: Line,
 ) -> Result<(Line, Position), ReadLine>
-    ensures { Gives result (with_position position (balanced is_last position line)) }
+    ensures { IsReadAs result (with_position position (balanced is_last position line)) }
 {
     let is_stray = position.is_stray_else(&line);
     let next = position.after(alloc, &line)?;
@@ -79,7 +79,7 @@ fn balanced(
 
 /// A line and the position after it, where it isn't out of balance.
 fn in_balance(is_out: bool, line: Line, next: Position) -> Result<(Line, Position), ReadLine>
-    ensures { Gives result (if is_out then Err JobKind.Unbalanced else Ok (line, next)) }
+    ensures { IsReadAs result (if is_out then Err JobKind.Unbalanced else Ok (line, next)) }
 {
     if is_out {
         Err(ReadLine::Refused(JobKind::Unbalanced))
@@ -96,7 +96,7 @@ fn read_line(
     position: Position,
     bytes: &[u8],
 ) -> Result<(Line, Position), ReadLine>
-    ensures { Gives result (with_position position (line_at number is_last position bytes.now)) }
+    ensures { IsReadAs result (with_position position (line_at number is_last position bytes.now)) }
 {
     let line = line_alone(alloc, number, &position, bytes)?;
     balanced(alloc, is_last, position, line)

@@ -1,6 +1,6 @@
 // The line that tokens make at a position.
 ghost use Rattle.std.specs.Prelude.{◌≡◌, ◌∷◌};
-ghost use Rattle.job_reader.specs.Faults.{Gives};
+ghost use Rattle.job_reader.specs.Faults.{IsReadAs};
 ghost use Rattle.job_reader.specs.LineShape.{known, name_and_atom, name_and_kind, nothing, one_atom, one_name, spawned, two_names};
 ghost use Rattle.job_reader.specs.LineShape.{do_form, outside_form, task_form, top_form};
 ghost use Rattle.job_reader.specs.Texts.{texts};
@@ -15,7 +15,7 @@ use swan_model::{Kind, Mode, Word};
 
 /// A line that is a word alone.
 fn bare(tokens: &[&[u8]], line: Line) -> Result<Line, ReadLine>
-    ensures { Gives result (nothing line (texts tokens.now)) }
+    ensures { IsReadAs result (nothing line (texts tokens.now)) }
 {
     match tokens {
         [] => Ok(line),
@@ -25,7 +25,7 @@ fn bare(tokens: &[&[u8]], line: Line) -> Result<Line, ReadLine>
 
 /// A name and nothing else.
 fn one_name(alloc: Global, tokens: &[&[u8]]) -> Result<Word, ReadLine>
-    ensures { Gives result (one_name (texts tokens.now)) }
+    ensures { IsReadAs result (one_name (texts tokens.now)) }
 {
     match tokens {
         [token] => read_name(alloc, token),
@@ -35,7 +35,7 @@ fn one_name(alloc: Global, tokens: &[&[u8]]) -> Result<Word, ReadLine>
 
 /// An atom and nothing else.
 fn one_atom(alloc: Global, tokens: &[&[u8]]) -> Result<Atom, ReadLine>
-    ensures { Gives result (one_atom (texts tokens.now)) }
+    ensures { IsReadAs result (one_atom (texts tokens.now)) }
 {
     match tokens {
         [token] => read_atom(alloc, token),
@@ -45,14 +45,14 @@ fn one_atom(alloc: Global, tokens: &[&[u8]]) -> Result<Atom, ReadLine>
 
 /// The kind that a token names. BadLine where it names none.
 fn known_kind(token: &[u8]) -> Result<Kind, ReadLine>
-    ensures { Gives result (known (kind_named token.now)) }
+    ensures { IsReadAs result (known (kind_named token.now)) }
 {
     kind_named(token).ok_or(ReadLine::Refused(JobKind::BadLine))
 }
 
 /// A name, a kind and nothing else.
 fn name_and_kind(alloc: Global, tokens: &[&[u8]]) -> Result<(Word, Kind), ReadLine>
-    ensures { Gives result (name_and_kind (texts tokens.now)) }
+    ensures { IsReadAs result (name_and_kind (texts tokens.now)) }
 {
     match tokens {
         [name, kind] => both(read_name(alloc, name), known_kind(kind)),
@@ -62,7 +62,7 @@ fn name_and_kind(alloc: Global, tokens: &[&[u8]]) -> Result<(Word, Kind), ReadLi
 
 /// Two names and nothing else.
 fn two_names(alloc: Global, tokens: &[&[u8]]) -> Result<(Word, Word), ReadLine>
-    ensures { Gives result (two_names (texts tokens.now)) }
+    ensures { IsReadAs result (two_names (texts tokens.now)) }
 {
     match tokens {
         [first, second] => both(read_name(alloc, first), read_name(alloc, second)),
@@ -72,7 +72,7 @@ fn two_names(alloc: Global, tokens: &[&[u8]]) -> Result<(Word, Word), ReadLine>
 
 /// A name, an atom and nothing else.
 fn name_and_atom(alloc: Global, tokens: &[&[u8]]) -> Result<(Word, Atom), ReadLine>
-    ensures { Gives result (name_and_atom (texts tokens.now)) }
+    ensures { IsReadAs result (name_and_atom (texts tokens.now)) }
 {
     match tokens {
         [name, atom] => both(read_name(alloc, name), read_atom(alloc, atom)),
@@ -82,7 +82,7 @@ fn name_and_atom(alloc: Global, tokens: &[&[u8]]) -> Result<(Word, Atom), ReadLi
 
 /// What follows the word of a spawn: the fuel, the task, and what it is given.
 fn spawned(alloc: Global, tokens: &[&[u8]]) -> Result<(Atom, (Word, Atoms)), ReadLine>
-    ensures { Gives result (spawned (texts tokens.now)) }
+    ensures { IsReadAs result (spawned (texts tokens.now)) }
 {
     match tokens {
         [fuel, task, given @ ..] => both(
@@ -95,7 +95,7 @@ fn spawned(alloc: Global, tokens: &[&[u8]]) -> Result<(Atom, (Word, Atoms)), Rea
 
 /// A line at the top level before the first task.
 pub fn top_line(alloc: Global, word: TopWord, rest: &[&[u8]]) -> Result<Line, ReadLine>
-    ensures { Gives result (top_form word (texts rest.now)) }
+    ensures { IsReadAs result (top_form word (texts rest.now)) }
 {
     match word {
         TopWord::Input => Ok(Line::Input(one_name(alloc, rest)?)),
@@ -113,7 +113,7 @@ pub fn top_line(alloc: Global, word: TopWord, rest: &[&[u8]]) -> Result<Line, Re
 
 /// A line after a task.
 pub fn outside_line(alloc: Global, word: TopWord, rest: &[&[u8]]) -> Result<Line, ReadLine>
-    ensures { Gives result (outside_form word (texts rest.now)) }
+    ensures { IsReadAs result (outside_form word (texts rest.now)) }
 {
     match word {
         TopWord::Task => top_line(alloc, TopWord::Task, rest),
@@ -125,7 +125,7 @@ pub fn outside_line(alloc: Global, word: TopWord, rest: &[&[u8]]) -> Result<Line
 
 /// A line of a task before its statements.
 pub fn task_line(alloc: Global, word: TaskWord, rest: &[&[u8]]) -> Result<Line, ReadLine>
-    ensures { Gives result (task_form word (texts rest.now)) }
+    ensures { IsReadAs result (task_form word (texts rest.now)) }
 {
     if let TaskWord::Do = word {
         return bare(rest, Line::Do);
@@ -148,7 +148,7 @@ pub fn task_line(alloc: Global, word: TaskWord, rest: &[&[u8]]) -> Result<Line, 
 
 /// A statement that is no assignment.
 pub fn do_line(alloc: Global, word: DoWord, rest: &[&[u8]]) -> Result<Line, ReadLine>
-    ensures { Gives result (do_form word (texts rest.now)) }
+    ensures { IsReadAs result (do_form word (texts rest.now)) }
 {
     match word {
         DoWord::Read => {

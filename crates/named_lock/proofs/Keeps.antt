@@ -15,7 +15,7 @@ use Rattle.atomic_table.specs.Table.{State, Me, Act, step, keeps, takes, gives, 
 use Rattle.atomic_table.proofs.Lists.{at_set, at_snoc, at_longer, set_here, set_else, exchanged}
 use Rattle.atomic_table.specs.declared.shared.Seat.{Seat}
 use Rattle.named_lock.specs.declared.rule.View.{View}
-use Rattle.named_lock.specs.Rule.{lock_words, sign_of, stopped_from, seated, spent, rest_of, one_of, joined, total, Fits, IsLock, Kept, took, closed, gave, finished, stopped, looked}
+use Rattle.named_lock.specs.Rule.{lock_words, sign_of, sign_after_stop, seated, spent, rest_of, one_of, joined, total, IsTrueView, IsLock, Kept, took, closed, gave, finished, stopped, looked}
 
 -- the sign of a word
 done_is : (k : ℕ) → is_done (sign_of k) ≡ true → k ≡ 1
@@ -28,7 +28,7 @@ stopped_is zero m e = absurd (true≢false (sym e))
 stopped_is (suc zero) m e = absurd (true≢false (sym e))
 stopped_is (suc (suc k)) m e = omega arith
 
-stopped_as : (k : ℕ) → k ≢ 0 → stopped_from k ≡ sign_of k
+stopped_as : (k : ℕ) → k ≢ 0 → sign_after_stop k ≡ sign_of k
 stopped_as zero e = absurd (e refl)
 stopped_as (suc k) e = refl
 
@@ -95,7 +95,7 @@ module _ {S N : Type 0} (name : S → N) (done : S → Bool) (n : N) (seats : �
 
   -- the seats other than id know what they knew
   others : (word sign word' sign' id holder : ℕ) (views : List (View N)) → (word ≢ 0 → word' ≢ 0) → (sign ≡ 1 → sign' ≡ 1) → (sign ≡ 2 → sign' ≡ 2) → ((u : View N) (j : ℕ) → j ≢ id → get_elem? views j ≡ some u → u.holding ≡ true → sign' ≡ 1 → sign ≡ 1)
-      → ((j : ℕ) (u : View N) → get_elem? views j ≡ some u → Fits word sign n holder j u) → (j : ℕ) (u : View N) → j ≢ id → get_elem? views j ≡ some u → Fits word' sign' n holder j u
+      → ((j : ℕ) (u : View N) → get_elem? views j ≡ some u → IsTrueView word sign n holder j u) → (j : ℕ) (u : View N) → j ≢ id → get_elem? views j ≡ some u → IsTrueView word' sign' n holder j u
   others word sign word' sign' id holder views more stays ends back fits j u ne at = let f = fits j u at in
       (f.0, (λ h. let g = f.1 h in (g.0, g.1, more g.2, λ e. g.3 (back u j ne at h e))), (λ s. stays (f.2 s)), λ s. ends (f.3 s))
 
@@ -118,7 +118,7 @@ module _ {S N : Type 0} (name : S → N) (done : S → Bool) (n : N) (seats : �
             sum = let t = total_set vs id v w at in let s = g.sum in omega arith;
             free = λ z. absurd (omega arith);
             taken = λ _. (w, set_here vs id w (omega (arith, inside vs id v at)), refl);
-            each = all_set (Fits 1 sign n id) vs id w (mine.0, (λ _. (refl, part, (λ z. omega arith), free.3)), mine.2, mine.3)
+            each = all_set (IsTrueView 1 sign n id) vs id w (mine.0, (λ _. (refl, part, (λ z. omega arith), free.3)), mine.2, mine.3)
                 (λ j u ne e. let f = g.each j u e in (f.0, (λ h. absurd ((f.1 h).2 refl)), f.2, f.3));
           },
         ),
@@ -143,7 +143,7 @@ module _ {S N : Type 0} (name : S → N) (done : S → Bool) (n : N) (seats : �
         sum = let t = total_set vs id v w at in let s = g.sum in omega arith;
         free = g.free;
         taken = λ z. still vs g.holder id v w at (λ h. h) (g.taken z);
-        each = all_set (Fits word sign n g.holder) vs id w (mine.0, mine.1, mine.2, mine.3) (λ j u _ e. g.each j u e);
+        each = all_set (IsTrueView word sign n g.holder) vs id w (mine.0, mine.1, mine.2, mine.3) (λ j u _ e. g.each j u e);
       },
     ),
     ((λ z. absurd (busy z)), λ _. refl),
@@ -190,7 +190,7 @@ module _ {S N : Type 0} (name : S → N) (done : S → Bool) (n : N) (seats : �
             sum = let t = total_set vs id v w at in let s = g.sum in omega arith;
             free = λ _. (x, refl, ap (name_of n) (sym named ∙ mine.0 h.1), λ e. owes (h.3 e));
             taken = λ z. absurd (z refl);
-            each = all_set (Fits 0 sign n g.holder) vs id w (mine.0, (λ z. absurd (true≢false (sym z))), mine.2, mine.3)
+            each = all_set (IsTrueView 0 sign n g.holder) vs id w (mine.0, (λ z. absurd (true≢false (sym z))), mine.2, mine.3)
                 (λ j u ne e. let f = g.each j u e in (f.0, (λ z. absurd (ne ((f.1 z).0 ∙ sym h.0))), f.2, f.3));
           },
         ),
@@ -218,7 +218,7 @@ module _ {S N : Type 0} (name : S → N) (done : S → Bool) (n : N) (seats : �
       sum = let t = total_set vs id v w at in let s = g.sum in omega arith;
       free = λ z. let f = g.free z in (f.0, f.1, f.2, λ e. ⊎_elim f.3 (λ h. absurd ((mine.1 h).2 z)) (back e));
       taken = λ z. still vs g.holder id v w at (λ h. same ∙ h) (g.taken z);
-      each = all_set (Fits word sign' n g.holder) vs id w ((λ p. named ∙ mine.0 (omega arith)), (λ h. let f = mine.1 (sym same ∙ h) in (f.0, omega (arith, f.1), f.2, owes h)), saw, met)
+      each = all_set (IsTrueView word sign' n g.holder) vs id w ((λ p. named ∙ mine.0 (omega arith)), (λ h. let f = mine.1 (sym same ∙ h) in (f.0, omega (arith, f.1), f.2, owes h)), saw, met)
           (λ j u ne e. let f = g.each j u e in
           (f.0, (λ h. let k = f.1 h in (k.0, k.1, k.2, λ e'. ⊎_elim k.3 (λ m. absurd (ne (k.0 ∙ sym (mine.1 m).0))) (back e'))), (λ z. stays (f.2 z)), λ z. ends (f.3 z)));
     },
@@ -245,9 +245,9 @@ module _ {S N : Type 0} (name : S → N) (done : S → Bool) (n : N) (seats : �
       (w, keeps, tt, meets id word sign sign v w home vs g at m (λ e. e) (λ e. e) inl refl refl refl (λ _ _. refl) (ap (λ k. v.saw_done || is_done (sign_of k)) (sym two)) (ap (λ k. v.saw_stopped || is_stopped (sign_of k)) (sym two)), ((λ l. absurd (omega arith)), λ _. refl)))))
 
   pub stops : (slots id : ℕ) (v : View N) (c : List (ℕ × Option S)) → Allows Rule slots id (v, c) 16 (λ k. either (eqb k 0) 2 k) (stopped (step slots 16 0 2 none) (v, c))
-  stops slots id v c = allows slots id (v, c) 16 _ (stopped (step slots 16 0 2 none) (v, c)) (λ word sign home vs g at. let mine = g.each id v at in let w : View N = record (learnt v (stopped_from sign)) { stops = v.stops + 1 } in
+  stops slots id v c = allows slots id (v, c) 16 _ (stopped (step slots 16 0 2 none) (v, c)) (λ word sign home vs g at. let mine = g.each id v at in let w : View N = record (learnt v (sign_after_stop sign)) { stops = v.stops + 1 } in
       exchanged sign 0 2 (λ x. (w : View N) × (a : Act (Option S)) × Valid (home ∷ []) c a × Rule record { words = lock_words word x; homes = homes_after (home ∷ []) c a; views = set vs id w } × stopped (step slots 16 0 2 none) (v, c) sign (w, carried_after c a))
-      (λ z. (w, keeps, tt, meets id word sign 2 v w home vs g at (omega arith) (λ e. absurd (omega arith)) (λ _. refl) (λ e. absurd (omega arith)) refl refl refl (λ _ e. absurd (omega arith)) (ap (λ k. v.saw_done || is_done (stopped_from k)) z) (ap (λ k. v.saw_stopped || is_stopped (stopped_from k)) z), refl))
+      (λ z. (w, keeps, tt, meets id word sign 2 v w home vs g at (omega arith) (λ e. absurd (omega arith)) (λ _. refl) (λ e. absurd (omega arith)) refl refl refl (λ _ e. absurd (omega arith)) (ap (λ k. v.saw_done || is_done (sign_after_stop k)) z) (ap (λ k. v.saw_stopped || is_stopped (sign_after_stop k)) z), refl))
       (λ nz. (w, keeps, tt, meets id word sign sign v w home vs g at g.small (λ e. e) (λ e. e) inl refl refl refl (λ h. (mine.1 h).3) (ap (λ k. v.saw_done || is_done k) (stopped_as sign nz)) (ap (λ k. v.saw_stopped || is_stopped k) (stopped_as sign nz)), refl)))
 
   pub looks : (slots id : ℕ) (v : View N) (c : List (ℕ × Option S)) → Allows Rule slots id (v, c) 16 (λ k. k) (looked (step slots 16 0 0 none) (v, c))
@@ -255,7 +255,7 @@ module _ {S N : Type 0} (name : S → N) (done : S → Bool) (n : N) (seats : �
       (w, keeps, tt, meets id word sign sign v w home vs g at g.small (λ e. e) (λ e. e) inl refl refl refl (λ h. (mine.1 h).3) refl refl, (g.small, refl, mine.2, mine.3)))
 
   pub splits : (id : ℕ) (v : View N) → v.holding ≡ false → 0 < v.parts → Splits Rule id v (rest_of v) (one_of v)
-  splits id v idle part s r at = let g = r.5 in let l : View N = rest_of v in let o : View N = one_of v in let mine = g.each id v at in let F = Fits r.0 r.1 n g.holder in
+  splits id v idle part s r at = let g = r.5 in let l : View N = rest_of v in let o : View N = one_of v in let mine = g.each id v at in let F = IsTrueView r.0 r.1 n g.holder in
       let left : All F (set s.views id l) = all_set F s.views id l ((λ _. mine.0 part), (λ h. absurd (true≢false (sym h ∙ idle))), mine.2, mine.3) (λ j u _ e. g.each j u e) in (
         r.0,
         r.1,
@@ -273,7 +273,7 @@ module _ {S N : Type 0} (name : S → N) (done : S → Bool) (n : N) (seats : �
       )
 
   pub joins : (id : ℕ) (v : View N) (other : ℕ) (u : View N) → v.holding ≡ false → u.holding ≡ false → 0 < v.parts → Joins Rule id v other u (joined v u) spent
-  joins id v other u idle idle' part s r at apart at' = let g = r.5 in let b : View N = joined v u in let mine = g.each id v at in let F = Fits r.0 r.1 n g.holder in
+  joins id v other u idle idle' part s r at apart at' = let g = r.5 in let b : View N = joined v u in let mine = g.each id v at in let F = IsTrueView r.0 r.1 n g.holder in
       let was : get_elem? s.views other ≡ some u = ⊎_elim (λ x. absurd (apart x.0)) (λ x. x.1) (at_set s.views id other b u at') in let theirs = g.each other u was in
       let now : All F (set s.views id b) = all_set F s.views id b ((λ _. mine.0 part), (λ h. absurd (true≢false (sym h ∙ idle))), (λ h. ⊎_elim mine.2 theirs.2 (or_cases v.saw_done u.saw_done h)), λ h. ⊎_elim mine.3 theirs.3 (or_cases v.saw_stopped u.saw_stopped h)) (λ j y _ e. g.each j y e) in (
         r.0,
@@ -308,7 +308,7 @@ module _ {S N : Type 0} (name : S → N) (done : S → Bool) (n : N) (seats : �
       sum = omega arith;
       free = λ _. (x, refl, is, λ e. absurd (omega arith));
       taken = λ z. absurd (z refl);
-      each = λ j u e. subst (Fits 0 0 n 0 j) (one_seat (seated seats n) j u e) ((λ _. refl), (λ h. absurd (true≢false (sym h))), (λ h. absurd (true≢false (sym h))), λ h. absurd (true≢false (sym h)));
+      each = λ j u e. subst (IsTrueView 0 0 n 0 j) (one_seat (seated seats n) j u e) ((λ _. refl), (λ h. absurd (true≢false (sym h))), (λ h. absurd (true≢false (sym h))), λ h. absurd (true≢false (sym h)));
     },
   )
 

@@ -21,9 +21,9 @@ sign_of (suc zero) = Done
 sign_of (suc (suc n)) = Stopped
 
 -- the sign once a stop has found this word
-abbrev pub stopped_from : ℕ → Sign
-stopped_from zero = Stopped
-stopped_from (suc n) = sign_of (suc n)
+abbrev pub sign_after_stop : ℕ → Sign
+sign_after_stop zero = Stopped
+sign_after_stop (suc n) = sign_of (suc n)
 
 module _ {N : Type 0} where
   -- a seat that stands for so many, and has done nothing
@@ -51,8 +51,8 @@ module _ {N : Type 0} where
   total (v ∷ vs) = v.parts + total vs
 
   -- what the seat of number j knows is so
-  abbrev pub Fits : (word sign : ℕ) → N → (holder j : ℕ) → View N → Type 0
-  Fits word sign name holder j v =
+  abbrev pub IsTrueView : (word sign : ℕ) → N → (holder j : ℕ) → View N → Type 0
+  IsTrueView word sign name holder j v =
       (0 < v.parts → v.name ≡ Some name)
       × (v.holding ≡ true → (j ≡ holder) × (0 < v.parts) × (word ≢ 0) × (sign ≡ 1 → v.owes_done ≡ true))
       × (v.saw_done ≡ true → sign ≡ 1)
@@ -66,7 +66,7 @@ module _ {S N : Type 0} (name : S → N) (done : S → Bool) where
     pub sum : total views ≡ seats
     pub free : word ≡ 0 → (x : S) × (home ≡ some (Some x)) × (name x ≡ named) × (sign ≡ 1 → done x ≡ true)
     pub taken : word ≢ 0 → (v : View N) × (get_elem? views holder ≡ some v) × (v.holding ≡ true)
-    pub each : (j : ℕ) (v : View N) → get_elem? views j ≡ some v → Fits word sign named holder j v
+    pub each : (j : ℕ) (v : View N) → get_elem? views j ≡ some v → IsTrueView word sign named holder j v
 
   abbrev pub Kept : N → ℕ → State (Option S) (View N) → Type 0
   Kept named seats s = (word : ℕ) × (sign : ℕ) × (home : Maybe (Option S)) × (s.words ≡ lock_words word sign) × (s.homes ≡ home ∷ []) × IsLock named seats word sign home s.views
@@ -90,7 +90,7 @@ module _ {S N : Type 0} where
       × (2 ≤ found → m' ≡ (record (learnt m.0 Stopped) { owes_done = true }, m.1))
 
   abbrev pub stopped : Step (Option S) → Me (Option S) (View N) → ℕ → Me (Option S) (View N) → Type 0
-  stopped st m found m' = m' ≡ (record (learnt m.0 (stopped_from found)) { stops = m.0.stops + 1 }, m.1)
+  stopped st m found m' = m' ≡ (record (learnt m.0 (sign_after_stop found)) { stops = m.0.stops + 1 }, m.1)
 
   abbrev pub looked : Step (Option S) → Me (Option S) (View N) → ℕ → Me (Option S) (View N) → Type 0
   looked st m found m' = (found ≤ 2) × (m' ≡ (learnt m.0 (sign_of found), m.1)) × (m.0.saw_done ≡ true → found ≡ 1) × (m.0.saw_stopped ≡ true → found ≡ 2)

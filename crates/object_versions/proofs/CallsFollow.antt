@@ -16,7 +16,7 @@ use Rattle.swan_model.specs.Readings.{at_start, gone_on, next_deed, with_object}
 use Rattle.swan_model.specs.Rights.{allows}
 use Rattle.swan_model.specs.SerialTime.{Progress, Reading, frame_of, point, times, version}
 use Rattle.swan_model.specs.Told.{cell}
-use Rattle.swan_model.specs.Versions.{Version, settled, Placed, VersionState, IsSettled, placed_at, new_versions, after_create, after_write, after_finish}
+use Rattle.swan_model.specs.Versions.{Version, settled, Placed, VersionState, IsSettled, placed_at, new_versions, objects_after_create, after_write, objects_after_finish}
 use Rattle.swan_model.specs.VersionsFollow.{ObjectsFollow, IsVersionAt}
 use Rattle.object_versions.proofs.FinishFollows.{finish_follows}
 use Rattle.object_versions.proofs.MakeFollows.{made_object_follows, new_follow, root_object_follows}
@@ -30,13 +30,13 @@ new_follows now is = λ s queues lawful. subst (ObjectsFollow s (at_start queues
 
 -- ---- `create`
 
-pub create_root : (old now : VersionState) (frame place : ℕ) (first : Value) → placed_at old frame place ≡ None → now ≡ after_create old frame place first
+pub create_root : (old now : VersionState) (frame place : ℕ) (first : Value) → placed_at old frame place ≡ None → now ≡ objects_after_create old frame place first
     → (s : Script) (r : Reading) (root : Progress) → IsLawful s → ObjectsFollow s r old → frame ≡ 0 → frame_of r 0 ≡ Some root → root.done ≡ 0
     → slice_get s.objects old.made ≡ Some first → ObjectsFollow s (with_object r (Root old.made)) now
 create_root old now frame place first free is = λ s r root lawful follows own known start object.
     subst (ObjectsFollow s (with_object r (Root old.made))) (sym is) (root_object_follows s r old frame place first root free lawful follows own known start object)
 
-pub create_made : (old now : VersionState) (frame place : ℕ) (first : Value) → placed_at old frame place ≡ None → now ≡ after_create old frame place first
+pub create_made : (old now : VersionState) (frame place : ℕ) (first : Value) → placed_at old frame place ≡ None → now ≡ objects_after_create old frame place first
     → (s : Script) (r : Reading) (maker : Progress) → IsLawful s → ObjectsFollow s r old → frame_of r frame ≡ Some maker → next_deed s maker ≡ Some (deed.MakeObject first)
     → ObjectsFollow s (with_object (gone_on r frame) (Step (point s maker))) now
 create_made old now frame place first free is = λ s r maker lawful follows known next.
@@ -76,7 +76,7 @@ write_told old now frame place value is = λ s r writer object origin lawful fol
 
 -- ---- `finish`
 
-pub finish_told : (old now : VersionState) (frame : ℕ) → IsSettled old frame → now ≡ after_finish old frame
+pub finish_told : (old now : VersionState) (frame : ℕ) → IsSettled old frame → now ≡ objects_after_finish old frame
     → (s : Script) (r : Reading) (ended : Progress) → IsLawful s → ObjectsFollow s r old → frame_of r frame ≡ Some ended → ended.done ≡ length (times s ended.path) → ObjectsFollow s r now
 finish_told old now frame all is = λ s r ended lawful follows known done.
     subst (ObjectsFollow s r) (sym is) (finish_follows s r old frame ended all follows known done)

@@ -11,7 +11,7 @@ use Rattle.swan_model.specs.Readings.{end_time}
 use Rattle.swan_model.specs.Rights.{allows}
 use Rattle.swan_model.specs.SerialTime.{Progress, Reading, frame_of, point, time, times}
 use Rattle.swan_model.specs.Told.{cell}
-use Rattle.swan_model.specs.Versions.{Version, settled, owed, Placed, VersionState, IsSettled, placed_at, after_finish, left_by, settle, settle_placed, still_owing}
+use Rattle.swan_model.specs.Versions.{Version, settled, owed, Placed, VersionState, IsSettled, placed_at, objects_after_finish, left_by, settle, settle_placed, still_owing}
 use Rattle.swan_model.specs.VersionsFollow.{ObjectsFollow, FollowsAt, IsVersionAt}
 use Rattle.object_versions.proofs.FinishPlaces.{after_kept, leaves_from, sorted_kept, still_kept}
 use Rattle.object_versions.proofs.Moves.{Owes}
@@ -94,7 +94,7 @@ module _ (s : Script) (r : Reading) (state : VersionState) (n : ℕ) (ended : Pr
         let same : other ≡ frame = cc in
         (e, λ f. apart (same ∙ f))
 
-  follows_kept : (number place : ℕ) (frame : Progress) (has : Placed) (origin : Origin) → frame_of r number ≡ Some frame → placed_at (after_finish state n) number place ≡ Some has
+  follows_kept : (number place : ℕ) (frame : Progress) (has : Placed) (origin : Origin) → frame_of r number ≡ Some frame → placed_at (objects_after_finish state n) number place ≡ Some has
       → slice_get r.objects has.object ≡ Some origin → FollowsAt s r frame has origin
   follows_kept number place frame has origin is stands made =
       let kept = after_kept state n number place has stands in
@@ -126,15 +126,15 @@ module _ (s : Script) (r : Reading) (state : VersionState) (n : ℕ) (ended : Pr
         (inr was.0, was.1)
   ]
 
-  owing_kept : (number place frame : ℕ) (has : Placed) → placed_at (after_finish state n) number place ≡ Some has → Owes has frame
-      → (other : ℕ) × (own : Placed) × (placed_at (after_finish state n) frame other ≡ Some own) × (own.object ≡ has.object) × (allows own.mode Out ≡ true)
+  owing_kept : (number place frame : ℕ) (has : Placed) → placed_at (objects_after_finish state n) number place ≡ Some has → Owes has frame
+      → (other : ℕ) × (own : Placed) × (placed_at (objects_after_finish state n) frame other ≡ Some own) × (own.object ≡ has.object) × (allows own.mode Out ≡ true)
   owing_kept number place frame has stands owes =
       let kept = after_kept state n number place has stands in
       let was = owed_before number place frame kept.was kept.stood (subst (λ o. Owes o frame) kept.now owes) in
       let own = follows.owing number place frame kept.was kept.stood was.0 in
       (own.0, settle_placed state n own.1, still_kept state n frame own.0 own.1 own.2 was.1, own.3 ∙ sym (ap (λ o. o.object) kept.now), own.4)
 
-  pub finish_follows : ObjectsFollow s r (after_finish state n)
+  pub finish_follows : ObjectsFollow s r (objects_after_finish state n)
   finish_follows = record {
     tasks = follows.tasks;
     root = follows.root;

@@ -13,7 +13,7 @@ use Rattle.std.specs.Map.{keys_of}
 use Rattle.std.specs.Option.{option_map}
 use Rattle.swan_model.specs.declared.rights.Mode.TheVariants.{Out}
 use Rattle.swan_model.specs.Rights.{allows}
-use Rattle.swan_model.specs.Versions.{Placed, Places, VersionState, place_cmp, placed_at, after_finish, settle_placed, stays, may_write, left_by}
+use Rattle.swan_model.specs.Versions.{Placed, Places, VersionState, place_cmp, placed_at, objects_after_finish, settle_placed, stays, may_write, left_by}
 use Rattle.object_versions.proofs.Lookups.{equal_at, place_total}
 
 -- whether a frame's places are still kept once the frame n has ended
@@ -23,7 +23,7 @@ keeps n key = (nat_eq n 0) || not (nat_eq key.0 n)
 keeps_same : (n : ℕ) (k q : ℕ × ℕ) → is_at (place_cmp q) k ≡ true → keeps n k ≡ keeps n q
 keeps_same n k q is = ap (keeps n) (sym (equal_at q k is))
 
-pub found_kept : (state : VersionState) (n f p : ℕ) → placed_at (after_finish state n) f p ≡ option_map (settle_placed state n) (cond (keeps n (f, p)) (placed_at state f p) None)
+pub found_kept : (state : VersionState) (n f p : ℕ) → placed_at (objects_after_finish state n) f p ≡ option_map (settle_placed state n) (cond (keeps n (f, p)) (placed_at state f p) None)
 found_kept state n f p =
     lookup-map_values (settle_placed state n) (is_at (place_cmp (f, p))) (filter (stays n) state.places)
     ∙ ap (option_map (settle_placed state n)) (lookup-filter-keys (is_at (place_cmp (f, p))) (keeps n) (keeps n (f, p)) (λ k is. keeps_same n k (f, p) is) state.places)
@@ -34,14 +34,14 @@ pub record IsKept (state : VersionState) (n f p : ℕ) (has : Placed) : Type 0 w
   pub stood : placed_at state f p ≡ Some was
   pub now : has ≡ settle_placed state n was
 
-pub after_kept : (state : VersionState) (n f p : ℕ) (has : Placed) → placed_at (after_finish state n) f p ≡ Some has → IsKept state n f p has
+pub after_kept : (state : VersionState) (n f p : ℕ) (has : Placed) → placed_at (objects_after_finish state n) f p ≡ Some has → IsKept state n f p has
 after_kept state n f p has is = by (keeps n (f, p)) (placed_at state f p) refl (sym (found_kept state n f p) ∙ is) where
   by : (b : Bool) (o : Option Placed) → placed_at state f p ≡ o → option_map (settle_placed state n) (cond b o None) ≡ Some has → IsKept state n f p has
   by true None stood e = absurd (cc)
   by true (Some was) stood e = record { was = was; stood = stood; now = let s : has ≡ settle_placed state n was = cc in s }
   by false o stood e = absurd (cc)
 
-pub still_kept : (state : VersionState) (n f p : ℕ) (was : Placed) → placed_at state f p ≡ Some was → f ≢ n → placed_at (after_finish state n) f p ≡ Some (settle_placed state n was)
+pub still_kept : (state : VersionState) (n f p : ℕ) (was : Placed) → placed_at state f p ≡ Some was → f ≢ n → placed_at (objects_after_finish state n) f p ≡ Some (settle_placed state n was)
 still_kept state n f p was stood apart =
     let differs : nat_eq f n ≡ false = ne_eqb f n apart in
     found_kept state n f p
@@ -60,9 +60,9 @@ filter_keys p (e ∷ es) = by (p e.0) ∙ ap (λ ks. cond (p e.0) (e.0 ∷ ks) k
   by true = refl
   by false = refl
 
-pub sorted_kept : (state : VersionState) (n : ℕ) → IsStrictlySortedBy place_cmp (keys_of state.places) → IsStrictlySortedBy place_cmp (keys_of (after_finish state n).places)
+pub sorted_kept : (state : VersionState) (n : ℕ) → IsStrictlySortedBy place_cmp (keys_of state.places) → IsStrictlySortedBy place_cmp (keys_of (objects_after_finish state n).places)
 sorted_kept state n sorted =
-    let same : keys_of (after_finish state n).places ≡ filter (keeps n) (keys_of state.places) =
+    let same : keys_of (objects_after_finish state n).places ≡ filter (keeps n) (keys_of state.places) =
     keys_of-map_values (settle_placed state n) (filter (stays n) state.places) ∙ filter_keys (keeps n) state.places in
     subst (λ keys. IsStrictlySortedBy place_cmp keys) (sym same) (IsStrictlySortedBy-filter place_cmp (keeps n) (keys_of state.places) sorted)
 

@@ -5,7 +5,7 @@ use Rattle.std.proofs.lemmas.Bool.Decides.{nat_tests}
 use Rattle.std.specs.Option.{unwrap_or}
 use Rattle.slab.specs.Slab.{Slab}
 use Rattle.swan_model.specs.declared.value.Value.{Value}
-use Rattle.swan_model.specs.Versions.{Version, settled, owed, owing, Placed, Places, VersionState, settle, settle_placed, still_owing, left_by, stays, after_finish}
+use Rattle.swan_model.specs.Versions.{Version, settled, owed, owing, Placed, Places, VersionState, settle, settle_placed, still_owing, left_by, stays, objects_after_finish}
 use Rattle.object_versions.specs.declared.node.Node.{Node}
 use Rattle.object_versions.specs.declared.placed_object.PlacedObject.{PlacedObject}
 use Rattle.object_versions.specs.Store.{Entries, place_at, version_at, object_at, given_of, placed_of, seen, versions_of, uses}
@@ -130,7 +130,7 @@ module _ (entries : Entries) (start now : Slab Node) (made n : ℕ) (begun : IsS
   each_ended places = map (λ (entry : (ℕ × ℕ) × Placed). (entry.0, settle_placed before n entry.1)) places
 
   -- the root's places stay
-  pub root_finished : n ≡ 0 → versions_of entries now made ≡ after_finish before n
+  pub root_finished : n ≡ 0 → versions_of entries now made ≡ objects_after_finish before n
   root_finished root =
       let stay = all_stay n (map (seen start) entries) (eq-eqb n 0 root) in
       let places : map (seen now) entries ≡ each_ended (filter (stays n) (map (seen start) entries)) =
@@ -139,7 +139,7 @@ module _ (entries : Entries) (start now : Slab Node) (made n : ℕ) (begun : IsS
 
   -- another frame's are forgotten
   pub frame_finished : (n ≡ 0 → ⊥) → (later : Entries) (new : Slab Node) → IsForgetting entries later now new made n → ((place : ℕ) → place_at later n place ≡ None)
-      → versions_of later new made ≡ after_finish before n
+      → versions_of later new made ≡ objects_after_finish before n
   frame_finished other later new forgotten none =
       let left : later ≡ of_others n entries = sym (all_others n later none) ∙ forgotten.others in
       let same = seen_same now new later forgotten.same in

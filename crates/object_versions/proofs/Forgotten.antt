@@ -11,7 +11,7 @@ use Rattle.swan_model.specs.declared.value.Value.{Value}
 use Rattle.swan_model.specs.Versions.{settled, owed, owing, place_cmp, after_access}
 use Rattle.object_versions.specs.declared.node.Node.{Node}
 use Rattle.object_versions.specs.declared.placed_object.PlacedObject.{PlacedObject}
-use Rattle.object_versions.specs.Store.{Entries, place_at, version_at, given_of, KeepsOwed, placed_of, seen, versions_of, one, one_of, uses_of, released}
+use Rattle.object_versions.specs.Store.{Entries, place_at, version_at, given_of, KeepsOwed, placed_of, seen, versions_of, one, one_of, uses_of, after_release}
 use Rattle.object_versions.specs.Whole.{IsFit, HasOwing, IsWhole}
 use Rattle.object_versions.proofs.Counts.{one_self, one_other, uses_at}
 use Rattle.object_versions.proofs.Steps.{change_in}
@@ -22,7 +22,7 @@ use Rattle.swan_model.proofs.Elements.{some_is}
 module _ (entries later : Entries) (old new : Slab Node) (made f p key : ℕ) (was : PlacedObject) (value : Value) (whole : IsWhole entries old made (λ _. 0))
     (stands : place_at entries f p ≡ Some was) (given : was.given ≡ Some key) (reads : version_at old key ≡ settled value)
     (set : later ≡ set_value (is_at (place_cmp (f, p))) entries (record was { given = None })) (sorted : IsStrictlySortedBy place_cmp (keys_of later))
-    (release : (node : Node) → get old key ≡ Some node → Updates old new key (released node)) where
+    (release : (node : Node) → get old key ≡ Some node → Updates old new key (after_release node)) where
   abbrev less : PlacedObject
   less = record was { given = None }
 

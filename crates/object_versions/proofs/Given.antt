@@ -7,7 +7,7 @@ use Rattle.slab.specs.Slab.{Slab, get, Updates}
 use Rattle.swan_model.specs.Versions.{owed, place_cmp, with_present, with_placed}
 use Rattle.object_versions.specs.declared.node.Node.{Node}
 use Rattle.object_versions.specs.declared.placed_object.PlacedObject.{PlacedObject}
-use Rattle.object_versions.specs.Store.{Entries, place_at, told_at, version_at, placed_of, seen, versions_of, one, uses_of, uses, released}
+use Rattle.object_versions.specs.Store.{Entries, place_at, told_at, version_at, placed_of, seen, versions_of, one, uses_of, uses, after_release}
 use Rattle.object_versions.specs.Whole.{IsFit, HasOwing, IsWhole, MayGetAt}
 use Rattle.object_versions.proofs.Commuting.{insert_set}
 use Rattle.object_versions.proofs.Lookups.{at_inserted, still_inserted}
@@ -33,7 +33,7 @@ module _ (entries with_child later : Entries) (old middle new : Slab Node) (made
     (owing : (k frame : ℕ) → 0 < uses_of k gets → version_at middle k ≡ owed frame → HasOwing entries k frame ⊎ ((frame ≡ child) × (gets.owes ≡ Some k)))
     (put : with_child ≡ insert_entry place_cmp entries (child, cp) gets) (sorted_child : IsStrictlySortedBy place_cmp (keys_of with_child))
     (set : later ≡ set_value (is_at (place_cmp (parent, pp))) with_child (record was { present = key })) (sorted : IsStrictlySortedBy place_cmp (keys_of later))
-    (release : (node : Node) → get middle was.present ≡ Some node → Updates middle new was.present (released node)) where
+    (release : (node : Node) → get middle was.present ≡ Some node → Updates middle new was.present (after_release node)) where
   abbrev come : Entries
   come = insert_entry place_cmp entries (child, cp) gets
 

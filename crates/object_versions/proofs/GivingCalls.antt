@@ -5,7 +5,7 @@ use Rattle.swan_model.specs.declared.script.Script.{Script}
 use Rattle.swan_model.specs.Lawful.{IsLawful}
 use Rattle.swan_model.specs.Readings.{gone_on, next_deed, reading_after_spawn, with_object}
 use Rattle.swan_model.specs.SerialTime.{Progress, Reading, frame_of, point, times}
-use Rattle.swan_model.specs.Versions.{Holds, IsSettled, MayGet, Placed, VersionState, placed_at, after_access, after_create, after_finish, after_write}
+use Rattle.swan_model.specs.Versions.{Holds, IsSettled, MayGet, Placed, VersionState, placed_at, after_access, objects_after_create, objects_after_finish, after_write}
 use Rattle.swan_model.specs.VersionsFollow.{Access, ObjectsFollow, IsGiving}
 use Rattle.swan_model.proofs.MovedFrames.{frame_number}
 use Rattle.object_versions.proofs.GivingAccess.{one_more_given}
@@ -71,7 +71,7 @@ access_last old now parent parent_place child child_place mode held free alone i
 
 -- ---- other frames
 
-pub made_giving : (old now : VersionState) (frame place : ℕ) (first : Value) → placed_at old frame place ≡ None → now ≡ after_create old frame place first
+pub made_giving : (old now : VersionState) (frame place : ℕ) (first : Value) → placed_at old frame place ≡ None → now ≡ objects_after_create old frame place first
     → (s : Script) (r : Reading) (maker giver : Progress) (child : ℕ) (made left : List Access) → IsLawful s → frame ≢ giver.number → frame ≢ child
     → IsGiving s r old giver child made left → frame_of r frame ≡ Some maker → next_deed s maker ≡ Some (deed.MakeObject first)
     → IsGiving s (with_object (gone_on r frame) (Step (point s maker))) now giver child made left
@@ -88,7 +88,7 @@ written_giving old now frame place value is = λ s r writer giver child made lef
     write_giving old now frame place value is s r object giver child made left stands not_giver not_child giving
     (write_told old now frame place value is s r writer object origin lawful giving.follows known stands may of next)
 
-pub finished_giving : (old now : VersionState) (frame : ℕ) → IsSettled old frame → now ≡ after_finish old frame
+pub finished_giving : (old now : VersionState) (frame : ℕ) → IsSettled old frame → now ≡ objects_after_finish old frame
     → (s : Script) (r : Reading) (ended giver : Progress) (child : ℕ) (made left : List Access) → IsLawful s → frame ≢ giver.number → frame ≢ child
     → IsGiving s r old giver child made left → frame_of r frame ≡ Some ended → ended.done ≡ length (times s ended.path)
     → IsGiving s r now giver child made left

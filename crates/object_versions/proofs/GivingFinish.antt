@@ -7,7 +7,7 @@ use Rattle.swan_model.specs.declared.rights.Mode.{Mode}
 use Rattle.swan_model.specs.declared.rights.Mode.TheVariants.{In, Out, InOut, Push, Pop, PushPop}
 use Rattle.swan_model.specs.declared.script.Script.{Script}
 use Rattle.swan_model.specs.SerialTime.{Progress, Reading, frame_of, point, times}
-use Rattle.swan_model.specs.Versions.{Version, settled, owed, Placed, VersionState, IsSettled, owing, placed_at, after_finish, settle, settle_placed, still_owing}
+use Rattle.swan_model.specs.Versions.{Version, settled, owed, Placed, VersionState, IsSettled, owing, placed_at, objects_after_finish, settle, settle_placed, still_owing}
 use Rattle.swan_model.specs.VersionsFollow.{Access, Begins, ObjectsFollow, IsGiving, IsVersionAt}
 use Rattle.object_versions.proofs.FinishFollows.{other_stays, still_owed, owing_other, right, settle_at, settled_by, still_given}
 use Rattle.object_versions.proofs.FinishPlaces.{after_kept, still_kept}
@@ -16,7 +16,7 @@ use Rattle.object_versions.proofs.GivingKept.{IsAboveKept, IsBelowKept, IsUngive
 owing_own : (n other : ℕ) → other ≡ n → still_owing n (Some other) ≡ None
 owing_own n other same = ap (λ b. cond b None (Some other)) (eq-eqb other n same)
 
-finish_ungiven : (old : VersionState) (n child : ℕ) → IsUngiven old child → IsUngiven (after_finish old n) child
+finish_ungiven : (old : VersionState) (n child : ℕ) → IsUngiven old child → IsUngiven (objects_after_finish old n) child
 finish_ungiven old n child ungiven = λ number place has stands given.
     let kept = after_kept old n number place has stands in
     ungiven number place kept.was kept.stood (still_given n child kept.was.given (sym (ap (λ (o : Placed). o.given) kept.now) ∙ given)).0
@@ -54,7 +54,7 @@ module _ (s : Script) (r : Reading) (state : VersionState) (n : ℕ) (ended : Pr
   begins_still place child object origin t stands made Pop is = lent_kept child place object origin t object.present object.given stands made refl is
   begins_still place child object origin t stands made PushPop is = lent_kept child place object origin t object.present object.given stands made refl is
 
-  owes_before : (child number place : ℕ) (has : Placed) → placed_at (after_finish state n) number place ≡ Some has → has.present ≡ owed child
+  owes_before : (child number place : ℕ) (has : Placed) → placed_at (objects_after_finish state n) number place ≡ Some has → has.present ≡ owed child
       → (was : Placed) × (placed_at state number place ≡ Some was) × (was.present ≡ owed child)
   owes_before child number place has stands owes =
       let kept = after_kept state n number place has stands in
@@ -62,7 +62,7 @@ module _ (s : Script) (r : Reading) (state : VersionState) (n : ℕ) (ended : Pr
       (sym (ap (λ (o : Placed). o.present) kept.now) ∙ owes) in
       (kept.was, kept.stood, was.0)
 
-  above : (giver child : ℕ) → n ≢ giver → n ≢ child → (place : ℕ) (was : Placed) → placed_at state giver place ≡ Some was → IsAboveKept (after_finish state n) giver place child was
+  above : (giver child : ℕ) → n ≢ giver → n ≢ child → (place : ℕ) (was : Placed) → placed_at state giver place ≡ Some was → IsAboveKept (objects_after_finish state n) giver place child was
   above giver child not_giver not_child place was is = record {
     now = settle_placed state n was;
     stands = still_kept state n giver place was is (λ e. not_giver (sym e));
@@ -72,7 +72,7 @@ module _ (s : Script) (r : Reading) (state : VersionState) (n : ℕ) (ended : Pr
     owes = λ owes. ap (settle state n was.object) owes ∙ other_stays s r state n ended all_settled follows known all was.object child (λ e. not_child (sym e));
   }
 
-  below : (child t : ℕ) → n ≢ child → (place : ℕ) (was : Placed) → placed_at state child place ≡ Some was → IsBelowKept s r r (after_finish state n) child place t was
+  below : (child t : ℕ) → n ≢ child → (place : ℕ) (was : Placed) → placed_at state child place ≡ Some was → IsBelowKept s r r (objects_after_finish state n) child place t was
   below child t not_child place was is = record {
     now = settle_placed state n was;
     stands = still_kept state n child place was is (λ e. not_child (sym e));
@@ -83,12 +83,12 @@ module _ (s : Script) (r : Reading) (state : VersionState) (n : ℕ) (ended : Pr
   }
 
 -- a frame ended
-pub finish_giving : (old now : VersionState) (n : ℕ) → IsSettled old n → now ≡ after_finish old n
+pub finish_giving : (old now : VersionState) (n : ℕ) → IsSettled old n → now ≡ objects_after_finish old n
     → (s : Script) (r : Reading) (ended giver : Progress) (child : ℕ) (made left : List Access) → frame_of r n ≡ Some ended → ended.done ≡ length (times s ended.path)
     → n ≢ giver.number → n ≢ child → IsGiving s r old giver child made left → ObjectsFollow s r now → IsGiving s r now giver child made left
 finish_giving old now n all is = λ s r ended giver child made left known done not_giver not_child giving follows.
     subst (λ state. IsGiving s r state giver child made left) (sym is)
-    (giving_kept s r r old (after_finish old n) giver child (λ object origin has. has)
+    (giving_kept s r r old (objects_after_finish old n) giver child (λ object origin has. has)
     (above s r old n ended all giving.follows known done giver.number child not_giver not_child)
     (below s r old n ended all giving.follows known done child (point s giver) not_child)
     made left giving (subst (ObjectsFollow s r) is follows) giving.unread

@@ -11,7 +11,7 @@ use Rattle.swan_model.specs.Versions.{owed, owing, place_cmp, after_access, give
 use Rattle.object_versions.specs.declared.node.Node.{Node}
 use Rattle.object_versions.specs.declared.node.NodeState.TheVariants.{Owed}
 use Rattle.object_versions.specs.declared.placed_object.PlacedObject.{PlacedObject}
-use Rattle.object_versions.specs.Store.{Entries, place_at, told_at, version_at, placed_of, versions_of, one, uses_of, uses, released}
+use Rattle.object_versions.specs.Store.{Entries, place_at, told_at, version_at, placed_of, versions_of, one, uses_of, uses, after_release}
 use Rattle.object_versions.specs.Whole.{IsFit, HasOwing, IsWhole, MayGetAt}
 use Rattle.object_versions.proofs.Counts.{one_self, one_other, told_here, uses_at, present_used, unused}
 use Rattle.object_versions.proofs.References.{shared_whole, shared_told, made_whole, made_told}
@@ -84,7 +84,7 @@ module _ (entries with_child later : Entries) (old shared middle new : Slab Node
 
   module _ (put : with_child ≡ insert_entry place_cmp entries (child, cp) gets) (sorted_child : IsStrictlySortedBy place_cmp (keys_of with_child))
       (set : later ≡ set_value (is_at (place_cmp (parent, pp))) with_child (record was { present = key })) (sorted : IsStrictlySortedBy place_cmp (keys_of later))
-      (release : (node : Node) → get middle was.present ≡ Some node → Updates middle new was.present (released node)) where
+      (release : (node : Node) → get middle was.present ≡ Some node → Updates middle new was.present (after_release node)) where
     pub changed_whole : IsWhole later new made (λ _. 0)
     changed_whole = given_whole entries with_child later old middle new made parent pp child cp key was gets differ with_key same told_key stands free fit may refl owing_some
         put sorted_child set sorted release

@@ -8,7 +8,7 @@ use Rattle.swan_model.specs.declared.value.Value.{Value}
 use Rattle.swan_model.specs.Readings.{gone_on, with_object}
 use Rattle.swan_model.specs.SerialTime.{Progress, Reading, frame_of, point}
 use Rattle.swan_model.specs.Values.{kind_of}
-use Rattle.swan_model.specs.Versions.{Version, settled, owed, Placed, VersionState, placed_at, with_placed, with_present, written_at, after_create, after_write}
+use Rattle.swan_model.specs.Versions.{Version, settled, owed, Placed, VersionState, placed_at, with_placed, with_present, written_at, objects_after_create, after_write}
 use Rattle.swan_model.specs.VersionsFollow.{Access, ObjectsFollow, IsGiving}
 use Rattle.swan_model.proofs.Elements.{before_more}
 use Rattle.object_versions.proofs.Differ.{settled_not-owed}
@@ -73,7 +73,7 @@ module _ (s : Script) (r after : Reading) (old new : VersionState) (giver : Prog
 abbrev made_object : VersionState → Value → Placed
 made_object state value = record { object = state.made; kind = kind_of value; mode = InOut; given = None; present = settled value }
 
-create_owes : (old : VersionState) (frame place : ℕ) (first : Value) (child number other : ℕ) (has : Placed) → placed_at (after_create old frame place first) number other ≡ Some has → Owes has child
+create_owes : (old : VersionState) (frame place : ℕ) (first : Value) (child number other : ℕ) (has : Placed) → placed_at (objects_after_create old frame place first) number other ≡ Some has → Owes has child
     → placed_at old number other ≡ Some has
 create_owes old frame place first child number other has stands owes = elim (after_placed old frame place (made_object old first) number other has stands) [
   | inl here ↦ elim owes [
@@ -84,13 +84,13 @@ create_owes old frame place first child number other has stands owes = elim (aft
 ]
 
 -- a frame made an object
-pub create_giving : (old now : VersionState) (frame place : ℕ) (first : Value) → now ≡ after_create old frame place first
+pub create_giving : (old now : VersionState) (frame place : ℕ) (first : Value) → now ≡ objects_after_create old frame place first
     → (s : Script) (r : Reading) (origin : Origin) (giver : Progress) (child : ℕ) (made left : List Access) → frame ≢ giver.number → frame ≢ child
     → IsGiving s r old giver child made left → ObjectsFollow s (with_object (gone_on r frame) origin) now → IsGiving s (with_object (gone_on r frame) origin) now giver child made left
 create_giving old now frame place first is = λ s r origin giver child made left not_giver not_child giving follows.
     let then : Reading = with_object (gone_on r frame) origin in
     subst (λ state. IsGiving s then state giver child made left) (sym is)
-    (others_leave s r then old (after_create old frame place first) giver child made left giving (subst (ObjectsFollow s then) is follows) (unread_still r frame child giving.unread)
+    (others_leave s r then old (objects_after_create old frame place first) giver child made left giving (subst (ObjectsFollow s then) is follows) (unread_still r frame child giving.unread)
     (λ p was stands number now owes there. same_task r frame number now (gone_back r frame number now there))
     (λ object of has. before_more r.objects origin object of has)
     (λ p. placed_elsewhere old frame place (made_object old first) giver.number p not_giver)

@@ -23,7 +23,7 @@ use Rattle.swan_model.specs.Rights.{allows}
 use Rattle.swan_model.specs.SerialTime.{Progress, Reading, frame_of, is_done, is_of, places_from, point, time, times}
 use Rattle.swan_model.specs.Told.{cell, cell_from, is_same, made}
 use Rattle.swan_model.specs.Values.{kind_of}
-use Rattle.swan_model.specs.Versions.{settled, Placed, VersionState, placed_at, new_versions, after_create}
+use Rattle.swan_model.specs.Versions.{settled, Placed, VersionState, placed_at, new_versions, objects_after_create}
 use Rattle.swan_model.specs.VersionsFollow.{ObjectsFollow, FollowsAt}
 use Rattle.swan_model.proofs.MovedFrames.{frame_number, gone_back, gone_there, path_kept, done_stays}
 use Rattle.swan_model.proofs.Elements.{last_more, more_cases}
@@ -91,7 +91,7 @@ module _ (s : Script) (r after : Reading) (state : VersionState) (follows : Obje
   ]
 
   made_follows_at : (number other : ℕ) (now : Progress) (has : Placed) (of : Origin) → frame_of after number ≡ Some now
-      → placed_at (after_create state n place first) number other ≡ Some has → slice_get after.objects has.object ≡ Some of → FollowsAt s after now has of
+      → placed_at (objects_after_create state n place first) number other ≡ Some has → slice_get after.objects has.object ≡ Some of → FollowsAt s after now has of
   made_follows_at number other now has of moved at made = elim (after_placed state n place (made_object state first) number other has at) [
     | inl here ↦
         let number_now : slice_get after.objects state.made ≡ Some of = ap (λ o. slice_get after.objects o.object) (sym here.objects) ∙ made in
@@ -128,14 +128,14 @@ module _ (s : Script) (r after : Reading) (state : VersionState) (follows : Obje
     ]
   ]
 
-  made_known : (number other : ℕ) (has : Placed) → placed_at (after_create state n place first) number other ≡ Some has → has.object < state.made + 1
+  made_known : (number other : ℕ) (has : Placed) → placed_at (objects_after_create state n place first) number other ≡ Some has → has.object < state.made + 1
   made_known number other has at = elim (after_placed state n place (made_object state first) number other has at) [
     | inl here ↦ let e : has.object ≡ state.made = ap (λ o. o.object) here.objects in omega arith
     | inr there ↦ let less = follows.known number other has there.was in omega arith
   ]
 
-  made_alone : (number one two : ℕ) (a b : Placed) → placed_at (after_create state n place first) number one ≡ Some a
-      → placed_at (after_create state n place first) number two ≡ Some b → one ≢ two → a.object ≡ b.object → (a.mode ≡ In) × (b.mode ≡ In)
+  made_alone : (number one two : ℕ) (a b : Placed) → placed_at (objects_after_create state n place first) number one ≡ Some a
+      → placed_at (objects_after_create state n place first) number two ≡ Some b → one ≢ two → a.object ≡ b.object → (a.mode ≡ In) × (b.mode ≡ In)
   made_alone number one two a b is also apart same = elim (after_placed state n place (made_object state first) number one a is) [
     | inl here ↦
         let e : a.object ≡ state.made = ap (λ o. o.object) here.objects in
@@ -151,8 +151,8 @@ module _ (s : Script) (r after : Reading) (state : VersionState) (follows : Obje
     ]
   ]
 
-  made_owing : (number other frame : ℕ) (has : Placed) → placed_at (after_create state n place first) number other ≡ Some has → Owes has frame
-      → (at : ℕ) × (own : Placed) × (placed_at (after_create state n place first) frame at ≡ Some own) × (own.object ≡ has.object) × (allows own.mode Out ≡ true)
+  made_owing : (number other frame : ℕ) (has : Placed) → placed_at (objects_after_create state n place first) number other ≡ Some has → Owes has frame
+      → (at : ℕ) × (own : Placed) × (placed_at (objects_after_create state n place first) frame at ≡ Some own) × (own.object ≡ has.object) × (allows own.mode Out ≡ true)
   made_owing number other frame has at owes = elim (after_placed state n place (made_object state first) number other has at) [
     | inl here ↦ elim owes [
       | inl present ↦ absurd (settled_not-owed first frame (sym (ap (λ o. o.present) here.objects) ∙ present))
@@ -163,7 +163,7 @@ module _ (s : Script) (r after : Reading) (state : VersionState) (follows : Obje
         (own.0, own.1, still_placed state n place (made_object state first) frame own.0 own.1 free own.2, own.3, own.4)
   ]
 
-  made_follow : ObjectsFollow s after (after_create state n place first)
+  made_follow : ObjectsFollow s after (objects_after_create state n place first)
   made_follow = record {
     tasks = tasks;
     root = root;
@@ -215,7 +215,7 @@ root_holds_object s path index is less =
 
 pub root_object_follows : (s : Script) (r : Reading) (state : VersionState) (n place : ℕ) (first : Value) (root : Progress) → placed_at state n place ≡ None → IsLawful s
     → ObjectsFollow s r state → n ≡ 0 → frame_of r 0 ≡ Some root → root.done ≡ 0 → slice_get s.objects state.made ≡ Some first
-    → ObjectsFollow s (with_object r (Root state.made)) (after_create state n place first)
+    → ObjectsFollow s (with_object r (Root state.made)) (objects_after_create state n place first)
 root_object_follows s r state n place first root free lawful follows own known done object =
     made_follow s r (with_object r (Root state.made)) state follows n place first (Root state.made) free refl
     (record {
@@ -249,7 +249,7 @@ root_object_follows s r state n place first root free lawful follows own known d
 
 pub made_object_follows : (s : Script) (r : Reading) (state : VersionState) (n place : ℕ) (first : Value) (maker : Progress) → placed_at state n place ≡ None → IsLawful s
     → ObjectsFollow s r state → frame_of r n ≡ Some maker → next_deed s maker ≡ Some (deed.MakeObject first)
-    → ObjectsFollow s (with_object (gone_on r n) (Step (point s maker))) (after_create state n place first)
+    → ObjectsFollow s (with_object (gone_on r n) (Step (point s maker))) (objects_after_create state n place first)
 made_object_follows s r state n place first maker free lawful follows known next =
     let t : ℕ = point s maker in
     let own = frame_number r.frames n maker known in

@@ -9,7 +9,7 @@ use Rattle.swan_model.specs.declared.rights.Mode.TheVariants.{InOut}
 use Rattle.swan_model.specs.declared.value.Kind.{Kind}
 use Rattle.swan_model.specs.declared.value.Value.{Value}
 use Rattle.swan_model.specs.Values.{kind_of}
-use Rattle.swan_model.specs.Versions.{settled, owed, place_cmp, after_create}
+use Rattle.swan_model.specs.Versions.{settled, owed, place_cmp, objects_after_create}
 use Rattle.object_versions.specs.declared.node.Node.{Node}
 use Rattle.object_versions.specs.declared.node.NodeState.TheVariants.{Settled}
 use Rattle.object_versions.specs.declared.placed_object.PlacedObject.{PlacedObject}
@@ -63,7 +63,7 @@ module _ (entries : Entries) (old new : Slab Node) (made f p key : ℕ) (kind : 
       (record { alone = λ place has stands same. let known = (whole.fits f place has stands).known in absurd (omega arith) })
       new_owing (λ k. omega arith) sorted
 
-  seen_after : versions_of after new (made + 1) ≡ after_create (versions_of entries old made) f p first
+  seen_after : versions_of after new (made + 1) ≡ objects_after_create (versions_of entries old made) f p first
   seen_after =
       let same = seen_same old new entries (λ k h. made_told entries old new made (λ _. 0) (λ k. one k key) key node whole vacant change k (omega arith)) in
       let version : version_at new key ≡ settled first = ap (λ t. t.1) told in
@@ -80,5 +80,5 @@ module _ (entries : Entries) (old new : Slab Node) (made f p key : ℕ) (kind : 
         let Q : Entries → Type 0 = λ es. IsStrictlySortedBy place_cmp (keys_of es) in
         subst P (sym put) (whole_after (subst Q put sorted))
 
-    pub created_seen : versions_of later new (made + 1) ≡ after_create (versions_of entries old made) f p first
+    pub created_seen : versions_of later new (made + 1) ≡ objects_after_create (versions_of entries old made) f p first
     created_seen = ap (λ es. versions_of es new (made + 1)) put ∙ seen_after

@@ -4,7 +4,7 @@ use Rattle.swan_model.specs.declared.rights.Mode.{Mode}
 use Rattle.swan_model.specs.declared.rights.Mode.TheVariants.{InOut}
 use Rattle.swan_model.specs.declared.value.Value.{Value}
 use Rattle.swan_model.specs.Values.{kind_of}
-use Rattle.swan_model.specs.Versions.{Awaits, Placed, Version, VersionState, settled, placed_at, with_present, after_access, after_create, after_finish, after_write, given_from, got, left_with, still_owing, written_at}
+use Rattle.swan_model.specs.Versions.{Awaits, Placed, Version, VersionState, settled, placed_at, with_present, after_access, objects_after_create, objects_after_finish, after_write, given_from, got, left_with, still_owing, written_at}
 use Rattle.object_versions.proofs.FinishPlaces.{after_kept}
 use Rattle.object_versions.proofs.PlacesAfter.{after_placed, after_present}
 
@@ -21,7 +21,7 @@ present_waits state frame place object version n stands none p owing waits =
       | inr there ↦ none p owing (record { object = waits.object; stands = there.was; owes = waits.owes })
     ]
 
-pub create_waits : (state : VersionState) (frame place : ℕ) (value : Value) (n : ℕ) → WaitsForNone state n → WaitsForNone (after_create state frame place value) n
+pub create_waits : (state : VersionState) (frame place : ℕ) (value : Value) (n : ℕ) → WaitsForNone state n → WaitsForNone (objects_after_create state frame place value) n
 create_waits state frame place value n none p owing waits =
     let object : Placed = record { object = state.made; kind = kind_of value; mode = InOut; given = None; present = settled value } in
     elim (after_placed state frame place object n p waits.object waits.stands) [
@@ -54,7 +54,7 @@ owed_before ended (Some other) owing is = by (nat_eq other ended) is where
   by true is = absurd (cc)
   by false is = is
 
-pub finish_waits : (state : VersionState) (ended n : ℕ) → WaitsForNone state n → WaitsForNone (after_finish state ended) n
+pub finish_waits : (state : VersionState) (ended n : ℕ) → WaitsForNone state n → WaitsForNone (objects_after_finish state ended) n
 finish_waits state ended n none p owing waits =
     let kept = after_kept state ended n p waits.object waits.stands in
     none p owing (record {

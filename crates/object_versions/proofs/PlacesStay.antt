@@ -5,7 +5,7 @@ use Rattle.std.specs.Option.{option_map}
 use Rattle.swan_model.specs.declared.rights.Mode.{Mode}
 use Rattle.swan_model.specs.declared.rights.Mode.TheVariants.{InOut}
 use Rattle.swan_model.specs.declared.value.Value.{Value}
-use Rattle.swan_model.specs.Versions.{Placed, VersionState, settled, placed_at, with_placed, with_present, after_access, after_create, after_finish, after_write, given_from, got, left_with, settle_placed, written_at}
+use Rattle.swan_model.specs.Versions.{Placed, VersionState, settled, placed_at, with_placed, with_present, after_access, objects_after_create, objects_after_finish, after_write, given_from, got, left_with, settle_placed, written_at}
 use Rattle.swan_model.specs.Values.{kind_of}
 use Rattle.object_versions.proofs.FinishPlaces.{found_kept}
 use Rattle.object_versions.proofs.Lookups.{at_inserted, at_set, place_total, still_set, untied}
@@ -21,7 +21,7 @@ placed_keeps state frame place object f p differ =
     found_in place_total (frame, place) object (f, p) state.places
     ∙ ap (λ b. cond b (Some object) (placed_at state f p)) (untied (f, p) (frame, place) (other_key (frame, place) (f, p) differ))
 
-pub create_keeps : (state : VersionState) (frame place : ℕ) (value : Value) (f p : ℕ) → (f ≢ frame) ⊎ (p ≢ place) → placed_at (after_create state frame place value) f p ≡ placed_at state f p
+pub create_keeps : (state : VersionState) (frame place : ℕ) (value : Value) (f p : ℕ) → (f ≢ frame) ⊎ (p ≢ place) → placed_at (objects_after_create state frame place value) f p ≡ placed_at state f p
 create_keeps state frame place value f p differ =
     placed_keeps state frame place (record { object = state.made; kind = kind_of value; mode = InOut; given = None; present = settled value }) f p differ
 
@@ -63,7 +63,7 @@ access_gives state parent pp child cp mode object stands =
 
 -- ---- the end of a frame
 
-pub finish_keeps : (state : VersionState) (ended f p : ℕ) → (f ≢ ended) ⊎ (ended ≡ 0) → placed_at (after_finish state ended) f p ≡ option_map (settle_placed state ended) (placed_at state f p)
+pub finish_keeps : (state : VersionState) (ended f p : ℕ) → (f ≢ ended) ⊎ (ended ≡ 0) → placed_at (objects_after_finish state ended) f p ≡ option_map (settle_placed state ended) (placed_at state f p)
 finish_keeps state ended f p (inl differ) = found_kept state ended f p ∙ by (nat_eq ended 0) (nat_eq f ended) (ne_eqb f ended differ) where
   by : (a b : Bool) → b ≡ false → option_map (settle_placed state ended) (cond (a || not b) (placed_at state f p) None) ≡ option_map (settle_placed state ended) (placed_at state f p)
   by true b is = refl
@@ -73,7 +73,7 @@ finish_keeps state ended f p (inr root) =
     found_kept state ended f p
     ∙ ap (λ a. option_map (settle_placed state ended) (cond (a || not (nat_eq f ended)) (placed_at state f p) None)) (eq-eqb ended 0 root)
 
-pub finish_forgets : (state : VersionState) (ended p : ℕ) → ended ≢ 0 → placed_at (after_finish state ended) ended p ≡ None
+pub finish_forgets : (state : VersionState) (ended p : ℕ) → ended ≢ 0 → placed_at (objects_after_finish state ended) ended p ≡ None
 finish_forgets state ended p other =
     found_kept state ended ended p
     ∙ ap (λ a. option_map (settle_placed state ended) (cond (a || not (nat_eq ended ended)) (placed_at state ended p) None)) (ne_eqb ended 0 other)

@@ -5,7 +5,7 @@ use Rattle.std.proofs.lemmas.Bool.{cases_eq}
 use Rattle.std.proofs.lemmas.Bool.Decides.{nat_tests}
 use Rattle.slab.specs.Slab.{Slab, get, Updates}
 use Rattle.object_versions.specs.declared.node.Node.{Node}
-use Rattle.object_versions.specs.Store.{Entries, told_of, told_at, uses, uses_in, released}
+use Rattle.object_versions.specs.Store.{Entries, told_of, told_at, uses, uses_in, after_release}
 use Rattle.object_versions.specs.Whole.{IsWhole}
 use Rattle.object_versions.proofs.Counts.{counted_after, told_elsewhere, told_here, told_still, unused, used, HasNode}
 use Rattle.object_versions.proofs.Steps.{moved_nodes}
@@ -63,13 +63,13 @@ module _ (entries : Entries) (old new : Slab Node) (made : ℕ) (held later : �
 
 -- ---- one less who refers to a node
 
-released_uses : (node : Node) → 0 < node.uses → uses_in (released node) + 1 ≡ node.uses
+released_uses : (node : Node) → 0 < node.uses → uses_in (after_release node) + 1 ≡ node.uses
 released_uses node some = by (nat_lt 1 node.uses) refl where
   by : (b : Bool) → nat_lt 1 node.uses ≡ b → uses_in (cond b (Some (record node { uses = node.uses - 1 })) None) + 1 ≡ node.uses
   by true is = grind (arith, nat_tests)
   by false is = grind (arith, nat_tests)
 
-released_live : (node other : Node) → released node ≡ Some other → 0 < other.uses
+released_live : (node other : Node) → after_release node ≡ Some other → 0 < other.uses
 released_live node other e = by (nat_lt 1 node.uses) refl e where
   by : (b : Bool) → nat_lt 1 node.uses ≡ b → cond b (Some (record node { uses = node.uses - 1 })) None ≡ Some other → 0 < other.uses
   by true is e =
@@ -78,14 +78,14 @@ released_live node other e = by (nat_lt 1 node.uses) refl e where
       subst P (same_Some (record node { uses = node.uses - 1 }) other e) positive
   by false is e = absurd (cc)
 
-released_told : (node : Node) → 1 < node.uses → told_of (released node) ≡ told_of (Some node)
+released_told : (node : Node) → 1 < node.uses → told_of (after_release node) ≡ told_of (Some node)
 released_told node some = by (nat_lt 1 node.uses) refl where
   by : (b : Bool) → nat_lt 1 node.uses ≡ b → told_of (cond b (Some (record node { uses = node.uses - 1 })) None) ≡ told_of (Some node)
   by true is = refl
   by false is = absurd (grind (arith, nat_tests))
 
 module _ (entries : Entries) (old new : Slab Node) (made : ℕ) (held later : ℕ → ℕ) (key : ℕ) (whole : IsWhole entries old made held)
-    (some : 0 < held key) (change : (node : Node) → get old key ≡ Some node → Updates old new key (released node))
+    (some : 0 < held key) (change : (node : Node) → get old key ≡ Some node → Updates old new key (after_release node))
     (here : held key ≡ later key + 1) (others : (k : ℕ) → k ≢ key → later k ≡ held k) where
   there : HasNode old key
   there = used old (λ k. uses k entries + held k) key whole.counted (omega arith)
@@ -100,9 +100,9 @@ module _ (entries : Entries) (old new : Slab Node) (made : ℕ) (held later : �
       let still : 0 < uses key entries + later key = let P : ℕ → Type 0 = λ n. 0 < uses n entries + later n in subst P e h in
       let counts = count in
       let many : 1 < there.node.uses = omega (arith, counts, still, here) in
-      ap (told_at new) e ∙ told_here old new key (released there.node) (change there.node there.is) ∙ released_told there.node many
+      ap (told_at new) e ∙ told_here old new key (after_release there.node) (change there.node there.is) ∙ released_told there.node many
       ∙ sym (ap told_of there.is) ∙ ap (told_at old) (sym e))
-      (told_elsewhere old new key (released there.node) (change there.node there.is) k)
+      (told_elsewhere old new key (after_release there.node) (change there.node there.is) k)
       (cases_eq k key)
 
   pub released_whole : IsWhole entries new made later
@@ -111,7 +111,7 @@ module _ (entries : Entries) (old new : Slab Node) (made : ℕ) (held later : �
       let positive : 0 < there.node.uses = omega (arith, counts, some) in
       let less = released_uses there.node positive in
       moved_nodes entries old new made held later whole
-      (counted_after old new key (released there.node) (change there.node there.is) (λ k. uses k entries + held k) (λ k. uses k entries + later k) whole.counted
+      (counted_after old new key (after_release there.node) (change there.node there.is) (λ k. uses k entries + held k) (λ k. uses k entries + later k) whole.counted
       (λ k apart. ap (λ n. uses k entries + n) (others k apart))
       (omega (arith, less, counts, here))
       (released_live there.node))

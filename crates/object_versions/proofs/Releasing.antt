@@ -10,7 +10,7 @@ use Rattle.slab.specs.Slab.{Slab, get, Updates}
 use Rattle.swan_model.specs.Versions.{place_cmp}
 use Rattle.object_versions.specs.declared.node.Node.{Node}
 use Rattle.object_versions.specs.declared.placed_object.PlacedObject.{PlacedObject}
-use Rattle.object_versions.specs.Store.{Entries, place_at, one, one_of, uses_of, uses, released}
+use Rattle.object_versions.specs.Store.{Entries, place_at, one, one_of, uses_of, uses, after_release}
 use Rattle.object_versions.specs.Whole.{IsWhole}
 use Rattle.object_versions.specs.Ending.{IsReleased, is_other, of_others, IsForgetting}
 use Rattle.object_versions.proofs.Counts.{one_self, one_other, uses_without}
@@ -19,7 +19,7 @@ use Rattle.object_versions.proofs.Steps.{go_out}
 use Rattle.object_versions.proofs.References.{released_whole, released_same}
 use Rattle.object_versions.proofs.Referred.{referred_there}
 
-module _ (entries : Entries) (old new : Slab Node) (made : ℕ) (held later : ℕ → ℕ) (key : ℕ) (change : (node : Node) → get old key ≡ Some node → Updates old new key (released node))
+module _ (entries : Entries) (old new : Slab Node) (made : ℕ) (held later : ℕ → ℕ) (key : ℕ) (change : (node : Node) → get old key ≡ Some node → Updates old new key (after_release node))
     (whole : IsWhole entries old made held) (split : (k : ℕ) → held k ≡ later k + one k key) where
   here : held key ≡ later key + 1
   here = let self = one_self key in let count = split key in omega (arith, self, count)
@@ -37,7 +37,7 @@ module _ (entries : Entries) (old new : Slab Node) (made : ℕ) (held later : �
   }
 
 pub released_at : (entries : Entries) (old new : Slab Node) (made : ℕ) (held later : ℕ → ℕ) (o : Option ℕ) (key : ℕ) → o ≡ Some key
-    → ((node : Node) → get old key ≡ Some node → Updates old new key (released node))
+    → ((node : Node) → get old key ≡ Some node → Updates old new key (after_release node))
     → IsWhole entries old made held → ((k : ℕ) → held k ≡ later k + one_of k o) → IsReleased entries old new made later
 released_at entries old new made held later o key is change whole split =
     released_one entries old new made held later key change whole (λ k. split k ∙ ap (λ p. later k + one_of k p) is)

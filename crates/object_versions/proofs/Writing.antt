@@ -10,7 +10,7 @@ use Rattle.swan_model.specs.Versions.{settled, place_cmp, with_present, after_wr
 use Rattle.object_versions.specs.declared.node.Node.{Node}
 use Rattle.object_versions.specs.declared.node.NodeState.TheVariants.{Settled}
 use Rattle.object_versions.specs.declared.placed_object.PlacedObject.{PlacedObject}
-use Rattle.object_versions.specs.Store.{Entries, place_at, told_at, given_of, KeepsOwed, placed_of, versions_of, one, uses, uses_in, released}
+use Rattle.object_versions.specs.Store.{Entries, place_at, told_at, given_of, KeepsOwed, placed_of, versions_of, one, uses, uses_in, after_release}
 use Rattle.object_versions.specs.Whole.{IsWhole, HasOwn}
 use Rattle.object_versions.proofs.Lookups.{at_set}
 use Rattle.object_versions.proofs.Counts.{one_self, one_other, told_here, used, HasNode, uses_at, present_used}
@@ -24,7 +24,7 @@ module _ (entries later : Entries) (old middle new : Slab Node) (made f p key : 
     (change : Updates old middle key (Some (record { object = was.object; state = Settled value; uses = 1 })))
     (set : later ≡ set_value (is_at (place_cmp (f, p))) entries (record was { present = key }))
     (sorted : IsStrictlySortedBy place_cmp (keys_of later))
-    (release : (node : Node) → get middle was.present ≡ Some node → Updates middle new was.present (released node)) where
+    (release : (node : Node) → get middle was.present ≡ Some node → Updates middle new was.present (after_release node)) where
   abbrev node : Node
   node = record { object = was.object; state = Settled value; uses = 1 }
 
@@ -84,7 +84,7 @@ module _ (entries later : Entries) (old middle new : Slab Node) (made f p key : 
   another : key ≢ was.present
   another e = none-some found.node (sym vacant ∙ ap (get old) e ∙ found.is)
 
-  released_there : Updates middle new was.present (released found.node)
+  released_there : Updates middle new was.present (after_release found.node)
   released_there = release found.node (change.others was.present (λ e. another (sym e)) ∙ found.is)
 
   stands_after : place_at after f p ≡ Some (record was { present = key })

@@ -86,8 +86,8 @@ uses_in (Some node) = node.uses
 -- ---- what becomes of a node
 
 -- with a use less, or given up
-abbrev pub released : Node → Option Node
-released node = if nat_lt 1 node.uses then Some (record node { uses = node.uses - 1 }) else None
+abbrev pub after_release : Node → Option Node
+after_release node = if nat_lt 1 node.uses then Some (record node { uses = node.uses - 1 }) else None
 
 -- an owed version gets its value, and a settled one keeps it
 abbrev pub state_settled : NodeState → Value → NodeState

@@ -3,7 +3,7 @@ ghost use Rattle.std.specs.Prelude.{◌≡◌, ℕ, ◌+◌, Some, None, IsSome,
 ghost use Rattle.swan_model.specs.declared.value.Value.{Value};
 ghost use Rattle.swan_model.specs.Versions.{settled};
 ghost use Rattle.slab.specs.Slab.{Slab as Kept, get};
-ghost use Rattle.object_versions.specs.declared.node.Node.{Node as Version};
+ghost use Rattle.object_versions.specs.declared.node.Node.{Node as TheNode};
 ghost use Rattle.object_versions.specs.Store.{Entries, place_at, version_at, one_of, uses_of};
 ghost use Rattle.object_versions.specs.Whole.{IsWhole};
 ghost use Rattle.object_versions.specs.Ending.{IsSettling, OwesNoMore, IsPaid, IsAllPaid, IsReleased, IsForgetting};
@@ -19,11 +19,11 @@ use swan_model::NoMemory;
 fn settle_owed(nodes: &mut Slab<Node>, place: &PlacedObject) -> Result<(), NoMemory>
     requires reads { (value : Value) × (version_at nodes.old place.now.present ≡ settled value) }
     requires owed { (key : ℕ) → place.now.owes ≡ Some key → IsSome (get nodes.old key) }
-    ensures settling { (entries : Entries) (start : Kept Version) (made frame at : ℕ) → IsSettling entries start nodes.old made frame
+    ensures settling { (entries : Entries) (start : Kept TheNode) (made frame at : ℕ) → IsSettling entries start nodes.old made frame
         → place_at entries frame at ≡ Some place.now → IsSettling entries start nodes.new made frame }
-    ensures no_more { (entries : Entries) (start : Kept Version) (made frame at : ℕ) → IsSettling entries start nodes.old made frame
+    ensures no_more { (entries : Entries) (start : Kept TheNode) (made frame at : ℕ) → IsSettling entries start nodes.old made frame
         → place_at entries frame at ≡ Some place.now → OwesNoMore entries nodes.old nodes.new }
-    ensures paid { OnOk result ((entries : Entries) (start : Kept Version) (made frame at : ℕ) → IsSettling entries start nodes.old made frame
+    ensures paid { OnOk result ((entries : Entries) (start : Kept TheNode) (made frame at : ℕ) → IsSettling entries start nodes.old made frame
         → place_at entries frame at ≡ Some place.now → IsPaid nodes.new place.now) }
 {
     let Some(owed) = place.owes else {

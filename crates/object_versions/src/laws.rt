@@ -15,7 +15,7 @@ ghost use Rattle.swan_model.specs.PathOrder.{comes_before};
 ghost use Rattle.swan_model.specs.Readings.{gone_on, next_deed, reading_after_spawn};
 ghost use Rattle.swan_model.specs.SerialTime.{Progress, Reading, frame_of, is_earlier, times};
 ghost use Rattle.swan_model.specs.Values.{kind_of};
-ghost use Rattle.swan_model.specs.Versions.{settled, owed, Awaits, IsSettled, Placed, VersionState, after_access, after_create, after_finish, after_write, got, left_with, placed_at, settle_placed};
+ghost use Rattle.swan_model.specs.Versions.{settled, owed, Awaits, IsSettled, Placed, VersionState, after_access, objects_after_create, objects_after_finish, after_write, got, left_with, placed_at, settle_placed};
 ghost use Rattle.swan_model.specs.VersionsFollow.{Access, ObjectsFollow, IsGiving, IsNewFrame, NextSpawnGivesObjects, is_object_deed, is_object_give};
 ghost use Rattle.object_versions.specs.Following.{ChildrenHaveNone, IsElsewhere, OnAwaited, WaitsForNone};
 
@@ -77,10 +77,10 @@ pub fn ended_children_leave_all_settled()
 pub fn places_stay()
     // an object that is made
     ensures created { (state : VersionState) (frame place : ℕ) (first : Value)
-        → placed_at (after_create state frame place first) frame place
+        → placed_at (objects_after_create state frame place first) frame place
         ≡ Some (record { object = state.made; kind = kind_of first; mode = InOut; given = None; present = settled first }) }
     ensures create { (state : VersionState) (frame place : ℕ) (first : Value) (other at : ℕ) → IsElsewhere other at frame place
-        → placed_at (after_create state frame place first) other at ≡ placed_at state other at }
+        → placed_at (objects_after_create state frame place first) other at ≡ placed_at state other at }
 
     // an object that is given
     ensures left { (state : VersionState) (parent place child child_place : ℕ) (mode : Mode) (object : Placed) → parent ≢ child
@@ -100,9 +100,9 @@ pub fn places_stay()
         → placed_at (after_write state frame place value) other at ≡ placed_at state other at }
 
     // the end of a frame
-    ensures forgotten { (state : VersionState) (ended at : ℕ) → ended ≢ 0 → placed_at (after_finish state ended) ended at ≡ None }
+    ensures forgotten { (state : VersionState) (ended at : ℕ) → ended ≢ 0 → placed_at (objects_after_finish state ended) ended at ≡ None }
     ensures finish { (state : VersionState) (ended other at : ℕ) → (other ≢ ended) ⊎ (ended ≡ 0)
-        → placed_at (after_finish state ended) other at ≡ option_map (settle_placed state ended) (placed_at state other at) }
+        → placed_at (objects_after_finish state ended) other at ≡ option_map (settle_placed state ended) (placed_at state other at) }
 {}
 
 /// The law that nobody waits again: a frame that waits for nothing which it was given to read waits for nothing
@@ -110,13 +110,13 @@ pub fn places_stay()
 /// an object is given.
 pub fn nobody_waits_again()
     ensures create { (state : VersionState) (frame place : ℕ) (first : Value) (n : ℕ)
-        → WaitsForNone state n → WaitsForNone (after_create state frame place first) n }
+        → WaitsForNone state n → WaitsForNone (objects_after_create state frame place first) n }
     ensures access { (state : VersionState) (parent place child child_place : ℕ) (mode : Mode) (n : ℕ) → n ≢ child
         → WaitsForNone state n → WaitsForNone (after_access state parent place child child_place mode) n }
     ensures write { (state : VersionState) (frame place : ℕ) (value : Value) (n : ℕ)
         → WaitsForNone state n → WaitsForNone (after_write state frame place value) n }
     ensures finish { (state : VersionState) (ended n : ℕ)
-        → WaitsForNone state n → WaitsForNone (after_finish state ended) n }
+        → WaitsForNone state n → WaitsForNone (objects_after_finish state ended) n }
 {}
 
 /// The law that whoever is awaited comes first. Where renamed objects follow a lawful script and a reading, and a

@@ -2,8 +2,8 @@
 ghost use Rattle.std.specs.Prelude.{◌≡◌, ◌↔◌, ◌+◌, ◌<◌, ◌^◌, IsTrue, IfOk, IfErr, IsSome, Some, None};
 ghost use Rattle.slab.specs.Slab.{get, Updates};
 ghost use Rattle.swan_model.specs.Versions.{settled, owed};
-ghost use Rattle.object_versions.specs.Store.{version_at, uses_in, released, state_settled};
-ghost use Rattle.object_versions.specs.declared.node.Node.{Node as Version};
+ghost use Rattle.object_versions.specs.Store.{version_at, uses_in, after_release, state_settled};
+ghost use Rattle.object_versions.specs.declared.node.Node.{Node as TheNode};
 ghost use Rattle.object_versions.specs.declared.node.NodeState.TheVariants.{Settled};
 
 use crate::{Node, NodeState, ObjectNumber};
@@ -34,8 +34,8 @@ pub fn make(
 /// Counts so many more who refer to a version. `O(1)`; it takes no memory.
 pub fn share(nodes: &mut Slab<Node>, key: usize, more: u128)
     requires present { IsSome (get nodes.old key) }
-    requires room { (node : Version) → get nodes.old key ≡ Some node → node.uses + more < 2 ^ 128 }
-    ensures { (node : Version) → get nodes.old key ≡ Some node → Updates nodes.old nodes.new key (Some (record node { uses = node.uses + more })) }
+    requires room { (node : TheNode) → get nodes.old key ≡ Some node → node.uses + more < 2 ^ 128 }
+    ensures { (node : TheNode) → get nodes.old key ≡ Some node → Updates nodes.old nodes.new key (Some (record node { uses = node.uses + more })) }
 {
     let Some(node) = nodes.get_mut(key) else {
         unreachable!()
@@ -47,7 +47,7 @@ pub fn share(nodes: &mut Slab<Node>, key: usize, more: u128)
 /// memory.
 pub fn release(nodes: &mut Slab<Node>, key: usize)
     requires { IsSome (get nodes.old key) }
-    ensures { (node : Version) → get nodes.old key ≡ Some node → Updates nodes.old nodes.new key (released node) }
+    ensures { (node : TheNode) → get nodes.old key ≡ Some node → Updates nodes.old nodes.new key (after_release node) }
 {
     let Some(node) = nodes.get_mut(key) else {
         unreachable!()
@@ -62,7 +62,7 @@ pub fn release(nodes: &mut Slab<Node>, key: usize)
 /// Gives a version its value where a frame owes it. `O(1)`; it takes no memory.
 pub fn settle(nodes: &mut Slab<Node>, key: usize, value: Value)
     requires { IsSome (get nodes.old key) }
-    ensures { (node : Version) → get nodes.old key ≡ Some node → Updates nodes.old nodes.new key (Some (record node { state = state_settled node.state value })) }
+    ensures { (node : TheNode) → get nodes.old key ≡ Some node → Updates nodes.old nodes.new key (Some (record node { state = state_settled node.state value })) }
 {
     let Some(node) = nodes.get_mut(key) else {
         unreachable!()
@@ -85,7 +85,7 @@ pub fn is_alone(nodes: &Slab<Node>, key: usize) -> bool
 /// Gives a version this value, whatever it is. `O(1)`; it takes no memory.
 pub fn overwrite(nodes: &mut Slab<Node>, key: usize, value: Value)
     requires { IsSome (get nodes.old key) }
-    ensures { (node : Version) → get nodes.old key ≡ Some node → Updates nodes.old nodes.new key (Some (record node { state = Settled value })) }
+    ensures { (node : TheNode) → get nodes.old key ≡ Some node → Updates nodes.old nodes.new key (Some (record node { state = Settled value })) }
 {
     let Some(node) = nodes.get_mut(key) else {
         unreachable!()

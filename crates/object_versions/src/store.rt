@@ -1,6 +1,6 @@
 // What renamed objects are kept in.
 ghost use Rattle.std.specs.Prelude.{◌≡◌, ◌≢◌, ℕ, ◌+◌, Some, None, Ok, [], OnOk};
-ghost use Rattle.swan_model.specs.Versions.{after_create, after_write};
+ghost use Rattle.swan_model.specs.Versions.{objects_after_create, after_write};
 ghost use Rattle.object_versions.specs.Store.{given_of, KeepsOwed};
 ghost use Rattle.object_versions.specs.Whole.{Becomes, HasOwn, IsAtRest, StaysAtRest, kept_at, seen_of};
 
@@ -62,7 +62,7 @@ impl VersionStore {
         // what is kept, and what is seen of it
         requires whole { IsAtRest self.old made.now }
         ensures whole { OnOk result (IsAtRest self.new (made.now + 1)) }
-        ensures created { OnOk result (seen_of self.new (made.now + 1) ≡ after_create (seen_of self.old made.now) frame place first) }
+        ensures created { OnOk result (seen_of self.new (made.now + 1) ≡ objects_after_create (seen_of self.old made.now) frame place first) }
     {
         let kind = first.kind();
         let present = make(&mut self.nodes, made, NodeState::Settled(first), 1)?;

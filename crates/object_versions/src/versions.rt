@@ -11,7 +11,7 @@ ghost use Rattle.swan_model.specs.VersionsFollow.{Access, ObjectsFollow, IsGivin
 ghost use Rattle.object_versions.specs.Following.{IsElsewhere, OnFollowing, OnMeanwhile, WaitsForNone, access_of};
 ghost use Rattle.swan_model.specs.declared.rights.Mode.TheVariants.{In, Out};
 ghost use Rattle.swan_model.specs.Rights.{allows, is_queue_mode};
-ghost use Rattle.swan_model.specs.Versions.{Placed, VersionState, new_versions, placed_at, settled, owed, after_create, after_access, after_write, after_finish, Holds, MayGet, IsSettled, Awaits};
+ghost use Rattle.swan_model.specs.Versions.{Placed, VersionState, new_versions, placed_at, settled, owed, objects_after_create, after_access, after_write, objects_after_finish, Holds, MayGet, IsSettled, Awaits};
 
 use crate::ObjectNumber;
 use crate::ending::{forget_all, settle_all};
@@ -65,7 +65,7 @@ impl Versions {
         requires free { placed_at self.old frame place ≡ None }
 
         // what it leaves
-        ensures ok { OnOk result (self.new ≡ after_create self.old frame place first) }
+        ensures ok { OnOk result (self.new ≡ objects_after_create self.old frame place first) }
 
         // by a script and a reading that they follow
         ensures root { OnOk result ((s : Script) (r : Reading) (root : Progress) → IsLawful s → ObjectsFollow s r self.old → frame ≡ 0
@@ -235,7 +235,7 @@ impl Versions {
         requires settled { IsSettled self.old frame }
 
         // what it leaves
-        ensures ok { OnOk result (self.new ≡ after_finish self.old frame) }
+        ensures ok { OnOk result (self.new ≡ objects_after_finish self.old frame) }
 
         // by a script and a reading, and while another frame gives a child its objects
         ensures follows { OnOk result (OnFollowing self.old frame (λ s r ended. ended.done ≡ length (times s ended.path) → ObjectsFollow s r self.new)) }

@@ -26,10 +26,10 @@ state_of checker =
     }
 
 -- what a function answered is this, unless memory ran out
-abbrev pub Fails : {A : Type 0} → CheckLine → Result A JobKind → Type 0
-Fails (refusal.Refused k) wanted = wanted ≡ Err k
-Fails refusal.NoMemory wanted = Unit {0}
+abbrev pub IsFaultAs : {A : Type 0} → CheckLine → Result A JobKind → Type 0
+IsFaultAs (refusal.Refused k) wanted = wanted ≡ Err k
+IsFaultAs refusal.NoMemory wanted = Unit {0}
 
-abbrev pub Gives : {A : Type 0} → Result A CheckLine → Result A JobKind → Type 0
-Gives (Ok a) wanted = wanted ≡ Ok a
-Gives (Err refused) wanted = Fails refused wanted
+abbrev pub IsCheckedAs : {A : Type 0} → Result A CheckLine → Result A JobKind → Type 0
+IsCheckedAs (Ok a) wanted = wanted ≡ Ok a
+IsCheckedAs (Err refused) wanted = IsFaultAs refused wanted

@@ -10,7 +10,7 @@ use Rattle.job_reader.specs.declared.fault.JobKind.{JobKind}
 use Rattle.job_reader.specs.declared.fault.JobKind.TheVariants as fault
 use Rattle.job_reader.specs.declared.line.Line.{Line}
 use Rattle.job_reader.specs.declared.line.Line.TheVariants as line
-use Rattle.privilege_check.specs.Names.{Before, after, at_start, is_main, known, Names}
+use Rattle.privilege_check.specs.Names.{Before, after, at_start, is_main, known, KnownNames}
 use Rattle.privilege_check.specs.Operations.{assignment}
 use Rattle.privilege_check.specs.Spawns.{spawn}
 use Rattle.privilege_check.specs.Uses.{held, value, variable}
@@ -30,28 +30,28 @@ abbrev pub outside_main : Option (List ℕ) → Result (Unit {0}) JobKind
 outside_main task = if is_in_main task then Err fault.MainParams else Ok tt
 
 -- a check of a use, whatever kind was found
-abbrev pub checked : {A : Type 0} → Result A JobKind → Result (Unit {0}) JobKind
-checked (Ok a) = Ok tt
-checked (Err k) = Err k
+abbrev pub kind_dropped : {A : Type 0} → Result A JobKind → Result (Unit {0}) JobKind
+kind_dropped (Ok a) = Ok tt
+kind_dropped (Err k) = Err k
 
 -- a name that the open task takes
-abbrev pub fresh_taken : Names → Option (List ℕ) → List ℕ → Result (Unit {0}) JobKind
+abbrev pub fresh_taken : KnownNames → Option (List ℕ) → List ℕ → Result (Unit {0}) JobKind
 fresh_taken names task name = fresh (names name) >>= λ _. outside_main task
 
 -- what goes from an object or a queue into a variable: the variable, and then the other, of its kind
-abbrev pub taken_out : Names → List ℕ → Mode → List ℕ → Result (Unit {0}) JobKind
-taken_out names v mode name = checked (variable names None v >>= λ k. held names (Some k) mode name)
+abbrev pub taken_out : KnownNames → List ℕ → Mode → List ℕ → Result (Unit {0}) JobKind
+taken_out names v mode name = kind_dropped (variable names None v >>= λ k. held names (Some k) mode name)
 
 -- what goes into an object or a queue: the object or queue, and then the atom, of its kind
-abbrev pub put_in : Names → Mode → List ℕ → Atom → Result (Unit {0}) JobKind
-put_in names mode name a = checked (held names None mode name >>= λ k. value names (Some k) a)
+abbrev pub put_in : KnownNames → Mode → List ℕ → Atom → Result (Unit {0}) JobKind
+put_in names mode name a = kind_dropped (held names None mode name >>= λ k. value names (Some k) a)
 
 -- an emptiness test: the variable, which is a number, and then the queue, of any kind
-abbrev pub emptiness : Names → List ℕ → List ℕ → Result (Unit {0}) JobKind
-emptiness names v q = checked (variable names (Some Int) v >>= λ _. held names None Pop q)
+abbrev pub emptiness : KnownNames → List ℕ → List ℕ → Result (Unit {0}) JobKind
+emptiness names v q = kind_dropped (variable names (Some Int) v >>= λ _. held names None Pop q)
 
 -- a declaration, or a statement that names neither a task nor an operation
-abbrev pub plain : Names → Option (List ℕ) → Line → Result (Unit {0}) JobKind
+abbrev pub plain : KnownNames → Option (List ℕ) → Line → Result (Unit {0}) JobKind
 plain names task (line.Input name) = fresh (names name)
 plain names task (line.Output name k) = fresh (names name)
 plain names task (line.Object name k) = fresh (names name)
@@ -64,10 +64,10 @@ plain names task (line.Write o a) = put_in names Out o a
 plain names task (line.Push q a) = put_in names Push q a
 plain names task (line.Pop v q) = taken_out names v Pop q
 plain names task (line.Empty v q) = emptiness names v q
-plain names task (line.Fuel v) = checked (variable names (Some Int) v)
-plain names task (line.Fail a) = checked (value names (Some Int) a)
-plain names task (line.If a) = checked (value names (Some Int) a)
-plain names task (line.While a) = checked (value names (Some Int) a)
+plain names task (line.Fuel v) = kind_dropped (variable names (Some Int) v)
+plain names task (line.Fail a) = kind_dropped (value names (Some Int) a)
+plain names task (line.If a) = kind_dropped (value names (Some Int) a)
+plain names task (line.While a) = kind_dropped (value names (Some Int) a)
 plain names task _ = Ok tt
 
 -- a line, by what the lines before it say

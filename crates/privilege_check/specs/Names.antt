@@ -11,8 +11,8 @@ use Rattle.privilege_check.specs.declared.declaration.Declaration.{Declaration}
 use Rattle.privilege_check.specs.declared.declaration.Declaration.TheVariants.{Variable, Held}
 
 -- what each name stands for, if it is known
-abbrev pub Names : Type 0
-Names = List ℕ → Option Declaration
+abbrev pub KnownNames : Type 0
+KnownNames = List ℕ → Option Declaration
 
 abbrev pub no_names : {A : Type 0} → List ℕ → Option A
 no_names name = None
@@ -35,15 +35,15 @@ is_main task = bytes_eq task (codes "main")
 
 -- The names that are known: at the top level its own, in a task those that it declares, and in main
 -- those of the top level too.
-abbrev pub known_in : Option (List ℕ) → Names → Names → Names
+abbrev pub known_in : Option (List ℕ) → KnownNames → KnownNames → KnownNames
 known_in None own top name = top name
 known_in (Some task) own top name = option_or (own name) (if is_main task then top name else None)
 
-abbrev pub known : Before → Names
+abbrev pub known : Before → KnownNames
 known before = known_in before.open_task before.own before.top
 
 -- A declaration adds a name at the top level, or to the open task.
-abbrev pub with_name : List ℕ → Declaration → Names → Names
+abbrev pub with_name : List ℕ → Declaration → KnownNames → KnownNames
 with_name name declaration names = update bytes_eq names name (Some declaration)
 
 abbrev pub after_declare_in : Option (List ℕ) → List ℕ → Declaration → Before → Before

@@ -7,7 +7,7 @@ use Rattle.job_reader.specs.declared.atom.Atom.{Atom}
 use Rattle.job_reader.specs.declared.fault.JobKind.{JobKind}
 use Rattle.job_reader.specs.declared.op.Op.{Op}
 use Rattle.job_reader.specs.declared.op.Op.TheVariants as op
-use Rattle.privilege_check.specs.Names.{Names}
+use Rattle.privilege_check.specs.Names.{KnownNames}
 use Rattle.privilege_check.specs.Uses.{value, variable}
 
 -- the kind of the result, which the variable is asked to have; `set` has any
@@ -37,14 +37,14 @@ later_kind op.Cat k = Bytes
 later_kind _ k = Int
 
 -- atoms that are all of one kind
-abbrev pub values : Names → Kind → List Atom → Result (Unit {0}) JobKind
+abbrev pub values : KnownNames → Kind → List Atom → Result (Unit {0}) JobKind
 values names k [] = Ok tt
 values names k (a ∷ more) = value names (Some k) a >>= λ _. values names k more
 
-abbrev pub operands : Names → Op → Kind → List Atom → Result (Unit {0}) JobKind
+abbrev pub operands : KnownNames → Op → Kind → List Atom → Result (Unit {0}) JobKind
 operands names op k [] = Ok tt
 operands names op k (a ∷ more) = value names (first_kind op k) a >>= λ first. values names (later_kind op first) more
 
 -- an assignment: first the variable, and then the atoms
-abbrev pub assignment : Names → List ℕ → Op → List Atom → Result (Unit {0}) JobKind
+abbrev pub assignment : KnownNames → List ℕ → Op → List Atom → Result (Unit {0}) JobKind
 assignment names v op atoms = variable names (result_kind op) v >>= λ k. operands names op k atoms

@@ -10,7 +10,7 @@ use Rattle.job_reader.specs.declared.atom.Atom.{Atom}
 use Rattle.job_reader.specs.declared.atom.Atom.TheVariants as atom
 use Rattle.job_reader.specs.declared.fault.JobKind.{JobKind}
 use Rattle.job_reader.specs.declared.fault.JobKind.TheVariants as fault
-use Rattle.privilege_check.specs.Names.{Before, is_main, known, Names}
+use Rattle.privilege_check.specs.Names.{Before, is_main, known, KnownNames}
 use Rattle.privilege_check.specs.Uses.{held, value}
 use Rattle.privilege_check.specs.declared.declaration.Declaration.{Declaration}
 use Rattle.privilege_check.specs.declared.declaration.Declaration.TheVariants.{Variable, Held}
@@ -21,13 +21,13 @@ as_child task None = Err fault.Unknown
 as_child task (Some takes) = if is_main task then Err fault.MainParams else Ok takes
 
 -- an argument for what a task takes: an atom for a variable, and else a name with the rights
-abbrev pub argument : Names → Declaration → Atom → Result Kind JobKind
+abbrev pub argument : KnownNames → Declaration → Atom → Result Kind JobKind
 argument names (Variable k) a = value names (Some k) a
 argument names (Held mode k) (atom.Name name) = held names (Some k) mode name
 argument names (Held mode k) _ = Err fault.Kind
 
 -- arguments in their order
-abbrev pub arguments : Names → List Declaration → List Atom → Result (Unit {0}) JobKind
+abbrev pub arguments : KnownNames → List Declaration → List Atom → Result (Unit {0}) JobKind
 arguments names (takes ∷ more) (a ∷ others) = argument names takes a >>= λ _. arguments names more others
 arguments names _ _ = Ok tt
 
@@ -52,7 +52,7 @@ abbrev pub unaliased : List (List ℕ × Mode) → Result (Unit {0}) JobKind
 unaliased gifts = if is_lent_twice gifts then Err fault.Alias else Ok tt
 
 -- what a task is given: as many arguments as it takes, each as it takes it, and nothing twice
-abbrev pub given : Names → List Atom → List Declaration → Result (Unit {0}) JobKind
+abbrev pub given : KnownNames → List Atom → List Declaration → Result (Unit {0}) JobKind
 given names args takes =
     if length args == length takes
     then (arguments names takes args >>= λ _. unaliased (lent takes args))

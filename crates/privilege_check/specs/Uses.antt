@@ -9,7 +9,7 @@ use Rattle.job_reader.specs.declared.atom.Atom.{Atom}
 use Rattle.job_reader.specs.declared.atom.Atom.TheVariants as atom
 use Rattle.job_reader.specs.declared.fault.JobKind.{JobKind}
 use Rattle.job_reader.specs.declared.fault.JobKind.TheVariants as fault
-use Rattle.privilege_check.specs.Names.{Names}
+use Rattle.privilege_check.specs.Names.{KnownNames}
 use Rattle.privilege_check.specs.declared.declaration.Declaration.{Declaration}
 use Rattle.privilege_check.specs.declared.declaration.Declaration.TheVariants.{Variable, Held}
 
@@ -29,7 +29,7 @@ as_variable asked None = Err fault.Unknown
 as_variable asked (Some (Variable k)) = of_kind asked k
 as_variable asked (Some (Held mode k)) = Err fault.Kind
 
-abbrev pub variable : Names → Option Kind → List ℕ → Result Kind JobKind
+abbrev pub variable : KnownNames → Option Kind → List ℕ → Result Kind JobKind
 variable names asked name = as_variable asked (names name)
 
 -- whether both are modes of objects, or both of queues
@@ -45,11 +45,11 @@ as_held asked mode (Some (Held own k)) =
     then (if allows own mode then Ok k else Err fault.Privilege)
     else Err fault.Kind
 
-abbrev pub held : Names → Option Kind → Mode → List ℕ → Result Kind JobKind
+abbrev pub held : KnownNames → Option Kind → Mode → List ℕ → Result Kind JobKind
 held names asked mode name = as_held asked mode (names name)
 
 -- an atom: the kind of the number, of the literal, or of the variable
-abbrev pub value : Names → Option Kind → Atom → Result Kind JobKind
+abbrev pub value : KnownNames → Option Kind → Atom → Result Kind JobKind
 value names asked (atom.Int n) = of_kind asked kind.Int
 value names asked (atom.Bytes bytes) = of_kind asked kind.Bytes
 value names asked (atom.Name name) = variable names asked name

@@ -1,7 +1,7 @@
 // Lines.
 ghost use Rattle.std.specs.Prelude.{◌≡◌};
-ghost use Rattle.privilege_check.specs.Checking.{Gives, state_of};
-ghost use Rattle.privilege_check.specs.FirstFault.{check_line, checked, emptiness, fresh, fresh_taken, plain, put_in, taken_out};
+ghost use Rattle.privilege_check.specs.Checking.{IsCheckedAs, state_of};
+ghost use Rattle.privilege_check.specs.FirstFault.{check_line, kind_dropped, emptiness, fresh, fresh_taken, plain, put_in, taken_out};
 ghost use Rattle.privilege_check.specs.Names.{known};
 ghost use Rattle.privilege_check.specs.Uses.{value};
 
@@ -74,7 +74,7 @@ impl Checker<'_> {
 
     /// A number.
     fn number(&self, atom: &Atom) -> Result<(), JobKind>
-        ensures { result ≡ checked (value (known (state_of self.now)) (Some Kind.Int) atom.now) }
+        ensures { result ≡ kind_dropped (value (known (state_of self.now)) (Some Kind.Int) atom.now) }
     {
         self.value(Some(Kind::Int), atom)?;
         Ok(())
@@ -105,7 +105,7 @@ impl Checker<'_> {
     /// A line, by what the lines before it say. Refused comes exactly with its first fault.
     /// `O(log names)` for each of its names, and for a spawn an allocation for each object and queue.
     pub fn check(&self, line: &Line) -> Result<(), CheckLine>
-        ensures { Gives result (check_line (state_of self.now) line.now) }
+        ensures { IsCheckedAs result (check_line (state_of self.now) line.now) }
     {
         match line {
             Line::Task(name) => self.fresh_task(name)?,

@@ -1,6 +1,6 @@
 // Spawns.
 ghost use Rattle.std.specs.Prelude.{◌≡◌, IfOk, length};
-ghost use Rattle.privilege_check.specs.Checking.{Gives, state_of};
+ghost use Rattle.privilege_check.specs.Checking.{IsCheckedAs, state_of};
 ghost use Rattle.privilege_check.specs.Names.{known};
 ghost use Rattle.privilege_check.specs.Spawns.{argument, arguments, given, is_lent_twice, lent, spawn};
 
@@ -37,7 +37,7 @@ impl Checker<'_> {
     /// What a task is given: as many arguments as it takes, each as it takes it, and nothing twice.
     /// `O(arguments · log names)`.
     fn given(&self, takes: &[Declaration], args: &[Atom]) -> Result<(), CheckLine>
-        ensures { Gives result (given (known (state_of self.now)) args.now takes.now) }
+        ensures { IsCheckedAs result (given (known (state_of self.now)) args.now takes.now) }
     {
         if args.len() != takes.len() {
             return Err(CheckLine::Refused(JobKind::Arity));
@@ -52,7 +52,7 @@ impl Checker<'_> {
     /// A spawn: the child's fuel, its task, and what it is given. `O(arguments · log names)`, and an
     /// allocation for each object and queue.
     pub fn spawn(&self, fuel: &Atom, task: &Word, args: &[Atom]) -> Result<(), CheckLine>
-        ensures { Gives result (spawn (state_of self.now) fuel.now task.now args.now) }
+        ensures { IsCheckedAs result (spawn (state_of self.now) fuel.now task.now args.now) }
     {
         self.value(Some(Kind::Int), fuel)?;
         let Some(takes) = self.takes(task.as_str()) else {

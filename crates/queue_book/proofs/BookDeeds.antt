@@ -16,7 +16,7 @@ use Rattle.queues.specs.Chunks.{Chunks, without_spent, with_item, without_first}
 use Rattle.queue_book.specs.Chains.{Link, AreChained, in_line}
 use Rattle.queue_book.specs.Fronts.{IsFrontTold, IsTurnTold}
 use Rattle.queue_book.specs.KeptFrames.{KeptFrame}
-use Rattle.queue_book.specs.Live.{kept_of, key_at, lent_of, IsFrame}
+use Rattle.queue_book.specs.Live.{kept_of, key_at, lent_of, IsFrameKept}
 use Rattle.pop_order.specs.OneChange.{IsOnlyChange}
 use Rattle.queue_book.specs.Whole.{IsBook, IsPlain}
 use Rattle.queues.specs.declared.answers.Tested.TheVariants as tested
@@ -55,7 +55,7 @@ module _ (name : Option Script) (state : QueueState) (frames : LiveFrames) (head
       let kept = was.0 in
       let free = not_lent kept act.frame.lent was.2.lent act.may.back in
       let counted_one = kept_changed frames after_frames n kept counted was.1 one in
-      let frame : IsFrame (after_deed state n) (counted kept) (with_deed act.frame) = record {
+      let frame : IsFrameKept (after_deed state n) (counted kept) (with_deed act.frame) = record {
         deeds = ap (λ k. k + 1) was.2.deeds;
         lent = act.may.back ∙ sym (lent_none (counted kept) free);
         places = was.2.places;

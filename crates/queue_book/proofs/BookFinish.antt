@@ -15,7 +15,7 @@ use Rattle.queues.specs.Chunks.{Chunks, after_close}
 use Rattle.queue_book.specs.Chains.{Link, AreChained}
 use Rattle.queue_book.specs.Ended.{line_after_end, lines_after_end, own_keys, IsAlone}
 use Rattle.queue_book.specs.KeptFrames.{KeptFrame, own_chunk_in}
-use Rattle.queue_book.specs.Live.{kept_of, key_at, key_in, IsFrame}
+use Rattle.queue_book.specs.Live.{kept_of, key_at, key_in, IsFrameKept}
 use Rattle.pop_order.specs.OneChange.{IsOnlyChange}
 use Rattle.queues.specs.Tree.{IsTree, has_queue, maker_path, IsInUse}
 use Rattle.queue_book.specs.Whole.{IsBook, IsLine, IsPlain}
@@ -51,7 +51,7 @@ below_root state tree n frame live other none =
     omega arith
 
 module _ (name : Option Script) (state : QueueState) (lines : ℕ → Chunks) (is : IsPlain name state lines) (n : ℕ) (may : MayJoin state n)
-    (over : OnNext name state n (λ s f. next_queue_deed s f.path f.deeds ≡ None)) (kept : KeptFrame) (agrees : IsFrame state kept may.frame) where
+    (over : OnNext name state n (λ s f. next_queue_deed s f.path f.deeds ≡ None)) (kept : KeptFrame) (agrees : IsFrameKept state kept may.frame) where
   module _ (q : ℕ) (maker : QueueMaker) (made : slice_get state.makers q ≡ Some maker) where
     line_gone : has_queue may.frame q ≡ false → IsLine name (after_finish state n) q maker (lines q)
     line_gone lacks =
@@ -114,12 +114,12 @@ module _ (name : Option Script) (state : QueueState) (lines : ℕ → Chunks) (i
 
 module _ (name : Option Script) (state : QueueState) (frames : LiveFrames) (heads : List (Option ℕ)) (nodes : Slab Link) (turns : Frames) (is : IsBook name state frames heads nodes turns)
     (n : ℕ) (may : MayJoin state n) (kept : KeptFrame) (at : kept_of frames n ≡ Some kept) where
-  pub kept_frame : IsFrame state kept may.frame
+  pub kept_frame : IsFrameKept state kept may.frame
   kept_frame =
       let was = kept_live state frames is.live n may.frame may.may.live in
       let both : Some was.0 ≡ Some kept = sym was.1 ∙ at in
       let same : was.0 ≡ kept = cc in
-      let P : KeptFrame → Type 0 = λ k. IsFrame state k may.frame in
+      let P : KeptFrame → Type 0 = λ k. IsFrameKept state k may.frame in
       subst P same was.2
 
   keys_own : (m q : ℕ) → own_keys n kept.places (key_at frames) m q ≡ key_at frames m q

@@ -12,7 +12,7 @@ use Rattle.queues.specs.Asks.{IsRecorded}
 use Rattle.queues.specs.Tells.{with_active}
 use Rattle.queue_book.specs.Chains.{Link}
 use Rattle.queue_book.specs.KeptFrames.{KeptFrame}
-use Rattle.queue_book.specs.Live.{is_lent_with, kept_of, key_at, AreLive, IsFrame}
+use Rattle.queue_book.specs.Live.{is_lent_with, kept_of, key_at, AreLive, IsFrameKept}
 use Rattle.pop_order.specs.OneChange.{IsOnlyChange}
 use Rattle.queue_book.specs.NoEnds.{no_ends}
 use Rattle.queue_book.specs.Whole.{IsBook}
@@ -39,7 +39,7 @@ module _ (name : Option Script) (state : QueueState) (frames : LiveFrames) (head
       let was = kept_live state frames is.live n frame live in
       let kept = was.0 in
       let lent_one = kept_changed frames after_frames n kept (with_lent true) was.1 one in
-      let now : IsFrame (after_lend state frame []) (with_lent true kept) (change frame) = record {
+      let now : IsFrameKept (after_lend state frame []) (with_lent true kept) (change frame) = record {
         deeds = was.2.deeds;
         lent = ap (λ k. Some (record { deeds = k; ends = [] })) (sym was.2.deeds);
         places = was.2.places;
@@ -65,7 +65,7 @@ module _ (name : Option Script) (state : QueueState) (frames : LiveFrames) (head
       let was = kept_live state frames is.live n frame live in
       let kept = was.0 in
       let back_one = kept_changed frames after_frames n kept (with_lent false) was.1 one in
-      let now : IsFrame (after_back state n frame.deeds) (with_lent false kept) (change frame) = record {
+      let now : IsFrameKept (after_back state n frame.deeds) (with_lent false kept) (change frame) = record {
         deeds = was.2.deeds;
         lent = refl;
         places = was.2.places;

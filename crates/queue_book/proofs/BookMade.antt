@@ -16,7 +16,7 @@ use Rattle.queues.specs.Asks.{MayDo, OnNext}
 use Rattle.queues.specs.Chunks.{own}
 use Rattle.queue_book.specs.Chains.{Link, AreChained, in_line, put_at}
 use Rattle.queue_book.specs.KeptFrames.{KeptFrame, own_chunk_in}
-use Rattle.queue_book.specs.Live.{kept_of, key_at, lent_of, with_own_chunk, IsFrame}
+use Rattle.queue_book.specs.Live.{kept_of, key_at, lent_of, with_own_chunk, IsFrameKept}
 use Rattle.pop_order.specs.OneChange.{IsOnlyChange}
 use Rattle.queue_book.specs.Made.{IsMadeIn}
 use Rattle.queues.specs.Tree.{has_queue, maker_path}
@@ -53,7 +53,7 @@ module _ (name : Option Script) (state after : QueueState) (frames : LiveFrames)
   later_holds : (q : ℕ) (mode : Mode) → holds_queue later q mode ≡ holds_queue (with_made (length state.makers) frame) q mode
   later_holds q mode = ap (λ rs. holds_queue (record later { rights = rs }) q mode) rights
 
-  module _ (after_frames : LiveFrames) (key : ℕ) (kept now_kept : KeptFrame) (was : kept_of frames n ≡ Some kept) (agrees : IsFrame state kept frame)
+  module _ (after_frames : LiveFrames) (key : ℕ) (kept now_kept : KeptFrame) (was : kept_of frames n ≡ Some kept) (agrees : IsFrameKept state kept frame)
       (one : IsOnlyChange (kept_of frames) (kept_of after_frames) n (Some now_kept)) (deeds : now_kept.deeds ≡ later.deeds) (lent : later.lent ≡ lent_of now_kept)
       (places : now_kept.places ≡ (with_own_chunk (length state.makers) (record { key = key; is_maker = true; pushes = true }) kept).places) where
     abbrev place_now : OwnChunk
@@ -62,7 +62,7 @@ module _ (name : Option Script) (state after : QueueState) (frames : LiveFrames)
     at_place : (q : ℕ) → own_chunk_in now_kept.places q ≡ own_chunk_in (with_own_chunk (length state.makers) (record { key = key; is_maker = true; pushes = true }) kept).places q
     at_place q = ap (λ ps. own_chunk_in ps q) places
 
-    is_frame : IsFrame after now_kept later
+    is_frame : IsFrameKept after now_kept later
     is_frame = record {
       deeds = deeds;
       lent = lent;

@@ -13,7 +13,7 @@ use Rattle.queue_book.specs.Chains.{Link, AreChained}
 use Rattle.queue_book.specs.Ended.{own_keys}
 use Rattle.queue_book.specs.Handed.{lines_after_gives, IsMoved}
 use Rattle.queue_book.specs.KeptFrames.{KeptFrame}
-use Rattle.queue_book.specs.Live.{kept_of, key_at, key_in, Agrees, AreLive, IsFrame}
+use Rattle.queue_book.specs.Live.{kept_of, key_at, key_in, Agrees, AreLive, IsFrameKept}
 use Rattle.queue_book.specs.Spawned.{IsSpawnedIn, MayHandOn}
 use Rattle.queues.specs.Tree.{has_queue, maker_path, IsInUse}
 use Rattle.queue_book.specs.Whole.{IsBook}
@@ -108,7 +108,7 @@ module _ (name : Option Script) (state : QueueState) (frames : LiveFrames) (head
     kept_other : (m : ℕ) → m ≢ p → m ≢ child → kept_of after_frames m ≡ kept_of done.middle m
     kept_other m a b = done.child_now.others m b ∙ done.parent_now.others m a
 
-    child_frame : IsFrame after child_kept (child_of may.act.frame child gives)
+    child_frame : IsFrameKept after child_kept (child_of may.act.frame child gives)
     child_frame = record {
       deeds = refl;
       lent = refl;
@@ -124,7 +124,7 @@ module _ (name : Option Script) (state : QueueState) (frames : LiveFrames) (head
       pushers = λ q place at. done.given.pushers q place at;
     }
 
-    parent_frame : (kept one : KeptFrame) → IsFrame state kept may.act.frame → IsMoved kept one → IsFrame after (counted one) parent_now
+    parent_frame : (kept one : KeptFrame) → IsFrameKept state kept may.act.frame → IsMoved kept one → IsFrameKept after (counted one) parent_now
     parent_frame kept one was moved = record {
       deeds = ap (λ k. k + 1) (moved.deeds ∙ was.deeds);
       lent = may.act.may.back ∙ sym (lent_none (counted one) (moved.lent ∙ not_lent kept may.act.frame.lent was.lent may.act.may.back));
@@ -135,7 +135,7 @@ module _ (name : Option Script) (state : QueueState) (frames : LiveFrames) (head
     }
 
     agrees_at : (kept : Option KeptFrame) (found : Option ActiveFrame) (one : KeptFrame) (frame : ActiveFrame) → kept ≡ Some one → found ≡ Some frame
-        → IsFrame after one frame → Agrees after kept found
+        → IsFrameKept after one frame → Agrees after kept found
     agrees_at kept found one frame a b now =
         let Q : Option KeptFrame → Type 0 = λ o. Agrees after o found in
         let R : Option ActiveFrame → Type 0 = λ o. Agrees after (Some one) o in

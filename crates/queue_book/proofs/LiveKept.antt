@@ -8,7 +8,7 @@ use Rattle.queues.specs.Tree.{IsTree, has_queue}
 use Rattle.queue_book.specs.declared.live_frame.OwnChunk.{OwnChunk}
 use Rattle.queue_book.specs.declared.live_frames.LiveFrames.{LiveFrames}
 use Rattle.queue_book.specs.KeptFrames.{KeptFrame, own_chunk_in}
-use Rattle.queue_book.specs.Live.{kept_of, key_in, key_at, own_chunk_at, own_chunk_of, Agrees, AreLive, IsFrame}
+use Rattle.queue_book.specs.Live.{kept_of, key_in, key_at, own_chunk_at, own_chunk_of, Agrees, AreLive, IsFrameKept}
 use Rattle.pop_order.specs.OneChange.{IsOnlyChange}
 
 -- the makers of older queues are the same
@@ -16,34 +16,34 @@ abbrev pub SameMakers : QueueState → QueueState → Type 0
 SameMakers state after = (queue : ℕ) (maker : QueueMaker) → queue < length state.makers → slice_get after.makers queue ≡ Some maker → slice_get state.makers queue ≡ Some maker
 
 pub kept_active : (state : QueueState) (kept : Option KeptFrame) (found : Option ActiveFrame) (frame : ActiveFrame) → Agrees state kept found → found ≡ Some frame
-    → (one : KeptFrame) × (kept ≡ Some one) × IsFrame state one frame
+    → (one : KeptFrame) × (kept ≡ Some one) × IsFrameKept state one frame
 kept_active state None None frame is e = let never : None ≡ Some frame = e in absurd (cc)
-kept_active state (Some one) (Some first) frame is e = let same : first ≡ frame = cc in let P : ActiveFrame → Type 0 = λ f. IsFrame state one f in (one, refl, subst P same is)
+kept_active state (Some one) (Some first) frame is e = let same : first ≡ frame = cc in let P : ActiveFrame → Type 0 = λ f. IsFrameKept state one f in (one, refl, subst P same is)
 kept_active state None (Some first) frame is e = absurd is
 kept_active state (Some one) None frame is e = absurd is
 
 pub active_kept : (state : QueueState) (kept : Option KeptFrame) (found : Option ActiveFrame) (one : KeptFrame) → Agrees state kept found → kept ≡ Some one
-    → (frame : ActiveFrame) × (found ≡ Some frame) × IsFrame state one frame
+    → (frame : ActiveFrame) × (found ≡ Some frame) × IsFrameKept state one frame
 active_kept state None None one is e = let never : None ≡ Some one = e in absurd (cc)
-active_kept state (Some first) (Some frame) one is e = let same : first ≡ one = cc in let P : KeptFrame → Type 0 = λ k. IsFrame state k frame in (frame, refl, subst P same is)
+active_kept state (Some first) (Some frame) one is e = let same : first ≡ one = cc in let P : KeptFrame → Type 0 = λ k. IsFrameKept state k frame in (frame, refl, subst P same is)
 active_kept state None (Some first) one is e = absurd is
 active_kept state (Some first) None one is e = absurd is
 
 -- the frame that is kept of a number, where it is active
 pub kept_live : (state : QueueState) (frames : LiveFrames) → AreLive state frames → (n : ℕ) (frame : ActiveFrame) → active state n ≡ Some frame
-    → (one : KeptFrame) × (kept_of frames n ≡ Some one) × IsFrame state one frame
+    → (one : KeptFrame) × (kept_of frames n ≡ Some one) × IsFrameKept state one frame
 kept_live state frames live n frame e = kept_active state (kept_of frames n) (active state n) frame (live n) e
 
 pub live_kept : (state : QueueState) (frames : LiveFrames) → AreLive state frames → (n : ℕ) (one : KeptFrame) → kept_of frames n ≡ Some one
-    → (frame : ActiveFrame) × (active state n ≡ Some frame) × IsFrame state one frame
+    → (frame : ActiveFrame) × (active state n ≡ Some frame) × IsFrameKept state one frame
 live_kept state frames live n one e = active_kept state (kept_of frames n) (active state n) one (live n) e
 
 -- where a place is, the frame has the queue
-pub place_has : (state : QueueState) (one : KeptFrame) (frame : ActiveFrame) (queue : ℕ) (place : OwnChunk) → IsFrame state one frame → own_chunk_in one.places queue ≡ Some place
+pub place_has : (state : QueueState) (one : KeptFrame) (frame : ActiveFrame) (queue : ℕ) (place : OwnChunk) → IsFrameKept state one frame → own_chunk_in one.places queue ≡ Some place
     → has_queue frame queue ≡ true
 place_has state one frame queue place is e = sym (is.places queue) ∙ ap is_some e
 
-pub has_place : (state : QueueState) (one : KeptFrame) (frame : ActiveFrame) (queue : ℕ) → IsFrame state one frame → has_queue frame queue ≡ true
+pub has_place : (state : QueueState) (one : KeptFrame) (frame : ActiveFrame) (queue : ℕ) → IsFrameKept state one frame → has_queue frame queue ≡ true
     → (place : OwnChunk) × (own_chunk_in one.places queue ≡ Some place)
 has_place state one frame queue is has = found (own_chunk_in one.places queue) (is.places queue ∙ has) where
   found : (o : Option OwnChunk) → is_some o ≡ true → (place : OwnChunk) × (o ≡ Some place)
@@ -72,7 +72,7 @@ key_none state frames live n queue none = by_key (key_at frames n queue) refl wh
   by_key (Some key) e = let has = key_has state frames live n queue key e in absurd (none has.0 has.1 has.2)
 
 pub has_key : (state : QueueState) (frames : LiveFrames) → AreLive state frames → (n queue : ℕ) (frame : ActiveFrame) → active state n ≡ Some frame → has_queue frame queue ≡ true
-    → (one : KeptFrame) × (kept_of frames n ≡ Some one) × IsFrame state one frame × (place : OwnChunk) × (own_chunk_in one.places queue ≡ Some place)
+    → (one : KeptFrame) × (kept_of frames n ≡ Some one) × IsFrameKept state one frame × (place : OwnChunk) × (own_chunk_in one.places queue ≡ Some place)
 has_key state frames live n queue frame e has =
     let one = kept_live state frames live n frame e in
     let place = has_place state one.0 frame queue one.2 has in
@@ -96,7 +96,7 @@ pub kept_changed : (frames after : LiveFrames) (n : ℕ) (kept : KeptFrame) (cha
 kept_changed frames after n kept change is one = subst (IsOnlyChange (kept_of frames) (kept_of after) n) (ap (option_map change) is) one
 
 pub frame_on : (state after : QueueState) (one : KeptFrame) (frame : ActiveFrame) → SameMakers state after → ((queue : ℕ) → has_queue frame queue ≡ true → queue < length state.makers)
-    → IsFrame state one frame → IsFrame after one frame
+    → IsFrameKept state one frame → IsFrameKept after one frame
 frame_on state after one frame same known is = record {
   deeds = is.deeds;
   lent = is.lent;
@@ -122,7 +122,7 @@ module _ (state after : QueueState) (tree : IsTree state) (frames then_frames : 
       subst P (sym (one.others m other)) (subst Q (sym (only.others m other)) (agrees_on state after (kept_of frames m) (active state m) same
       (λ frame is queue has. (tree.held m queue frame is has).0) (live m)))
 
-  pub live_one : (kept : KeptFrame) (frame : ActiveFrame) → IsOnlyChange (kept_of frames) (kept_of then_frames) n (Some kept) → IsOnlyChange (active state) (active after) n (Some frame) → IsFrame after kept frame → AreLive after then_frames
+  pub live_one : (kept : KeptFrame) (frame : ActiveFrame) → IsOnlyChange (kept_of frames) (kept_of then_frames) n (Some kept) → IsOnlyChange (active state) (active after) n (Some frame) → IsFrameKept after kept frame → AreLive after then_frames
   live_one kept frame one only is m = elim (cases_eq m n) [
     | inl here ↦
         let P : ℕ → Type 0 = λ k. Agrees after (kept_of then_frames k) (active after k) in

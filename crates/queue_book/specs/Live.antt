@@ -52,7 +52,7 @@ is_lent_with (Some kept) deeds = kept.is_lent && (kept.deeds == deeds)
 
 -- what is kept of an active frame: its deeds, whether its ends are lent, its queues, which of them it made, and to which of
 -- them it may push
-pub record IsFrame (state : QueueState) (kept : KeptFrame) (frame : ActiveFrame) : Type 0 where
+pub record IsFrameKept (state : QueueState) (kept : KeptFrame) (frame : ActiveFrame) : Type 0 where
   pub deeds : kept.deeds ≡ frame.deeds
   pub lent : frame.lent ≡ lent_of kept
   pub places : (queue : ℕ) → is_some (own_chunk_in kept.places queue) ≡ has_queue frame queue
@@ -64,7 +64,7 @@ pub record IsFrame (state : QueueState) (kept : KeptFrame) (frame : ActiveFrame)
 
 abbrev pub Agrees : QueueState → Option KeptFrame → Option ActiveFrame → Type 0
 Agrees state None None = Unit {0}
-Agrees state (Some kept) (Some frame) = IsFrame state kept frame
+Agrees state (Some kept) (Some frame) = IsFrameKept state kept frame
 Agrees state None (Some frame) = ⊥
 Agrees state (Some kept) None = ⊥
 

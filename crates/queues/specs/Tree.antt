@@ -83,8 +83,8 @@ abbrev pub IsInUse : QueueState → ℕ → QueueMaker → Type 0
 IsInUse state queue maker = IsOfRoot (Some maker) ⊎ ((number : ℕ) × (frame : ActiveFrame) × (active state number ≡ Some frame) × (has_queue frame queue ≡ true))
 
 -- What holds of a frame, the child that it spawns as the script's next deed, and a queue by its number and its origin.
-abbrev pub OnSpawn : Script → QueueState → (ActiveFrame → ActiveFrame → ℕ → Origin → Type 0) → Type 0
-OnSpawn s state Holds =
+abbrev pub OnQueueSpawn : Script → QueueState → (ActiveFrame → ActiveFrame → ℕ → Origin → Type 0) → Type 0
+OnQueueSpawn s state Holds =
     IsLawful s → QueuesFollow s state → IsTree state
     → (n child : ℕ) (frame : ActiveFrame) (gives : List QueueRight) → active state n ≡ Some frame → active state child ≡ None → MayGive frame gives → NextSpawnGivesQueues s state frame gives
     → (number : ℕ) (queue : Origin) → queue_origin s state number ≡ Some queue → Holds frame (child_of frame child gives) number queue

@@ -17,7 +17,7 @@ ghost use Rattle.swan_model.specs.Told.{count, taken};
 ghost use Rattle.queues.specs.Asks.{MayDo, MayJoin, MaySpawn};
 ghost use Rattle.queues.specs.Chunks.{Chunk, Chunks, HasOwners, HasTaken, IsFirstPopper, OnOwners, OnTaken, OnTakenBy, after_close, after_hand_on, own};
 ghost use Rattle.queues.specs.Tells.{FindsItem, FindsNone};
-ghost use Rattle.queues.specs.Tree.{IsTree, OnSpawn, has_queue, maker_path};
+ghost use Rattle.queues.specs.Tree.{IsTree, OnQueueSpawn, has_queue, maker_path};
 ghost use Rattle.queues.specs.Turned.{gives_queue};
 
 /// The law that the chunks of a queue stay owned by those who have it, in serial order. A new queue has one chunk, its
@@ -127,15 +127,15 @@ pub fn what_is_taken_goes_on()
 /// the frame ends.
 pub fn counts_go_on()
     // a spawn: the child's first point, and the parent's next one
-    ensures child { (s : Script) (state : QueueState) → OnSpawn s state (λ frame child number queue.
+    ensures child { (s : Script) (state : QueueState) → OnQueueSpawn s state (λ frame child number queue.
         (count_at s child queue ≡ count_at s frame queue) × (taken_at s child queue ≡ taken_at s frame queue)) }
-    ensures parent { (s : Script) (state : QueueState) → OnSpawn s state (λ frame child number queue.
+    ensures parent { (s : Script) (state : QueueState) → OnQueueSpawn s state (λ frame child number queue.
         (count_at s (with_deed frame) queue ≡ count s queue (end_time s child.path)) × (taken_at s (with_deed frame) queue ≡ taken s queue (end_time s child.path))) }
 
     // a child that may not push, or not pop
-    ensures no_push { (s : Script) (state : QueueState) → OnSpawn s state (λ frame child number queue. has_queue frame number ≡ true → holds_queue child number Push ≡ false
+    ensures no_push { (s : Script) (state : QueueState) → OnQueueSpawn s state (λ frame child number queue. has_queue frame number ≡ true → holds_queue child number Push ≡ false
         → count s queue (end_time s child.path) ≡ count_at s frame queue) }
-    ensures no_pop { (s : Script) (state : QueueState) → OnSpawn s state (λ frame child number queue. has_queue frame number ≡ true → holds_queue child number Pop ≡ false
+    ensures no_pop { (s : Script) (state : QueueState) → OnQueueSpawn s state (λ frame child number queue. has_queue frame number ≡ true → holds_queue child number Pop ≡ false
         → taken s queue (end_time s child.path) ≡ taken_at s frame queue) }
 
     // another deed, and the end

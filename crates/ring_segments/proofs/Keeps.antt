@@ -11,7 +11,7 @@ use Rattle.atomic_table.specs.Table.{State, Me, Act, step, keeps, takes, gives, 
 use Rattle.atomic_table.proofs.Lists.{at_set, at_snoc, set_here, set_else, one_turn}
 use Rattle.ring_segments.specs.declared.rule.SeatView.{SeatView}
 use Rattle.ring_segments.specs.Ends.{first_told}
-use Rattle.ring_segments.specs.Words.{words_of, idle_view, opening_view, producer_of, consumer_of, note_of, sealed_of, last_note_of, spent, learnt, looked, missed, RingState, SeatKnows, AreCounts, AreSlots, IsRing, saw_head, put, took, Bounds, saw_tail, heard, reached}
+use Rattle.ring_segments.specs.Words.{words_of, idle_view, opening_view, producer_of, consumer_of, note_view, sealed_of, last_note_view, spent, learnt, looked, missed, RingState, SeatKnows, AreCounts, AreSlots, IsRing, saw_head, put, took, Bounds, saw_tail, heard, reached}
 
 module _ {V : Type 0} where
   at_end : (l : List V) (a b : V) (j : ℕ) → get_elem? l j ≢ some b → get_elem? (l ++ a ∷ []) j ≡ some b → j ≡ length l
@@ -261,8 +261,8 @@ module _ {E O : Type 0} (index : E → ℕ) (of : E → O) (HasRoom : O → ℕ 
   knows_idle : (p : RingState) (j n : ℕ) (a : Option ℕ) → n ≤ p.tail → ForSome a (λ m. (m ≡ p.tail) × (p.sealed ≡ true)) → SeatKnows owner p j (idle_view n a)
   knows_idle p j n a le f = ((λ p. absurd (true≢false (sym p))), (λ p. absurd (true≢false (sym p))), le, f)
 
-  pub notes : (id : ℕ) (v : SeatView O) → v.pushes ≡ true → Splits Rule id v v (note_of v)
-  notes id v may s r at = let o : SeatView O = note_of v in let mine = r.each id v at in record {
+  pub notes : (id : ℕ) (v : SeatView O) → v.pushes ≡ true → Splits Rule id v v (note_view v)
+  notes id v may s r at = let o : SeatView O = note_view v in let mine = r.each id v at in record {
     at = r.at;
     words = r.words;
     counts = r.counts;
@@ -271,8 +271,8 @@ module _ {E O : Type 0} (index : E → ℕ) (of : E → O) (HasRoom : O → ℕ 
         (λ (is : o ≡ u). subst (SeatKnows owner r.at j) is (let same = (mine.0 may).1 in knows_idle r.at j v.pushed None (omega arith) (λ m e. absurd (cc)))) (at_snoc (set s.views id v) o u j e);
   }
 
-  pub last_notes : (id : ℕ) (v : SeatView O) → v.pushes ≡ true → Splits Rule id v (sealed_of v) (last_note_of v)
-  last_notes id v may s r at = let l : SeatView O = sealed_of v in let o : SeatView O = last_note_of v in let mine = r.each id v at in let same = (mine.0 may).1 in
+  pub last_notes : (id : ℕ) (v : SeatView O) → v.pushes ≡ true → Splits Rule id v (sealed_of v) (last_note_view v)
+  last_notes id v may s r at = let l : SeatView O = sealed_of v in let o : SeatView O = last_note_view v in let mine = r.each id v at in let same = (mine.0 may).1 in
       let q : RingState = record r.at { sealed = true } in record {
         at = q;
         words = r.words;

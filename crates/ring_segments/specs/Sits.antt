@@ -8,8 +8,8 @@ use Rattle.ring_segments.specs.Entries.{IndexedItem}
 use Rattle.ring_segments.specs.Seating.{id_of}
 use Rattle.ring_segments.specs.Tags.{SegmentId}
 
-abbrev pub Place : Type 0
-Place = Seat (Option IndexedItem) (SeatView SegmentId)
+abbrev pub RingSeat : Type 0
+RingSeat = Seat (Option IndexedItem) (SeatView SegmentId)
 
 -- a segment whose table was made for it
 pub record HasTable (ring : Ring) : Type 0 where
@@ -18,21 +18,21 @@ pub record HasTable (ring : Ring) : Type 0 where
   pub some_size : 0 < ring.about.size
 
 -- a seat of the segment, with no slot
-pub record Sits (ring : Ring) (seat : Place) : Type 0 where
+pub record Sits (ring : Ring) (seat : RingSeat) : Type 0 where
   pub made : HasTable ring
   pub table : seat.table_id ≡ ring.table.shared.table_id
   pub owner : seat.me.0.owner ≡ Some (id_of ring.about)
   pub empty : seat.me.1 ≡ []
 
 -- the seat of a producer that has pushed so many items
-pub record IsPushing (ring : Ring) (seat : Place) (pushed : ℕ) : Type 0 where
+pub record IsPushing (ring : Ring) (seat : RingSeat) (pushed : ℕ) : Type 0 where
   pub sits : Sits ring seat
   pub pushes : seat.me.0.pushes ≡ true
   pub idle : seat.me.0.putting ≡ false
   pub count : seat.me.0.pushed ≡ pushed
 
 -- the seat of a consumer that has popped so many
-pub record IsPopping (ring : Ring) (seat : Place) (popped : ℕ) : Type 0 where
+pub record IsPopping (ring : Ring) (seat : RingSeat) (popped : ℕ) : Type 0 where
   pub sits : Sits ring seat
   pub pops : seat.me.0.pops ≡ true
   pub idle : seat.me.0.taking ≡ false
@@ -55,5 +55,5 @@ consumer_state ring v = record {
   empties = v.misses;
 }
 
-abbrev pub note_state : Place → NoteState
+abbrev pub note_state : RingSeat → NoteState
 note_state seat = record { table = seat.table_id; keeps = seat.me.0.known; all = seat.me.0.all }

@@ -43,16 +43,16 @@ module _ {O : Type 0} where
   consumer_of v = record v { pushes = false }
 
   -- a note keeps what was pushed
-  abbrev pub note_of : SeatView O → SeatView O
-  note_of v = idle_view v.pushed None
+  abbrev pub note_view : SeatView O → SeatView O
+  note_view v = idle_view v.pushed None
 
   -- no push follows
   abbrev pub sealed_of : SeatView O → SeatView O
   sealed_of v = record v { sealed = true }
 
   -- and then a note keeps all that is ever pushed
-  abbrev pub last_note_of : SeatView O → SeatView O
-  last_note_of v = idle_view v.pushed (Some v.pushed)
+  abbrev pub last_note_view : SeatView O → SeatView O
+  last_note_view v = idle_view v.pushed (Some v.pushed)
 
   abbrev pub spent : SeatView O
   spent = idle_view 0 None

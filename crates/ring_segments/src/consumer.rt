@@ -8,7 +8,7 @@ ghost use Rattle.ring_segments.specs.Sits.{consumer_state, IsPopping};
 ghost use Rattle.ring_segments.specs.Tags.{IsInside, IsItem, OwesRest, tag_of};
 
 use crate::steps::{hear, look, take_out};
-use crate::{Link, Note, Place, Ring, Tag};
+use crate::{Link, Note, Ring, RingSeat, Tag};
 use std::alloc::Global;
 use std::marker::Model;
 use std::sync::Arc;
@@ -18,7 +18,7 @@ use swan_model::Value;
 #[derive(Drop)]
 pub struct Consumer {
     ring: Arc<Ring, Global>,
-    seat: Place,
+    seat: RingSeat,
     popped: u64,
 }
 
@@ -38,7 +38,7 @@ impl Model for Consumer {
 
 impl Consumer {
     /// The consumer of a segment, at its seat. `O(1)`.
-    pub(crate) fn new(ring: Arc<Ring, Global>, seat: Place) -> Consumer
+    pub(crate) fn new(ring: Arc<Ring, Global>, seat: RingSeat) -> Consumer
         requires { IsPopping (arc_value ring) seat 0 }
         ensures { result ≡ consumer_state (arc_value ring) seat.me.0 }
     {

@@ -41,6 +41,6 @@ pub use note::Note;
 use plays::{Ends, Hear, LastNotes, Notes, Put, Reach, SeeHead, SeeTail, Take};
 pub use producer::Producer;
 pub use ring::segment;
-use ring::{Place, Ring};
+use ring::{Ring, RingSeat};
 use rule::{About, RingRule, Seen};
 pub use tag::Tag;

@@ -6,7 +6,7 @@ ghost use Rattle.ring_segments.specs.Sits.{IsPushing, shown_of};
 ghost use Rattle.ring_segments.specs.Tags.{OwesRest};
 
 use crate::steps::note_last;
-use crate::{Consumer, Note, Place, Ring};
+use crate::{Consumer, Note, Ring, RingSeat};
 use std::alloc::Global;
 use std::marker::Model;
 use std::sync::Arc;
@@ -15,7 +15,7 @@ use std::sync::Arc;
 #[derive(Drop)]
 pub struct Link {
     ring: Arc<Ring, Global>,
-    seat: Place,
+    seat: RingSeat,
     pushed: u64,
     next: Consumer,
 }
@@ -37,7 +37,7 @@ impl Model for Link {
 
 impl Link {
     /// The link of a producer's seat, which is spent, and the next segment's consumer. `O(1)`.
-    pub(crate) fn new(ring: Arc<Ring, Global>, seat: Place, pushed: u64, next: Consumer) -> Link
+    pub(crate) fn new(ring: Arc<Ring, Global>, seat: RingSeat, pushed: u64, next: Consumer) -> Link
         requires seat { IsPushing (arc_value ring) seat pushed }
         requires next { (next.popped ≡ 0) × OwesRest (shown_of (arc_value ring)).id pushed next.of.id }
         ensures { result ≡ record { of = shown_of (arc_value ring); pushed = pushed; next = next } }

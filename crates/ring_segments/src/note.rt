@@ -2,13 +2,13 @@
 ghost use Rattle.std.specs.Prelude.{◌≡◌, []};
 ghost use Rattle.ring_segments.specs.Sits.{note_state};
 
-use crate::Place;
+use crate::RingSeat;
 use std::marker::Model;
 
 /// What a producer had pushed when this note was made. It has no bytes. Only `Producer::note` and `Link::note` make one.
 #[derive(Drop)]
 pub struct Note {
-    seat: Place,
+    seat: RingSeat,
 }
 
 impl Model for Note {
@@ -25,7 +25,7 @@ impl Model for Note {
 
 impl Note {
     /// The note at a seat. `O(1)`.
-    pub(crate) fn new(seat: Place) -> Note
+    pub(crate) fn new(seat: RingSeat) -> Note
         requires { seat.me.1 ≡ [] }
         ensures { result ≡ note_state seat }
     {
@@ -33,7 +33,7 @@ impl Note {
     }
 
     /// Its seat. `O(1)`.
-    pub(crate) fn into_seat(self) -> Place
+    pub(crate) fn into_seat(self) -> RingSeat
         ensures state { self ≡ note_state result }
         ensures empty { result.me.1 ≡ [] }
     {

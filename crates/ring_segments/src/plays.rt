@@ -74,11 +74,11 @@ impl Split<Seen> for Ends {
 pub(crate) struct Notes;
 
 impl Split<Seen> for Notes {
-    ghost use Rattle.ring_segments.specs.Words.{note_of};
+    ghost use Rattle.ring_segments.specs.Words.{note_view};
 
     ghost left = { λ v. v };
 
-    ghost right = { note_of };
+    ghost right = { note_view };
 }
 
 impl Join<Seen> for Notes {
@@ -93,9 +93,9 @@ impl Join<Seen> for Notes {
 pub(crate) struct LastNotes;
 
 impl Split<Seen> for LastNotes {
-    ghost use Rattle.ring_segments.specs.Words.{last_note_of, sealed_of};
+    ghost use Rattle.ring_segments.specs.Words.{last_note_view, sealed_of};
 
     ghost left = { sealed_of };
 
-    ghost right = { last_note_of };
+    ghost right = { last_note_view };
 }

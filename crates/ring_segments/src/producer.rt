@@ -6,7 +6,7 @@ ghost use Rattle.ring_segments.specs.Sits.{IsPushing, producer_state};
 ghost use Rattle.ring_segments.specs.Tags.{HasRoomFor, IsItem, OwesRest, tag_of};
 
 use crate::steps::{note_down, put_in};
-use crate::{Consumer, Link, Note, OwedItem, Place, Ring, Tag};
+use crate::{Consumer, Link, Note, OwedItem, Ring, RingSeat, Tag};
 use std::alloc::Global;
 use std::marker::Model;
 use std::sync::Arc;
@@ -16,7 +16,7 @@ use swan_model::{Meaning, Value};
 #[derive(Drop)]
 pub struct Producer {
     ring: Arc<Ring, Global>,
-    seat: Place,
+    seat: RingSeat,
     pushed: u64,
 }
 
@@ -37,7 +37,7 @@ impl Model for Producer {
 
 impl Producer {
     /// The producer of a segment, at its seat. `O(1)`.
-    pub(crate) fn new(ring: Arc<Ring, Global>, seat: Place) -> Producer
+    pub(crate) fn new(ring: Arc<Ring, Global>, seat: RingSeat) -> Producer
         requires { IsPushing (arc_value ring) seat 0 × (seat.me.0.sealed ≡ false) }
         ensures { result ≡ producer_state (arc_value ring) seat.me.0 }
     {

@@ -19,7 +19,7 @@ pub(crate) const TAIL: usize = 8;
 
 pub(crate) type RingTable = Table<Option<OwedItem>, Seen, About, RingRule, Global>;
 
-pub(crate) type Place = Seat<Option<OwedItem>, Seen>;
+pub(crate) type RingSeat = Seat<Option<OwedItem>, Seen>;
 
 /// What both ends of a segment share.
 #[derive(Drop)]

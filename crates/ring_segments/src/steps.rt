@@ -5,16 +5,16 @@ ghost use Rattle.std.specs.Option.{ForSome};
 ghost use Rattle.ring_segments.specs.Seating.{id_of};
 ghost use Rattle.ring_segments.specs.Sits.{IsPopping, IsPushing, Sits};
 ghost use Rattle.ring_segments.specs.Tags.{HasRoomFor, IsInside, IsItem};
-ghost use Rattle.ring_segments.specs.Words.{last_note_of, learnt, looked, missed, note_of, sealed_of};
+ghost use Rattle.ring_segments.specs.Words.{last_note_view, learnt, looked, missed, note_view, sealed_of};
 
 use crate::ring::{HEAD, TAIL};
-use crate::{Hear, LastNotes, Notes, OwedItem, Place, Put, Reach, Ring, SeeHead, SeeTail, Take};
+use crate::{Hear, LastNotes, Notes, OwedItem, Put, Reach, Ring, RingSeat, SeeHead, SeeTail, Take};
 use swan_model::Value;
 
 /// Puts an item into its slot, where that is free, and then counts it as pushed. One load, and one store. `O(1)`.
 pub(crate) fn put_in(
     ring: &Ring,
-    seat: &mut Place,
+    seat: &mut RingSeat,
     pushed: u64,
     entry: OwedItem,
 ) -> Result<(), Value>
@@ -35,7 +35,7 @@ pub(crate) fn put_in(
 }
 
 /// Takes the next item out of its slot, where there is one, and then counts it as popped. One load, and one store. `O(1)`.
-pub(crate) fn take_out(ring: &Ring, seat: &mut Place, popped: u64) -> Option<Value>
+pub(crate) fn take_out(ring: &Ring, seat: &mut RingSeat, popped: u64) -> Option<Value>
     requires { IsPopping ring.now seat.old popped }
     ensures item { IfSome result (λ item. IsItem (id_of ring.now.about) popped item) }
     ensures seat { IfSome result (λ item. IsPopping ring.now seat.new (popped + 1)) }
@@ -58,7 +58,7 @@ pub(crate) fn take_out(ring: &Ring, seat: &mut Place, popped: u64) -> Option<Val
 }
 
 /// Whether an item is there. One load. `O(1)`.
-pub(crate) fn look(ring: &Ring, seat: &mut Place, popped: u64) -> bool
+pub(crate) fn look(ring: &Ring, seat: &mut RingSeat, popped: u64) -> bool
     requires { IsPopping ring.now seat.old popped }
     ensures seat { IsPopping ring.now seat.new popped × (seat.old.me.0.known ≤ seat.new.me.0.known) }
     ensures yes { result ≡ true → (popped < seat.new.me.0.known) × (seat.new.me.0 ≡ looked seat.old.me.0 seat.new.me.0.known) × IsInside (id_of ring.now.about) popped }
@@ -69,25 +69,25 @@ pub(crate) fn look(ring: &Ring, seat: &mut Place, popped: u64) -> bool
 }
 
 /// A note of what a producer has pushed. `O(1)`.
-pub(crate) fn note_down(ring: &Ring, seat: &mut Place, pushed: u64) -> Place
+pub(crate) fn note_down(ring: &Ring, seat: &mut RingSeat, pushed: u64) -> RingSeat
     requires { IsPushing ring.now seat.old pushed }
     ensures seat { IsPushing ring.now seat.new pushed × (seat.new.me.0 ≡ seat.old.me.0) }
-    ensures note { (result.table_id ≡ ring.now.table.shared.table_id) × (result.me ≡ (note_of seat.old.me.0, [])) }
+    ensures note { (result.table_id ≡ ring.now.table.shared.table_id) × (result.me ≡ (note_view seat.old.me.0, [])) }
 {
     ring.table.shared.split_seat::<Notes>(seat)
 }
 
 /// A note of all that a spent producer has pushed. `O(1)`.
-pub(crate) fn note_last(ring: &Ring, seat: &mut Place, pushed: u64) -> Place
+pub(crate) fn note_last(ring: &Ring, seat: &mut RingSeat, pushed: u64) -> RingSeat
     requires { IsPushing ring.now seat.old pushed }
     ensures seat { IsPushing ring.now seat.new pushed × (seat.new.me.0 ≡ sealed_of seat.old.me.0) }
-    ensures note { (result.table_id ≡ ring.now.table.shared.table_id) × (result.me ≡ (last_note_of seat.old.me.0, [])) }
+    ensures note { (result.table_id ≡ ring.now.table.shared.table_id) × (result.me ≡ (last_note_view seat.old.me.0, [])) }
 {
     ring.table.shared.split_seat::<LastNotes>(seat)
 }
 
 /// Takes in what a note knows. `O(1)`.
-pub(crate) fn hear(ring: &Ring, seat: &mut Place, note: Place, popped: u64)
+pub(crate) fn hear(ring: &Ring, seat: &mut RingSeat, note: RingSeat, popped: u64)
     requires seat { IsPopping ring.now seat.old popped }
     requires note { (note.table_id ≡ ring.now.table.shared.table_id) × (note.me.1 ≡ []) }
     ensures seat { IsPopping ring.now seat.new popped }

@@ -26,7 +26,7 @@ use Rattle.swan_model.specs.Rights.{is_aliased}
 use Rattle.swan_model.specs.Roots.{IsWithinBounds}
 use Rattle.swan_model.specs.Script.{asked, deed_of, give_of, gives_of, origin_at, origin_of, script, spawn_of}
 use Rattle.swan_model.specs.SerialState.{Activation, Cell, Holding, Queue, Store}
-use Rattle.swan_model.specs.SerialStep.{Effect, goes_on, spawns, faults, after, effect, given, moved, number_at, spawned, with_place, zeroed}
+use Rattle.swan_model.specs.SerialStep.{Effect, goes_on, spawns, faults, after, effect, given, moved, number_at, spawn_effect, with_place, zeroed}
 use Rattle.swan_model.specs.SerialTime.{time}
 use Rattle.swan_model.specs.TrueFrames.{effect_at, gives_at, state_at}
 use Rattle.swan_model.specs.Values.{kind_of}
@@ -117,8 +117,8 @@ module _ {B L : Type 0} (G : Ghosts B L) (plan : Plan B L) (path : List ℕ) (k 
   -- ---- a child
 
   module _ (child : Child L) (is : IsAsking G plan path k top local (ask.Spawn child)) (hs : List Holding) (held : given top.holdings child.gives ≡ Some hs) where
-    spawned-is : effect steps store (moved top local) (ask.Spawn child) ≡ spawned store (moved top local) child (Some hs)
-    spawned-is = ap (spawned store (moved top local) child) held
+    spawned-is : effect steps store (moved top local) (ask.Spawn child) ≡ spawn_effect store (moved top local) child (Some hs)
+    spawned-is = ap (spawn_effect store (moved top local) child) held
 
     pub aliased : is_aliased child.gives ≡ true → Faults G plan path k top kind.Alias deed.Quiet
     aliased twice = faults-by G plan path k top local (ask.Spawn child) kind.Alias is (spawned-is ∙ ap (λ b. cond b (faults kind.Alias) (deeper b)) twice) where
@@ -128,7 +128,7 @@ module _ {B L : Type 0} (G : Ghosts B L) (plan : Plan B L) (path : List ℕ) (k 
           (spawns (parent_activation (moved top local) child) (child_activation top child hs) (record store { cells = zeroed store.cells hs })))
 
     module _ (once : is_aliased child.gives ≡ false) where
-      deeper-is : spawned store (moved top local) child (Some hs)
+      deeper-is : spawn_effect store (moved top local) child (Some hs)
           ≡ cond (nat_le PATH_MOST (length top.path)) (faults kind.Depth)
           (cond (nat_lt (top.fuel - 1) child.fuel) (faults kind.Fuel)
           (spawns (parent_activation (moved top local) child) (child_activation top child hs) (record store { cells = zeroed store.cells hs })))
@@ -145,7 +145,7 @@ module _ {B L : Type 0} (G : Ghosts B L) (plan : Plan B L) (path : List ℕ) (k 
           (spawns (parent_activation (moved top local) child) (child_activation top child hs) (record store { cells = zeroed store.cells hs })))) yes)
 
       module _ (shallow : length top.path < PATH_MOST) where
-        fuel-is : spawned store (moved top local) child (Some hs)
+        fuel-is : spawn_effect store (moved top local) child (Some hs)
             ≡ cond (nat_lt (top.fuel - 1) child.fuel) (faults kind.Fuel)
             (spawns (parent_activation (moved top local) child) (child_activation top child hs) (record store { cells = zeroed store.cells hs }))
         fuel-is =

@@ -23,14 +23,14 @@ use Rattle.swan_model.specs.Rights.{allows, is_queue_mode}
 use Rattle.swan_model.specs.Roots.{IsWithinBounds}
 use Rattle.swan_model.specs.Script.{about, asked, deed_of, entry_of, give_of, origin_at, origin_of, script}
 use Rattle.swan_model.specs.SerialState.{Activation, Cell, Holding, Queue, Store}
-use Rattle.swan_model.specs.SerialStep.{Effect, goes_on, faults, effect, is_nothing_left, moved, number_at, on_cell, on_list, on_object, on_queue, popped, spawned, told, used_by, with_items, with_value}
+use Rattle.swan_model.specs.SerialStep.{Effect, goes_on, faults, effect, is_nothing_left, moved, number_at, on_cell, on_list, on_object, on_queue, popped, spawn_effect, told, used_by, with_items, with_value}
 use Rattle.swan_model.specs.SerialTime.{time}
 use Rattle.swan_model.specs.Told.{cell, count, deed_at, items, pushes, taken}
 use Rattle.swan_model.specs.TrueFrames.{StandsAt, effect_at, state_at}
 use Rattle.swan_model.proofs.Lists.{some_within}
 use Rattle.swan_model.proofs.ScriptCounts.{count_le}
 use Rattle.swan_model.proofs.ScriptSteps.{deed_is}
-use Rattle.serial_elision.specs.TaskSteps.{Faults, GoesOn, IsAsking, IsRefused, MayUseAt}
+use Rattle.serial_elision.specs.TaskSteps.{Faults, GoesOn, IsAsking, LacksRight, MayUseAt}
 use Rattle.serial_elision.specs.TaskSteps as step
 use Rattle.serial_elision.proofs.Endings.{entry_now}
 use Rattle.serial_elision.proofs.Held.{origin-kind}
@@ -141,7 +141,7 @@ module _ {B L : Type 0} (G : Ghosts B L) (plan : Plan B L) (path : List ℕ) (k 
         let effect_is = effect-is asks is ∙ does in
         record { effect = effect_is; deed = deed-is asks is ∙ ap (deed_of (asked store top.holdings asks)) effect_is }
 
-    pub finishes : IsAsking G plan path k top local ask.Finish → step.Ends G plan path k top
+    pub finishes : IsAsking G plan path k top local ask.Finish → step.EndsTask G plan path k top
     finishes is =
         let effect_is = effect-is ask.Finish is in
         record { effect = effect_is; deed = deed-is ask.Finish is ∙ ap (deed_of deed.Quiet) effect_is }
@@ -150,7 +150,7 @@ module _ {B L : Type 0} (G : Ghosts B L) (plan : Plan B L) (path : List ℕ) (k 
     fails trouble is = faults-by (ask.Fail trouble) (kind.Trouble trouble) is refl
 
     -- a use of what may not be used so
-    pub refused : (asks : Ask L) → IsAsking G plan path k top local asks → IsRefused G plan path k top asks → Faults G plan path k top kind.Privilege deed.Quiet
+    pub refused : (asks : Ask L) → IsAsking G plan path k top local asks → LacksRight G plan path k top asks → Faults G plan path k top kind.Privilege deed.Quiet
     refused ask.Work is none = absurd none
     refused (ask.Read place) is none = faults-by (ask.Read place) kind.Privilege is (ap (λ n. on_object store n (λ number c. goes_on (told (moved top local) (answer.Item c.value)) store)) none)
     refused (ask.Write place value) is none =
@@ -162,7 +162,7 @@ module _ {B L : Type 0} (G : Ghosts B L) (plan : Plan B L) (path : List ℕ) (k 
         faults-by (ask.Empty place) kind.Privilege is (ap (λ n. on_queue store n (λ number q. goes_on (told (moved top local) (answer.Flag (is_nothing_left q.items))) store)) none)
     refused ask.NewQueue is none = absurd none
     refused (ask.NewObject value) is none = absurd none
-    refused (ask.Spawn child) is none = faults-by (ask.Spawn child) kind.Privilege is (ap (spawned store (moved top local) child) none)
+    refused (ask.Spawn child) is none = faults-by (ask.Spawn child) kind.Privilege is (ap (spawn_effect store (moved top local) child) none)
     refused ask.Sync is none = absurd none
     refused ask.Finish is none = absurd none
     refused (ask.Fail trouble) is none = absurd none

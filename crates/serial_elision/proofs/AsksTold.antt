@@ -15,7 +15,7 @@ use Rattle.swan_model.specs.declared.value.Value.{Value}
 use Rattle.swan_model.specs.Rights.{is_aliased}
 use Rattle.swan_model.specs.Script.{about, asked, origin_at, origin_of, spawn_of, deed_of}
 use Rattle.swan_model.specs.SerialState.{Activation, Cell, Holding, Queue, Store}
-use Rattle.swan_model.specs.SerialStep.{Effect, goes_on, spawns, ends, faults, effect, number_at, popped, spawned, given, with_value, with_items}
+use Rattle.swan_model.specs.SerialStep.{Effect, goes_on, spawns, ends, faults, effect, number_at, popped, spawn_effect, given, with_value, with_items}
 use Rattle.serial_elision.proofs.Asks.{on_object-either, on_queue-either, if-either}
 use Rattle.serial_elision.proofs.Becomes.{HasOrigins, Becomes, becomes-still, quiet-still, about-still, push-becomes, pop-becomes, write-becomes, queue-becomes, object-becomes}
 use Rattle.serial_elision.proofs.ItemsTold.{without_first}
@@ -44,7 +44,7 @@ popped-does n store a number q [] has found is =
     subst (λ queues. Becomes n (deed.Pop q.origin) store (record store { queues = queues })) (set-found store.queues number q found)
     (subst (λ items. Becomes n (deed.Pop q.origin) store (record store { queues = slice_set store.queues number (record q { items = items }) })) (sym is) (pop-becomes n store number q [] has found (ap without_first (sym is))))
 
-spawned-does : {L : Type 0} (n : ℕ) (store : Store) (a : Activation L) (child : Child L) (holdings : Option (List Holding)) → HasOrigins n store → Does n store (spawn_of store holdings) (spawned store a child holdings)
+spawned-does : {L : Type 0} (n : ℕ) (store : Store) (a : Activation L) (child : Child L) (holdings : Option (List Holding)) → HasOrigins n store → Does n store (spawn_of store holdings) (spawn_effect store a child holdings)
 spawned-does n store a child None has = still n store
 spawned-does n store a child (Some holdings) has =
     let does = spawn_of store (Some holdings) in

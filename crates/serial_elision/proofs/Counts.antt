@@ -13,7 +13,7 @@ use Rattle.swan_model.specs.declared.value.Value.{Value}
 use Rattle.swan_model.specs.Elision.{serial, final, outcome, most_steps}
 use Rattle.swan_model.specs.Rights.{is_aliased}
 use Rattle.swan_model.specs.SerialState.{Activation, Cell, Holding, Queue, Store, State}
-use Rattle.swan_model.specs.SerialStep.{Effect, goes_on, spawns, ends, faults, after, effect, effect_of, step_on, moved, number_at, on_object, on_cell, on_queue, on_list, popped, spawned, given}
+use Rattle.swan_model.specs.SerialStep.{Effect, goes_on, spawns, ends, faults, after, effect, effect_of, step_on, moved, number_at, on_object, on_cell, on_queue, on_list, popped, spawn_effect, given}
 use Rattle.swan_model.proofs.ZeroedCells.{length-zeroed}
 use Rattle.swan_model.proofs.RootLists.{length-first_queues, length-first_cells}
 
@@ -64,7 +64,7 @@ if-keeps : {L : Type 0} (store : Store) (b : Bool) (x y : Effect L) → Keeps st
 if-keeps store true x y then_kept else_kept = then_kept
 if-keeps store false x y then_kept else_kept = else_kept
 
-spawned-keeps : {L : Type 0} (store : Store) (a : Activation L) (child : Child L) (holdings : Option (List Holding)) → Keeps store (spawned store a child holdings)
+spawned-keeps : {L : Type 0} (store : Store) (a : Activation L) (child : Child L) (holdings : Option (List Holding)) → Keeps store (spawn_effect store a child holdings)
 spawned-keeps store a child None = tt
 spawned-keeps store a child (Some holdings) =
     if-keeps store (is_aliased child.gives) _ _ tt

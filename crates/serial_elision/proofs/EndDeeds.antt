@@ -20,7 +20,7 @@ use Rattle.swan_model.specs.Elision.{serial}
 use Rattle.swan_model.specs.Rights.{is_aliased}
 use Rattle.swan_model.specs.Script.{asked, deed_of, is_end, script, spawn_of}
 use Rattle.swan_model.specs.SerialState.{Activation, Holding, Queue, Store}
-use Rattle.swan_model.specs.SerialStep.{Effect, goes_on, spawns, ends, faults, effect, effect_of, moved, number_at, popped, spawned, given}
+use Rattle.swan_model.specs.SerialStep.{Effect, goes_on, spawns, ends, faults, effect, effect_of, moved, number_at, popped, spawn_effect, given}
 use Rattle.swan_model.specs.Told.{count, items, taken}
 use Rattle.serial_elision.proofs.Asks.{on_object-either, on_queue-either, if-either}
 use Rattle.serial_elision.proofs.AsksTold.{named}
@@ -49,7 +49,7 @@ popped-ends store a does number queue [] stands is pops =
     inr (record { number = number; queue = queue; stands = stands; empty = is; pops = pops })
 popped-ends store a does number queue (item ∷ items) stands is pops = tt
 
-spawned-ends : {L : Type 0} (store : Store) (a : Activation L) (does : Deed) (child : Child L) (holdings : Option (List Holding)) → EndsStill store does (spawned store a child holdings)
+spawned-ends : {L : Type 0} (store : Store) (a : Activation L) (does : Deed) (child : Child L) (holdings : Option (List Holding)) → EndsStill store does (spawn_effect store a child holdings)
 spawned-ends store a does child None = inl refl
 spawned-ends {L = L} store a does child (Some holdings) =
     let P : Effect L → Type 0 = EndsStill store does in

@@ -13,7 +13,7 @@ use Rattle.swan_model.specs.declared.value.Value.{Value}
 use Rattle.swan_model.specs.Elision.{serial, most_steps}
 use Rattle.swan_model.specs.Rights.{is_aliased}
 use Rattle.swan_model.specs.SerialState.{Activation, Cell, Holding, Queue, Store, State}
-use Rattle.swan_model.specs.SerialStep.{Effect, goes_on, spawns, ends, faults, after, effect, step_on, moved, number_at, on_object, on_cell, on_queue, on_list, popped, spawned, given}
+use Rattle.swan_model.specs.SerialStep.{Effect, goes_on, spawns, ends, faults, after, effect, step_on, moved, number_at, on_object, on_cell, on_queue, on_list, popped, spawn_effect, given}
 
 -- how many steps a stack can still take
 abbrev pub potential : {L : Type 0} → List (Activation L) → ℕ
@@ -51,7 +51,7 @@ if-within : {L : Type 0} (fuel : ℕ) (b : Bool) (x y : Effect L) → IsWithinFu
 if-within fuel true x y then_within else_within = then_within
 if-within fuel false x y then_within else_within = else_within refl
 
-spawned-within : {L : Type 0} (store : Store) (a : Activation L) (child : Child L) (holdings : Option (List Holding)) → IsWithinFuel a.fuel (spawned store a child holdings)
+spawned-within : {L : Type 0} (store : Store) (a : Activation L) (child : Child L) (holdings : Option (List Holding)) → IsWithinFuel a.fuel (spawn_effect store a child holdings)
 spawned-within store a child None = tt
 spawned-within store a child (Some holdings) =
     if-within a.fuel (is_aliased child.gives) _ _ tt (λ lawful.

@@ -16,7 +16,7 @@ use Rattle.swan_model.specs.declared.value.Value.{Value}
 use Rattle.swan_model.specs.Elision.{serial}
 use Rattle.swan_model.specs.Rights.{is_aliased}
 use Rattle.swan_model.specs.SerialState.{Activation, Holding, Queue, Store, State}
-use Rattle.swan_model.specs.SerialStep.{Effect, goes_on, spawns, ends, faults, after, effect, effect_of, step_on, moved, number_at, popped, spawned, given}
+use Rattle.swan_model.specs.SerialStep.{Effect, goes_on, spawns, ends, faults, after, effect, effect_of, step_on, moved, number_at, popped, spawn_effect, given}
 use Rattle.swan_model.specs.PathOrder.{comes_before}
 use Rattle.serial_elision.specs.Laws.{AreInOrder}
 use Rattle.serial_elision.proofs.Asks.{on_object-either, on_queue-either, if-either}
@@ -115,7 +115,7 @@ popped-stands : {L : Type 0} (store : Store) (a : Activation L) (n : ℕ) (queue
 popped-stands store a n queue [] = tt
 popped-stands store a n queue (item ∷ items) = (refl, refl)
 
-spawned-stands : {L : Type 0} (store : Store) (a : Activation L) (child : Child L) (holdings : Option (List Holding)) → StandsAt a (spawned store a child holdings)
+spawned-stands : {L : Type 0} (store : Store) (a : Activation L) (child : Child L) (holdings : Option (List Holding)) → StandsAt a (spawn_effect store a child holdings)
 spawned-stands store a child None = tt
 spawned-stands store a child (Some holdings) =
     if-either (StandsAt a) (is_aliased child.gives) _ _ tt

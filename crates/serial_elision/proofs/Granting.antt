@@ -22,7 +22,7 @@ use Rattle.swan_model.specs.Granted.{holds, granted, granted_by, child_path, may
 use Rattle.swan_model.specs.Rights.{allows, is_aliased}
 use Rattle.swan_model.specs.Script.{asked, deed_of, gives_of, origin_of, spawn_of}
 use Rattle.swan_model.specs.SerialState.{Activation, Cell, Holding, Queue, State, Store}
-use Rattle.swan_model.specs.SerialStep.{Effect, goes_on, spawns, ends, faults, after, effect, number_at, popped, spawned, given}
+use Rattle.swan_model.specs.SerialStep.{Effect, goes_on, spawns, ends, faults, after, effect, number_at, popped, spawn_effect, given}
 use Rattle.swan_model.specs.SerialTime.{is_of}
 use Rattle.swan_model.specs.Told.{is_same}
 use Rattle.serial_elision.proofs.Asks.{on_object-either, on_queue-either, if-either}
@@ -59,7 +59,7 @@ popped-grants : {L : Type 0} (n : ℕ) (store : Store) (a : Activation L) (does 
 popped-grants n store a does number queue [] = tt
 popped-grants n store a does number queue (item ∷ items) = inl refl
 
-spawned-grants : {L : Type 0} (n : ℕ) (store : Store) (a : Activation L) (child : Child L) (holdings : Option (List Holding)) → ((hs : List Holding) → holdings ≡ Some hs → MayUseEach a.holdings hs) → Grants n store a (spawn_of store holdings) (spawned store a child holdings)
+spawned-grants : {L : Type 0} (n : ℕ) (store : Store) (a : Activation L) (child : Child L) (holdings : Option (List Holding)) → ((hs : List Holding) → holdings ≡ Some hs → MayUseEach a.holdings hs) → Grants n store a (spawn_of store holdings) (spawn_effect store a child holdings)
 spawned-grants n store a child None may = tt
 spawned-grants {L = L} n store a child (Some hs) may =
     let P : Effect L → Type 0 = Grants n store a (spawn_of store (Some hs)) in

@@ -15,7 +15,7 @@ use Rattle.swan_model.specs.Elision.{serial}
 use Rattle.swan_model.specs.Rights.{is_aliased}
 use Rattle.swan_model.specs.SerialState.{Activation, Cell, Holding, Queue, Store, State}
 use Rattle.swan_model.specs.SerialStep as serial
-use Rattle.swan_model.specs.SerialStep.{Effect, goes_on, spawns, ends, faults, after, effect, effect_of, step_on, moved, number_at, spawned, given, given_also, zeroed, zeroed_by, zero_cell}
+use Rattle.swan_model.specs.SerialStep.{Effect, goes_on, spawns, ends, faults, after, effect, effect_of, step_on, moved, number_at, spawn_effect, given, given_also, zeroed, zeroed_by, zero_cell}
 use Rattle.swan_model.specs.Values.{zero_of}
 use Rattle.serial_elision.specs.Laws.{HoldsToUse, IsCellAfter, IsQueueAfter, stayed, pushed, popped, EachStill, RightsBind, top_holdings}
 use Rattle.serial_elision.proofs.Asks.{on_object-either, on_queue-either, if-either}
@@ -95,7 +95,7 @@ Binds held store (spawns parent child after) = RightsBind held store after
 Binds held store ends = Unit {0}
 Binds held store (faults kind) = Unit {0}
 
-spawned-binds : {L : Type 0} (store : Store) (a : Activation L) (child : Child L) (holdings : Option (List Holding)) → IfSome holdings (MayUseEach a.holdings) → Binds a.holdings store (spawned store a child holdings)
+spawned-binds : {L : Type 0} (store : Store) (a : Activation L) (child : Child L) (holdings : Option (List Holding)) → IfSome holdings (MayUseEach a.holdings) → Binds a.holdings store (spawn_effect store a child holdings)
 spawned-binds store a child None may = tt
 spawned-binds store a child (Some holdings) may =
     if-either (Binds a.holdings store) (is_aliased child.gives) _ _ tt

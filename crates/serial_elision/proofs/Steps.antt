@@ -11,7 +11,7 @@ use Rattle.swan_model.specs.declared.rights.Mode.TheVariants.{Pop}
 use Rattle.swan_model.specs.declared.value.Value.{Value}
 use Rattle.swan_model.specs.SerialState.{Activation, Holding, Queue, Store, State}
 use Rattle.swan_model.specs.SerialStep as serial
-use Rattle.swan_model.specs.SerialStep.{told, moved, after, effect, effect_of, step, step_on, on_list, on_queue, popped, spawned, given, number_at}
+use Rattle.swan_model.specs.SerialStep.{told, moved, after, effect, effect_of, step, step_on, on_list, on_queue, popped, spawn_effect, given, number_at}
 use Rattle.std.specs.Prelude.{slice_get}
 use Rattle.serial_elision.specs.declared.effect.Effect as code
 use Rattle.serial_elision.specs.declared.effect.Effect.TheVariants.{Answered, Spawned, Ended, Faulted}
@@ -30,7 +30,7 @@ on_queue-told : {L : Type 0} (store : Store) (a : Activation L) (x : Answer) (at
 on_queue-told store a x None = refl
 on_queue-told store a x (Some number) = on_list-told store a x number (slice_get store.queues number)
 
-spawned-told : {L : Type 0} (store : Store) (a : Activation L) (x : Answer) (child : Child L) (holdings : Option (List Holding)) → spawned store (told a x) child holdings ≡ spawned store a child holdings
+spawned-told : {L : Type 0} (store : Store) (a : Activation L) (x : Answer) (child : Child L) (holdings : Option (List Holding)) → spawn_effect store (told a x) child holdings ≡ spawn_effect store a child holdings
 spawned-told store a x child None = refl
 spawned-told store a x child (Some holdings) = refl
 

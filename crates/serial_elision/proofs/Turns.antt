@@ -14,7 +14,7 @@ use Rattle.swan_model.specs.Granted.{is_spawn}
 use Rattle.swan_model.specs.Rights.{is_aliased}
 use Rattle.swan_model.specs.Script.{about, asked, deed_of, origin_at, spawn_of}
 use Rattle.swan_model.specs.SerialState.{Activation, Holding, Queue, Store}
-use Rattle.swan_model.specs.SerialStep.{Effect, goes_on, spawns, ends, faults, effect, effect_of, moved, number_at, popped, spawned, given}
+use Rattle.swan_model.specs.SerialStep.{Effect, goes_on, spawns, ends, faults, effect, effect_of, moved, number_at, popped, spawn_effect, given}
 use Rattle.serial_elision.proofs.Asks.{on_object-either, on_queue-either, if-either}
 
 -- The activations that an effect leaves have these paths and children. The deed is a spawn where the effect
@@ -34,7 +34,7 @@ popped-fits : {L : Type 0} (store : Store) (a : Activation L) (does : Deed) (n :
 popped-fits store a does n queue [] quiet = quiet
 popped-fits store a does n queue (item ∷ items) quiet = (refl, refl, quiet)
 
-spawned-fits : {L : Type 0} (store before : Store) (a : Activation L) (child : Child L) (holdings : Option (List Holding)) → Fits a (spawn_of before holdings) (spawned store a child holdings)
+spawned-fits : {L : Type 0} (store before : Store) (a : Activation L) (child : Child L) (holdings : Option (List Holding)) → Fits a (spawn_of before holdings) (spawn_effect store a child holdings)
 spawned-fits store before a child None = refl
 spawned-fits {L = L} store before a child (Some holdings) =
     let P : Effect L → Type 0 = Fits a (spawn_of before (Some holdings)) in

@@ -86,8 +86,8 @@ module _ {B L : Type 0} (G : Ghosts B L) where
   names_at at = gives_at G at.plan at.path at.k at.top
 
   -- the task goes on with this answer, and its step is this deed
-  abbrev pub Answers : AskStep B L → Answer → Deed → Type 0
-  Answers at said does = GoesOn G at.of.plan at.of.path at.of.k at.of.top at.local said does
+  abbrev pub AnswersWith : AskStep B L → Answer → Deed → Type 0
+  AnswersWith at said does = GoesOn G at.of.plan at.of.path at.of.k at.of.top at.local said does
 
   -- the task gets one place more, which it holds by this mode, and its step is this deed
   abbrev pub MakesPlace : AskStep B L → Mode → Deed → Type 0

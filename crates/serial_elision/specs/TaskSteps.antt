@@ -49,14 +49,14 @@ module _ {B L : Type 0} (G : Ghosts B L) (plan : Plan B L) (path : List ℕ) (k 
     pub named : slice_get (gives_at G plan path k top) place ≡ Some (Some (record { origin = origin; mode = holding.mode }))
 
   -- The ask is for the use of a place that the task may not use so, or for a child with a give that it may not give.
-  abbrev pub IsRefused : Ask L → Type 0
-  IsRefused (ask.Read place) = number_at top.holdings place In ≡ None
-  IsRefused (ask.Write place value) = number_at top.holdings place Out ≡ None
-  IsRefused (ask.Push place value) = number_at top.holdings place Push ≡ None
-  IsRefused (ask.Pop place) = number_at top.holdings place Pop ≡ None
-  IsRefused (ask.Empty place) = number_at top.holdings place Pop ≡ None
-  IsRefused (ask.Spawn child) = given top.holdings child.gives ≡ None
-  IsRefused _ = ⊥
+  abbrev pub LacksRight : Ask L → Type 0
+  LacksRight (ask.Read place) = number_at top.holdings place In ≡ None
+  LacksRight (ask.Write place value) = number_at top.holdings place Out ≡ None
+  LacksRight (ask.Push place value) = number_at top.holdings place Push ≡ None
+  LacksRight (ask.Pop place) = number_at top.holdings place Pop ≡ None
+  LacksRight (ask.Empty place) = number_at top.holdings place Pop ≡ None
+  LacksRight (ask.Spawn child) = given top.holdings child.gives ≡ None
+  LacksRight _ = ⊥
 
   -- what the step does, as the script has it
   abbrev pub Does : Deed → Type 0
@@ -79,7 +79,7 @@ module _ {B L : Type 0} (G : Ghosts B L) (plan : Plan B L) (path : List ℕ) (k 
         ≡ gives_at G plan path k top ++ Some (record { origin = Step (time (script G plan) path k); mode = mode }) ∷ []
 
   -- the step ends the task
-  pub record Ends : Type 0 where
+  pub record EndsTask : Type 0 where
     pub effect : effect_at G plan path k top ≡ ends
     pub deed : Does deed.Quiet
 

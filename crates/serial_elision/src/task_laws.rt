@@ -30,8 +30,8 @@ ghost use Rattle.swan_model.specs.declared.plan.TheConstants.{FUEL_MOST, ROOTS_M
 ghost use Rattle.swan_model.specs.declared.rights.TheConstants.{GIVES_MOST};
 ghost use Rattle.swan_model.specs.declared.rights.Give.{Give};
 ghost use Rattle.serial_elision.specs.Laws.{AreEachOnce, AreInOrder, IsObjectOf, IsQueueOf};
-ghost use Rattle.serial_elision.specs.OnSteps.{Answers, EndsBy, IsBounded, IsItemLeft, IsNoneLeft, MakesPlace, OnAsk, OnBoundedAsk, OnBoundedStep, OnSpawn, OnStep, OnUse, StandsNext, does_at, names_at};
-ghost use Rattle.serial_elision.specs.TaskSteps.{Ends, IsFaultOf, IsRefused, MayUseAt, Spawns};
+ghost use Rattle.serial_elision.specs.OnSteps.{AnswersWith, EndsBy, IsBounded, IsItemLeft, IsNoneLeft, MakesPlace, OnAsk, OnBoundedAsk, OnBoundedStep, OnSpawn, OnStep, OnUse, StandsNext, does_at, names_at};
+ghost use Rattle.serial_elision.specs.TaskSteps.{EndsTask, IsFaultOf, LacksRight, MayUseAt, Spawns};
 
 use swan_model::Body;
 
@@ -95,24 +95,24 @@ pub fn names_stay<B: Body>()
 /// lists are within their bounds, as those of each plan that is made are.
 pub fn asks_are_answered<B: Body>()
     // what changes nothing for others
-    ensures work { OnBoundedAsk B.Body ask.Work (λ at. Answers B.Body at answer.Nothing deed.Quiet) }
-    ensures sync { OnBoundedAsk B.Body ask.Sync (λ at. Answers B.Body at answer.Nothing deed.Sync) }
+    ensures work { OnBoundedAsk B.Body ask.Work (λ at. AnswersWith B.Body at answer.Nothing deed.Quiet) }
+    ensures sync { OnBoundedAsk B.Body ask.Sync (λ at. AnswersWith B.Body at answer.Nothing deed.Sync) }
 
     // objects
     ensures read { (place : ℕ) → OnUse B.Body (ask.Read place) place In (λ at object. let s = script B.Body at.of.plan in
-        IsSomeAnd (cell s object (time s at.of.path at.of.k)) (λ value. Answers B.Body at (answer.Item value) (deed.Read object))) }
+        IsSomeAnd (cell s object (time s at.of.path at.of.k)) (λ value. AnswersWith B.Body at (answer.Item value) (deed.Read object))) }
     ensures write { (place : ℕ) (value : Value) → OnUse B.Body (ask.Write place value) place Out (λ at object.
-        Answers B.Body at answer.Nothing (deed.Write object value)) }
+        AnswersWith B.Body at answer.Nothing (deed.Write object value)) }
 
     // queues
     ensures push { (place : ℕ) (value : Value) → OnUse B.Body (ask.Push place value) place Push (λ at queue.
-        Answers B.Body at answer.Nothing (deed.Push queue value)) }
+        AnswersWith B.Body at answer.Nothing (deed.Push queue value)) }
     ensures pop { (place : ℕ) → OnUse B.Body (ask.Pop place) place Pop (λ at queue. IsItemLeft B.Body at.of queue → let s = script B.Body at.of.plan in
-        IsSomeAnd (slice_get (pushes s queue) (taken s queue (time s at.of.path at.of.k))) (λ item. Answers B.Body at (answer.Item item) (deed.Pop queue))) }
+        IsSomeAnd (slice_get (pushes s queue) (taken s queue (time s at.of.path at.of.k))) (λ item. AnswersWith B.Body at (answer.Item item) (deed.Pop queue))) }
     ensures test_of_some { (place : ℕ) → OnUse B.Body (ask.Empty place) place Pop (λ at queue. IsItemLeft B.Body at.of queue
-        → Answers B.Body at (answer.Flag false) (deed.Test queue)) }
+        → AnswersWith B.Body at (answer.Flag false) (deed.Test queue)) }
     ensures test_of_none { (place : ℕ) → OnUse B.Body (ask.Empty place) place Pop (λ at queue. IsNoneLeft B.Body at.of queue
-        → Answers B.Body at (answer.Flag true) (deed.Test queue)) }
+        → AnswersWith B.Body at (answer.Flag true) (deed.Test queue)) }
 
     // what makes a place
     ensures new_queue { OnBoundedAsk B.Body ask.NewQueue (λ at. MakesPlace B.Body at PushPop deed.MakeQueue) }
@@ -127,11 +127,11 @@ pub fn asks_are_answered<B: Body>()
 pub fn some_steps_end_their_task<B: Body>()
     // whatever is asked for
     ensures dry { OnStep B.Body (λ at. at.top.fuel ≡ 0 → EndsBy B.Body at kind.Fuel deed.Quiet) }
-    ensures refused { (asks : Ask B.Local) → OnAsk B.Body asks (λ at. IsRefused B.Body at.of.plan at.of.path at.of.k at.of.top asks
+    ensures refused { (asks : Ask B.Local) → OnAsk B.Body asks (λ at. LacksRight B.Body at.of.plan at.of.path at.of.k at.of.top asks
         → EndsBy B.Body at.of kind.Privilege deed.Quiet) }
 
     // the end that a task asks for
-    ensures finish { OnAsk B.Body ask.Finish (λ at. Ends B.Body at.of.plan at.of.path at.of.k at.of.top) }
+    ensures finish { OnAsk B.Body ask.Finish (λ at. EndsTask B.Body at.of.plan at.of.path at.of.k at.of.top) }
     ensures fail { (trouble : Trouble) → OnAsk B.Body (ask.Fail trouble) (λ at. EndsBy B.Body at.of (kind.Trouble trouble) deed.Quiet) }
 
     // an empty queue

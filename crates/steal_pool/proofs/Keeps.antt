@@ -10,7 +10,7 @@ use Rattle.crossbeam_deque.proofs.Lists.{at_set, at_snoc}
 use Rattle.steal_pool.specs.declared.parcel.Parcel.{Parcel}
 use Rattle.steal_pool.specs.declared.parcel.Parcel.TheVariants.{Label, Item}
 use Rattle.steal_pool.specs.declared.rule.PoolView.{PoolView}
-use Rattle.steal_pool.specs.Rule.{at_stage, new_pass, IsAt, Single, AllOf, Stands, Pooled, IsTaken, IsLabelled, IsPoolOpened, IsUnchanged}
+use Rattle.steal_pool.specs.Rule.{at_stage, new_pass, IsAtStage, Single, AllOf, Stands, Pooled, IsTaken, IsLabelled, IsPoolOpened, IsUnchanged}
 
 two-ne : (n : ℕ) → suc (suc n) ≡ suc zero → ⊥
 two-ne n e = omega arith
@@ -22,8 +22,8 @@ module _ {N : Type 0} where
   abbrev Each : (PoolView N → Type 0) → List (PoolView N) → Type 0
   Each P views = (j : ℕ) (v : PoolView N) → get_elem? views j ≡ some v → P v
 
-  only : Each (IsAt 0 None) (at_stage 0 None 0 ∷ [])
-  only zero v e = subst (IsAt 0 None) (some-injective (at_stage 0 None 0) v e) (refl, refl)
+  only : Each (IsAtStage 0 None) (at_stage 0 None 0 ∷ [])
+  only zero v e = subst (IsAtStage 0 None) (some-injective (at_stage 0 None 0) v e) (refl, refl)
   only (suc j) v e = absurd (some-ne-none v (sym e))
 
   single : Single {N = N} (at_stage 0 None 0 ∷ [])
@@ -57,13 +57,13 @@ module _ {T N : Type 0} (name : T → N) where
   all_right m (x ∷ xs) ys h = all_right m xs ys h.1
 
   -- what holds at the stage and the name that one view has
-  staged : (v : PoolView N) (items : List (Parcel T N)) (views : List (PoolView N)) (port : ℕ) → Rule items views → get_elem? views port ≡ some v → Each (IsAt v.stage v.name) views × Stands name v.stage v.name items views
+  staged : (v : PoolView N) (items : List (Parcel T N)) (views : List (PoolView N)) (port : ℕ) → Rule items views → get_elem? views port ≡ some v → Each (IsAtStage v.stage v.name) views × Stands name v.stage v.name items views
   staged v items views port h at = let e = h.2 port v at in
-      subst (λ (z : ℕ × Option N). Each (IsAt z.0 z.1) views × Stands name z.0 z.1 items views) (λ i. (sym e.0 i, sym e.1 i)) (h.2, h.3)
+      subst (λ (z : ℕ × Option N). Each (IsAtStage z.0 z.1) views × Stands name z.0 z.1 items views) (λ i. (sym e.0 i, sym e.1 i)) (h.2, h.3)
 
   labels : (port k : ℕ) (n : N) → Pushes Rule port (at_stage 0 None k) (Label n ∷ []) (IsLabelled {T = T} (at_stage 0 None k) (Label n ∷ []))
   labels port k n items views h at = let s = staged (at_stage 0 None k) items views port h at in let w : PoolView N = at_stage 1 (Some n) k in
-      let one = set_single (IsAt 1 (Some n)) views port (at_stage 0 None k) w at s.1.1 (refl, refl) in
+      let one = set_single (IsAtStage 1 (Some n)) views port (at_stage 0 None k) w at s.1.1 (refl, refl) in
       (w, (1, Some n, (λ j v e. (one j v e).1), (n, ap (λ l. l ++ Label n ∷ []) s.1.0, refl, λ j v e. (one j v e).0)), (n, refl, refl))
 
   cons_append : (x y : Parcel T N) (xs items : List (Parcel T N)) → (x ∷ xs) ++ items ≡ y ∷ [] → items ≡ []
@@ -74,7 +74,7 @@ module _ {T N : Type 0} (name : T → N) where
   opens : (port k : ℕ) (m : Option N) → Takes Rule port (at_stage 1 m k) 1 (IsPoolOpened (at_stage 1 m k))
   opens port k m [] items views some_one at_most h at = absurd (omega arith)
   opens port k m (x ∷ xs) items views some_one at_most h at = let s = staged (at_stage 1 m k) ((x ∷ xs) ++ items) views port h at in let w : PoolView N = at_stage 2 m k in
-      let one = set_single (IsAt 2 m) views port (at_stage 1 m k) w at s.1.3 (refl, refl) in
+      let one = set_single (IsAtStage 2 m) views port (at_stage 1 m k) w at s.1.3 (refl, refl) in
       (w, (2, m, (λ j v e. (one j v e).1), subst (AllOf name m) (sym (cons_append x (Label s.1.0) xs items s.1.1)) tt), refl)
 
   opens_full : (port k : ℕ) (m : Option N) → Finds Rule port (at_stage 1 m k) ⊥
@@ -82,15 +82,15 @@ module _ {T N : Type 0} (name : T → N) where
 
   puts : (port k : ℕ) (m : Option N) (x : T) → m ≡ Some (name x) → Pushes Rule port (at_stage 2 m k) (Item x ∷ []) (IsUnchanged (at_stage 2 m k) (Item x ∷ []))
   puts port k m x is items views h at = let s = staged (at_stage 2 m k) items views port h at in
-      (at_stage 2 m k, (2, m, set_each (IsAt 2 m) views port (at_stage 2 m k) (refl, refl) s.0, all_append m items (Item x ∷ []) s.1 (is, tt)), refl)
+      (at_stage 2 m k, (2, m, set_each (IsAtStage 2 m) views port (at_stage 2 m k) (refl, refl) s.0, all_append m items (Item x ∷ []) s.1 (is, tt)), refl)
 
   takes : (port k : ℕ) (m : Option N) → Takes Rule port (at_stage 2 m k) 1 (IsTaken name (at_stage 2 m k))
   takes port k m xs items views _ _ h at = let s = staged (at_stage 2 m k) (xs ++ items) views port h at in let w : PoolView N = at_stage 2 m (k + 1) in
-      (w, (2, m, set_each (IsAt 2 m) views port w (refl, refl) s.0, all_right m xs items s.1), (refl, all_left m xs items s.1))
+      (w, (2, m, set_each (IsAtStage 2 m) views port w (refl, refl) s.0, all_right m xs items s.1), (refl, all_left m xs items s.1))
 
   forks : (port k : ℕ) (m : Option N) → Forks Rule port (at_stage 2 m k) (at_stage 2 m k) (at_stage 2 m 0)
   forks port k m items views h at = let s = staged (at_stage 2 m k) items views port h at in
-      (2, m, (λ j v e. ⊎_elim (set_each (IsAt 2 m) views port (at_stage 2 m k) (refl, refl) s.0 j v) (λ t. subst (IsAt 2 m) t (refl, refl)) (at_snoc (set views port (at_stage 2 m k)) (at_stage 2 m 0) v j e)), s.1)
+      (2, m, (λ j v e. ⊎_elim (set_each (IsAtStage 2 m) views port (at_stage 2 m k) (refl, refl) s.0 j v) (λ t. subst (IsAtStage 2 m) t (refl, refl)) (at_snoc (set views port (at_stage 2 m k)) (at_stage 2 m 0) v j e)), s.1)
 
   -- the same of a view that is at a stage
   pub labels_at : (port k : ℕ) (v : PoolView N) (n : N) → v ≡ at_stage 0 None k → Pushes Rule port v (Label n ∷ []) (IsLabelled {T = T} v (Label n ∷ []))

@@ -20,8 +20,8 @@ module _ {N : Type 0} where
   abbrev pub one_more : PoolView N → PoolView N
   one_more v = record v { taken = v.taken + 1 }
 
-  abbrev pub IsAt : ℕ → Option N → PoolView N → Type 0
-  IsAt stage name v = (v.stage ≡ stage) × (v.name ≡ name)
+  abbrev pub IsAtStage : ℕ → Option N → PoolView N → Type 0
+  IsAtStage stage name v = (v.stage ≡ stage) × (v.name ≡ name)
 
   -- the worker's own is the only view
   abbrev pub Single : List (PoolView N) → Type 0
@@ -29,13 +29,13 @@ module _ {N : Type 0} where
 
 module _ {T N : Type 0} (name : T → N) where
   -- it is a frame, and has this name
-  abbrev pub IsOf : Option N → Parcel T N → Type 0
-  IsOf m (Label n) = ⊥
-  IsOf m (Item x) = m ≡ Some (name x)
+  abbrev pub HasName : Option N → Parcel T N → Type 0
+  HasName m (Label n) = ⊥
+  HasName m (Item x) = m ≡ Some (name x)
 
   abbrev pub AllOf : Option N → List (Parcel T N) → Type 0
   AllOf m [] = Unit {0}
-  AllOf m (x ∷ xs) = IsOf m x × AllOf m xs
+  AllOf m (x ∷ xs) = HasName m x × AllOf m xs
 
   -- what is in a deque at a stage
   abbrev pub Stands : ℕ → Option N → List (Parcel T N) → List (PoolView N) → Type 0
@@ -45,7 +45,7 @@ module _ {T N : Type 0} (name : T → N) where
 
   -- all views are at one stage, and know one name
   abbrev pub Pooled : List (Parcel T N) → List (PoolView N) → Type 0
-  Pooled items views = (k : ℕ) × (m : Option N) × ((j : ℕ) (v : PoolView N) → get_elem? views j ≡ some v → IsAt k m v) × Stands k m items views
+  Pooled items views = (k : ℕ) × (m : Option N) × ((j : ℕ) (v : PoolView N) → get_elem? views j ≡ some v → IsAtStage k m v) × Stands k m items views
 
   abbrev pub IsTaken : PoolView N → List (Parcel T N) → PoolView N → Type 0
   IsTaken v xs w = (w ≡ one_more v) × AllOf v.name xs

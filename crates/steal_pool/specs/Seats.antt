@@ -5,7 +5,7 @@ use Rattle.crossbeam_utils.specs.Padded.{padded_value}
 use Rattle.named_lock.specs.declared.named.Named.{Ghosts}
 use Rattle.steal_pool.specs.declared.rule.PoolView.{PoolView}
 use Rattle.steal_pool.specs.declared.seat.PoolSeat.{PoolSeat}
-use Rattle.steal_pool.specs.Rule.{IsAt, one_more}
+use Rattle.steal_pool.specs.Rule.{IsAtStage, one_more}
 use Rattle.steal_pool.specs.Kept.{frames}
 use Rattle.steal_pool.specs.Peers.{stolen_by}
 
@@ -36,7 +36,7 @@ module _ {T N : Type 0} {G : Ghosts T N} where
 
   -- a seat of the pool with this name, which knows the name, and whose own list is empty
   abbrev pub IsNewSeat : N → PoolSeat T N G → Type 0
-  IsNewSeat name seat = (pool_name seat ≡ name) × IsAt 2 (Some name) (own_view seat) × (listed seat ≡ [])
+  IsNewSeat name seat = (pool_name seat ≡ name) × IsAtStage 2 (Some name) (own_view seat) × (listed seat ≡ [])
 
   -- it is the same seat of the same pool
   abbrev pub SameSeat : PoolSeat T N G → PoolSeat T N G → Type 0

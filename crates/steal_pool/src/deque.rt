@@ -2,7 +2,7 @@
 ghost use Rattle.std.specs.Prelude.{◌≡◌, ◌+◌, ◌≤◌, Some, IfOk, IfErr, IfSome, IfNone, OnOk, OnErr};
 ghost use Rattle.crossbeam_deque.specs.Tasks.{Finds};
 ghost use Rattle.crossbeam_deque.specs.Handles.{view, IsPassOf, worker_deque, worker_view, worker_port, worker_flavor, worker_index, stealer_deque, stealer_flavor};
-ghost use Rattle.steal_pool.specs.Rule.{IsAt, new_pass, Pooled, one_more};
+ghost use Rattle.steal_pool.specs.Rule.{IsAtStage, new_pass, Pooled, one_more};
 
 use crate::parcel::Parcel;
 use crate::rule::{Labels, Nothing, Opens, PoolRule, PoolView, Puts, Takes, Twins};
@@ -32,7 +32,7 @@ pub(crate) struct Empty {
 
 /// A deque that has the name of `like`. It allocates the deque with its first ring.
 pub(crate) fn own_like<T: Named>(alloc: Global, like: &T) -> Result<Own<T>, NoMemory>
-    ensures { IfOk result (λ own. (worker_flavor own ≡ 0) × IsAt 2 (Some (T.name like.now)) (worker_view own)) }
+    ensures { IfOk result (λ own. (worker_flavor own ≡ 0) × IsAtStage 2 (Some (T.name like.now)) (worker_view own)) }
 {
     let mut own = Own::<T>::fifo_as(alloc, FIRST_ROOM)?;
     let label = Parcel::Label(NameOf::of(like));
@@ -47,7 +47,7 @@ pub(crate) fn own_like<T: Named>(alloc: Global, like: &T) -> Result<Own<T>, NoMe
 
 /// Puts a frame that has the name, or hands it back where the deque can't grow. `O(1)` amortised.
 pub(crate) fn push_frame<T: Named>(own: &mut Own<T>, frame: T) -> Result<(), T>
-    requires { IsAt 2 (Some (T.name frame)) (worker_view own.old) }
+    requires { IsAtStage 2 (Some (T.name frame)) (worker_view own.old) }
     ensures same { (worker_view own.new ≡ worker_view own.old) × (worker_flavor own.new ≡ worker_flavor own.old) × (worker_port own.new ≡ worker_port own.old) }
     ensures ok { OnOk result (worker_index own.new ≡ worker_index own.old + 1) }
     ensures err { IfErr result (λ given. (given ≡ frame) × (worker_index own.new ≡ worker_index own.old)) }

@@ -113,9 +113,9 @@ zeroed cells (holding ∷ holdings) = zeroed (zeroed_by holding.mode cells holdi
 
 -- A spawn. Its faults are tried in this order: a give of what the parent doesn't hold so, a place that
 -- is given twice, the depth of the path, the fuel.
-abbrev pub spawned : {L : Type 0} → Store → Activation L → Child L → Option (List Holding) → Effect L
-spawned store a child None = faults kind.Privilege
-spawned store a child (Some holdings) =
+abbrev pub spawn_effect : {L : Type 0} → Store → Activation L → Child L → Option (List Holding) → Effect L
+spawn_effect store a child None = faults kind.Privilege
+spawn_effect store a child (Some holdings) =
     if is_aliased child.gives then faults kind.Alias
     else if nat_le PATH_MOST (length a.path) then faults kind.Depth
     else if nat_lt a.fuel child.fuel then faults kind.Fuel
@@ -143,7 +143,7 @@ effect n store a ask.NewQueue =
 effect n store a (ask.NewObject value) =
     goes_on (with_place a (record { mode = InOut; number = length store.cells }))
     (record store { cells = store.cells ++ (record { origin = origin.Step n; kind = kind_of value; value = value }) ∷ [] })
-effect n store a (ask.Spawn child) = spawned store a child (given a.holdings child.gives)
+effect n store a (ask.Spawn child) = spawn_effect store a child (given a.holdings child.gives)
 effect n store a ask.Sync = goes_on (told a answer.Nothing) store
 effect n store a ask.Finish = ends
 effect n store a (ask.Fail trouble) = faults (kind.Trouble trouble)

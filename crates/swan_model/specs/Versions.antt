@@ -60,8 +60,8 @@ abbrev pub new_versions : VersionState
 new_versions = record { places = []; made = 0 }
 
 -- after a frame made an object with this value: it may read and write it
-abbrev pub after_create : VersionState → (frame place : ℕ) → Value → VersionState
-after_create state frame place value =
+abbrev pub objects_after_create : VersionState → (frame place : ℕ) → Value → VersionState
+objects_after_create state frame place value =
     let object : Placed = record { object = state.made; kind = kind_of value; mode = InOut; given = None; present = settled value } in
     record (with_placed state frame place object) { made = state.made + 1 }
 
@@ -128,8 +128,8 @@ abbrev pub stays : ℕ → (ℕ × ℕ) × Placed → Bool
 stays frame entry = (frame == 0) || not (entry.0.0 == frame)
 
 -- after a frame has ended, whose versions all have their values
-abbrev pub after_finish : VersionState → ℕ → VersionState
-after_finish state frame =
+abbrev pub objects_after_finish : VersionState → ℕ → VersionState
+objects_after_finish state frame =
     record state { places = map (λ entry. (entry.0, settle_placed state frame entry.1)) (filter (stays frame) state.places) }
 
 -- ---- what the calls ask for, and what they answer

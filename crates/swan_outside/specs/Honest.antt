@@ -32,6 +32,6 @@ pub record HonestSinkState : Type 0 where
   pub room : ℕ
 
 -- what is told after a piece was taken: all bytes while they fit in the room, and nothing from then on
-abbrev pub told_within : ℕ → Option (List ℕ) → List ℕ → Option (List ℕ)
-told_within room (Some bytes) piece = if nat_le (length bytes + length piece) room then Some (bytes ++ piece) else None
-told_within room None piece = None
+abbrev pub told_after_piece : ℕ → Option (List ℕ) → List ℕ → Option (List ℕ)
+told_after_piece room (Some bytes) piece = if nat_le (length bytes + length piece) room then Some (bytes ++ piece) else None
+told_after_piece room None piece = None

@@ -2,7 +2,7 @@
 ghost use Rattle.std.specs.Prelude.{◌≡◌, ◌≤◌, ◌<◌, [], Some, length, take, IfOk, OnErr};
 ghost use Rattle.std.specs.Option.{option_copied};
 ghost use Rattle.swan_outside.specs.Counts.{Rose};
-ghost use Rattle.swan_outside.specs.Honest.{told_within};
+ghost use Rattle.swan_outside.specs.Honest.{told_after_piece};
 ghost use Rattle.swan_outside.specs.Told.{Appends};
 
 use crate::{Failed, Sink};
@@ -72,7 +72,7 @@ impl Sink for HonestSink {
         // the exact answer, and what it leaves
         ensures answer { result ≡ Ok (length piece.now) }
         ensures after { self.new ≡ record self.old {
-          written = told_within self.old.room self.old.written piece.now;
+          written = told_after_piece self.old.room self.old.written piece.now;
         } }
 
         // what is taken

@@ -14,7 +14,7 @@ use Rattle.task_frames.specs.Frames.{FrameView, IsAnyFrame, Task}
 use Rattle.task_frames.specs.Going.{Counts, IsSameFrame}
 use Rattle.task_frames.specs.Resumes.{EndsOf, IsResumed}
 use Rattle.swan_runtime.specs.Stacks.{AreStacked, IsStack, fuel_of, turns_left}
-use Rattle.swan_runtime.specs.Turns.{AreFrames, AreTurns, IsTurn, at_start, one_more, with_resumed}
+use Rattle.swan_runtime.specs.Turns.{AreAnyFrames, AreStackTurns, IsTurn, at_start, one_more, with_resumed}
 use Rattle.swan_runtime.proofs.Depth.{few-parts}
 use Rattle.swan_runtime.proofs.Spending.{HasFuel, fuel-is, left-more}
 use Rattle.swan_runtime.proofs.Stacking.{top-given}
@@ -33,13 +33,13 @@ module _ {B L E : Type 0} (Q : Type 0) (G : Ghosts B L) (name : E → Option Scr
     fewer : turns_left then < turns_left stack
 
   module _ (before after : CoreView B L) (below : List Frame) (top moved : Frame) (is : IsStack of before (below ++ top ∷ []))
-      (frames : AreFrames G name of (below ++ top ∷ [])) (steps : ℕ) (done : moved.task.done ≡ top.task.done + steps)
+      (frames : AreAnyFrames G name of (below ++ top ∷ [])) (steps : ℕ) (done : moved.task.done ≡ top.task.done + steps)
       (own : IsSameFrame name of.run of.ends counts top moved) (moved-frame : IsAnyFrame G name of.ends moved) (whole : is_some moved.stage ≡ true)
       (plan : after.plan ≡ before.plan) (run : after.run ≡ before.run) where
     top-fuel : HasFuel G top.task (fuel_of top.task.fuel top.stage)
     top-fuel = fuel-is G name of.ends top (top-given of before below top is.stacked).whole (frames (length below) top (last_more below top))
 
-    by-answer : (result : Resumed B Q L E) → IsResumed G of before after moved result → result ≢ resumed.NoMemory → AreFrames G name of (with_resumed below result)
+    by-answer : (result : Resumed B Q L E) → IsResumed G of before after moved result → result ≢ resumed.NoMemory → AreAnyFrames G name of (with_resumed below result)
         → IsFewer after (with_resumed below result) (below ++ top ∷ [])
     by-answer (resumed.Runs next counted) answered lasts then = record {
       stands = stack-runs G name of.run of.ends counts before below top moved is own after plan run answered.4 next answered.1 answered.2;
@@ -64,27 +64,27 @@ module _ {B L E : Type 0} (Q : Type 0) (G : Ghosts B L) (name : E → Option Scr
     by-answer (resumed.Strange same foreign) answered lasts then = absurd (never-strange G name of.run of.ends counts before below top moved is own answered.3)
     by-answer resumed.NoMemory answered lasts then = absurd (lasts refl)
 
-  turn-leaves : (before after : CoreView B L) (stack then : List Frame) → IsStack of before stack → AreFrames G name of stack → IsTurn Q G name of counts before stack after then
+  turn-leaves : (before after : CoreView B L) (stack then : List Frame) → IsStack of before stack → AreAnyFrames G name of stack → IsTurn Q G name of counts before stack after then
       → IsFewer after then stack
   turn-leaves before after stack then is frames turn =
       let here = subst (IsStack of before) turn.is is in
-      let are = subst (AreFrames G name of) turn.is frames in
+      let are = subst (AreAnyFrames G name of) turn.is frames in
       let left = by-answer before after turn.below turn.top turn.moved here are turn.steps turn.done turn.own turn.frame turn.whole turn.plan turn.run
-      turn.result turn.answered turn.lasts (subst (AreFrames G name of) turn.then_is turn.frames) in
+      turn.result turn.answered turn.lasts (subst (AreAnyFrames G name of) turn.then_is turn.frames) in
       subst (λ x. IsFewer after x stack) (sym turn.then_is) (subst (IsFewer after (with_resumed turn.below turn.result)) (sym turn.is) left)
 
   -- ---- after several
 
   pub record AreLeft (opened : CoreView B L) (turns : ℕ) (core : CoreView B L) (stack : List Frame) : Type 0 where
     pub stands : IsStack of core stack
-    pub frames : AreFrames G name of stack
+    pub frames : AreAnyFrames G name of stack
     pub few : turns + turns_left stack ≤ 2 * opened.plan.fuel + 1
 
   alone : (root frame : Frame) (index : ℕ) → IsAnyFrame G name of.ends root → slice_get (root ∷ []) index ≡ Some frame → IsAnyFrame G name of.ends frame
   alone root frame zero is there = let same : root ≡ frame = cc in subst (IsAnyFrame G name of.ends) same is
   alone root frame (suc index) is there = absurd (cc)
 
-  pub are-left : (opened : CoreView B L) (turns : ℕ) (core : CoreView B L) (stack : List Frame) → AreTurns Q G name of counts opened turns core stack → AreLeft opened turns core stack
+  pub are-left : (opened : CoreView B L) (turns : ℕ) (core : CoreView B L) (stack : List Frame) → AreStackTurns Q G name of counts opened turns core stack → AreLeft opened turns core stack
   are-left opened _ _ _ (at_start root is frame) = record {
     stands = opened-stack of opened root is;
     frames = λ index it there. alone root it index frame there;
@@ -114,7 +114,7 @@ module _ {B L E : Type 0} (Q : Type 0) (G : Ghosts B L) (name : E → Option Scr
       let long : length frame.task.path ≡ length (under.0.task.path ++ above.child ∷ above.rest) = ap length above.is in
       omega (arith, less, long, length-append under.0.task.path (above.child ∷ above.rest))
 
-  pub few-frames : (core : CoreView B L) (stack : List Frame) → IsStack of core stack → AreFrames G name of stack → length stack ≤ PATH_MOST + 1
+  pub few-frames : (core : CoreView B L) (stack : List Frame) → IsStack of core stack → AreAnyFrames G name of stack → length stack ≤ PATH_MOST + 1
   few-frames core [] is frames = omega arith
   few-frames core (first ∷ rest) is frames =
       let last = some_within (first ∷ rest) (length rest) (omega arith) in

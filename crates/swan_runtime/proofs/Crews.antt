@@ -13,7 +13,7 @@ use Rattle.task_frames.specs.declared.run.PlanRun.{PlanRun}
 use Rattle.task_frames.specs.Resumes.{EndsOf}
 use Rattle.swan_runtime.specs.declared.worker.Worker.{Worker}
 use Rattle.swan_runtime.specs.Shared.{SharedView}
-use Rattle.swan_runtime.specs.Workers.{AreDriven, AreOfPlan, AreWorkers, IsSameWorker, IsWorker, IsWorkerOf, OneHasMet, has_met, own_of}
+use Rattle.swan_runtime.specs.Workers.{AreDriven, AreWorkersOfPlan, AreWorkers, IsSameWorker, IsWorker, IsWorkerOf, OneHasMet, has_met, own_of}
 
 -- what was written over the whole of a list
 pub written : {X : Type 0} (xs ys : List X) (n : ℕ) → n ≡ length xs → length ys ≡ length xs → take n (ys ++ drop (length ys) xs) ≡ ys
@@ -54,7 +54,7 @@ module _ {B Q L E : Type 0} (of : EndsOf E) where
         record { own = it.own; lock_is = ap arc_value it.same.0 ∙ (are.each k d within).lock_is };
   }
 
-  pub driven_run : (plan : Plan B L) (before after : List (Worker B Q L E)) → length after ≡ length before → AreDriven of before after → AreOfPlan plan before → AreOfPlan plan after
+  pub driven_run : (plan : Plan B L) (before after : List (Worker B Q L E)) → length after ≡ length before → AreDriven of before after → AreWorkersOfPlan plan before → AreWorkersOfPlan plan after
   driven_run plan before after same driven runs = λ k d below.
       let within = subst (λ (n : ℕ). k < n) same below in
       let it = driven k d within in

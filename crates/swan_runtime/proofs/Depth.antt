@@ -13,7 +13,7 @@ use Rattle.swan_model.specs.Elision.{serial}
 use Rattle.swan_model.specs.Rights.{is_aliased}
 use Rattle.swan_model.specs.Script.{script}
 use Rattle.swan_model.specs.SerialState.{Activation, Holding, Queue, State, Store}
-use Rattle.swan_model.specs.SerialStep.{Effect, after, effect, effect_of, ends, faults, given, goes_on, moved, number_at, popped, spawned, spawns, step_on}
+use Rattle.swan_model.specs.SerialStep.{Effect, after, effect, effect_of, ends, faults, given, goes_on, moved, number_at, popped, spawn_effect, spawns, step_on}
 use Rattle.swan_model.specs.SerialTime.{time}
 use Rattle.swan_model.specs.TrueFrames.{StandsAt}
 use Rattle.serial_elision.proofs.Asks.{if-either, on_object-either, on_queue-either}
@@ -35,7 +35,7 @@ if-shallow : {L : Type 0} (a : Activation L) (b : Bool) (x y : Effect L) → IsS
 if-shallow a true x y then_is else_is = then_is
 if-shallow a false x y then_is else_is = else_is refl
 
-spawned-shallow : {L : Type 0} (store : Store) (a : Activation L) (child : Child L) (holdings : Option (List Holding)) → IsShallow a (spawned store a child holdings)
+spawned-shallow : {L : Type 0} (store : Store) (a : Activation L) (child : Child L) (holdings : Option (List Holding)) → IsShallow a (spawn_effect store a child holdings)
 spawned-shallow store a child None = tt
 spawned-shallow store a child (Some holdings) =
     if-shallow a (is_aliased child.gives) _ _ tt (λ alone.

@@ -20,8 +20,8 @@ with_resumed stack resumed.NoMemory = stack
 
 module _ {B L E : Type 0} (G : Ghosts B L) (name : E → Option Script) (of : EndsOf E) where
   -- these are frames, by what their type keeps
-  abbrev pub AreFrames : List (FrameView B L E) → Type 0
-  AreFrames frames = (index : ℕ) (frame : FrameView B L E) → slice_get frames index ≡ Some frame → IsAnyFrame G name of.ends frame
+  abbrev pub AreAnyFrames : List (FrameView B L E) → Type 0
+  AreAnyFrames frames = (index : ℕ) (frame : FrameView B L E) → slice_get frames index ≡ Some frame → IsAnyFrame G name of.ends frame
 
 module _ {B L E : Type 0} (Q : Type 0) (G : Ghosts B L) (name : E → Option Script) (of : EndsOf E) (counts : E → Counts) where
   -- A turn: the top of the stack takes some steps by itself, and is resumed. Memory lasts.
@@ -41,10 +41,10 @@ module _ {B L E : Type 0} (Q : Type 0) (G : Ghosts B L) (name : E → Option Scr
     pub plan : after.plan ≡ before.plan
     pub run : after.run ≡ before.run
     pub then_is : then ≡ with_resumed below result
-    pub frames : AreFrames G name of then
+    pub frames : AreAnyFrames G name of then
 
   -- a core and a stack, after so many turns from where the core was opened
-  pub data AreTurns (opened : CoreView B L) : ℕ → CoreView B L → List (FrameView B L E) → Type 0 where
-    at_start : (root : FrameView B L E) → IsOpened of opened root → IsAnyFrame G name of.ends root → AreTurns opened 0 opened (root ∷ [])
-    one_more : (turns : ℕ) (before after : CoreView B L) (stack then : List (FrameView B L E)) → AreTurns opened turns before stack
-        → IsTurn before stack after then → AreTurns opened (turns + 1) after then
+  pub data AreStackTurns (opened : CoreView B L) : ℕ → CoreView B L → List (FrameView B L E) → Type 0 where
+    at_start : (root : FrameView B L E) → IsOpened of opened root → IsAnyFrame G name of.ends root → AreStackTurns opened 0 opened (root ∷ [])
+    one_more : (turns : ℕ) (before after : CoreView B L) (stack then : List (FrameView B L E)) → AreStackTurns opened turns before stack
+        → IsTurn before stack after then → AreStackTurns opened (turns + 1) after then

@@ -68,8 +68,8 @@ module _ {B Q L E : Type 0} where
     pub each : All (IsWorkerOf of lock) workers
 
   -- Their run is of this plan.
-  abbrev pub AreOfPlan : Plan B L → List (Worker B Q L E) → Type 0
-  AreOfPlan plan workers = All (λ worker. (name_of (own_of worker)).plan ≡ plan) workers
+  abbrev pub AreWorkersOfPlan : Plan B L → List (Worker B Q L E) → Type 0
+  AreWorkersOfPlan plan workers = All (λ worker. (name_of (own_of worker)).plan ≡ plan) workers
 
   -- One of them has met the end of the run.
   pub record OneHasMet (workers : List (Worker B Q L E)) : Type 0 where

@@ -5,7 +5,7 @@ ghost use Rattle.task_frames.specs.Cores.{CoreView};
 ghost use Rattle.task_frames.specs.Frames.{FrameView};
 ghost use Rattle.task_frames.specs.Resumes.{ends_of};
 ghost use Rattle.swan_runtime.specs.Stacks.{IsStack};
-ghost use Rattle.swan_runtime.specs.Turns.{AreTurns};
+ghost use Rattle.swan_runtime.specs.Turns.{AreStackTurns};
 
 use queues::Queues;
 use swan_model::Body;
@@ -15,12 +15,12 @@ use swan_model::Body;
 /// frames are at most one more than a path has parts.
 pub fn turns_are_few<B: Body, Q: Queues>()
     ensures stands { (opened core : CoreView B B.Local) (turns : ℕ) (stack : List (FrameView B B.Local Q.Ends))
-        → AreTurns Q B.Body Q.Ends.name (ends_of Q.Ends.LocalEnds) Q.Ends.counts opened turns core stack
+        → AreStackTurns Q B.Body Q.Ends.name (ends_of Q.Ends.LocalEnds) Q.Ends.counts opened turns core stack
         → IsStack (ends_of Q.Ends.LocalEnds) core stack }
     ensures few { (opened core : CoreView B B.Local) (turns : ℕ) (stack : List (FrameView B B.Local Q.Ends))
-        → AreTurns Q B.Body Q.Ends.name (ends_of Q.Ends.LocalEnds) Q.Ends.counts opened turns core stack
+        → AreStackTurns Q B.Body Q.Ends.name (ends_of Q.Ends.LocalEnds) Q.Ends.counts opened turns core stack
         → turns ≤ 2 * opened.plan.fuel + 1 }
     ensures shallow { (opened core : CoreView B B.Local) (turns : ℕ) (stack : List (FrameView B B.Local Q.Ends))
-        → AreTurns Q B.Body Q.Ends.name (ends_of Q.Ends.LocalEnds) Q.Ends.counts opened turns core stack
+        → AreStackTurns Q B.Body Q.Ends.name (ends_of Q.Ends.LocalEnds) Q.Ends.counts opened turns core stack
         → length stack ≤ PATH_MOST + 1 }
 {}

@@ -9,7 +9,7 @@ ghost use Rattle.task_frames.specs.declared.run.PlanRun.{PlanRun};
 ghost use Rattle.swan_runtime.specs.Shared.{SharedView};
 ghost use Rattle.named_lock.specs.Seats.{IsNewSeatOf, IsSeatOf, lock_name, lock_seats};
 ghost use Rattle.task_frames.specs.Resumes.{IsOpened, ends_of};
-ghost use Rattle.swan_runtime.specs.Workers.{AreWorkers, IsWorkerOf, OneHasMet, AreOfPlan, has_met, saw_stopped};
+ghost use Rattle.swan_runtime.specs.Workers.{AreWorkers, IsWorkerOf, OneHasMet, AreWorkersOfPlan, has_met, saw_stopped};
 
 use crate::shared::SharedRun;
 use crate::worker::Own;
@@ -32,7 +32,7 @@ pub fn open<B: Body>(
 ) -> Result<Vec<Worker<B, BookQueues>>, NoMemory>
     ensures count { IfOk result (λ workers. vec_len workers ≡ shape.now.workers) }
     ensures workers { IfOk result (λ workers. AreWorkers (ends_of ⟦<NoEnds as LocalEnds>⟧) workers.items) }
-    ensures plan { IfOk result (λ workers. AreOfPlan plan workers.items) }
+    ensures plan { IfOk result (λ workers. AreWorkersOfPlan plan workers.items) }
     ensures met { IfOk result (λ workers. All (λ worker. has_met worker ≡ false) workers.items) }
 {
     let queues = BookQueues::new(alloc, RunName::of(&plan));
@@ -100,7 +100,7 @@ fn workers_of<B: Body, Q: Queues>(
     requires some { 0 < count }
     ensures count { IfOk result (λ workers. vec_len workers ≡ count) }
     ensures workers { IfOk result (λ workers. AreWorkers (ends_of Q.Ends.LocalEnds) workers.items) }
-    ensures plan { IfOk result (λ workers. AreOfPlan opened.core.plan workers.items) }
+    ensures plan { IfOk result (λ workers. AreWorkersOfPlan opened.core.plan workers.items) }
     ensures met { IfOk result (λ workers. All (λ worker. has_met worker ≡ false) workers.items) }
 {
     let Opened { core, body, root } = opened;
@@ -117,7 +117,7 @@ fn lock_of<B: Body, Q: Queues>(
     requires some { 0 < vec_len workers.now }
     ensures lock { (lock : TheLock (SharedView B B.Local Q.Ends) (PlanRun B B.Local)) → All (IsWorkerOf (ends_of Q.Ends.LocalEnds) lock) workers.now.items
         → IfOk result (λ own. arc_value own ≡ lock) }
-    ensures plan { (plan : ThePlan B B.Local) → AreOfPlan plan workers.now.items → IfOk result (λ own. (lock_name (arc_value own)).plan ≡ plan) }
+    ensures plan { (plan : ThePlan B B.Local) → AreWorkersOfPlan plan workers.now.items → IfOk result (λ own. (lock_name (arc_value own)).plan ≡ plan) }
 {
     let first = &workers[0];
     Ok(Arc::try_clone(&first.own.lock)?)
@@ -155,8 +155,8 @@ pub fn close<B: Body, Q: Queues>(
 ) -> Result<RunOutcome, NoMemory>
     requires workers { AreWorkers (ends_of Q.Ends.LocalEnds) workers.items }
     requires met { OneHasMet workers.items }
-    ensures outcome { (plan : ThePlan B B.Local) → AreOfPlan plan workers.items → IfOk result (λ ran. ran.outcome ≡ outcome B.Body plan) }
-    ensures script { (plan : ThePlan B B.Local) → AreOfPlan plan workers.items → IfOk result (λ ran. ran.script.means ≡ script B.Body plan) }
+    ensures outcome { (plan : ThePlan B B.Local) → AreWorkersOfPlan plan workers.items → IfOk result (λ ran. ran.outcome ≡ outcome B.Body plan) }
+    ensures script { (plan : ThePlan B B.Local) → AreWorkersOfPlan plan workers.items → IfOk result (λ ran. ran.script.means ≡ script B.Body plan) }
     ensures stopped { OnOk result (All (λ worker. saw_stopped worker ≡ false) workers.items) }
 {
     let lock = lock_of(&workers)?;

@@ -20,7 +20,7 @@ use Rattle.swan_outside.specs.declared.files.TheConstants.{FILE_MOST}
 use Rattle.swan_top.specs.Command.{Command, help, version, check, elide, run, index, convert, bulk}
 use Rattle.swan_top.specs.Completeness.{IsTold, AreTold, NothingFailed, RunsInOrder, ChecksInOrder, TextInOrder, InOrder, GeneratedInOrder, Completes, CompletesWell, EndsWell}
 use Rattle.swan_top.specs.Decision.{Verdict, prints, refuses, Next, reads, settled, next, files_of, unread, unless_unread, accepted, checked, generated, ran, printed, unless_refused, unless_unfit, next_of_check, next_of_job, next_of_run, next_of_text}
-use Rattle.swan_top.specs.Elisions.{Elisions, cheapest, converted, indexed}
+use Rattle.swan_top.specs.Elisions.{Elisions, cheapest, conversion_end, index_end}
 use Rattle.swan_top.specs.Headline.{FilesSeen, SinkSeen, Answers, WereRead, WasRead, Ends, FailedToWrite, Follows, ReadRefused, Settles, Wrote, ends_of, usage}
 use Rattle.swan_top.specs.declared.status.Status.{Status}
 use Rattle.swan_top.specs.declared.how.How.{How}
@@ -130,10 +130,10 @@ module _ (files : FilesSeen) (well : ¬ Rose files.faults_before files.faults_af
         run_settles (elisions.of_job (way.Run workers)) fuel job text names inputs leads.texts told.0 told.1 order leads.are_read leads.follows
     leads_in_order (index workers input) [] told order leads = absurd order
     leads_in_order (index workers input) (text ∷ texts) told order leads =
-        text_settles (indexed elisions workers) input text leads.texts told.0 order leads.are_read leads.follows
+        text_settles (index_end elisions workers) input text leads.texts told.0 order leads.are_read leads.follows
     leads_in_order (convert workers input) [] told order leads = absurd order
     leads_in_order (convert workers input) (text ∷ texts) told order leads =
-        text_settles (converted elisions workers) input text leads.texts told.0 order leads.are_read leads.follows
+        text_settles (conversion_end elisions workers) input text leads.texts told.0 order leads.are_read leads.follows
     leads_in_order (bulk number size workers) [] told order leads = generated_settles (elisions.of_job (cheapest workers)) number size order leads.follows
     leads_in_order (bulk number size workers) (text ∷ texts) told order leads = absurd order
 
@@ -243,8 +243,8 @@ module _ (elisions : Elisions) where
       let same : checked (accepted text) ≡ v = cc in checked_ends (accepted text) (ap ends_of same ∙ ends)
   next_ends (elide fuel job names) texts v is ends = run_ends (elisions.of_job way.Elide) fuel job names texts v is ends
   next_ends (run workers fuel job names) texts v is ends = run_ends (elisions.of_job (way.Run workers)) fuel job names texts v is ends
-  next_ends (index workers input) texts v is ends = text_ends (indexed elisions workers) input texts v is ends
-  next_ends (convert workers input) texts v is ends = text_ends (converted elisions workers) input texts v is ends
+  next_ends (index workers input) texts v is ends = text_ends (index_end elisions workers) input texts v is ends
+  next_ends (convert workers input) texts v is ends = text_ends (conversion_end elisions workers) input texts v is ends
   next_ends (bulk number size workers) texts v is ends = generated_ends (elisions.of_job (cheapest workers)) number size v is ends
 
   next_reads : (command : Command) (texts : List (List ℕ)) (file : List ℕ) → next elisions command texts ≡ reads file → Contains (files_of command) file

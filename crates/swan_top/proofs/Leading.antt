@@ -11,7 +11,7 @@ use Rattle.swan_model.specs.declared.outcome.Names.{Names}
 use Rattle.swan_model.specs.declared.plan.Plan.{Plan}
 use Rattle.swan_top.specs.Decision.{Verdict, accepted, checked, printed, unread, unless_unfit, unless_unread, next_of_check, next_of_job, next_of_run, next_of_text, ran}
 use Rattle.swan_top.specs.Headline.{WereRead, WasRead, FilesSeen, Follows, Leads, NoReadFailed, NoneTooLong, ReadRefused, files_seen}
-use Rattle.swan_top.specs.Settled.{Ran, Stops, StopsOver, IsRefused, InputRefused}
+use Rattle.swan_top.specs.Settled.{RanOrRefused, Stops, StopsOver, IsRefused, InputRefused}
 use Rattle.swan_top.specs.declared.run_end.RunEnd.{RunEnd}
 use Rattle.swan_top.specs.declared.verdict.WhyStopped.{WhyStopped}
 use Rattle.swan_top.proofs.TextsRead.{Stops-map, ReadRefused-since, Unrefused, unrefused_since}
@@ -87,7 +87,7 @@ module _ {B L : Type 0} (end_of : Plan B L → RunEnd) (plan_of : List ℕ → P
   settled_text = unless_unfit (refusal_of text) (printed text_names (end_of (plan_of text)))
 
   ran_is : (made : Result (Plan B L) LinesAnswer) (verdict : Verdict) → IfOk made (λ plan. plan ≡ plan_of text) → IfOk made (λ plan. refusal_of text ≡ None)
-      → IfErr made (λ why. (why ≡ answer.NoMemory) ⊎ (refusal_of text ≡ Some why)) → Ran end_of text_names made verdict → verdict ≡ settled_text
+      → IfErr made (λ why. (why ≡ answer.NoMemory) ⊎ (refusal_of text ≡ Some why)) → RanOrRefused end_of text_names made verdict → verdict ≡ settled_text
   ran_is (Ok plan) verdict is accepted refused ran =
       ran ∙ ap (λ p. printed text_names (end_of p)) is ∙ ap (λ why. unless_unfit why (printed text_names (end_of (plan_of text)))) (sym accepted)
   ran_is (Err why) verdict is accepted (inl memory) ran = absurd (ran.0 memory)
@@ -96,10 +96,10 @@ module _ {B L : Type 0} (end_of : Plan B L → RunEnd) (plan_of : List ℕ → P
 
   module _ (seen : List ℕ) (same : seen ≡ text) (files : FilesSeen) (input : List ℕ) (told : WasRead (files.content input) text) (read : NoReadFailed files) (short : NoneTooLong files) where
     pub ran_text : (made : Result (Plan B L) LinesAnswer) (names : Names) → names ≡ text_names → IfOk made (λ plan. plan ≡ plan_of seen) → IfOk made (λ plan. refusal_of seen ≡ None)
-        → IfErr made (λ why. (why ≡ answer.NoMemory) ⊎ (refusal_of seen ≡ Some why)) → (verdict : Verdict) → Ran end_of names made verdict
+        → IfErr made (λ why. (why ≡ answer.NoMemory) ⊎ (refusal_of seen ≡ Some why)) → (verdict : Verdict) → RanOrRefused end_of names made verdict
         → Leads files (input ∷ []) (next_of_text (λ t. end_of (plan_of t)) input) verdict
     ran_text made names named is accepted refused verdict ran =
-        let P : Names → Type 0 = λ ns. Ran end_of ns made verdict in
+        let P : Names → Type 0 = λ ns. RanOrRefused end_of ns made verdict in
         let A : List ℕ → Type 0 = λ t. IfOk made (λ plan. plan ≡ plan_of t) in
         let B : List ℕ → Type 0 = λ t. IfOk made (λ plan. refusal_of t ≡ None) in
         let C : List ℕ → Type 0 = λ t. IfErr made (λ why. (why ≡ answer.NoMemory) ⊎ (refusal_of t ≡ Some why)) in

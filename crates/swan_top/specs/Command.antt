@@ -3,7 +3,7 @@
 use Rattle.std.specs.Prelude.{ℕ, ◌≤◌, ℤ, pos, nat_le, Bool, true, false, ◌&&◌, Option, Some, None, List, [], ◌∷◌, codes, bytes_eq, if◌then◌else◌}
 use Rattle.std.specs.List.{list_all}
 use Rattle.bulk_workload.specs.declared.texts.TheConstants.{BULK_MOST}
-use Rattle.job_reader.specs.Atoms.{number as job_number}
+use Rattle.job_reader.specs.Atoms.{number}
 use Rattle.swan_top.specs.declared.command.Command.{Command as Asked}
 use Rattle.swan_top.specs.declared.command.Command.TheVariants as code
 use Rattle.swan_runtime.specs.declared.shape.TheConstants.{WORKERS_MOST}
@@ -24,8 +24,8 @@ abbrev pub within : ℕ → ℕ → Option ℤ → Option ℕ
 within low high (Some (pos n)) = if nat_le low n && nat_le n high then Some n else None
 within low high _ = None
 
-abbrev pub number : ℕ → ℕ → List ℕ → Option ℕ
-number low high word = within low high (job_number word)
+abbrev pub number_within : ℕ → ℕ → List ℕ → Option ℕ
+number_within low high word = within low high (number word)
 
 abbrev pub is_file : List ℕ → Bool
 is_file [] = false
@@ -49,7 +49,7 @@ job_and_inputs command _ _ = None
 -- FUEL JOB INPUT*
 abbrev pub fueled : (ℕ → List ℕ → List (List ℕ) → Command) → List (List ℕ) → Option Command
 fueled command [] = None
-fueled command (fuel ∷ words) = job_and_inputs command (number 1 FUEL_WORD_MOST fuel) words
+fueled command (fuel ∷ words) = job_and_inputs command (number_within 1 FUEL_WORD_MOST fuel) words
 
 -- WORKERS FUEL JOB INPUT*
 abbrev pub with_workers : Option ℕ → List (List ℕ) → Option Command
@@ -58,7 +58,7 @@ with_workers None words = None
 
 abbrev pub manned : List (List ℕ) → Option Command
 manned [] = None
-manned (workers ∷ words) = with_workers (number 1 WORKERS_MOST workers) words
+manned (workers ∷ words) = with_workers (number_within 1 WORKERS_MOST workers) words
 
 -- INPUT, after workers
 abbrev pub one_input : (ℕ → List ℕ → Command) → Option ℕ → List (List ℕ) → Option Command
@@ -68,7 +68,7 @@ one_input command _ _ = None
 -- WORKERS INPUT
 abbrev pub over_input : (ℕ → List ℕ → Command) → List (List ℕ) → Option Command
 over_input command [] = None
-over_input command (workers ∷ words) = one_input command (number 1 WORKERS_MOST workers) words
+over_input command (workers ∷ words) = one_input command (number_within 1 WORKERS_MOST workers) words
 
 -- NUMBER SIZE WORKERS
 abbrev pub generated_by : Option ℕ → Option ℕ → Option ℕ → Option Command
@@ -77,7 +77,7 @@ generated_by _ _ _ = None
 
 abbrev pub three_numbers : List (List ℕ) → Option Command
 three_numbers (number' ∷ size ∷ workers ∷ []) =
-    generated_by (number 0 NUMBER_WORD_MOST number') (number 0 BULK_MOST size) (number 1 WORKERS_MOST workers)
+    generated_by (number_within 0 NUMBER_WORD_MOST number') (number_within 0 BULK_MOST size) (number_within 1 WORKERS_MOST workers)
 three_numbers _ = None
 
 abbrev pub command : List (List ℕ) → Option Command

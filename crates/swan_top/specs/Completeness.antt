@@ -15,7 +15,7 @@ use Rattle.swan_outside.specs.Reads.{IsTooLong}
 use Rattle.swan_outside.specs.declared.files.TheConstants.{FILE_MOST}
 use Rattle.swan_top.specs.Command.{Command, help, version, check, elide, run, index, convert, bulk}
 use Rattle.swan_top.specs.Decision.{Verdict, prints, accepted, printed, files_of}
-use Rattle.swan_top.specs.Elisions.{Elisions, cheapest, converted, indexed}
+use Rattle.swan_top.specs.Elisions.{Elisions, cheapest, conversion_end, index_end}
 use Rattle.swan_top.specs.Headline.{FilesSeen, SinkSeen, Took, Wrote, ends_of, usage}
 use Rattle.swan_top.specs.Refusals.{file_line}
 use Rattle.swan_top.specs.declared.help.TheConstants.{HELP, VERSION}
@@ -75,8 +75,8 @@ module _ (elisions : Elisions) where
   InOrder (check job) (text ∷ texts) verdict = ChecksInOrder text verdict
   InOrder (elide fuel job names) (text ∷ inputs) verdict = RunsInOrder (elisions.of_job way.Elide) fuel text inputs verdict
   InOrder (run workers fuel job names) (text ∷ inputs) verdict = RunsInOrder (elisions.of_job (way.Run workers)) fuel text inputs verdict
-  InOrder (index workers input) (text ∷ texts) verdict = TextInOrder (indexed elisions workers) text verdict
-  InOrder (convert workers input) (text ∷ texts) verdict = TextInOrder (converted elisions workers) text verdict
+  InOrder (index workers input) (text ∷ texts) verdict = TextInOrder (index_end elisions workers) text verdict
+  InOrder (convert workers input) (text ∷ texts) verdict = TextInOrder (conversion_end elisions workers) text verdict
   InOrder (bulk number size workers) [] verdict = GeneratedInOrder (elisions.of_job (cheapest workers)) number size verdict
   InOrder (bulk number size workers) (text ∷ texts) verdict = ⊥
   InOrder command [] verdict = ⊥

@@ -22,7 +22,7 @@ use Rattle.swan_model.specs.declared.lines.LinesAnswer.{LinesAnswer}
 use Rattle.swan_model.specs.declared.outcome.Names.{Names}
 use Rattle.swan_model.specs.declared.plan.Plan.{Plan}
 use Rattle.swan_top.specs.Command.{Command, help, version, check, elide, run, index, convert, bulk}
-use Rattle.swan_top.specs.Elisions.{Elisions, cheapest, converted, indexed}
+use Rattle.swan_top.specs.Elisions.{Elisions, cheapest, conversion_end, index_end}
 use Rattle.swan_top.specs.declared.help.TheConstants.{HELP, VERSION}
 use Rattle.swan_top.specs.declared.how.How.TheVariants as how
 use Rattle.swan_top.specs.declared.run_end.RunEnd.{RunEnd}
@@ -145,8 +145,8 @@ next elisions version texts = settled (prints VERSION.now [] (status.Done how.Pl
 next elisions (check job) texts = next_of_check job texts
 next elisions (elide fuel job inputs) texts = next_of_run (elisions.of_job way.Elide) fuel job inputs texts
 next elisions (run workers fuel job inputs) texts = next_of_run (elisions.of_job (way.Run workers)) fuel job inputs texts
-next elisions (index workers input) texts = next_of_text (indexed elisions workers) input texts
-next elisions (convert workers input) texts = next_of_text (converted elisions workers) input texts
+next elisions (index workers input) texts = next_of_text (index_end elisions workers) input texts
+next elisions (convert workers input) texts = next_of_text (conversion_end elisions workers) input texts
 next elisions (bulk number size workers) texts = generated (elisions.of_job (cheapest workers)) number size
 
 -- the files of a command, in the order in which they are read

@@ -44,8 +44,8 @@ abbrev pub elisions : Elisions
 elisions = record { of_job = end_by job_ghosts; of_index = end_by index_ghosts; of_conversion = end_by record_ghosts }
 
 -- of the plan of a text's index, and of its conversion, by so many workers
-abbrev pub indexed : Elisions → ℕ → List ℕ → RunEnd
-indexed elisions workers text = elisions.of_index (cheapest workers) (index_plan text)
+abbrev pub index_end : Elisions → ℕ → List ℕ → RunEnd
+index_end elisions workers text = elisions.of_index (cheapest workers) (index_plan text)
 
-abbrev pub converted : Elisions → ℕ → List ℕ → RunEnd
-converted elisions workers text = elisions.of_conversion (cheapest workers) (record_plan text)
+abbrev pub conversion_end : Elisions → ℕ → List ℕ → RunEnd
+conversion_end elisions workers text = elisions.of_conversion (cheapest workers) (record_plan text)

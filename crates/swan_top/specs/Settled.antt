@@ -63,6 +63,6 @@ pub record IsRefused (text : List ℕ) (verdict : Verdict) : Type 0 where
   pub refused : verdict ≡ job_refused fault
 
 -- The plan of a text was run, or the text is refused as an input.
-abbrev pub Ran : {B L : Type 0} → (Plan B L → RunEnd) → Names → Result (Plan B L) LinesAnswer → Verdict → Type 0
-Ran end_of names (Ok plan) verdict = verdict ≡ printed names (end_of plan)
-Ran end_of names (Err why) verdict = (why ≢ answer.NoMemory) × (verdict ≡ refuses (input_line (of_input 1 why)) status.InputRefused)
+abbrev pub RanOrRefused : {B L : Type 0} → (Plan B L → RunEnd) → Names → Result (Plan B L) LinesAnswer → Verdict → Type 0
+RanOrRefused end_of names (Ok plan) verdict = verdict ≡ printed names (end_of plan)
+RanOrRefused end_of names (Err why) verdict = (why ≢ answer.NoMemory) × (verdict ≡ refuses (input_line (of_input 1 why)) status.InputRefused)

@@ -1,7 +1,7 @@
 // The command that words are.
 ghost use Rattle.std.specs.Prelude.{◌≡◌, ◌^◌, ◌<◌, ◌∷◌, [], bytes_eq, IfOk, OnErr, Some, None};
 ghost use Rattle.swan_runtime.specs.declared.shape.TheConstants.{WORKERS_MOST};
-ghost use Rattle.swan_top.specs.Command.{command, number, is_file, alone, asked, job_alone, fueled, manned, over_input, elide, run, index, convert, three_numbers, IsWithinLimits};
+ghost use Rattle.swan_top.specs.Command.{command, number_within, is_file, alone, asked, job_alone, fueled, manned, over_input, elide, run, index, convert, three_numbers, IsWithinLimits};
 ghost use Rattle.swan_top.specs.Forms.{ReadsWords, FilesOf, JobOf, WorkersOf, InputOf};
 ghost use Rattle.std.specs.List.{list_all};
 
@@ -85,8 +85,8 @@ fn is_word(word: &Word, text: &str) -> bool
 }
 
 // The number from low to high that a word is.
-fn number(low: u64, high: u64, word: &Word) -> Option<u64>
-    ensures { result ≡ number low high word.now }
+fn number_within(low: u64, high: u64, word: &Word) -> Option<u64>
+    ensures { result ≡ number_within low high word.now }
 {
     let number = u64::try_from(read_number(word.as_str().as_bytes())?).ok()?;
     if low <= number && number <= high {
@@ -158,7 +158,10 @@ fn fueled(words: &[Word]) -> Option<JobWords<'_>>
     let Some((fuel, files)) = words.split_first() else {
         return None;
     };
-    match (number(1, FUEL_WORD_MOST, fuel), job_and_inputs(files)) {
+    match (
+        number_within(1, FUEL_WORD_MOST, fuel),
+        job_and_inputs(files),
+    ) {
         (Some(fuel), Some((job, inputs))) => Some(JobWords { fuel, job, inputs }),
         _ => None,
     }
@@ -176,9 +179,9 @@ fn elide_command(words: &[Word]) -> Result<Command<'_>, Usage>
 
 // WORKERS.
 fn workers_of(word: &Word) -> Option<u32>
-    ensures { result ≡ number 1 WORKERS_MOST word.now }
+    ensures { result ≡ number_within 1 WORKERS_MOST word.now }
 {
-    match number(1, WORKERS_MOST as u64, word) {
+    match number_within(1, WORKERS_MOST as u64, word) {
         Some(workers) => Some(workers as u32),
         None => None,
     }
@@ -257,8 +260,8 @@ fn generated_by<'a>(
     ensures { ReadsWords (three_numbers (number_word.now ∷ size_word.now ∷ workers_word.now ∷ [])) result }
 {
     match (
-        number(0, NUMBER_WORD_MOST, number_word),
-        number(0, BULK_MOST, size_word),
+        number_within(0, NUMBER_WORD_MOST, number_word),
+        number_within(0, BULK_MOST, size_word),
         workers_of(workers_word),
     ) {
         (Some(number), Some(size), Some(workers)) => Ok(Command::Bulk {

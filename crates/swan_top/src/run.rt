@@ -6,7 +6,7 @@ ghost use Rattle.swan_top.specs.Elisions.{elisions, end_by};
 ghost use Rattle.swan_top.specs.Decision.{input_line, printed, ran, refuses, status_of};
 ghost use Rattle.swan_top.specs.declared.status.Status.TheVariants as status;
 ghost use Rattle.swan_top.specs.declared.way.Way.TheVariants as way;
-ghost use Rattle.swan_top.specs.Settled.{Is, Ran, Stops};
+ghost use Rattle.swan_top.specs.Settled.{Is, RanOrRefused, Stops};
 ghost use Rattle.swan_runtime.specs.Workers.{IsShape};
 ghost use Rattle.swan_top.specs.declared.run.TheConstants.{RING};
 ghost use Rattle.swan_model.specs.Elision.{outcome};
@@ -92,7 +92,7 @@ fn run_by_workers<T: Threads + Wait + Clock + Sync, G: Gate, B: Body>(
     let (outcome, ran) = ran.outcome();
     Ok(RunEnd {
         outcome,
-        how: How::Ran(ran),
+        how: How::RanOrRefused(ran),
     })
 }
 
@@ -159,8 +159,8 @@ pub(crate) fn run_text<T: Threads + Wait + Clock + Sync, G: Gate, B: Body>(
     names: &Names,
 ) -> Result<Settled, WhyStopped>
     requires { IfOk plan (λ plan'. IsNaming names.now plan'.roots) }
-    ensures ran { IfOk result (Is (Ran (end_by B.Body way) names.now plan)) }
-    ensures refused { IfErr result (Stops (Ran (end_by B.Body way) names.now plan)) }
+    ensures ran { IfOk result (Is (RanOrRefused (end_by B.Body way) names.now plan)) }
+    ensures refused { IfErr result (Stops (RanOrRefused (end_by B.Body way) names.now plan)) }
 {
     match plan {
         Ok(plan) => Ok(run_plan(engine, way, plan, names)?),

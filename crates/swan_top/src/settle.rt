@@ -4,7 +4,7 @@ ghost use Rattle.bulk_workload.specs.declared.texts.TheConstants.{BULK_MOST};
 ghost use Rattle.swan_model.specs.declared.plan.TheConstants.{FUEL_MOST};
 ghost use Rattle.swan_top.specs.Command.{asked, IsWithinLimits};
 ghost use Rattle.swan_top.specs.Decision.{checked, generated, settled, next_of_check, next_of_run, next_of_text, prints};
-ghost use Rattle.swan_top.specs.Elisions.{cheapest, converted, elisions, indexed};
+ghost use Rattle.swan_top.specs.Elisions.{cheapest, conversion_end, elisions, index_end};
 ghost use Rattle.swan_top.specs.Headline.{Leads, Settles, files_over};
 ghost use Rattle.swan_top.specs.Settled.{Is, Stops, StopsOver, verdict_of};
 ghost use Rattle.swan_top.specs.declared.how.How.TheVariants as how;
@@ -96,10 +96,10 @@ fn settle_index<T: Threads + Wait + Clock + Sync, F: Files, G: Gate>(
     input: &Word,
 ) -> Result<Settled, WhyStopped>
     ensures ok { IfOk result (Is (Leads (files_over F.content F.faults F.long_reads files.old files.new)
-        (input.now ∷ []) (next_of_text (indexed elisions workers) input.now))) }
+        (input.now ∷ []) (next_of_text (index_end elisions workers) input.now))) }
     ensures err { let seen = files_over F.content F.faults F.long_reads files.old files.new in
         IfErr result (StopsOver seen (Leads seen (input.now ∷ [])
-        (next_of_text (indexed elisions workers) input.now))) }
+        (next_of_text (index_end elisions workers) input.now))) }
 {
     let text = read_file(engine.alloc, files, input)?;
     let names = index_names(engine.alloc)?;
@@ -116,10 +116,10 @@ fn settle_convert<T: Threads + Wait + Clock + Sync, F: Files, G: Gate>(
     input: &Word,
 ) -> Result<Settled, WhyStopped>
     ensures ok { IfOk result (Is (Leads (files_over F.content F.faults F.long_reads files.old files.new)
-        (input.now ∷ []) (next_of_text (converted elisions workers) input.now))) }
+        (input.now ∷ []) (next_of_text (conversion_end elisions workers) input.now))) }
     ensures err { let seen = files_over F.content F.faults F.long_reads files.old files.new in
         IfErr result (StopsOver seen (Leads seen (input.now ∷ [])
-        (next_of_text (converted elisions workers) input.now))) }
+        (next_of_text (conversion_end elisions workers) input.now))) }
 {
     let text = read_file(engine.alloc, files, input)?;
     let names = record_names(engine.alloc)?;

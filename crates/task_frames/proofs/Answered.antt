@@ -12,7 +12,7 @@ use Rattle.task_frames.specs.declared.resumed.Resumed.TheVariants as resumed
 use Rattle.task_frames.specs.declared.step.Step.{Step}
 use Rattle.task_frames.specs.declared.step.Step.TheVariants as step
 use Rattle.task_frames.specs.declared.steps.Steps.{Steps}
-use Rattle.task_frames.specs.Cores.{MayBegin, AtCore, CoreView, HasIt, IsCore, KeptView, come_in}
+use Rattle.task_frames.specs.Cores.{MayBegin, AtCore, CoreView, HasIt, IsCore, KeptView, after_coming_in}
 use Rattle.task_frames.specs.Frames.{FrameView, Task}
 use Rattle.task_frames.specs.Records.{HasNoLiveChild, IsLiveChild, come_at, live_at}
 use Rattle.task_frames.specs.Resumes.{MayStep, AreOfPlan, EndsOf, HasLent, HasNoChildAtCore, HaveCome, IsAnswered, IsNewChildOf, IsGivenAs, IsGivenBy, IsLast, IsLiveBefore, IsOneOn, IsResumed, IsShown, IsStep, OnGoneOn, OthersKept, OthersStay, waited_for}
@@ -83,7 +83,7 @@ all-stay a IsOther = record { live = λ other is. refl; active_are = λ other is
 
 module _ {B L E : Type 0} (G : Ghosts B L) (of : EndsOf E) (before after : CoreView B L) (frame : FrameView B L E) (at : AtCore B L) (start taken stepped given : KeptView)
     (start_is : before.kept ≡ Some start) (given_is : after.kept ≡ Some given) (plan : frame.task.plan ≡ after.plan) (run : given.run ≡ after.run)
-    (task : at.task ≡ record frame.task { since = frame.task.done }) (come : taken ≡ come_in start frame.task (of.ends frame.ends))
+    (task : at.task ≡ record frame.task { since = frame.task.done }) (come : taken ≡ after_coming_in start frame.task (of.ends frame.ends))
     (others : OthersStay start taken (λ other. other ≢ frame.task.number)) where
   abbrev n : ℕ
   n = frame.task.number
@@ -121,7 +121,7 @@ module _ {B L E : Type 0} (G : Ghosts B L) (of : EndsOf E) (before after : CoreV
   -- and who may begin then
   may-step : MayBegin taken n → MayStep of before frame
   may-step may x is =
-      subst (λ k. MayBegin (come_in k frame.task (of.ends frame.ends)) n) (same_Some start x (sym start_is ∙ is)) (subst (λ k. MayBegin k n) come may)
+      subst (λ k. MayBegin (after_coming_in k frame.task (of.ends frame.ends)) n) (same_Some start x (sym start_is ∙ is)) (subst (λ k. MayBegin k n) come may)
 
   abbrev t : Task B L
   t = record frame.task { since = frame.task.done }

@@ -28,7 +28,7 @@ use Rattle.swan_model.specs.Told.{count, deed_at, pushes, taken}
 use Rattle.swan_model.specs.Versions.{Placed, after_write, placed_at}
 use Rattle.swan_model.specs.VersionsFollow.{is_object_deed}
 use Rattle.queues.specs.Asks.{MayDo}
-use Rattle.serial_elision.specs.TaskSteps.{Faults, GoesOn, IsAsking, IsRefused, MayUseAt}
+use Rattle.serial_elision.specs.TaskSteps.{Faults, GoesOn, IsAsking, LacksRight, MayUseAt}
 use Rattle.serial_elision.proofs.AskSteps.{pops-none, pops-on, refused, use-named}
 use Rattle.serial_elision.proofs.Held.{used-at}
 use Rattle.serial_elision.proofs.TaskSteps.{stands-one}
@@ -36,7 +36,7 @@ use Rattle.task_frames.specs.declared.stage.Stage.TheVariants.{Ready}
 use Rattle.task_frames.specs.declared.step.Step.TheVariants as step
 use Rattle.task_frames.specs.Cores.{AtCore, HasIt, KeptView, MayBegin, Mid, asking, one_on}
 use Rattle.task_frames.specs.Records.{HasNoLiveChild, IsOnlyLive, LiveFrame, LiveFrames, come_to, live_at}
-use Rattle.task_frames.specs.Resumes.{EndsByFault, IsStep, MayNotUse}
+use Rattle.task_frames.specs.Resumes.{EndsTaskByFault, IsStep, MayNotUse}
 use Rattle.task_frames.proofs.Goings.{runs-quiet, runs-used, runs-written}
 use Rattle.task_frames.proofs.Served.{same-mode, some-and}
 use Rattle.serial_elision.proofs.FewMade.{few-times}
@@ -105,7 +105,7 @@ module _ {B L : Type 0} (G : Ghosts B L) (kept : KeptView) (mid : Mid B L) (asks
 
   -- ---- what it may not
 
-  is-refused : (other : Ask L) → MayNotUse mid.task.holdings other → IsRefused G mid.task.plan mid.task.path mid.task.done top other
+  is-refused : (other : Ask L) → MayNotUse mid.task.holdings other → LacksRight G mid.task.plan mid.task.path mid.task.done top other
   is-refused (ask.Read place) none = none-too mid.task.holdings top.holdings place In has.is.alone.modes none
   is-refused (ask.Write place value) none = none-too mid.task.holdings top.holdings place Out has.is.alone.modes none
   is-refused (ask.Push place value) none = none-too mid.task.holdings top.holdings place Push has.is.alone.modes none
@@ -120,12 +120,12 @@ module _ {B L : Type 0} (G : Ghosts B L) (kept : KeptView) (mid : Mid B L) (asks
   is-refused (ask.Fail trouble) none = absurd none
 
   -- a fault of the step at which it stands, at the place before it
-  pub ends-by : (fault : _) → Faults G mid.task.plan mid.task.path mid.task.done top fault deed.Quiet → EndsByFault G mid.task mid.at fault
+  pub ends-by : (fault : _) → Faults G mid.task.plan mid.task.path mid.task.done top fault deed.Quiet → EndsTaskByFault G mid.task mid.at fault
   ends-by fault is other at =
       let one = stands-one G mid.task.plan mid.task.path mid.task.done top other has.is.alone.stands at in
       (subst (λ a. Faults G mid.task.plan mid.task.path mid.task.done a fault deed.Quiet) one is, has.is.alone.stage.2 ∙ ap (λ (a : Activation L). G.place_of mid.task.plan.body a.local) one)
 
-  pub refused-so : MayNotUse mid.task.holdings asks → EndsByFault G mid.task mid.at kind.Privilege
+  pub refused-so : MayNotUse mid.task.holdings asks → EndsTaskByFault G mid.task mid.at kind.Privilege
   refused-so none = ends-by kind.Privilege (refused G mid.task.plan mid.task.path mid.task.done top mid.local asks (is-asking-so) (is-refused asks none)) where
     is-asking-so : IsAsking G mid.task.plan mid.task.path mid.task.done top mid.local asks
     is-asking-so = record { stands = has.is.alone.stands; paid = has.is.alone.stage.0; said = has.is.alone.stage.3 }

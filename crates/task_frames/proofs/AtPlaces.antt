@@ -27,7 +27,7 @@ use Rattle.swan_model.specs.SerialState.{Activation, Holding}
 use Rattle.swan_model.specs.SerialStep.{moved, with_place}
 use Rattle.swan_model.specs.SerialTime.{Reading, time}
 use Rattle.swan_model.specs.TrueFrames.{StandsAt}
-use Rattle.swan_model.specs.Versions.{VersionState, after_create as after_new, placed_at}
+use Rattle.swan_model.specs.Versions.{VersionState, objects_after_create, placed_at}
 use Rattle.swan_model.proofs.Lists.{some_within}
 use Rattle.queues.specs.Asks.{HasRoom, OnActive, OnNext}
 use Rattle.swan_model.specs.Readings.{gone_on_by}
@@ -95,16 +95,16 @@ queue-kept base kept after n o name run state reading same_kept same_name same_r
 
 -- an object more
 pub object-kept : (base kept after : KeptView) (m n place next : ℕ) (value : Value) (o : Origin) (versions : VersionState) (reading : Reading) → base ≡ kept → m ≡ n → place ≡ next
-    → versions ≡ after_new base.versions m place value → reading ≡ with_object (gone_on_by base.reading n 1) o
+    → versions ≡ objects_after_create base.versions m place value → reading ≡ with_object (gone_on_by base.reading n 1) o
     → after ≡ record base { versions = versions; reading = reading; live = after.live; objects = base.objects + 1 }
-    → after ≡ record kept { versions = after_new kept.versions n next value; reading = with_object (gone_on_by kept.reading n 1) o; live = after.live; objects = kept.objects + 1 }
+    → after ≡ record kept { versions = objects_after_create kept.versions n next value; reading = with_object (gone_on_by kept.reading n 1) o; live = after.live; objects = kept.objects + 1 }
 object-kept base kept after m n place next value o versions reading same_kept same_number same_place versions_are reading_is is =
     is
     ∙ ap {B = KeptView} (λ x. record base { versions = versions; reading = x; live = after.live; objects = base.objects + 1 }) reading_is
     ∙ ap {B = KeptView} (λ v. record base { versions = v; reading = with_object (gone_on_by base.reading n 1) o; live = after.live; objects = base.objects + 1 }) versions_are
-    ∙ ap {B = KeptView} (λ (k : KeptView). record k { versions = after_new k.versions m place value; reading = with_object (gone_on_by k.reading n 1) o; live = after.live; objects = k.objects + 1 }) same_kept
-    ∙ ap {B = KeptView} (λ j. record kept { versions = after_new kept.versions j place value; reading = with_object (gone_on_by kept.reading n 1) o; live = after.live; objects = kept.objects + 1 }) same_number
-    ∙ ap {B = KeptView} (λ j. record kept { versions = after_new kept.versions n j value; reading = with_object (gone_on_by kept.reading n 1) o; live = after.live; objects = kept.objects + 1 }) same_place
+    ∙ ap {B = KeptView} (λ (k : KeptView). record k { versions = objects_after_create k.versions m place value; reading = with_object (gone_on_by k.reading n 1) o; live = after.live; objects = k.objects + 1 }) same_kept
+    ∙ ap {B = KeptView} (λ j. record kept { versions = objects_after_create kept.versions j place value; reading = with_object (gone_on_by kept.reading n 1) o; live = after.live; objects = kept.objects + 1 }) same_number
+    ∙ ap {B = KeptView} (λ j. record kept { versions = objects_after_create kept.versions n j value; reading = with_object (gone_on_by kept.reading n 1) o; live = after.live; objects = kept.objects + 1 }) same_place
 
 -- the frame, which is told its new place
 pub told-more : {B L : Type 0} (mid with_more : Mid B L) (h g : Holding) (place : ℕ) (frame : AtCore B L) → frame ≡ record { task = one_on with_more.task; stage = Ready with_more.local (answer.Place place) }
@@ -294,7 +294,7 @@ module _ {B L : Type 0} (G : Ghosts B L) (kept : KeptView) (mid : Mid B L) (valu
   module _ (then_live : LiveFrames) where
     abbrev with-one-object : KeptView
     with-one-object = record kept {
-      versions = after_new kept.versions mid.task.number (length mid.task.holdings) value;
+      versions = objects_after_create kept.versions mid.task.number (length mid.task.holdings) value;
       reading = with_object (gone_on_by kept.reading mid.task.number 1) (Step (time (script G mid.task.plan) mid.task.path mid.task.done));
       live = then_live;
       objects = kept.objects + 1;
@@ -319,8 +319,8 @@ module _ {B L : Type 0} (G : Ghosts B L) (kept : KeptView) (mid : Mid B L) (valu
             name = has.core.name;
             queues = queues.others-over s lawful r kept.state kept.turns has.core.queues n mid.task.path mid.task.done known_is (deed.MakeObject value) (r.objects ++ o ∷ []) object-gets.deed refl then.left;
             objects = objects.created s lawful r kept.versions kept.live kept.objects has.core.objects n mid.task.path mid.task.done known_is has.of.frame has.of.live then_live
-                value (after_new kept.versions n (length mid.task.holdings) value) object-gets.deed has.is.alone.stands.left
-                (ap (λ hs. after_new kept.versions n (length hs) value) (sym has.of.holdings)) begun.ready only;
+                value (objects_after_create kept.versions n (length mid.task.holdings) value) object-gets.deed has.is.alone.stands.left
+                (ap (λ hs. objects_after_create kept.versions n (length hs) value) (sym has.of.holdings)) begun.ready only;
             frames = live.made-object G mid.task.plan r kept.state kept.live kept.frames has.core.frames n has.of.frame has.of.live own own_live then_live has.is.plan.lists
                 mid.task.path mid.task.done kept.objects top (with_place (moved top mid.local) (record { mode = InOut; number = object-gets.number }))
                 has.of.path (done-now G kept mid asks has) has.is.alone.stands then

@@ -27,7 +27,7 @@ use Rattle.swan_model.specs.SerialStep.{faults, number_at}
 use Rattle.swan_model.specs.SerialTime.{time, times}
 use Rattle.swan_model.specs.Told.{count, deed_at, pushes, taken}
 use Rattle.swan_model.specs.TrueFrames.{effect_at}
-use Rattle.swan_model.specs.Versions.{after_finish as after_end}
+use Rattle.swan_model.specs.Versions.{objects_after_finish}
 use Rattle.pop_order.specs.Frames.{without}
 use Rattle.queues.specs.Asks.{IsOnTurn, MayDo, MayJoin, MayLook, MayUse, OnActive, OnNext}
 use Rattle.swan_model.specs.Readings.{gone_on_by}
@@ -294,7 +294,7 @@ module _ {B L : Type 0} (G : Ghosts B L) (kept : KeptView) (mid : Mid B L) (plac
       pub dry-ends : (after : KeptView) (fault : Fault) → IsOnlyLive kept.live after.live mid.task.number None
           → after ≡ record kept {
             state = after_finish (after_deed kept.state mid.task.number) mid.task.number;
-            versions = after_end kept.versions mid.task.number;
+            versions = objects_after_finish kept.versions mid.task.number;
             reading = gone_on_by kept.reading mid.task.number 1;
             live = after.live;
             turns = without kept.turns mid.task.number;
@@ -318,7 +318,7 @@ module _ {B L : Type 0} (G : Ghosts B L) (kept : KeptView) (mid : Mid B L) (plac
           (ends-so G kept (asking mid (ask.Pop place)) has begun (none-last none) (deed.Pop pop-used.0) popped-deed refl refl
           (record kept {
             state = then_state;
-            versions = after_end kept.versions n;
+            versions = objects_after_finish kept.versions n;
             reading = gone_on_by r n 1;
             live = after.live;
             turns = without kept.turns n;

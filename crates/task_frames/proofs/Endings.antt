@@ -10,7 +10,7 @@ use Rattle.swan_model.specs.QueueState.{after_finish}
 use Rattle.swan_model.specs.Script.{script}
 use Rattle.swan_model.specs.SerialStep.{ends, faults}
 use Rattle.swan_model.specs.TrueFrames.{effect_at}
-use Rattle.swan_model.specs.Versions.{IsSettled, after_finish as after_end}
+use Rattle.swan_model.specs.Versions.{IsSettled, objects_after_finish}
 use Rattle.swan_model.specs.VersionsFollow.{is_object_deed}
 use Rattle.pop_order.specs.Frames.{without}
 use Rattle.queues.specs.Asks.{MayJoin}
@@ -60,7 +60,7 @@ module _ {B L : Type 0} (G : Ghosts B L) (kept : KeptView) (frame : AtCore B L) 
     -- it ends by this deed, which no object hears of; its faults are booked
     module _ (does : Deed) (is : deed_now G task ≡ does) (no_object : is_object_deed does ≡ false) (no_spawn : is_spawn does ≡ false) (after : KeptView) (settled : IsSettled kept.versions task.number)
         (only : IsOnlyLive kept.live after.live task.number None) (name : after.name ≡ kept.name) (reading : after.reading ≡ gone_on_by kept.reading task.number 1) (count : after.frames ≡ kept.frames) (made : after.objects ≡ kept.objects)
-        (ended : after.versions ≡ after_end kept.versions task.number) (alone : HasNoLiveChild kept.live task.number) (gone : IsOnlyFrame kept.state after.state task.number None)
+        (ended : after.versions ≡ objects_after_finish kept.versions task.number) (alone : HasNoLiveChild kept.live task.number) (gone : IsOnlyFrame kept.state after.state task.number None)
         (queues_are : AreQueues s (gone_on_by kept.reading task.number 1) after.state after.turns)
         (frames_are : AreFrames G task.plan (gone_on_by kept.reading task.number 1) after.state after.live kept.frames)
         (booked_are : AreBooked G task.plan (gone_on_by kept.reading task.number 1) after.faults) where
@@ -91,7 +91,7 @@ module _ {B L : Type 0} (G : Ghosts B L) (kept : KeptView) (frame : AtCore B L) 
       -- by the end that it asks for
       pub ends-quietly : after ≡ record kept {
         state = after_finish kept.state task.number;
-        versions = after_end kept.versions task.number;
+        versions = objects_after_finish kept.versions task.number;
         reading = gone_on_by kept.reading task.number 1;
         live = after.live;
         turns = without kept.turns task.number;
@@ -102,7 +102,7 @@ module _ {B L : Type 0} (G : Ghosts B L) (kept : KeptView) (frame : AtCore B L) 
           (ends-so deed.Quiet quiet refl refl
           (record kept {
             state = after_finish kept.state task.number;
-            versions = after_end kept.versions task.number;
+            versions = objects_after_finish kept.versions task.number;
             reading = gone_on_by kept.reading task.number 1;
             live = after.live;
             turns = without kept.turns task.number;
@@ -116,7 +116,7 @@ module _ {B L : Type 0} (G : Ghosts B L) (kept : KeptView) (frame : AtCore B L) 
       -- by a fault
       pub ends-faulty : (fault : Fault) → after ≡ record kept {
         state = after_finish kept.state task.number;
-        versions = after_end kept.versions task.number;
+        versions = objects_after_finish kept.versions task.number;
         reading = gone_on_by kept.reading task.number 1;
         live = after.live;
         turns = without kept.turns task.number;
@@ -129,7 +129,7 @@ module _ {B L : Type 0} (G : Ghosts B L) (kept : KeptView) (frame : AtCore B L) 
           (ends-so deed.Quiet quiet refl refl
           (record kept {
             state = after_finish kept.state task.number;
-            versions = after_end kept.versions task.number;
+            versions = objects_after_finish kept.versions task.number;
             reading = gone_on_by kept.reading task.number 1;
             live = after.live;
             turns = without kept.turns task.number;

@@ -16,7 +16,7 @@ use Rattle.swan_model.specs.Roots.{IsWithinBounds}
 use Rattle.swan_model.specs.Rights.{is_aliased}
 use Rattle.swan_model.specs.Script.{asked, deed_of, entry_of, script}
 use Rattle.swan_model.specs.SerialState.{Activation, Cell, Holding, Queue, Store}
-use Rattle.swan_model.specs.SerialStep.{Effect, effect, faults, given, goes_on, moved, number_at, on_cell, on_list, on_object, on_queue, popped, spawned, spawns}
+use Rattle.swan_model.specs.SerialStep.{Effect, effect, faults, given, goes_on, moved, number_at, on_cell, on_list, on_object, on_queue, popped, spawn_effect, spawns}
 use Rattle.swan_model.specs.SerialTime.{time}
 use Rattle.swan_model.specs.Told.{deed_at}
 use Rattle.swan_model.specs.TrueFrames.{StandsAt, effect_at, gives_at, state_at}
@@ -50,7 +50,7 @@ pop-keeps : {L : Type 0} (store : Store) (a : Activation L) (number : ℕ) (queu
 pop-keeps store a number queue [] = tt
 pop-keeps store a number queue (item ∷ items) = refl
 
-spawn-keeps : {L : Type 0} (store : Store) (a : Activation L) (child : Child L) (found : Option (List Holding)) → Keeps a.holdings (spawned store a child found)
+spawn-keeps : {L : Type 0} (store : Store) (a : Activation L) (child : Child L) (found : Option (List Holding)) → Keeps a.holdings (spawn_effect store a child found)
 spawn-keeps {L = L} store a child None = tt
 spawn-keeps {L = L} store a child (Some holdings) = by (is_aliased child.gives) (nat_le PATH_MOST (length a.path)) (nat_lt a.fuel child.fuel) _ _ _ refl where
   by : (twice deep dear : Bool) (parent below : Activation L) (then : Store) → parent.holdings ≡ a.holdings

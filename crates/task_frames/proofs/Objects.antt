@@ -19,7 +19,7 @@ use Rattle.swan_model.specs.SerialState.{Holding}
 use Rattle.swan_model.specs.SerialTime.{Progress, Reading, frame_of, point, time, times}
 use Rattle.swan_model.specs.Told.{deed_at}
 use Rattle.swan_model.specs.Values.{kind_of}
-use Rattle.swan_model.specs.Versions.{IsSettled, Placed, VersionState, after_create, after_finish, after_write, placed_at, settle, settle_placed, settled, written_at}
+use Rattle.swan_model.specs.Versions.{IsSettled, Placed, VersionState, objects_after_create, objects_after_finish, after_write, placed_at, settle, settle_placed, settled, written_at}
 use Rattle.swan_model.specs.VersionsFollow.{ObjectsFollow, is_object_deed}
 use Rattle.swan_model.proofs.Elements.{before_more, last_more, more_cases, option_cases}
 use Rattle.swan_model.proofs.TaskEntries.{point_is}
@@ -212,10 +212,10 @@ module _ (s : Script) (lawful : IsLawful s) (r : Reading) (versions : VersionSta
   ]
 
   module _ (value : Value) (after : VersionState) (is : deed_at s (time s path k) ≡ deed.MakeObject value) (left : k < length (times s path))
-      (same : after ≡ after_create versions n (length f.holdings) value) (none : AwaitsNone versions n)
+      (same : after ≡ objects_after_create versions n (length f.holdings) value) (none : AwaitsNone versions n)
       (only : IsOnlyLive live then_live n (Some (record f { done = k + 1; holdings = f.holdings ++ record { mode = InOut; number = objects } ∷ [] }))) where
     abbrev made : VersionState
-    made = after_create versions n (length f.holdings) value
+    made = objects_after_create versions n (length f.holdings) value
 
     abbrev new : Placed
     new = record { object = versions.made; kind = kind_of value; mode = InOut; given = None; present = settled value }
@@ -309,9 +309,9 @@ module _ (s : Script) (lawful : IsLawful s) (r : Reading) (versions : VersionSta
   -- ---- a frame that ends
 
   module _ (does : Deed) (after : VersionState) (is : deed_at s (time s path k) ≡ does) (quiet : is_object_deed does ≡ false) (still : is_spawn does ≡ false) (last : k + 1 ≡ length (times s path))
-      (all : IsSettled versions n) (same : after ≡ after_finish versions n) (only : IsOnlyLive live then_live n None) where
+      (all : IsSettled versions n) (same : after ≡ objects_after_finish versions n) (only : IsOnlyLive live then_live n None) where
     abbrev over : VersionState
-    over = after_finish versions n
+    over = objects_after_finish versions n
 
     goes : (m at : ℕ) (object : Placed) → (m ≢ n) ⊎ (n ≡ 0) → placed_at versions m at ≡ Some object → placed_at over m at ≡ Some (settle_placed versions n object)
     goes m at object stays here = finish_keeps versions n m at stays ∙ ap (option_map (settle_placed versions n)) here

@@ -26,7 +26,7 @@ use Rattle.swan_model.specs.SerialState.{Holding}
 use Rattle.swan_model.specs.SerialTime.{Progress, Reading, frame_of, times}
 use Rattle.swan_model.specs.TrueFrames.{give_in, gives_at}
 use Rattle.swan_model.specs.Values.{kind_of}
-use Rattle.swan_model.specs.Versions.{Placed, VersionState, after_create, new_versions, placed_at, settled}
+use Rattle.swan_model.specs.Versions.{Placed, VersionState, objects_after_create, new_versions, placed_at, settled}
 use Rattle.swan_model.specs.VersionsFollow.{ObjectsFollow}
 use Rattle.swan_model.proofs.Elements.{before_more, last_more, option_cases}
 use Rattle.swan_model.proofs.Lists.{some_within}
@@ -153,7 +153,7 @@ free-next s versions first i are = elim (option_cases (placed_at versions 0 (fir
 ]
 
 pub objects-next : (s : Script) → IsLawful s → (versions after : VersionState) (first i : ℕ) (value : Value) → AreFirstObjects s versions first i → slice_get s.objects i ≡ Some value
-    → after ≡ after_create versions 0 (first + i) value → AreFirstObjects s after first (i + 1)
+    → after ≡ objects_after_create versions 0 (first + i) value → AreFirstObjects s after first (i + 1)
 objects-next s lawful versions after first i value are at same = record {
   follow = λ queues.
       let next : ObjectsFollow s (with_object (at_start queues (roots_to i)) (Root versions.made)) after =
@@ -187,7 +187,7 @@ objects-next s lawful versions after first i value are at same = record {
   one = omega arith
 
   made : VersionState
-  made = after_create versions 0 (first + i) value
+  made = objects_after_create versions 0 (first + i) value
 
   new : Placed
   new = record { object = versions.made; kind = kind_of value; mode = InOut; given = None; present = settled value }

@@ -40,7 +40,7 @@ use Rattle.serial_elision.proofs.Lawful.{lawful}
 use Rattle.task_frames.specs.declared.stage.Stage.TheVariants.{Asking, Ready}
 use Rattle.queues.specs.Reads.{deeds_among}
 use Rattle.task_frames.specs.Frames.{IsFrame, Task}
-use Rattle.task_frames.specs.Going.{IsAnswerTo, IsNextDeed, deeds_of}
+use Rattle.task_frames.specs.Going.{IsServedAnswer, IsNextDeed, deeds_of}
 use Rattle.task_frames.proofs.Amid.{goes-on, is-asking, with-steps, worked}
 use Rattle.swan_model.proofs.Uses.{same_kind}
 
@@ -208,7 +208,7 @@ next-ask G task name ends local (ask.Fail trouble) before is = tt
 
 -- and once they have served it, the frame goes on
 served-so : {B L : Type 0} (G : Ghosts B L) (task : Task B L) (name : Option Script) (ends : LentEnds) (local : L) (asked : Ask L) (before : ℕ) (said : Answer)
-    → IsFrame G task name ends (Asking local asked before) → 0 < task.done → IsAnswerTo name task.holdings ends asked said
+    → IsFrame G task name ends (Asking local asked before) → 0 < task.done → IsServedAnswer name task.holdings ends asked said
     → IsFrame G (with-steps G name task (task.done + 1) task.fuel) name (with_deeds ends (ends.deeds + deeds_of asked)) (Ready local said)
 served-so G task name ends local ask.Work before said is begun says =
     let none : ends.deeds ≡ ends.deeds + 0 = omega arith in
@@ -234,7 +234,7 @@ served-so G task name ends local (ask.Fail trouble) before said is begun says = 
 
 module _ {B L : Type 0} (G : Ghosts B L) (task : Task B L) (name : Option Script) (ends : LentEnds) (local : L) (asked : Ask L) (before : ℕ) where
   -- whatever ends are the same to contracts
-  pub served : (said : Answer) (then_name : Option Script) (then_ends : LentEnds) → IsFrame G task name ends (Asking local asked before) → 0 < task.done → IsAnswerTo name task.holdings ends asked said
+  pub served : (said : Answer) (then_name : Option Script) (then_ends : LentEnds) → IsFrame G task name ends (Asking local asked before) → 0 < task.done → IsServedAnswer name task.holdings ends asked said
       → then_name ≡ name → then_ends ≡ with_deeds ends (ends.deeds + deeds_of asked)
       → IsFrame G (with-steps G name task (task.done + 1) task.fuel) then_name then_ends (Ready local said)
   served said then_name then_ends is begun says named same =

@@ -44,7 +44,7 @@ use Rattle.task_frames.specs.Cores.{AreBooked, AreFrames, AreObjects, AreQueues,
 use Rattle.task_frames.specs.Frames.{Task}
 use Rattle.task_frames.specs.Giving.{AreGivesOfQueues, AreMade, GivesObjects, queue_rights}
 use Rattle.task_frames.specs.Records.{LiveFrame, come_to, live_at}
-use Rattle.task_frames.specs.Resumes.{EndsByFault, IsStep}
+use Rattle.task_frames.specs.Resumes.{EndsTaskByFault, IsStep}
 use Rattle.task_frames.proofs.Asked.{ends-by}
 use Rattle.task_frames.proofs.FewFrames.{room-for-frame}
 use Rattle.task_frames.proofs.Giving.{giving-starts}
@@ -114,15 +114,15 @@ module _ {B L : Type 0} (G : Ghosts B L) (kept : KeptView) (mid : Mid B L) (chil
   -- ---- why it is refused
 
   -- told by the frame and by the place that were taken out
-  pub ends-so : (at : AtCore B L) (place : ℕ) (fault : FaultKind) → at ≡ asking mid (ask.Spawn child) → place ≡ mid.at → EndsByFault G task mid.at fault → EndsByFault G at.task place fault
+  pub ends-so : (at : AtCore B L) (place : ℕ) (fault : FaultKind) → at ≡ asking mid (ask.Spawn child) → place ≡ mid.at → EndsTaskByFault G task mid.at fault → EndsTaskByFault G at.task place fault
   ends-so at place fault at_is place_is ends =
-      subst (λ (x : AtCore B L). EndsByFault G x.task place fault) (sym at_is) (subst (λ k. EndsByFault G task k fault) (sym place_is) ends)
+      subst (λ (x : AtCore B L). EndsTaskByFault G x.task place fault) (sym at_is) (subst (λ k. EndsTaskByFault G task k fault) (sym place_is) ends)
 
-  pub alias-so : is_aliased child.gives ≡ true → EndsByFault G task mid.at kind.Alias
+  pub alias-so : is_aliased child.gives ≡ true → EndsTaskByFault G task mid.at kind.Alias
   alias-so twice = ends-by G kept mid (ask.Spawn child) has kind.Alias (aliased G plan task.path task.done top mid.local child asks-so top-given.0 top-given.1 twice)
 
   module _ (alone : is_aliased child.gives ≡ false) where
-    pub depth-so : PATH_MOST ≤ length task.path → EndsByFault G task mid.at kind.Depth
+    pub depth-so : PATH_MOST ≤ length task.path → EndsTaskByFault G task mid.at kind.Depth
     depth-so deep =
         ends-by G kept mid (ask.Spawn child) has kind.Depth
         (too-deep G plan task.path task.done top mid.local child asks-so top-given.0 top-given.1 alone (omega (arith, deep, ap length path-so)))
@@ -131,7 +131,7 @@ module _ {B L : Type 0} (G : Ghosts B L) (kept : KeptView) (mid : Mid B L) (chil
       shallow-top : length top.path < PATH_MOST
       shallow-top = omega (arith, shallow, ap length path-so)
 
-      pub fuel-so : task.fuel < child.fuel → EndsByFault G task mid.at kind.Fuel
+      pub fuel-so : task.fuel < child.fuel → EndsTaskByFault G task mid.at kind.Fuel
       fuel-so dear =
           ends-by G kept mid (ask.Spawn child) has kind.Fuel
           (too-dear G plan task.path task.done top mid.local child asks-so top-given.0 top-given.1 alone shallow-top (omega (arith, dear, has.is.alone.stage.1)))

@@ -20,7 +20,7 @@ use Rattle.queues.specs.Tree.{IsOnlyFrame}
 use Rattle.queues.proofs.ActiveAfter.{one_changed, one_goes_on}
 use Rattle.serial_elision.proofs.Lawful as elision
 use Rattle.task_frames.specs.declared.stage.Stage.{Stage}
-use Rattle.task_frames.specs.Cores.{AtCore, HasIt, IsCore, IsGiven, IsOf, KeptView, come_in}
+use Rattle.task_frames.specs.Cores.{AtCore, HasIt, IsCore, IsGiven, IsOf, KeptView, after_coming_in}
 use Rattle.task_frames.specs.Frames.{AreEndsOf, AreLocal, FrameView, IsFrame, Task}
 use Rattle.task_frames.specs.Records.{IsOnlyLive, LiveFrame, LiveFrames, come_at, come_to, live_at}
 use Rattle.task_frames.specs.Resumes.{EndsOf, HasLent, IsGivenAs, OthersStay}
@@ -276,7 +276,7 @@ stay-from before same after number are stays = subst (λ k. OthersStay k after (
 pub come-so : {B L : Type 0} (kept now : KeptView) (task : Task B L) (ends : LentEnds) (number done since : ℕ) (name : Option Script) (run : List ℕ) (state : QueueState) (reading : Reading) (live : LiveFrames)
     → kept ≡ now → number ≡ task.number → done ≡ task.done → since ≡ task.since → name ≡ kept.name → run ≡ kept.run → state ≡ after_back kept.state task.number ends.deeds
     → reading ≡ gone_on_by kept.reading number (done - since) → live ≡ come_at kept.live number done (live_at kept.live number)
-    → ◌≡◌ {A = KeptView} (record kept { name = name; run = run; state = state; reading = reading; live = live }) (come_in now task ends)
+    → ◌≡◌ {A = KeptView} (record kept { name = name; run = run; state = state; reading = reading; live = live }) (after_coming_in now task ends)
 come-so kept now task ends number done since name run state reading live same number_is done_is since_is same_name same_run state_is reading_is live_is =
     with-state (record kept { reading = reading; live = live }) name run state (after_back kept.state task.number ends.deeds) same_name same_run state_is
     ∙ ap {B = KeptView} (λ r. record kept { state = after_back kept.state task.number ends.deeds; reading = r; live = live }) reading_is
@@ -284,4 +284,4 @@ come-so kept now task ends number done since name run state reading live same nu
     ∙ ap {B = KeptView} (λ n. record kept { state = after_back kept.state task.number ends.deeds; reading = gone_on_by kept.reading n (done - since); live = come_at kept.live n done (live_at kept.live n) }) number_is
     ∙ ap {B = KeptView} (λ d. record kept { state = after_back kept.state task.number ends.deeds; reading = gone_on_by kept.reading task.number (d - since); live = come_at kept.live task.number d (live_at kept.live task.number) }) done_is
     ∙ ap {B = KeptView} (λ z. record kept { state = after_back kept.state task.number ends.deeds; reading = gone_on_by kept.reading task.number (task.done - z); live = come_at kept.live task.number task.done (live_at kept.live task.number) }) since_is
-    ∙ ap (λ k. come_in k task ends) same
+    ∙ ap (λ k. after_coming_in k task ends) same

@@ -14,12 +14,12 @@ use Rattle.swan_model.specs.Script.{is_end, script}
 use Rattle.swan_model.specs.SerialState.{Activation}
 use Rattle.swan_model.specs.SerialTime.{is_queue_deed, time, times}
 use Rattle.swan_model.specs.Told.{deed_at}
-use Rattle.swan_model.specs.Versions.{IsSettled, after_finish as after_end}
+use Rattle.swan_model.specs.Versions.{IsSettled, objects_after_finish}
 use Rattle.pop_order.specs.Frames.{HasNoChild, without}
 use Rattle.queues.specs.Asks.{IsOnTurn, MayJoin, OnNext}
 use Rattle.queues.proofs.TurnsGone.{turns_childless}
 use Rattle.swan_model.specs.QueueFollows.{next_queue_deed}
-use Rattle.serial_elision.specs.TaskSteps.{Ends}
+use Rattle.serial_elision.specs.TaskSteps.{EndsTask}
 use Rattle.serial_elision.proofs.AskSteps.{dry, finishes}
 use Rattle.serial_elision.proofs.TaskSteps.{ends_last, stands-one}
 use Rattle.task_frames.specs.declared.stage.Stage.TheVariants.{Ready}
@@ -28,7 +28,7 @@ use Rattle.task_frames.specs.declared.step.Step.TheVariants as step
 use Rattle.task_frames.specs.Cores.{AtCore, HasIt, KeptView, MayBegin, Mid, asking}
 use Rattle.task_frames.specs.Frames.{Task}
 use Rattle.task_frames.specs.Records.{IsLiveChild, IsOnlyLive}
-use Rattle.task_frames.specs.Resumes.{EndsByFault, IsLast, IsStep, deed_now}
+use Rattle.task_frames.specs.Resumes.{EndsTaskByFault, IsLast, IsStep, deed_now}
 use Rattle.task_frames.proofs.Goings.{done-is, lawful, own}
 use Rattle.task_frames.proofs.MayEnd as ending
 
@@ -36,7 +36,7 @@ module _ {B L : Type 0} (G : Ghosts B L) (kept : KeptView) where
   -- ---- before the body is asked
 
   module _ (task : Task B L) (local : L) (said : Answer) (has : HasIt G kept (record { task = task; stage = Ready local said })) where
-    pub dry-ends : (place : ℕ) → task.fuel ≡ 0 → place ≡ G.place_of task.plan.body local → EndsByFault G task place kind.Fuel
+    pub dry-ends : (place : ℕ) → task.fuel ≡ 0 → place ≡ G.place_of task.plan.body local → EndsTaskByFault G task place kind.Fuel
     dry-ends place none at other stands =
         let top = has.is.alone.top in
         let one = stands-one G task.plan task.path task.done other top stands has.is.alone.stands in
@@ -75,7 +75,7 @@ module _ {B L : Type 0} (G : Ghosts B L) (kept : KeptView) where
   -- ---- ends
 
   module _ (frame : AtCore B L) (has : HasIt G kept frame) where
-    pub fault-last : (place : ℕ) (fault : FaultKind) → EndsByFault G frame.task place fault → IsLast G frame.task
+    pub fault-last : (place : ℕ) (fault : FaultKind) → EndsTaskByFault G frame.task place fault → IsLast G frame.task
     fault-last place fault is =
         let top = has.is.alone.top in
         ends_last G frame.task.plan frame.task.path frame.task.done top has.is.alone.stands (ap is_end (is top has.is.alone.stands).0.effect)
@@ -113,7 +113,7 @@ module _ {B L : Type 0} (G : Ghosts B L) (kept : KeptView) where
 -- ---- the end that a task asks for
 
 module _ {B L : Type 0} (G : Ghosts B L) (kept : KeptView) (mid : Mid B L) (has : HasIt G kept (asking mid ask.Finish)) where
-  pub finish-ends : Ends G mid.task.plan mid.task.path mid.task.done has.is.alone.top
+  pub finish-ends : EndsTask G mid.task.plan mid.task.path mid.task.done has.is.alone.top
   finish-ends = finishes G mid.task.plan mid.task.path mid.task.done has.is.alone.top mid.local (record { stands = has.is.alone.stands; paid = has.is.alone.stage.0; said = has.is.alone.stage.3 })
 
   pub finish-last : IsLast G mid.task
@@ -127,22 +127,22 @@ pub left-so : (kept after : KeptView) (n m : ℕ) → n ≡ m → after.name ≡
       name = after.name;
       run = after.run;
       state = after_finish kept.state n;
-      versions = after_end kept.versions n;
+      versions = objects_after_finish kept.versions n;
       reading = gone_on_by kept.reading n 1;
       live = after.live;
       turns = without kept.turns n;
     }
     → IsOnlyLive kept.live after.live n None
-    → (after ≡ record kept { state = after_finish kept.state m; versions = after_end kept.versions m; reading = gone_on_by kept.reading m 1; live = after.live; turns = without kept.turns m })
+    → (after ≡ record kept { state = after_finish kept.state m; versions = objects_after_finish kept.versions m; reading = gone_on_by kept.reading m 1; live = after.live; turns = without kept.turns m })
     × IsOnlyLive kept.live after.live m None
 left-so kept after n m number name run is only = (
-  subst (λ x. after ≡ record kept { state = after_finish kept.state x; versions = after_end kept.versions x; reading = gone_on_by kept.reading x 1; live = after.live; turns = without kept.turns x }) number
+  subst (λ x. after ≡ record kept { state = after_finish kept.state x; versions = objects_after_finish kept.versions x; reading = gone_on_by kept.reading x 1; live = after.live; turns = without kept.turns x }) number
       (is
       ∙ ap {B = KeptView} (λ x. record kept {
         name = x;
         run = after.run;
         state = after_finish kept.state n;
-        versions = after_end kept.versions n;
+        versions = objects_after_finish kept.versions n;
         reading = gone_on_by kept.reading n 1;
         live = after.live;
         turns = without kept.turns n;
@@ -150,7 +150,7 @@ left-so kept after n m number name run is only = (
       ∙ ap {B = KeptView} (λ x. record kept {
         run = x;
         state = after_finish kept.state n;
-        versions = after_end kept.versions n;
+        versions = objects_after_finish kept.versions n;
         reading = gone_on_by kept.reading n 1;
         live = after.live;
         turns = without kept.turns n;
@@ -164,16 +164,16 @@ pub left-over : (kept other after : KeptView) (n m : ℕ) → other ≡ kept →
       name = after.name;
       run = after.run;
       state = after_finish other.state n;
-      versions = after_end other.versions n;
+      versions = objects_after_finish other.versions n;
       reading = gone_on_by other.reading n 1;
       live = after.live;
       turns = without other.turns n;
     }
     → IsOnlyLive other.live after.live n None
-    → (after ≡ record kept { state = after_finish kept.state m; versions = after_end kept.versions m; reading = gone_on_by kept.reading m 1; live = after.live; turns = without kept.turns m })
+    → (after ≡ record kept { state = after_finish kept.state m; versions = objects_after_finish kept.versions m; reading = gone_on_by kept.reading m 1; live = after.live; turns = without kept.turns m })
     × IsOnlyLive kept.live after.live m None
 left-over kept other after n m same number name run is only =
-    subst (λ (k : KeptView). (after ≡ record k { state = after_finish k.state m; versions = after_end k.versions m; reading = gone_on_by k.reading m 1; live = after.live; turns = without k.turns m })
+    subst (λ (k : KeptView). (after ≡ record k { state = after_finish k.state m; versions = objects_after_finish k.versions m; reading = gone_on_by k.reading m 1; live = after.live; turns = without k.turns m })
     × IsOnlyLive k.live after.live m None) same (left-so other after n m number name run is only)
 
 -- what is kept, with one fault more

@@ -16,11 +16,11 @@ queue_of holdings (ask.Pop place) = number_at holdings place Pop
 queue_of holdings (ask.Empty place) = number_at holdings place Pop
 queue_of holdings _ = None
 
-abbrev pub queue_at : {L : Type 0} → List Holding → Option (Stage L) → Option ℕ
-queue_at holdings None = None
-queue_at holdings (Some (Ready local said)) = None
-queue_at holdings (Some (Asking local asks place)) = queue_of holdings asks
+abbrev pub queue_of_stage : {L : Type 0} → List Holding → Option (Stage L) → Option ℕ
+queue_of_stage holdings None = None
+queue_of_stage holdings (Some (Ready local said)) = None
+queue_of_stage holdings (Some (Asking local asks place)) = queue_of holdings asks
 
 -- the queue that a frame's step in hand is about
 abbrev pub asked_queue : {B L E : Type 0} → FrameView B L E → Option ℕ
-asked_queue frame = queue_at frame.task.holdings frame.stage
+asked_queue frame = queue_of_stage frame.task.holdings frame.stage

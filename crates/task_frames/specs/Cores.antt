@@ -186,8 +186,8 @@ pub record IsGiven {B L : Type 0} (kept : KeptView) (task : Task B L) (ends : Le
   pub lent : IsRecorded kept.state task.number ends
 
 -- What is kept once a frame has come in: its ends are back, and all that it did by itself is done.
-abbrev pub come_in : {B L : Type 0} → KeptView → Task B L → LentEnds → KeptView
-come_in kept task ends = record kept {
+abbrev pub after_coming_in : {B L : Type 0} → KeptView → Task B L → LentEnds → KeptView
+after_coming_in kept task ends = record kept {
   state = after_back kept.state task.number ends.deeds;
   reading = gone_on_by kept.reading task.number (task.done - task.since);
   live = come_at kept.live task.number task.done (live_at kept.live task.number);

@@ -73,13 +73,13 @@ module _ {L : Type 0} where
   IsNextDeed name holdings ends _ = Unit {0}
 
   -- The answer is that to an ask that was served: nothing for work and for a push, and for a pop the script's item.
-  abbrev pub IsAnswerTo : Option Script → List Holding → LentEnds → Ask L → Answer → Type 0
-  IsAnswerTo name holdings ends ask.Work said = said ≡ answer.Nothing
-  IsAnswerTo name holdings ends (ask.Push place value) said = (said ≡ answer.Nothing) × IsSomeAnd (number_at holdings place Push) (λ queue. has_end ends queue true ≡ true)
-  IsAnswerTo name holdings ends (ask.Pop place) said =
+  abbrev pub IsServedAnswer : Option Script → List Holding → LentEnds → Ask L → Answer → Type 0
+  IsServedAnswer name holdings ends ask.Work said = said ≡ answer.Nothing
+  IsServedAnswer name holdings ends (ask.Push place value) said = (said ≡ answer.Nothing) × IsSomeAnd (number_at holdings place Push) (λ queue. has_end ends queue true ≡ true)
+  IsServedAnswer name holdings ends (ask.Pop place) said =
       ((item : Value) × (said ≡ answer.Item item) × ForSome name (λ s. IsLawful s → IsItemNext s ends item))
       × IsSomeAnd (number_at holdings place Pop) (λ queue. has_end ends queue false ≡ true)
-  IsAnswerTo name holdings ends _ said = ⊥
+  IsServedAnswer name holdings ends _ said = ⊥
 
   -- how many queue deeds an ask is that the ends serve
   abbrev pub deeds_of : Ask L → ℕ

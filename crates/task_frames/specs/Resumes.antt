@@ -34,7 +34,7 @@ use Rattle.task_frames.specs.declared.resumed.Resumed.{Resumed}
 use Rattle.task_frames.specs.declared.resumed.Resumed.TheVariants as resumed
 use Rattle.task_frames.specs.declared.step.Step.{Step}
 use Rattle.task_frames.specs.declared.step.Step.TheVariants as step
-use Rattle.task_frames.specs.Cores.{AwaitsNone, MayBegin, AtCore, CoreView, HasIt, IsCore, IsGiven, KeptView, come_in}
+use Rattle.task_frames.specs.Cores.{AwaitsNone, MayBegin, AtCore, CoreView, HasIt, IsCore, IsGiven, KeptView, after_coming_in}
 use Rattle.task_frames.specs.Frames.{FrameView, Task, is_whole, root_task}
 use Rattle.task_frames.specs.Records.{HasNoLiveChild, IsOldestChild, LiveFrame, live_at}
 
@@ -79,8 +79,8 @@ module _ {B L : Type 0} (G : Ghosts B L) where
   deed_now task = let s = script G task.plan in deed_at s (time s task.path task.done)
 
   -- it ends the task by this fault, at this place of the program, and does nothing else
-  abbrev pub EndsByFault : Task B L → (place : ℕ) → FaultKind → Type 0
-  EndsByFault task place kind =
+  abbrev pub EndsTaskByFault : Task B L → (place : ℕ) → FaultKind → Type 0
+  EndsTaskByFault task place kind =
       (top : Activation L) → StandsAt G task.plan task.path task.done top
       → Faults G task.plan task.path task.done top kind deed.Quiet × (place ≡ G.place_of task.plan.body top.local)
 
@@ -231,11 +231,11 @@ pub record IsShownBy {B L E : Type 0} (G : Ghosts B L) (of : EndsOf E) (before a
   pub at : AtCore B L
   pub task : at.task ≡ same.task
   pub stage : same.stage ≡ Some at.stage
-  pub shows : IsShown G (come_in was frame.task (of.ends frame.ends)) at wait_for
-  pub earlier : IsLiveBefore (come_in was frame.task (of.ends frame.ends)) same.task.path (waited_for wait_for)
+  pub shows : IsShown G (after_coming_in was frame.task (of.ends frame.ends)) at wait_for
+  pub earlier : IsLiveBefore (after_coming_in was frame.task (of.ends frame.ends)) same.task.path (waited_for wait_for)
   pub kept : KeptView
   pub keeps : after.kept ≡ Some kept
-  pub lent : HasLent (come_in was frame.task (of.ends frame.ends)) kept same.task.number
+  pub lent : HasLent (after_coming_in was frame.task (of.ends frame.ends)) kept same.task.number
 
 -- the other frames are kept as before
 abbrev pub OthersKept : {B L : Type 0} → (before after : CoreView B L) → (ℕ → Type 0) → Type 0
@@ -243,7 +243,7 @@ OthersKept before after IsOther = ForSome before.kept (λ kept. ForSome after.ke
 
 -- once the frame has come in it has its turn to pop, and waits for nothing that it was given to read
 abbrev pub MayStep : {B L E : Type 0} → EndsOf E → CoreView B L → FrameView B L E → Type 0
-MayStep of before frame = ForSome before.kept (λ kept. MayBegin (come_in kept frame.task (of.ends frame.ends)) frame.task.number)
+MayStep of before frame = ForSome before.kept (λ kept. MayBegin (after_coming_in kept frame.task (of.ends frame.ends)) frame.task.number)
 
 -- the core has no frame of this number
 abbrev pub HasNone : {B L : Type 0} → CoreView B L → ℕ → Type 0

@@ -3,13 +3,13 @@ ghost use Rattle.std.specs.Prelude.{◌≡◌, None, IfOk, OnOk};
 ghost use Rattle.swan_model.specs.declared.body.Ask.TheVariants as ask;
 ghost use Rattle.swan_model.specs.QueueFollows.{next_queue_deed};
 ghost use Rattle.swan_model.specs.QueueState.{after_finish};
-ghost use Rattle.swan_model.specs.Versions.{IsSettled, after_finish as after_end};
+ghost use Rattle.swan_model.specs.Versions.{IsSettled, objects_after_finish};
 ghost use Rattle.pop_order.specs.Frames.{HasNoChild, without};
 ghost use Rattle.queues.specs.Asks.{IsOnTurn, MayJoin, OnNext};
 ghost use Rattle.swan_model.specs.Readings.{gone_on_by};
 ghost use Rattle.task_frames.specs.Cores.{HasIt, MayBegin, asking};
 ghost use Rattle.task_frames.specs.Records.{IsOnlyLive};
-ghost use Rattle.task_frames.specs.Resumes.{EndsByFault, IsStep, MayNotUse};
+ghost use Rattle.task_frames.specs.Resumes.{EndsTaskByFault, IsStep, MayNotUse};
 
 use crate::{FrameAtCore, Kept, MidStep, Step};
 use queues::{Queues, WaitFor};
@@ -42,7 +42,7 @@ impl<Q: Queues> Kept<Q> {
     ) -> Result<Step<B>, NoMemory>
         requires has { HasIt B.Body self.old frame }
         requires begun { MayBegin self.old frame.task.number }
-        requires faults { EndsByFault B.Body frame.task at kind }
+        requires faults { EndsTaskByFault B.Body frame.task at kind }
         ensures step { IfOk result (IsStep B.Body self.old self.new frame.task) }
         ensures run { OnOk result (self.new.run ≡ self.old.run) }
     {
@@ -94,7 +94,7 @@ impl<Q: Queues> Kept<Q> {
           name = self.new.name;
           run = self.new.run;
           state = after_finish self.old.state number;
-          versions = after_end self.old.versions number;
+          versions = objects_after_finish self.old.versions number;
           reading = gone_on_by self.old.reading number 1;
           live = self.new.live;
           turns = without self.old.turns number;

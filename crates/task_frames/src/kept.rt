@@ -1,6 +1,6 @@
 // What a core keeps until want of memory.
 ghost use Rattle.std.specs.Prelude.{◌≡◌, ◌≢◌, true, Some, IfOk, IfErr, OnOk, OnErr};
-ghost use Rattle.task_frames.specs.Cores.{HasIt, IsCore, IsGiven, come_in, is_over};
+ghost use Rattle.task_frames.specs.Cores.{HasIt, IsCore, IsGiven, after_coming_in, is_over};
 ghost use Rattle.task_frames.specs.Resumes.{AreOfPlan, HasLent, HaveCome, IsAnswered, IsGivenAs, OthersStay, ends_of};
 
 use crate::{Frame, FrameAtCore, KeptReading, LiveRecord, Resumed, Step, Steps, Waited};
@@ -70,7 +70,7 @@ impl<Q: Queues> Kept<Q> {
         ensures handed_back { IfErr result (λ back. back ≡ frame) }
 
         // what is kept
-        ensures come { OnOk result (self.new ≡ come_in self.old frame.task (Q.Ends.ends frame.ends)) }
+        ensures come { OnOk result (self.new ≡ after_coming_in self.old frame.task (Q.Ends.ends frame.ends)) }
         ensures others { OthersStay self.old self.new (λ other. other ≢ frame.task.number) }
         ensures run { self.new.run ≡ self.old.run }
         ensures err { OnErr result (self.new ≡ self.old) }

@@ -2,7 +2,7 @@
 ghost use Rattle.std.specs.Prelude.{◌≡◌, ◌+◌, ◌<◌, IfSome, IfNone, OnSome};
 ghost use Rattle.swan_model.specs.QueueState.{COUNT_MOST};
 ghost use Rattle.queues.specs.Asks.{IsSameRun, with_deeds};
-ghost use Rattle.task_frames.specs.Going.{AreLater, IsAnswerTo, IsNextDeed, IsNotServed, deeds_of};
+ghost use Rattle.task_frames.specs.Going.{AreLater, IsServedAnswer, IsNextDeed, IsNotServed, deeds_of};
 
 use crate::Holding;
 use crate::holding::number_at;
@@ -24,7 +24,7 @@ pub fn serve<E: LocalEnds, L>(
     requires next { IsNextDeed (E.name ends.old) holdings.now (E.ends ends.old) ask.old }
 
     // what is answered, and why not
-    ensures answer { IfSome result (λ said. IsAnswerTo (E.name ends.old) holdings.now (E.ends ends.old) ask.old said) }
+    ensures answer { IfSome result (λ said. IsServedAnswer (E.name ends.old) holdings.now (E.ends ends.old) ask.old said) }
     ensures as_it_was { IfNone result (ask.new ≡ ask.old) }
     ensures cause { IfNone result (IsNotServed holdings.now (E.ends ends.old) (E.counts ends.old) (E.counts ends.new) ask.old) }
 

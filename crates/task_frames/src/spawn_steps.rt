@@ -3,7 +3,7 @@ ghost use Rattle.std.specs.Prelude.{◌≡◌, ℕ, ◌+◌, ◌-◌, ◌<◌, �
 ghost use Rattle.std.specs.Option.{option_map};
 ghost use Rattle.swan_model.specs.declared.body.Answer.TheVariants as answer;
 ghost use Rattle.swan_model.specs.declared.body.Ask.TheVariants as ask;
-ghost use Rattle.swan_model.specs.declared.path.TheConstants.{PATH_MOST as DEPTH};
+ghost use Rattle.swan_model.specs.declared.path.TheConstants.{PATH_MOST};
 ghost use Rattle.swan_model.specs.declared.plan.TheConstants.{FUEL_MOST};
 ghost use Rattle.swan_model.specs.QueueFollows.{NextSpawnGivesQueues};
 ghost use Rattle.swan_model.specs.QueueState.{after_spawn, COUNT_MOST};
@@ -51,7 +51,7 @@ impl<B: Body> MidStep<B> {
 
     /// The path of its next child. Err is want of memory. `O(depth)`.
     fn child_path(&self) -> Result<Path, NoMemory>
-        requires { length self.now.task.path < DEPTH }
+        requires { length self.now.task.path < PATH_MOST }
         ensures { IfOk result (λ path. path ≡ self.now.task.path ++ self.now.task.children ∷ []) }
     {
         self.staged.task.path.child(self.staged.task.children)
@@ -177,7 +177,7 @@ impl<Q: Queues> Kept<Q> {
         // why the child is no fault
         requires given { given mid.task.holdings child.gives ≡ Some held.items }
         requires alone { is_aliased child.gives ≡ false }
-        requires shallow { length mid.task.path < DEPTH }
+        requires shallow { length mid.task.path < PATH_MOST }
         requires cheap { child.fuel ≤ mid.task.fuel }
 
         // what it leaves

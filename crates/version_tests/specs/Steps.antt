@@ -4,7 +4,7 @@ use Rattle.std.specs.List.{list_all}
 use Rattle.swan_model.specs.declared.rights.Mode.{Mode}
 use Rattle.swan_model.specs.declared.value.Value.TheVariants.{Int, Bytes}
 use Rattle.swan_model.specs.Rights.{allows, is_in, is_queue_mode}
-use Rattle.swan_model.specs.Versions.{VersionState, Placed, placed_at, owing, after_create, after_access, after_write, after_finish}
+use Rattle.swan_model.specs.Versions.{VersionState, Placed, placed_at, owing, objects_after_create, after_access, after_write, objects_after_finish}
 use Rattle.version_tests.specs.declared.step.Step.{Step}
 use Rattle.version_tests.specs.declared.step.Step.TheVariants.{Create, CreateRecord, Access, Ready, Reads, ReadsRecord, Write, Finish}
 
@@ -43,11 +43,11 @@ allows_step state (Finish frame) = list_all (is_settled frame) state.places
 
 -- the objects after a step that has its answer
 abbrev pub after_step : VersionState → Step → VersionState
-after_step state (Create frame place first) = after_create state frame place (Int first)
-after_step state (CreateRecord frame place bytes) = after_create state frame place (Bytes bytes)
+after_step state (Create frame place first) = objects_after_create state frame place (Int first)
+after_step state (CreateRecord frame place bytes) = objects_after_create state frame place (Bytes bytes)
 after_step state (Access parent place child child_place mode) = after_access state parent place child child_place mode
 after_step state (Write frame place number) = after_write state frame place (Int number)
-after_step state (Finish frame) = after_finish state frame
+after_step state (Finish frame) = objects_after_finish state frame
 after_step state _ = state
 
 -- whether each step is allowed where those before it have their answers

@@ -19,7 +19,7 @@ use Rattle.swan_model.specs.declared.rights.Mode.TheVariants.{In, Out, InOut, Pu
 use Rattle.swan_model.specs.declared.value.Value.{Value}
 use Rattle.swan_model.specs.Rights.{is_aliased}
 use Rattle.swan_model.specs.SerialState.{Activation, Cell, Holding, Queue, Store}
-use Rattle.swan_model.specs.SerialStep.{Effect, goes_on, spawns, faults, effect, effect_of, moved, told, with_items, with_place, with_value, number_at, on_object, on_cell, on_queue, on_list, popped, spawned, given, is_nothing_left, zeroed, zeroed_by, zero_cell}
+use Rattle.swan_model.specs.SerialStep.{Effect, goes_on, spawns, faults, effect, effect_of, moved, told, with_items, with_place, with_value, number_at, on_object, on_cell, on_queue, on_list, popped, spawn_effect, given, is_nothing_left, zeroed, zeroed_by, zero_cell}
 use Rattle.swan_model.specs.Values.{kind_of}
 use Rattle.whole_runs.specs.Whole.{Contents, Object, contents_of, object_of, items_of, new_object, with_queue, with_object, zero_object, zeroed_object, zeroed_objects, given_contents, RunsWhole}
 use Rattle.whole_runs.proofs.Wholes.{by_going_on, by_spawning, by_ending, by_fault}
@@ -100,12 +100,12 @@ abbrev pub parent_of : {L : Type 0} → Activation L → Child L → Activation 
 parent_of a child = record a { answer = answer.Nothing; fuel = a.fuel - child.fuel; children = a.children + 1 }
 
 spawned-is : {L : Type 0} (store : Store) (a : Activation L) (child : Child L) (at : Option (List Holding)) (holdings : List Holding) → at ≡ Some holdings → is_aliased child.gives ≡ false → length a.path < PATH_MOST → child.fuel ≤ a.fuel
-    → spawned store a child at ≡ spawns (parent_of a child) (child_of a child holdings) (record store { cells = zeroed store.cells holdings })
+    → spawn_effect store a child at ≡ spawns (parent_of a child) (child_of a child holdings) (record store { cells = zeroed store.cells holdings })
 spawned-is {L = L} store a child at holdings holds lawful shallow enough =
     let deep : nat_le PATH_MOST (length a.path) ≡ false = search (rules, tests) in
     let dry : nat_lt a.fuel child.fuel ≡ false = search (rules, tests) in
     let made : Effect L = spawns (parent_of a child) (child_of a child holdings) (record store { cells = zeroed store.cells holdings }) in
-    ap (spawned store a child) holds
+    ap (spawn_effect store a child) holds
     ∙ ap (λ b. cond b (faults kind.Alias) (cond (nat_le PATH_MOST (length a.path)) (faults kind.Depth) (cond (nat_lt a.fuel child.fuel) (faults kind.Fuel) made))) lawful
     ∙ ap (λ b. cond b (faults kind.Depth) (cond (nat_lt a.fuel child.fuel) (faults kind.Fuel) made)) deep
     ∙ ap (λ b. cond b (faults kind.Fuel) made) dry

@@ -1,7 +1,7 @@
 use Rattle.std.proofs.Common.{◌≡◌, ◌+◌, ◌++◌, ◌∷◌, [], Some, length, drop, get_or, slice_get, arith, rules, subst, sym, ap, ◌∙◌, append_assoc, refl}
 use Rattle.std.proofs.lemmas.Option.{slice_get_read}
 use Rattle.job_body.specs.Blocks.{exit_at}
-use Rattle.job_body.specs.Compiled.{KnowsFew, TakeFew, entered, instruction_of, instructions_from, seen_at, tasks_of}
+use Rattle.job_body.specs.Compiled.{KnowsFew, TakeFew, scope_past, instruction_of, instructions_from, seen_at, tasks_of}
 use Rattle.job_body.proofs.FewNames.{knows_more}
 use Rattle.job_body.proofs.FewTakes.{few_takes}
 use Rattle.job_body.proofs.Known.{seen-next}
@@ -31,7 +31,7 @@ loop-index-preserved c =
       few = subst (λ scope. KnowsFew scope (c.loop-index.index + 1)) (sym c.in_ok-scope.ensures) (knows_more _ c.loop-index.scope c.index-lines-index.result c.loop-index.index c.loop-index.invariant.few);
       known =
           c.in_ok-scope.ensures
-          ∙ ap (λ scope. entered c.loop-index.index scope c.index-lines-index.result) c.loop-index.invariant.known
+          ∙ ap (λ scope. scope_past c.loop-index.index scope c.index-lines-index.result) c.loop-index.invariant.known
           ∙ seen-next c.args.lines.now c.loop-index.index c.index-lines-index.result line;
       made =
           ap (λ program. program ++ instructions_from c.args.lines.now (c.loop-index.index + 1) (drop (c.loop-index.index + 1) c.args.lines.now)) pushed

@@ -1,7 +1,7 @@
 use Rattle.std.proofs.Common.{rules, ◌∙◌, ap, length, subst, sym}
 use Rattle.std.proofs.lemmas.Result.{IfOk-weaker}
 use Rattle.swan_model.specs.declared.outcome.Outcome.{Outcome}
-use Rattle.swan_runtime.specs.Workers.{AreWorkers, OneHasMet, AreOfPlan}
+use Rattle.swan_runtime.specs.Workers.{AreWorkers, OneHasMet, AreWorkersOfPlan}
 use Rattle.serial_elision.proofs.Counts.{length-outcome_objects, length-outcome_queues}
 use Rattle.swan_runtime.proofs.Crews.{driven_run, driven_workers, one_has_met, written}
 use Rattle.swan_runtime.proofs.threads.run.Goals as goal
@@ -20,13 +20,13 @@ close-requires-clause-met g c κs within =
 
 pub returns-clause-outcome : goal.returns-clause-outcome
 returns-clause-outcome g c = c.close.ensures.outcome c.args.plan
-    (subst (AreOfPlan c.args.plan) (sym (written _ c.drive_all.new.workers _ (search rules) (c.drive_all.ensures.count ∙ ap length c.as_mut_slice.ensures.value)))
-    (driven_run _ c.args.plan _ _ c.drive_all.ensures.count c.drive_all.ensures.driven (subst (AreOfPlan c.args.plan) (sym c.as_mut_slice.ensures.value) c.in_ok-workers.ensures.plan)))
+    (subst (AreWorkersOfPlan c.args.plan) (sym (written _ c.drive_all.new.workers _ (search rules) (c.drive_all.ensures.count ∙ ap length c.as_mut_slice.ensures.value)))
+    (driven_run _ c.args.plan _ _ c.drive_all.ensures.count c.drive_all.ensures.driven (subst (AreWorkersOfPlan c.args.plan) (sym c.as_mut_slice.ensures.value) c.in_ok-workers.ensures.plan)))
 
 pub returns-clause-script : goal.returns-clause-script
 returns-clause-script g c = c.close.ensures.script c.args.plan
-    (subst (AreOfPlan c.args.plan) (sym (written _ c.drive_all.new.workers _ (search rules) (c.drive_all.ensures.count ∙ ap length c.as_mut_slice.ensures.value)))
-    (driven_run _ c.args.plan _ _ c.drive_all.ensures.count c.drive_all.ensures.driven (subst (AreOfPlan c.args.plan) (sym c.as_mut_slice.ensures.value) c.in_ok-workers.ensures.plan)))
+    (subst (AreWorkersOfPlan c.args.plan) (sym (written _ c.drive_all.new.workers _ (search rules) (c.drive_all.ensures.count ∙ ap length c.as_mut_slice.ensures.value)))
+    (driven_run _ c.args.plan _ _ c.drive_all.ensures.count c.drive_all.ensures.driven (subst (AreWorkersOfPlan c.args.plan) (sym c.as_mut_slice.ensures.value) c.in_ok-workers.ensures.plan)))
 
 pub returns-clause-queues : goal.returns-clause-queues
 returns-clause-queues g c =

@@ -1,5 +1,5 @@
 use Rattle.std.proofs.Common.{sym, subst, ap, ◌∙◌}
-use Rattle.swan_model.specs.Versions.{VersionState, IsSettled, after_finish}
+use Rattle.swan_model.specs.Versions.{VersionState, IsSettled, objects_after_finish}
 use Rattle.object_versions.proofs.Settling.{begins}
 use Rattle.object_versions.proofs.Finishing.{root_finished, frame_finished, not_begun}
 use Rattle.object_versions.proofs.CallsFollow.{finish_told}
@@ -37,7 +37,7 @@ returns-then-not-is_root-clause-ok c =
     let forgotten = c.forget_all.ensures.forgotten made (not_begun entries c.self.inside.store.nodes c.settle_all.new.nodes made c.args.frame settling paid) in
     frame_finished entries c.self.inside.store.nodes c.settle_all.new.nodes made c.args.frame settling paid c.if-not-is_root.true c.forget_all.new.places.entries c.forget_all.new.nodes
     forgotten c.forget_all.ensures.none
-    ∙ ap (λ state. after_finish state c.args.frame) c.self.view_is
+    ∙ ap (λ state. objects_after_finish state c.args.frame) c.self.view_is
 
 pub returns-else-not-is_root-clause-ok : goal.returns-else-not-is_root-clause-ok
 returns-else-not-is_root-clause-ok c =
@@ -46,7 +46,7 @@ returns-else-not-is_root-clause-ok c =
     let made = c.self.inside.made in
     let begun = begins entries c.self.inside.store.nodes made c.args.frame c.self.invariant (subst P (sym c.self.view_is) c.requires.settled) in
     root_finished entries c.self.inside.store.nodes c.settle_all.new.nodes made c.args.frame (c.in-Ok.ensures.settling made begun) (c.in-Ok.ensures.paid made begun) c.if-not-is_root.false
-    ∙ ap (λ state. after_finish state c.args.frame) c.self.view_is
+    ∙ ap (λ state. objects_after_finish state c.args.frame) c.self.view_is
 
 pub returns-then-not-is_root-clause-follows : goal.returns-then-not-is_root-clause-follows
 returns-then-not-is_root-clause-follows c = finish_told c.args.self.now _ c.args.frame c.requires.settled (returns-then-not-is_root-clause-ok c)

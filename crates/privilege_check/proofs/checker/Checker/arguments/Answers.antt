@@ -2,12 +2,12 @@ use Rattle.std.proofs.Common.{◌≡◌, refl, sym, ◌∙◌, length, drop, min
 use Rattle.std.proofs.lemmas.Slice.Zip.{zip_end}
 use Rattle.job_reader.specs.declared.atom.Atom.{Atom}
 use Rattle.privilege_check.specs.Checking.{state_of}
-use Rattle.privilege_check.specs.Names.{known, Names}
+use Rattle.privilege_check.specs.Names.{known, KnownNames}
 use Rattle.privilege_check.specs.Spawns.{arguments}
 use Rattle.privilege_check.specs.declared.declaration.Declaration.{Declaration}
 use Rattle.privilege_check.proofs.checker.Checker.arguments.Goals as goal
 
-nothing_left : (names : Names) (takes : List Declaration) (args : List Atom) → min (length takes) (length args) ≡ 0 → arguments names takes args ≡ Ok tt
+nothing_left : (names : KnownNames) (takes : List Declaration) (args : List Atom) → min (length takes) (length args) ≡ 0 → arguments names takes args ≡ Ok tt
 nothing_left names [] args h = refl
 nothing_left names (taken ∷ takes) [] h = refl
 nothing_left names (taken ∷ takes) (a ∷ args) h = absurd (omega arith)

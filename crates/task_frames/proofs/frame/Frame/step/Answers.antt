@@ -4,7 +4,7 @@ use Rattle.task_frames.specs.declared.at_core.StagedTask.{StagedTask}
 use Rattle.task_frames.specs.declared.stage.Stage.{Stage}
 use Rattle.task_frames.specs.declared.stage.Stage.TheVariants.{Asking}
 use Rattle.task_frames.specs.Frames.{FrameView, IsFrame}
-use Rattle.task_frames.specs.Going.{IsAnswerTo, IsNextDeed}
+use Rattle.task_frames.specs.Going.{IsServedAnswer, IsNextDeed}
 use Rattle.task_frames.proofs.Amid.{few, for-one}
 use Rattle.task_frames.proofs.Served.{next-ask, room, same-ends, served}
 use Rattle.task_frames.proofs.frame.Frame.step.Goals as goal
@@ -47,7 +47,7 @@ invariant_of-self-in-Some-Asking g c =
     let own = subst (λ (st : StagedTask g.row.B.Denot g.row.B-Local.Denot). IsFrame g.B.Body (record st.task { since = c.self.inside.since }) (g.Q.Ends.LocalEnds.name c.self.inside.ends) (g.Q.Ends.LocalEnds.ends c.self.inside.ends)
     (Asking c.in-Some-Asking.field-0-0 c.in-Some-Asking.ask c.in-Some-Asking.field-0-2)) (sym is) (c.self.invariant.0 _ at) in
     let begun = subst (λ (st : StagedTask g.row.B.Denot g.row.B-Local.Denot). 0 < st.task.done) (sym is) (subst (λ (v : View). 0 < v.task.done) (sym c.self.view_is) c.requires.begun) in
-    let says = subst (λ hs. IsAnswerTo (g.Q.Ends.LocalEnds.name c.self.inside.ends) hs (g.Q.Ends.LocalEnds.ends c.self.inside.ends) c.in-Some-Asking.ask c.in-Some.said) c.holdings.ensures c.in-Some.ensures.answer in
+    let says = subst (λ hs. IsServedAnswer (g.Q.Ends.LocalEnds.name c.self.inside.ends) hs (g.Q.Ends.LocalEnds.ends c.self.inside.ends) c.in-Some-Asking.ask c.in-Some.said) c.holdings.ensures c.in-Some.ensures.answer in
     let then = served g.B.Body _ _ _ c.in-Some-Asking.field-0-0 c.in-Some-Asking.ask c.in-Some-Asking.field-0-2 c.in-Some.said _ _ own begun says c.in-Some.ensures.same.0 c.in-Some.ensures.some in
     let told = c.is_told.ensures c.in-Some-Asking.field-0-0 c.serve.new.ask c.in-Some-Asking.field-0-2 refl in
     subst (λ (st : StagedTask g.row.B.Denot g.row.B-Local.Denot).

@@ -5,14 +5,14 @@ use Rattle.task_frames.specs.Frames.{Task}
 use Rattle.std.proofs.lemmas.Result.{IfOk-weaker}
 use Rattle.std.specs.Prelude.{IfOk}
 use Rattle.swan_model.specs.declared.fault.FaultKind.TheVariants as kind
-use Rattle.task_frames.specs.Resumes.{EndsByFault, IsStep}
+use Rattle.task_frames.specs.Resumes.{EndsTaskByFault, IsStep}
 use Rattle.task_frames.proofs.Tried.{dry-ends, has-asked, paid-step}
 use Rattle.task_frames.proofs.kept.Kept.ask.Goals as goal
 
 pub fault-requires-clause-faults : goal.fault-requires-clause-faults
 fault-requires-clause-faults g c κs within =
     let fuel = c.fuel-fuel.ensures ∙ ap (λ (st : StagedTask g.row.B.Denot g.row.B-Local.Denot). st.task.fuel) c.deref.ensures in
-    subst (λ (f : AtCore g.row.B.Denot g.row.B-Local.Denot). EndsByFault g.B.Body f.task c.place-at.result kind.Fuel) (sym c.of.ensures)
+    subst (λ (f : AtCore g.row.B.Denot g.row.B-Local.Denot). EndsTaskByFault g.B.Body f.task c.place-at.result kind.Fuel) (sym c.of.ensures)
     (dry-ends g.B.Body c.args.self.now c.args.staged.value.task c.args.local c.args.answer c.requires.has c.place-at.result
     (sym fuel ∙ c.if-fuel-eq0.true)
     (c.place-at.ensures ∙ ap (λ b. g.B.Body.place_of b c.args.local) c.requires.body))
