@@ -1,4 +1,4 @@
-"""What the scripts share: they run the built program and take the least of several times."""
+"""What the scripts share: they run the built program and take the least of several times, and read what a process took."""
 import os
 import pathlib
 import subprocess
@@ -8,6 +8,7 @@ from concurrent.futures import ThreadPoolExecutor
 
 ROOT = pathlib.Path(__file__).resolve().parent.parent
 SWAN = ROOT / "crates" / "swan" / "out" / "swan"
+TICKS = os.sysconf("SC_CLK_TCK")
 
 
 def folder():
@@ -33,6 +34,12 @@ def run(words, status=0):
             report.seek(0)
             raise SystemExit(f"swan {words} ended with {child.returncode}: {report.read(200)!r}")
     return seconds, usage.ru_maxrss * 1024
+
+
+def taken(process):
+    """The seconds of processors that the process of this number took so far, and those of its children that have ended."""
+    fields = pathlib.Path(f"/proc/{process}/stat").read_text().rpartition(")")[2].split()
+    return sum(map(int, fields[11:13])) / TICKS, sum(map(int, fields[13:15])) / TICKS
 
 
 def clock(words, number=1):

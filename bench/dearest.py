@@ -3,11 +3,21 @@
     python3 bench/dearest.py CRATE [NUMBER]           runs the check of the crate with its tests, one job
     rt .. | python3 bench/dearest.py - [NUMBER]       reads what such a command writes
     python3 bench/dearest.py --edits CRATE [NUMBER]   tries each wrong body of the crate by a check of a copy, one job
+    python3 bench/dearest.py LOG [NUMBER]             reads the log of a whole gate, as `bench/gate.py --whole LOG` writes it
 
-Prints the NUMBER longest, ten where none is said. Of functions and tests it tells seconds by the clock from one line of the log to the next:
-on a machine that does other work too only their order means something. What an earlier check kept isn't checked again, so begin with an
-empty `out/` where all is to be measured. Of wrong bodies it tells seconds of processors, and first those of a check in which nothing has
-changed: each wrong body costs that at least. The crate has to be proved before, since they begin with what its check kept.
+Prints the NUMBER longest, ten where none is said. Of functions and tests it tells seconds of processors, from one line of the check to the
+next: they grow on a machine that does other work too, but less than those by the clock, which it tells of lines from a pipe. What an earlier
+check kept isn't checked again, so begin with an empty `out/` where all is to be measured. Of wrong bodies it tells seconds of processors, and
+first those of a check in which nothing has changed: each wrong body costs that at least. The crate has to be proved before, since they begin
+with what its check kept.
+
+The log of a gate can't tell what a function, a test or a wrong body takes. The gate writes the lines of a crate in one piece, once it is
+proved, those of its tests in another, and of functions no more than that they are proved; what became of each wrong body it writes once all
+are tried. So of a log it tells by crate when the proof, that of its tests and its wrong bodies were done, and the seconds of processors of
+all that ended since the piece before: the whole check, however long ago it began. Where wrong bodies of other crates, or the checks that they
+begin with, ended meanwhile, these are counted there too, and of wrong bodies the gate says only when the first of a crate is begun: theirs
+is what ended from there until the first of the next. Tests and programs run alone at the end, so theirs are exact. Of a log whose lines have
+the minutes from the start alone it tells seconds by the clock, which say little of checks side by side.
 """
 import pathlib
 import re
@@ -18,17 +28,31 @@ import sys
 import tempfile
 import time
 
+from common import taken
+
 ROOT = pathlib.Path(__file__).resolve().parent.parent
 CHECKED = re.compile(r"checked (\S+), \d+ of \d+")
-STARTS = re.compile(r"(?:library|statements|crate) ")
+STARTS = re.compile(r"(?:library|statements|crate|so far: 0 of) ")
+STAMPED = re.compile(r"((?: *\d+\.\d\d)+) (?:==|rt:) (.*)")
+TRIES = re.compile(r"(\S+): trying its must-fail edits ")
 CHECK = ["rt", "check", "--jobs", "1"]
 
 
-def timed(lines):
-    """The seconds that each function and test took, by name."""
-    last = time.monotonic()
+def of_all(process):
+    """The seconds of processors that a process and all that it began took so far."""
+    try:
+        seconds = sum(taken(process))
+        below = [path.read_text() for path in pathlib.Path(f"/proc/{process}/task").glob("*/children")]
+    except OSError:
+        return 0.0
+    return seconds + sum(map(of_all, " ".join(below).split()))
+
+
+def timed(lines, so_far):
+    """The seconds that each function and test took, by name, where the call tells the seconds so far."""
+    last = so_far()
     for line in lines:
-        now = time.monotonic()
+        now = so_far()
         found = CHECKED.search(line)
         if found:
             yield now - last, found[1]
@@ -37,9 +61,24 @@ def timed(lines):
 
 
 def of_crate(crate):
-    """What the check of a crate and its tests writes, line by line."""
+    """The seconds of processors that each function and test of a crate took, by name."""
     with subprocess.Popen([*CHECK, "--test"], cwd=ROOT / "crates" / crate, stdout=subprocess.PIPE, stderr=subprocess.STDOUT, text=True) as child:
-        yield from child.stdout
+        yield from timed(child.stdout, lambda: of_all(child.pid))
+
+
+def of_gate(lines):
+    """The seconds that ended with each piece of a gate's log, by what the piece is of."""
+    last, bodies = 0.0, None
+    for line in lines:
+        found = STAMPED.match(line)
+        if found:
+            stamps, what = [float(stamp) for stamp in found[1].split()], found[2]
+            tries = TRIES.match(what)
+            if tries or what.startswith("must-fail "):
+                what, bodies = bodies, tries and f"{tries[1]}: its wrong bodies"
+            if what:
+                yield (stamps[-1] - last) * 60, f"{what}, after {stamps[0]:.1f} minutes"
+                last = stamps[-1]
 
 
 def copied(here, crate):
@@ -107,8 +146,12 @@ def main(words):
         raise SystemExit(__doc__)
     if edits:
         found = tried(words[0])
+    elif words[0] == "-":
+        found = timed(sys.stdin, time.monotonic)
+    elif pathlib.Path(words[0]).is_file():
+        found = of_gate(pathlib.Path(words[0]).read_text(errors="replace").splitlines())
     else:
-        found = timed(sys.stdin if words[0] == "-" else of_crate(words[0]))
+        found = of_crate(words[0])
     most = int(words[1]) if len(words) > 1 else 10
     for seconds, name in sorted(found, reverse=True)[:most]:
         print(f"{seconds:8.1f} s  {name}")

@@ -1,19 +1,27 @@
 """What the gate costs, by crate.
 
     python3 bench/gate.py [CRATE..]      runs `rt ci CRATE` for each, the lowest first; all crates where none is named
-    python3 bench/gate.py --whole        runs `rt ci --anew`, the whole gate from nothing, and nothing is taken of an earlier run
+    python3 bench/gate.py --whole [LOG]  runs `rt ci --anew`, the whole gate from nothing, and nothing is taken of an earlier run
 
 Of the whole gate it prints when each part was done, in minutes from the start, and then what it took by the clock and of
-processors; begin it with `taskset -c 0,1` for what it takes on two of them. Of crates it prints a line each as it ends: the
-minutes of processors that its run took, those by the clock, and what the run said last. Such a run takes what the gate kept of
-an earlier one, so the first figures of a text are those from nothing; a crate that is kept costs what its tests and programs
-take. Processor time depends less on what else the machine does than the clock, but a loaded machine can double it too.
+processors; begin it with `taskset -c 0,1` for what it takes on two of them. All lines of that run go to LOG, which lies outside
+the repository, or to a file in a new temporary folder, whose path it prints first. Before each line stand two numbers: the
+minutes from the start, and the minutes of processors of all checks, tests and programs that had ended. `bench/dearest.py LOG`
+reads it.
+
+Of crates it prints a line each as it ends: the minutes of processors that its run took, those by the clock, and what the run
+said last. Such a run takes what the gate kept of an earlier one, so the first figures of a text are those from nothing; a crate
+that is kept costs what its tests and programs take. Processor time depends less on what else the machine does than the clock,
+but a loaded machine can double it too.
 """
 import pathlib
 import resource
 import subprocess
 import sys
+import tempfile
 import time
+
+from common import taken
 
 ROOT = pathlib.Path(__file__).resolve().parent.parent
 
@@ -49,20 +57,25 @@ def spent():
     return usage.ru_utime + usage.ru_stime
 
 
-def whole():
-    """Runs the whole gate from nothing, and answers its status."""
+def whole(path):
+    """Runs the whole gate from nothing, writes each of its lines with its two numbers to the log, and answers its status."""
+    print(f"its log is {path}", flush=True)
     began = time.monotonic()
-    with subprocess.Popen(["rt", "ci", "--anew"], cwd=ROOT, stdout=subprocess.PIPE, stderr=subprocess.STDOUT, text=True) as run:
+    with open(path, "w", buffering=1) as log, subprocess.Popen(
+        ["rt", "ci", "--anew"], cwd=ROOT, stdout=subprocess.PIPE, stderr=subprocess.STDOUT, text=True, errors="replace"
+    ) as run:
         for line in run.stdout:
+            minutes = (time.monotonic() - began) / 60
+            log.write(f"{minutes:7.2f} {taken(run.pid)[1] / 60:7.2f} {line}")
             if line.startswith("rt: ") or "must-fail" in line or " passed, " in line:
-                print(f"{(time.monotonic() - began) / 60:7.1f}  {line.rstrip()}", flush=True)
+                print(f"{minutes:7.1f}  {line.rstrip()}", flush=True)
     print(f"{(time.monotonic() - began) / 60:.1f} minutes by the clock, {spent() / 60:.1f} of processors, status {run.returncode}")
     return run.returncode
 
 
 def main(words):
-    if words == ["--whole"]:
-        sys.exit(whole())
+    if words[:1] == ["--whole"] and len(words) <= 2:
+        sys.exit(whole(words[1] if len(words) > 1 else f"{tempfile.mkdtemp(prefix='swan-gate-')}/log"))
     order = lowest_first(crates())
     unknown = [word for word in words if word not in order]
     if unknown:
