@@ -12,8 +12,9 @@ use Rattle.swan_model.specs.declared.value.Value.{Value}
 use Rattle.swan_model.specs.declared.value.Value.TheVariants.{Bytes}
 use Rattle.swan_model.specs.declared.record.TheConstants.{RECORD_MOST}
 use Rattle.line_blocks.specs.LineBlocks.{byte_count}
-use Rattle.index_pipeline.specs.Batches.{NUMBER_MOST, cuts, has_room}
+use Rattle.index_pipeline.specs.Batches.{cuts, has_room}
 use Rattle.index_pipeline.specs.Words.{word_of}
+use Rattle.index_pipeline.specs.declared.batch.TheConstants.{NUMBER_MOST}
 use Rattle.index_pipeline.specs.declared.word.TheConstants.{WORD_MOST}
 use Rattle.index_pipeline.proofs.Dropping.{drop_past}
 use Rattle.swan_model.proofs.Lists.{drop_next}

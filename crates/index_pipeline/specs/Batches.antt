@@ -4,15 +4,12 @@ use Rattle.swan_model.specs.declared.record.TheConstants.{RECORD_MOST}
 use Rattle.swan_model.specs.declared.value.Value.{Value}
 use Rattle.swan_model.specs.declared.value.Value.TheVariants.{Bytes}
 use Rattle.line_blocks.specs.LineBlocks.{byte_count}
+use Rattle.index_pipeline.specs.declared.batch.TheConstants.{NUMBER_MOST}
 
 -- the records that have these lengths and stand one after the other in front of these bytes
 abbrev pub cuts : List ℕ → List ℕ → List Value
 cuts [] bytes = []
 cuts (len ∷ lens) bytes = Bytes (take len bytes) ∷ cuts lens (drop len bytes)
-
--- how many bytes the record of a word has beside the word, at most: a space, and a number of 64 bits in decimal
-abbrev pub NUMBER_MOST : ℕ
-NUMBER_MOST = 21
 
 -- Whether the record of a word of so many bytes has room beside these records, so that all of them are one record
 -- together. Where none is there it has.

@@ -13,19 +13,16 @@ use Rattle.line_blocks.specs.declared.line_reader.LineStep.TheVariants as lines
 use Rattle.line_blocks.specs.declared.queue_reader.QueueReader.TheVariants as reader
 use Rattle.line_blocks.specs.declared.queue_reader.ReaderStep.{ReaderStep}
 use Rattle.line_blocks.specs.declared.queue_reader.ReaderStep.TheVariants as step
+use Rattle.line_blocks.specs.declared.text_roots.TheConstants.{INPUT, OUTPUT}
 use Rattle.line_blocks.specs.LineBlocks.{Lines, byte_count, no_lines}
 use Rattle.line_blocks.specs.LineReading.{line_step}
 use Rattle.line_blocks.specs.Readers.{step_of}
-use Rattle.line_blocks.specs.TextRoots.{INPUT, OUTPUT}
 use Rattle.index_pipeline.specs.declared.body.IndexBody.{IndexBody}
+use Rattle.index_pipeline.specs.declared.body.TheConstants.{WORDS}
 use Rattle.index_pipeline.specs.declared.local.IndexLocal.{IndexLocal}
 use Rattle.index_pipeline.specs.declared.local.IndexLocal.TheVariants as local
 use Rattle.index_pipeline.specs.Pairs.{Pair, pair_of, pair_order}
 use Rattle.index_pipeline.specs.Records.{block_records, record_of}
-
--- the root's place of the queue of words, which it makes
-abbrev pub WORDS : ℕ
-WORDS = 2
 
 -- a block task, which may push words
 abbrev pub block_task : Lines → Child IndexLocal

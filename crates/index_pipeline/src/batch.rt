@@ -1,10 +1,11 @@
 // Records that share one buffer.
 ghost use Rattle.std.specs.Prelude.{◌≡◌, ◌+◌, ◌∷◌, ◌++◌, [], true, length, nat_le, slice_get, IfOk, OnOk, MatchOption};
 ghost use Rattle.swan_model.specs.declared.record.TheConstants.{RECORD_MOST};
-ghost use Rattle.index_pipeline.specs.Batches.{NUMBER_MOST, has_room};
+ghost use Rattle.index_pipeline.specs.Batches.{has_room};
 ghost use Rattle.index_pipeline.specs.Pairs.{Pair};
 ghost use Rattle.index_pipeline.specs.Records.{record_of};
 ghost use Rattle.index_pipeline.specs.Words.{word_of};
+ghost use Rattle.index_pipeline.specs.declared.batch.TheConstants.{NUMBER_MOST};
 ghost use Rattle.index_pipeline.specs.declared.word.TheConstants.{WORD_MOST};
 
 use crate::pair::write_number;
@@ -13,7 +14,7 @@ use std::alloc::Global;
 use std::marker::Model;
 use swan_model::{NoMemory, RECORD_MOST, Record, Value};
 
-/// The largest number of bytes that a record of the index has beside its word: a space and a number.
+/// The largest number of bytes that a record of the index has beside its word: a space, and a number of 64 bits in decimal.
 const NUMBER_MOST: usize = 21;
 
 /// Whether a word of so many bytes has room with its number after what is written, all in one record.

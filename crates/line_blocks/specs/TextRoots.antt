@@ -8,13 +8,6 @@ use Rattle.swan_model.specs.declared.value.Value.TheVariants.{Bytes}
 use Rattle.swan_model.specs.Lines.{lines}
 use Rattle.swan_model.specs.Roots.{RootLists}
 
--- the root's places of them
-abbrev pub INPUT : ℕ
-INPUT = 0
-
-abbrev pub OUTPUT : ℕ
-OUTPUT = 1
-
 abbrev pub line_roots : List Value → RootLists
 line_roots lines = record {
   queues = (record { mode = Pop; items = lines }) ∷ (record { mode = Push; items = [] }) ∷ [];

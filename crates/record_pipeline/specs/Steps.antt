@@ -11,10 +11,10 @@ use Rattle.swan_model.specs.declared.value.Value.TheVariants.{Bytes}
 use Rattle.swan_model.specs.Values.{bytes_of}
 use Rattle.line_blocks.specs.declared.line_reader.LineStep.{LineStep}
 use Rattle.line_blocks.specs.declared.line_reader.LineStep.TheVariants as lines
+use Rattle.line_blocks.specs.declared.text_roots.TheConstants.{INPUT, OUTPUT}
 use Rattle.line_blocks.specs.LineBlocks.{Lines, later}
 use Rattle.line_blocks.specs.LineReading.{line_step}
 use Rattle.line_blocks.specs.Readers.{step_of}
-use Rattle.line_blocks.specs.TextRoots.{INPUT, OUTPUT}
 use Rattle.record_pipeline.specs.declared.body.RecordBody.{RecordBody}
 use Rattle.record_pipeline.specs.declared.local.RecordLocal.{RecordLocal}
 use Rattle.record_pipeline.specs.declared.local.RecordLocal.TheVariants as local

@@ -15,20 +15,17 @@ use Rattle.line_blocks.specs.declared.line_reader.LineStep.TheVariants as readin
 use Rattle.line_blocks.specs.declared.queue_reader.QueueReader.TheVariants as reader
 use Rattle.line_blocks.specs.declared.queue_reader.ReaderStep.{ReaderStep}
 use Rattle.line_blocks.specs.declared.queue_reader.ReaderStep.TheVariants as step
+use Rattle.line_blocks.specs.declared.text_roots.TheConstants.{INPUT, OUTPUT}
 use Rattle.line_blocks.specs.LineBlocks.{Lines, no_lines}
 use Rattle.line_blocks.specs.LineReading.{line_step}
 use Rattle.line_blocks.specs.Readers.{step_of}
-use Rattle.line_blocks.specs.TextRoots.{INPUT, OUTPUT}
 use Rattle.swan_reducers.specs.declared.body.FoldBody.{FoldBody}
+use Rattle.swan_reducers.specs.declared.body.TheConstants.{PARTS}
 use Rattle.swan_reducers.specs.declared.local.FoldLocal.{FoldLocal}
 use Rattle.swan_reducers.specs.declared.local.FoldLocal.TheVariants as local
 use Rattle.swan_reducers.specs.declared.reducer.Reducer.{Ghosts}
 use Rattle.swan_reducers.specs.Fold.{fold_of}
 use Rattle.swan_reducers.specs.LineFolds.{bad_number}
-
--- the root's place of the queue of parts, which it makes
-abbrev pub PARTS : ℕ
-PARTS = 2
 
 -- a block task, which may push its part
 abbrev pub block_task : Lines → Child FoldLocal
