@@ -26,5 +26,5 @@ below None most more few within = within
 below (Some i) most more few within = omega (arith, few, within)
 
 -- no name has a great place among few
-pub slot_few : (names : List (List ℕ)) (name : List ℕ) → length names ≤ 1000000000 → IfSome (slot names name) (λ place. place < NAMES_MOST)
-slot_few names name few = below (slot names name) (length names) NAMES_MOST (omega (arith, few)) (slot_within names name)
+pub slot_few : (names : List (List ℕ)) (name : List ℕ) → length names ≤ NAMES_MOST → IfSome (slot names name) (λ place. place < NAMES_MOST)
+slot_few names name few = below (slot names name) (length names) NAMES_MOST few (slot_within names name)

@@ -2,6 +2,7 @@
 -- public clause.
 use Rattle.std.specs.Prelude.{String, ◌≡◌, ℕ, ◌+◌, ◌≤◌, suc, Option, Some, None, List, [], ◌∷◌, length, bytes_eq, option_map, is_some, if◌then◌else◌}
 use Rattle.std.specs.BTreeMap.{BTreeMap, get_by_text}
+use Rattle.job_body.specs.declared.name_table.TheConstants.{NAMES_MOST}
 
 -- the first place at which a name stands
 abbrev pub slot : List (List ℕ) → List ℕ → Option ℕ
@@ -21,5 +22,5 @@ with_place places name place other =
 
 -- a map that has the first place of each name
 pub record IsNameTable {A : Type 0} (names : List (List ℕ)) (places : BTreeMap (String A) ℕ) : Type 0 where
-  pub few : length names ≤ 1000000000
+  pub few : length names ≤ NAMES_MOST
   pub finds : (name : List ℕ) → get_by_text places name ≡ slot names name

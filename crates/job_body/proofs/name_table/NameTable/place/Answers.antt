@@ -7,5 +7,5 @@ use Rattle.job_body.proofs.name_table.NameTable.place.Goals as goal
 pub returns-clause-few : goal.returns-clause-few
 returns-clause-few c =
     let found : c.copied.result ≡ slot c.args.self.now c.args.name.now = search rules in
-    let few : length c.args.self.now ≤ 1000000000 = omega (arith, c.self.invariant.few, ap length c.self.view_is) in
+    let few : length c.args.self.now ≤ NAMES_MOST = omega (arith, c.self.invariant.few, ap length c.self.view_is) in
     subst (λ found. IfSome found (λ place. place < NAMES_MOST)) (sym found) (slot_few c.args.self.now c.args.name.now few)
