@@ -20,7 +20,7 @@ use Rattle.swan_model.specs.declared.script.Script.{Script}
 use Rattle.swan_model.specs.declared.value.Value.{Value}
 use Rattle.swan_model.specs.Granted.{is_spawn}
 use Rattle.swan_model.specs.QueueFollows.{next_queue_deed, origin_in}
-use Rattle.swan_model.specs.QueueState.{ActiveFrame, QueueState, after_create, with_deed, with_made}
+use Rattle.swan_model.specs.QueueState.{ActiveFrame, QueueState, after_create, with_deed, with_made, OBJECTS_MOST}
 use Rattle.swan_model.specs.Readings.{with_object, with_queue}
 use Rattle.swan_model.specs.Script.{script}
 use Rattle.swan_model.specs.SerialState.{Activation, Holding}
@@ -121,10 +121,6 @@ told-more {B} {L} mid with_more h g place frame is more at held =
 module _ {B L : Type 0} (G : Ghosts B L) (kept : KeptView) (mid : Mid B L) (asks : Ask L) (has : HasIt G kept (asking mid asks)) where
   abbrev top : Activation L
   top = has.is.alone.top
-
-  -- a frame that may take a step has room for a place
-  pub few-places : length mid.task.holdings < 4294967296
-  few-places = let within = has.is.within.holds in omega (arith, within)
 
   module _ (mode : Mode) (does : Deed) (gets : GetsPlace G mid.task.plan mid.task.path mid.task.done has.is.alone.top mid.local mode does) (h : Holding) (mode_is : h.mode ≡ mode) where
     abbrev next : Activation L
@@ -279,10 +275,8 @@ module _ {B L : Type 0} (G : Ghosts B L) (kept : KeptView) (mid : Mid B L) (valu
   object-gets : GetsPlace G mid.task.plan mid.task.path mid.task.done has.is.alone.top mid.local InOut (deed.MakeObject value)
   object-gets = makes-object G mid.task.plan mid.task.path mid.task.done has.is.alone.top mid.local has.is.plan.lists value (asked G kept mid (ask.NewObject value) has)
 
-  pub object-room : kept.objects + 1 < 4294967296
-  object-room =
-      let room = rights.room-for-object G mid.task.plan has.core.sound (law G kept mid (ask.NewObject value) has) kept.reading kept.versions kept.live kept.objects has.core.objects in
-      omega (arith, room)
+  pub object-room : kept.objects < OBJECTS_MOST
+  object-room = rights.room-for-object G mid.task.plan has.core.sound (law G kept mid (ask.NewObject value) has) kept.reading kept.versions kept.live kept.objects has.core.objects
 
   -- the next place has no object
   pub object-free : placed_at kept.versions mid.task.number (length mid.task.holdings) ≡ None

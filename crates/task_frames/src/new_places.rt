@@ -1,12 +1,12 @@
 // Steps that make a queue or an object.
-ghost use Rattle.std.specs.Prelude.{◌≡◌, ◌+◌, ◌<◌, ◌∷◌, ◌++◌, [], length, IfOk, OnOk};
+ghost use Rattle.std.specs.Prelude.{◌≡◌, ◌+◌, ◌<◌, ◌≤◌, ◌∷◌, ◌++◌, [], length, IfOk, OnOk};
 ghost use Rattle.std.specs.Option.{option_map};
 ghost use Rattle.swan_model.specs.declared.body.Ask.TheVariants as ask;
 ghost use Rattle.swan_model.specs.declared.origin.Origin.TheVariants as origin;
 ghost use Rattle.swan_model.specs.Readings.{with_object, with_queue, gone_on_by};
 ghost use Rattle.swan_model.specs.Script.{script};
 ghost use Rattle.swan_model.specs.SerialTime.{time};
-ghost use Rattle.swan_model.specs.QueueState.{COUNT_MOST};
+ghost use Rattle.swan_model.specs.QueueState.{COUNT_MOST, PLACES_MOST};
 ghost use Rattle.task_frames.specs.Cores.{HasIt, MayBegin, asking};
 ghost use Rattle.task_frames.specs.Records.{IsOnlyLive, come_to, holding_too, live_at};
 ghost use Rattle.task_frames.specs.Resumes.{IsStep};
@@ -18,7 +18,7 @@ use swan_model::{Answer, Body, Mode, NoMemory, Value};
 impl<B: Body> MidStep<B> {
     /// How many places it has. `O(1)`.
     fn places(&self) -> u32
-        requires { length self.now.task.holdings < 4294967296 }
+        requires { length self.now.task.holdings ≤ PLACES_MOST }
         ensures { result ≡ length self.now.task.holdings }
     {
         self.staged.task.holdings.len() as u32

@@ -2,7 +2,7 @@ use Rattle.std.proofs.Common.{◌≡◌, ◌<◌, ◌+◌, None, sym, subst, ap,
 use Rattle.swan_model.specs.declared.rights.Mode.TheVariants.{InOut}
 use Rattle.swan_model.specs.SerialState.{Holding}
 use Rattle.swan_model.specs.Versions.{placed_at}
-use Rattle.swan_model.specs.QueueState.{COUNT_MOST}
+use Rattle.swan_model.specs.QueueState.{COUNT_MOST, OBJECTS_MOST}
 use Rattle.task_frames.specs.Cores.{KeptView, Mid}
 use Rattle.task_frames.proofs.Asked.{steps-few}
 use Rattle.task_frames.proofs.AtPlaces.{noted-place, object-free, object-kept, object-room, object-runs, told-more}
@@ -17,7 +17,7 @@ create-requires g c = record {
 
 pub overflow_add-self : goal.overflow_add-self
 overflow_add-self g c =
-    let room = subst (λ (k : KeptView). k.objects + 1 < 4294967296) (sym c.self.view_is) (object-room g.B.Body _ _ _ c.requires.has c.requires.begun) in
+    let room = subst (λ (k : KeptView). k.objects < OBJECTS_MOST) (sym c.self.view_is) (object-room g.B.Body _ _ _ c.requires.has c.requires.begun) in
     omega (arith, room)
 
 pub note_place-requires-after_bounds : goal.note_place-requires-after_bounds
