@@ -25,6 +25,7 @@
 
 mod consumer;
 mod entry;
+mod limits;
 mod link;
 mod note;
 mod plays;
@@ -36,11 +37,12 @@ mod tag;
 
 pub use consumer::Consumer;
 use entry::{OwedItem, Tagged};
+pub use limits::limit_of_places;
 pub use link::Link;
 pub use note::Note;
 use plays::{Ends, Hear, LastNotes, Notes, Put, Reach, SeeHead, SeeTail, Take};
 pub use producer::Producer;
-pub use ring::segment;
+pub use ring::{RING_PLACES_MOST, segment};
 use ring::{Ring, RingSeat};
 use rule::{About, RingRule, Seen};
 pub use tag::Tag;

@@ -4,12 +4,16 @@ ghost use Rattle.std.specs.Option.{ForSome};
 ghost use Rattle.swan_model.specs.Segments.{IsSegmentOf};
 ghost use Rattle.ring_segments.specs.Ends.{new_consumer, new_producer};
 ghost use Rattle.ring_segments.specs.Tags.{tag_of};
+ghost use Rattle.ring_segments.specs.declared.ring.TheConstants.{RING_PLACES_MOST};
 
 use crate::{About, Consumer, Ends, OwedItem, Producer, RingRule, Seen, Tag};
 use atomic_table::{Seat, Table};
 use std::alloc::Global;
 use std::sync::Arc;
 use swan_model::{NoMemory, RunName};
+
+/// The most places that a segment may have.
+pub const RING_PLACES_MOST: u32 = 16_777_216;
 
 /// The word that counts what was popped.
 pub(crate) const HEAD: usize = 0;
@@ -28,7 +32,7 @@ pub(crate) struct Ring {
     pub(crate) about: About,
 }
 
-/// A new segment of that many places: the end that pushes to it and the end that pops from it.
+/// A new segment of that many places, 1 to `RING_PLACES_MOST`: the end that pushes to it and the end that pops from it.
 ///
 /// The name is that of its run, the tag says what made it, and the key is the caller's own number for it, which all its
 /// ends show. Where the name has a script, the segment owes a list by it.
@@ -39,7 +43,7 @@ pub fn segment(
     key: u64,
     size: u32,
 ) -> Result<(Producer, Consumer), NoMemory>
-    requires size { (1 ≤ size) × (size ≤ 16777216) }
+    requires size { (1 ≤ size) × (size ≤ RING_PLACES_MOST) }
     requires tag { ForSome name (λ s. IsSegmentOf s (tag_of tag)) }
     ensures producer { IfOk result (λ ends. ends.0 ≡ new_producer ends.0.of) }
     ensures consumer { IfOk result (λ ends. ends.1 ≡ new_consumer ends.0.of) }

@@ -1,6 +1,7 @@
 // What the tests share: segments with the free name, whose items are numbers.
 ghost use Rattle.std.specs.Prelude.{◌≡◌, ◌≤◌, None, IfOk};
 ghost use Rattle.ring_segments.specs.Ends.{new_consumer, new_producer};
+ghost use Rattle.ring_segments.specs.declared.ring.TheConstants.{RING_PLACES_MOST};
 
 use ring_segments::{Consumer, Producer, Tag, segment};
 use std::alloc::Global;
@@ -8,7 +9,7 @@ use swan_model::{NoMemory, RunName, Value};
 
 /// A segment with the free name, of this key and size.
 pub fn free_segment(alloc: Global, key: u64, size: u32) -> Result<(Producer, Consumer), NoMemory>
-    requires { (1 ≤ size) × (size ≤ 16777216) }
+    requires { (1 ≤ size) × (size ≤ RING_PLACES_MOST) }
     ensures name { IfOk result (λ ends. ends.0.of.id.name ≡ None) }
     ensures producer { IfOk result (λ ends. ends.0 ≡ new_producer ends.0.of) }
     ensures consumer { IfOk result (λ ends. ends.1 ≡ new_consumer ends.0.of) }
