@@ -34,4 +34,3 @@ pub use body::IndexBody;
 pub use laws::{limit_of_words, the_index_is_a_sorted_set, the_outcome_is_the_index};
 pub use local::IndexLocal;
 pub use plan::{index_names, index_plan};
-pub use word::WORD_MOST;

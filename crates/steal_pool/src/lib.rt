@@ -40,6 +40,6 @@ mod tests;
 
 pub use dry::Dry;
 pub use limits::limit_of_seats;
-pub use opening::{SEATS_MOST, pool};
+pub use opening::pool;
 pub use rule::PoolView;
 pub use seat::PoolSeat;

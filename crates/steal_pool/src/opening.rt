@@ -11,7 +11,7 @@ use swan_model::NoMemory;
 /// The most seats that a pool may have.
 pub const SEATS_MOST: u32 = 256;
 
-/// The seats of a new pool, one for each worker, of which there are 1 to `SEATS_MOST`. The pool's name is that of `like`, each
+/// The seats of a new pool, one for each worker, of which there are 1 to 256. The pool's name is that of `like`, each
 /// seat knows it, and its own list is empty.
 ///
 /// It allocates the list of the seats, and for each its deque with a first ring and a list of the others. `O(workers * workers)`.

@@ -9,7 +9,7 @@ use std::marker::Model;
 /// The largest number of entries of a script.
 pub const ENTRIES_MOST: u64 = 8_000_000_002;
 
-/// The name of a run. It has no bytes. It means a script, which has at most `ENTRIES_MOST` entries, or
+/// The name of a run. It has no bytes. It means a script, which has at most 8,000,000,002 entries, or
 /// nothing. Contracts see it as that.
 ///
 /// Whatever belongs to a run has its name, so contracts can say of which script its parts speak.

@@ -36,10 +36,10 @@ pub trait Sink {
         ensures faults_kept { faults self.old ≤ faults self.new };
 }
 
-/// Puts all bytes, in pieces of at most `PIECE_MOST`: what a put leaves of a piece is offered
+/// Puts all bytes, in pieces of at most 65,536 bytes: what a put leaves of a piece is offered
 /// again. After Ok all bytes were appended. Failed comes only where the sink's count of faults rose
 /// in this call, and then a front of the bytes was appended. It takes no memory of its own. At most
-/// one put a byte, and one for each `PIECE_MOST` bytes where the sink takes whole pieces.
+/// one put a byte, and one for each 65,536 bytes where the sink takes whole pieces.
 pub fn put_all<S: Sink>(sink: &mut S, bytes: &[u8]) -> Result<(), Failed>
     ensures ok { OnOk result (Appends (S.written sink.old) bytes.now (S.written sink.new)) }
     ensures front { AppendsFront (S.written sink.old) bytes.now (S.written sink.new) }

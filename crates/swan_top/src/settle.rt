@@ -12,12 +12,13 @@ ghost use Rattle.swan_top.specs.declared.status.Status.TheVariants as status;
 
 use crate::accept::accept;
 use crate::engine::Engine;
+use crate::help::{HELP, VERSION};
 use crate::inputs::read_inputs;
 use crate::read::read_file;
 use crate::run::{run_job, run_text};
 use crate::verdict::{Settled, WhyStopped};
 use crate::way::Way;
-use crate::{Command, HELP, How, Status, VERSION};
+use crate::{Command, How, Status};
 use bulk_workload::{bulk_fuel, bulk_input, bulk_job};
 use index_pipeline::{index_names, index_plan};
 use job_reader::write_job;
