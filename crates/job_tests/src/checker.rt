@@ -1,4 +1,5 @@
 // What is said of jobs, from tables of which each row is a text and what is wrong with it.
+use crate::texts::with_line_feeds;
 use job_reader::{Job, JobFault, JobKind, ReadJob, read_job};
 use privilege_check::{CheckJob, check};
 use std::alloc::Global;
@@ -56,11 +57,6 @@ fn hold(rt: &impl Abort, alloc: Global, text: &str, wanted: &str, row: &str) -> 
 /// Texts one after another.
 fn joined(alloc: Global, texts: &[&str]) -> Result<String, Fail> {
     Ok(texts.concat(alloc)?)
-}
-
-/// A text with line feeds in the place of each /.
-fn with_line_feeds(alloc: Global, text: &str) -> Result<String, Fail> {
-    Ok(text.replace(alloc, "/", "\n")?)
 }
 
 /// A row: what is said, and a text with / in the place of line feeds.

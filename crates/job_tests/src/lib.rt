@@ -6,3 +6,5 @@
 mod checker;
 #[cfg(test)]
 mod reader;
+#[cfg(test)]
+mod texts;

@@ -1,5 +1,6 @@
 // The rows of the text: what is accepted, what is refused with which line and kind, and how it is
 // written.
+use crate::texts::with_line_feeds;
 use example_texts::{EVERY_LINE, FIRST_JOB, JOBS};
 use job_reader::{
     Job, JobFault, JobKind, Line, ReadJob, lines_are_pieces, literals_are_pieces, read_job,
@@ -234,11 +235,6 @@ const PREFIXES: &str = r#"1 BadHeader
 6 BadLine swan 1/output out bytes/task main/  do/  push out "hi"/en
 0 Ok swan 1/output out bytes/task main/  do/  push out "hi"/end
 0 Ok swan 1/output out bytes/task main/  do/  push out "hi"/end/"#;
-
-/// A text with line feeds in the place of each /.
-fn with_line_feeds(alloc: Global, text: &str) -> Result<String, Fail> {
-    Ok(text.replace(alloc, "/", "\n")?)
-}
 
 /// Checks each row of a table of texts.
 fn check_texts(rt: &impl Abort, alloc: Global, table: &str) -> Result<(), Fail> {
