@@ -5,13 +5,14 @@ ghost use Rattle.swan_runtime.specs.Turned.{is_last};
 ghost use Rattle.swan_runtime.specs.Workers.{AreWorkers, OneHasMet};
 
 use crate::plans::{failing_plan, plan};
-use crate::runs::is_elided;
+use crate::runs::{Row, is_elided, is_said};
 use crate::tables::Tasks;
-use elision_tests::printed;
+use elision_tests::{AskList, printed};
 use queues::{Queues, WaitFor};
+use serial_elision::Printed;
 use std::alloc::Global;
 use std::test::Fail;
-use swan_model::{Body, NoMemory, Outcome};
+use swan_model::{Body, NoMemory, Outcome, Plan};
 use swan_outside::OpenGate;
 use swan_runtime::{Shape, Turn, Worker, close, open};
 
@@ -107,6 +108,20 @@ fn left_by<B: Body, Q: Queues>(alloc: Global, workers: Vec<Worker<B, Q>>) -> Res
     Ok(outcome)
 }
 
+/// The two texts of what a run of this plan leaves, by so many workers in these turns.
+fn texts_by_hands(
+    alloc: Global,
+    plan: Plan<AskList>,
+    workers: u32,
+    turns: &[Hand],
+) -> Result<Printed, Fail> {
+    let shape = Shape::new(workers, 16).ok_or("no shape")?;
+    let mut workers = open(alloc, plan, &shape)?;
+    take_turns(alloc, &mut workers, turns)?;
+    let outcome = left_by(alloc, workers)?;
+    Ok(printed(alloc, &outcome)?)
+}
+
 /// A run of these tasks by so many workers, in these turns, leaves what the elision leaves.
 pub fn leave_by_hands(
     alloc: Global,
@@ -114,11 +129,19 @@ pub fn leave_by_hands(
     workers: u32,
     turns: &[Hand],
 ) -> Result<(), Fail> {
-    let shape = Shape::new(workers, 16).ok_or("no shape")?;
-    let mut workers = open(alloc, plan(alloc, tasks.tasks, tasks.fuel)?, &shape)?;
-    take_turns(alloc, &mut workers, turns)?;
-    let outcome = left_by(alloc, workers)?;
-    is_elided(alloc, tasks, &printed(alloc, &outcome)?)
+    let plan = plan(alloc, tasks.tasks, tasks.fuel)?;
+    is_elided(alloc, tasks, &texts_by_hands(alloc, plan, workers, turns)?)
+}
+
+/// A run of the row's plan by so many workers, in these turns, leaves what the row says.
+pub fn leave_row_by_hands(
+    alloc: Global,
+    row: &Row<'_>,
+    workers: u32,
+    turns: &[Hand],
+) -> Result<(), Fail> {
+    let plan = plan(alloc, row.tasks, row.fuel)?;
+    is_said(row, &texts_by_hands(alloc, plan, workers, turns)?)
 }
 
 /// By these turns of so many workers a run of these tasks, in which no memory is found at one index of the list of all asks, is stopped. The

@@ -3,7 +3,7 @@
 //!
 //! A plan is a table of tasks, each a list of asks in words. A test by hand is a table of turns: which frame is tried
 //! next, and what it comes to. Each turn goes through one function, so a table costs nothing to prove. So does each call of a frame that takes
-//! steps by itself. The same plans are run by 1, 2, 3, 4 and 64 workers in threads, and one by two workers whose turns a table says. What is
+//! steps by itself. The same plans are run by 1, 2, 3, 4 and 64 workers in threads, and some by one or two workers whose turns a table says. What is
 //! left was worked out by hand from what each ask is to do, and is compared with the elision of the same plan too.
 #![tactic(auto)]
 

@@ -44,7 +44,7 @@ const BEGUN: &[Turn] = &[Turn::Runs(0, 0)];
 
 /// A plan whose root may push to one queue and pop from it, at place 0, and has these asks and this much fuel. No memory is found at one index
 /// of its asks.
-#[derive(Clone, Copy)]
+#[derive(Clone, Copy, Debug)]
 struct Root<'a> {
     asks: &'a str,
     fuel: u64,
@@ -77,9 +77,11 @@ fn plan(alloc: Global, root: &Root<'_>) -> Result<Plan<AskList>, Fail> {
     })
 }
 
-/// The frame answers these calls so, one after the other, and is the root's whatever comes. Err names the first call that is answered otherwise.
+/// The frame of this root answers these calls so, one after the other, and is the root's whatever comes. Err names the root, and the first call
+/// that is answered otherwise.
 fn answers<B: Body, Q: Queues>(
     alloc: Global,
+    root: &Root<'_>,
     mut frame: Frame<B, Q>,
     body: &B,
     calls: &[Call],
@@ -90,11 +92,11 @@ fn answers<B: Body, Q: Queues>(
         let (budget, stop) = calls[index];
         let came = Stop::of(&frame.run_local(alloc, body, budget));
         if came != stop {
-            return Err(Fail::new(format_args!("call {index} answers {came:?}")));
+            return Err(Fail::new(format_args!("{root:?}: call {index} answers {came:?}")));
         }
     }
     if frame.number() != 0 || !frame.path().parts().is_empty() {
-        return Err("another frame".into());
+        return Err(Fail::new(format_args!("{root:?}: another frame")));
     }
     frame.tear();
     Ok(())
@@ -118,9 +120,10 @@ fn frame_after<B: Body, Q: Queues>(
     Ok(frame)
 }
 
-/// The only frame of an opened run, after these turns, answers these calls so.
+/// The only frame of an opened run of this root, after these turns, answers these calls so.
 fn answers_after<B: Body, Q: Queues>(
     alloc: Global,
+    root: &Root<'_>,
     opened: Opened<B, Q>,
     turns: &[Turn],
     calls: &[Call],
@@ -130,14 +133,14 @@ fn answers_after<B: Body, Q: Queues>(
 {
     let body = Arc::try_clone(&opened.body)?;
     let frame = frame_after(alloc, opened, turns)?;
-    answers(alloc, frame, &body, calls)
+    answers(alloc, root, frame, &body, calls)
 }
 
 /// The frame of this root, after these turns, answers these calls so.
 fn stops_so(alloc: Global, root: &Root<'_>, turns: &[Turn], calls: &[Call]) -> Result<(), Fail> {
     let plan = plan(alloc, root)?;
     let queues = BookQueues::new(alloc, RunName::of(&plan));
-    answers_after(alloc, Core::open(alloc, plan, queues)?, turns, calls)
+    answers_after(alloc, root, Core::open(alloc, plan, queues)?, turns, calls)
 }
 
 /// After three steps of work, of which the core takes the first one, comes each ask that isn't work. At place 7 the root has nothing.

@@ -160,7 +160,7 @@ fn texts_past(
 }
 
 /// These two texts are what the row says.
-fn is_said(row: &Row<'_>, left: &Printed) -> Result<(), Fail> {
+pub fn is_said(row: &Row<'_>, left: &Printed) -> Result<(), Fail> {
     if left.out.as_slice() != row.out.as_bytes()
         || !left.report.as_slice().ends_with(row.report.as_bytes())
     {

@@ -1,7 +1,7 @@
 // Plans by several workers: in threads, and turn by turn.
-use crate::hands::{Hand, Told, leave_by_hands, stop_by_hands};
+use crate::hands::{Hand, Told, leave_by_hands, leave_row_by_hands, stop_by_hands};
 use crate::meeting::meet;
-use crate::runs::{stops_by_workers, workers_leave_the_same};
+use crate::runs::{Row, stops_by_workers, workers_leave_the_same};
 use crate::tables::{PLANS, Tasks};
 use queues::WaitFor;
 use std::test::Fail;
@@ -12,6 +12,25 @@ fn each_plan_leaves_what_the_elision_leaves_by_workers(rt: HostRuntime) -> Resul
         workers_leave_the_same(&rt, rt.alloc(), tasks)?;
     }
     Ok(())
+}
+
+/// The two steps are the push and the end.
+#[test]
+fn turns_of_one_worker_step_and_then_are_done(rt: HostRuntime) -> Result<(), Fail> {
+    let row = Row {
+        tasks: &["push:1:8"],
+        fuel: 100,
+        out: "8\n",
+        report: "object count int 7\nobject name bytes ab0c\nleft jobs 2\nfaults 0\n",
+    };
+    let step = Hand::of(0, Told::Stepped(1));
+    let done = Hand::of(0, Told::Done);
+    leave_row_by_hands(
+        rt.alloc(),
+        &row,
+        1,
+        &[step, step, done, done, done, done, done, done],
+    )
 }
 
 /// Two children pop one queue, and their parent waits for both. The first worker goes on with the first child, and the second one with its

@@ -4,11 +4,9 @@
 //! - Rows of words with what they write: commands, runs and elisions of known jobs, indexes and conversions, the generated
 //!   job, failing reads and writes, and limits. All rows go through one call, so a row costs nothing to prove.
 //! - Which way a command goes, calls over files and sinks that never fail, and two workers that go on with two tasks at once.
-//! - Scripts of known jobs, runs of them by workers and rings of several numbers, and a run turn by turn.
+//! - Scripts of known jobs, and runs of them by workers and rings of several numbers.
 #![tactic(auto)]
 
-#[cfg(test)]
-mod by_hand;
 #[cfg(test)]
 mod generated;
 #[cfg(test)]

@@ -24,7 +24,7 @@ fn line_of_faults(alloc: Global, outcome: &Outcome) -> Result<String, NoMemory> 
 }
 
 // What an outcome has.
-pub fn shown(alloc: Global, outcome: &Outcome) -> Result<String, NoMemory> {
+fn shown(alloc: Global, outcome: &Outcome) -> Result<String, NoMemory> {
     let queues = lines_of_queues(alloc, &outcome.queues)?;
     let objects = line_of_values(alloc, "objects", outcome.objects.as_slice())?;
     let faults = line_of_faults(alloc, outcome)?;
