@@ -36,7 +36,11 @@ fn a_text_past_the_limits_of_lines_is_refused(rt: HostRuntime) -> Result<(), Fai
     ] {
         let text = in_turn(alloc, first, first_count, second, second_count)?;
         for of in [Of::Index, Of::Conversion, Of::Fold] {
-            assert_eq!(rt; refusal(&rt, alloc, of, &text), why);
+            assert_eq!(rt;
+                refusal(&rt, alloc, of, &text),
+                why,
+                "{of:?}: {first_count} and {second_count}"
+            );
         }
     }
     Ok(())

@@ -6,7 +6,7 @@ use std::test::Fail;
 use swan_model::{Body, Names, Plan};
 
 /// A pipeline.
-#[derive(Clone, Copy)]
+#[derive(Clone, Copy, Debug)]
 pub enum Of {
     /// The index.
     Index,
