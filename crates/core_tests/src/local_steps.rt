@@ -4,7 +4,7 @@ ghost use Rattle.task_frames.specs.Resumes.{IsOpened, ends_of};
 
 use crate::plans::asks;
 use crate::stale::frames_after;
-use crate::turn::Turn;
+use crate::turn::FrameTurn;
 use elision_tests::AskList;
 use queue_book::BookQueues;
 use queues::Queues;
@@ -40,7 +40,7 @@ impl Stop {
 type Call = (u64, Stop);
 
 /// The turns of a root whose first step is work. The core takes it.
-const BEGUN: &[Turn] = &[Turn::Runs(0, 0)];
+const BEGUN: &[FrameTurn] = &[FrameTurn::Runs(0, 0)];
 
 /// A plan whose root may push to one queue and pop from it, at place 0, and has these asks and this much fuel. No memory is found at one index
 /// of its asks.
@@ -106,7 +106,7 @@ fn answers<B: Body, Q: Queues>(
 fn frame_after<B: Body, Q: Queues>(
     alloc: Global,
     opened: Opened<B, Q>,
-    turns: &[Turn],
+    turns: &[FrameTurn],
 ) -> Result<Frame<B, Q>, Fail>
     requires opened { IsOpened (ends_of Q.Ends.LocalEnds) opened.core opened.root }
     requires body { opened.body.value ≡ opened.core.plan.body }
@@ -125,7 +125,7 @@ fn answers_after<B: Body, Q: Queues>(
     alloc: Global,
     root: &Root<'_>,
     opened: Opened<B, Q>,
-    turns: &[Turn],
+    turns: &[FrameTurn],
     calls: &[Call],
 ) -> Result<(), Fail>
     requires opened { IsOpened (ends_of Q.Ends.LocalEnds) opened.core opened.root }
@@ -137,7 +137,12 @@ fn answers_after<B: Body, Q: Queues>(
 }
 
 /// The frame of this root, after these turns, answers these calls so.
-fn stops_so(alloc: Global, root: &Root<'_>, turns: &[Turn], calls: &[Call]) -> Result<(), Fail> {
+fn stops_so(
+    alloc: Global,
+    root: &Root<'_>,
+    turns: &[FrameTurn],
+    calls: &[Call],
+) -> Result<(), Fail> {
     let plan = plan(alloc, root)?;
     let queues = BookQueues::new(alloc, RunName::of(&plan));
     answers_after(alloc, root, Core::open(alloc, plan, queues)?, turns, calls)

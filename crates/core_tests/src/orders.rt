@@ -2,7 +2,7 @@
 ghost use Rattle.std.specs.Prelude.{◌≡◌, ◌<◌, OnOk, length};
 ghost use Rattle.core_tests.specs.Pools.{MayAllCome};
 
-use crate::turn::Turn;
+use crate::turn::FrameTurn;
 use crate::turns::take_turn;
 use queues::Queues;
 use std::alloc::Global;
@@ -44,7 +44,7 @@ fn take_turn_by_chance<B: Body, Q: Queues>(
     body: &B,
     frames: &mut Vec<Frame<B, Q>>,
     chance: u64,
-) -> Result<Turn, NoMemory>
+) -> Result<FrameTurn, NoMemory>
     requires body { body.now ≡ core.old.plan.body }
     requires frames { MayAllCome Q.Ends.run core.old frames.old.items }
     requires some { 0 < length frames.old.items }
@@ -57,11 +57,11 @@ fn take_turn_by_chance<B: Body, Q: Queues>(
 }
 
 /// Whether the core has found no memory, once this turn has come. Err says what is wrong with it.
-fn is_dead_after(turn: Turn, is_dead: bool) -> Result<bool, Fail> {
+fn is_dead_after(turn: FrameTurn, is_dead: bool) -> Result<bool, Fail> {
     match turn {
-        Turn::Works(_, _) => Ok(is_dead),
-        Turn::NoMemory(_, _) => Ok(true),
-        Turn::Strange(_, _) => Err("a frame is strange".into()),
+        FrameTurn::Works(_, _) => Ok(is_dead),
+        FrameTurn::NoMemory(_, _) => Ok(true),
+        FrameTurn::Strange(_, _) => Err("a frame is strange".into()),
         _ if is_dead => Err("a core without memory goes on".into()),
         _ => Ok(false),
     }
@@ -89,7 +89,7 @@ pub fn take_turns_by_chance<B: Body, Q: Queues>(
         }
         chance = next(chance);
         let turn = take_turn_by_chance(alloc, core, body, frames, chance)?;
-        if matches!(turn, Turn::Torn(_)) {
+        if matches!(turn, FrameTurn::Torn(_)) {
             return ends_so(core, true);
         }
         is_dead = is_dead_after(turn, is_dead)?;

@@ -5,7 +5,7 @@ ghost use Rattle.task_frames.specs.Resumes.{IsOpened, ends_of};
 use crate::orders::take_turns_by_chance;
 use crate::plans::{asks, failing_plan, plan};
 use crate::tables::Tasks;
-use crate::turn::Turn;
+use crate::turn::FrameTurn;
 use crate::turns::take_turns;
 use elision_tests::printed;
 use queue_book::BookQueues;
@@ -25,7 +25,7 @@ use task_frames::{Core, Frame, Opened};
 #[derive(Clone, Copy)]
 pub enum Order<'a> {
     /// By these turns.
-    Turns(&'a [Turn]),
+    Turns(&'a [FrameTurn]),
     /// By chance, from this seed.
     Chance(u64),
     /// From a stack.
@@ -57,7 +57,7 @@ fn left<B: Body, Q: Queues>(alloc: Global, core: Core<B, Q>) -> Result<Option<Ou
 fn left_by_turns<B: Body, Q: Queues>(
     alloc: Global,
     opened: Opened<B, Q>,
-    turns: &[Turn],
+    turns: &[FrameTurn],
 ) -> Result<Option<Outcome>, Fail>
     requires opened { IsOpened (ends_of Q.Ends.LocalEnds) opened.core opened.root }
     requires body { opened.body.value ≡ opened.core.plan.body }

@@ -5,7 +5,7 @@ ghost use Rattle.core_tests.specs.Pools.{MayAllCome};
 
 use crate::plans::asks;
 use crate::runs::alone;
-use crate::turn::Turn;
+use crate::turn::FrameTurn;
 use crate::turns::take_turns;
 use elision_tests::AskList;
 use queue_book::{BookQueues, NoEnds};
@@ -69,20 +69,20 @@ fn plan_of(alloc: Global, list: Arc<AskList>) -> Plan<Shared>
 /// Turns of two runs of one plan.
 pub struct Turns<'a> {
     /// Of the first run.
-    pub first: &'a [Turn],
+    pub first: &'a [FrameTurn],
     /// Of the second one.
-    pub second: &'a [Turn],
+    pub second: &'a [FrameTurn],
     /// The second run's frames come to the first core.
-    pub stale: &'a [Turn],
+    pub stale: &'a [FrameTurn],
     /// The first run goes on.
-    pub rest: &'a [Turn],
+    pub rest: &'a [FrameTurn],
 }
 
 /// The frames that an opened run has after these turns.
 pub fn frames_after<B: Body, Q: Queues>(
     alloc: Global,
     opened: Opened<B, Q>,
-    turns: &[Turn],
+    turns: &[FrameTurn],
 ) -> Result<Vec<Frame<B, Q>>, Fail>
     requires opened { IsOpened (ends_of Q.Ends.LocalEnds) opened.core opened.root }
     requires body { opened.body.value ≡ opened.core.plan.body }
@@ -105,7 +105,7 @@ fn take_beside<B: Body, Q: Queues>(
     body: &B,
     frames: &mut Vec<Frame<B, Q>>,
     others: &Vec<Frame<B, Q>>,
-    turns: &[Turn],
+    turns: &[FrameTurn],
 ) -> Result<(), Fail>
     requires body { body.now ≡ core.old.plan.body }
     requires frames { MayAllCome Q.Ends.run core.old frames.old.items }
@@ -197,10 +197,10 @@ fn a_stale_frame_is_strange(rt: HostRuntime) -> Result<(), Fail> {
         rt.alloc(),
         &["sync"],
         &Turns {
-            first: &[Turn::Runs(0, 0)],
+            first: &[FrameTurn::Runs(0, 0)],
             second: &[],
-            stale: &[Turn::Strange(0, 0), Turn::Strange(0, 0)],
-            rest: &[Turn::Ends(0, 0)],
+            stale: &[FrameTurn::Strange(0, 0), FrameTurn::Strange(0, 0)],
+            rest: &[FrameTurn::Ends(0, 0)],
         },
     )
 }
@@ -212,9 +212,13 @@ fn a_frame_from_ahead_is_strange(rt: HostRuntime) -> Result<(), Fail> {
         &["sync sync"],
         &Turns {
             first: &[],
-            second: &[Turn::Runs(0, 0), Turn::Runs(0, 0)],
-            stale: &[Turn::Strange(0, 0), Turn::Strange(0, 0)],
-            rest: &[Turn::Runs(0, 0), Turn::Runs(0, 0), Turn::Ends(0, 0)],
+            second: &[FrameTurn::Runs(0, 0), FrameTurn::Runs(0, 0)],
+            stale: &[FrameTurn::Strange(0, 0), FrameTurn::Strange(0, 0)],
+            rest: &[
+                FrameTurn::Runs(0, 0),
+                FrameTurn::Runs(0, 0),
+                FrameTurn::Ends(0, 0),
+            ],
         },
     )
 }
@@ -225,9 +229,13 @@ fn a_frame_that_has_ended_is_strange(rt: HostRuntime) -> Result<(), Fail> {
         rt.alloc(),
         &["sync sync"],
         &Turns {
-            first: &[Turn::Runs(0, 0), Turn::Runs(0, 0), Turn::Ends(0, 0)],
-            second: &[Turn::Runs(0, 0)],
-            stale: &[Turn::Strange(0, 0), Turn::Strange(0, 0)],
+            first: &[
+                FrameTurn::Runs(0, 0),
+                FrameTurn::Runs(0, 0),
+                FrameTurn::Ends(0, 0),
+            ],
+            second: &[FrameTurn::Runs(0, 0)],
+            stale: &[FrameTurn::Strange(0, 0), FrameTurn::Strange(0, 0)],
             rest: &[],
         },
     )
@@ -242,35 +250,35 @@ fn a_frame_of_another_path_is_strange(rt: HostRuntime) -> Result<(), Fail> {
         &["spawn:1:9: spawn:1:9: sync", "spawn:2:2: sync", ""],
         &Turns {
             first: &[
-                Turn::Spawns(0, 0, 1),
-                Turn::Spawns(0, 0, 2),
-                Turn::Spawns(1, 0, 3),
-                Turn::Spawns(2, 0, 4),
+                FrameTurn::Spawns(0, 0, 1),
+                FrameTurn::Spawns(0, 0, 2),
+                FrameTurn::Spawns(1, 0, 3),
+                FrameTurn::Spawns(2, 0, 4),
             ],
             second: &[
-                Turn::Spawns(0, 0, 1),
-                Turn::Spawns(0, 0, 2),
-                Turn::Spawns(2, 0, 3),
-                Turn::Spawns(1, 0, 4),
+                FrameTurn::Spawns(0, 0, 1),
+                FrameTurn::Spawns(0, 0, 2),
+                FrameTurn::Spawns(2, 0, 3),
+                FrameTurn::Spawns(1, 0, 4),
             ],
             stale: &[
-                Turn::Strange(3, 0),
-                Turn::Strange(4, 0),
-                Turn::Strange(3, 0),
+                FrameTurn::Strange(3, 0),
+                FrameTurn::Strange(4, 0),
+                FrameTurn::Strange(3, 0),
             ],
             rest: &[
-                Turn::Waits(0, 0, WaitFor::Child(1)),
-                Turn::Waits(1, 0, WaitFor::Child(3)),
-                Turn::Waits(2, 0, WaitFor::Child(4)),
-                Turn::Ends(3, 0),
-                Turn::Runs(1, 0),
-                Turn::Ends(1, 0),
-                Turn::Waits(0, 0, WaitFor::Child(2)),
-                Turn::Ends(4, 0),
-                Turn::Runs(2, 0),
-                Turn::Ends(2, 0),
-                Turn::Runs(0, 0),
-                Turn::Ends(0, 0),
+                FrameTurn::Waits(0, 0, WaitFor::Child(1)),
+                FrameTurn::Waits(1, 0, WaitFor::Child(3)),
+                FrameTurn::Waits(2, 0, WaitFor::Child(4)),
+                FrameTurn::Ends(3, 0),
+                FrameTurn::Runs(1, 0),
+                FrameTurn::Ends(1, 0),
+                FrameTurn::Waits(0, 0, WaitFor::Child(2)),
+                FrameTurn::Ends(4, 0),
+                FrameTurn::Runs(2, 0),
+                FrameTurn::Ends(2, 0),
+                FrameTurn::Runs(0, 0),
+                FrameTurn::Ends(0, 0),
             ],
         },
     )
@@ -283,35 +291,35 @@ fn other_places(alloc: Global, child: &str) -> Result<(), Fail> {
         &["spawn:1:9: spawn:1:9: sync", child, ""],
         &Turns {
             first: &[
-                Turn::Spawns(0, 0, 1),
-                Turn::Spawns(0, 0, 2),
-                Turn::Runs(1, 0),
-                Turn::Runs(2, 0),
-                Turn::Spawns(1, 0, 3),
+                FrameTurn::Spawns(0, 0, 1),
+                FrameTurn::Spawns(0, 0, 2),
+                FrameTurn::Runs(1, 0),
+                FrameTurn::Runs(2, 0),
+                FrameTurn::Spawns(1, 0, 3),
             ],
             second: &[
-                Turn::Spawns(0, 0, 1),
-                Turn::Spawns(0, 0, 2),
-                Turn::Runs(2, 0),
-                Turn::Runs(1, 0),
-                Turn::Spawns(1, 0, 3),
+                FrameTurn::Spawns(0, 0, 1),
+                FrameTurn::Spawns(0, 0, 2),
+                FrameTurn::Runs(2, 0),
+                FrameTurn::Runs(1, 0),
+                FrameTurn::Spawns(1, 0, 3),
             ],
             stale: &[
-                Turn::Strange(1, 0),
-                Turn::Strange(2, 0),
-                Turn::Strange(1, 0),
+                FrameTurn::Strange(1, 0),
+                FrameTurn::Strange(2, 0),
+                FrameTurn::Strange(1, 0),
             ],
             rest: &[
-                Turn::Ends(3, 0),
-                Turn::Runs(1, 0),
-                Turn::Ends(1, 0),
-                Turn::Spawns(2, 0, 4),
-                Turn::Waits(2, 0, WaitFor::Child(4)),
-                Turn::Ends(4, 0),
-                Turn::Runs(2, 0),
-                Turn::Ends(2, 0),
-                Turn::Runs(0, 0),
-                Turn::Ends(0, 0),
+                FrameTurn::Ends(3, 0),
+                FrameTurn::Runs(1, 0),
+                FrameTurn::Ends(1, 0),
+                FrameTurn::Spawns(2, 0, 4),
+                FrameTurn::Waits(2, 0, WaitFor::Child(4)),
+                FrameTurn::Ends(4, 0),
+                FrameTurn::Runs(2, 0),
+                FrameTurn::Ends(2, 0),
+                FrameTurn::Runs(0, 0),
+                FrameTurn::Ends(0, 0),
             ],
         },
     )
@@ -335,38 +343,38 @@ fn each_frame_of_the_other_order_is_strange(rt: HostRuntime) -> Result<(), Fail>
         &["spawn:1:9: spawn:1:9: sync", "queue spawn:2:2: sync", ""],
         &Turns {
             first: &[
-                Turn::Spawns(0, 0, 1),
-                Turn::Spawns(0, 0, 2),
-                Turn::Runs(1, 0),
-                Turn::Spawns(1, 0, 3),
-                Turn::Runs(2, 0),
-                Turn::Spawns(2, 0, 4),
+                FrameTurn::Spawns(0, 0, 1),
+                FrameTurn::Spawns(0, 0, 2),
+                FrameTurn::Runs(1, 0),
+                FrameTurn::Spawns(1, 0, 3),
+                FrameTurn::Runs(2, 0),
+                FrameTurn::Spawns(2, 0, 4),
             ],
             second: &[
-                Turn::Spawns(0, 0, 1),
-                Turn::Spawns(0, 0, 2),
-                Turn::Runs(2, 0),
-                Turn::Spawns(2, 0, 3),
-                Turn::Runs(1, 0),
-                Turn::Spawns(1, 0, 4),
+                FrameTurn::Spawns(0, 0, 1),
+                FrameTurn::Spawns(0, 0, 2),
+                FrameTurn::Runs(2, 0),
+                FrameTurn::Spawns(2, 0, 3),
+                FrameTurn::Runs(1, 0),
+                FrameTurn::Spawns(1, 0, 4),
             ],
             stale: &[
-                Turn::Strange(1, 0),
-                Turn::Strange(2, 0),
-                Turn::Strange(3, 0),
-                Turn::Strange(4, 0),
+                FrameTurn::Strange(1, 0),
+                FrameTurn::Strange(2, 0),
+                FrameTurn::Strange(3, 0),
+                FrameTurn::Strange(4, 0),
             ],
             rest: &[
-                Turn::Waits(2, 0, WaitFor::Child(4)),
-                Turn::Ends(3, 0),
-                Turn::Ends(4, 0),
-                Turn::Runs(2, 0),
-                Turn::Runs(1, 0),
-                Turn::Ends(2, 0),
-                Turn::Waits(0, 0, WaitFor::Child(1)),
-                Turn::Ends(1, 0),
-                Turn::Runs(0, 0),
-                Turn::Ends(0, 0),
+                FrameTurn::Waits(2, 0, WaitFor::Child(4)),
+                FrameTurn::Ends(3, 0),
+                FrameTurn::Ends(4, 0),
+                FrameTurn::Runs(2, 0),
+                FrameTurn::Runs(1, 0),
+                FrameTurn::Ends(2, 0),
+                FrameTurn::Waits(0, 0, WaitFor::Child(1)),
+                FrameTurn::Ends(1, 0),
+                FrameTurn::Runs(0, 0),
+                FrameTurn::Ends(0, 0),
             ],
         },
     )

@@ -1,6 +1,6 @@
 // Tables of turns, with what they come to and what is left worked out by hand.
 use crate::runs::{Order, Row, leaves, stops, stops_at_each_ask};
-use crate::turn::Turn;
+use crate::turn::FrameTurn;
 use queues::WaitFor;
 use std::alloc::Global;
 use std::test::Fail;
@@ -19,7 +19,7 @@ fn untouched<'a>(tasks: &'a [&'a str]) -> Row<'a> {
 }
 
 /// Each of these plans, with its fuel, leaves no output and a report that ends so, by the turns and from a stack.
-fn all_end_so(alloc: Global, rows: &[(&str, u64, &str)], turns: &[Turn]) -> Result<(), Fail> {
+fn all_end_so(alloc: Global, rows: &[(&str, u64, &str)], turns: &[FrameTurn]) -> Result<(), Fail> {
     for (root, fuel, report) in rows {
         let row = Row {
             tasks: &[*root, ""],
@@ -44,20 +44,20 @@ fn each_ask_is_answered(rt: HostRuntime) -> Result<(), Fail> {
         report: "object count int -3\nobject name bytes ab0c\nleft jobs 1\nfaults 0\n",
     };
     let turns = [
-        Turn::Runs(0, 0),
-        Turn::Runs(0, 0),
-        Turn::Runs(0, 0),
-        Turn::Runs(0, 0),
-        Turn::Runs(0, 0),
-        Turn::Runs(0, 0),
-        Turn::Runs(0, 0),
-        Turn::Runs(0, 0),
-        Turn::Runs(0, 0),
-        Turn::Runs(0, 0),
-        Turn::Runs(0, 0),
-        Turn::Runs(0, 1),
-        Turn::Runs(0, 0),
-        Turn::Ends(0, 0),
+        FrameTurn::Runs(0, 0),
+        FrameTurn::Runs(0, 0),
+        FrameTurn::Runs(0, 0),
+        FrameTurn::Runs(0, 0),
+        FrameTurn::Runs(0, 0),
+        FrameTurn::Runs(0, 0),
+        FrameTurn::Runs(0, 0),
+        FrameTurn::Runs(0, 0),
+        FrameTurn::Runs(0, 0),
+        FrameTurn::Runs(0, 0),
+        FrameTurn::Runs(0, 0),
+        FrameTurn::Runs(0, 1),
+        FrameTurn::Runs(0, 0),
+        FrameTurn::Ends(0, 0),
     ];
     leaves(rt.alloc(), &row, Order::Turns(&turns))?;
     leaves(rt.alloc(), &row, Order::Stack)
@@ -72,23 +72,23 @@ fn a_sync_waits_for_a_child(rt: HostRuntime) -> Result<(), Fail> {
         report: UNTOUCHED,
     };
     let parent_first = [
-        Turn::Spawns(0, 0, 1),
-        Turn::Waits(0, 0, WaitFor::Child(1)),
-        Turn::Runs(1, 0),
-        Turn::Works(1, 1),
-        Turn::Waits(0, 0, WaitFor::Child(1)),
-        Turn::Ends(1, 0),
-        Turn::Runs(0, 0),
-        Turn::Runs(0, 0),
-        Turn::Ends(0, 0),
+        FrameTurn::Spawns(0, 0, 1),
+        FrameTurn::Waits(0, 0, WaitFor::Child(1)),
+        FrameTurn::Runs(1, 0),
+        FrameTurn::Works(1, 1),
+        FrameTurn::Waits(0, 0, WaitFor::Child(1)),
+        FrameTurn::Ends(1, 0),
+        FrameTurn::Runs(0, 0),
+        FrameTurn::Runs(0, 0),
+        FrameTurn::Ends(0, 0),
     ];
     let child_first = [
-        Turn::Spawns(0, 0, 1),
-        Turn::Runs(1, 0),
-        Turn::Ends(1, 1),
-        Turn::Runs(0, 0),
-        Turn::Runs(0, 0),
-        Turn::Ends(0, 0),
+        FrameTurn::Spawns(0, 0, 1),
+        FrameTurn::Runs(1, 0),
+        FrameTurn::Ends(1, 1),
+        FrameTurn::Runs(0, 0),
+        FrameTurn::Runs(0, 0),
+        FrameTurn::Ends(0, 0),
     ];
     leaves(rt.alloc(), &row, Order::Turns(&parent_first))?;
     leaves(rt.alloc(), &row, Order::Turns(&child_first))?;
@@ -99,23 +99,23 @@ fn a_sync_waits_for_a_child(rt: HostRuntime) -> Result<(), Fail> {
 fn the_oldest_child_is_waited_for(rt: HostRuntime) -> Result<(), Fail> {
     let row = untouched(&["spawn:1:5: spawn:1:5: sync", ""]);
     let younger_first = [
-        Turn::Spawns(0, 0, 1),
-        Turn::Spawns(0, 0, 2),
-        Turn::Waits(0, 0, WaitFor::Child(1)),
-        Turn::Ends(2, 0),
-        Turn::Waits(0, 0, WaitFor::Child(1)),
-        Turn::Ends(1, 0),
-        Turn::Runs(0, 0),
-        Turn::Ends(0, 0),
+        FrameTurn::Spawns(0, 0, 1),
+        FrameTurn::Spawns(0, 0, 2),
+        FrameTurn::Waits(0, 0, WaitFor::Child(1)),
+        FrameTurn::Ends(2, 0),
+        FrameTurn::Waits(0, 0, WaitFor::Child(1)),
+        FrameTurn::Ends(1, 0),
+        FrameTurn::Runs(0, 0),
+        FrameTurn::Ends(0, 0),
     ];
     let older_first = [
-        Turn::Spawns(0, 0, 1),
-        Turn::Spawns(0, 0, 2),
-        Turn::Ends(1, 0),
-        Turn::Waits(0, 0, WaitFor::Child(2)),
-        Turn::Ends(2, 0),
-        Turn::Runs(0, 0),
-        Turn::Ends(0, 0),
+        FrameTurn::Spawns(0, 0, 1),
+        FrameTurn::Spawns(0, 0, 2),
+        FrameTurn::Ends(1, 0),
+        FrameTurn::Waits(0, 0, WaitFor::Child(2)),
+        FrameTurn::Ends(2, 0),
+        FrameTurn::Runs(0, 0),
+        FrameTurn::Ends(0, 0),
     ];
     leaves(rt.alloc(), &row, Order::Turns(&younger_first))?;
     leaves(rt.alloc(), &row, Order::Turns(&older_first))
@@ -138,10 +138,10 @@ fn each_end_waits_for_a_child(rt: HostRuntime) -> Result<(), Fail> {
             ("spawn:1:5: spawn:1:50:", 50, "faults 1\nfault / 1 Fuel\n"),
         ],
         &[
-            Turn::Spawns(0, 0, 1),
-            Turn::Waits(0, 0, WaitFor::Child(1)),
-            Turn::Ends(1, 0),
-            Turn::Ends(0, 0),
+            FrameTurn::Spawns(0, 0, 1),
+            FrameTurn::Waits(0, 0, WaitFor::Child(1)),
+            FrameTurn::Ends(1, 0),
+            FrameTurn::Ends(0, 0),
         ],
     )
 }
@@ -156,12 +156,12 @@ fn a_pop_of_an_empty_queue_waits_for_a_child(rt: HostRuntime) -> Result<(), Fail
             "left jobs 0\nfaults 1\nfault / 3 PopEmpty\n",
         )],
         &[
-            Turn::Runs(0, 0),
-            Turn::Runs(0, 0),
-            Turn::Spawns(0, 0, 1),
-            Turn::Waits(0, 0, WaitFor::Child(1)),
-            Turn::Ends(1, 0),
-            Turn::Ends(0, 0),
+            FrameTurn::Runs(0, 0),
+            FrameTurn::Runs(0, 0),
+            FrameTurn::Spawns(0, 0, 1),
+            FrameTurn::Waits(0, 0, WaitFor::Child(1)),
+            FrameTurn::Ends(1, 0),
+            FrameTurn::Ends(0, 0),
         ],
     )
 }
@@ -183,7 +183,7 @@ fn each_fault_at_the_first_step_ends_the_root(rt: HostRuntime) -> Result<(), Fai
             ("long", 50, "faults 1\nfault / 0 TooLong\n"),
             ("number", 50, "faults 1\nfault / 0 BadNumber\n"),
         ],
-        &[Turn::Ends(0, 0)],
+        &[FrameTurn::Ends(0, 0)],
     )
 }
 
@@ -210,7 +210,7 @@ fn each_ask_needs_its_right(rt: HostRuntime) -> Result<(), Fail> {
         all_end_so(
             rt.alloc(),
             &[(ask, 50, "faults 1\nfault / 0 Privilege\n")],
-            &[Turn::Ends(0, 0)],
+            &[FrameTurn::Ends(0, 0)],
         )?;
     }
     Ok(())
@@ -225,7 +225,7 @@ fn a_later_fault_ends_the_root(rt: HostRuntime) -> Result<(), Fail> {
             ("write:2:7 read:0", 9, "faults 1\nfault / 1 Privilege\n"),
             ("sync fail:2", 9, "faults 1\nfault / 1 User 2\n"),
         ],
-        &[Turn::Runs(0, 0), Turn::Ends(0, 0)],
+        &[FrameTurn::Runs(0, 0), FrameTurn::Ends(0, 0)],
     )
 }
 
@@ -234,7 +234,11 @@ fn a_frame_works_by_itself_until_its_fuel_ends(rt: HostRuntime) -> Result<(), Fa
     all_end_so(
         rt.alloc(),
         &[("work work work work work", 4, "faults 1\nfault / 4 Fuel\n")],
-        &[Turn::Runs(0, 0), Turn::Works(0, 2), Turn::Ends(0, 1)],
+        &[
+            FrameTurn::Runs(0, 0),
+            FrameTurn::Works(0, 2),
+            FrameTurn::Ends(0, 1),
+        ],
     )
 }
 
@@ -251,14 +255,14 @@ fn faults_are_in_serial_order_whenever_they_come(rt: HostRuntime) -> Result<(), 
         report: "faults 4\nfault /0/0 7 User 2\nfault /0 5 Overflow\nfault /1 7 User 2\nfault / 2 User 1\n",
     };
     let turns = [
-        Turn::Spawns(0, 0, 1),
-        Turn::Spawns(0, 0, 2),
-        Turn::Ends(2, 0),
-        Turn::Spawns(1, 0, 3),
-        Turn::Waits(1, 0, WaitFor::Child(3)),
-        Turn::Ends(3, 0),
-        Turn::Ends(1, 0),
-        Turn::Ends(0, 0),
+        FrameTurn::Spawns(0, 0, 1),
+        FrameTurn::Spawns(0, 0, 2),
+        FrameTurn::Ends(2, 0),
+        FrameTurn::Spawns(1, 0, 3),
+        FrameTurn::Waits(1, 0, WaitFor::Child(3)),
+        FrameTurn::Ends(3, 0),
+        FrameTurn::Ends(1, 0),
+        FrameTurn::Ends(0, 0),
     ];
     leaves(rt.alloc(), &row, Order::Turns(&turns))?;
     leaves(rt.alloc(), &row, Order::Stack)
@@ -277,20 +281,20 @@ fn a_version_is_waited_for_at_a_read_and_at_the_start(rt: HostRuntime) -> Result
         report: "object count int 9\nobject name bytes ab0c\nleft jobs 2\nfaults 0\n",
     };
     let turns = [
-        Turn::Spawns(0, 0, 1),
-        Turn::Spawns(0, 0, 2),
-        Turn::Waits(0, 0, WaitFor::Version(1)),
-        Turn::Waits(2, 0, WaitFor::Version(1)),
-        Turn::Runs(1, 0),
-        Turn::Waits(2, 0, WaitFor::Version(1)),
-        Turn::Ends(1, 0),
-        Turn::Runs(0, 0),
-        Turn::Runs(2, 0),
-        Turn::Runs(0, 0),
-        Turn::Runs(2, 0),
-        Turn::Waits(0, 0, WaitFor::Child(2)),
-        Turn::Ends(2, 0),
-        Turn::Ends(0, 0),
+        FrameTurn::Spawns(0, 0, 1),
+        FrameTurn::Spawns(0, 0, 2),
+        FrameTurn::Waits(0, 0, WaitFor::Version(1)),
+        FrameTurn::Waits(2, 0, WaitFor::Version(1)),
+        FrameTurn::Runs(1, 0),
+        FrameTurn::Waits(2, 0, WaitFor::Version(1)),
+        FrameTurn::Ends(1, 0),
+        FrameTurn::Runs(0, 0),
+        FrameTurn::Runs(2, 0),
+        FrameTurn::Runs(0, 0),
+        FrameTurn::Runs(2, 0),
+        FrameTurn::Waits(0, 0, WaitFor::Child(2)),
+        FrameTurn::Ends(2, 0),
+        FrameTurn::Ends(0, 0),
     ];
     leaves(rt.alloc(), &row, Order::Turns(&turns))?;
     leaves(rt.alloc(), &row, Order::Stack)
@@ -308,22 +312,22 @@ fn each_of_a_chain_waits_for_the_one_before(rt: HostRuntime) -> Result<(), Fail>
         report: "object count int 8\nobject name bytes ab0c\nleft jobs 2\nfaults 0\n",
     };
     let turns = [
-        Turn::Spawns(0, 0, 1),
-        Turn::Spawns(0, 0, 2),
-        Turn::Spawns(0, 0, 3),
-        Turn::Waits(3, 0, WaitFor::Version(2)),
-        Turn::Waits(2, 0, WaitFor::Version(1)),
-        Turn::Runs(1, 0),
-        Turn::Runs(1, 0),
-        Turn::Ends(1, 0),
-        Turn::Waits(3, 0, WaitFor::Version(2)),
-        Turn::Runs(2, 0),
-        Turn::Runs(2, 0),
-        Turn::Ends(2, 0),
-        Turn::Runs(3, 0),
-        Turn::Runs(3, 0),
-        Turn::Ends(3, 0),
-        Turn::Ends(0, 0),
+        FrameTurn::Spawns(0, 0, 1),
+        FrameTurn::Spawns(0, 0, 2),
+        FrameTurn::Spawns(0, 0, 3),
+        FrameTurn::Waits(3, 0, WaitFor::Version(2)),
+        FrameTurn::Waits(2, 0, WaitFor::Version(1)),
+        FrameTurn::Runs(1, 0),
+        FrameTurn::Runs(1, 0),
+        FrameTurn::Ends(1, 0),
+        FrameTurn::Waits(3, 0, WaitFor::Version(2)),
+        FrameTurn::Runs(2, 0),
+        FrameTurn::Runs(2, 0),
+        FrameTurn::Ends(2, 0),
+        FrameTurn::Runs(3, 0),
+        FrameTurn::Runs(3, 0),
+        FrameTurn::Ends(3, 0),
+        FrameTurn::Ends(0, 0),
     ];
     leaves(rt.alloc(), &row, Order::Turns(&turns))
 }
@@ -340,18 +344,18 @@ fn a_turn_to_pop_is_waited_for_at_the_start_and_at_a_pop(rt: HostRuntime) -> Res
         report: "left jobs 0\nfaults 1\nfault / 2 PopEmpty\n",
     };
     let turns = [
-        Turn::Spawns(0, 0, 1),
-        Turn::Spawns(0, 0, 2),
-        Turn::Waits(2, 0, WaitFor::PopTurn(1)),
-        Turn::Runs(1, 0),
-        Turn::Runs(1, 0),
-        Turn::Waits(2, 0, WaitFor::PopTurn(1)),
-        Turn::Ends(1, 0),
-        Turn::Waits(0, 0, WaitFor::PopTurn(2)),
-        Turn::Runs(2, 0),
-        Turn::Runs(2, 0),
-        Turn::Ends(2, 0),
-        Turn::Ends(0, 0),
+        FrameTurn::Spawns(0, 0, 1),
+        FrameTurn::Spawns(0, 0, 2),
+        FrameTurn::Waits(2, 0, WaitFor::PopTurn(1)),
+        FrameTurn::Runs(1, 0),
+        FrameTurn::Runs(1, 0),
+        FrameTurn::Waits(2, 0, WaitFor::PopTurn(1)),
+        FrameTurn::Ends(1, 0),
+        FrameTurn::Waits(0, 0, WaitFor::PopTurn(2)),
+        FrameTurn::Runs(2, 0),
+        FrameTurn::Runs(2, 0),
+        FrameTurn::Ends(2, 0),
+        FrameTurn::Ends(0, 0),
     ];
     leaves(rt.alloc(), &row, Order::Turns(&turns))?;
     leaves(rt.alloc(), &row, Order::Stack)
@@ -371,18 +375,18 @@ fn a_version_is_waited_for_before_a_turn_to_pop(rt: HostRuntime) -> Result<(), F
         report: "object count int 3\nobject name bytes ab0c\nleft jobs 0\nfaults 0\n",
     };
     let turns = [
-        Turn::Spawns(0, 0, 1),
-        Turn::Spawns(0, 0, 2),
-        Turn::Spawns(0, 0, 3),
-        Turn::Waits(3, 0, WaitFor::Version(1)),
-        Turn::Runs(1, 0),
-        Turn::Ends(1, 0),
-        Turn::Waits(3, 0, WaitFor::PopTurn(2)),
-        Turn::Runs(2, 0),
-        Turn::Ends(2, 0),
-        Turn::Runs(3, 0),
-        Turn::Ends(3, 0),
-        Turn::Ends(0, 0),
+        FrameTurn::Spawns(0, 0, 1),
+        FrameTurn::Spawns(0, 0, 2),
+        FrameTurn::Spawns(0, 0, 3),
+        FrameTurn::Waits(3, 0, WaitFor::Version(1)),
+        FrameTurn::Runs(1, 0),
+        FrameTurn::Ends(1, 0),
+        FrameTurn::Waits(3, 0, WaitFor::PopTurn(2)),
+        FrameTurn::Runs(2, 0),
+        FrameTurn::Ends(2, 0),
+        FrameTurn::Runs(3, 0),
+        FrameTurn::Ends(3, 0),
+        FrameTurn::Ends(0, 0),
     ];
     leaves(rt.alloc(), &row, Order::Turns(&turns))
 }
@@ -400,23 +404,23 @@ fn a_pop_and_a_test_wait_for_a_pusher(rt: HostRuntime) -> Result<(), Fail> {
         report: UNTOUCHED,
     };
     let turns = [
-        Turn::Runs(0, 0),
-        Turn::Spawns(0, 0, 1),
-        Turn::Spawns(0, 0, 2),
-        Turn::Waits(2, 0, WaitFor::Pusher(1)),
-        Turn::Runs(1, 0),
-        Turn::Runs(2, 0),
-        Turn::Runs(2, 0),
-        Turn::Waits(2, 0, WaitFor::Pusher(1)),
-        Turn::Runs(1, 0),
-        Turn::Runs(2, 0),
-        Turn::Runs(2, 0),
-        Turn::Waits(2, 0, WaitFor::Pusher(1)),
-        Turn::Ends(1, 0),
-        Turn::Runs(2, 0),
-        Turn::Runs(2, 0),
-        Turn::Ends(2, 0),
-        Turn::Ends(0, 0),
+        FrameTurn::Runs(0, 0),
+        FrameTurn::Spawns(0, 0, 1),
+        FrameTurn::Spawns(0, 0, 2),
+        FrameTurn::Waits(2, 0, WaitFor::Pusher(1)),
+        FrameTurn::Runs(1, 0),
+        FrameTurn::Runs(2, 0),
+        FrameTurn::Runs(2, 0),
+        FrameTurn::Waits(2, 0, WaitFor::Pusher(1)),
+        FrameTurn::Runs(1, 0),
+        FrameTurn::Runs(2, 0),
+        FrameTurn::Runs(2, 0),
+        FrameTurn::Waits(2, 0, WaitFor::Pusher(1)),
+        FrameTurn::Ends(1, 0),
+        FrameTurn::Runs(2, 0),
+        FrameTurn::Runs(2, 0),
+        FrameTurn::Ends(2, 0),
+        FrameTurn::Ends(0, 0),
     ];
     leaves(rt.alloc(), &row, Order::Turns(&turns))?;
     leaves(rt.alloc(), &row, Order::Stack)
@@ -431,12 +435,12 @@ fn a_pop_that_finds_nothing_waits_for_a_pusher(rt: HostRuntime) -> Result<(), Fa
         report: "left jobs 2\nfaults 1\nfault / 2 PopEmpty\n",
     };
     let turns = [
-        Turn::Runs(0, 0),
-        Turn::Spawns(0, 0, 1),
-        Turn::Waits(0, 0, WaitFor::Pusher(1)),
-        Turn::Runs(1, 0),
-        Turn::Ends(1, 0),
-        Turn::Ends(0, 0),
+        FrameTurn::Runs(0, 0),
+        FrameTurn::Spawns(0, 0, 1),
+        FrameTurn::Waits(0, 0, WaitFor::Pusher(1)),
+        FrameTurn::Runs(1, 0),
+        FrameTurn::Ends(1, 0),
+        FrameTurn::Ends(0, 0),
     ];
     leaves(rt.alloc(), &row, Order::Turns(&turns))
 }
@@ -458,31 +462,31 @@ fn each_mode<'a>() -> Row<'a> {
 #[test]
 fn a_child_uses_what_it_was_given_by_each_mode(rt: HostRuntime) -> Result<(), Fail> {
     let turns = [
-        Turn::Runs(0, 0),
-        Turn::Spawns(0, 0, 1),
-        Turn::Spawns(0, 0, 2),
-        Turn::Waits(0, 0, WaitFor::Version(2)),
-        Turn::Waits(2, 0, WaitFor::PopTurn(1)),
-        Turn::Runs(1, 0),
-        Turn::Runs(1, 0),
-        Turn::Runs(1, 0),
-        Turn::Runs(1, 0),
-        Turn::Runs(1, 0),
-        Turn::Runs(1, 0),
-        Turn::Runs(1, 0),
-        Turn::Runs(1, 0),
-        Turn::Runs(1, 0),
-        Turn::Ends(1, 0),
-        Turn::Runs(2, 0),
-        Turn::Runs(2, 0),
-        Turn::Runs(2, 0),
-        Turn::Runs(2, 0),
-        Turn::Runs(2, 0),
-        Turn::Ends(2, 0),
-        Turn::Runs(0, 0),
-        Turn::Runs(0, 0),
-        Turn::Runs(0, 0),
-        Turn::Ends(0, 0),
+        FrameTurn::Runs(0, 0),
+        FrameTurn::Spawns(0, 0, 1),
+        FrameTurn::Spawns(0, 0, 2),
+        FrameTurn::Waits(0, 0, WaitFor::Version(2)),
+        FrameTurn::Waits(2, 0, WaitFor::PopTurn(1)),
+        FrameTurn::Runs(1, 0),
+        FrameTurn::Runs(1, 0),
+        FrameTurn::Runs(1, 0),
+        FrameTurn::Runs(1, 0),
+        FrameTurn::Runs(1, 0),
+        FrameTurn::Runs(1, 0),
+        FrameTurn::Runs(1, 0),
+        FrameTurn::Runs(1, 0),
+        FrameTurn::Runs(1, 0),
+        FrameTurn::Ends(1, 0),
+        FrameTurn::Runs(2, 0),
+        FrameTurn::Runs(2, 0),
+        FrameTurn::Runs(2, 0),
+        FrameTurn::Runs(2, 0),
+        FrameTurn::Runs(2, 0),
+        FrameTurn::Ends(2, 0),
+        FrameTurn::Runs(0, 0),
+        FrameTurn::Runs(0, 0),
+        FrameTurn::Runs(0, 0),
+        FrameTurn::Ends(0, 0),
     ];
     leaves(rt.alloc(), &each_mode(), Order::Turns(&turns))?;
     leaves(rt.alloc(), &each_mode(), Order::Stack)
@@ -506,7 +510,11 @@ fn a_child_uses_nothing_beyond_what_it_was_given(rt: HostRuntime) -> Result<(), 
             out: "",
             report: "left jobs 2\nfaults 1\nfault /0 2 Privilege\n",
         };
-        let turns = [Turn::Spawns(0, 0, 1), Turn::Ends(1, 0), Turn::Ends(0, 0)];
+        let turns = [
+            FrameTurn::Spawns(0, 0, 1),
+            FrameTurn::Ends(1, 0),
+            FrameTurn::Ends(0, 0),
+        ];
         leaves(rt.alloc(), &row, Order::Turns(&turns))?;
     }
     Ok(())
@@ -525,16 +533,16 @@ fn chain(alloc: Global) -> Result<Vec<String>, Fail> {
 }
 
 /// The turns of a chain. Where the parents are tried too, each has to wait for its child.
-fn turns_of_chain(alloc: Global, are_tried: bool) -> Result<Vec<Turn>, Fail> {
+fn turns_of_chain(alloc: Global, are_tried: bool) -> Result<Vec<FrameTurn>, Fail> {
     let mut turns = Vec::new(alloc);
     for frame in 0..64_u64 {
-        turns.push(Turn::Spawns(frame, 0, frame + 1))?;
+        turns.push(FrameTurn::Spawns(frame, 0, frame + 1))?;
         if are_tried {
-            turns.push(Turn::Waits(frame, 0, WaitFor::Child(frame + 1)))?;
+            turns.push(FrameTurn::Waits(frame, 0, WaitFor::Child(frame + 1)))?;
         }
     }
     for frame in 0..65_u64 {
-        turns.push(Turn::Ends(64 - frame, 0))?;
+        turns.push(FrameTurn::Ends(64 - frame, 0))?;
     }
     Ok(turns)
 }
@@ -569,12 +577,12 @@ fn a_frame_at_depth_64_spawns_nothing(rt: HostRuntime) -> Result<(), Fail> {
 fn after_want_of_memory_at_the_core_nothing_goes_on(rt: HostRuntime) -> Result<(), Fail> {
     let tasks = ["spawn:1:9: spawn:2:9: work", "work", "work work work"];
     let turns = [
-        Turn::Spawns(0, 0, 1),
-        Turn::Spawns(0, 0, 2),
-        Turn::Runs(2, 0),
-        Turn::NoMemory(1, 0),
-        Turn::NoMemory(2, 2),
-        Turn::NoMemory(0, 1),
+        FrameTurn::Spawns(0, 0, 1),
+        FrameTurn::Spawns(0, 0, 2),
+        FrameTurn::Runs(2, 0),
+        FrameTurn::NoMemory(1, 0),
+        FrameTurn::NoMemory(2, 2),
+        FrameTurn::NoMemory(0, 1),
     ];
     stops(rt.alloc(), &tasks, 50, 4, Order::Turns(&turns))
 }
@@ -583,14 +591,14 @@ fn after_want_of_memory_at_the_core_nothing_goes_on(rt: HostRuntime) -> Result<(
 fn after_want_of_memory_of_a_frame_the_others_go_on(rt: HostRuntime) -> Result<(), Fail> {
     let tasks = ["spawn:1:9: spawn:2:9: sync", "work", "work work work"];
     let turns = [
-        Turn::Spawns(0, 0, 1),
-        Turn::Spawns(0, 0, 2),
-        Turn::Runs(2, 0),
-        Turn::Torn(2),
-        Turn::Waits(0, 0, WaitFor::Child(1)),
-        Turn::Runs(1, 0),
-        Turn::Ends(1, 0),
-        Turn::Waits(0, 0, WaitFor::Child(2)),
+        FrameTurn::Spawns(0, 0, 1),
+        FrameTurn::Spawns(0, 0, 2),
+        FrameTurn::Runs(2, 0),
+        FrameTurn::Torn(2),
+        FrameTurn::Waits(0, 0, WaitFor::Child(1)),
+        FrameTurn::Runs(1, 0),
+        FrameTurn::Ends(1, 0),
+        FrameTurn::Waits(0, 0, WaitFor::Child(2)),
     ];
     stops(rt.alloc(), &tasks, 50, 8, Order::Turns(&turns))
 }

@@ -3,7 +3,7 @@ use queues::WaitFor;
 
 /// What a turn of a frame comes to: first the frame's number, then how many steps it took by itself.
 #[derive(Clone, Copy, Debug, PartialEq, Eq)]
-pub enum Turn {
+pub enum FrameTurn {
     /// It took so many, which was its budget.
     Works(u64, u64),
     /// It found no memory for one of them.
@@ -22,25 +22,25 @@ pub enum Turn {
     NoMemory(u64, u64),
 }
 
-impl Turn {
+impl FrameTurn {
     /// The frame's number.
     pub fn frame(&self) -> u64 {
         match self {
-            Turn::Works(frame, _) => *frame,
-            Turn::Torn(frame) => *frame,
-            Turn::Runs(frame, _) => *frame,
-            Turn::Spawns(frame, _, _) => *frame,
-            Turn::Ends(frame, _) => *frame,
-            Turn::Waits(frame, _, _) => *frame,
-            Turn::Strange(frame, _) => *frame,
-            Turn::NoMemory(frame, _) => *frame,
+            FrameTurn::Works(frame, _) => *frame,
+            FrameTurn::Torn(frame) => *frame,
+            FrameTurn::Runs(frame, _) => *frame,
+            FrameTurn::Spawns(frame, _, _) => *frame,
+            FrameTurn::Ends(frame, _) => *frame,
+            FrameTurn::Waits(frame, _, _) => *frame,
+            FrameTurn::Strange(frame, _) => *frame,
+            FrameTurn::NoMemory(frame, _) => *frame,
         }
     }
 
     /// How many steps it may take by itself.
     pub fn budget(&self) -> u64 {
         match self {
-            Turn::Works(_, budget) => *budget,
+            FrameTurn::Works(_, budget) => *budget,
             _ => u64::MAX,
         }
     }

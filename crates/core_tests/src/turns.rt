@@ -2,7 +2,7 @@
 ghost use Rattle.std.specs.Prelude.{◌≡◌, ◌<◌, IfSome, OnOk, length, true};
 ghost use Rattle.core_tests.specs.Pools.{MayAllCome, MayCome};
 
-use crate::turn::Turn;
+use crate::turn::FrameTurn;
 use queues::Queues;
 use std::alloc::Global;
 use std::test::Fail;
@@ -17,7 +17,7 @@ fn resume<B: Body, Q: Queues>(
     frames: &mut Vec<Frame<B, Q>>,
     frame: Frame<B, Q>,
     works: u64,
-) -> Result<Turn, NoMemory>
+) -> Result<FrameTurn, NoMemory>
     requires body { body.now ≡ core.old.plan.body }
     requires frames { MayAllCome Q.Ends.run core.old frames.old.items }
     requires frame { MayCome Q.Ends.run core.old frame }
@@ -30,24 +30,24 @@ fn resume<B: Body, Q: Queues>(
     match core.resume(alloc, body, frame) {
         Resumed::Runs(next, _) => {
             frames.push(next)?;
-            Ok(Turn::Runs(number, works))
+            Ok(FrameTurn::Runs(number, works))
         }
         Resumed::Spawned(parent, child, _) => {
             let spawned = child.number();
             frames.push(parent)?;
             frames.push(child)?;
-            Ok(Turn::Spawns(number, works, spawned))
+            Ok(FrameTurn::Spawns(number, works, spawned))
         }
-        Resumed::Ended(_) => Ok(Turn::Ends(number, works)),
+        Resumed::Ended(_) => Ok(FrameTurn::Ends(number, works)),
         Resumed::Waits(same, waited) => {
             frames.push(same)?;
-            Ok(Turn::Waits(number, works, waited.wait()))
+            Ok(FrameTurn::Waits(number, works, waited.wait()))
         }
         Resumed::Strange(same, _) => {
             frames.push(same)?;
-            Ok(Turn::Strange(number, works))
+            Ok(FrameTurn::Strange(number, works))
         }
-        Resumed::NoMemory => Ok(Turn::NoMemory(number, works)),
+        Resumed::NoMemory => Ok(FrameTurn::NoMemory(number, works)),
     }
 }
 
@@ -60,7 +60,7 @@ pub fn take_turn<B: Body, Q: Queues>(
     frames: &mut Vec<Frame<B, Q>>,
     mut frame: Frame<B, Q>,
     budget: u64,
-) -> Result<Turn, NoMemory>
+) -> Result<FrameTurn, NoMemory>
     requires body { body.now ≡ core.old.plan.body }
     requires frames { MayAllCome Q.Ends.run core.old frames.old.items }
     requires frame { MayCome Q.Ends.run core.old frame }
@@ -73,11 +73,11 @@ pub fn take_turn<B: Body, Q: Queues>(
         Paused::AtCore(steps) => resume(alloc, core, body, frames, frame, steps.count()),
         Paused::Budget(steps) => {
             frames.push(frame)?;
-            Ok(Turn::Works(number, steps.count()))
+            Ok(FrameTurn::Works(number, steps.count()))
         }
         Paused::NoMemory => {
             frame.tear();
-            Ok(Turn::Torn(number))
+            Ok(FrameTurn::Torn(number))
         }
     }
 }
@@ -100,7 +100,7 @@ pub fn take_turns<B: Body, Q: Queues>(
     core: &mut Core<B, Q>,
     body: &B,
     frames: &mut Vec<Frame<B, Q>>,
-    turns: &[Turn],
+    turns: &[FrameTurn],
 ) -> Result<(), Fail>
     requires body { body.now ≡ core.old.plan.body }
     requires frames { MayAllCome Q.Ends.run core.old frames.old.items }
