@@ -92,7 +92,7 @@ fn run_by_workers<T: Threads + Wait + Clock + Sync, G: Gate, B: Body>(
     let (outcome, ran) = ran.outcome();
     Ok(RunEnd {
         outcome,
-        how: How::RanOrRefused(ran),
+        how: How::Ran(ran),
     })
 }
 
