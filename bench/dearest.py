@@ -7,7 +7,7 @@
 
 Prints the NUMBER longest, ten where none is said. Of functions and tests it tells seconds of processors, from one line of the check to the
 next: they grow on a machine that does other work too, but less than those by the clock, which it tells of lines from a pipe. What an earlier
-check kept isn't checked again, so begin with an empty `out/` where all is to be measured. Of wrong bodies it tells seconds of processors, and
+check kept isn't checked again, also one in another checkout on this machine: where all is to be measured, no checkout may have an `out/` of the crate. Of wrong bodies it tells seconds of processors, and
 first those of a check in which nothing has changed: each wrong body costs that at least. The crate has to be proved before, since they begin
 with what its check kept.
 
