@@ -20,8 +20,8 @@ use Rattle.serial_elision.proofs.TaskSteps.{root_stands}
 use Rattle.task_frames.specs.declared.stage.Stage.TheVariants.{Ready}
 use Rattle.task_frames.specs.Cores.{AreBooked, AreFrames, AreObjects, AreQueues, HasIt, IsAtCore, IsCore, KeptView}
 use Rattle.task_frames.specs.Frames.{IsPlan, Task, root_task}
-use Rattle.task_frames.specs.Opened.{AreFirstObjects, AreFirstQueues, roots_to}
-use Rattle.task_frames.specs.Records.{IsOnlyLive, live_at}
+use Rattle.task_frames.specs.Opened.{AreFirstObjects, AreFirstQueues, IsFirstKept, roots_to}
+use Rattle.task_frames.specs.Records.{live_at}
 use Rattle.task_frames.proofs.Opening.{booked-open, frames-open, objects-open, queues-open}
 use Rattle.swan_model.proofs.Lists.{get-drop, drop_next}
 
@@ -70,45 +70,42 @@ module _ {B L : Type 0} (G : Ghosts B L) (plan : Plan B L) (sound : IsPlan plan)
         since = refl;
       }
 
-  module _ (kept : KeptView) (name : kept.name ≡ Some s) (queues : AreFirstQueues s kept.state (length plan.roots.queues))
-      (objects : AreFirstObjects s kept.versions (length plan.roots.queues) (length plan.roots.objects))
-      (reading : kept.reading ≡ at_start (roots_to (length plan.roots.queues)) (roots_to (length plan.roots.objects)))
-      (turns : kept.turns ≡ []) (frames : kept.frames ≡ 1) (count : kept.objects ≡ length plan.roots.objects) (faults : kept.faults ≡ [])
-      (live : IsOnlyLive [] kept.live 0 (Some (record { parent = None; path = []; done = 0; holdings = root_holdings plan.roots }))) where
+  module _ (kept : KeptView) (first : IsFirstKept s (length plan.roots.queues) (length plan.roots.objects) (root_holdings plan.roots) kept) where
     first-queues : AreFirstQueues s kept.state (length s.queues)
-    first-queues = subst (AreFirstQueues s kept.state) (sym many-queues) queues
+    first-queues = subst (AreFirstQueues s kept.state) (sym many-queues) first.queues_are
 
     first-objects : AreFirstObjects s kept.versions (length s.queues) (length s.objects)
-    first-objects = subst (λ n. AreFirstObjects s kept.versions n (length s.objects)) (sym many-queues) objects
+    first-objects = subst (λ n. AreFirstObjects s kept.versions n (length s.objects)) (sym many-queues) first.objects_are
 
     reading-is : at_start (roots_to (length s.queues)) (roots_to (length s.objects)) ≡ kept.reading
-    reading-is = ap (λ n. at_start (roots_to n) (roots_to (length s.objects))) many-queues ∙ sym reading
+    reading-is = ap (λ n. at_start (roots_to n) (roots_to (length s.objects))) many-queues ∙ sym first.reading
 
     root-kept : IsCore G plan kept
     root-kept =
         let lawful-is = lawful G plan sound.lists in
-        let none : (n : ℕ) → n ≢ 0 → live_at kept.live n ≡ None = λ n other. live.others n other in
+        let none : (n : ℕ) → n ≢ 0 → live_at kept.live n ≡ None = λ n other. first.live.others n other in
         record {
           sound = sound;
-          name = name;
-          queues = subst (λ t. AreQueues s kept.reading kept.state t) (sym turns)
-              (subst (λ r. AreQueues s r kept.state []) reading-is (queues-open G plan sound lawful-is kept.state kept.versions kept.live first-queues first-objects live.changed none));
-          objects = subst (AreObjects s kept.reading kept.versions kept.live) (sym count)
-              (subst (λ r. AreObjects s r kept.versions kept.live (length s.objects)) reading-is (objects-open G plan sound lawful-is kept.state kept.versions kept.live first-queues first-objects live.changed none));
-          frames = subst (AreFrames G plan kept.reading kept.state kept.live) (sym frames)
-              (subst (λ r. AreFrames G plan r kept.state kept.live 1) reading-is (frames-open G plan sound lawful-is kept.state kept.versions kept.live first-queues first-objects live.changed none));
-          booked = subst (AreBooked G plan kept.reading) (sym faults)
-              (subst (λ r. AreBooked G plan r []) reading-is (booked-open G plan sound lawful-is kept.state kept.versions kept.live first-queues first-objects live.changed none));
+          name = first.name;
+          queues = subst (λ t. AreQueues s kept.reading kept.state t) (sym first.turns)
+              (subst (λ r. AreQueues s r kept.state []) reading-is (queues-open G plan sound lawful-is kept.state kept.versions kept.live first-queues first-objects first.live.changed none));
+          objects = subst (AreObjects s kept.reading kept.versions kept.live) (sym first.count)
+              (subst (λ r. AreObjects s r kept.versions kept.live (length s.objects)) reading-is (objects-open G plan sound lawful-is kept.state kept.versions kept.live first-queues first-objects first.live.changed none));
+          frames = subst (AreFrames G plan kept.reading kept.state kept.live) (sym first.frames)
+              (subst (λ r. AreFrames G plan r kept.state kept.live 1) reading-is (frames-open G plan sound lawful-is kept.state kept.versions kept.live first-queues first-objects first.live.changed none));
+          booked = subst (AreBooked G plan kept.reading) (sym first.faults)
+              (subst (λ r. AreBooked G plan r []) reading-is (booked-open G plan sound lawful-is kept.state kept.versions kept.live first-queues first-objects first.live.changed none));
         }
 
     root-here : (fuel : ℕ) → fuel ≡ plan.fuel → HasIt G kept (record { task = record (root_task plan (root_holdings plan.roots)) { fuel = fuel }; stage = Ready plan.root_local answer.Start })
     root-here fuel same = record {
       core = root-kept;
       is = root-at-core fuel same;
-      of = record { frame = record { parent = None; path = []; done = 0; holdings = root_holdings plan.roots }; live = live.changed; path = refl; done = refl; holdings = refl };
+      of = record { frame = record { parent = None; path = []; done = 0; holdings = root_holdings plan.roots }; live = first.live.changed; path = refl; done = refl; holdings = refl };
       back = λ own active-is.
-          let it = same_Some queues.untouched.root own (sym queues.untouched.live ∙ active-is) in
-          ap (λ (f : ActiveFrame). f.lent) (sym it) ∙ queues.untouched.back;
+          let untouched = first.queues_are.untouched in
+          let it = same_Some untouched.root own (sym untouched.live ∙ active-is) in
+          ap (λ (f : ActiveFrame). f.lent) (sym it) ∙ untouched.back;
     }
 
     pub opened-has : (task : Task B L) (local : L) (fuel : ℕ) → fuel ≡ plan.fuel → task ≡ record (root_task plan (root_holdings plan.roots)) { fuel = fuel } → local ≡ plan.root_local

@@ -7,7 +7,7 @@ ghost use Rattle.swan_model.specs.Script.{script};
 ghost use Rattle.swan_model.specs.declared.plan.TheConstants.{ROOTS_MOST};
 ghost use Rattle.queues.specs.Asks.{IsSameRun};
 ghost use Rattle.task_frames.specs.Frames.{IsPlan};
-ghost use Rattle.task_frames.specs.Opened.{AreFirstObjects, AreFirstQueues, roots_to};
+ghost use Rattle.task_frames.specs.Opened.{AreFirstObjects, AreFirstQueues, IsFirstKept, IsRootAlone, roots_to};
 ghost use Rattle.task_frames.specs.Resumes.{IsOpened, ends_of};
 
 use crate::{
@@ -166,6 +166,77 @@ fn make_objects<B: Body>(
     })
 }
 
+/// The record that has the root alone, which holds this and has taken no step. Err is want of memory. `O(k)` for k places.
+fn root_alone(alloc: Global, holdings: &[Holding]) -> Result<LiveRecord, NoMemory>
+    ensures { IfOk result (λ live. IsRootAlone live holdings.now) }
+{
+    let root = LiveFrame {
+        parent: None,
+        path: Path::root(alloc),
+        done: 0,
+        holdings: Vec::from_slice(alloc, holdings)?,
+    };
+    let mut live = LiveRecord::new(alloc);
+    live.enter_root(0, root)?;
+    Ok(live)
+}
+
+/// What a core keeps at first, and how many queues and objects the plan begins with.
+#[derive(Drop)]
+struct FirstKept<Q: Queues> {
+    kept: Kept<Q>,
+    queues: u32,
+    objects: u32,
+}
+
+/// Makes what a core keeps of a plan's run at first: its root queues, its root objects, and the root, which has taken no step. Err is
+/// want of memory. The plan itself is there for what contracts say alone.
+fn first_kept<B: Body, Q: Queues>(
+    alloc: Global,
+    plan: &Meaning<Plan<B>>,
+    queues: Q,
+    root_queues: RootQueues,
+    root_objects: Values,
+    holdings: &[Holding],
+) -> Result<FirstKept<Q>, NoMemory>
+    // for which plan, and over which queues
+    requires plan { IsPlan plan.now.means }
+    requires new { Q.state queues ≡ new_state }
+    requires name { Q.name queues ≡ Some (script B.Body plan.now.means) }
+    requires root_queues { root_queues ≡ plan.now.means.roots.queues }
+    requires root_objects { root_objects ≡ plan.now.means.roots.objects }
+
+    // what is answered
+    ensures kept { IfOk result (λ first. IsFirstKept (script B.Body plan.now.means) (length root_queues) (length root_objects) holdings.now first.kept) }
+    ensures run { IfOk result (λ first. first.kept.run ≡ Q.run queues) }
+    ensures counts { IfOk result (λ first. (first.queues ≡ length root_queues) × (first.objects ≡ length root_objects)) }
+{
+    let live = root_alone(alloc, holdings)?;
+    let first = root_queues.len() as u32;
+    let mut queues = queues;
+    let reading = make_queues(plan, &mut queues, root_queues)?;
+    let FirstObjects {
+        versions,
+        reading,
+        made,
+    } = make_objects(alloc, plan, first, reading, root_objects)?;
+    let kept = Kept {
+        queues,
+        versions,
+        reading,
+        live,
+        turns: PopTurns::new(alloc),
+        frames: 1,
+        objects: made,
+        faults: Vec::new(alloc),
+    };
+    Ok(FirstKept {
+        kept,
+        queues: first,
+        objects: made,
+    })
+}
+
 impl<B: Body, Q: Queues> Core<B, Q> {
     /// Opens a run of a plan over new queues, whose name means the plan's script. The core has the root alone then, which has
     /// taken no step, and the run of the queues. Err is want of memory. `O(r log r)` for r queues and objects that the plan begins with.
@@ -188,35 +259,15 @@ impl<B: Body, Q: Queues> Core<B, Q> {
         let fuel = fuel.units();
         let (root_queues, root_objects) = roots.into_lists();
         let holdings = held(alloc, &root_queues, &root_objects)?;
-        let mut live = LiveRecord::new(alloc);
-        live.enter_root(
-            0,
-            LiveFrame {
-                parent: None,
-                path: Path::root(alloc),
-                done: 0,
-                holdings: Vec::from_slice(alloc, holdings.as_slice())?,
-            },
-        )?;
-        let first = root_queues.len() as u32;
-        let mut queues = queues;
-        let reading = make_queues(&means, &mut queues, root_queues)?;
-        let FirstObjects {
-            versions,
-            reading,
-            made,
-        } = make_objects(alloc, &means, first, reading, root_objects)?;
-        let body = Arc::new(alloc, body)?;
-        let mut kept = Kept {
+        let first = first_kept(
+            alloc,
+            &means,
             queues,
-            versions,
-            reading,
-            live,
-            turns: PopTurns::new(alloc),
-            frames: 1,
-            objects: made,
-            faults: Vec::new(alloc),
-        };
+            root_queues,
+            root_objects,
+            holdings.as_slice(),
+        )?;
+        let body = Arc::new(alloc, body)?;
         let task = TaskAtCore {
             plan: means.again(),
             path: Path::root(alloc),
@@ -227,14 +278,20 @@ impl<B: Body, Q: Queues> Core<B, Q> {
             children: 0,
         };
         let stage = Stage::Ready(root_local, Answer::Start);
-        let root = kept.give(FrameAtCore::begun(alloc, task, stage)?);
+        let at = FrameAtCore::begun(alloc, task, stage)?;
+        let FirstKept {
+            mut kept,
+            queues: root_queues,
+            objects: root_objects,
+        } = first;
+        let root = kept.give(at);
         let core = Core {
             plan: means,
             run,
             is_done: false,
             kept: Some(kept),
-            root_queues: first,
-            root_objects: made,
+            root_queues,
+            root_objects,
         };
         Ok(Opened { core, body, root })
     }

@@ -116,6 +116,36 @@ fn in_serial_order<B: Body>(plan: &Meaning<Plan<B>>, faults: Vec<Fault>) -> Faul
     Faults::from_vec(faults)
 }
 
+/// The outcome of the plan, of what its core keeps once the root has ended. Err is want of memory. `O(f log f)` for f faults, and
+/// what taking the values and the items costs. The plan is there for what contracts say alone.
+fn outcome_left<B: Body, Q: Queues>(
+    alloc: Global,
+    plan: &Meaning<Plan<B>>,
+    kept: Kept<Q>,
+    root_queues: u32,
+    root_objects: u32,
+) -> Result<Outcome, NoMemory>
+    requires core { IsCore B.Body plan.now.means kept }
+    requires over { live_at kept.live 0 ≡ None }
+    requires root_queues { root_queues ≡ length plan.now.means.roots.queues }
+    requires root_objects { root_objects ≡ length plan.now.means.roots.objects }
+    ensures { IfOk result (λ left. left ≡ outcome B.Body plan.now.means) }
+{
+    let objects = values_left(alloc, plan, &kept, root_queues, root_objects)?;
+    let Kept {
+        mut queues,
+        faults,
+        ..
+    } = kept;
+    let queues = rests_left(alloc, plan, &mut queues, root_queues)?;
+    let faults = in_serial_order(plan, faults);
+    Ok(Outcome {
+        objects,
+        queues,
+        faults,
+    })
+}
+
 /// It means the plan's script.
 #[derive(Drop)]
 struct ScriptOf<'a, B: Body> {
@@ -149,21 +179,7 @@ impl<B: Body, Q: Queues> Core<B, Q> {
         let Some(kept) = kept else {
             return Err(NoMemory);
         };
-        let objects = values_left(alloc, &plan, &kept, root_queues, root_objects)?;
-        let Kept {
-            mut queues,
-            faults,
-            ..
-        } = kept;
-        let queues = rests_left(alloc, &plan, &mut queues, root_queues)?;
-        let faults = in_serial_order(&plan, faults);
-        Ok(RunOutcome::of(
-            Outcome {
-                objects,
-                queues,
-                faults,
-            },
-            Meaning::of(&ScriptOf { plan: &plan }),
-        ))
+        let outcome = outcome_left(alloc, &plan, kept, root_queues, root_objects)?;
+        Ok(RunOutcome::of(outcome, Meaning::of(&ScriptOf { plan: &plan })))
     }
 }
