@@ -5,7 +5,7 @@ ghost use Rattle.swan_runtime.specs.Turned.{is_last};
 ghost use Rattle.swan_runtime.specs.Workers.{AreWorkers, OneHasMet};
 
 use crate::plans::{failing_plan, plan};
-use crate::runs::{Row, is_elided, is_said};
+use crate::runs::{Row, is_elided, is_said_and_elided};
 use crate::tables::Tasks;
 use elision_tests::{AskList, printed};
 use queues::{Queues, WaitFor};
@@ -133,7 +133,7 @@ pub fn leave_by_hands(
     is_elided(alloc, tasks, &texts_by_hands(alloc, plan, workers, turns)?)
 }
 
-/// A run of the row's plan by so many workers, in these turns, leaves what the row says.
+/// A run of the row's plan by so many workers, in these turns, leaves what the row says, and what the elision leaves.
 pub fn leave_row_by_hands(
     alloc: Global,
     row: &Row<'_>,
@@ -141,7 +141,7 @@ pub fn leave_row_by_hands(
     turns: &[Hand],
 ) -> Result<(), Fail> {
     let plan = plan(alloc, row.tasks, row.fuel)?;
-    is_said(row, &texts_by_hands(alloc, plan, workers, turns)?)
+    is_said_and_elided(alloc, row, &texts_by_hands(alloc, plan, workers, turns)?)
 }
 
 /// By these turns of so many workers a run of these tasks, in which no memory is found at one index of the list of all asks, is stopped. The

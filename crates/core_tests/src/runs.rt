@@ -159,8 +159,19 @@ fn texts_past(
     texts(alloc, failing_plan(alloc, tasks, fuel, fails)?, order)
 }
 
+/// These two texts are what the row says, and what the elision of its tasks leaves.
+pub fn is_said_and_elided(alloc: Global, row: &Row<'_>, left: &Printed) -> Result<(), Fail> {
+    is_said(row, left)?;
+    let tasks = Tasks {
+        name: "a row",
+        tasks: row.tasks,
+        fuel: row.fuel,
+    };
+    is_elided(alloc, &tasks, left)
+}
+
 /// These two texts are what the row says.
-pub fn is_said(row: &Row<'_>, left: &Printed) -> Result<(), Fail> {
+fn is_said(row: &Row<'_>, left: &Printed) -> Result<(), Fail> {
     if left.out.as_slice() != row.out.as_bytes()
         || !left.report.as_slice().ends_with(row.report.as_bytes())
     {
@@ -172,13 +183,7 @@ pub fn is_said(row: &Row<'_>, left: &Printed) -> Result<(), Fail> {
 /// A run of the row's plan leaves what the row says, and what the elision leaves, since no ask stands at the index where no memory is found.
 fn leaves_past(alloc: Global, row: &Row<'_>, fails: usize, order: Order<'_>) -> Result<(), Fail> {
     let left = texts_past(alloc, row.tasks, row.fuel, fails, order)?;
-    is_said(row, &left)?;
-    let tasks = Tasks {
-        name: "a row",
-        tasks: row.tasks,
-        fuel: row.fuel,
-    };
-    is_elided(alloc, &tasks, &left)
+    is_said_and_elided(alloc, row, &left)
 }
 
 /// These two texts are what the elision of these tasks leaves.
