@@ -1,7 +1,8 @@
 // The rows of the text: what is accepted, what is refused with which line and kind, and how it is
 // written.
+use crate::FIRST_JOB;
+use crate::example_texts::{EVERY_LINE, JOBS};
 use crate::texts::with_line_feeds;
-use example_texts::{EVERY_LINE, FIRST_JOB, JOBS};
 use job_reader::{
     Job, JobFault, JobKind, Line, ReadJob, lines_are_pieces, literals_are_pieces, read_job,
     text_reads_back, tokens_are_pieces, write_job,
@@ -10,7 +11,6 @@ use std::alloc::{AllocError, Global};
 use std::process::Abort;
 use std::test::Fail;
 
-mod example_texts;
 mod line_texts;
 
 /// A text with one line that stands at the top level, in a task, or after its `do`.

@@ -1,42 +1,7 @@
 // Whole jobs, one of them cut after each of its bytes.
 use super::*;
-
-/// A task that holds a queue to push gives it to one that pops, in line 9.
-const GIVES_POP_FROM_PUSH: &str = "swan 1
-task eat
-  pop q int
-  do
-end
-task feed
-  push q int
-  do
-  spawn 1 eat q
-end
-task main
-  do
-end
-";
-
-/// One object is read by both arguments, and one queue is pushed to by both, in line 17.
-const GIVES_TWICE: &str = "swan 1
-task two
-  push a int
-  push b int
-  do
-end
-task both
-  in a int
-  in b int
-  do
-end
-task main
-  queue q int
-  object x int
-  do
-  spawn 1 both x x
-  spawn 1 two q q
-end
-";
+use crate::example_texts::{GIVES_POP_FROM_PUSH, GIVES_TWICE};
+use crate::{FIRST_JOB, REFUSED_FRONTS};
 
 #[test]
 fn a_holder_of_push_gives_no_pop(rt: HostRuntime) -> Result<(), Fail> {
@@ -64,50 +29,30 @@ fn two_may_read_an_object_and_one_may_push(rt: HostRuntime) -> Result<(), Fail> 
     Ok(())
 }
 
-/// A job of 59 bytes and 6 lines.
-const HELLO: &str = "swan 1
-output out bytes
-task main
-  do
-  push out \"hi\"
-end
-";
-
-/// From which length to which the fronts of that job are refused or accepted, and how.
-const FRONTS: &str = "\
-0 5 1 BadHeader
-6 7 1 NoMain
-8 22 2 BadLine
-23 24 2 NoMain
-25 29 3 BadLine
-30 34 3 Unbalanced
-35 36 4 Unbalanced
-37 37 4 BadLine
-38 39 4 Unbalanced
-40 41 5 Unbalanced
-42 53 5 BadLine
-54 55 5 Unbalanced
-56 57 6 BadLine
-58 59 accepted";
-
 /// A number of a row.
 fn number_of(text: &str) -> Result<u64, Fail> {
     Ok(text.parse::<u64>().ok().ok_or("no number")?)
+}
+
+/// Asserts a row of the first job's fronts: from which length to which, and what is said of them.
+fn hold_fronts(rt: &impl Abort, alloc: Global, row: &str) -> Result<(), Fail> {
+    let (from, rest) = row.split_once(' ').ok_or("no length")?;
+    let (to, wanted) = rest.split_once(' ').ok_or("no length")?;
+    for len in number_of(from)?..=number_of(to)? {
+        let front = FIRST_JOB.get(..len as usize).ok_or("too long")?;
+        hold(rt, alloc, front, wanted, front)?;
+    }
+    Ok(())
 }
 
 #[test]
 fn each_front_of_a_job_is_refused_at_its_last_line_or_accepted(
     rt: HostRuntime,
 ) -> Result<(), Fail> {
-    for row in FRONTS.lines() {
-        let (from, rest) = row.split_once(' ').ok_or("no length")?;
-        let (to, wanted) = rest.split_once(' ').ok_or("no length")?;
-        for len in number_of(from)?..=number_of(to)? {
-            let front = HELLO.get(..len as usize).ok_or("too long")?;
-            hold(&rt, rt.alloc(), front, wanted, front)?;
-        }
+    for row in REFUSED_FRONTS.lines() {
+        hold_fronts(&rt, rt.alloc(), row)?;
     }
-    Ok(())
+    hold_fronts(&rt, rt.alloc(), "58 59 accepted")
 }
 
 /// Whole texts with a fault that the reader or the checker names.

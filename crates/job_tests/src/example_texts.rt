@@ -1,4 +1,5 @@
 // The example jobs, in their canonical text.
+use crate::FIRST_JOB;
 
 /// A job with every kind of line, and notes at the top, in a task and in a block.
 pub const EVERY_LINE: &str = "swan 1
@@ -46,12 +47,40 @@ task main
 end
 ";
 
-/// The first of the whole jobs.
-pub const FIRST_JOB: &str = "swan 1
-output out bytes
+/// A task that holds a queue to push gives it to one that pops, in line 9.
+pub const GIVES_POP_FROM_PUSH: &str = "swan 1
+task eat
+  pop q int
+  do
+end
+task feed
+  push q int
+  do
+  spawn 1 eat q
+end
 task main
   do
-  push out \"hi\"
+end
+";
+
+/// One object is read by both arguments, and one queue is pushed to by both, in line 17.
+pub const GIVES_TWICE: &str = "swan 1
+task two
+  push a int
+  push b int
+  do
+end
+task both
+  in a int
+  in b int
+  do
+end
+task main
+  queue q int
+  object x int
+  do
+  spawn 1 both x x
+  spawn 1 two q q
 end
 ";
 
@@ -250,39 +279,8 @@ task main
   write x v
 end
 ",
-    "swan 1
-task eat
-  pop q int
-  do
-end
-task feed
-  push q int
-  do
-  spawn 1 eat q
-end
-task main
-  do
-end
-",
-    "swan 1
-task two
-  push a int
-  push b int
-  do
-end
-task both
-  in a int
-  in b int
-  do
-end
-task main
-  queue q int
-  object x int
-  do
-  spawn 1 both x x
-  spawn 1 two q q
-end
-",
+    GIVES_POP_FROM_PUSH,
+    GIVES_TWICE,
     "swan 1
 task down
   var f int
