@@ -1,7 +1,5 @@
 // Jobs and inputs that the rows are over.
-
-/// The first job, which writes a line.
-pub const HELLO: &str = "swan 1\noutput out bytes\ntask main\n  do\n  push out \"hi\"\nend\n";
+use job_tests::FIRST_JOB;
 
 /// A job that leaves its input as it is.
 pub const LEAVES: &str = "swan 1\ninput text\ntask main\n  do\nend\n";
@@ -12,7 +10,7 @@ pub const NAMES: &str =
 
 /// Their contents.
 pub const TEXTS: [&str; 31] = [
-    HELLO,
+    FIRST_JOB,
     LEAVES,
     "swan 1\noutput out int\ntask count\n  param n int\n  param base int\n  push out int\n  var i int\n  var go int\n  do\n  go = lt i n\n  while go\n    i = add i 1\n    go = lt i n\n  end\n  push out base\n  i = add base 1\n  push out i\nend\ntask main\n  do\n  spawn 1000 count 200 10 out\n  spawn 1000 count 0 20 out\nend\n",
     "swan 1\ninput lines\noutput out bytes\ntask three\n  pop src bytes\n  push out bytes\n  var s bytes\n  do\n  pop s src\n  push out s\n  pop s src\n  push out s\n  pop s src\n  push out s\n  push out \"--\"\nend\ntask rest\n  pop src bytes\n  push out bytes\n  var s bytes\n  var none int\n  var more int\n  do\n  empty none src\n  more = not none\n  while more\n    pop s src\n    push out s\n    empty none src\n    more = not none\n  end\nend\ntask main\n  do\n  spawn 20 three lines out\n  spawn 100 rest lines out\nend\n",

@@ -3,7 +3,8 @@ use crate::helpers::{
     Ended, Machine, Over, assert_ended, assert_report, assert_row, assert_text, called, cut,
     file_of, files_of, hold, hold_row, number_of, with_line_feeds,
 };
-use crate::jobs::{HELLO, LEAVES};
+use crate::jobs::LEAVES;
+use job_tests::{FIRST_JOB, REFUSED_FRONTS};
 use std::alloc::{AllocError, Global};
 use std::test::Fail;
 use swan_model::NoMemory;
@@ -73,7 +74,7 @@ const FAILING_WRITES: &str = "\
 // The first job, where each put to either sink takes 2 bytes, and the puts of these numbers fail.
 fn over_sinks(alloc: Global, out_fails: u32, report_fails: u32) -> Result<Over, NoMemory> {
     Ok(Over {
-        files: files_of(alloc, "a", &[HELLO])?,
+        files: files_of(alloc, "a", &[FIRST_JOB])?,
         read_fails: 0,
         put_most: 2,
         out_fails: u64::from(out_fails),
@@ -97,22 +98,6 @@ fn a_failing_write_leaves_a_front(rt: HostRuntime) -> Result<(), Fail> {
     }
     Ok(())
 }
-
-/// From which length to which a front of the first job is refused, and how.
-const FRONTS: &str = "\
-0 5 1 BadHeader
-6 7 1 NoMain
-8 22 2 BadLine
-23 24 2 NoMain
-25 29 3 BadLine
-30 34 3 Unbalanced
-35 36 4 Unbalanced
-37 37 4 BadLine
-38 39 4 Unbalanced
-40 41 5 Unbalanced
-42 53 5 BadLine
-54 55 5 Unbalanced
-56 57 6 BadLine";
 
 // Asserts what a check of a job says.
 fn hold_check(
@@ -139,7 +124,7 @@ fn hold_fronts(
 ) -> Result<(), Fail> {
     let report = format!(in alloc; "refused {refusal}\n")?;
     for len in from..=to {
-        let front = HELLO.get(..len as usize).ok_or("too long")?;
+        let front = FIRST_JOB.get(..len as usize).ok_or("too long")?;
         hold_check(rt, alloc, front, "", report.as_str(), "3")?;
     }
     Ok(())
@@ -156,15 +141,15 @@ fn hold_front(rt: &impl Machine, alloc: Global, row: &str) -> Result<(), Fail> {
 #[test]
 fn a_whole_job_is_printed_with_and_without_its_last_line_feed(rt: HostRuntime) -> Result<(), Fail> {
     for len in [58, 59] {
-        let front = HELLO.get(..len).ok_or("too long")?;
-        hold_check(&rt, rt.alloc(), front, HELLO, "checked\n", "0")?;
+        let front = FIRST_JOB.get(..len).ok_or("too long")?;
+        hold_check(&rt, rt.alloc(), front, FIRST_JOB, "checked\n", "0")?;
     }
     Ok(())
 }
 
 #[test]
 fn each_front_of_a_job_is_refused_at_its_line(rt: HostRuntime) -> Result<(), Fail> {
-    for row in FRONTS.lines() {
+    for row in REFUSED_FRONTS.lines() {
         hold_front(&rt, rt.alloc(), row)?;
     }
     Ok(())
