@@ -30,19 +30,14 @@ pub fn ask_of(alloc: Global, word: &str) -> Result<Ask<usize>, Fail> {
 
 /// What a task can't go on for, by its word.
 fn trouble_of(word: &str) -> Result<Trouble, Fail> {
-    let troubles = [
-        ("overflow", Trouble::Overflow),
-        ("divide", Trouble::DivideByZero),
-        ("range", Trouble::Range),
-        ("long", Trouble::TooLong),
-        ("number", Trouble::BadNumber),
-    ];
-    for (name, trouble) in troubles {
-        if name == word {
-            return Ok(trouble);
-        }
+    match word {
+        "overflow" => Ok(Trouble::Overflow),
+        "divide" => Ok(Trouble::DivideByZero),
+        "range" => Ok(Trouble::Range),
+        "long" => Ok(Trouble::TooLong),
+        "number" => Ok(Trouble::BadNumber),
+        _ => Err("no such ask".into()),
     }
-    Err("no such ask".into())
 }
 
 /// The ask that a word without parts names.
@@ -95,18 +90,13 @@ fn give_of(word: &str) -> Result<Give, Fail> {
 }
 
 fn mode_of(word: &str) -> Result<Mode, Fail> {
-    let modes = [
-        ("in", Mode::In),
-        ("out", Mode::Out),
-        ("push", Mode::Push),
-        ("pop", Mode::Pop),
-        ("inout", Mode::InOut),
-        ("pushpop", Mode::PushPop),
-    ];
-    for (name, mode) in modes {
-        if name == word {
-            return Ok(mode);
-        }
+    match word {
+        "in" => Ok(Mode::In),
+        "out" => Ok(Mode::Out),
+        "push" => Ok(Mode::Push),
+        "pop" => Ok(Mode::Pop),
+        "inout" => Ok(Mode::InOut),
+        "pushpop" => Ok(Mode::PushPop),
+        _ => Err("no such mode".into()),
     }
-    Err("no such mode".into())
 }
