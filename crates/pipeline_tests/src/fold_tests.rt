@@ -1,6 +1,6 @@
 // Folds of texts, against answers worked out by hand.
-use crate::texts::{in_turn, repeated, texts_of};
-use std::alloc::Global;
+use crate::texts::{counted, followed, in_turn, plan_leaves, repeated};
+use std::alloc::{AllocError, Global};
 use std::marker::{Send, Sync};
 use std::process::Abort;
 use std::test::Fail;
@@ -21,18 +21,7 @@ fn leaves<R: Reducer + Send + Sync>(
 ) -> Result<bool, Fail> {
     let plan = fold_plan(alloc, reducer, text).ok().ok_or("refused")?;
     let names = fold_names(alloc)?;
-    let texts = texts_of(rt, alloc, plan, &names)?;
-    let report = format!(in alloc; "left input 0\n{faults}")?;
-    Ok(texts.out.as_slice() == out && texts.report.as_slice() == report.as_bytes())
-}
-
-/// The lines of the numbers from 1 to another, each with this end.
-fn counted(alloc: Global, last: usize, end: &str) -> Result<Vec<u8>, Fail> {
-    let mut all = Vec::new(alloc);
-    for number in 1..=last {
-        all.extend_from_slice(format!(in alloc; "{number}{end}")?.as_bytes())?;
-    }
-    Ok(all)
+    plan_leaves(rt, alloc, plan, &names, out, faults)
 }
 
 #[test]
@@ -102,8 +91,7 @@ fn blocks_have_64_lines(rt: HostRuntime) -> Result<(), Fail> {
         (64, "64\n", "faults 1\nfault /1 65 BadNumber\n"),
         (128, "128\n", "faults 1\nfault /2 129 BadNumber\n"),
     ] {
-        let mut text = repeated(alloc, b"1\n", good)?;
-        text.extend_from_slice(b"x\n")?;
+        let text = in_turn(alloc, b"1\n", good, b"x\n", 1)?;
         assert!(rt;
             leaves(&rt, alloc, SumReducer, &text, sum.as_bytes(), faults)?,
             "at {good}"
@@ -115,8 +103,7 @@ fn blocks_have_64_lines(rt: HostRuntime) -> Result<(), Fail> {
 #[test]
 fn a_block_of_bad_lines_adds_nothing(rt: HostRuntime) -> Result<(), Fail> {
     let alloc = rt.alloc();
-    let mut text = repeated(alloc, b"x\n", 64)?;
-    text.extend_from_slice(b"5\nx\n6\n")?;
+    let text = in_turn(alloc, b"x\n", 64, b"5\nx\n6\n", 1)?;
     let faults = "faults 2\nfault /0 1 BadNumber\nfault /1 66 BadNumber\n";
     assert!(rt; leaves(&rt, alloc, SumReducer, &text, b"11\n", faults)?);
     Ok(())
@@ -125,21 +112,12 @@ fn a_block_of_bad_lines_adds_nothing(rt: HostRuntime) -> Result<(), Fail> {
 #[test]
 fn joins_end_past_their_bound(rt: HostRuntime) -> Result<(), Fail> {
     let alloc = rt.alloc();
-    let mut text = repeated(alloc, b"a", JOIN_MOST)?;
-    let mut out = repeated(alloc, b"a", JOIN_MOST)?;
-    out.push(b'\n')?;
+    let text = repeated(alloc, b"a", JOIN_MOST)?;
+    let out = in_turn(alloc, b"a", JOIN_MOST, b"\n", 1)?;
     assert!(rt; leaves(&rt, alloc, JoinReducer, &text, &out, "faults 0\n")?);
-    text.extend_from_slice(b"\nb")?;
-    assert!(rt;
-        leaves(
-            &rt,
-            alloc,
-            JoinReducer,
-            &text,
-            b"",
-            "faults 1\nfault /1 0 TooLong\n"
-        )?
-    );
+    let text = followed(text, b"\nb")?;
+    let faults = "faults 1\nfault /1 0 TooLong\n";
+    assert!(rt; leaves(&rt, alloc, JoinReducer, &text, b"", faults)?);
     Ok(())
 }
 
@@ -244,9 +222,8 @@ fn sums_of_blocks_meet_at_the_edges(rt: HostRuntime) -> Result<(), Fail> {
 fn joins_go_on_over_blocks(rt: HostRuntime) -> Result<(), Fail> {
     let alloc = rt.alloc();
     for last in [63, 64, 65, 129] {
-        let text = counted(alloc, last, "\n")?;
-        let mut out = counted(alloc, last, "")?;
-        out.push(b'\n')?;
+        let text = counted(alloc, "", last, "\n")?;
+        let out = followed(counted(alloc, "", last, "")?, b"\n")?;
         assert!(rt;
             leaves(&rt, alloc, JoinReducer, &text, &out, "faults 0\n")?,
             "at {last}"
@@ -256,10 +233,8 @@ fn joins_go_on_over_blocks(rt: HostRuntime) -> Result<(), Fail> {
 }
 
 /// The line of so many letters, with its line feed.
-fn line_of(alloc: Global, letter: u8, length: usize) -> Result<Vec<u8>, Fail> {
-    let mut line = repeated(alloc, &[letter], length)?;
-    line.push(b'\n')?;
-    Ok(line)
+fn line_of(alloc: Global, letter: u8, length: usize) -> Result<Vec<u8>, AllocError> {
+    followed(repeated(alloc, &[letter], length)?, b"\n")
 }
 
 #[test]
@@ -277,8 +252,7 @@ fn joins_of_blocks_end_past_the_bound(rt: HostRuntime) -> Result<(), Fail> {
         let first = line_of(alloc, b'a', length)?;
         let text = in_turn(alloc, &first, 64, &line_of(alloc, b'b', last)?, 1)?;
         let first = repeated(alloc, b"a", length)?;
-        let mut out = in_turn(alloc, &first, 64, b"b", last)?;
-        out.push(b'\n')?;
+        let out = followed(in_turn(alloc, &first, 64, b"b", last)?, b"\n")?;
         let whole = leaves(&rt, alloc, JoinReducer, &text, &out, "faults 0\n")?;
         let faults = "faults 1\nfault /2 0 TooLong\n";
         let too_long = leaves(&rt, alloc, JoinReducer, &text, b"", faults)?;
@@ -392,6 +366,21 @@ fn leave_part<R: Reducer>(
     Ok(fold.part.as_slice() == part && fold.bad == bad)
 }
 
+/// Asserts what lines one by one leave: the part of their sum with the first bad line, and the part of their join, of
+/// which no line is bad.
+fn hold_parts(
+    rt: &impl Abort,
+    alloc: Global,
+    lines: &[&[u8]],
+    sum: &[u8],
+    bad: Option<u64>,
+    join: &[u8],
+) -> Result<(), Fail> {
+    assert!(rt; leave_part(rt, alloc, &SumReducer, lines, sum, bad)?);
+    assert!(rt; leave_part(rt, alloc, &JoinReducer, lines, join, None)?);
+    Ok(())
+}
+
 #[test]
 fn lines_one_by_one_keep_the_first_bad_line(rt: HostRuntime) -> Result<(), Fail> {
     let alloc = rt.alloc();
@@ -410,8 +399,7 @@ fn lines_one_by_one_keep_the_first_bad_line(rt: HostRuntime) -> Result<(), Fail>
         ([b"0", b"-1", &longest], minus_one, Some(3), b"\n"),
         ([b"-1", b"\n", b"0"], minus_one, Some(2), b"\n"),
     ] {
-        assert!(rt; leave_part(&rt, alloc, &SumReducer, &lines, sum, bad)?);
-        assert!(rt; leave_part(&rt, alloc, &JoinReducer, &lines, join, None)?);
+        hold_parts(&rt, alloc, &lines, sum, bad, join)?;
     }
     Ok(())
 }

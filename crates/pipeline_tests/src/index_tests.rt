@@ -1,6 +1,6 @@
 // The index of texts, against answers worked out by hand and by a scan of the text. Some are hard on what the tasks keep:
 // words close to each other, and records that fill the buffers that they share.
-use crate::texts::{repeated, texts_of};
+use crate::texts::{counted, followed, in_turn, plan_leaves, repeated};
 use index_pipeline::{index_names, index_plan};
 use line_blocks::TEXT_MOST;
 use std::alloc::{AllocError, Global};
@@ -13,18 +13,7 @@ fn is_index(rt: &impl Abort, alloc: Global, text: &[u8], index: &[u8]) -> Result
     assert!(rt; text.len() <= TEXT_MOST);
     let plan = index_plan(alloc, text).ok().ok_or("refused")?;
     let names = index_names(alloc)?;
-    let texts = texts_of(rt, alloc, plan, &names)?;
-    let report = b"left input 0\nfaults 0\n";
-    Ok(texts.out.as_slice() == index && texts.report.as_slice() == report.as_slice())
-}
-
-/// A line of an index for each line of a text, with this word.
-fn on_each_line(alloc: Global, word: &str, lines: usize) -> Result<Vec<u8>, Fail> {
-    let mut index = Vec::new(alloc);
-    for line in 1..=lines {
-        index.extend_from_slice(format!(in alloc; "{word} {line}\n")?.as_bytes())?;
-    }
-    Ok(index)
+    plan_leaves(rt, alloc, plan, &names, index, "faults 0\n")
 }
 
 #[test]
@@ -56,8 +45,7 @@ fn long_words_are_cut(rt: HostRuntime) -> Result<(), Fail> {
     let alloc = rt.alloc();
     for (length, kept) in [(63, 63), (64, 64), (65, 64), (200, 64)] {
         let text = repeated(alloc, b"a", length)?;
-        let mut index = repeated(alloc, b"a", kept)?;
-        index.extend_from_slice(b" 1\n")?;
+        let index = in_turn(alloc, b"a", kept, b" 1\n", 1)?;
         assert!(rt; is_index(&rt, alloc, &text, &index)?, "at {length}");
     }
     Ok(())
@@ -68,7 +56,7 @@ fn a_line_counts_wherever_its_block_ends(rt: HostRuntime) -> Result<(), Fail> {
     let alloc = rt.alloc();
     for lines in [63, 64, 65, 128, 129] {
         let text = repeated(alloc, b"w\n", lines)?;
-        let index = on_each_line(alloc, "w", lines)?;
+        let index = counted(alloc, "w ", lines, "\n")?;
         assert!(rt; is_index(&rt, alloc, &text, &index)?, "at {lines}");
     }
     Ok(())
@@ -239,8 +227,7 @@ fn no_word_is_lost_where_the_words_of_a_line_fill_a_buffer(rt: HostRuntime) -> R
             index: LONG_INDEX,
         },
     ] {
-        let mut text = repeated(alloc, b"x ", row.count)?;
-        text.extend_from_slice(row.others)?;
+        let text = in_turn(alloc, b"x ", row.count, row.others, 1)?;
         let count = row.count;
         assert!(rt; is_index(&rt, alloc, &text, row.index)?, "at {count}");
     }
@@ -252,7 +239,7 @@ fn a_word_stands_on_as_many_lines_as_there_are(rt: HostRuntime) -> Result<(), Fa
     let alloc = rt.alloc();
     for lines in [64, 65, 128, 129, 20_000] {
         let text = repeated(alloc, b"word\n", lines)?;
-        let index = on_each_line(alloc, "word", lines)?;
+        let index = counted(alloc, "word ", lines, "\n")?;
         assert!(rt; is_index(&rt, alloc, &text, &index)?, "at {lines}");
     }
     Ok(())
@@ -261,22 +248,15 @@ fn a_word_stands_on_as_many_lines_as_there_are(rt: HostRuntime) -> Result<(), Fa
 /// On how many lines `w` stands: its pairs have 65,509 bytes then, so that a word of 5 has just room beside them.
 const LINES: usize = 10_945;
 
-/// Bytes, and others after them.
-fn followed(bytes: Vec<u8>, others: &[u8]) -> Result<Vec<u8>, AllocError> {
-    let mut all = bytes;
-    all.extend_from_slice(others)?;
-    Ok(all)
-}
-
 /// The lines of `w`, and a line of another word.
 fn text_of_pairs(alloc: Global, word: &[u8]) -> Result<Vec<u8>, AllocError> {
     followed(repeated(alloc, b"w\n", LINES)?, word)
 }
 
 /// What the index has of that text.
-fn index_of_pairs(alloc: Global, word: &[u8]) -> Result<Vec<u8>, Fail> {
-    let all = followed(on_each_line(alloc, "w", LINES)?, word)?;
-    Ok(followed(all, b" 10946\n")?)
+fn index_of_pairs(alloc: Global, word: &[u8]) -> Result<Vec<u8>, AllocError> {
+    let all = followed(counted(alloc, "w ", LINES, "\n")?, word)?;
+    followed(all, b" 10946\n")
 }
 
 #[test]

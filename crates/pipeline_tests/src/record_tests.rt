@@ -1,5 +1,5 @@
 // The conversion of texts, against answers worked out by hand.
-use crate::texts::{repeated, texts_of};
+use crate::texts::{in_turn, plan_leaves, repeated};
 use line_blocks::TEXT_MOST;
 use record_pipeline::{record_names, record_plan};
 use std::alloc::Global;
@@ -17,9 +17,7 @@ fn leaves(
     assert!(rt; text.len() <= TEXT_MOST);
     let plan = record_plan(alloc, text).ok().ok_or("refused")?;
     let names = record_names(alloc)?;
-    let texts = texts_of(rt, alloc, plan, &names)?;
-    let report = format!(in alloc; "left input 0\n{faults}")?;
-    Ok(texts.out.as_slice() == out && texts.report.as_slice() == report.as_bytes())
+    plan_leaves(rt, alloc, plan, &names, out, faults)
 }
 
 #[test]
@@ -53,8 +51,7 @@ fn blocks_have_64_lines(rt: HostRuntime) -> Result<(), Fail> {
         (127, "faults 1\nfault /1/63 128 User 1\n"),
         (128, "faults 1\nfault /2/0 129 User 1\n"),
     ] {
-        let mut text = repeated(alloc, b"w\n", lines)?;
-        text.extend_from_slice(b"w\tw")?;
+        let text = in_turn(alloc, b"w\n", lines, b"w\tw", 1)?;
         let out = repeated(alloc, b"1:w,\n", lines)?;
         assert!(rt; leaves(&rt, alloc, &text, &out, faults)?, "at {lines}");
     }

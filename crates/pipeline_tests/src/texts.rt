@@ -29,13 +29,34 @@ pub fn in_turn(
     second: &[u8],
     second_count: usize,
 ) -> Result<Vec<u8>, AllocError> {
-    let mut all = repeated(alloc, first, first_count)?;
-    all.extend_from_slice(&repeated(alloc, second, second_count)?)?;
+    let first = repeated(alloc, first, first_count)?;
+    let second = repeated(alloc, second, second_count)?;
+    followed(first, &second)
+}
+
+/// Bytes, and others after them.
+pub fn followed(bytes: Vec<u8>, others: &[u8]) -> Result<Vec<u8>, AllocError> {
+    let mut all = bytes;
+    all.extend_from_slice(others)?;
+    Ok(all)
+}
+
+/// The numbers from 1 to another, each between these texts.
+pub fn counted(
+    alloc: Global,
+    before: &str,
+    last: usize,
+    after: &str,
+) -> Result<Vec<u8>, AllocError> {
+    let mut all = Vec::new(alloc);
+    for number in 1..=last {
+        all.extend_from_slice(format!(in alloc; "{before}{number}{after}")?.as_bytes())?;
+    }
     Ok(all)
 }
 
 /// The texts that a plan leaves, with these names.
-pub fn texts_of<B: Body>(
+fn texts_of<B: Body>(
     rt: &impl Abort,
     alloc: Global,
     plan: Plan<B>,
@@ -45,4 +66,18 @@ pub fn texts_of<B: Body>(
     assert_eq!(rt; names.queues.len(), outcome.queues.len());
     assert_eq!(rt; names.objects.len(), outcome.objects.len());
     Ok(print(alloc, names, &outcome)?)
+}
+
+/// Whether a plan leaves this output, no line in its input, and this report of its faults.
+pub fn plan_leaves<B: Body>(
+    rt: &impl Abort,
+    alloc: Global,
+    plan: Plan<B>,
+    names: &Names,
+    out: &[u8],
+    faults: &str,
+) -> Result<bool, Fail> {
+    let texts = texts_of(rt, alloc, plan, names)?;
+    let report = format!(in alloc; "left input 0\n{faults}")?;
+    Ok(texts.out.as_slice() == out && texts.report.as_slice() == report.as_bytes())
 }
