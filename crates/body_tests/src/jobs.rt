@@ -1,4 +1,5 @@
 // Jobs of tests, and what their first task does.
+use crate::asserts::{are_same, assert_none};
 use job_body::{JobBody, JobLocal, plan_of};
 use job_reader::{Job, read_job};
 use privilege_check::{CheckedJob, check};
@@ -126,20 +127,24 @@ pub fn told(alloc: Global, statements: &str) -> Result<String, NoMemory> {
     first_push(alloc, &body, root_local)
 }
 
-/// The first row of a table that isn't so, if there is one. A row has statements, which come after `prefix`,
-/// ` => `, and what is told of them.
+/// Whether a row of a table is so. It has statements, which come after `prefix`, ` => `, and what is told of them.
+fn is_so(alloc: Global, row: &str, prefix: &str) -> Result<bool, NoMemory> {
+    let Some((statements, want)) = row.split_once(" => ") else {
+        return Ok(false);
+    };
+    let statements = format!(in alloc; "{prefix}{statements}")?;
+    let told = told(alloc, statements.as_str())?;
+    Ok(are_same(told.as_str(), want))
+}
+
+/// The first row of a table that isn't so, if there is one.
 fn first_wrong<'a>(
     alloc: Global,
     table: &'a str,
     prefix: &str,
 ) -> Result<Option<&'a str>, NoMemory> {
     for row in table.lines() {
-        let Some((statements, want)) = row.split_once(" => ") else {
-            return Ok(Some(row));
-        };
-        let statements = format!(in alloc; "{prefix}{statements}")?;
-        let told = told(alloc, statements.as_str())?;
-        if told.as_str() != want {
+        if !is_so(alloc, row, prefix)? {
             return Ok(Some(row));
         }
     }
@@ -148,6 +153,6 @@ fn first_wrong<'a>(
 
 /// Asserts the rows of such a table.
 pub fn hold(rt: &impl Abort, alloc: Global, table: &str, prefix: &str) -> Result<(), Fail> {
-    assert_eq!(rt; first_wrong(alloc, table, prefix)?, None);
+    assert_none(rt, first_wrong(alloc, table, prefix)?);
     Ok(())
 }

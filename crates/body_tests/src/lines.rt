@@ -1,4 +1,5 @@
 // Each line, in one task and in a child.
+use crate::asserts::are_same;
 use crate::jobs::{hold, plan_of_text, step, text_of_number, told};
 use job_body::{JobBody, JobLocal};
 use std::alloc::Global;
@@ -82,7 +83,7 @@ fn is_told_32_deep(
     let heads = heads_32_deep(alloc, outermost, others)?;
     let statements = in_blocks(alloc, heads.as_str(), statement)?;
     let told = told(alloc, statements.as_str())?;
-    Ok(told.as_str() == want)
+    Ok(are_same(told.as_str(), want))
 }
 
 #[test]
@@ -232,7 +233,7 @@ fn a_task_spawns_itself_with_what_it_gives(rt: HostRuntime) -> Result<(), Fail> 
     let asks = descend(rt.alloc(), &body, root_local, 9)?;
     let want =
         "13 queue; 15 spawn 20 1; 8 work; 9 push 0 3; 10 spawn 5 1; 8 work; 9 push 0 2; 10 spawn 5 1; 8 work; ";
-    assert!(rt; asks.as_str() == want);
+    assert!(rt; are_same(asks.as_str(), want));
     Ok(())
 }
 
@@ -246,6 +247,6 @@ fn a_task_makes_objects_and_pushes_bytes(rt: HostRuntime) -> Result<(), Fail> {
     } = plan_of_text(rt.alloc(), MAKER)?;
     let asks = descend(rt.alloc(), &body, root_local, 5)?;
     let want = "4 object 0; 5 queue; 7 push 0 of 2 bytes; 8 push 2 of 0 bytes; 9 finish; ";
-    assert!(rt; asks.as_str() == want);
+    assert!(rt; are_same(asks.as_str(), want));
     Ok(())
 }

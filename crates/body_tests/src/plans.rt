@@ -1,4 +1,5 @@
 // Plans and names.
+use crate::asserts::assert_text;
 use crate::jobs::job_of;
 use job_body::{PlanAnswer, names_of, plan_of};
 use std::alloc::Global;
@@ -101,6 +102,6 @@ fn queues_and_objects_have_names(rt: HostRuntime) -> Result<(), Fail> {
     let job = job_of(rt.alloc(), text)?;
     let names = names_of(rt.alloc(), &job)?;
     let listed = listed(rt.alloc(), &names)?;
-    assert_eq!(rt; listed.as_str(), "out Out; in Left; more Out; y; x; ");
+    assert_text(&rt, listed.as_str(), "out Out; in Left; more Out; y; x; ");
     Ok(())
 }

@@ -1,6 +1,7 @@
 // Steps of work in a row.
 ghost use Rattle.std.specs.Prelude.{◌<◌};
 
+use crate::asserts::{are_same, assert_none, assert_text};
 use crate::jobs::{answer_to, plan_of_text, step, text_of, told_by};
 use job_body::{JobBody, JobLocal};
 use std::alloc::Global;
@@ -179,32 +180,44 @@ fn told(alloc: Global, statements: &str, fuel: u64, budget: u64) -> Result<Run, 
     told_of(alloc, &body, root_local, fuel, budget)
 }
 
+/// Whether a row of the table is so by this budget.
+fn is_so(alloc: Global, row: &str, budget: u64) -> Result<bool, NoMemory>
+    requires { 0 < budget }
+{
+    let Some((statements, want)) = row.split_once(" => ") else {
+        return Ok(false);
+    };
+    let told = told(alloc, statements, 200, budget)?;
+    Ok(are_same(told.what.as_str(), want))
+}
+
 /// The first loop of the table that tells something else by this budget, if there is one.
 fn first_wrong(alloc: Global, budget: u64) -> Result<Option<&'static str>, NoMemory>
     requires { 0 < budget }
 {
     for row in LOOPS.lines() {
-        let Some((statements, want)) = row.split_once(" => ") else {
-            return Ok(Some(row));
-        };
-        let told = told(alloc, statements, 200, budget)?;
-        if told.what.as_str() != want {
+        if !is_so(alloc, row, budget)? {
             return Ok(Some(row));
         }
     }
     Ok(None)
 }
 
+/// Whether a row of the table is so by a budget of one more than there are steps, and after as many steps.
+fn is_so_past_its_steps(alloc: Global, row: &str) -> Result<bool, NoMemory> {
+    let Some((statements, want)) = row.split_once(" => ") else {
+        return Ok(false);
+    };
+    let one = told(alloc, statements, 200, 1)?;
+    let all = told(alloc, statements, 200, one.steps.saturating_add(1))?;
+    Ok(are_same(all.what.as_str(), want) && all.steps == one.steps)
+}
+
 /// The first loop of the table that tells something else by a budget of one more than there are steps, or after
 /// another number of them, if there is one.
 fn first_wrong_past_its_steps(alloc: Global) -> Result<Option<&'static str>, NoMemory> {
     for row in LOOPS.lines() {
-        let Some((statements, want)) = row.split_once(" => ") else {
-            return Ok(Some(row));
-        };
-        let one = told(alloc, statements, 200, 1)?;
-        let all = told(alloc, statements, 200, one.steps.saturating_add(1))?;
-        if all.what.as_str() != want || all.steps != one.steps {
+        if !is_so_past_its_steps(alloc, row)? {
             return Ok(Some(row));
         }
     }
@@ -215,7 +228,7 @@ fn first_wrong_past_its_steps(alloc: Global) -> Result<Option<&'static str>, NoM
 fn hold(rt: &impl Abort, alloc: Global, budget: u64) -> Result<(), Fail>
     requires { 0 < budget }
 {
-    assert_eq!(rt; first_wrong(alloc, budget)?, None);
+    assert_none(rt, first_wrong(alloc, budget)?);
     Ok(())
 }
 
@@ -228,7 +241,7 @@ fn rows_of_one_two_and_a_million_steps_tell_the_same(rt: HostRuntime) -> Result<
 
 #[test]
 fn a_row_of_one_more_than_there_are_steps_tells_the_same(rt: HostRuntime) -> Result<(), Fail> {
-    assert_eq!(rt; first_wrong_past_its_steps(rt.alloc())?, None);
+    assert_none(&rt, first_wrong_past_its_steps(rt.alloc())?);
     Ok(())
 }
 
@@ -254,7 +267,8 @@ Fuel at 16; Fuel at 17; Fuel at 14; Fuel at 15; Fuel at 16; Fuel at 17; Fuel at 
 fn hold_ends(rt: &impl Abort, alloc: Global, statements: &str, budget: u64) -> Result<(), Fail>
     requires { 0 < budget }
 {
-    assert_eq!(rt; ends(alloc, statements, budget)?.as_str(), ENDS);
+    let ends = ends(alloc, statements, budget)?;
+    assert_text(rt, ends.as_str(), ENDS);
     Ok(())
 }
 
@@ -301,10 +315,18 @@ fn row(alloc: Global, budget: u64) -> Result<String, NoMemory>
     }
 }
 
+/// Asserts this of the row by this budget.
+fn hold_row(rt: &impl Abort, alloc: Global, budget: u64, want: &str) -> Result<(), Fail>
+    requires { 0 < budget }
+{
+    let row = row(alloc, budget)?;
+    assert_text(rt, row.as_str(), want);
+    Ok(())
+}
+
 #[test]
 fn a_row_has_as_many_steps_as_its_budget(rt: HostRuntime) -> Result<(), Fail> {
-    assert_eq!(rt; row(rt.alloc(), 13)?.as_str(), "13");
-    assert_eq!(rt; row(rt.alloc(), 14)?.as_str(), "14");
-    assert_eq!(rt; row(rt.alloc(), 15)?.as_str(), "14, and an ask at 18");
-    Ok(())
+    hold_row(&rt, rt.alloc(), 13, "13")?;
+    hold_row(&rt, rt.alloc(), 14, "14")?;
+    hold_row(&rt, rt.alloc(), 15, "14, and an ask at 18")
 }
