@@ -26,6 +26,15 @@ struct Flags {
 }
 
 impl Flags {
+    /// Those of tasks that haven't come yet.
+    fn new() -> Flags {
+        Flags {
+            first: AtomicU64::new(0),
+            second: AtomicU64::new(0),
+            failures: AtomicU64::new(0),
+        }
+    }
+
     /// Sets the own flag, and waits for the other one. After too many turns it notes a failure.
     fn wait(&self, own: &AtomicU64, other: &AtomicU64) {
         own.store(1, Ordering::SeqCst);
@@ -35,6 +44,17 @@ impl Flags {
             }
         }
         self.failures.store(1, Ordering::SeqCst);
+    }
+
+    /// Both have come, and none has looked in vain.
+    fn have_met(&self) -> Result<(), Fail> {
+        if self.failures.load(Ordering::SeqCst) != 0 {
+            return Err("they haven't met".into());
+        }
+        if self.first.load(Ordering::SeqCst) != 1 || self.second.load(Ordering::SeqCst) != 1 {
+            return Err("one hasn't come".into());
+        }
+        Ok(())
     }
 }
 
@@ -83,42 +103,34 @@ impl Body for Meeting {
     }
 }
 
-/// A root with no queues and no objects spawns two children, of which each works twice. Both are in their second step of work at once.
-pub fn meet<T: Threads + Wait + Clock + Sync>(rt: &T, alloc: Global) -> Result<(), Fail> {
-    let flags = Arc::new(
-        alloc,
-        Flags {
-            first: AtomicU64::new(0),
-            second: AtomicU64::new(0),
-            failures: AtomicU64::new(0),
-        },
-    )?;
+/// The plan of a root with no queues and no objects that spawns two children, of which each works twice. They meet in their second steps.
+fn plan_of(alloc: Global, flags: Arc<Flags>) -> Result<Plan<Meeting>, Fail> {
     let list = asks(
         alloc,
         &["spawn:1:3: spawn:2:3:", "work work", "work work"],
         usize::MAX,
     )?;
-    let plan = Plan {
+    Ok(Plan {
         body: Meeting {
             list,
             first: 4,
             second: 7,
-            flags: Arc::try_clone(&flags)?,
+            flags,
         },
         root_local: 0,
         roots: Roots::new(alloc),
         fuel: PlanFuel::new(9),
-    };
+    })
+}
+
+/// In a run of that plan by two workers both children are in their second step of work at once.
+pub fn meet<T: Threads + Wait + Clock + Sync>(rt: &T, alloc: Global) -> Result<(), Fail> {
+    let flags = Arc::new(alloc, Flags::new())?;
+    let plan = plan_of(alloc, Arc::try_clone(&flags)?)?;
     let shape = Shape::new(2, 16).ok_or("no shape")?;
     let (outcome, _ran) = run(rt, alloc, plan, &shape, &OpenGate)?.outcome();
     if outcome.faults.len() != 0 {
         return Err("a fault".into());
     }
-    if flags.failures.load(Ordering::SeqCst) != 0 {
-        return Err("they haven't met".into());
-    }
-    if flags.first.load(Ordering::SeqCst) != 1 || flags.second.load(Ordering::SeqCst) != 1 {
-        return Err("one hasn't come".into());
-    }
-    Ok(())
+    flags.have_met()
 }
