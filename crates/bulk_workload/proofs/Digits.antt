@@ -1,5 +1,5 @@
 -- The decimal text of a number, as a token of a job and as a line of an input.
-use Rattle.std.proofs.Common.{◌≡◌, ℕ, ◌+◌, ◌<◌, ◌≤◌, ◌^◌, true, false, cond, List, [], ◌∷◌, ◌++◌, get_or, Ok, refl, ap, ◌∙◌, arith}
+use Rattle.std.proofs.Common.{◌≡◌, ℕ, ◌<◌, ◌≤◌, ◌^◌, true, false, cond, List, [], ◌∷◌, get_or, Ok, refl, ap, ◌∙◌, arith}
 use Rattle.std.specs.Prelude.{◌==◌, ◌&&◌, ◌||◌, not, nat_lt, nat_le, pos, codes, bytes_eq}
 use Rattle.std.specs.Char.{is_ascii_digit}
 use Rattle.std.specs.Fmt.{decimal}
@@ -7,7 +7,6 @@ use Rattle.std.specs.List.{list_all}
 use Rattle.std.specs.Str.Parse.{digits_value}
 use Rattle.std.proofs.lemmas.Bool.{and_from, and_parts, cond-true, cond-false, leb-true, le-leb, ne_eqb, lt-ltb}
 use Rattle.std.proofs.lemmas.Fmt.{digits_decimal, digits_value-decimal, first_decimal}
-use Rattle.swan_model.specs.Lines.{lines, before_lines}
 use Rattle.job_reader.specs.Atoms.{as_number, atom, is_alone, is_natural, negative_number, plain_number}
 use Rattle.job_reader.specs.Characters.{is_allowed}
 use Rattle.job_reader.specs.declared.atom.Atom.TheVariants as atoms
@@ -21,13 +20,6 @@ pub record AreDigits (number : ℕ) (byte : ℕ) (bytes : List ℕ) : Type 0 whe
 
 digit_le : (byte : ℕ) → is_ascii_digit byte ≡ true → (48 ≤ byte) × (byte ≤ 57)
 digit_le byte is = let parts = and_parts (nat_le 48 byte) (nat_le byte 57) is in (leb-true 48 byte parts.0, leb-true byte 57 parts.1)
-
-pub no_feed : (bytes rest : List ℕ) → list_all is_ascii_digit bytes ≡ true → lines (bytes ++ 10 ∷ rest) ≡ bytes ∷ lines rest
-no_feed [] rest are = refl
-no_feed (byte ∷ bytes) rest are =
-    let parts = and_parts (is_ascii_digit byte) (list_all is_ascii_digit bytes) are in
-    let isnt : (byte == 10) ≡ false = ne_eqb byte 10 (λ is. let low = (digit_le byte parts.0).0 in omega arith) in
-    cond-false (byte == 10) ([] ∷ lines (bytes ++ 10 ∷ rest)) (before_lines byte (lines (bytes ++ 10 ∷ rest))) isnt ∙ ap (before_lines byte) (no_feed bytes rest parts.1)
 
 pub no_space : (bytes : List ℕ) → list_all is_ascii_digit bytes ≡ true → list_all (λ b. not (b == 32)) bytes ≡ true
 no_space [] are = refl

@@ -6,7 +6,9 @@ use Rattle.std.specs.Fmt.{decimal}
 use Rattle.std.specs.List.{list_all, join_with_byte}
 use Rattle.std.proofs.lemmas.Bool.{and_parts, cond-false, le-ltb, leb-true, lt-leb, ne_eqb}
 use Rattle.std.proofs.lemmas.Fmt.{length-decimal-le}
-use Rattle.swan_model.specs.Lines.{before_lines, lines, refusal_from}
+use Rattle.swan_model.specs.declared.lines.TheConstants.{LINES_MOST}
+use Rattle.swan_model.specs.declared.record.TheConstants.{RECORD_MOST}
+use Rattle.swan_model.specs.Lines.{lines, refusal_from}
 use Rattle.swan_model.specs.Texts.{line}
 use Rattle.job_reader.specs.Atoms.{atom as atom_of}
 use Rattle.job_reader.specs.Characters.{is_allowed}
@@ -21,10 +23,11 @@ use Rattle.job_reader.specs.declared.fault.JobKind.TheVariants as fault
 use Rattle.job_reader.specs.declared.line.Line.{Line}
 use Rattle.job_reader.specs.declared.line.Line.TheVariants as job_line
 use Rattle.job_reader.specs.declared.position.Position.TheVariants.{First, InDo}
-use Rattle.job_reader.proofs.SameForms.{all_append}
+use Rattle.job_reader.proofs.CanonTokens.{all_joined}
 use Rattle.job_reader.proofs.WholeTokens.{AllAlone, ends_joined, plain_alone, tokens_joined}
 use Rattle.job_body.specs.PlanOfJob.{or_refused}
 use Rattle.privilege_check.specs.FirstFault.{first_fault}
+use Rattle.bulk_workload.specs.declared.texts.TheConstants.{BULK_MOST}
 use Rattle.bulk_workload.specs.Bulk.{fold_fuel, fold_line, lines_before, number_after, number_lines}
 use Rattle.bulk_workload.specs.NeverRefused.{IsNeverRefused}
 use Rattle.bulk_workload.proofs.BulkLines.{bulk_lines}
@@ -90,7 +93,7 @@ fold_read n byte bytes are short fits =
     let text = join_with_byte 32 (words digits) in
     let whole = 32 ∷ 32 ∷ text in
     let ts : tokens text ≡ words digits = tokens_joined (words digits) (alone n byte bytes are) in
-    let allowed : list_all is_allowed whole ≡ true = all_append digits (codes " fold nums total count summary") (may_stand digits are.digits) refl in
+    let allowed : list_all is_allowed whole ≡ true = all_joined is_allowed digits (codes " fold nums total count summary") (may_stand digits are.digits) refl in
     let trim : trimmed whole ≡ text = ends_joined (words digits) (alone n byte bytes are) in
     let size : nat_lt 4096 (length text) ≡ false = le-ltb 4096 (length text) (omega (arith, short, length-append digits (codes " fold nums total count summary"))) in
     let limit : is_past_limit 78 (InDo []) text ≡ false = ap (λ b. b || is_one_too_many (InDo []) (tokens text)) size ∙ ap (is_one_too_many (InDo [])) ts in
@@ -119,7 +122,7 @@ job_reads n above most =
     let whole = fold_line n in
     let short : length (decimal n) ≤ 7 = length-decimal-le 7 n (omega arith) most (omega arith) in
     let few : length (d.0 ∷ d.1) ≤ 20 = omega (arith, short, ap length d.2) in
-    let may : list_all is_allowed whole ≡ true = all_append (decimal n) (codes " fold nums total count summary") (may_stand (decimal n) (all_digits n (omega arith))) refl in
+    let may : list_all is_allowed whole ≡ true = all_joined is_allowed (decimal n) (codes " fold nums total count summary") (may_stand (decimal n) (all_digits n (omega arith))) refl in
     let are : lines (flat_map line lines_before ++ (line whole ++ line (codes "end"))) ≡ lines_before ++ whole ∷ codes "end" ∷ [] =
     all_lines lines_before (line whole ++ line (codes "end")) refl
     ∙ ap (λ more. lines_before ++ more) (next_line whole (line (codes "end")) may)
@@ -135,18 +138,18 @@ checked n = refl
 
 -- ---- the input
 
-input_fits : (count before number : ℕ) → before + count ≤ 1000000 → number < 1000 → refusal_from before (lines (number_lines number count)) ≡ None
+input_fits : (count before number : ℕ) → before + count ≤ LINES_MOST → number < 1000 → refusal_from before (lines (number_lines number count)) ≡ None
 input_fits zero before number few small = refl
 input_fits (suc count) before number few small =
     let more = number_lines (number_after number) count in
     let text = decimal number in
     let short : length text ≤ 4 = length-decimal-le 4 number (omega arith) (omega arith) (omega arith) in
     ap (refusal_from before) (next_line text more (may_stand text (all_digits number (omega arith))))
-    ∙ cond-false (nat_le 1000000 before) _ _ (lt-leb 1000000 before (omega arith))
-    ∙ cond-false (nat_lt 65535 (length text)) _ _ (le-ltb 65535 (length text) (omega (arith, short)))
+    ∙ cond-false (nat_le LINES_MOST before) _ _ (lt-leb LINES_MOST before (omega arith))
+    ∙ cond-false (nat_lt RECORD_MOST (length text)) _ _ (le-ltb RECORD_MOST (length text) (omega (arith, short)))
     ∙ input_fits count (before + 1) (number_after number) (omega arith) (omega arith)
 
-pub never_refused : (number size : ℕ) → size ≤ 300000 → IsNeverRefused number size
+pub never_refused : (number size : ℕ) → size ≤ BULK_MOST → IsNeverRefused number size
 never_refused number size most =
     let n = fold_fuel size in
     record {

@@ -2,7 +2,7 @@
 use Rattle.std.proofs.Common.{◌≡◌, ℕ, zero, suc, ◌+◌, ◌-◌, ◌^◌, ◌<◌, ◌≤◌, ◌⊎◌, inl, inr, nat_le, true, Some, None, List, [], ◌∷◌, ◌++◌, length, take, drop, refl, sym, ap, subst, ◌∙◌, arith, rules, tests, append_assoc, length-append, length-drop}
 use Rattle.std.proofs.Math.Seq.{take-length}
 use Rattle.std.proofs.lemmas.Fmt.{length-decimal-le}
-use Rattle.std.proofs.lemmas.List.{drop-append-le, drop-drop, drop-take, length-map, length-take, length-take-le, take-append-le}
+use Rattle.std.proofs.lemmas.List.{drop-append-le, drop-drop, drop-take, drop_all, length-map, length-take, length-take-le, take-append-le}
 use Rattle.std.proofs.lemmas.List.Sums.{sum_by-append, sum_by-cons}
 use Rattle.std.specs.Char.{to_ascii_lowercase}
 use Rattle.std.specs.Fmt.{decimal}
@@ -16,8 +16,7 @@ use Rattle.index_pipeline.specs.Batches.{cuts, has_room}
 use Rattle.index_pipeline.specs.Words.{word_of}
 use Rattle.index_pipeline.specs.declared.batch.TheConstants.{NUMBER_MOST}
 use Rattle.index_pipeline.specs.declared.word.TheConstants.{WORD_MOST}
-use Rattle.index_pipeline.proofs.Dropping.{drop_past}
-use Rattle.swan_model.proofs.Lists.{drop_next}
+use Rattle.swan_model.proofs.Lists.{drop_next, past_none}
 
 -- ---- writing
 
@@ -123,4 +122,4 @@ pub taken_within : (lens : List ℕ) (next len : ℕ) → slice_get lens next �
 taken_within lens next len is = ap sum (drop_next lens next len is) ∙ sum-cons len (drop (next + 1) lens)
 
 pub taken_all : (lens bytes : List ℕ) (next : ℕ) → slice_get lens next ≡ None → cuts (drop next lens) bytes ≡ []
-taken_all lens bytes next is = ap (λ ls. cuts ls bytes) (drop_past lens next is)
+taken_all lens bytes next is = ap (λ ls. cuts ls bytes) (drop_all next lens (past_none lens next is))

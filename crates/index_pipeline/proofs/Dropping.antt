@@ -4,9 +4,6 @@ use Rattle.std.proofs.lemmas.List.{drop_all}
 use Rattle.std.specs.Prelude.{MatchOption, slice_get}
 use Rattle.swan_model.proofs.Lists.{drop_next, past_none}
 
-pub drop_past : (xs : List ℕ) (i : ℕ) → slice_get xs i ≡ None → drop i xs ≡ []
-drop_past xs i is = drop_all i xs (past_none xs i is)
-
 pub left_from : (xs : List ℕ) (i : ℕ) (at : Option ℕ) → at ≡ slice_get xs i → MatchOption at (drop i xs ≡ []) (λ x. drop i xs ≡ x ∷ drop (i + 1) xs)
-left_from xs i None is = drop_past xs i (sym is)
+left_from xs i None is = drop_all i xs (past_none xs i (sym is))
 left_from xs i (Some x) is = drop_next xs i x (sym is)

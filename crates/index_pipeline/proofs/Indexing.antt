@@ -7,22 +7,23 @@ use Rattle.std.specs.List.{flat_map, fold}
 use Rattle.swan_model.specs.declared.body.Answer.TheVariants as answer
 use Rattle.swan_model.specs.declared.body.Ask.TheVariants as ask
 use Rattle.swan_model.specs.declared.body.Child.{Child}
-use Rattle.swan_model.specs.declared.rights.Mode.TheVariants.{Push, Pop, PushPop}
+use Rattle.swan_model.specs.declared.rights.Mode.TheVariants.{Push, Pop}
 use Rattle.swan_model.specs.declared.value.Value.{Value}
 use Rattle.swan_model.specs.declared.value.Value.TheVariants.{Bytes}
 use Rattle.swan_model.specs.declared.outcome.Outcome.{Outcome}
 use Rattle.swan_model.specs.Elision.{outcome}
 use Rattle.swan_model.specs.Lines.{lines}
-use Rattle.swan_model.specs.SerialState.{Holding}
 use Rattle.swan_model.specs.Texts.{item_text, line, out_bytes}
 use Rattle.line_blocks.specs.declared.queue_reader.QueueReader.TheVariants as reader
+use Rattle.line_blocks.specs.declared.text_roots.TheConstants.{TEXT_MOST}
 use Rattle.line_blocks.specs.LineBlocks.{Lines, byte_count, later}
 use Rattle.line_blocks.specs.TextRoots.{text_names}
 use Rattle.line_blocks.proofs.Counting.{count-append}
 use Rattle.line_blocks.proofs.Reading.{hands_block, holds_line, lines_after, number_after}
-use Rattle.whole_runs.specs.Whole.{Contents, RunsWhole}
+use Rattle.whole_runs.specs.Whole.{RunsWhole}
 use Rattle.whole_runs.proofs.BlockReaders.{Reader, IsGiven, last, reads_alone, begun, reading}
 use Rattle.whole_runs.proofs.Blocks.{Held, BlockTask, runs_blocks, blocks, all_do, all_book, all_cost, seen_of_blocks, cost_of_blocks}
+use Rattle.whole_runs.proofs.CollectedParts.{input_and_parts, parts_and_output, held_by_root}
 use Rattle.whole_runs.proofs.Pushers.{Pusher, pushes_all}
 use Rattle.whole_runs.proofs.Wholes.{ends_so, outcome_is}
 use Rattle.whole_runs.proofs.WholeSteps.{tests_empty, finishes, spawns_child, makes_queue}
@@ -40,17 +41,6 @@ use Rattle.index_pipeline.proofs.Collecting.{few_kept, kept_records, kept_with}
 use Rattle.index_pipeline.proofs.Recording.{few_records, pairs_are_told, records-append, records_are}
 use Rattle.line_blocks.proofs.TextLines.{few_bytes, few_lines}
 
--- the input and the words
-abbrev shape : List Value → List Value → Contents
-shape xs ws = record { objects = []; queues = xs ∷ [] ∷ ws ∷ [] }
-
--- the words and the output
-abbrev left_shape : List Value → List Value → Contents
-left_shape ws out = record { objects = []; queues = [] ∷ out ∷ ws ∷ [] }
-
-abbrev holds : List Holding
-holds = (record { mode = Pop; number = 0 }) ∷ (record { mode = Push; number = 1 }) ∷ (record { mode = PushPop; number = 2 }) ∷ []
-
 module _ (body : IndexBody) where
   abbrev words_pusher : Pusher ghosts body
   words_pusher = record { left = local.Words; end = local.Ends; place = 0; more = λ x xs fuel. refl; ends = λ fuel. refl }
@@ -67,13 +57,13 @@ module _ (body : IndexBody) where
       pushed_by _ = []
 
   -- a block task
-  block_given : (block : Lines) → IsGiven ghosts body [] holds shape adds (λ path child. []) (block_task block)
+  block_given : (block : Lines) → IsGiven ghosts body [] held_by_root input_and_parts adds (λ path child. []) (block_task block)
   block_given block = record {
     held = (record { mode = Push; number = 2 }) ∷ [];
     holds = refl;
     lawful = refl;
     whole = λ kid xs ws.
-        pushes_all words_pusher (block_records block) ws (kid ∷ []) (local.Words (block_records block)) answer.Start (2 * byte_count block.lines + 2) 0 2 ((record { mode = Push; number = 2 }) ∷ []) (shape xs ws)
+        pushes_all words_pusher (block_records block) ws (kid ∷ []) (local.Words (block_records block)) answer.Start (2 * byte_count block.lines + 2) 0 2 ((record { mode = Push; number = 2 }) ∷ []) (input_and_parts xs ws)
         refl (omega (arith, few_records block.number block.lines)) refl refl;
   }
 
@@ -89,12 +79,12 @@ module _ (body : IndexBody) where
     rest = λ all. local.SpawnsCollector;
     finale = λ all. (local.Ends, ask.Spawn (collector body));
     path = [];
-    holdings = holds;
+    holdings = held_by_root;
     place = 0;
     number = 0;
     size = 64;
     block = λ before items. block_task (lines_after before items);
-    shape = shape;
+    shape = input_and_parts;
     does = adds;
     books = λ path child. [];
     held = refl;
@@ -146,7 +136,7 @@ module _ (body : IndexBody) where
     number = 2;
     keeps = kept_with;
     gives = λ got x. None;
-    shape = left_shape;
+    shape = parts_and_output;
     does = λ out child. out;
     books = λ path child. [];
     held = refl;
@@ -168,35 +158,35 @@ module _ (body : IndexBody) where
   collected ws = map record_of (fold kept_with [] ws)
 
   collector_whole : (n : ℕ) (ws : List Value) → 3 * length ws + 3 ≤ body.collector_fuel
-      → RunsWhole ghosts body (begun (n ∷ []) (collector body) (collecting n).holdings) (left_shape ws []) (left_shape [] (collected ws)) []
+      → RunsWhole ghosts body (begun (n ∷ []) (collector body) (collecting n).holdings) (parts_and_output ws []) (parts_and_output [] (collected ws)) []
   collector_whole n ws enough =
       let pairs = fold kept_with [] ws in
       tests_empty ghosts (omega arith) refl refl refl
-      (reads_alone (collecting n) (λ got x. refl) ws [] [] (body.collector_fuel - 1) 0 (left_shape [] (collected ws)) [] (omega arith)
+      (reads_alone (collecting n) (λ got x. refl) ws [] [] (body.collector_fuel - 1) 0 (parts_and_output [] (collected ws)) [] (omega arith)
       (λ left kids same.
-      subst (λ got. RunsWhole ghosts body (reading (collecting n) (local.Collects (reader.Tested got)) (answer.Flag true) left kids) (left_shape [] []) (left_shape [] (collected ws)) []) (sym (got_all n ws []))
-      (pushes_all pairs_pusher (collected ws) [] (n ∷ []) (local.Collects (reader.Tested pairs)) (answer.Flag true) left kids 1 (collecting n).holdings (left_shape [] []) refl
+      subst (λ got. RunsWhole ghosts body (reading (collecting n) (local.Collects (reader.Tested got)) (answer.Flag true) left kids) (parts_and_output [] []) (parts_and_output [] (collected ws)) []) (sym (got_all n ws []))
+      (pushes_all pairs_pusher (collected ws) [] (n ∷ []) (local.Collects (reader.Tested pairs)) (answer.Flag true) left kids 1 (collecting n).holdings (parts_and_output [] []) refl
       (omega (arith, same, length-map pairs record_of, few_kept ws [])) refl refl)))
 
   -- ---- the root
 
   indexed : (xs : List Value) (fuel : ℕ) → 3 * byte_count xs + 3 ≤ body.collector_fuel → 4 + 5 * length xs + 2 * byte_count xs + body.collector_fuel ≤ fuel
       → RunsWhole ghosts body (record { path = []; local = local.Begins; answer = answer.Start; fuel = fuel; holdings = (record { mode = Pop; number = 0 }) ∷ (record { mode = Push; number = 1 }) ∷ []; children = 0 })
-      (record { objects = []; queues = xs ∷ [] ∷ [] }) (left_shape [] (collected (records_from 1 xs))) []
+      (record { objects = []; queues = xs ∷ [] ∷ [] }) (parts_and_output [] (collected (records_from 1 xs))) []
   indexed xs fuel enough paid =
       let children = blocks task first xs in
-      let left_of = left_shape [] (collected (records_from 1 xs)) in
+      let left_of = parts_and_output [] (collected (records_from 1 xs)) in
       makes_queue ghosts (omega (arith, paid)) refl
       (tests_empty ghosts (omega (arith, paid)) refl refl refl
       (ends_so ghosts refl (ap (λ fs. fs ++ []) (no_faults children 0))
       (runs_blocks task xs first [] (fuel - 1 - 1) 0 left_of [] (omega (arith, paid, costs_are xs))
       (λ left same local told is.
       spawns_child ghosts (omega (arith, same, paid, costs_are xs)) (is (left - 1)) refl refl (omega arith) (omega (arith, same, paid, costs_are xs))
-      (subst (λ ws. RunsWhole ghosts body (begun ((0 + length children) ∷ []) (collector body) (collecting (0 + length children)).holdings) (left_shape ws []) left_of []) (sym (words_are xs))
+      (subst (λ ws. RunsWhole ghosts body (begun ((0 + length children) ∷ []) (collector body) (collecting (0 + length children)).holdings) (parts_and_output ws []) left_of []) (sym (words_are xs))
       (collector_whole (0 + length children) (records_from 1 xs) (omega (arith, enough, few_records 1 xs))))
       (finishes ghosts (omega (arith, same, paid, costs_are xs)) refl)))))
 
-outcome_of_index : (text : List ℕ) → length text ≤ 67108864 → outcome ghosts (index_plan text) ≡ record { objects = []; queues = [] ∷ map record_of (set_of (pairs_from 1 (lines text))) ∷ []; faults = [] }
+outcome_of_index : (text : List ℕ) → length text ≤ TEXT_MOST → outcome ghosts (index_plan text) ≡ record { objects = []; queues = [] ∷ map record_of (set_of (pairs_from 1 (lines text))) ∷ []; faults = [] }
 outcome_of_index text few =
     let plan = index_plan text in
     let ls = lines text in
@@ -207,7 +197,7 @@ outcome_of_index text few =
     ∙ ap {B = Outcome} (λ ws. record { objects = []; queues = [] ∷ map record_of (fold kept_with [] ws) ∷ []; faults = [] }) (records_are 1 ls (omega (arith, few, few_lines text)))
     ∙ ap {B = Outcome} (λ ps. record { objects = []; queues = [] ∷ map record_of ps ∷ []; faults = [] }) (kept_records pairs [] (pairs_are_told 1 ls (omega (arith, few, few_lines text))))
 
-pub is_indexed : (text : List ℕ) → length text ≤ 67108864 → IsIndexed text (outcome ghosts (index_plan text))
+pub is_indexed : (text : List ℕ) → length text ≤ TEXT_MOST → IsIndexed text (outcome ghosts (index_plan text))
 is_indexed text few =
     let pairs = set_of (pairs_from 1 (lines text)) in
     let records = map pair_text pairs in

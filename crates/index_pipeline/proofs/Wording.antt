@@ -4,7 +4,8 @@ use Rattle.std.proofs.lemmas.Bool.Decides.{nat_tests}
 use Rattle.std.proofs.lemmas.List.{length-map}
 use Rattle.std.specs.Char.{is_ascii_alphanumeric, to_ascii_lowercase}
 use Rattle.std.specs.List.{AllByRecursion}
-use Rattle.line_blocks.specs.Pieces.{pieces, before_pieces}
+use Rattle.swan_model.specs.Lines.{in_front}
+use Rattle.line_blocks.specs.Pieces.{pieces}
 use Rattle.index_pipeline.specs.Words.{is_some_byte, runs, word_of, words}
 use Rattle.index_pipeline.proofs.Runs.{parts}
 
@@ -25,7 +26,7 @@ no_space_in zero run all = tt
 no_space_in (suc n) [] all = tt
 no_space_in (suc n) (byte ∷ run) all = (no_space_lowered byte all.0, no_space_in n run all.1)
 
-runs_before : (byte : ℕ) (ps : List (List ℕ)) → is_ascii_alphanumeric byte ≡ true → AllByRecursion IsRun ps → AllByRecursion IsRun (before_pieces byte ps)
+runs_before : (byte : ℕ) (ps : List (List ℕ)) → is_ascii_alphanumeric byte ≡ true → AllByRecursion IsRun ps → AllByRecursion IsRun (in_front byte ps)
 runs_before byte [] is all = ((is, tt), tt)
 runs_before byte (piece ∷ ps) is all = ((is, all.0), all.1)
 
@@ -33,7 +34,7 @@ pieces_are_runs : (line : List ℕ) → AllByRecursion IsRun (pieces parts line)
 pieces_are_runs [] = (tt, tt)
 pieces_are_runs (byte ∷ line) = by_case (is_ascii_alphanumeric byte) refl (pieces_are_runs line)
   where
-    by_case : (b : Bool) → is_ascii_alphanumeric byte ≡ b → AllByRecursion IsRun (pieces parts line) → AllByRecursion IsRun (cond (not b) ([] ∷ pieces parts line) (before_pieces byte (pieces parts line)))
+    by_case : (b : Bool) → is_ascii_alphanumeric byte ≡ b → AllByRecursion IsRun (pieces parts line) → AllByRecursion IsRun (cond (not b) ([] ∷ pieces parts line) (in_front byte (pieces parts line)))
     by_case true is rest = runs_before byte (pieces parts line) is rest
     by_case false is rest = (tt, rest)
 
@@ -51,7 +52,7 @@ words_have_no_space line = all_words (runs line) (all_filtered (pieces parts lin
 
 -- ---- a line has no more words than bytes
 
-some_before : (byte : ℕ) (ps : List (List ℕ)) → length (filter is_some_byte (before_pieces byte ps)) ≤ 1 + length (filter is_some_byte ps)
+some_before : (byte : ℕ) (ps : List (List ℕ)) → length (filter is_some_byte (in_front byte ps)) ≤ 1 + length (filter is_some_byte ps)
 some_before byte [] = omega arith
 some_before byte ([] ∷ ps) = omega arith
 some_before byte ((first ∷ piece) ∷ ps) = omega arith
@@ -60,7 +61,7 @@ few_runs : (line : List ℕ) → length (runs line) ≤ length line
 few_runs [] = omega arith
 few_runs (byte ∷ line) = by_case (not (is_ascii_alphanumeric byte)) (few_runs line)
   where
-    by_case : (b : Bool) → length (runs line) ≤ length line → length (filter is_some_byte (cond b ([] ∷ pieces parts line) (before_pieces byte (pieces parts line)))) ≤ length (byte ∷ line)
+    by_case : (b : Bool) → length (runs line) ≤ length line → length (filter is_some_byte (cond b ([] ∷ pieces parts line) (in_front byte (pieces parts line)))) ≤ length (byte ∷ line)
     by_case true rest = omega arith
     by_case false rest = omega (arith, some_before byte (pieces parts line))
 

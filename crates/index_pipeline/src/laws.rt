@@ -9,6 +9,8 @@ ghost use Rattle.index_pipeline.specs.Indexed.{IsIndexed};
 ghost use Rattle.index_pipeline.specs.Members.{StandsOn};
 ghost use Rattle.index_pipeline.specs.Pairs.{Pair, pair_order};
 ghost use Rattle.index_pipeline.specs.Plans.{index_plan};
+ghost use Rattle.index_pipeline.specs.declared.batch.TheConstants.{NUMBER_MOST};
+ghost use Rattle.index_pipeline.specs.declared.body.TheConstants.{WORDS};
 ghost use Rattle.index_pipeline.specs.declared.word.TheConstants.{WORD_MOST};
 
 use crate::IndexBody;
@@ -30,8 +32,10 @@ pub fn the_index_is_a_sorted_set()
     ensures members { (lines : List (List ℕ)) (pair : Pair) → Contains (index_pairs lines) pair ↔ StandsOn lines pair }
 {}
 
-/// The law that says which number the limit of words is. The definition of words names the limit, so without it
-/// another number would change what they are.
-pub fn limit_of_words()
-    ensures { WORD_MOST ≡ 64 }
+/// The law that says of each limit of the index, and of the place of the words, which number it is. The definitions name them, so
+/// without it another number would change what they mean.
+pub fn limits_of_the_index()
+    ensures word { WORD_MOST ≡ 64 }
+    ensures number { NUMBER_MOST ≡ 21 }
+    ensures words { WORDS ≡ 2 }
 {}

@@ -31,6 +31,6 @@ mod word;
 mod words_left;
 
 pub use body::IndexBody;
-pub use laws::{limit_of_words, the_index_is_a_sorted_set, the_outcome_is_the_index};
+pub use laws::{limits_of_the_index, the_index_is_a_sorted_set, the_outcome_is_the_index};
 pub use local::IndexLocal;
 pub use plan::{index_names, index_plan};

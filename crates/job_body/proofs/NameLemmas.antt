@@ -2,27 +2,24 @@
 use Rattle.std.proofs.Common.{◌≡◌, ℕ, suc, ◌+◌, Bool, true, false, Option, Some, None, List, [], ◌∷◌, ◌++◌, length, bytes_eq, option_map, is_some, if◌then◌else◌, refl, sym, ap, ◌∙◌, arith, length-append}
 use Rattle.std.proofs.lemmas.Slice.Eq.{bytes_eq-Decides}
 use Rattle.std.specs.Map.{update}
+use Rattle.std.specs.Option.{option_or}
 use Rattle.job_body.specs.Names.{slot, joined_slot, with_place}
-
-abbrev pub or_else : Option ℕ → Option ℕ → Option ℕ
-or_else None other = other
-or_else (Some i) other = Some i
 
 abbrev pub last_slot : Bool → ℕ → Option ℕ
 last_slot true i = Some i
 last_slot false i = None
 
-map-or_else : (b : Bool) (a : Option ℕ) (n : ℕ) → option_map (λ i. suc i) (or_else a (last_slot b n)) ≡ or_else (option_map (λ i. suc i) a) (last_slot b (suc n))
-map-or_else true None n = refl
-map-or_else false None n = refl
-map-or_else b (Some i) n = refl
+map-option_or : (b : Bool) (a : Option ℕ) (n : ℕ) → option_map (λ i. suc i) (option_or a (last_slot b n)) ≡ option_or (option_map (λ i. suc i) a) (last_slot b (suc n))
+map-option_or true None n = refl
+map-option_or false None n = refl
+map-option_or b (Some i) n = refl
 
-pub slot-push : (names : List (List ℕ)) (name other : List ℕ) → slot (names ++ name ∷ []) other ≡ or_else (slot names other) (last_slot (bytes_eq name other) (length names))
+pub slot-push : (names : List (List ℕ)) (name other : List ℕ) → slot (names ++ name ∷ []) other ≡ option_or (slot names other) (last_slot (bytes_eq name other) (length names))
 slot-push [] name other = elim (bytes_eq name other) as (λ b. (if b then Some 0 else None) ≡ last_slot b 0) [ true ↦ refl | false ↦ refl ]
 slot-push (first ∷ names) name other =
-    elim (bytes_eq first other) as (λ b. (if b then Some 0 else option_map (λ i. suc i) (slot (names ++ name ∷ []) other)) ≡ or_else (if b then Some 0 else option_map (λ i. suc i) (slot names other)) (last_slot (bytes_eq name other) (length (first ∷ names)))) [
+    elim (bytes_eq first other) as (λ b. (if b then Some 0 else option_map (λ i. suc i) (slot (names ++ name ∷ []) other)) ≡ option_or (if b then Some 0 else option_map (λ i. suc i) (slot names other)) (last_slot (bytes_eq name other) (length (first ∷ names)))) [
       | true ↦ refl
-      | false ↦ ap (λ o. option_map (λ i. suc i) o) (slot-push names name other) ∙ map-or_else (bytes_eq name other) (slot names other) (length names)
+      | false ↦ ap (λ o. option_map (λ i. suc i) o) (slot-push names name other) ∙ map-option_or (bytes_eq name other) (slot names other) (length names)
     ]
 
 -- the places of names once one more is added
@@ -31,7 +28,7 @@ slot-with names name other =
     slot-push names name other
     ∙ at (bytes_eq name other) (bytes_eq-Decides name other).0 (slot names other) refl (slot names name) refl where
       at : (b : Bool) → (b ≡ true → name ≡ other) → (a : Option ℕ) → a ≡ slot names other → (k : Option ℕ) → k ≡ slot names name
-          → or_else a (last_slot b (length names)) ≡ (if is_some k then a else (if b then Some (length names) else a))
+          → option_or a (last_slot b (length names)) ≡ (if is_some k then a else (if b then Some (length names) else a))
       at false h None e None f = refl
       at false h None e (Some j) f = refl
       at false h (Some i) e None f = refl

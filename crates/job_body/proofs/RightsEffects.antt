@@ -1,6 +1,6 @@
 -- What a step of a checked job does to the serial state: it meets no fault of rights, and each
 -- activation stands where it holds what the check knows there.
-use Rattle.std.proofs.Common.{◌≡◌, ℕ, ◌+◌, ◌-◌, ◌<◌, ◌≤◌, Bool, true, false, List, [], ◌∷◌, ◌++◌, length, nat_lt, nat_le, if◌then◌else◌, refl, sym, subst, arith, length-set}
+use Rattle.std.proofs.Common.{◌≡◌, ℕ, ◌+◌, ◌-◌, ◌<◌, ◌≤◌, Bool, true, false, List, [], ◌∷◌, ◌++◌, length, nat_lt, nat_le, if◌then◌else◌, refl, sym, subst, arith}
 use Rattle.swan_model.specs.declared.body.Answer.{Answer}
 use Rattle.swan_model.specs.declared.body.Answer.TheVariants as answer
 use Rattle.swan_model.specs.declared.body.Ask.TheVariants as ask
@@ -14,36 +14,29 @@ use Rattle.swan_model.specs.declared.value.Value.{Value}
 use Rattle.swan_model.specs.Rights.{is_aliased, is_queue_mode}
 use Rattle.swan_model.specs.SerialState.{Activation, Cell, Holding, Queue, Store}
 use Rattle.swan_model.specs.SerialStep as serial
-use Rattle.swan_model.specs.SerialStep.{Effect, goes_on, spawns, ends, faults, effect, number_at, on_cell, on_list, on_object, on_queue, popped, spawn_effect, told, zero_cell, zeroed, zeroed_by}
+use Rattle.swan_model.specs.SerialStep.{Effect, goes_on, spawns, ends, faults, effect, number_at, on_cell, on_list, on_object, on_queue, popped, spawn_effect, with_answer, zero_cell, cells_with_zeros, zeroed_by}
 use Rattle.swan_model.specs.Values.{kind_of}
 use Rattle.job_reader.specs.declared.line.Line.{Line}
 use Rattle.job_body.specs.RightsKept.{is_of_rights}
 use Rattle.job_body.specs.Standing.{Standing}
 use Rattle.std.proofs.lemmas.List.{map-append, length_push}
 use Rattle.swan_model.proofs.Lists.{some_within}
+use Rattle.swan_model.proofs.Stores.{HasGrown, grown-items, grown-same, grown-value}
 use Rattle.swan_model.proofs.ZeroedCells.{length-zeroed}
 use Rattle.job_body.proofs.RightsSpawns.{ChildHolds, HeldAt, InStore, held-stored, held_modes_of, number-held, room}
 use Rattle.job_body.proofs.RightsStands.{Stands}
 
 -- an activation stands where it holds what it holds, all of which stands in the store
-pub record Fits (job : List Line) (store : Store) (a : Activation Standing) : Type 0 where
+pub record FitsStore (job : List Line) (store : Store) (a : Activation Standing) : Type 0 where
   pub stands : Stands job a.local.at (held_modes_of a.holdings)
   pub stored : InStore (length store.cells) (length store.queues) a.holdings
 
--- a store has no fewer objects and queues than another
-pub record Grows (before after : Store) : Type 0 where
-  pub cells : length before.cells ≤ length after.cells
-  pub queues : length before.queues ≤ length after.queues
-
 -- an effect leaves activations that fit, and is no fault of rights
 abbrev pub EffectFits : List Line → Store → Effect Standing → Type 0
-EffectFits job store (goes_on a after) = Grows store after × Fits job after a
-EffectFits job store (spawns parent child after) = Grows store after × Fits job after parent × Fits job after child
+EffectFits job store (goes_on a after) = HasGrown store after × FitsStore job after a
+EffectFits job store (spawns parent child after) = HasGrown store after × FitsStore job after parent × FitsStore job after child
 EffectFits job store ends = Unit {0}
 EffectFits job store (faults kind) = is_of_rights kind ≡ false
-
-same-store : (store : Store) → Grows store store
-same-store store = record { cells = omega arith; queues = omega arith }
 
 -- ---- stores that have grown
 
@@ -55,7 +48,7 @@ in_store-grown c q d r (holding ∷ holdings) cells queues stored =
       go true less = omega (arith, less, queues)
       go false less = omega (arith, less, cells)
 
-pub fits-grown : (job : List Line) (before after : Store) (a : Activation Standing) → Grows before after → Fits job before a → Fits job after a
+pub fits-grown : (job : List Line) (before after : Store) (a : Activation Standing) → HasGrown before after → FitsStore job before a → FitsStore job after a
 fits-grown job before after a grows fits =
     record {
       stands = fits.stands;
@@ -78,54 +71,46 @@ queue-held P store holdings place mode f sort h stored each =
     subst (λ at. P (on_queue store at f)) (sym (number-held holdings place mode h))
     (subst (λ queue. P (on_list queue (f n))) (sym there.1) (each n there.0))
 
-fits-told : (job : List Line) (store after : Store) (a : Activation Standing) (said : Answer) → Grows store after → Fits job store a → EffectFits job store (goes_on (told a said) after)
+fits-told : (job : List Line) (store after : Store) (a : Activation Standing) (said : Answer) → HasGrown store after → FitsStore job store a → EffectFits job store (goes_on (with_answer a said) after)
 fits-told job store after a said grows fits =
     let now = fits-grown job store after a grows fits in
     (grows, record { stands = now.stands; stored = now.stored })
 
-pub work-fits : (job : List Line) (n : ℕ) (store : Store) (a : Activation Standing) → Fits job store a → EffectFits job store (effect n store a ask.Work)
-work-fits job n store a fits = fits-told job store store a answer.Nothing (same-store store) fits
+pub work-fits : (job : List Line) (n : ℕ) (store : Store) (a : Activation Standing) → FitsStore job store a → EffectFits job store (effect n store a ask.Work)
+work-fits job n store a fits = fits-told job store store a answer.Nothing (grown-same store) fits
 
-pub sync-fits : (job : List Line) (n : ℕ) (store : Store) (a : Activation Standing) → Fits job store a → EffectFits job store (effect n store a ask.Sync)
-sync-fits job n store a fits = fits-told job store store a answer.Nothing (same-store store) fits
+pub sync-fits : (job : List Line) (n : ℕ) (store : Store) (a : Activation Standing) → FitsStore job store a → EffectFits job store (effect n store a ask.Sync)
+sync-fits job n store a fits = fits-told job store store a answer.Nothing (grown-same store) fits
 
-pub read-fits : (job : List Line) (n : ℕ) (store : Store) (a : Activation Standing) (place : ℕ) → HeldAt a.holdings place In → Fits job store a → EffectFits job store (effect n store a (ask.Read place))
+pub read-fits : (job : List Line) (n : ℕ) (store : Store) (a : Activation Standing) (place : ℕ) → HeldAt a.holdings place In → FitsStore job store a → EffectFits job store (effect n store a (ask.Read place))
 read-fits job n store a place h fits =
     object-held (EffectFits job store) store a.holdings place In _ refl h fits.stored
-    (λ number cell. fits-told job store store a (answer.Item cell.value) (same-store store) fits)
+    (λ number cell. fits-told job store store a (answer.Item cell.value) (grown-same store) fits)
 
-set-cells : (store : Store) (number : ℕ) (cell : Cell) (value : Value) → Grows store (serial.with_value store number cell value)
-set-cells store number cell value =
-    record { cells = omega (arith, length-set store.cells number (record cell { value = value })); queues = omega arith }
-
-set-items : (store : Store) (number : ℕ) (queue : Queue) (items : List Value) → Grows store (serial.with_items store number queue items)
-set-items store number queue items =
-    record { cells = omega arith; queues = omega (arith, length-set store.queues number (record queue { items = items })) }
-
-pub write-fits : (job : List Line) (n : ℕ) (store : Store) (a : Activation Standing) (place : ℕ) (value : Value) → HeldAt a.holdings place Out → Fits job store a → EffectFits job store (effect n store a (ask.Write place value))
+pub write-fits : (job : List Line) (n : ℕ) (store : Store) (a : Activation Standing) (place : ℕ) (value : Value) → HeldAt a.holdings place Out → FitsStore job store a → EffectFits job store (effect n store a (ask.Write place value))
 write-fits job n store a place value h fits =
     object-held (EffectFits job store) store a.holdings place Out _ refl h fits.stored
-    (λ number cell. fits-told job store (serial.with_value store number cell value) a answer.Nothing (set-cells store number cell value) fits)
+    (λ number cell. fits-told job store (serial.with_value store number cell value) a answer.Nothing (grown-value store number cell value) fits)
 
-pub push-fits : (job : List Line) (n : ℕ) (store : Store) (a : Activation Standing) (place : ℕ) (value : Value) → HeldAt a.holdings place Push → Fits job store a → EffectFits job store (effect n store a (ask.Push place value))
+pub push-fits : (job : List Line) (n : ℕ) (store : Store) (a : Activation Standing) (place : ℕ) (value : Value) → HeldAt a.holdings place Push → FitsStore job store a → EffectFits job store (effect n store a (ask.Push place value))
 push-fits job n store a place value h fits =
     queue-held (EffectFits job store) store a.holdings place Push _ refl h fits.stored
-    (λ number queue. fits-told job store (serial.with_items store number queue (queue.items ++ value ∷ [])) a answer.Nothing (set-items store number queue (queue.items ++ value ∷ [])) fits)
+    (λ number queue. fits-told job store (serial.with_items store number queue (queue.items ++ value ∷ [])) a answer.Nothing (grown-items store number queue (queue.items ++ value ∷ [])) fits)
 
-popped-fits : (job : List Line) (store : Store) (a : Activation Standing) (number : ℕ) (queue : Queue) (items : List Value) → Fits job store a → EffectFits job store (popped store a number queue items)
+popped-fits : (job : List Line) (store : Store) (a : Activation Standing) (number : ℕ) (queue : Queue) (items : List Value) → FitsStore job store a → EffectFits job store (popped store a number queue items)
 popped-fits job store a number queue [] fits = refl
 popped-fits job store a number queue (item ∷ items) fits =
-    fits-told job store (serial.with_items store number queue items) a (answer.Item item) (set-items store number queue items) fits
+    fits-told job store (serial.with_items store number queue items) a (answer.Item item) (grown-items store number queue items) fits
 
-pub pop-fits : (job : List Line) (n : ℕ) (store : Store) (a : Activation Standing) (place : ℕ) → HeldAt a.holdings place Pop → Fits job store a → EffectFits job store (effect n store a (ask.Pop place))
+pub pop-fits : (job : List Line) (n : ℕ) (store : Store) (a : Activation Standing) (place : ℕ) → HeldAt a.holdings place Pop → FitsStore job store a → EffectFits job store (effect n store a (ask.Pop place))
 pop-fits job n store a place h fits =
     queue-held (EffectFits job store) store a.holdings place Pop _ refl h fits.stored
     (λ number queue. popped-fits job store a number queue queue.items fits)
 
-pub empty-fits : (job : List Line) (n : ℕ) (store : Store) (a : Activation Standing) (place : ℕ) → HeldAt a.holdings place Pop → Fits job store a → EffectFits job store (effect n store a (ask.Empty place))
+pub empty-fits : (job : List Line) (n : ℕ) (store : Store) (a : Activation Standing) (place : ℕ) → HeldAt a.holdings place Pop → FitsStore job store a → EffectFits job store (effect n store a (ask.Empty place))
 empty-fits job n store a place h fits =
     queue-held (EffectFits job store) store a.holdings place Pop _ refl h fits.stored
-    (λ number queue. fits-told job store store a _ (same-store store) fits)
+    (λ number queue. fits-told job store store a _ (grown-same store) fits)
 
 -- ---- what is made
 
@@ -136,7 +121,7 @@ in_store-more c q (first ∷ holdings) holding less stored = (stored.0, in_store
 modes-more : (holdings : List Holding) (holding : Holding) → held_modes_of holdings ++ holding.mode ∷ [] ≡ held_modes_of (holdings ++ holding ∷ [])
 modes-more holdings holding = sym (map-append (λ (h : Holding). h.mode) holdings (holding ∷ []))
 
-made-fits : (job : List Line) (store after : Store) (a : Activation Standing) (holding : Holding) → Grows store after → Stands job a.local.at (held_modes_of a.holdings ++ holding.mode ∷ []) → InStore (length store.cells) (length store.queues) a.holdings → holding.number < room (length after.cells) (length after.queues) holding.mode → EffectFits job store (goes_on (serial.with_place a holding) after)
+made-fits : (job : List Line) (store after : Store) (a : Activation Standing) (holding : Holding) → HasGrown store after → Stands job a.local.at (held_modes_of a.holdings ++ holding.mode ∷ []) → InStore (length store.cells) (length store.queues) a.holdings → holding.number < room (length after.cells) (length after.queues) holding.mode → EffectFits job store (goes_on (serial.with_place a holding) after)
 made-fits job store after a holding grows stands stored less = (
   grows,
   record {
@@ -164,7 +149,7 @@ either-fits : (P : Effect Standing → Type 0) (b : Bool) (x y : Effect Standing
 either-fits P true x y p q = p
 either-fits P false x y p q = q
 
-pub spawn-fits : (job : List Line) (n : ℕ) (store : Store) (a : Activation Standing) (child : Child Standing) (held : List Mode) → is_aliased child.gives ≡ false → ChildHolds (length store.cells) (length store.queues) a.holdings child.gives held → Stands job child.local.at held → Fits job store a → EffectFits job store (effect n store a (ask.Spawn child))
+pub spawn-fits : (job : List Line) (n : ℕ) (store : Store) (a : Activation Standing) (child : Child Standing) (held : List Mode) → is_aliased child.gives ≡ false → ChildHolds (length store.cells) (length store.queues) a.holdings child.gives held → Stands job child.local.at held → FitsStore job store a → EffectFits job store (effect n store a (ask.Spawn child))
 spawn-fits job n store a child held apart holds stands fits =
     subst (λ given. EffectFits job store (spawn_effect store a child given)) (sym holds.given)
     (subst (λ b. EffectFits job store (if b then faults kind.Alias else rest)) (sym apart)
@@ -178,12 +163,12 @@ spawn-fits job n store a child held apart holds stands fits =
       },
     )))) where
       after : Store
-      after = record store { cells = zeroed store.cells holds.child }
+      after = record store { cells = cells_with_zeros store.cells holds.child }
 
-      grows : Grows store after
+      grows : HasGrown store after
       grows = record { cells = omega (arith, length-zeroed store.cells holds.child); queues = omega arith }
 
-      parent_now : Fits job after a
+      parent_now : FitsStore job after a
       parent_now = fits-grown job store after a grows fits
 
       goes : Effect Standing

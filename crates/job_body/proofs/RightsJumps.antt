@@ -17,7 +17,7 @@ use Rattle.job_body.specs.declared.block.BlockWithLine.{BlockWithLine}
 use Rattle.job_body.specs.declared.block.BlockWithLine.TheVariants as block
 use Rattle.job_body.specs.declared.exit.Exit.{Exit}
 use Rattle.job_body.specs.declared.scope.Scope.{Scope as Known}
-use Rattle.job_body.specs.Blocks.{after_end, blocks_after, blocks_at, exit_at, exits, exits_with, first_exit}
+use Rattle.job_body.specs.Blocks.{blocks_after_end, blocks_after, blocks_at, exit_at, exits, exits_with, first_exit}
 use Rattle.job_body.specs.Compiled.{scope_past, seen_at}
 use Rattle.job_body.proofs.Known.{seen-next}
 use Rattle.job_body.proofs.RightsEntries.{held_at, made_entry}
@@ -85,7 +85,7 @@ end-loops : (job : List Line) (held : List Mode) (block : BlockWithLine) (blocks
 end-loops job held block.If blocks loops = loops
 end-loops job held (block.While i) blocks loops = loops.1
 
-end-blocks : (job : List Line) (held : List Mode) (inside : List Opened) (blocks : List BlockWithLine) → BlocksStand job held inside blocks → BlocksAt (positions.after_end inside) job held (after_end blocks)
+end-blocks : (job : List Line) (held : List Mode) (inside : List Opened) (blocks : List BlockWithLine) → BlocksStand job held inside blocks → BlocksAt (positions.after_end inside) job held (blocks_after_end blocks)
 end-blocks job held [] blocks b = tt
 end-blocks job held (innermost ∷ inside) [] b = absurd (cc)
 end-blocks job held (innermost ∷ inside) (block ∷ blocks) b =

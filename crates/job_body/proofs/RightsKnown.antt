@@ -18,7 +18,7 @@ use Rattle.job_reader.specs.declared.position.Position.{Position}
 use Rattle.job_reader.specs.declared.position.Position.TheVariants.{First, Top, InTask, InDo, Outside}
 use Rattle.privilege_check.specs.FirstFault.{check_line, fresh}
 use Rattle.privilege_check.specs.Names as checks
-use Rattle.privilege_check.specs.Names.{Before, at_start, after_declare, after_declare_in, known, known_in, after_open, after_declare_taken, taken_by, with_name, with_taken, is_main}
+use Rattle.privilege_check.specs.Names.{Before, before_first_line, after_declare, after_declare_in, known, known_in, after_open, after_declare_taken, taken_by, with_name, with_taken, is_main}
 use Rattle.privilege_check.specs.declared.declaration.Declaration.{Declaration}
 use Rattle.privilege_check.specs.declared.declaration.Declaration.TheVariants.{Variable, Held}
 use Rattle.job_body.specs.Tasks.{Scope, before_task, scope_after, scope_from, top_lines}
@@ -154,11 +154,11 @@ top-none done line queue object =
     ∙ ap (λ es. (flat_map root_queue_entry done ++ []) ++ (flat_map root_object_entry done ++ es)) object
     ∙ none-between [] (flat_map root_queue_entry done) (flat_map root_object_entry done)
 
-top-first : (job done : List Line) (scope : Scope) (before : Before) (line : Line) → IsTrue (may_stand First line) → KnownAtTop done before → KnownAtTop (done ++ line ∷ []) (checks.after before line)
+top-first : (job done : List Line) (scope : Scope) (before : Before) (line : Line) → IsTrue (may_stand First line) → KnownAtTop done before → KnownAtTop (done ++ line ∷ []) (checks.after_line before line)
 top-first job done scope before line.Header stands k = top-quiet done before line.Header (top-none done line.Header refl refl) (λ rest. refl) k
 top-first job done scope before line stands k = absurd (false≢true stands)
 
-top-step : (job done rest : List Line) (n : ℕ) (scope : Scope) (before : Before) (line : Line) → job ≡ done ++ line ∷ rest → IsTrue (may_stand (Top n) line) → check_line before line ≡ Ok tt → KnownAtTop done before → KnownAt (positions.after (Top n) line) job (done ++ line ∷ []) (scope_after scope line) (checks.after before line)
+top-step : (job done rest : List Line) (n : ℕ) (scope : Scope) (before : Before) (line : Line) → job ≡ done ++ line ∷ rest → IsTrue (may_stand (Top n) line) → check_line before line ≡ Ok tt → KnownAtTop done before → KnownAt (positions.after (Top n) line) job (done ++ line ∷ []) (scope_after scope line) (checks.after_line before line)
 top-step job done rest n scope before (line.Note text) whole stands passes k =
     top-quiet done before (line.Note text) (top-none done (line.Note text) refl refl) (λ more. refl) k
 top-step job done rest n scope before (line.Input name) whole stands passes k =
@@ -252,7 +252,7 @@ task-takes job scope before name mode kind is_fresh k =
     task-held job scope before (after_declare_taken name (Held mode kind) before) (line.Access mode name kind) name mode (Held mode kind) (first ++ second) third refl (sym (append_assoc first second third))
     (entries-more job scope (line.Access mode name kind) ∙ access-between first second third (name, mode)) is_fresh (declares-taken before scope.name name (Held mode kind) k.task) k
 
-task-step : (job done : List Line) (scope : Scope) (before : Before) (line : Line) → IsTrue (may_stand InTask line) → check_line before line ≡ Ok tt → KnownInTask job scope before → KnownAt (positions.after InTask line) job (done ++ line ∷ []) (scope_after scope line) (checks.after before line)
+task-step : (job done : List Line) (scope : Scope) (before : Before) (line : Line) → IsTrue (may_stand InTask line) → check_line before line ≡ Ok tt → KnownInTask job scope before → KnownAt (positions.after InTask line) job (done ++ line ∷ []) (scope_after scope line) (checks.after_line before line)
 task-step job done scope before (line.Note text) stands passes k = task-quiet job scope before (line.Note text) refl refl k
 task-step job done scope before (line.Param name kind) stands passes k =
     task-variable job scope before (after_declare_taken name (Variable kind) before) (line.Param name kind) name (Variable kind) refl refl refl (first_of_two (fresh (known before name)) _ tt passes) (declares-taken before scope.name name (Variable kind) k.task) k
@@ -268,7 +268,7 @@ task-step job done scope before line.Do stands passes k = task-quiet job scope b
 task-step job done scope before line stands passes k = absurd (false≢true stands)
 
 -- a statement declares nothing
-do-quiet : (blocks : List Block) (scope : Scope) (before : Before) (line : Line) → IsTrue (may_stand (InDo blocks) line) → (access_entry line ≡ []) × (made_entry line ≡ []) × (scope_after scope line ≡ more_lines scope line) × (checks.after before line ≡ before)
+do-quiet : (blocks : List Block) (scope : Scope) (before : Before) (line : Line) → IsTrue (may_stand (InDo blocks) line) → (access_entry line ≡ []) × (made_entry line ≡ []) × (scope_after scope line ≡ more_lines scope line) × (checks.after_line before line ≡ before)
 do-quiet blocks scope before line.Header stands = absurd (false≢true stands)
 do-quiet blocks scope before (line.Input name) stands = absurd (false≢true stands)
 do-quiet blocks scope before (line.Output name kind) stands = absurd (false≢true stands)
@@ -288,19 +288,19 @@ after-do [] line.End job done scope before k = k
 after-do (innermost ∷ blocks) line.End job done scope before k = k
 after-do blocks line job done scope before k = k
 
-do-step : (job done : List Line) (blocks : List Block) (scope : Scope) (before : Before) (line : Line) → IsTrue (may_stand (InDo blocks) line) → KnownInTask job scope before → KnownAt (positions.after (InDo blocks) line) job (done ++ line ∷ []) (scope_after scope line) (checks.after before line)
+do-step : (job done : List Line) (blocks : List Block) (scope : Scope) (before : Before) (line : Line) → IsTrue (may_stand (InDo blocks) line) → KnownInTask job scope before → KnownAt (positions.after (InDo blocks) line) job (done ++ line ∷ []) (scope_after scope line) (checks.after_line before line)
 do-step job done blocks scope before line stands k =
     let quiet = do-quiet blocks scope before line stands in
     let after = after-do blocks line job (done ++ line ∷ []) (more_lines scope line) before (task-quiet job scope before line quiet.0 quiet.1 k) in
-    subst (λ s. KnownAt (positions.after (InDo blocks) line) job (done ++ line ∷ []) s (checks.after before line)) (sym quiet.2)
+    subst (λ s. KnownAt (positions.after (InDo blocks) line) job (done ++ line ∷ []) s (checks.after_line before line)) (sym quiet.2)
     (subst (λ b. KnownAt (positions.after (InDo blocks) line) job (done ++ line ∷ []) (more_lines scope line) b) (sym quiet.3) after)
 
-outside-step : (job done : List Line) (scope : Scope) (before : Before) (line : Line) → IsTrue (may_stand Outside line) → KnownInTask job scope before → KnownAt (positions.after Outside line) job (done ++ line ∷ []) (scope_after scope line) (checks.after before line)
+outside-step : (job done : List Line) (scope : Scope) (before : Before) (line : Line) → IsTrue (may_stand Outside line) → KnownInTask job scope before → KnownAt (positions.after Outside line) job (done ++ line ∷ []) (scope_after scope line) (checks.after_line before line)
 outside-step job done scope before (line.Note text) stands k = task-quiet job scope before (line.Note text) refl refl k
 outside-step job done scope before (line.Task name) stands k = opens job before name k.top
 outside-step job done scope before line stands k = absurd (false≢true stands)
 
-known-step : (job done rest : List Line) (place : Position) (scope : Scope) (before : Before) (line : Line) → job ≡ done ++ line ∷ rest → IsTrue (may_stand place line) → check_line before line ≡ Ok tt → KnownAt place job done scope before → KnownAt (positions.after place line) job (done ++ line ∷ []) (scope_after scope line) (checks.after before line)
+known-step : (job done rest : List Line) (place : Position) (scope : Scope) (before : Before) (line : Line) → job ≡ done ++ line ∷ rest → IsTrue (may_stand place line) → check_line before line ≡ Ok tt → KnownAt place job done scope before → KnownAt (positions.after place line) job (done ++ line ∷ []) (scope_after scope line) (checks.after_line before line)
 known-step job done rest First scope before line whole stands passes k = top-first job done scope before line stands k
 known-step job done rest (Top n) scope before line whole stands passes k = top-step job done rest n scope before line whole stands passes k
 known-step job done rest InTask scope before line whole stands passes k = task-step job done scope before line stands passes k
@@ -309,19 +309,19 @@ known-step job done rest Outside scope before line whole stands passes k = outsi
 
 -- what is known after some lines of a job
 abbrev pub KnownAfter : List Line → List Line → Type 0
-KnownAfter job done = KnownAt (place_from First done) job done (scope_from (record { name = []; lines = [] }) done) (before_from at_start done)
+KnownAfter job done = KnownAt (place_from First done) job done (scope_from (record { name = []; lines = [] }) done) (before_from before_first_line done)
 
-known-more : (job done rest : List Line) (line : Line) → job ≡ done ++ line ∷ rest → IsTrue (may_stand (place_from First done) line) → check_line (before_from at_start done) line ≡ Ok tt → KnownAfter job done → KnownAfter job (done ++ line ∷ [])
+known-more : (job done rest : List Line) (line : Line) → job ≡ done ++ line ∷ rest → IsTrue (may_stand (place_from First done) line) → check_line (before_from before_first_line done) line ≡ Ok tt → KnownAfter job done → KnownAfter job (done ++ line ∷ [])
 known-more job done rest line whole stands passes k =
     let start : Scope = record { name = []; lines = [] } in
-    let next = known-step job done rest (place_from First done) (scope_from start done) (before_from at_start done) line whole stands passes k in
+    let next = known-step job done rest (place_from First done) (scope_from start done) (before_from before_first_line done) line whole stands passes k in
     let all = done ++ line ∷ [] in
-    subst (λ p. KnownAt p job all (scope_from start all) (before_from at_start all)) (sym (place-push First done line))
-    (subst (λ s. KnownAt (positions.after (place_from First done) line) job all s (before_from at_start all)) (sym (scope-push start done line))
-    (subst (λ b. KnownAt (positions.after (place_from First done) line) job all (scope_after (scope_from start done) line) b) (sym (before-push at_start done line)) next))
+    subst (λ p. KnownAt p job all (scope_from start all) (before_from before_first_line all)) (sym (place-push First done line))
+    (subst (λ s. KnownAt (positions.after (place_from First done) line) job all s (before_from before_first_line all)) (sym (scope-push start done line))
+    (subst (λ b. KnownAt (positions.after (place_from First done) line) job all (scope_after (scope_from start done) line) b) (sym (before-push before_first_line done line)) next))
 
 -- what is known at each line of a job that passes the check
-pub known-at : (job : List Line) → IsPlaced First job → Passes at_start job → (i : ℕ) → KnownAfter job (take i job)
+pub known-at : (job : List Line) → IsPlaced First job → Passes before_first_line job → (i : ℕ) → KnownAfter job (take i job)
 known-at job placed passes =
     along job (λ i. KnownAfter job (take i job)) (record { no_task = refl; all = λ rest. refl; top = λ name. refl })
     (λ i past k. subst (KnownAfter job) (sym (take-past job i past)) k)

@@ -17,7 +17,7 @@ use Rattle.job_reader.specs.declared.line.Line.{Line}
 use Rattle.job_reader.specs.declared.line.Line.TheVariants as line
 use Rattle.job_reader.specs.declared.position.Position.{Position}
 use Rattle.job_reader.specs.declared.position.Position.TheVariants.{First, Top, InTask, InDo, Outside}
-use Rattle.privilege_check.specs.Names.{Before, at_start, known, is_main}
+use Rattle.privilege_check.specs.Names.{Before, before_first_line, known, is_main}
 use Rattle.privilege_check.specs.Names as checks
 use Rattle.privilege_check.specs.Spawns as spawns
 use Rattle.privilege_check.specs.Spawns.{arguments, as_child, is_lent_twice, lent}
@@ -130,7 +130,7 @@ held-statement job i none =
     ap (λ es. roots_held job scope.name ++ ((flat_map access_entry scope.lines ++ es) ++ flat_map made_entry scope.lines)) none
     ∙ ap (λ es. roots_held job scope.name ++ (es ++ flat_map made_entry scope.lines)) (append-nil (flat_map access_entry scope.lines))
 
-pub statement-at : (job : List Line) → IsPlaced First job → Passes at_start job → (i : ℕ) (line : Line) (held : List Mode) → slice_get job i ≡ Some line → Stands job i held → is_statement line ≡ true → IsStatementAt job i held
+pub statement-at : (job : List Line) → IsPlaced First job → Passes before_first_line job → (i : ℕ) (line : Line) (held : List Mode) → slice_get job i ≡ Some line → Stands job i held → is_statement line ≡ true → IsStatementAt job i held
 statement-at job placed passes i line held is at e =
     let doing = in-do (place_at job i) line at.within (stands_here job i line placed is) e in
     let here : IsPlaced (InDo doing.0) (drop i job) = subst (λ p. IsPlaced p (drop i job)) doing.1 (placed-from First job i placed) in
@@ -151,18 +151,18 @@ statement-at job placed passes i line held is at e =
 before-split : (before : Before) (lines : List Line) (i : ℕ) → before_from before lines ≡ before_from (before_from before (take i lines)) (drop i lines)
 before-split before lines zero = refl
 before-split before [] (suc i) = refl
-before-split before (line ∷ lines) (suc i) = before-split (checks.after before line) lines i
+before-split before (line ∷ lines) (suc i) = before-split (checks.after_line before line) lines i
 
 -- what the check knows of a task at a statement is what its lines say
-pub task-known : (job : List Line) → Passes at_start job → (i : ℕ) (held : List Mode) → IsStatementAt job i held → (task : List ℕ) (taken : List Declaration) → (before_at job i).tasks task ≡ Some taken → IsTaskAt job (task_index job task) task taken
+pub task-known : (job : List Line) → Passes before_first_line job → (i : ℕ) (held : List Mode) → IsStatementAt job i held → (task : List ℕ) (taken : List Declaration) → (before_at job i).tasks task ≡ Some taken → IsTaskAt job (task_index job task) task taken
 task-known job passes i held at task taken is =
-    let all = kept (drop i job) (before_at job i) (scope_at job i).name task taken at.task (passes-from at_start job i passes) is in
-    let ends : (before_from at_start job).tasks task ≡ Some taken =
-    ap (λ (b : Before). b.tasks task) (before-split at_start job i)
+    let all = kept (drop i job) (before_at job i) (scope_at job i).name task taken at.task (passes-from before_first_line job i passes) is in
+    let ends : (before_from before_first_line job).tasks task ≡ Some taken =
+    ap (λ (b : Before). b.tasks task) (before-split before_first_line job i)
     ∙ all
     ∙ ap (λ ms. Some (taken ++ cond (bytes_eq (scope_at job i).name task) ms [])) at.rest
     ∙ ap Some (nothing-more (bytes_eq (scope_at job i).name task)) in
-    task-found job task taken (sym (learnt at_start job task passes refl) ∙ ends) where
+    task-found job task taken (sym (learnt before_first_line job task passes refl) ∙ ends) where
       nothing-more : (b : Bool) → taken ++ cond b [] [] ≡ taken
       nothing-more true = append-nil taken
       nothing-more false = append-nil taken

@@ -7,7 +7,7 @@ use Rattle.job_reader.specs.declared.position.Position.{Position}
 use Rattle.job_reader.specs.declared.position.Position.TheVariants.{First}
 use Rattle.privilege_check.specs.FirstFault.{check_line}
 use Rattle.privilege_check.specs.Names as checks
-use Rattle.privilege_check.specs.Names.{Before, at_start}
+use Rattle.privilege_check.specs.Names.{Before, before_first_line}
 use Rattle.job_body.specs.Tasks.{scope_after, scope_at, scope_from}
 use Rattle.job_body.proofs.Known.{scope-push}
 use Rattle.swan_model.proofs.Lists.{drop_next, take_next, past_none}
@@ -19,19 +19,19 @@ place_from place (line ∷ lines) = place_from (positions.after place line) line
 
 abbrev pub before_from : Before → List Line → Before
 before_from before [] = before
-before_from before (line ∷ lines) = before_from (checks.after before line) lines
+before_from before (line ∷ lines) = before_from (checks.after_line before line) lines
 
 -- the place at an index, and what the lines before it say
 abbrev pub place_at : List Line → ℕ → Position
 place_at job i = place_from First (take i job)
 
 abbrev pub before_at : List Line → ℕ → Before
-before_at job i = before_from at_start (take i job)
+before_at job i = before_from before_first_line (take i job)
 
 -- each line passes the check, by what the lines before it say
 abbrev pub Passes : Before → List Line → Type 0
 Passes before [] = Unit {0}
-Passes before (line ∷ lines) = (check_line before line ≡ Ok tt) × Passes (checks.after before line) lines
+Passes before (line ∷ lines) = (check_line before line ≡ Ok tt) × Passes (checks.after_line before line) lines
 
 -- what is known of the line at an index
 pub record IsLineAt (job : List Line) (i : ℕ) (line : Line) : Type 0 where
@@ -49,9 +49,9 @@ pub place-push : (place : Position) (lines : List Line) (line : Line) → place_
 place-push place [] line = refl
 place-push place (first ∷ lines) line = place-push (positions.after place first) lines line
 
-pub before-push : (before : Before) (lines : List Line) (line : Line) → before_from before (lines ++ line ∷ []) ≡ checks.after (before_from before lines) line
+pub before-push : (before : Before) (lines : List Line) (line : Line) → before_from before (lines ++ line ∷ []) ≡ checks.after_line (before_from before lines) line
 before-push before [] line = refl
-before-push before (first ∷ lines) line = before-push (checks.after before first) lines line
+before-push before (first ∷ lines) line = before-push (checks.after_line before first) lines line
 
 pub place-next : (job : List Line) (i : ℕ) (line : Line) → slice_get job i ≡ Some line → place_at job (i + 1) ≡ positions.after (place_at job i) line
 place-next job i line h = ap (place_from First) (take_next job i line h) ∙ place-push First (take i job) line
@@ -77,12 +77,12 @@ placed-from place (line ∷ lines) (suc i) placed = placed-from (positions.after
 pub passes-from : (before : Before) (lines : List Line) (i : ℕ) → Passes before lines → Passes (before_from before (take i lines)) (drop i lines)
 passes-from before lines zero passes = passes
 passes-from before [] (suc i) passes = tt
-passes-from before (line ∷ lines) (suc i) passes = passes-from (checks.after before line) lines i passes.1
+passes-from before (line ∷ lines) (suc i) passes = passes-from (checks.after_line before line) lines i passes.1
 
-pub line-at : (job : List Line) (i : ℕ) (line : Line) → IsPlaced First job → Passes at_start job → slice_get job i ≡ Some line → IsLineAt job i line
+pub line-at : (job : List Line) (i : ℕ) (line : Line) → IsPlaced First job → Passes before_first_line job → slice_get job i ≡ Some line → IsLineAt job i line
 line-at job i line placed passes h =
     let next = drop_next job i line h in
     record {
       stands = (subst (IsPlaced (place_at job i)) next (placed-from First job i placed)).0;
-      passes = (subst (Passes (before_at job i)) next (passes-from at_start job i passes)).0;
+      passes = (subst (Passes (before_at job i)) next (passes-from before_first_line job i passes)).0;
     }

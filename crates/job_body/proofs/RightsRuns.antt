@@ -7,20 +7,21 @@ use Rattle.swan_model.specs.declared.rights.Mode.TheVariants.{InOut, Push, Pop}
 use Rattle.swan_model.specs.declared.value.Value.{Value}
 use Rattle.swan_model.specs.Elision.{first_store, object_holdings, queue_holdings, root, root_holdings, serial}
 use Rattle.swan_model.specs.SerialState.{Activation, Holding, State, Store}
-use Rattle.swan_model.specs.SerialStep.{Effect, goes_on, spawns, ends, faults, after, effect, effect_of, moved, step_on}
+use Rattle.swan_model.specs.SerialStep.{Effect, goes_on, spawns, ends, faults, state_after, effect, effect_of, after_next, step_on}
 use Rattle.job_reader.specs.Jobs.{IsJob, IsPlaced}
 use Rattle.job_reader.specs.declared.line.Line.{Line}
 use Rattle.job_reader.specs.declared.line.Line.TheVariants as line
 use Rattle.job_reader.specs.declared.position.Position.TheVariants.{First}
 use Rattle.privilege_check.specs.FirstFault.{first_fault}
-use Rattle.privilege_check.specs.Names.{at_start}
+use Rattle.privilege_check.specs.Names.{before_first_line}
 use Rattle.job_body.specs.contracts.body.JobBodyBody.TheImpl.{ghosts}
 use Rattle.job_body.specs.PlanOfJob.{plan_of_job, root_objects, root_queues}
 use Rattle.job_body.specs.RightsKept.{IsNotOfRights, KeepsRights}
 use Rattle.job_body.specs.Standing.{Standing}
 use Rattle.job_body.specs.Steps as steps
 use Rattle.job_body.specs.Tasks.{task_index, top_lines}
-use Rattle.job_body.proofs.RightsEffects.{EffectFits, Fits, Grows, fits-grown}
+use Rattle.swan_model.proofs.Stores.{HasGrown}
+use Rattle.job_body.proofs.RightsEffects.{EffectFits, FitsStore, fits-grown}
 use Rattle.job_body.proofs.RightsEntries.{root_entries, root_object_entry, root_queue_entry}
 use Rattle.job_body.proofs.RightsLines.{task-stands}
 use Rattle.job_body.proofs.RightsNames.{modes}
@@ -33,17 +34,17 @@ use Rattle.swan_model.proofs.RootLists.{length-first_queues, length-first_cells}
 
 -- ---- a step
 
-top-fits : (job : List Line) → IsPlaced First job → Passes at_start job → (n : ℕ) (store : Store) (top : Activation Standing) → Fits job store top → EffectFits job store (effect_of ghosts job n store top)
+top-fits : (job : List Line) → IsPlaced First job → Passes before_first_line job → (n : ℕ) (store : Store) (top : Activation Standing) → FitsStore job store top → EffectFits job store (effect_of ghosts job n store top)
 top-fits job placed passes n store top fits = fuelled (nat_eq top.fuel 0) where
   s : Standing
-  s = steps.told job top.local top.answer
+  s = steps.after_answer job top.local top.answer
 
-  goes : (line : Option Line) → slice_get job top.local.at ≡ line → let taken = steps.step_at job s (top.fuel - 1) line in EffectFits job store (effect n store (moved top taken.0) taken.1)
+  goes : (line : Option Line) → slice_get job top.local.at ≡ line → let taken = steps.step_at job s (top.fuel - 1) line in EffectFits job store (effect n store (after_next top taken.0) taken.1)
   goes None is = tt
   goes (Some line) is =
       line-fits job n store top s (top.fuel - 1) line (record { placed = placed; passes = passes; is = is; stands = fits.stands; stored = fits.stored })
 
-  fuelled : (b : Bool) → EffectFits job store (if b then faults kind.Fuel else (let taken = steps.step_at job s (top.fuel - 1) (slice_get job top.local.at) in effect n store (moved top taken.0) taken.1))
+  fuelled : (b : Bool) → EffectFits job store (if b then faults kind.Fuel else (let taken = steps.step_at job s (top.fuel - 1) (slice_get job top.local.at) in effect n store (after_next top taken.0) taken.1))
   fuelled true = refl
   fuelled false = goes (slice_get job top.local.at) refl
 
@@ -51,9 +52,9 @@ top-fits job placed passes n store top fits = fuelled (nat_eq top.fuel 0) where
 
 abbrev EachFits : List Line → Store → List (Activation Standing) → Type 0
 EachFits job store [] = Unit {0}
-EachFits job store (a ∷ below) = Fits job store a × EachFits job store below
+EachFits job store (a ∷ below) = FitsStore job store a × EachFits job store below
 
-each-grown : (job : List Line) (before after : Store) (stack : List (Activation Standing)) → Grows before after → EachFits job before stack → EachFits job after stack
+each-grown : (job : List Line) (before after : Store) (stack : List (Activation Standing)) → HasGrown before after → EachFits job before stack → EachFits job after stack
 each-grown job before after [] grows fits = tt
 each-grown job before after (a ∷ below) grows fits = (fits-grown job before after a grows fits.0, each-grown job before after below grows fits.1)
 
@@ -61,7 +62,7 @@ record KeepsTo (job : List Line) (s : State Standing) : Type 0 where
   pub stack : EachFits job s.store s.stack
   pub faults : All IsNotOfRights s.faults
 
-after-keeps : (job : List Line) (s : State Standing) (below : List (Activation Standing)) (path : List ℕ) (place : ℕ) (done : Effect Standing) → EffectFits job s.store done → EachFits job s.store below → All IsNotOfRights s.faults → KeepsTo job (after s below path place done)
+after-keeps : (job : List Line) (s : State Standing) (below : List (Activation Standing)) (path : List ℕ) (place : ℕ) (done : Effect Standing) → EffectFits job s.store done → EachFits job s.store below → All IsNotOfRights s.faults → KeepsTo job (state_after s below path place done)
 after-keeps job s below path place (goes_on a store) fits each booked =
     record { stack = (fits.1, each-grown job s.store store below fits.0 each); faults = booked }
 after-keeps job s below path place (spawns parent child store) fits each booked =
@@ -70,7 +71,7 @@ after-keeps job s below path place ends fits each booked = record { stack = each
 after-keeps job s below path place (faults kind) fits each booked =
     record { stack = each; faults = All-push IsNotOfRights s.faults (record { path = path; place = place; kind = kind }) booked fits }
 
-step_on-keeps : (job : List Line) → IsPlaced First job → Passes at_start job → (s : State Standing) (stack : List (Activation Standing)) → EachFits job s.store stack → KeepsTo job s → KeepsTo job (step_on ghosts job s stack)
+step_on-keeps : (job : List Line) → IsPlaced First job → Passes before_first_line job → (s : State Standing) (stack : List (Activation Standing)) → EachFits job s.store stack → KeepsTo job s → KeepsTo job (step_on ghosts job s stack)
 step_on-keeps job placed passes s [] each keeps = keeps
 step_on-keeps job placed passes s (top ∷ below) each keeps =
     after-keeps job s below top.path _ _ (top-fits job placed passes s.steps s.store top each.0) each.1 keeps.faults
@@ -110,13 +111,13 @@ both-stored : (c q : ℕ) (first second : List Holding) → InStore c q first �
 both-stored c q [] second a b = b
 both-stored c q (holding ∷ first) second a b = (a.0, both-stored c q first second a.1 b)
 
-main-at : (job : List Line) → first_fault job ≡ None → Passes at_start job → IsTaskAt job (task_index job (codes "main")) (codes "main") []
+main-at : (job : List Line) → first_fault job ≡ None → Passes before_first_line job → IsTaskAt job (task_index job (codes "main")) (codes "main") []
 main-at job faultless passes =
-    let main = main-known job 0 at_start faultless in
-    let is : found job (codes "main") ≡ Some main.0 = sym (learnt at_start job (codes "main") passes refl) ∙ main.1 in
-    subst (IsTaskAt job (task_index job (codes "main")) (codes "main")) (main-found job at_start main.0 passes is) (task-found job (codes "main") main.0 is)
+    let main = main-known job 0 before_first_line faultless in
+    let is : found job (codes "main") ≡ Some main.0 = sym (learnt before_first_line job (codes "main") passes refl) ∙ main.1 in
+    subst (IsTaskAt job (task_index job (codes "main")) (codes "main")) (main-found job before_first_line main.0 passes is) (task-found job (codes "main") main.0 is)
 
-root-fits : (job : List Line) (texts : List (List ℕ)) (fuel : ℕ) → IsPlaced First job → first_fault job ≡ None → Passes at_start job → let plan = plan_of_job job texts fuel in Fits job (first_store plan.roots) (root plan)
+root-fits : (job : List Line) (texts : List (List ℕ)) (fuel : ℕ) → IsPlaced First job → first_fault job ≡ None → Passes before_first_line job → let plan = plan_of_job job texts fuel in FitsStore job (first_store plan.roots) (root plan)
 root-fits job texts fuel placed faultless passes =
     let top = top_lines job in
     let index = task_index job (codes "main") in
@@ -132,7 +133,7 @@ root-fits job texts fuel placed faultless passes =
 
 -- ---- the elision
 
-serial-keeps : (job : List Line) (texts : List (List ℕ)) (fuel : ℕ) → IsPlaced First job → first_fault job ≡ None → Passes at_start job → (n : ℕ) → KeepsTo job (serial ghosts (plan_of_job job texts fuel) n)
+serial-keeps : (job : List Line) (texts : List (List ℕ)) (fuel : ℕ) → IsPlaced First job → first_fault job ≡ None → Passes before_first_line job → (n : ℕ) → KeepsTo job (serial ghosts (plan_of_job job texts fuel) n)
 serial-keeps job texts fuel placed faultless passes zero =
     record { stack = (root-fits job texts fuel placed faultless passes, tt); faults = λ k d less. absurd (omega (arith, less)) }
 serial-keeps job texts fuel placed faultless passes (suc n) =
@@ -143,4 +144,4 @@ serial-keeps job texts fuel placed faultless passes (suc n) =
 -- a job without a fault keeps to the rights of its tasks
 pub rights-kept : (job : List Line) (texts : List (List ℕ)) (fuel : ℕ) → IsJob job → first_fault job ≡ None → KeepsRights ghosts (plan_of_job job texts fuel)
 rights-kept job texts fuel is_job faultless = λ n.
-    (serial-keeps job texts fuel is_job.placed faultless (passes-faultless job 0 at_start faultless) n).faults
+    (serial-keeps job texts fuel is_job.placed faultless (passes-faultless job 0 before_first_line faultless) n).faults

@@ -13,7 +13,7 @@ use Rattle.job_reader.specs.declared.line.Line.{Line}
 use Rattle.job_reader.specs.declared.line.Line.TheVariants as line
 use Rattle.privilege_check.specs.FirstFault.{check_line, fault_from, fresh, has_main, or_later, outside_main}
 use Rattle.privilege_check.specs.Names as checks
-use Rattle.privilege_check.specs.Names.{Before, at_start, after_declare, after_declare_in, is_main, known, after_open, after_declare_taken, taken_by, with_next, with_taken}
+use Rattle.privilege_check.specs.Names.{Before, before_first_line, after_declare, after_declare_in, is_main, known, after_open, after_declare_taken, taken_by, with_next, with_taken}
 use Rattle.privilege_check.specs.declared.declaration.Declaration.{Declaration}
 use Rattle.privilege_check.specs.declared.declaration.Declaration.TheVariants.{Variable, Held}
 use Rattle.job_body.specs.declared.take.Take.{Take}
@@ -276,7 +276,7 @@ main-found (line.Task other ∷ lines) before taken passes is = go (bytes_eq oth
   go : (b : Bool) → bytes_eq other (codes "main") ≡ b → cond b (Some (meanings (before_task lines))) (found lines (codes "main")) ≡ Some taken → (found lines (codes "main") ≡ Some taken → taken ≡ []) → taken ≡ []
   go true e here later = sym (same_Some _ _ here) ∙ main-takes lines (after_open other before) other refl e passes.1
   go false e here later = later here
-main-found (line ∷ lines) before taken passes is = main-found lines (checks.after before line) taken passes.1 is
+main-found (line ∷ lines) before taken passes is = main-found lines (checks.after_line before line) taken passes.1 is
 
 -- ---- what a job that has no fault says
 
@@ -291,11 +291,11 @@ has_main-some n (Some taken) e = (taken, refl)
 pub passes-faultless : (lines : List Line) (n : ℕ) (before : Before) → fault_from n before lines ≡ None → Passes before lines
 passes-faultless [] n before e = tt
 passes-faultless (line ∷ lines) n before e =
-    let parts = or_later-none (suc n) (check_line before line) (fault_from (suc n) (checks.after before line) lines) e in
-    (parts.0, passes-faultless lines (suc n) (checks.after before line) parts.1)
+    let parts = or_later-none (suc n) (check_line before line) (fault_from (suc n) (checks.after_line before line) lines) e in
+    (parts.0, passes-faultless lines (suc n) (checks.after_line before line) parts.1)
 
 pub main-known : (lines : List Line) (n : ℕ) (before : Before) → fault_from n before lines ≡ None → (taken : List Declaration) × ((before_from before lines).tasks (codes "main") ≡ Some taken)
 main-known [] n before e = has_main-some n (before.tasks (codes "main")) e
 main-known (line ∷ lines) n before e =
-    let parts = or_later-none (suc n) (check_line before line) (fault_from (suc n) (checks.after before line) lines) e in
-    main-known lines (suc n) (checks.after before line) parts.1
+    let parts = or_later-none (suc n) (check_line before line) (fault_from (suc n) (checks.after_line before line) lines) e in
+    main-known lines (suc n) (checks.after_line before line) parts.1

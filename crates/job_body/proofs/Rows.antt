@@ -15,21 +15,21 @@ use Rattle.job_body.specs.declared.instruction.Action.TheVariants as action
 use Rattle.job_body.specs.declared.instruction.Instruction.{Instruction}
 use Rattle.job_body.specs.declared.instruction.Work.{Work}
 use Rattle.job_body.specs.Compiled.{program_of}
-use Rattle.job_body.specs.Runs.{answered, answered_by, ask_by, done, last_ask, last_of, next_by, run, told_by, worked}
+use Rattle.job_body.specs.Runs.{values_after_answer, values_after_answer_by, ask_by, done, last_ask, last_of, next_by, run, after_answer_by, worked}
 use Rattle.job_body.specs.Standing.{Standing}
 use Rattle.job_body.specs.Steps.{next}
 use Rattle.job_body.proofs.Steps.{next-program}
 
 -- ---- what is told nothing stays as it is
 
-answered-nothing : (values : List Value) (action : Action) → answered values action answer.Nothing ≡ values
+answered-nothing : (values : List Value) (action : Action) → values_after_answer values action answer.Nothing ≡ values
 answered-nothing values action = grind arith
 
-by-nothing : (values : List Value) (instruction : Option Instruction) → answered_by values instruction answer.Nothing ≡ values
+by-nothing : (values : List Value) (instruction : Option Instruction) → values_after_answer_by values instruction answer.Nothing ≡ values
 by-nothing values None = refl
 by-nothing values (Some instruction) = answered-nothing values instruction.action
 
-told-nothing : (program : List Instruction) (s : Standing) → told_by program s answer.Nothing ≡ s
+told-nothing : (program : List Instruction) (s : Standing) → after_answer_by program s answer.Nothing ≡ s
 told-nothing program s =
     ap {B = Standing} (λ values. record { before = s.before; at = s.at; values = values }) (by-nothing s.values (slice_get program s.before))
 
@@ -38,7 +38,7 @@ told-nothing program s =
 -- an activation that has taken n steps of work, and has been told what its next step is told
 pub record HasWorked (program : List Instruction) (s : Standing) (first : Answer) (fuel n : ℕ) (now : Standing) : Type 0 where
   pub works : AreWork (next_by program) s first fuel n
-  pub is_now : now ≡ told_by program (local_after (next_by program) s first fuel n) (told_after first n)
+  pub is_now : now ≡ after_answer_by program (local_after (next_by program) s first fuel n) (told_after first n)
 
 -- what the step leaves and asks for that comes next
 pub stepped : (program : List Instruction) (s : Standing) (first : Answer) (fuel n : ℕ) (now moved : Standing) (asks : Ask Standing) → HasWorked program s first fuel n now → (moved, asks) ≡ run program now (fuel - n - 1) (slice_get program now.at) → (moved ≡ local_after (next_by program) s first fuel (suc n)) × (asks ≡ ask_after (next_by program) s first fuel n)
@@ -52,7 +52,7 @@ one-more program s first fuel n now moved so is =
     let e : suc n ≡ n + 1 = omega arith in
     let more : HasWorked program s first fuel (suc n) moved = record {
       works = (so.works, sym both.1);
-      is_now = sym (told-nothing program moved) ∙ ap (λ t. told_by program t answer.Nothing) both.0;
+      is_now = sym (told-nothing program moved) ∙ ap (λ t. after_answer_by program t answer.Nothing) both.0;
     } in
     subst (λ k. HasWorked program s first fuel k moved) e more
 

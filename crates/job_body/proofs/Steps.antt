@@ -55,9 +55,9 @@ spawned-is : (lines : List Line) (s : Standing) (n : ℤ) (p : ℕ) (given : Lis
     ≡ steps.step_of_spawn lines s n p given
 spawned-is lines s (negsuc n) p given begins = refl
 spawned-is lines s (pos fuel) p given begins =
-    ap (λ local. (steps.moved_on lines s, ask.Spawn (record { local = local; gives = flat_map (compiled.give_given (seen_at lines s.at)) given; fuel = fuel })))
+    ap (λ local. (steps.after_move_on lines s, ask.Spawn (record { local = local; gives = flat_map (compiled.give_given (seen_at lines s.at)) given; fuel = fuel })))
     (begins (map (runs.value_of s.values) (flat_map (compiled.param_given (seen_at lines s.at)) given)) ∙ ap (steps.begun lines p) (sym (values-given lines s given)))
-    ∙ ap (λ gives. (steps.moved_on lines s, ask.Spawn (record { local = steps.begun lines p (flat_map (steps.value_given lines s) given); gives = gives; fuel = fuel }))) (sym (gives-given lines s given))
+    ∙ ap (λ gives. (steps.after_move_on lines s, ask.Spawn (record { local = steps.begun lines p (flat_map (steps.value_given lines s) given); gives = gives; fuel = fuel }))) (sym (gives-given lines s given))
 
 abbrev spawn : List Line → Standing → ℕ → Atom → Option Task → List Atom → Standing × Ask Standing
 spawn lines s f fuel found args = runs.done (program_of lines) s (executed_from lines (s.at + 1)) f (compiled.spawn_of lines (seen_at lines s.at) fuel found args)
@@ -85,7 +85,7 @@ end-is lines s fuel (opened.While i ∷ blocks) = refl
 
 -- ---- branches
 
-branch-is : (lines : List Line) (s : Standing) (b : Bool) (to other : ℕ) → ◌≡◌ {A = Standing × Ask Standing} (runs.gone s (if b then to else executed_from lines other), ask.Work) ((if b then runs.gone s to else steps.moved_to lines s other), ask.Work)
+branch-is : (lines : List Line) (s : Standing) (b : Bool) (to other : ℕ) → ◌≡◌ {A = Standing × Ask Standing} (runs.gone s (if b then to else executed_from lines other), ask.Work) ((if b then runs.gone s to else steps.after_move_to lines s other), ask.Work)
 branch-is lines s true to other = refl
 branch-is lines s false to other = refl
 
@@ -143,15 +143,15 @@ done-line lines s fuel (line.Assign v o args) =
     ∙ ap (λ b. runs.run_of_assignment s (executed_from lines (s.at + 1)) (compiled.slot_in (seen_at lines s.at) v) (operation o (steps.result_of lines s args 0) b (runs.value_of s.values (compiled.or_zero (seen_at lines s.at) (slice_get args 2))))) (sym (argument-is lines s (slice_get args 1)))
     ∙ ap (λ c. runs.run_of_assignment s (executed_from lines (s.at + 1)) (compiled.slot_in (seen_at lines s.at) v) (operation o (steps.result_of lines s args 0) (steps.result_of lines s args 1) c)) (sym (argument-is lines s (slice_get args 2)))
     ∙ assigned-is lines s v (operation o (steps.result_of lines s args 0) (steps.result_of lines s args 1) (steps.result_of lines s args 2))
-done-line lines s fuel (line.Read v o) = ap (λ place. (steps.moved_on lines s, ask.Read place)) (sym (place-name lines s.at o))
+done-line lines s fuel (line.Read v o) = ap (λ place. (steps.after_move_on lines s, ask.Read place)) (sym (place-name lines s.at o))
 done-line lines s fuel (line.Write o a) =
-    ap (λ place. (steps.moved_on lines s, ask.Write place (runs.value_of s.values (compiled.operand_of (seen_at lines s.at) a)))) (sym (place-name lines s.at o))
-    ∙ ap (λ value. (steps.moved_on lines s, ask.Write (steps.place_at lines s.at o) value)) (sym (value-operand lines s.at s.values a))
+    ap (λ place. (steps.after_move_on lines s, ask.Write place (runs.value_of s.values (compiled.operand_of (seen_at lines s.at) a)))) (sym (place-name lines s.at o))
+    ∙ ap (λ value. (steps.after_move_on lines s, ask.Write (steps.place_at lines s.at o) value)) (sym (value-operand lines s.at s.values a))
 done-line lines s fuel (line.Push q a) =
-    ap (λ place. (steps.moved_on lines s, ask.Push place (runs.value_of s.values (compiled.operand_of (seen_at lines s.at) a)))) (sym (place-name lines s.at q))
-    ∙ ap (λ value. (steps.moved_on lines s, ask.Push (steps.place_at lines s.at q) value)) (sym (value-operand lines s.at s.values a))
-done-line lines s fuel (line.Pop v q) = ap (λ place. (steps.moved_on lines s, ask.Pop place)) (sym (place-name lines s.at q))
-done-line lines s fuel (line.Empty v q) = ap (λ place. (steps.moved_on lines s, ask.Empty place)) (sym (place-name lines s.at q))
+    ap (λ place. (steps.after_move_on lines s, ask.Push place (runs.value_of s.values (compiled.operand_of (seen_at lines s.at) a)))) (sym (place-name lines s.at q))
+    ∙ ap (λ value. (steps.after_move_on lines s, ask.Push (steps.place_at lines s.at q) value)) (sym (value-operand lines s.at s.values a))
+done-line lines s fuel (line.Pop v q) = ap (λ place. (steps.after_move_on lines s, ask.Pop place)) (sym (place-name lines s.at q))
+done-line lines s fuel (line.Empty v q) = ap (λ place. (steps.after_move_on lines s, ask.Empty place)) (sym (place-name lines s.at q))
 done-line lines s fuel (line.Spawn a task args) =
     spawn-found lines s fuel a (task_index lines task) (task_named (tasks_of lines) task) args (begun-named lines task) (task-found lines task)
     ∙ ap (λ value. steps.step_of_spawn lines s (number_of value) (task_index lines task) (zip (takes (lines_of_task lines (task_index lines task))) args)) (sym (value-operand lines s.at s.values a))
@@ -175,15 +175,15 @@ received-is lines s v new =
     ap (λ value. if is_kind (kind_of value) (kind_of new) then runs.with_slot s.values (slot (steps.names_at lines s.before) v) new else s.values) (sym (value-slot (steps.names_at lines s.before) s.values v))
     ∙ ap (λ values. if is_kind (kind_of (steps.value_named (steps.names_at lines s.before) s.values v)) (kind_of new) then values else s.values) (sym (set-slot (steps.names_at lines s.before) s.values v new))
 
-answered-end : (values : List Value) (block : Option BlockWithLine) (a : Answer) → runs.answered values (compiled.end_action block) a ≡ values
+answered-end : (values : List Value) (block : Option BlockWithLine) (a : Answer) → runs.values_after_answer values (compiled.end_action block) a ≡ values
 answered-end values None a = refl
 answered-end values (Some block) a = refl
 
-answered-spawn : (lines : List Line) (values : List Value) (scope : Scope) (fuel : Atom) (found : Option Task) (args : List Atom) (a : Answer) → runs.answered values (compiled.spawn_of lines scope fuel found args) a ≡ values
+answered-spawn : (lines : List Line) (values : List Value) (scope : Scope) (fuel : Atom) (found : Option Task) (args : List Atom) (a : Answer) → runs.values_after_answer values (compiled.spawn_of lines scope fuel found args) a ≡ values
 answered-spawn lines values scope fuel None args a = refl
 answered-spawn lines values scope fuel (Some task) args a = refl
 
-answered-line : (lines : List Line) (s : Standing) (line : Line) (a : Answer) → runs.answered s.values (action_of lines (tasks_of lines) (seen_at lines s.before) (exit_at lines s.before) s.before line) a ≡ steps.received_by lines s (Some line) a
+answered-line : (lines : List Line) (s : Standing) (line : Line) (a : Answer) → runs.values_after_answer s.values (action_of lines (tasks_of lines) (seen_at lines s.before) (exit_at lines s.before) s.before line) a ≡ steps.received_by lines s (Some line) a
 answered-line lines s (line.Read v o) (answer.Item value) = received-is lines s v value
 answered-line lines s (line.Read v o) a = refl
 answered-line lines s (line.Pop v q) (answer.Item value) = received-is lines s v value
@@ -196,14 +196,14 @@ answered-line lines s line a = refl
 
 -- ---- steps
 
-answered-by : (lines : List Line) (s : Standing) (line : Option Line) (a : Answer) → runs.answered_by s.values (option_map (instruction lines s.before) line) a ≡ steps.received_by lines s line a
+answered-by : (lines : List Line) (s : Standing) (line : Option Line) (a : Answer) → runs.values_after_answer_by s.values (option_map (instruction lines s.before) line) a ≡ steps.received_by lines s line a
 answered-by lines s None a = refl
 answered-by lines s (Some line) a = answered-line lines s line a
 
-told-is : (lines : List Line) (s : Standing) (a : Answer) → runs.told_by (program_of lines) s a ≡ steps.told lines s a
+told-is : (lines : List Line) (s : Standing) (a : Answer) → runs.after_answer_by (program_of lines) s a ≡ steps.after_answer lines s a
 told-is lines s a =
     ap (λ values. record { before = s.before; at = s.at; values = values })
-    (ap (λ i. runs.answered_by s.values i a) (instruction-at lines s.before) ∙ answered-by lines s (slice_get lines s.before) a)
+    (ap (λ i. runs.values_after_answer_by s.values i a) (instruction-at lines s.before) ∙ answered-by lines s (slice_get lines s.before) a)
 
 run-is : (lines : List Line) (s : Standing) (fuel : ℕ) (line : Option Line) → runs.run (program_of lines) s fuel (option_map (instruction lines s.at) line) ≡ steps.step_at lines s fuel line
 run-is lines s fuel None = refl
@@ -213,5 +213,5 @@ run-is lines s fuel (Some line) = done-line lines s fuel line
 pub next-program : (lines : List Line) (s : Standing) (a : Answer) (fuel : ℕ) → runs.next_by (program_of lines) s a fuel ≡ steps.next lines s a fuel
 next-program lines s a fuel =
     ap (λ told. runs.run (program_of lines) told fuel (slice_get (program_of lines) s.at)) (told-is lines s a)
-    ∙ ap (λ i. runs.run (program_of lines) (steps.told lines s a) fuel i) (instruction-at lines s.at)
-    ∙ run-is lines (steps.told lines s a) fuel (slice_get lines s.at)
+    ∙ ap (λ i. runs.run (program_of lines) (steps.after_answer lines s a) fuel i) (instruction-at lines s.at)
+    ∙ run-is lines (steps.after_answer lines s a) fuel (slice_get lines s.at)

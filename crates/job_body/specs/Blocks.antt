@@ -13,15 +13,15 @@ innermost (block ∷ blocks) = Some block
 
 -- The blocks that are open after a line, the innermost first, by those that are open before it and the
 -- line's index. The `end` that closes no block closes the task.
-abbrev pub after_end : List BlockWithLine → List BlockWithLine
-after_end [] = []
-after_end (block ∷ blocks) = blocks
+abbrev pub blocks_after_end : List BlockWithLine → List BlockWithLine
+blocks_after_end [] = []
+blocks_after_end (block ∷ blocks) = blocks
 
 abbrev pub blocks_after : ℕ → List BlockWithLine → Line → List BlockWithLine
 blocks_after i blocks (Task name) = []
 blocks_after i blocks (If a) = opened.If ∷ blocks
 blocks_after i blocks (While a) = opened.While i ∷ blocks
-blocks_after i blocks End = after_end blocks
+blocks_after i blocks End = blocks_after_end blocks
 blocks_after i blocks _ = blocks
 
 abbrev pub blocks_from : ℕ → List BlockWithLine → List Line → List BlockWithLine

@@ -1,7 +1,7 @@
 -- How the code keeps a job: an instruction for each line, which knows the places of its variables,
 -- objects and queues and where it goes on. The code alone is stated by this, and no public clause.
 use Rattle.std.specs.Prelude.{◌≡◌, ◌≤◌, ℕ, ◌+◌, false, Option, Some, None, List, [], ◌∷◌, ◌++◌, length, drop, flat_map, zip, slice_get, unwrap_or, pos, if◌then◌else◌}
-use Rattle.job_body.specs.Blocks.{after_end, blocks_at, exits, first_exit, innermost}
+use Rattle.job_body.specs.Blocks.{blocks_after_end, blocks_at, exits, first_exit, innermost}
 use Rattle.job_body.specs.Names.{slot}
 use Rattle.job_body.specs.Tasks.{access_name_of, before_task, executed_from, made_of, param_of, roots, scope_at, takes, top_lines, var_kinds, var_of}
 use Rattle.privilege_check.specs.Names.{is_main}
@@ -85,7 +85,7 @@ scope_past i s (line.Queue name kind) = record s { made = s.made ++ name ∷ [] 
 scope_past i s (line.Object name kind) = record s { made = s.made ++ name ∷ [] }
 scope_past i s (line.If a) = record s { blocks = opened.If ∷ s.blocks }
 scope_past i s (line.While a) = record s { blocks = opened.While i ∷ s.blocks }
-scope_past i s line.End = record s { blocks = after_end s.blocks }
+scope_past i s line.End = record s { blocks = blocks_after_end s.blocks }
 scope_past i s _ = s
 
 -- no more names of one sort than this are known of a task

@@ -81,15 +81,15 @@ record_of (Bytes bytes) = Some bytes
 abbrev pub set_by : List Value → Option ℕ → Value → List Value
 set_by values to new = if is_kind (kind_of (value_in values to)) (kind_of new) then with_slot values to new else values
 
-abbrev pub answered : List Value → Action → Answer → List Value
-answered values (action.Demand (demand.Read to place)) (answer.Item value) = set_by values to value
-answered values (action.Demand (demand.Pop to place)) (answer.Item value) = set_by values to value
-answered values (action.Demand (demand.Empty to place)) (answer.Flag is_empty) = set_by values to (flag is_empty)
-answered values _ _ = values
+abbrev pub values_after_answer : List Value → Action → Answer → List Value
+values_after_answer values (action.Demand (demand.Read to place)) (answer.Item value) = set_by values to value
+values_after_answer values (action.Demand (demand.Pop to place)) (answer.Item value) = set_by values to value
+values_after_answer values (action.Demand (demand.Empty to place)) (answer.Flag is_empty) = set_by values to (flag is_empty)
+values_after_answer values _ _ = values
 
-abbrev pub answered_by : List Value → Option Instruction → Answer → List Value
-answered_by values None answer = values
-answered_by values (Some instruction) answer = answered values instruction.action answer
+abbrev pub values_after_answer_by : List Value → Option Instruction → Answer → List Value
+values_after_answer_by values None answer = values
+values_after_answer_by values (Some instruction) answer = values_after_answer values instruction.action answer
 
 -- the activation at another line
 abbrev pub gone : Standing → ℕ → Standing
@@ -160,12 +160,12 @@ abbrev pub run : List Instruction → Standing → ℕ → Option Instruction �
 run program s fuel None = (s, ask.Finish)
 run program s fuel (Some instruction) = done program s instruction.next fuel instruction.action
 
-abbrev pub told_by : List Instruction → Standing → Answer → Standing
-told_by program s answer = record s { values = answered_by s.values (slice_get program s.before) answer }
+abbrev pub after_answer_by : List Instruction → Standing → Answer → Standing
+after_answer_by program s answer = record s { values = values_after_answer_by s.values (slice_get program s.before) answer }
 
 -- the step of a program
 abbrev pub next_by : List Instruction → Standing → Answer → ℕ → Standing × Ask Standing
-next_by program s answer fuel = run program (told_by program s answer) fuel (slice_get program s.at)
+next_by program s answer fuel = run program (after_answer_by program s answer) fuel (slice_get program s.at)
 
 -- what the last step of a row of some leaves and asks for
 abbrev pub last_ask : Option (Stop Standing) → Ask Standing

@@ -77,15 +77,15 @@ received_by lines s (Some (line.Pop v q)) (answer.Item value) = received lines s
 received_by lines s (Some (line.Empty v q)) (answer.Flag is_empty) = received lines s v (flag is_empty)
 received_by lines s _ _ = s.values
 
-abbrev pub told : List Line → Standing → Answer → Standing
-told lines s answer = record s { values = received_by lines s (slice_get lines s.before) answer }
+abbrev pub after_answer : List Line → Standing → Answer → Standing
+after_answer lines s answer = record s { values = received_by lines s (slice_get lines s.before) answer }
 
 -- the activation once it has moved on to the first step from this line on
-abbrev pub moved_to : List Line → Standing → ℕ → Standing
-moved_to lines s to = record { before = s.at; at = executed_from lines to; values = s.values }
+abbrev pub after_move_to : List Line → Standing → ℕ → Standing
+after_move_to lines s to = record { before = s.at; at = executed_from lines to; values = s.values }
 
-abbrev pub moved_on : List Line → Standing → Standing
-moved_on lines s = moved_to lines s (s.at + 1)
+abbrev pub after_move_on : List Line → Standing → Standing
+after_move_on lines s = after_move_to lines s (s.at + 1)
 
 -- the activation once a variable has a new value and it has moved on
 abbrev pub with_variable : List Line → Standing → List ℕ → Value → Standing
@@ -123,37 +123,37 @@ begun lines index values =
 abbrev pub step_of_spawn : List Line → Standing → ℤ → ℕ → List (Take × Atom) → Standing × Ask Standing
 step_of_spawn lines s (negsuc n) index given = (s, ask.Fail trouble.Range)
 step_of_spawn lines s (pos fuel) index given =
-    (moved_on lines s, ask.Spawn (record { local = begun lines index (flat_map (value_given lines s) given); gives = flat_map (give_of lines s) given; fuel = fuel }))
+    (after_move_on lines s, ask.Spawn (record { local = begun lines index (flat_map (value_given lines s) given); gives = flat_map (give_of lines s) given; fuel = fuel }))
 
 -- the end of the innermost of these blocks, or of the task where there is none
 abbrev pub ended : List Line → Standing → List BlockWithLine → Standing × Ask Standing
 ended lines s [] = (s, ask.Finish)
-ended lines s (block.If ∷ blocks) = (moved_on lines s, ask.Work)
-ended lines s (block.While i ∷ blocks) = (moved_to lines s i, ask.Work)
+ended lines s (block.If ∷ blocks) = (after_move_on lines s, ask.Work)
+ended lines s (block.While i ∷ blocks) = (after_move_to lines s i, ask.Work)
 
 -- The step of a line. The number is the fuel that is left after the step's own unit. It is a number of
 -- the language, since a run has less fuel than a number can say.
 abbrev pub step : List Line → Standing → ℕ → Line → Standing × Ask Standing
-step lines s fuel (line.Queue name kind) = (moved_on lines s, ask.NewQueue)
-step lines s fuel (line.Object name kind) = (moved_on lines s, ask.NewObject (zero_of kind))
+step lines s fuel (line.Queue name kind) = (after_move_on lines s, ask.NewQueue)
+step lines s fuel (line.Object name kind) = (after_move_on lines s, ask.NewObject (zero_of kind))
 step lines s fuel (line.Assign v o args) =
     step_of_assignment lines s v (operation o (result_of lines s args 0) (result_of lines s args 1) (result_of lines s args 2))
-step lines s fuel (line.Read v o) = (moved_on lines s, ask.Read (place_at lines s.at o))
-step lines s fuel (line.Write o a) = (moved_on lines s, ask.Write (place_at lines s.at o) (value_at lines s.at s.values a))
-step lines s fuel (line.Push q a) = (moved_on lines s, ask.Push (place_at lines s.at q) (value_at lines s.at s.values a))
-step lines s fuel (line.Pop v q) = (moved_on lines s, ask.Pop (place_at lines s.at q))
-step lines s fuel (line.Empty v q) = (moved_on lines s, ask.Empty (place_at lines s.at q))
+step lines s fuel (line.Read v o) = (after_move_on lines s, ask.Read (place_at lines s.at o))
+step lines s fuel (line.Write o a) = (after_move_on lines s, ask.Write (place_at lines s.at o) (value_at lines s.at s.values a))
+step lines s fuel (line.Push q a) = (after_move_on lines s, ask.Push (place_at lines s.at q) (value_at lines s.at s.values a))
+step lines s fuel (line.Pop v q) = (after_move_on lines s, ask.Pop (place_at lines s.at q))
+step lines s fuel (line.Empty v q) = (after_move_on lines s, ask.Empty (place_at lines s.at q))
 step lines s fuel (line.Spawn a task args) =
     step_of_spawn lines s (number_of (value_at lines s.at s.values a)) (task_index lines task)
     (zip (takes (lines_of_task lines (task_index lines task))) args)
-step lines s fuel line.Sync = (moved_on lines s, ask.Sync)
+step lines s fuel line.Sync = (after_move_on lines s, ask.Sync)
 step lines s fuel (line.Fuel v) = (with_variable lines s v (Int (pos (min fuel (2 ^ 63 - 1)))), ask.Work)
 step lines s fuel (line.Fail a) = (s, ask.Fail (trouble.User (number_of (value_at lines s.at s.values a))))
 step lines s fuel (line.If a) =
-    ((if is_true (value_at lines s.at s.values a) then moved_on lines s else moved_to lines s (exit_at lines s.at).otherwise), ask.Work)
-step lines s fuel line.Else = (moved_to lines s (exit_at lines s.at).after, ask.Work)
+    ((if is_true (value_at lines s.at s.values a) then after_move_on lines s else after_move_to lines s (exit_at lines s.at).otherwise), ask.Work)
+step lines s fuel line.Else = (after_move_to lines s (exit_at lines s.at).after, ask.Work)
 step lines s fuel (line.While a) =
-    ((if is_true (value_at lines s.at s.values a) then moved_on lines s else moved_to lines s (exit_at lines s.at).after), ask.Work)
+    ((if is_true (value_at lines s.at s.values a) then after_move_on lines s else after_move_to lines s (exit_at lines s.at).after), ask.Work)
 step lines s fuel line.End = ended lines s (blocks_at lines s.at)
 step lines s fuel _ = (s, ask.Finish)
 
@@ -163,7 +163,7 @@ step_at lines s fuel None = (s, ask.Finish)
 step_at lines s fuel (Some line) = step lines s fuel line
 
 abbrev pub next : List Line → Standing → Answer → ℕ → Standing × Ask Standing
-next lines s answer fuel = step_at lines (told lines s answer) fuel (slice_get lines s.at)
+next lines s answer fuel = step_at lines (after_answer lines s answer) fuel (slice_get lines s.at)
 
 -- the number of the line at which an activation stands, from 1 on
 abbrev pub place_of : List Line → Standing → ℕ

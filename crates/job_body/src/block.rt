@@ -1,6 +1,6 @@
 // Open blocks.
 ghost use Rattle.std.specs.Prelude.{◌≡◌, ◌∷◌, [], OnOk};
-ghost use Rattle.job_body.specs.Blocks.{after_end, innermost};
+ghost use Rattle.job_body.specs.Blocks.{blocks_after_end, innermost};
 
 use std::alloc::Global;
 use std::marker::Model;
@@ -57,7 +57,7 @@ impl BlocksWithLines {
 
     /// Closes the innermost block, where there is one. `O(1)`.
     pub fn close(&mut self)
-        ensures { self.new ≡ after_end self.old }
+        ensures { self.new ≡ blocks_after_end self.old }
     {
         let _block = self.from_outside.pop();
     }

@@ -26,7 +26,7 @@ impl JobLocal {
     ghost use Rattle.std.specs.Option.{option_copied};
     ghost use Rattle.job_body.specs.Operations.{number_of};
     ghost use Rattle.swan_model.specs.Values.{bytes_of, kind_of};
-    ghost use Rattle.job_body.specs.Runs.{answered, gone, number_in, record_of, set_by, value_in, value_of, with_slot};
+    ghost use Rattle.job_body.specs.Runs.{values_after_answer, gone, number_in, record_of, set_by, value_in, value_of, with_slot};
     ghost use Rattle.swan_model.specs.declared.record.TheConstants.{RECORD_MOST};
     ghost use Rattle.swan_model.specs.declared.value.Value.TheVariants.{Int};
 
@@ -176,7 +176,7 @@ impl JobLocal {
     /// Takes the answer to what the last step asked for. One that it didn't ask for is nothing.
     /// `O(1)`.
     pub(crate) fn tell(&mut self, last: &Action, answer: Answer)
-        ensures { self.new ≡ record self.old { values = answered self.old.values last.now answer } }
+        ensures { self.new ≡ record self.old { values = values_after_answer self.old.values last.now answer } }
     {
         match (last, answer) {
             (Action::Demand(Demand::Read(slot, _) | Demand::Pop(slot, _)), Answer::Item(value)) => {

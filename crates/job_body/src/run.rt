@@ -1,6 +1,6 @@
 // Running instructions.
 ghost use Rattle.std.specs.Prelude.{◌≡◌, ◌++◌, ◌+◌, ◌-◌, ◌^◌, ◌<◌, ◌≤◌, suc, min, map, pos, Some, None, IfOk, IfSome, IfNone};
-ghost use Rattle.job_body.specs.Runs.{ask_by, begun_in, demanded, gone, last_of, next_by, run_of_spawn, told_by, value_of, worked};
+ghost use Rattle.job_body.specs.Runs.{ask_by, begun_in, demanded, gone, last_of, next_by, run_of_spawn, after_answer_by, value_of, worked};
 ghost use Rattle.swan_model.specs.Work.{ask_after, AreWork, local_after};
 ghost use Rattle.swan_model.specs.declared.body.Ask.TheVariants as ask;
 ghost use Rattle.swan_model.specs.declared.value.Value.TheVariants as value;
@@ -183,7 +183,7 @@ fn do_work(
 /// Tells an activation the answer to the ask of its last step.
 #[inline(always)]
 fn tell(program: &Listed<Instruction>, local: &mut JobLocal, answer: Answer)
-    ensures { local.new ≡ told_by program.now local.old answer }
+    ensures { local.new ≡ after_answer_by program.now local.old answer }
 {
     if let Some(last) = program.get(local.before() as usize) {
         local.tell(&last.action, answer);

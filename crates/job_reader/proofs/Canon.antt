@@ -11,7 +11,7 @@ use Rattle.job_reader.specs.Atoms.{as_bytes, as_list, as_name, as_number, atom, 
 use Rattle.std.proofs.lemmas.Slice.Eq.{bytes_eq-Decides}
 use Rattle.swan_model.specs.declared.value.Kind.{Kind}
 use Rattle.swan_model.specs.declared.value.Kind.TheVariants as value
-use Rattle.job_reader.specs.LineShape.{known}
+use Rattle.job_reader.specs.LineShape.{or_bad_line}
 use Rattle.job_reader.specs.Words.{kind_named, kind_text, kinds}
 use Rattle.job_reader.specs.CanonicalText.{atom_text, literal_text}
 use Rattle.job_reader.specs.Faults.{both, ◌>>=◌}
@@ -165,7 +165,7 @@ found_text text (y ∷ ys) token x is =
     (λ (other : bytes_eq token (text y) ≡ false). found_text text ys token x (sym (cond-false (bytes_eq token (text y)) _ _ other) ∙ is))
     (cases_Bool (bytes_eq token (text y)))
 
-pub known_some : {A : Type 0} (o : Option A) (a : A) → known o ≡ Ok a → o ≡ Some a
+pub known_some : {A : Type 0} (o : Option A) (a : A) → or_bad_line o ≡ Ok a → o ≡ Some a
 known_some (Some b) a is = let same : b ≡ a = cc in ap (λ x. Some x) same
 known_some None a is = cc
 
@@ -173,7 +173,7 @@ kind_stays : (k : Kind) → (canon (kind_text k) ≡ kind_text k) × (is_fine (k
 kind_stays value.Int = (refl, refl)
 kind_stays value.Bytes = (refl, refl)
 
-pub kind_canon : (token : List ℕ) (k : Kind) → known (kind_named token) ≡ Ok k → (kind_text k ≡ canon token) × (is_fine token ≡ true)
+pub kind_canon : (token : List ℕ) (k : Kind) → or_bad_line (kind_named token) ≡ Ok k → (kind_text k ≡ canon token) × (is_fine token ≡ true)
 kind_canon token k is =
     let same = found_text kind_text kinds token k (known_some (kind_named token) k is) in
     (sym (kind_stays k).0 ∙ ap canon (sym same), ap is_fine same ∙ (kind_stays k).1)

@@ -4,6 +4,7 @@ use Rattle.std.specs.Prelude.{◌⊎◌, ◌==◌, ◌&&◌, nat_le, nat_lt, fla
 use Rattle.std.specs.Char.{digit_char}
 use Rattle.std.specs.List.{list_all}
 use Rattle.std.proofs.lemmas.Bool.{cond-true, cond_both, cases_Bool, and_from, and_parts, eqb-true, le-leb}
+use Rattle.std.proofs.lemmas.List.Folds.{list_all-append}
 use Rattle.swan_model.specs.declared.record.TheConstants.{RECORD_MOST}
 use Rattle.job_reader.specs.Atoms.{as_bytes, as_name, atom, decoded, fitting, literal, name}
 use Rattle.job_reader.specs.CanonicalText.{escaped, literal_text}
@@ -81,11 +82,8 @@ canon_short token allowed =
     (canon_cases token)
 
 -- its bytes may stand in a line
-all_joined : (test : ℕ → Bool) (xs ys : List ℕ) → list_all test xs ≡ true → list_all test ys ≡ true → list_all test (xs ++ ys) ≡ true
-all_joined test [] ys a b = b
-all_joined test (x ∷ xs) ys a b =
-    let parts = and_parts (test x) (list_all test xs) a in
-    and_from (test x) (list_all test (xs ++ ys)) parts.0 (all_joined test xs ys parts.1 b)
+pub all_joined : (test : ℕ → Bool) (xs ys : List ℕ) → list_all test xs ≡ true → list_all test ys ≡ true → list_all test (xs ++ ys) ≡ true
+all_joined test xs ys a b = list_all-append test xs ys ∙ and_from (list_all test xs) (list_all test ys) a b
 
 digit_allowed : (d : ℕ) → d < 16 → is_allowed (digit_char d) ≡ true
 digit_allowed d small =

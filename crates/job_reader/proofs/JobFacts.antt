@@ -7,7 +7,7 @@ use Rattle.job_reader.specs.CanonicalText.{text_of}
 use Rattle.job_reader.specs.Faults.{◌>>=◌}
 use Rattle.job_reader.specs.FirstFault.{balanced, is_nothing, is_one_too_many, is_stray_else, is_unbalanced, job_from, job_of, job_of_lines, line_alone, line_at, opens_block}
 use Rattle.job_reader.specs.Jobs.{IsJob, IsPlaced, may_stand}
-use Rattle.job_reader.specs.LineShape.{do_form, form, formed, header, is_assignment, is_first, is_note, known, name_and_atom, name_and_kind, nothing, one_atom, one_name, spawned, two_names, outside_form, shape, task_form, top_form}
+use Rattle.job_reader.specs.LineShape.{do_form, form, formed, header, is_assignment, is_first, is_note, or_bad_line, name_and_atom, name_and_kind, nothing, one_atom, one_name, spawned, two_names, outside_form, shape, task_form, top_form}
 use Rattle.job_reader.specs.Positions.{after, is_open}
 use Rattle.job_reader.specs.Tokens.{tokens, trimmed}
 use Rattle.job_reader.specs.declared.fault.JobKind.{JobKind}
@@ -129,7 +129,7 @@ assigned_stands blocks v o args false l is = cc
 assignment_stands : (blocks : List Block) (v : List ℕ) (ts : List (List ℕ)) (l : Line) → assignment v ts ≡ Ok l → may_stand (InDo blocks) l ≡ true
 assignment_stands blocks v [] l is = cc
 assignment_stands blocks v (o ∷ args) l is =
-    let found = bind_ok (known (op_named o)) (λ w. assigned v w args) l is in
+    let found = bind_ok (or_bad_line (op_named o)) (λ w. assigned v w args) l is in
     assigned_stands blocks v found.0 args (length args == arity found.0) l found.2
 
 -- there is room for one more block where it isn't one too many
@@ -138,10 +138,10 @@ room_for_block blocks opens limit is =
     let few : nat_le BLOCKS_MOST (length blocks) ≡ false = ⊎_elim (λ h. h) (λ (h : opens ≡ false). absurd (both_ways _ h is)) (and_cases (nat_le BLOCKS_MOST (length blocks)) opens limit) in
     lt-ltb (length blocks) BLOCKS_MOST (leb-false BLOCKS_MOST (length blocks) few)
 
-statement_stands : (blocks : List Block) (first : List ℕ) (rest : List (List ℕ)) (b : Bool) (l : Line) → is_assignment rest ≡ b → (nat_le BLOCKS_MOST (length blocks) && opens_block first rest) ≡ false → is_stray_else (InDo blocks) l ≡ false → cond b (assignment first (after_equals rest)) (known (do_named first) >>= λ w. do_form w rest) ≡ Ok l → may_stand (InDo blocks) l ≡ true
+statement_stands : (blocks : List Block) (first : List ℕ) (rest : List (List ℕ)) (b : Bool) (l : Line) → is_assignment rest ≡ b → (nat_le BLOCKS_MOST (length blocks) && opens_block first rest) ≡ false → is_stray_else (InDo blocks) l ≡ false → cond b (assignment first (after_equals rest)) (or_bad_line (do_named first) >>= λ w. do_form w rest) ≡ Ok l → may_stand (InDo blocks) l ≡ true
 statement_stands blocks first rest true l equals limit stray is = assignment_stands blocks first (after_equals rest) l is
 statement_stands blocks first rest false l equals limit stray is =
-    let found = bind_ok (known (do_named first)) (λ w. do_form w rest) l is in
+    let found = bind_ok (or_bad_line (do_named first)) (λ w. do_form w rest) l is in
     let word = found_text do_text do_words first found.0 (known_some (do_named first) found.0 found.1) in
     do_stands blocks found.0 rest l (λ opens. room_for_block blocks (opens_block first rest) limit (ap (λ t. opens_block t rest) word ∙ opens)) equals stray found.2
 
@@ -158,15 +158,15 @@ header_stands (a ∷ b ∷ c ∷ ts) l is = cc
 form_stands : (position : Position) (first : List ℕ) (rest : List (List ℕ)) (l : Line) → is_one_too_many position (first ∷ rest) ≡ false → is_stray_else position l ≡ false → form position first rest ≡ Ok l → may_stand position l ≡ true
 form_stands First first rest l limit stray is = header_stands (first ∷ rest) l is
 form_stands (Top left) first rest l limit stray is =
-    let found = bind_ok (known (top_named first)) (λ w. top_form w rest) l is in
+    let found = bind_ok (or_bad_line (top_named first)) (λ w. top_form w rest) l is in
     let word = found_text top_text top_words first found.0 (known_some (top_named first) found.0 found.1) in
     top_stands left found.0 rest l (λ input. room_for_input left first (word ∙ input) limit) found.2
 form_stands InTask first rest l limit stray is =
-    let found = bind_ok (known (task_named first)) (λ w. task_form w rest) l is in
+    let found = bind_ok (or_bad_line (task_named first)) (λ w. task_form w rest) l is in
     task_stands found.0 rest l found.2
 form_stands (InDo blocks) first rest l limit stray is = statement_stands blocks first rest (is_assignment rest) l refl limit stray is
 form_stands Outside first rest l limit stray is =
-    let found = bind_ok (known (top_named first)) (λ w. outside_form w rest) l is in
+    let found = bind_ok (or_bad_line (top_named first)) (λ w. outside_form w rest) l is in
     outside_stands found.0 rest l found.2
 
 formed_stands : (position : Position) (ts : List (List ℕ)) (l : Line) → is_one_too_many position ts ≡ false → is_stray_else position l ≡ false → formed position ts ≡ Ok l → may_stand position l ≡ true

@@ -2,17 +2,17 @@
 use Rattle.std.proofs.Common.{◌≡◌, ℕ, suc, true, false, List, [], ◌∷◌, length, refl, sym, ap, ◌∙◌, ⊎_elim, arith}
 use Rattle.std.specs.Prelude.{◌==◌}
 use Rattle.std.proofs.lemmas.Bool.{cond-true, cond-false, cases_Bool, ne_eqb}
-use Rattle.swan_model.specs.Lines.{lines, before_lines}
+use Rattle.swan_model.specs.Lines.{lines, in_front}
 use Rattle.job_reader.specs.FirstFault.{is_nothing}
 
 -- a byte that is a line feed ends a line, and another is at the front of one
 feed : (byte : ℕ) (bytes : List ℕ) → (byte == 10) ≡ true → lines (byte ∷ bytes) ≡ [] ∷ lines bytes
-feed byte bytes is = cond-true (byte == 10) ([] ∷ lines bytes) (before_lines byte (lines bytes)) is
+feed byte bytes is = cond-true (byte == 10) ([] ∷ lines bytes) (in_front byte (lines bytes)) is
 
-pub other_byte : (byte : ℕ) (bytes : List ℕ) → (byte == 10) ≡ false → lines (byte ∷ bytes) ≡ before_lines byte (lines bytes)
-other_byte byte bytes isnt = cond-false (byte == 10) ([] ∷ lines bytes) (before_lines byte (lines bytes)) isnt
+pub other_byte : (byte : ℕ) (bytes : List ℕ) → (byte == 10) ≡ false → lines (byte ∷ bytes) ≡ in_front byte (lines bytes)
+other_byte byte bytes isnt = cond-false (byte == 10) ([] ∷ lines bytes) (in_front byte (lines bytes)) isnt
 
-before_some : (byte : ℕ) (rest : List (List ℕ)) → is_nothing (before_lines byte rest) ≡ false
+before_some : (byte : ℕ) (rest : List (List ℕ)) → is_nothing (in_front byte rest) ≡ false
 before_some byte [] = refl
 before_some byte (line ∷ rest) = refl
 

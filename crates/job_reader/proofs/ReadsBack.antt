@@ -3,14 +3,15 @@ use Rattle.std.proofs.Common.{◌≡◌, ℕ, zero, suc, ◌+◌, ◌*◌, ◌<�
 use Rattle.std.specs.Prelude.{◌==◌, ◌&&◌, ◌||◌, not, nat_le, nat_lt, map}
 use Rattle.std.specs.List.{list_all, join_with_byte}
 use Rattle.std.proofs.lemmas.Bool.{cond-true, cond-false, cond_both, cases_Bool, and_parts, or_from, or_parts, ltb-false, le-ltb, ne_eqb, leb-true}
-use Rattle.swan_model.specs.Lines.{lines, before_lines}
+use Rattle.swan_model.specs.Lines.{lines, in_front}
+use Rattle.swan_model.proofs.FirstLine.{line_ended}
 use Rattle.job_reader.specs.CanonicalText.{indentation, line_text, text_from, text_of, whole_line}
 use Rattle.job_reader.specs.Characters.{is_allowed}
 use Rattle.job_reader.specs.Faults.{◌>>=◌}
 use Rattle.job_reader.specs.FirstFault.{and_others, balanced, is_nothing, is_one_too_many, is_past_limit, is_unbalanced, job_from, job_of, job_of_lines, line_alone, line_at, or_fault}
 use Rattle.job_reader.specs.LineShape.{formed, is_first, is_note, shape}
 use Rattle.job_reader.specs.Positions.{after}
-use Rattle.job_reader.specs.Tokens.{in_front, tokens, tokens_from, trimmed, with_byte, without_end_spaces, without_front_spaces, before_trimmed}
+use Rattle.job_reader.specs.Tokens.{tokens, tokens_from, trimmed, with_byte, without_end_spaces, without_front_spaces, before_trimmed}
 use Rattle.job_reader.specs.declared.fault.JobFault.{JobFault}
 use Rattle.job_reader.specs.declared.fault.JobKind.{JobKind}
 use Rattle.job_reader.specs.declared.fault.JobKind.TheVariants as kind
@@ -23,8 +24,8 @@ use Rattle.job_reader.specs.declared.read.TheConstants.{LINE_MOST}
 use Rattle.job_reader.specs.declared.scan.Scan.TheVariants.{Between, Token, Quoted}
 use Rattle.job_reader.proofs.Ascii.{trimmed_may}
 use Rattle.job_reader.proofs.Canon.{bind_ok, canon}
-use Rattle.job_reader.proofs.CanonTokens.{same_of_canon}
-use Rattle.job_reader.proofs.SameForms.{all_append, canon_may, formed_same, join_may, limit_same, line_may, text_short}
+use Rattle.job_reader.proofs.CanonTokens.{all_joined, same_of_canon}
+use Rattle.job_reader.proofs.SameForms.{canon_may, formed_same, join_may, limit_same, line_may, text_short}
 use Rattle.job_reader.proofs.TextLines.{of_lines}
 use Rattle.job_reader.proofs.WholeTokens.{AllAlone, all_alone, are_tokens, begins_joined, ends_joined, tokens_joined}
 use Rattle.job_reader.proofs.WrittenLines.{formed_written}
@@ -183,18 +184,20 @@ line_again number position bytes l is =
 indented_again : (number k : ℕ) (position : Position) (bytes : List ℕ) (l : Line) → line_alone number position bytes ≡ Ok l → line_alone number position (replicate k 32 ++ line_text l) ≡ Ok l
 indented_again number k position bytes l is =
     let again = line_again number position bytes l is in
-    alone_again number position (replicate k 32 ++ line_text l) (line_text l) l (all_append (replicate k 32) (line_text l) (spaces_may k) again.reads.allowed) (trimmed_again k (line_text l) again.begins again.ends) again.reads
+    alone_again number position (replicate k 32 ++ line_text l) (line_text l) l (all_joined is_allowed (replicate k 32) (line_text l) (spaces_may k) again.reads.allowed) (trimmed_again k (line_text l) again.begins again.ends) again.reads
+
+-- bytes that may stand in a line are no line feeds
+no_feed : (text : List ℕ) → list_all is_allowed text ≡ true → list_all (λ byte. not (byte == 10)) text ≡ true
+no_feed [] may = refl
+no_feed (byte ∷ text) may =
+    let parts = and_parts (is_allowed byte) (list_all is_allowed text) may in
+    let low : 32 ≤ byte = leb-true 32 byte (and_parts (nat_le 32 byte) (nat_le byte 126) parts.0).0 in
+    let isnt : (byte == 10) ≡ false = ne_eqb byte 10 (λ is. omega arith) in
+    ap (λ b. not b && list_all (λ other. not (other == 10)) text) isnt ∙ no_feed text parts.1
 
 -- a line ends at its line feed
 pub line_break : (text rest : List ℕ) → list_all is_allowed text ≡ true → lines (text ++ 10 ∷ rest) ≡ text ∷ lines rest
-line_break [] rest may = refl
-line_break (byte ∷ text) rest may =
-    let parts = and_parts (is_allowed byte) (list_all is_allowed text) may in
-    let isnt : (byte == 10) ≡ false = no_feed byte parts.0 in
-    cond-false (byte == 10) ([] ∷ lines (text ++ 10 ∷ rest)) (before_lines byte (lines (text ++ 10 ∷ rest))) isnt ∙ ap (before_lines byte) (line_break text rest parts.1)
-  where
-    no_feed : (byte : ℕ) → is_allowed byte ≡ true → (byte == 10) ≡ false
-    no_feed byte may = let low : 32 ≤ byte = leb-true 32 byte (and_parts (nat_le 32 byte) (nat_le byte 126) may).0 in ne_eqb byte 10 (λ is. omega arith)
+line_break text rest may = line_ended text rest (no_feed text may)
 
 -- a balanced line is the line that was read
 pub kept : (last : Bool) (position : Position) (l m : Line) → balanced last position l ≡ Ok m → l ≡ m
@@ -235,7 +238,7 @@ same_line number last position bytes l k is =
     let alone : line_alone number position bytes ≡ Ok l = found.1 ∙ ap (λ x. Ok x) same in
     let again = line_again number position bytes l alone in (
       ap (λ r. r >>= balanced last position) (indented_again number k position bytes l alone) ∙ ap (balanced last position) (sym same) ∙ found.2,
-      all_append (replicate k 32) (line_text l) (spaces_may k) again.reads.allowed,
+      all_joined is_allowed (replicate k 32) (line_text l) (spaces_may k) again.reads.allowed,
     )
 
 job_again : (raw : List (List ℕ)) (number : ℕ) (position : Position) (ls : List Line) → job_from number position raw ≡ Ok ls → Same number position raw ls

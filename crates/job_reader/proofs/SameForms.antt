@@ -1,16 +1,17 @@
 -- Canonical tokens make the same line as the tokens that they stand for.
-use Rattle.std.proofs.Common.{◌≡◌, ℕ, suc, ◌+◌, ◌≤◌, true, cond, List, [], ◌∷◌, ◌++◌, length, Result, Ok, Err, refl, ap, ◌∙◌, arith, length-append, lit≤}
+use Rattle.std.proofs.Common.{◌≡◌, ℕ, suc, ◌+◌, ◌≤◌, true, cond, List, [], ◌∷◌, length, Result, Ok, Err, refl, ap, ◌∙◌, arith, length-append, lit≤}
 use Rattle.std.specs.Prelude.{◌==◌, ◌&&◌, ◌||◌, not, nat_le, map, bytes_eq, codes}
 use Rattle.std.specs.List.{list_all, join_with_byte}
 use Rattle.std.proofs.lemmas.Bool.{and_from, and_parts}
+use Rattle.swan_model.specs.Lines.{in_front}
 use Rattle.swan_model.specs.declared.value.Kind.{Kind}
 use Rattle.job_reader.specs.Atoms.{as_list, atom, atoms, name}
 use Rattle.job_reader.specs.Characters.{is_allowed}
 use Rattle.job_reader.specs.Faults.{both, ◌>>=◌}
 use Rattle.job_reader.specs.FirstFault.{is_one_too_many, opens_block}
-use Rattle.job_reader.specs.LineShape.{after_equals, assigned, assignment, do_form, form, formed, header, is_assignment, known, name_and_atom, name_and_kind, nothing, one_atom, one_name, outside_form, spawned, statement, task_form, top_form, two_names}
+use Rattle.job_reader.specs.LineShape.{after_equals, assigned, assignment, do_form, form, formed, header, is_assignment, or_bad_line, name_and_atom, name_and_kind, nothing, one_atom, one_name, outside_form, spawned, statement, task_form, top_form, two_names}
 use Rattle.job_reader.specs.Words.{arity, do_named, kind_named, op_named, task_named, top_named}
-use Rattle.job_reader.specs.Tokens.{in_front, next, tokens, tokens_from, with_byte}
+use Rattle.job_reader.specs.Tokens.{next, tokens, tokens_from, with_byte}
 use Rattle.job_reader.specs.declared.fault.JobKind.{JobKind}
 use Rattle.job_reader.specs.declared.fault.JobKind.TheVariants as kind
 use Rattle.job_reader.specs.declared.line.Line.{Line}
@@ -28,7 +29,7 @@ use Rattle.job_reader.specs.declared.words.TaskWord.TheVariants as task
 use Rattle.job_reader.specs.declared.words.TopWord.{TopWord}
 use Rattle.job_reader.specs.declared.words.TopWord.TheVariants as top
 use Rattle.job_reader.proofs.Canon.{canon}
-use Rattle.job_reader.proofs.CanonTokens.{atom_same, canon_allowed, canon_short, name_same, same_of_canon}
+use Rattle.job_reader.proofs.CanonTokens.{all_joined, atom_same, canon_allowed, canon_short, name_same, same_of_canon}
 
 -- the bytes of all tokens may stand in a line
 abbrev pub MayStand : List (List ℕ) → Type 0
@@ -64,7 +65,7 @@ name_and_kind_same : (ts : List (List ℕ)) → MayStand ts → name_and_kind (m
 name_and_kind_same [] may = refl
 name_and_kind_same (a ∷ []) may = refl
 name_and_kind_same (a ∷ b ∷ []) may =
-    ap (λ n. both n (known (kind_named (canon b)))) (name_same a (first_may a (b ∷ []) may).0) ∙ ap (λ k. both (name a) (known k)) (kind_same b)
+    ap (λ n. both n (or_bad_line (kind_named (canon b)))) (name_same a (first_may a (b ∷ []) may).0) ∙ ap (λ k. both (name a) (or_bad_line k)) (kind_same b)
 name_and_kind_same (a ∷ b ∷ c ∷ ts) may = refl
 
 two_names_same : (ts : List (List ℕ)) → MayStand ts → two_names (map canon ts) ≡ two_names ts
@@ -164,8 +165,8 @@ assigned_same v o ts allowed may =
 assignment_same : (v : List ℕ) (ts : List (List ℕ)) → list_all is_allowed v ≡ true → MayStand ts → assignment (canon v) (map canon ts) ≡ assignment v ts
 assignment_same v [] allowed may = refl
 assignment_same v (o ∷ ts) allowed may =
-    ap (λ x. known x >>= λ w. assigned (canon v) w (map canon ts)) (same_of_canon op_named (λ x y. refl) o)
-    ∙ then_same (known (op_named o)) (λ w. assigned (canon v) w (map canon ts)) (λ w. assigned v w ts) (λ w. assigned_same v w ts allowed (first_may o ts may).1)
+    ap (λ x. or_bad_line x >>= λ w. assigned (canon v) w (map canon ts)) (same_of_canon op_named (λ x y. refl) o)
+    ∙ then_same (or_bad_line (op_named o)) (λ w. assigned (canon v) w (map canon ts)) (λ w. assigned v w ts) (λ w. assigned_same v w ts allowed (first_may o ts may).1)
 
 is_assignment_same : (ts : List (List ℕ)) → is_assignment (map canon ts) ≡ is_assignment ts
 is_assignment_same [] = refl
@@ -181,24 +182,24 @@ after_equals_may (token ∷ ts) may = (first_may token ts may).1
 
 statement_same : (v : List ℕ) (ts : List (List ℕ)) → list_all is_allowed v ≡ true → MayStand ts → statement (canon v) (map canon ts) ≡ statement v ts
 statement_same v ts allowed may =
-    ap (λ b. cond b (assignment (canon v) (after_equals (map canon ts))) (known (do_named (canon v)) >>= λ w. do_form w (map canon ts))) (is_assignment_same ts)
-    ∙ ap (λ x. cond (is_assignment ts) (assignment (canon v) x) (known (do_named (canon v)) >>= λ w. do_form w (map canon ts))) (after_equals_same ts)
-    ∙ ap (λ x. cond (is_assignment ts) x (known (do_named (canon v)) >>= λ w. do_form w (map canon ts))) (assignment_same v (after_equals ts) allowed (after_equals_may ts may))
-    ∙ ap (λ x. cond (is_assignment ts) (assignment v (after_equals ts)) (known x >>= λ w. do_form w (map canon ts))) (same_of_canon do_named (λ x y. refl) v)
-    ∙ ap (λ x. cond (is_assignment ts) (assignment v (after_equals ts)) x) (then_same (known (do_named v)) (λ w. do_form w (map canon ts)) (λ w. do_form w ts) (λ w. do_same w ts may))
+    ap (λ b. cond b (assignment (canon v) (after_equals (map canon ts))) (or_bad_line (do_named (canon v)) >>= λ w. do_form w (map canon ts))) (is_assignment_same ts)
+    ∙ ap (λ x. cond (is_assignment ts) (assignment (canon v) x) (or_bad_line (do_named (canon v)) >>= λ w. do_form w (map canon ts))) (after_equals_same ts)
+    ∙ ap (λ x. cond (is_assignment ts) x (or_bad_line (do_named (canon v)) >>= λ w. do_form w (map canon ts))) (assignment_same v (after_equals ts) allowed (after_equals_may ts may))
+    ∙ ap (λ x. cond (is_assignment ts) (assignment v (after_equals ts)) (or_bad_line x >>= λ w. do_form w (map canon ts))) (same_of_canon do_named (λ x y. refl) v)
+    ∙ ap (λ x. cond (is_assignment ts) (assignment v (after_equals ts)) x) (then_same (or_bad_line (do_named v)) (λ w. do_form w (map canon ts)) (λ w. do_form w ts) (λ w. do_same w ts may))
 
 form_same : (position : Position) (first : List ℕ) (ts : List (List ℕ)) → MayStand (first ∷ ts) → form position (canon first) (map canon ts) ≡ form position first ts
 form_same First first ts may = header_same (first ∷ ts)
 form_same (Top n) first ts may =
-    ap (λ x. known x >>= λ w. top_form w (map canon ts)) (same_of_canon top_named (λ x y. refl) first)
-    ∙ then_same (known (top_named first)) (λ w. top_form w (map canon ts)) (λ w. top_form w ts) (λ w. top_same w ts (first_may first ts may).1)
+    ap (λ x. or_bad_line x >>= λ w. top_form w (map canon ts)) (same_of_canon top_named (λ x y. refl) first)
+    ∙ then_same (or_bad_line (top_named first)) (λ w. top_form w (map canon ts)) (λ w. top_form w ts) (λ w. top_same w ts (first_may first ts may).1)
 form_same InTask first ts may =
-    ap (λ x. known x >>= λ w. task_form w (map canon ts)) (same_of_canon task_named (λ x y. refl) first)
-    ∙ then_same (known (task_named first)) (λ w. task_form w (map canon ts)) (λ w. task_form w ts) (λ w. task_same w ts (first_may first ts may).1)
+    ap (λ x. or_bad_line x >>= λ w. task_form w (map canon ts)) (same_of_canon task_named (λ x y. refl) first)
+    ∙ then_same (or_bad_line (task_named first)) (λ w. task_form w (map canon ts)) (λ w. task_form w ts) (λ w. task_same w ts (first_may first ts may).1)
 form_same (InDo blocks) first ts may = let parts = first_may first ts may in statement_same first ts parts.0 parts.1
 form_same Outside first ts may =
-    ap (λ x. known x >>= λ w. outside_form w (map canon ts)) (same_of_canon top_named (λ x y. refl) first)
-    ∙ then_same (known (top_named first)) (λ w. outside_form w (map canon ts)) (λ w. outside_form w ts) (λ w. outside_same w ts (first_may first ts may).1)
+    ap (λ x. or_bad_line x >>= λ w. outside_form w (map canon ts)) (same_of_canon top_named (λ x y. refl) first)
+    ∙ then_same (or_bad_line (top_named first)) (λ w. outside_form w (map canon ts)) (λ w. outside_form w ts) (λ w. outside_same w ts (first_may first ts may).1)
 
 pub formed_same : (position : Position) (ts : List (List ℕ)) → MayStand ts → formed position (map canon ts) ≡ formed position ts
 formed_same position [] may = refl
@@ -293,15 +294,9 @@ canon_may (token ∷ ts) may =
     let parts = first_may token ts may in
     and_from (list_all is_allowed (canon token)) (list_all (list_all is_allowed) (map canon ts)) (canon_allowed token parts.0) (canon_may ts parts.1)
 
-pub all_append : (xs ys : List ℕ) → list_all is_allowed xs ≡ true → list_all is_allowed ys ≡ true → list_all is_allowed (xs ++ ys) ≡ true
-all_append [] ys a b = b
-all_append (x ∷ xs) ys a b =
-    let parts = and_parts (is_allowed x) (list_all is_allowed xs) a in
-    and_from (is_allowed x) (list_all is_allowed (xs ++ ys)) parts.0 (all_append xs ys parts.1 b)
-
 pub join_may : (ts : List (List ℕ)) → MayStand ts → list_all is_allowed (join_with_byte 32 ts) ≡ true
 join_may [] may = refl
 join_may (token ∷ []) may = (first_may token [] may).0
 join_may (token ∷ other ∷ ts) may =
     let parts = first_may token (other ∷ ts) may in
-    all_append token (32 ∷ join_with_byte 32 (other ∷ ts)) parts.0 (and_from true (list_all is_allowed (join_with_byte 32 (other ∷ ts))) refl (join_may (other ∷ ts) parts.1))
+    all_joined is_allowed token (32 ∷ join_with_byte 32 (other ∷ ts)) parts.0 (and_from true (list_all is_allowed (join_with_byte 32 (other ∷ ts))) refl (join_may (other ∷ ts) parts.1))

@@ -3,14 +3,11 @@ use Rattle.std.proofs.Common.{true, false, ◌≡◌, ℕ, ◌+◌, ◌-◌, ◌
 use Rattle.std.proofs.Common.{length-drop, get_or-drop, drop-cons, add-one}
 use Rattle.std.proofs.lemmas.List.{take_more, append-nil}
 use Rattle.std.specs.Prelude.{slice_range}
-use Rattle.job_reader.specs.Tokens.{is_between, next, in_front, with_byte, tokens_from, tokens}
+use Rattle.swan_model.specs.Lines.{in_front}
+use Rattle.swan_model.proofs.FirstLine.{with_front}
+use Rattle.job_reader.specs.Tokens.{is_between, next, with_byte, tokens_from, tokens}
 use Rattle.job_reader.specs.declared.scan.Scan.{Scan}
 use Rattle.job_reader.specs.declared.scan.Scan.TheVariants.{Between, Token, Quoted, Escaped}
-
--- the tokens with more bytes at the front of the first
-abbrev pub with_front : List ℕ → List (List ℕ) → List (List ℕ)
-with_front front [] = front ∷ []
-with_front front (token ∷ tokens) = (front ++ token) ∷ tokens
 
 -- the tokens after some front, which is of the first token where one is open
 abbrev pub opened : Scan → List ℕ → List (List ℕ) → List (List ℕ)

@@ -4,16 +4,17 @@ use Rattle.std.proofs.lemmas.List.{append-nil}
 use Rattle.std.specs.Prelude.{◌==◌, not}
 use Rattle.std.specs.List.{list_all}
 use Rattle.std.proofs.lemmas.Bool.{cond-false, cond_both, and_from, eqb-true}
+use Rattle.swan_model.specs.Lines.{in_front}
+use Rattle.swan_model.proofs.FirstLine.{in_front_of, with_front}
 use Rattle.job_reader.specs.Pieces.{IsQuoted, IsToken, IsUnclosed, AreTokens}
 use Rattle.job_reader.specs.Pieces.IsQuoted.{nothing, plain, pair}
 use Rattle.job_reader.specs.Pieces.IsToken.{word, quoted}
 use Rattle.job_reader.specs.Pieces.IsUnclosed.{whole, cut}
 use Rattle.job_reader.specs.Pieces.AreTokens.{none, after_space, before_space, last, unclosed}
-use Rattle.job_reader.specs.Tokens.{in_front, tokens, tokens_from, with_byte}
+use Rattle.job_reader.specs.Tokens.{tokens, tokens_from, with_byte}
 use Rattle.job_reader.specs.declared.scan.Scan.{Scan}
 use Rattle.job_reader.specs.declared.scan.Scan.TheVariants.{Between, Token, Quoted, Escaped}
-use Rattle.job_reader.proofs.Scans.{with_front}
-use Rattle.job_reader.proofs.WholeTokens.{plain_alone, in_front_of, in_token, joined_front, stays_quoted, closed_quote}
+use Rattle.job_reader.proofs.WholeTokens.{plain_alone, in_token, joined_front, stays_quoted, closed_quote}
 
 -- what follows a token: the line's end, or a space and the other tokens
 data Rest (bytes token : List ℕ) (others : List (List ℕ)) : Type 0 where

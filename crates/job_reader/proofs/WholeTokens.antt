@@ -1,6 +1,8 @@
 -- Tokens that stand alone: joined by spaces they are the tokens of the line.
 use Rattle.std.proofs.Common.{◌≡◌, ℕ, ◌+◌, ◌/◌, ◌%◌, ◌<◌, ◌≤◌, Bool, true, false, cond, List, [], ◌∷◌, ◌++◌, length, Result, Ok, Err, refl, sym, ap, subst, ◌∙◌, ⊎_elim, append_assoc, arith, length-append, lit≤}
 use Rattle.std.proofs.lemmas.List.{append-nil}
+use Rattle.swan_model.specs.Lines.{in_front}
+use Rattle.swan_model.proofs.FirstLine.{in_front_of, with_front}
 use Rattle.job_reader.specs.Characters.{is_allowed}
 use Rattle.job_reader.specs.declared.literal.Inside.TheVariants.{Plain}
 use Rattle.std.specs.Prelude.{◌==◌, not, nat_lt, map, flat_map, is_ok}
@@ -9,7 +11,7 @@ use Rattle.std.specs.List.{list_all, join_with_byte}
 use Rattle.std.proofs.lemmas.Bool.{cond-true, cond-false, cond_both, cases_Bool, and_from, and_parts, ne_eqb, both_ways, not-true, ltb-false}
 use Rattle.job_reader.specs.Atoms.{decoded, literal}
 use Rattle.job_reader.specs.CanonicalText.{escaped, literal_text}
-use Rattle.job_reader.specs.Tokens.{in_front, next, tokens, tokens_from, with_byte, without_end_spaces, without_front_spaces, before_trimmed}
+use Rattle.job_reader.specs.Tokens.{next, tokens, tokens_from, with_byte, without_end_spaces, without_front_spaces, before_trimmed}
 use Rattle.job_reader.specs.declared.fault.JobKind.{JobKind}
 use Rattle.job_reader.specs.declared.scan.Scan.{Scan}
 use Rattle.job_reader.specs.declared.scan.Scan.TheVariants.{Between, Token, Quoted, Escaped}
@@ -17,7 +19,7 @@ use Rattle.job_reader.proofs.Canon.{canon, canon_literal, is_fine, unquoted_stay
 use Rattle.job_reader.proofs.CanonTokens.{read_inside}
 use Rattle.job_reader.proofs.Literals.{AreBytes, Escaping, escaping, literal_short}
 use Rattle.job_reader.proofs.Literals.Escaping.{at_quote, at_backslash, at_feed, at_tab, itself, by_digits}
-use Rattle.job_reader.proofs.Scans.{front_of_byte, with_front}
+use Rattle.job_reader.proofs.Scans.{front_of_byte}
 use Rattle.job_reader.proofs.Trims.{end_other, front_other}
 
 isnt_space : ℕ → Bool
@@ -96,10 +98,6 @@ pub record StandsAlone (token : List ℕ) : Type 0 where
   pub begins : without_front_spaces token ≡ token
   pub ends : without_end_spaces token ≡ token
   pub some : 0 < length token
-
-pub in_front_of : (byte : ℕ) (front : List ℕ) (tokens : List (List ℕ)) → in_front byte (with_front front tokens) ≡ with_front (byte ∷ front) tokens
-in_front_of byte front [] = refl
-in_front_of byte front (token ∷ tokens) = refl
 
 -- nothing in front of what is found in a token
 no_front : (rest : List ℕ) → with_front [] (tokens_from Token rest) ≡ tokens_from Token rest

@@ -9,7 +9,7 @@ use Rattle.swan_model.specs.declared.value.Kind.{Kind}
 use Rattle.job_reader.specs.Atoms.{atom, atoms, name}
 use Rattle.job_reader.specs.CanonicalText.{atom_text, line_tokens}
 use Rattle.job_reader.specs.Faults.{both, ◌>>=◌}
-use Rattle.job_reader.specs.LineShape.{after_equals, assigned, assignment, do_form, form, formed, header, is_assignment, known, name_and_atom, name_and_kind, nothing, one_atom, one_name, outside_form, spawned, task_form, top_form, two_names}
+use Rattle.job_reader.specs.LineShape.{after_equals, assigned, assignment, do_form, form, formed, header, is_assignment, or_bad_line, name_and_atom, name_and_kind, nothing, one_atom, one_name, outside_form, spawned, task_form, top_form, two_names}
 use Rattle.job_reader.specs.Words.{arity, do_named, do_text, kind_named, kind_text, op_named, op_text, ops, do_words, task_named, task_text, task_words, top_named, top_text, top_words}
 use Rattle.job_reader.specs.declared.atom.Atom.{Atom}
 use Rattle.job_reader.specs.declared.fault.JobKind.{JobKind}
@@ -49,7 +49,7 @@ name_and_kind_written : (rest : List (List ℕ)) (d : List ℕ × Kind) → name
 name_and_kind_written [] d is = cc
 name_and_kind_written (a ∷ []) d is = cc
 name_and_kind_written (a ∷ b ∷ []) d is =
-    let parts = both_ok (name a) (known (kind_named b)) d is in
+    let parts = both_ok (name a) (or_bad_line (kind_named b)) d is in
     two_written a b d.0 (kind_text d.1) (name_canon a d.0 parts.0) (kind_canon b d.1 parts.1)
 name_and_kind_written (a ∷ b ∷ c ∷ rest) d is = cc
 
@@ -250,7 +250,7 @@ assignment_written : (v : List ℕ) (rest : List (List ℕ)) (l : Line) → is_a
 assignment_written v [] l equals is = cc
 assignment_written v (token ∷ []) l equals is = cc
 assignment_written v (token ∷ first ∷ args) l equals is =
-    let found = bind_ok (known (op_named first)) (λ o. assigned v o args) l is in
+    let found = bind_ok (or_bad_line (op_named first)) (λ o. assigned v o args) l is in
     let o = found.0 in
     let word = found_text op_text ops first o (known_some (op_named first) o found.1) in
     let written = assigned_written v o args (length args == arity o) l found.2 in
@@ -259,23 +259,23 @@ assignment_written v (token ∷ first ∷ args) l equals is =
       and_from (is_fine v) (is_fine token && (is_fine first && list_all is_fine args)) written.1 (and_from (is_fine token) (is_fine first && list_all is_fine args) (ap is_fine sign) (and_from (is_fine first) (list_all is_fine args) (ap is_fine word ∙ (op_stays o).1) written.2)),
     )
 
-statement_written : (first : List ℕ) (rest : List (List ℕ)) (b : Bool) (l : Line) → is_assignment rest ≡ b → cond b (assignment first (after_equals rest)) (known (do_named first) >>= λ w. do_form w rest) ≡ Ok l → IsWritten l (first ∷ rest)
+statement_written : (first : List ℕ) (rest : List (List ℕ)) (b : Bool) (l : Line) → is_assignment rest ≡ b → cond b (assignment first (after_equals rest)) (or_bad_line (do_named first) >>= λ w. do_form w rest) ≡ Ok l → IsWritten l (first ∷ rest)
 statement_written first rest true l equals is = assignment_written first rest l equals is
 statement_written first rest false l equals is =
-    let found = bind_ok (known (do_named first)) (λ w. do_form w rest) l is in
+    let found = bind_ok (or_bad_line (do_named first)) (λ w. do_form w rest) l is in
     worded first (do_text found.0) rest l (found_text do_text do_words first found.0 (known_some (do_named first) found.0 found.1)) (do_stays found.0) (do_written found.0 rest l found.2)
 
 form_written : (position : Position) (first : List ℕ) (rest : List (List ℕ)) (l : Line) → form position first rest ≡ Ok l → IsWritten l (first ∷ rest)
 form_written First first rest l is = header_written (first ∷ rest) l is
 form_written (Top n) first rest l is =
-    let found = bind_ok (known (top_named first)) (λ w. top_form w rest) l is in
+    let found = bind_ok (or_bad_line (top_named first)) (λ w. top_form w rest) l is in
     worded first (top_text found.0) rest l (found_text top_text top_words first found.0 (known_some (top_named first) found.0 found.1)) (top_stays found.0) (top_written found.0 rest l found.2)
 form_written InTask first rest l is =
-    let found = bind_ok (known (task_named first)) (λ w. task_form w rest) l is in
+    let found = bind_ok (or_bad_line (task_named first)) (λ w. task_form w rest) l is in
     worded first (task_text found.0) rest l (found_text task_text task_words first found.0 (known_some (task_named first) found.0 found.1)) (task_stays found.0) (task_written found.0 rest l found.2)
 form_written (InDo blocks) first rest l is = statement_written first rest (is_assignment rest) l refl is
 form_written Outside first rest l is =
-    let found = bind_ok (known (top_named first)) (λ w. outside_form w rest) l is in
+    let found = bind_ok (or_bad_line (top_named first)) (λ w. outside_form w rest) l is in
     worded first (top_text found.0) rest l (found_text top_text top_words first found.0 (known_some (top_named first) found.0 found.1)) (top_stays found.0) (outside_written found.0 rest l found.2)
 
 pub formed_written : (position : Position) (tokens : List (List ℕ)) (l : Line) → formed position tokens ≡ Ok l → IsWritten l tokens

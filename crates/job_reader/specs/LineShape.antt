@@ -24,9 +24,9 @@ use Rattle.job_reader.specs.declared.words.TopWord.{TopWord}
 use Rattle.job_reader.specs.declared.words.TopWord.TheVariants as top
 
 -- a word that may stand there, or no line
-abbrev pub known : {A : Type 0} → Option A → Result A JobKind
-known (Some a) = Ok a
-known None = Err kind.BadLine
+abbrev pub or_bad_line : {A : Type 0} → Option A → Result A JobKind
+or_bad_line (Some a) = Ok a
+or_bad_line None = Err kind.BadLine
 
 -- What may follow a line's first word: nothing, a name, a name and a kind, two names, a name and an
 -- atom, or an atom.
@@ -39,7 +39,7 @@ one_name (token ∷ []) = name token
 one_name _ = Err kind.BadLine
 
 abbrev pub name_and_kind : List (List ℕ) → Result (List ℕ × Kind) JobKind
-name_and_kind (first ∷ second ∷ []) = both (name first) (known (kind_named second))
+name_and_kind (first ∷ second ∷ []) = both (name first) (or_bad_line (kind_named second))
 name_and_kind _ = Err kind.BadLine
 
 abbrev pub two_names : List (List ℕ) → Result (List ℕ × List ℕ) JobKind
@@ -116,7 +116,7 @@ assigned v o args =
 
 abbrev pub assignment : List ℕ → List (List ℕ) → Result Line JobKind
 assignment v [] = Err kind.BadLine
-assignment v (o ∷ args) = known (op_named o) >>= λ o. assigned v o args
+assignment v (o ∷ args) = or_bad_line (op_named o) >>= λ o. assigned v o args
 
 -- whether the tokens after the first make an assignment of a statement
 abbrev pub is_assignment : List (List ℕ) → Bool
@@ -130,15 +130,15 @@ after_equals (token ∷ tokens) = tokens
 abbrev pub statement : List ℕ → List (List ℕ) → Result Line JobKind
 statement first rest =
     if is_assignment rest then assignment first (after_equals rest)
-    else known (do_named first) >>= λ w. do_form w rest
+    else or_bad_line (do_named first) >>= λ w. do_form w rest
 
 -- the line that the tokens of a text that isn't a note make at a position
 abbrev pub form : Position → List ℕ → List (List ℕ) → Result Line JobKind
 form First first rest = header (first ∷ rest)
-form (Top inputs_left) first rest = known (top_named first) >>= λ w. top_form w rest
-form InTask first rest = known (task_named first) >>= λ w. task_form w rest
+form (Top inputs_left) first rest = or_bad_line (top_named first) >>= λ w. top_form w rest
+form InTask first rest = or_bad_line (task_named first) >>= λ w. task_form w rest
 form (InDo blocks) first rest = statement first rest
-form Outside first rest = known (top_named first) >>= λ w. outside_form w rest
+form Outside first rest = or_bad_line (top_named first) >>= λ w. outside_form w rest
 
 abbrev pub formed : Position → List (List ℕ) → Result Line JobKind
 formed position [] = Err kind.BadHeader

@@ -3,6 +3,7 @@
 -- own. A backslash inside the quotes escapes the byte after it. What follows the closing quote without a space
 -- is still of the token, which is then no literal.
 use Rattle.std.specs.Prelude.{ℕ, ◌==◌, Bool, true, false, List, [], ◌∷◌, if◌then◌else◌}
+use Rattle.swan_model.specs.Lines.{in_front}
 use Rattle.job_reader.specs.Characters.{space, quote, backslash}
 use Rattle.job_reader.specs.declared.scan.Scan.{Scan}
 use Rattle.job_reader.specs.declared.scan.Scan.TheVariants.{Between, Token, Quoted, Escaped}
@@ -18,11 +19,6 @@ next Escaped byte = Quoted
 abbrev pub is_between : Scan → Bool
 is_between Between = true
 is_between _ = false
-
--- the tokens with one more byte at the front of the first
-abbrev pub in_front : ℕ → List (List ℕ) → List (List ℕ)
-in_front byte [] = (byte ∷ []) ∷ []
-in_front byte (token ∷ tokens) = (byte ∷ token) ∷ tokens
 
 -- What a byte does to the tokens after it: a space between two tokens is of none, a space after a token
 -- ends it, and any other byte is of the first token.

@@ -1,7 +1,7 @@
 // The line that tokens make at a position.
 ghost use Rattle.std.specs.Prelude.{◌≡◌, ◌∷◌};
 ghost use Rattle.job_reader.specs.Faults.{IsReadAs};
-ghost use Rattle.job_reader.specs.LineShape.{known, name_and_atom, name_and_kind, nothing, one_atom, one_name, spawned, two_names};
+ghost use Rattle.job_reader.specs.LineShape.{or_bad_line, name_and_atom, name_and_kind, nothing, one_atom, one_name, spawned, two_names};
 ghost use Rattle.job_reader.specs.LineShape.{do_form, outside_form, task_form, top_form};
 ghost use Rattle.job_reader.specs.Texts.{texts};
 ghost use Rattle.job_reader.specs.Words.{kind_named};
@@ -45,7 +45,7 @@ fn one_atom(alloc: Global, tokens: &[&[u8]]) -> Result<Atom, ReadLine>
 
 /// The kind that a token names. BadLine where it names none.
 fn known_kind(token: &[u8]) -> Result<Kind, ReadLine>
-    ensures { IsReadAs result (known (kind_named token.now)) }
+    ensures { IsReadAs result (or_bad_line (kind_named token.now)) }
 {
     kind_named(token).ok_or(ReadLine::Refused(JobKind::BadLine))
 }

@@ -20,7 +20,7 @@ mod text_roots;
 
 pub use gives::gives_of;
 pub use held_lines::{AfterLine, HeldLines};
-pub use limits::limits_of_blocks_and_texts;
+pub use limits::{limits_of_blocks_and_texts, places_of_a_root};
 pub use line_block::{BLOCK_LINES, LineBlock, bytes_of};
 pub use line_reader::{LineReader, LineStep, read_lines};
 pub use queue_reader::{QueueReader, ReaderStep};

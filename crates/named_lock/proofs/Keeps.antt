@@ -5,7 +5,7 @@ use Rattle.std.proofs.lemmas.Bool.{or_cases, or_left, or_right}
 use Rattle.named_lock.specs.declared.seat.LockSeat.{LockSeat}
 use Rattle.named_lock.specs.declared.sign.Sign.TheVariants.{Done, Stopped}
 use Rattle.named_lock.specs.declared.lock.NamedLock.{NamedLock}
-use Rattle.named_lock.specs.Seats.{any_saw_done, is_done, is_stopped, IsNewSeatOf, learnt, lock_id, lock_name, Sits}
+use Rattle.named_lock.specs.Seats.{any_saw_done, is_done, is_stopped, IsNewSeatOf, view_after_sign, lock_id, lock_name, Sits}
 use mathlib.Core.Logic.{dite}
 use mathlib.Core.Option.{Option as Maybe, none, some, some-ne-none, some-injective}
 use native.Mathlib.Decide.{ℕ_discrete}
@@ -15,7 +15,7 @@ use Rattle.atomic_table.specs.Table.{State, Me, Act, step, keeps, takes, gives, 
 use Rattle.atomic_table.proofs.Lists.{at_set, at_snoc, at_longer, set_here, set_else, exchanged}
 use Rattle.atomic_table.specs.declared.shared.Seat.{Seat}
 use Rattle.named_lock.specs.declared.rule.View.{View}
-use Rattle.named_lock.specs.Rule.{lock_words, sign_of, sign_after_stop, seated, spent, rest_of, one_of, joined, total, IsTrueView, IsLock, Kept, took, closed, gave, finished, stopped, looked}
+use Rattle.named_lock.specs.Rule.{lock_words, sign_of, sign_after_stop, seated, spent, rest_of, one_of, view_after_join, total, IsTrueView, IsLock, Kept, took, closed, gave, finished, stopped, looked}
 
 -- the sign of a word
 done_is : (k : ℕ) → is_done (sign_of k) ≡ true → k ≡ 1
@@ -236,22 +236,22 @@ module _ {S N : Type 0} (name : S → N) (done : S → Bool) (n : N) (seats : �
   pub finishes : (slots id : ℕ) (v : View N) (c : List (ℕ × Option S)) → v.holding ≡ true → Allows Rule slots id (v, c) 16 (λ k. either (eqb k 0) 1 k) (finished (step slots 16 0 1 none) (v, c))
   finishes slots id v c holds = allows slots id (v, c) 16 _ (finished (step slots 16 0 1 none) (v, c)) (λ word sign home vs g at.
       exchanged sign 0 1 (λ x. (w : View N) × (a : Act (Option S)) × Valid (home ∷ []) c a × Rule record { words = lock_words word x; homes = homes_after (home ∷ []) c a; views = set vs id w } × finished (step slots 16 0 1 none) (v, c) sign (w, carried_after c a))
-      (λ z. let w : View N = record (learnt v Done) { owes_done = true } in
+      (λ z. let w : View N = record (view_after_sign v Done) { owes_done = true } in
       (w, keeps, tt, meets id word sign 1 v w home vs g at (omega arith) (λ _. refl) (λ e. absurd (omega arith)) (λ _. inr holds) refl refl refl (λ _ _. refl) refl refl, ((λ _. refl), λ l. absurd (omega arith))))
       (λ nz. dite (ℕ_discrete sign 1)
-      (λ one. let w : View N = record (learnt v Done) { owes_done = true } in
+      (λ one. let w : View N = record (view_after_sign v Done) { owes_done = true } in
       (w, keeps, tt, meets id word sign sign v w home vs g at g.small (λ e. e) (λ e. e) inl refl refl refl (λ _ _. refl) (ap (λ k. v.saw_done || is_done (sign_of k)) (sym one)) (ap (λ k. v.saw_stopped || is_stopped (sign_of k)) (sym one)), ((λ _. refl), λ l. absurd (omega arith))))
-      (λ other. let w : View N = record (learnt v Stopped) { owes_done = true } in let m = g.small in let two : sign ≡ 2 = omega arith in
+      (λ other. let w : View N = record (view_after_sign v Stopped) { owes_done = true } in let m = g.small in let two : sign ≡ 2 = omega arith in
       (w, keeps, tt, meets id word sign sign v w home vs g at m (λ e. e) (λ e. e) inl refl refl refl (λ _ _. refl) (ap (λ k. v.saw_done || is_done (sign_of k)) (sym two)) (ap (λ k. v.saw_stopped || is_stopped (sign_of k)) (sym two)), ((λ l. absurd (omega arith)), λ _. refl)))))
 
   pub stops : (slots id : ℕ) (v : View N) (c : List (ℕ × Option S)) → Allows Rule slots id (v, c) 16 (λ k. either (eqb k 0) 2 k) (stopped (step slots 16 0 2 none) (v, c))
-  stops slots id v c = allows slots id (v, c) 16 _ (stopped (step slots 16 0 2 none) (v, c)) (λ word sign home vs g at. let mine = g.each id v at in let w : View N = record (learnt v (sign_after_stop sign)) { stops = v.stops + 1 } in
+  stops slots id v c = allows slots id (v, c) 16 _ (stopped (step slots 16 0 2 none) (v, c)) (λ word sign home vs g at. let mine = g.each id v at in let w : View N = record (view_after_sign v (sign_after_stop sign)) { stops = v.stops + 1 } in
       exchanged sign 0 2 (λ x. (w : View N) × (a : Act (Option S)) × Valid (home ∷ []) c a × Rule record { words = lock_words word x; homes = homes_after (home ∷ []) c a; views = set vs id w } × stopped (step slots 16 0 2 none) (v, c) sign (w, carried_after c a))
       (λ z. (w, keeps, tt, meets id word sign 2 v w home vs g at (omega arith) (λ e. absurd (omega arith)) (λ _. refl) (λ e. absurd (omega arith)) refl refl refl (λ _ e. absurd (omega arith)) (ap (λ k. v.saw_done || is_done (sign_after_stop k)) z) (ap (λ k. v.saw_stopped || is_stopped (sign_after_stop k)) z), refl))
       (λ nz. (w, keeps, tt, meets id word sign sign v w home vs g at g.small (λ e. e) (λ e. e) inl refl refl refl (λ h. (mine.1 h).3) (ap (λ k. v.saw_done || is_done k) (stopped_as sign nz)) (ap (λ k. v.saw_stopped || is_stopped k) (stopped_as sign nz)), refl)))
 
   pub looks : (slots id : ℕ) (v : View N) (c : List (ℕ × Option S)) → Allows Rule slots id (v, c) 16 (λ k. k) (looked (step slots 16 0 0 none) (v, c))
-  looks slots id v c = allows slots id (v, c) 16 _ (looked (step slots 16 0 0 none) (v, c)) (λ word sign home vs g at. let mine = g.each id v at in let w : View N = learnt v (sign_of sign) in
+  looks slots id v c = allows slots id (v, c) 16 _ (looked (step slots 16 0 0 none) (v, c)) (λ word sign home vs g at. let mine = g.each id v at in let w : View N = view_after_sign v (sign_of sign) in
       (w, keeps, tt, meets id word sign sign v w home vs g at g.small (λ e. e) (λ e. e) inl refl refl refl (λ h. (mine.1 h).3) refl refl, (g.small, refl, mine.2, mine.3)))
 
   pub splits : (id : ℕ) (v : View N) → v.holding ≡ false → 0 < v.parts → Splits Rule id v (rest_of v) (one_of v)
@@ -272,8 +272,8 @@ module _ {S N : Type 0} (name : S → N) (done : S → Bool) (n : N) (seats : �
         },
       )
 
-  pub joins : (id : ℕ) (v : View N) (other : ℕ) (u : View N) → v.holding ≡ false → u.holding ≡ false → 0 < v.parts → Joins Rule id v other u (joined v u) spent
-  joins id v other u idle idle' part s r at apart at' = let g = r.5 in let b : View N = joined v u in let mine = g.each id v at in let F = IsTrueView r.0 r.1 n g.holder in
+  pub joins : (id : ℕ) (v : View N) (other : ℕ) (u : View N) → v.holding ≡ false → u.holding ≡ false → 0 < v.parts → Joins Rule id v other u (view_after_join v u) spent
+  joins id v other u idle idle' part s r at apart at' = let g = r.5 in let b : View N = view_after_join v u in let mine = g.each id v at in let F = IsTrueView r.0 r.1 n g.holder in
       let was : get_elem? s.views other ≡ some u = ⊎_elim (λ x. absurd (apart x.0)) (λ x. x.1) (at_set s.views id other b u at') in let theirs = g.each other u was in
       let now : All F (set s.views id b) = all_set F s.views id b ((λ _. mine.0 part), (λ h. absurd (true≢false (sym h ∙ idle))), (λ h. ⊎_elim mine.2 theirs.2 (or_cases v.saw_done u.saw_done h)), λ h. ⊎_elim mine.3 theirs.3 (or_cases v.saw_stopped u.saw_stopped h)) (λ j y _ e. g.each j y e) in (
         r.0,
@@ -328,7 +328,7 @@ module _ {S N : Type 0} where
 
 module _ {S N : Type 0} where
   -- a seat that took in another
-  pub joins_sits : (table : _) (n : N) (s t : Seat (Option S) (View N)) (v w : View N) (c : List (ℕ × Option S)) → Sits table n v.parts false s → t.table_id ≡ s.table_id → t.me ≡ (joined s.me.0 w, s.me.1) → Sits table n t.me.0.parts false t
+  pub joins_sits : (table : _) (n : N) (s t : Seat (Option S) (View N)) (v w : View N) (c : List (ℕ × Option S)) → Sits table n v.parts false s → t.table_id ≡ s.table_id → t.me ≡ (view_after_join s.me.0 w, s.me.1) → Sits table n t.me.0.parts false t
   joins_sits table n s t v w c h same is = (same ∙ h.0, refl, ap (λ m. m.0.name) is ∙ h.2, ap (λ m. m.0.holding) is ∙ h.3, ap (λ m. m.1) is ∙ h.4)
 
 module _ {S N : Type 0} where

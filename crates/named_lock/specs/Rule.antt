@@ -8,7 +8,7 @@ use Rattle.atomic_table.specs.Table.{State, Me, Step, rest}
 use Rattle.named_lock.specs.declared.rule.View.{View}
 use Rattle.named_lock.specs.declared.sign.Sign.{Sign}
 use Rattle.named_lock.specs.declared.sign.Sign.TheVariants.{Runs, Done, Stopped}
-use Rattle.named_lock.specs.Seats.{learnt}
+use Rattle.named_lock.specs.Seats.{view_after_sign}
 
 abbrev pub lock_words : (word sign : ℕ) → List ℕ
 lock_words word sign =
@@ -42,8 +42,8 @@ module _ {N : Type 0} where
   one_of v = record { parts = 1; name = v.name; holding = false; owes_done = false; saw_done = v.saw_done; saw_stopped = v.saw_stopped; sign = Runs; holds = 0; lost = 0; stops = 0 }
 
   -- a seat takes in another
-  abbrev pub joined : View N → View N → View N
-  joined v w = record v { parts = v.parts + w.parts; saw_done = v.saw_done || w.saw_done; saw_stopped = v.saw_stopped || w.saw_stopped }
+  abbrev pub view_after_join : View N → View N → View N
+  view_after_join v w = record v { parts = v.parts + w.parts; saw_done = v.saw_done || w.saw_done; saw_stopped = v.saw_stopped || w.saw_stopped }
 
   -- how many seats all of them stand for
   abbrev pub total : List (View N) → ℕ
@@ -86,11 +86,11 @@ module _ {S N : Type 0} where
 
   abbrev pub finished : Step (Option S) → Me (Option S) (View N) → ℕ → Me (Option S) (View N) → Type 0
   finished st m found m' =
-      (found < 2 → m' ≡ (record (learnt m.0 Done) { owes_done = true }, m.1))
-      × (2 ≤ found → m' ≡ (record (learnt m.0 Stopped) { owes_done = true }, m.1))
+      (found < 2 → m' ≡ (record (view_after_sign m.0 Done) { owes_done = true }, m.1))
+      × (2 ≤ found → m' ≡ (record (view_after_sign m.0 Stopped) { owes_done = true }, m.1))
 
   abbrev pub stopped : Step (Option S) → Me (Option S) (View N) → ℕ → Me (Option S) (View N) → Type 0
-  stopped st m found m' = m' ≡ (record (learnt m.0 (sign_after_stop found)) { stops = m.0.stops + 1 }, m.1)
+  stopped st m found m' = m' ≡ (record (view_after_sign m.0 (sign_after_stop found)) { stops = m.0.stops + 1 }, m.1)
 
   abbrev pub looked : Step (Option S) → Me (Option S) (View N) → ℕ → Me (Option S) (View N) → Type 0
-  looked st m found m' = (found ≤ 2) × (m' ≡ (learnt m.0 (sign_of found), m.1)) × (m.0.saw_done ≡ true → found ≡ 1) × (m.0.saw_stopped ≡ true → found ≡ 2)
+  looked st m found m' = (found ≤ 2) × (m' ≡ (view_after_sign m.0 (sign_of found), m.1)) × (m.0.saw_done ≡ true → found ≡ 1) × (m.0.saw_stopped ≡ true → found ≡ 2)

@@ -20,8 +20,8 @@ is_stopped Done = false
 is_stopped Stopped = true
 
 -- what a seat knows once it has met this sign
-abbrev pub learnt : {N : Type 0} → View N → Sign → View N
-learnt v sign = record v { sign = sign; saw_done = v.saw_done || is_done sign; saw_stopped = v.saw_stopped || is_stopped sign }
+abbrev pub view_after_sign : {N : Type 0} → View N → Sign → View N
+view_after_sign v sign = record v { sign = sign; saw_done = v.saw_done || is_done sign; saw_stopped = v.saw_stopped || is_stopped sign }
 
 module _ {S N : Type 0} where
   -- which lock it is, its name, and the number of its seats

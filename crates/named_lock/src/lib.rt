@@ -17,7 +17,7 @@
 //! Promised, and proved of each value that is `Named`: what `try_take` and `close` give has the lock's name; a state that was
 //! done stays done; after `is_done` has answered true, each state that this seat takes, and the one that `close` gives, is
 //! done; and a seat that has seen the sign Done or Stopped finds it so at each later look. That at most one seat holds the state at a
-//! time is the rule that each step keeps (`Fits` in `specs/Rule`), and there is one state, which moves.
+//! time is the rule that each step keeps (`IsLock` in `specs/Rule`), and there is one state, which moves.
 //!
 //! Not promised: that a seat which tries again and again ever finds the state free.
 #![tactic(auto)]

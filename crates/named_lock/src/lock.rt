@@ -38,7 +38,7 @@ pub struct NamedLock<S: Named> {
 
 impl<S: Named> NamedLock<S> {
     ghost use Rattle.named_lock.specs.Rule.{seated};
-    ghost use Rattle.named_lock.specs.Seats.{learnt, lock_id, lock_name, lock_seats, knows, any_saw_done, Sits, IsSeatOf, IsNewSeatOf, IsSameSeat, IsHeldBy, FindsAgain};
+    ghost use Rattle.named_lock.specs.Seats.{view_after_sign, lock_id, lock_name, lock_seats, knows, any_saw_done, Sits, IsSeatOf, IsNewSeatOf, IsSameSeat, IsHeldBy, FindsAgain};
 
     /// A lock with that many seats, of which there is at least one. The state's name is the lock's for good, and the sign
     /// is Runs. It allocates four times, whatever the number of seats, and keeps three of the blocks. `O(seats)`.
@@ -157,8 +157,8 @@ impl<S: Named> NamedLock<S> {
         // the seat holds the state still, and has seen the sign
         ensures same { IsSameSeat seat.old seat.new }
         ensures holds { IsSeatOf self.now true seat.new }
-        ensures yes { result ≡ true → knows seat.new ≡ record (learnt (knows seat.old) Done) { owes_done = true } }
-        ensures no { result ≡ false → knows seat.new ≡ record (learnt (knows seat.old) Stopped) { owes_done = true } }
+        ensures yes { result ≡ true → knows seat.new ≡ record (view_after_sign (knows seat.old) Done) { owes_done = true } }
+        ensures no { result ≡ false → knows seat.new ≡ record (view_after_sign (knows seat.old) Stopped) { owes_done = true } }
     {
         let _ = held;
         let shared = &self.table.shared;
@@ -171,7 +171,7 @@ impl<S: Named> NamedLock<S> {
         requires { IsSeatOf self.now (knows seat.old).holding seat.old }
         ensures same { IsSameSeat seat.old seat.new }
         ensures seat { IsSeatOf self.now (knows seat.old).holding seat.new }
-        ensures knows { knows seat.new ≡ learnt (knows seat.old) (knows seat.new).sign }
+        ensures knows { knows seat.new ≡ view_after_sign (knows seat.old) (knows seat.new).sign }
         ensures sign { IsTrue result ↔ ((knows seat.new).sign ≡ Done) }
         ensures again { FindsAgain seat.old seat.new }
     {
@@ -183,7 +183,7 @@ impl<S: Named> NamedLock<S> {
         requires { IsSeatOf self.now (knows seat.old).holding seat.old }
         ensures same { IsSameSeat seat.old seat.new }
         ensures seat { IsSeatOf self.now (knows seat.old).holding seat.new }
-        ensures knows { knows seat.new ≡ learnt (knows seat.old) (knows seat.new).sign }
+        ensures knows { knows seat.new ≡ view_after_sign (knows seat.old) (knows seat.new).sign }
         ensures sign { IsTrue result ↔ ((knows seat.new).sign ≡ Stopped) }
         ensures again { FindsAgain seat.old seat.new }
     {
@@ -196,7 +196,7 @@ impl<S: Named> NamedLock<S> {
         requires { IsSeatOf self.now (knows seat.old).holding seat.old }
         ensures same { IsSameSeat seat.old seat.new }
         ensures seat { IsSeatOf self.now (knows seat.old).holding seat.new }
-        ensures knows { knows seat.new ≡ record (learnt (knows seat.old) (knows seat.new).sign) { stops = (knows seat.old).stops + 1 } }
+        ensures knows { knows seat.new ≡ record (view_after_sign (knows seat.old) (knows seat.new).sign) { stops = (knows seat.old).stops + 1 } }
         ensures sign { (knows seat.new).sign ≢ Runs }
     {
         let shared = &self.table.shared;

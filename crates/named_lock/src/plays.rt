@@ -69,9 +69,9 @@ impl<N> Split<View<N>> for Parts {
 }
 
 impl<N> Join<View<N>> for Parts {
-    ghost use Rattle.named_lock.specs.Rule.{joined, spent};
+    ghost use Rattle.named_lock.specs.Rule.{view_after_join, spent};
 
-    ghost both = { joined };
+    ghost both = { view_after_join };
 
     ghost spent = { spent };
 }

@@ -3,28 +3,26 @@ use Rattle.std.proofs.Common.{◌≡◌, ℕ, ◌<◌, Option, None, Some, true,
 use Rattle.std.proofs.lemmas.Option.{none-some, same_Some}
 use Rattle.slab.specs.Slab.{Slab}
 use Rattle.swan_model.specs.declared.rights.Mode.{Mode}
-use Rattle.swan_model.specs.declared.rights.Mode.TheVariants.{In, Out}
+use Rattle.swan_model.specs.declared.rights.Mode.TheVariants.{In}
 use Rattle.swan_model.specs.Rights.{allows}
-use Rattle.swan_model.specs.Versions.{Version, settled, owed, owing as owing_of, Placed, Awaits, placed_at, Holds, MayGet}
+use Rattle.swan_model.specs.Versions.{Version, owed, owing as owing_of, Placed, Awaits, placed_at, Holds, MayGet}
 use Rattle.object_versions.specs.declared.node.Node.{Node}
 use Rattle.object_versions.specs.declared.placed_object.PlacedObject.{PlacedObject}
+use Rattle.object_versions.specs.Following.{MayWrite}
 use Rattle.object_versions.specs.Store.{Entries, place_at, version_at, object_at, given_of, placed_of, versions_of, uses}
 use Rattle.object_versions.specs.Whole.{IsWhole, MayGetAt}
 use Rattle.object_versions.specs.Waiting.{AwaitsAt}
+use Rattle.object_versions.proofs.Differ.{owing_owed}
 use Rattle.object_versions.proofs.Counts.{uses_at, present_used, given_used}
 use Rattle.object_versions.proofs.Seeing.{seen_some, kept_of}
 
 -- ---- at one place
 
-owed_by : (version : Version) (frame : ℕ) → owing_of version ≡ Some frame → version ≡ owed frame
-owed_by (settled value) frame e = absurd (cc)
-owed_by (owed other) frame e = ap owed (same_Some other frame e)
-
 given_key : (entries : Entries) (nodes : Slab Node) (frame place owing : ℕ) (has : PlacedObject) (o : Option ℕ) → has.given ≡ o → place_at entries frame place ≡ Some has
     → given_of nodes o ≡ Some owing → AwaitsAt entries nodes frame place owing
 given_key entries nodes frame place owing has None given stands owes = absurd (cc)
 given_key entries nodes frame place owing has (Some key) given stands owes =
-    record { has = has; key = key; stands = stands; given = given; owes = owed_by (version_at nodes key) owing owes }
+    record { has = has; key = key; stands = stands; given = given; owes = owing_owed (version_at nodes key) owing owes }
 
 -- nobody owes what a place was given
 abbrev pub NoneOwes : Slab Node → PlacedObject → Type 0
@@ -60,18 +58,15 @@ awaits_read entries nodes made frame place owing whole waits =
 
 -- ---- who owes a version has the object too, and may write it
 
-abbrev Writes : (entries : Entries) (nodes : Slab Node) (made owing object : ℕ) → Type 0
-Writes entries nodes made owing object = (other : ℕ) × (has : Placed) × (placed_at (versions_of entries nodes made) owing other ≡ Some has) × (has.object ≡ object) × (allows has.mode Out ≡ true)
-
 module _ (entries : Entries) (nodes : Slab Node) (made : ℕ) (whole : IsWhole entries nodes made (λ _. 0)) where
-  writes : (key owing object : ℕ) → 0 < uses key entries → version_at nodes key ≡ owed owing → object_at nodes key ≡ object → Writes entries nodes made owing object
+  writes : (key owing object : ℕ) → 0 < uses key entries → version_at nodes key ≡ owed owing → object_at nodes key ≡ object → MayWrite (versions_of entries nodes made) owing object
   writes key owing object some is same =
       let found = whole.owing key owing some is in
       let owes = (whole.fits owing found.place found.has found.stands).owes key found.owes in
       (found.place, placed_of nodes found.has, seen_some entries nodes made owing found.place found.has found.stands, sym owes.same ∙ same, owes.may)
 
   pub given_owes : (frame place owing : ℕ) (awaits : Awaits (versions_of entries nodes made) frame place owing)
-      → (other : ℕ) × (has : Placed) × (placed_at (versions_of entries nodes made) owing other ≡ Some has) × (has.object ≡ awaits.object.object) × (allows has.mode Out ≡ true)
+      → MayWrite (versions_of entries nodes made) owing awaits.object.object
   given_owes frame place owing awaits =
       let kept = kept_of entries nodes made frame place awaits.object awaits.stands in
       let waits = given_key entries nodes frame place owing kept.has kept.has.given refl kept.stands (sym (ap (λ o. o.given) kept.is) ∙ awaits.owes) in
@@ -81,7 +76,7 @@ module _ (entries : Entries) (nodes : Slab Node) (made : ℕ) (whole : IsWhole e
       ((whole.fits frame place waits.has waits.stands).given waits.key waits.given ∙ ap (λ h. h.object) this ∙ sym (ap (λ o. o.object) kept.is))
 
   pub present_owes : (frame place owing : ℕ) (object : Placed) → placed_at (versions_of entries nodes made) frame place ≡ Some object → object.present ≡ owed owing
-      → (other : ℕ) × (has : Placed) × (placed_at (versions_of entries nodes made) owing other ≡ Some has) × (has.object ≡ object.object) × (allows has.mode Out ≡ true)
+      → MayWrite (versions_of entries nodes made) owing object.object
   present_owes frame place owing object stands is =
       let kept = kept_of entries nodes made frame place object stands in
       let some : 0 < uses kept.has.present entries = let most = uses_at entries kept.has.present frame place kept.has kept.stands in let here = present_used kept.has in omega arith in

@@ -18,6 +18,7 @@ use Rattle.swan_model.specs.SerialTime.{Progress, Reading, frame_of, point, time
 use Rattle.swan_model.specs.Told.{cell}
 use Rattle.swan_model.specs.Versions.{Version, settled, Placed, VersionState, IsSettled, placed_at, new_versions, objects_after_create, after_write, objects_after_finish}
 use Rattle.swan_model.specs.VersionsFollow.{ObjectsFollow, IsVersionAt}
+use Rattle.object_versions.specs.Following.{NextWrites}
 use Rattle.object_versions.proofs.FinishFollows.{finish_follows}
 use Rattle.object_versions.proofs.MakeFollows.{made_object_follows, new_follow, root_object_follows}
 use Rattle.object_versions.proofs.WriteFollows.{write_follows}
@@ -73,6 +74,13 @@ pub write_told : (old now : VersionState) (frame place : ℕ) (value : Value) �
     → next_deed s writer ≡ Some (deed.Write origin value) → ObjectsFollow s (gone_on r frame) now
 write_told old now frame place value is = λ s r writer object origin lawful follows known stands may made next.
     subst (ObjectsFollow s (gone_on r frame)) (sym is) (write_follows s r old lawful follows frame place writer object origin value known stands may made next)
+
+-- the same in the clause's own words
+pub next_write_told : (old now : VersionState) (frame place : ℕ) (value : Value) → now ≡ after_write old frame place value
+    → (s : Script) (r : Reading) (writer : Progress) → IsLawful s → ObjectsFollow s r old → frame_of r frame ≡ Some writer → NextWrites s r old frame place value writer
+    → ObjectsFollow s (gone_on r frame) now
+next_write_told old now frame place value is = λ s r writer lawful follows known next.
+    write_told old now frame place value is s r writer next.0 next.1 lawful follows known next.2 next.3 next.4 next.5
 
 -- ---- `finish`
 

@@ -4,15 +4,14 @@ use Rattle.std.proofs.lemmas.Bool.{eq-eqb, eqb-true, eqb-false, le-ltb, ne_eqb}
 use Rattle.std.specs.Prelude.{slice_get, unwrap_or}
 use Rattle.swan_model.specs.declared.origin.Origin.{Origin}
 use Rattle.swan_model.specs.declared.origin.Origin.TheVariants.{Root}
-use Rattle.swan_model.specs.declared.rights.Mode.TheVariants.{Out}
 use Rattle.swan_model.specs.declared.script.Script.{Script}
 use Rattle.swan_model.specs.declared.value.Value.{Value}
 use Rattle.swan_model.specs.Readings.{end_time}
-use Rattle.swan_model.specs.Rights.{allows}
 use Rattle.swan_model.specs.SerialTime.{Progress, Reading, frame_of, point, time, times}
 use Rattle.swan_model.specs.Told.{cell}
 use Rattle.swan_model.specs.Versions.{Version, settled, owed, Placed, VersionState, IsSettled, placed_at, objects_after_finish, left_by, settle, settle_placed, still_owing}
 use Rattle.swan_model.specs.VersionsFollow.{ObjectsFollow, FollowsAt, IsVersionAt}
+use Rattle.object_versions.specs.Following.{MayWrite}
 use Rattle.object_versions.proofs.FinishPlaces.{after_kept, leaves_from, sorted_kept, still_kept}
 use Rattle.object_versions.proofs.Moves.{Owes}
 use Rattle.object_versions.proofs.Differ.{settled_not-owed}
@@ -127,7 +126,7 @@ module _ (s : Script) (r : Reading) (state : VersionState) (n : ℕ) (ended : Pr
   ]
 
   owing_kept : (number place frame : ℕ) (has : Placed) → placed_at (objects_after_finish state n) number place ≡ Some has → Owes has frame
-      → (other : ℕ) × (own : Placed) × (placed_at (objects_after_finish state n) frame other ≡ Some own) × (own.object ≡ has.object) × (allows own.mode Out ≡ true)
+      → MayWrite (objects_after_finish state n) frame has.object
   owing_kept number place frame has stands owes =
       let kept = after_kept state n number place has stands in
       let was = owed_before number place frame kept.was kept.stood (subst (λ o. Owes o frame) kept.now owes) in

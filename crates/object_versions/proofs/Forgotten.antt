@@ -1,7 +1,8 @@
 -- A version that a frame was given, and that has its value, is given up: no contract sees it any more.
-use Rattle.std.proofs.Common.{◌≡◌, ℕ, ◌+◌, ◌<◌, Option, None, Some, IsSome, Result, Ok, Err, OnOk, map, refl, sym, ap, ◌∙◌, subst, arith}
+use Rattle.std.proofs.Common.{◌≡◌, ℕ, ◌+◌, ◌<◌, Option, None, Some, IsSome, Result, OnOk, map, refl, sym, ap, ◌∙◌, subst, arith}
 use Rattle.std.proofs.lemmas.Bool.{false≢true}
 use Rattle.std.proofs.lemmas.Map.Steps.{set_value_same}
+use Rattle.std.proofs.lemmas.Result.{on_ok_weaker}
 use Rattle.std.specs.BTreeMap.{is_at}
 use Rattle.std.specs.Map.{set_value, keys_of}
 use Rattle.std.specs.List.Sorted.{IsStrictlySortedBy}
@@ -96,21 +97,17 @@ left_owed E old new was left given_up kept = by (given_of old was.given) refl wh
 
 -- ---- and then the object is given to a child
 
-on_ok : {T E : Type 0} (r : Result T E) (P Q : Type 0) → (P → Q) → OnOk r P → OnOk r Q
-on_ok (Ok x) P Q f h = f h
-on_ok (Err e) P Q f h = tt
-
 pub then_whole : {T E : Type 0} (r : Result T E) (a b c : Entries) (old own new : Slab Node)
     → ((made : ℕ) → IsWhole a old made (λ _. 0) → IsWhole b own made (λ _. 0))
     → OnOk r ((made : ℕ) → IsWhole b own made (λ _. 0) → IsWhole c new made (λ _. 0))
     → OnOk r ((made : ℕ) → IsWhole a old made (λ _. 0) → IsWhole c new made (λ _. 0))
-then_whole r a b c old own new first then = on_ok r _ _ (λ all made whole. all made (first made whole)) then
+then_whole r a b c old own new first then = on_ok_weaker r (λ all made whole. all made (first made whole)) then
 
 pub then_given : {T E : Type 0} (r : Result T E) (a b c : Entries) (old own new : Slab Node) (parent place child child_place : ℕ) (mode same : Mode) → mode ≡ same
     → ((made : ℕ) → IsWhole a old made (λ _. 0) → IsWhole b own made (λ _. 0))
     → ((made : ℕ) → IsWhole a old made (λ _. 0) → versions_of b own made ≡ versions_of a old made)
     → OnOk r ((made : ℕ) → IsWhole b own made (λ _. 0) → versions_of c new made ≡ after_access (versions_of b own made) parent place child child_place mode)
     → OnOk r ((made : ℕ) → IsWhole a old made (λ _. 0) → versions_of c new made ≡ after_access (versions_of a old made) parent place child child_place same)
-then_given r a b c old own new parent place child child_place mode same e first seen then = on_ok r _ _
+then_given r a b c old own new parent place child child_place mode same e first seen then = on_ok_weaker r
     (λ all made whole. all made (first made whole) ∙ ap (λ s. after_access s parent place child child_place mode) (seen made whole)
     ∙ ap (after_access (versions_of a old made) parent place child child_place) e) then

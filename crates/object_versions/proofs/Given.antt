@@ -1,20 +1,24 @@
 -- A parent gives a child an object to write.
-use Rattle.std.proofs.Common.{◌≡◌, ◌≢◌, ◌⊎◌, ℕ, ◌+◌, ◌<◌, None, Some, map, refl, sym, ap, ◌∙◌, subst, arith}
+use Rattle.std.proofs.Common.{◌≡◌, ◌≢◌, ◌⊎◌, ℕ, ◌+◌, ◌<◌, true, None, Some, map, refl, sym, ap, ◌∙◌, subst, arith}
+use Rattle.std.proofs.lemmas.Option.{same_Some}
 use Rattle.std.specs.BTreeMap.{is_at, insert_entry}
 use Rattle.std.specs.Map.{set_value, keys_of}
 use Rattle.std.specs.List.Sorted.{IsStrictlySortedBy}
 use Rattle.slab.specs.Slab.{Slab, get, Updates}
-use Rattle.swan_model.specs.Versions.{owed, place_cmp, with_present, with_placed}
+use Rattle.swan_model.specs.declared.rights.Mode.{Mode}
+use Rattle.swan_model.specs.declared.rights.Mode.TheVariants.{Out}
+use Rattle.swan_model.specs.Rights.{allows}
+use Rattle.swan_model.specs.Versions.{owed, VersionState, place_cmp, with_present, with_placed, after_access, given_from, got, left_with}
 use Rattle.object_versions.specs.declared.node.Node.{Node}
 use Rattle.object_versions.specs.declared.placed_object.PlacedObject.{PlacedObject}
 use Rattle.object_versions.specs.Store.{Entries, place_at, told_at, version_at, placed_of, seen, versions_of, one, uses_of, uses, after_release}
-use Rattle.object_versions.specs.Whole.{IsFit, HasOwing, IsWhole, MayGetAt}
+use Rattle.object_versions.specs.Whole.{IsFit, HasOwing, IsOwing, IsWhole, MayGetAt}
 use Rattle.object_versions.proofs.Commuting.{insert_set}
 use Rattle.object_versions.proofs.Lookups.{at_inserted, still_inserted}
 use Rattle.object_versions.proofs.Counts.{one_self, one_other}
 use Rattle.object_versions.proofs.Steps.{come_in, set_in}
 use Rattle.object_versions.proofs.References.{released_whole, released_same}
-use Rattle.object_versions.proofs.Seeing.{seen_insert, seen_present, versions_same}
+use Rattle.object_versions.proofs.Seeing.{seen_insert, seen_present, seen_some, versions_same}
 use Rattle.object_versions.proofs.Differ.{owed_same}
 
 -- what stood at a place stands there once an object came to another
@@ -22,6 +26,17 @@ pub still_stands : (entries with_child : Entries) (parent pp child cp : ℕ) (wa
     → with_child ≡ insert_entry place_cmp entries (child, cp) gets → place_at with_child parent pp ≡ Some was
 still_stands entries with_child parent pp child cp was gets stands free put =
     ap (λ es. place_at es parent pp) put ∙ still_inserted entries (child, cp) gets (parent, pp) was free stands
+
+-- the version that the parent has then is owed for what the child got
+pub owed_key : (middle : Slab Node) (child key : ℕ) (gets : PlacedObject) → told_at middle key ≡ (gets.object, owed child) → allows gets.mode Out ≡ true → gets.owes ≡ Some key
+    → (k : ℕ) → gets.owes ≡ Some k → IsOwing middle child gets k
+owed_key middle child key gets told may owes k is =
+    let e : key ≡ k = same_Some key k (sym owes ∙ is) in
+    record {
+      same = ap (λ n. (told_at middle n).0) (sym e) ∙ ap (λ t. t.0) told;
+      may = may;
+      by = λ other h. sym (owed_same child other (sym (ap (λ t. t.1) told) ∙ ap (version_at middle) e ∙ h));
+    }
 
 module _ (entries with_child later : Entries) (old middle new : Slab Node) (made parent pp child cp key : ℕ) (was gets : PlacedObject)
     (differ : parent ≢ child)
@@ -90,10 +105,20 @@ module _ (entries with_child later : Entries) (old middle new : Slab Node) (made
       ∙ seen_insert (set_value (is_at (place_cmp (parent, pp))) entries changed) middle child cp gets
       ∙ ap (λ es. insert_entry place_cmp es (child, cp) (placed_of middle gets)) set_seen
 
-  pub given_seen : versions_of later new made
+  given_seen : versions_of later new made
       ≡ with_placed (with_present (versions_of entries old made) parent pp (placed_of old was) (owed child)) child cp (placed_of middle gets)
   given_seen =
       ap (λ es. versions_of es new made) is_after
       ∙ versions_same middle new after made (λ k h. released_same after middle new made (λ k. one k was.present) (λ _. 0) was.present with_owed held release
       one_less (λ k apart. sym (one_other k was.present apart)) k (omega arith))
       ∙ (let e = places in λ i. record { places = e i; made = made })
+
+  -- which is what the access leaves, where the child has what it gets by this mode
+  pub given_access : (mode : Mode) → left_with (placed_of old was) child mode ≡ owed child → placed_of middle gets ≡ got (placed_of old was) mode
+      → versions_of later new made ≡ after_access (versions_of entries old made) parent pp child cp mode
+  given_access mode leaves gives =
+      let state : VersionState = versions_of entries old made in
+      let left = sym leaves in
+      given_seen
+      ∙ (λ i. with_placed (with_present state parent pp (placed_of old was) (left i)) child cp (gives i))
+      ∙ sym (ap (given_from state parent pp child cp mode) (seen_some entries old made parent pp was stands))

@@ -12,9 +12,10 @@ use Rattle.swan_model.specs.SerialTime.{Progress, Reading, frame_of, point}
 use Rattle.swan_model.specs.Versions.{Holds, MayGet, owed, Placed, VersionState, placed_at, after_access, got, left_with}
 use Rattle.swan_model.specs.VersionsFollow.{Access, Begins, ObjectsFollow, FollowsAt, IsAccessMade, IsGiving, NextSpawnGivesObjects, IsVersionAt}
 use Rattle.swan_model.proofs.Elements.{before_more, last_more, more_cases}
+use Rattle.object_versions.specs.Following.{MayWrite}
 use Rattle.object_versions.proofs.Differ.{writes_not-in}
 use Rattle.object_versions.proofs.GivingKept.{IsAboveKept, IsBelowKept, IsUngiven, access_kept, next_spawn_kept}
-use Rattle.object_versions.proofs.GivingPlaces.{IsBack, IsLeft, after_is, child_has, given_now, got_given, got_kind, got_mode, got_object, got_owed, got_present, left, middle, parent_has, which}
+use Rattle.object_versions.proofs.GivingPlaces.{IsBack, StillStands, after_is, child_has, given_now, got_given, got_kind, got_mode, got_object, got_owed, got_present, left, middle, parent_has, which}
 use Rattle.object_versions.proofs.PlacesAfter.{IsHere, sorted_in, sorted_set}
 
 -- a frame that the reading doesn't have isn't one that it has
@@ -29,10 +30,6 @@ begins_with s r origin t InOut object is = (is, refl)
 begins_with s r origin t Push object is = (is, refl)
 begins_with s r origin t Pop object is = (is, refl)
 begins_with s r origin t PushPop object is = (is, refl)
-
--- a frame has an object at a place where it may write it
-abbrev MayWrite : VersionState → (frame object : ℕ) → Type 0
-MayWrite state frame object = (place : ℕ) × (has : Placed) × (placed_at state frame place ≡ Some has) × (has.object ≡ object) × (allows has.mode Out ≡ true)
 
 module _ (s : Script) (r : Reading) (state : VersionState) (giver : Progress) (child : ℕ) (made rest : List Access) (access : Access)
     (known : frame_of r giver.number ≡ Some giver) (giving : IsGiving s r state giver child made (access ∷ rest))
@@ -57,7 +54,7 @@ module _ (s : Script) (r : Reading) (state : VersionState) (giver : Progress) (c
       → IsHere child access.child_place (got object access.mode) f p has ⊎ IsBack state parent access.place child access.child_place f p object has (left_with object child access.mode)
   back = which state parent access.place child access.child_place access.mode object held.stands free
 
-  stays : (f p : ℕ) (has : Placed) → placed_at state f p ≡ Some has → IsLeft after parent access.place f p has (λ was. left_with was child access.mode)
+  stays : (f p : ℕ) (has : Placed) → placed_at state f p ≡ Some has → StillStands after parent access.place f p has (λ was. left_with was child access.mode)
   stays = left state parent access.place child access.child_place access.mode object held.stands free
 
   -- the child owes nothing of this object yet

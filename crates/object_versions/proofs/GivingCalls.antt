@@ -1,5 +1,5 @@
 -- The calls while a child is being given its objects, in the shape of their clauses.
-use Rattle.std.proofs.Common.{◌≡◌, ◌≢◌, length, true, ℕ, None, Some, List, [], ◌∷◌, ◌++◌, sym, ap, subst, ◌∙◌}
+use Rattle.std.proofs.Common.{◌≡◌, ◌≢◌, length, ℕ, None, Some, List, [], ◌∷◌, ◌++◌, sym, ap, subst, ◌∙◌}
 use Rattle.swan_model.specs.declared.rights.Mode.{Mode}
 use Rattle.swan_model.specs.declared.script.Script.{Script}
 use Rattle.swan_model.specs.Lawful.{IsLawful}
@@ -8,16 +8,13 @@ use Rattle.swan_model.specs.SerialTime.{Progress, Reading, frame_of, point, time
 use Rattle.swan_model.specs.Versions.{Holds, IsSettled, MayGet, Placed, VersionState, placed_at, after_access, objects_after_create, objects_after_finish, after_write}
 use Rattle.swan_model.specs.VersionsFollow.{Access, ObjectsFollow, IsGiving}
 use Rattle.swan_model.proofs.MovedFrames.{frame_number}
+use Rattle.object_versions.specs.Following.{NextWrites}
 use Rattle.object_versions.proofs.GivingAccess.{one_more_given}
 use Rattle.object_versions.proofs.GivingEnds.{ends_given}
 use Rattle.object_versions.proofs.GivingFinish.{finish_giving}
 use Rattle.object_versions.proofs.GivingOthers.{create_giving, write_giving}
-use Rattle.object_versions.proofs.CallsFollow.{create_made, finish_told, write_told}
-use Rattle.std.specs.Prelude.{slice_get}
-use Rattle.swan_model.specs.Rights.{allows}
-use Rattle.swan_model.specs.declared.rights.Mode.TheVariants.{Out}
+use Rattle.object_versions.proofs.CallsFollow.{create_made, finish_told, next_write_told}
 use Rattle.swan_model.specs.declared.script.Deed.TheVariants as deed
-use Rattle.swan_model.specs.declared.origin.Origin.{Origin}
 use Rattle.swan_model.specs.declared.origin.Origin.TheVariants.{Step}
 use Rattle.swan_model.specs.declared.value.Value.{Value}
 
@@ -80,13 +77,12 @@ made_giving old now frame place first free is = λ s r maker giver child made le
     (create_made old now frame place first free is s r maker lawful giving.follows known next)
 
 pub written_giving : (old now : VersionState) (frame place : ℕ) (value : Value) → now ≡ after_write old frame place value
-    → (s : Script) (r : Reading) (writer giver : Progress) (child : ℕ) (made left : List Access) (object : Placed) (origin : Origin) → IsLawful s → frame ≢ giver.number → frame ≢ child
-    → IsGiving s r old giver child made left → frame_of r frame ≡ Some writer → placed_at old frame place ≡ Some object → allows object.mode Out ≡ true
-    → slice_get r.objects object.object ≡ Some origin → next_deed s writer ≡ Some (deed.Write origin value)
+    → (s : Script) (r : Reading) (writer giver : Progress) (child : ℕ) (made left : List Access) → IsLawful s → frame ≢ giver.number → frame ≢ child
+    → IsGiving s r old giver child made left → frame_of r frame ≡ Some writer → NextWrites s r old frame place value writer
     → IsGiving s (gone_on r frame) now giver child made left
-written_giving old now frame place value is = λ s r writer giver child made left object origin lawful not_giver not_child giving known stands may of next.
-    write_giving old now frame place value is s r object giver child made left stands not_giver not_child giving
-    (write_told old now frame place value is s r writer object origin lawful giving.follows known stands may of next)
+written_giving old now frame place value is = λ s r writer giver child made left lawful not_giver not_child giving known next.
+    write_giving old now frame place value is s r next.0 giver child made left next.2 not_giver not_child giving
+    (next_write_told old now frame place value is s r writer lawful giving.follows known next)
 
 pub finished_giving : (old now : VersionState) (frame : ℕ) → IsSettled old frame → now ≡ objects_after_finish old frame
     → (s : Script) (r : Reading) (ended giver : Progress) (child : ℕ) (made left : List Access) → IsLawful s → frame ≢ giver.number → frame ≢ child

@@ -21,10 +21,9 @@ use Rattle.swan_model.specs.Told.{cell, deed_at, is_given_out, is_out}
 use Rattle.swan_model.specs.Values.{kind_of, zero_of}
 use Rattle.swan_model.specs.Versions.{Version, settled, owed, Placed, VersionState, owing, placed_at}
 use Rattle.swan_model.specs.VersionsFollow.{Access, Begins, ObjectsFollow, FollowsAt, IsGiving, IsVersionAt, is_object_give, object_give}
-use Rattle.object_versions.proofs.Differ.{reads_not-out, settled_not-owed}
+use Rattle.object_versions.proofs.Differ.{owing_owed, reads_not-out, settled_not-owed}
 use Rattle.swan_model.proofs.MovedFrames.{IsMoved, child_progress, frame_number, own_moves, other_stays, path_kept, spawned_back, spawned_there, done_spawned}
 use Rattle.object_versions.proofs.GivingAccess.{no_frame}
-use Rattle.object_versions.proofs.GivingPlaces.{owing_owed}
 use Rattle.object_versions.proofs.Moves.{IsSameTask, Owes, at_moves, does_now, held_on, one_object, same_task, version_moves}
 use Rattle.object_versions.proofs.SpawnGives.{giving_out, may_by, out_by, writing}
 use Rattle.object_versions.proofs.Tasks.{tasks_spawned}

@@ -7,7 +7,7 @@ use Rattle.std.specs.Map.{set_value, keys_of}
 use Rattle.std.specs.List.Sorted.{IsStrictlySortedBy}
 use Rattle.slab.specs.Slab.{Slab, get, Updates}
 use Rattle.swan_model.specs.declared.rights.Mode.TheVariants.{InOut}
-use Rattle.swan_model.specs.Versions.{owed, owing, place_cmp, after_access, given_from, with_placed, with_present}
+use Rattle.swan_model.specs.Versions.{owed, owing, place_cmp, after_access, got}
 use Rattle.object_versions.specs.declared.node.Node.{Node}
 use Rattle.object_versions.specs.declared.node.NodeState.TheVariants.{Owed}
 use Rattle.object_versions.specs.declared.placed_object.PlacedObject.{PlacedObject}
@@ -15,8 +15,7 @@ use Rattle.object_versions.specs.Store.{Entries, place_at, told_at, version_at, 
 use Rattle.object_versions.specs.Whole.{IsFit, HasOwing, IsWhole, MayGetAt}
 use Rattle.object_versions.proofs.Counts.{one_self, one_other, told_here, uses_at, present_used, unused}
 use Rattle.object_versions.proofs.References.{shared_whole, shared_told, made_whole, made_told}
-use Rattle.object_versions.proofs.Seeing.{seen_some}
-use Rattle.object_versions.proofs.Given.{given_whole, given_seen}
+use Rattle.object_versions.proofs.Given.{given_access, given_whole, owed_key}
 use Rattle.object_versions.proofs.Differ.{owed_same}
 
 module _ (entries with_child later : Entries) (old shared middle new : Slab Node) (made parent pp child cp key : ℕ) (was : PlacedObject)
@@ -66,11 +65,7 @@ module _ (entries with_child later : Entries) (old shared middle new : Slab Node
         present = before.present;
         given = λ k is. ap (λ n. (told_at middle n).0) (sym (same_Some was.present k is)) ∙ before.present;
         reads = λ k is. refl;
-        owes = λ k is. let e = same_Some key k is in record {
-          same = ap (λ n. (told_at middle n).0) (sym e) ∙ ap (λ t. t.0) told_key;
-          may = refl;
-          by = λ other h. sym (owed_same child other (sym (ap (λ t. t.1) told_key) ∙ ap (version_at middle) e ∙ h));
-        };
+        owes = owed_key middle child key gets told_key refl refl;
       }
 
   owing_some : (k frame : ℕ) → 0 < uses_of k gets → version_at middle k ≡ owed frame → HasOwing entries k frame ⊎ ((frame ≡ child) × (gets.owes ≡ Some k))
@@ -92,10 +87,7 @@ module _ (entries with_child later : Entries) (old shared middle new : Slab Node
     pub changed_seen : versions_of later new made ≡ after_access (versions_of entries old made) parent pp child cp InOut
     changed_seen =
         let version : version_at middle was.present ≡ version_at old was.present = ap (λ t. t.1) (same was.present some_use) in
-        let object = placed_of old was in
-        let got : placed_of middle gets ≡ record object { mode = InOut; given = owing object.present } =
+        let gives : placed_of middle gets ≡ got (placed_of old was) InOut =
         λ i. record { object = was.object; kind = was.kind; mode = InOut; given = owing (version i); present = version i } in
-        given_seen entries with_child later old middle new made parent pp child cp key was gets differ with_key same told_key stands free fit may refl owing_some
-        put sorted_child set sorted release
-        ∙ ap (with_placed (with_present (versions_of entries old made) parent pp object (owed child)) child cp) got
-        ∙ sym (ap (given_from (versions_of entries old made) parent pp child cp InOut) (seen_some entries old made parent pp was stands))
+        given_access entries with_child later old middle new made parent pp child cp key was gets differ with_key same told_key stands free fit may refl owing_some
+        put sorted_child set sorted release InOut refl gives

@@ -22,7 +22,8 @@ use Rattle.std.specs.Prelude.{map, filter}
 use Rattle.object_versions.proofs.GivingCalls.{access_giving}
 use Rattle.object_versions.proofs.GivingEnds.{ends_given}
 use Rattle.object_versions.proofs.GivingOthers.{others_leave, unread_still}
-use Rattle.object_versions.proofs.GivingPlaces.{access_others, after_is, got_given, got_present, which}
+use Rattle.object_versions.proofs.GivingPlaces.{after_is, got_given, got_present, which}
+use Rattle.object_versions.proofs.PlacesStay.{access_keeps}
 use Rattle.object_versions.proofs.Moves.{same_task}
 use Rattle.object_versions.proofs.PassFollows.{others_pass}
 
@@ -84,8 +85,8 @@ module _ (s : Script) (r : Reading) (state : VersionState) (parent : ℕ) (child
       others_leave s r r state now giver child made left giving follows giving.unread
       (λ p was stands number frame owes there. record { was = frame; stood = there; path = refl })
       (λ object origin has. has)
-      (λ p. access_others state parent access.place child_other access.child_place access.mode giver.number p (λ e. not_giver (sym e)) (λ e. giver_not (sym e)))
-      (λ p. access_others state parent access.place child_other access.child_place access.mode child p (λ e. not_child (sym e)) (λ e. child_not (sym e)))
+      (λ p. access_keeps state parent access.place child_other access.child_place access.mode giver.number p (inl (λ e. not_giver (sym e))) (inl (λ e. giver_not (sym e))))
+      (λ p. access_keeps state parent access.place child_other access.child_place access.mode child p (inl (λ e. not_child (sym e))) (inl (λ e. child_not (sym e))))
       owed_before ungiven
 
 -- ---- another parent's spawn is done
@@ -130,10 +131,11 @@ module _ (old now : VersionState) (parent parent_place child child_place : ℕ) 
   this = record { place = parent_place; child_place = child_place; mode = mode }
 
   -- an access leaves what another parent is giving
-  pub access_meanwhile : (s : Script) (r : Reading) (own giver : Progress) (other : ℕ) (done rest made left : List Access) → IsLawful s → frame_of r parent ≡ Some own
-      → IsGiving s r old own child done (this ∷ rest) → frame_of r giver.number ≡ Some giver → parent ≢ giver.number → child ≢ other
+  pub access_meanwhile : (s : Script) (r : Reading) (own : Progress) (done rest : List Access) → IsLawful s → frame_of r parent ≡ Some own
+      → IsGiving s r old own child done (this ∷ rest)
+      → (giver : Progress) (other : ℕ) (made left : List Access) → frame_of r giver.number ≡ Some giver → parent ≢ giver.number → child ≢ other
       → IsGiving s r old giver other made left → IsGiving s r now giver other made left
-  access_meanwhile s r own giver other done rest made left lawful known giving giver_known not_giver apart beside =
+  access_meanwhile s r own done rest lawful known giving giver other made left giver_known not_giver apart beside =
       let follows = (access_giving old now parent parent_place child child_place mode held free alone is s r own done rest lawful known giving).follows in
       subst (λ state. IsGiving s r state giver other made left) (sym is)
       (access_beside s r old parent child this giver other made left beside held free not_giver
@@ -142,12 +144,13 @@ module _ (old now : VersionState) (parent parent_place child child_place : ℕ) 
       apart (subst (ObjectsFollow s r) is follows))
 
   -- and so does the last one, by which the spawn is done
-  pub last_meanwhile : (s : Script) (r : Reading) (own giver : Progress) (other : ℕ) (done made left : List Access) → IsLawful s → frame_of r parent ≡ Some own
-      → IsGiving s r old own child done (this ∷ []) → frame_of r giver.number ≡ Some giver → parent ≢ giver.number → child ≢ other
+  pub last_meanwhile : (s : Script) (r : Reading) (own : Progress) (done : List Access) → IsLawful s → frame_of r parent ≡ Some own
+      → IsGiving s r old own child done (this ∷ [])
+      → (giver : Progress) (other : ℕ) (made left : List Access) → frame_of r giver.number ≡ Some giver → parent ≢ giver.number → child ≢ other
       → IsGiving s r old giver other made left → IsGiving s (reading_after_spawn s r own child) now giver other made left
-  last_meanwhile s r own giver other done made left lawful known giving giver_known not_giver apart beside =
+  last_meanwhile s r own done lawful known giving giver other made left giver_known not_giver apart beside =
       let number = frame_number r.frames parent own known in
       spawn_beside s r now own giver child other (done ++ this ∷ []) made left lawful (ap (frame_of r) number ∙ known)
       (access_giving old now parent parent_place child child_place mode held free alone is s r own done [] lawful known giving)
       (λ same. apart (sym same))
-      (access_meanwhile s r own giver other done [] made left lawful known giving giver_known not_giver apart beside)
+      (access_meanwhile s r own done [] lawful known giving giver other made left giver_known not_giver apart beside)

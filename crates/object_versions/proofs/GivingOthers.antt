@@ -1,23 +1,21 @@
 -- Another frame makes or writes an object while a child is being given its own.
-use Rattle.std.proofs.Common.{◌≡◌, ◌≢◌, inl, inr, ℕ, cond, Option, None, Some, List, refl, sym, ap, subst, ◌∙◌}
+use Rattle.std.proofs.Common.{◌≡◌, ◌≢◌, inl, inr, ℕ, Option, None, Some, List, refl, sym, ap, subst, ◌∙◌}
 use Rattle.std.specs.Prelude.{slice_get}
 use Rattle.swan_model.specs.declared.origin.Origin.{Origin}
-use Rattle.swan_model.specs.declared.rights.Mode.TheVariants.{InOut}
 use Rattle.swan_model.specs.declared.script.Script.{Script}
 use Rattle.swan_model.specs.declared.value.Value.{Value}
 use Rattle.swan_model.specs.Readings.{gone_on, with_object}
 use Rattle.swan_model.specs.SerialTime.{Progress, Reading, frame_of, point}
-use Rattle.swan_model.specs.Values.{kind_of}
-use Rattle.swan_model.specs.Versions.{Version, settled, owed, Placed, VersionState, placed_at, with_placed, with_present, written_at, objects_after_create, after_write}
+use Rattle.swan_model.specs.Versions.{Version, settled, owed, Placed, VersionState, placed_at, with_present, written_at, objects_after_create, after_write}
 use Rattle.swan_model.specs.VersionsFollow.{Access, ObjectsFollow, IsGiving}
 use Rattle.swan_model.proofs.Elements.{before_more}
 use Rattle.object_versions.proofs.Differ.{settled_not-owed}
 use Rattle.swan_model.proofs.MovedFrames.{gone_back}
 use Rattle.object_versions.proofs.GivingKept.{IsAboveKept, IsBelowKept, IsUngiven, begins_kept, giving_kept}
-use Rattle.object_versions.proofs.Lookups.{place_total, still_set, untied}
-use Rattle.swan_model.proofs.Lookups.{found_in}
+use Rattle.object_versions.proofs.Lookups.{still_set}
 use Rattle.object_versions.proofs.Moves.{IsSameTask, Owes, same_task}
-use Rattle.object_versions.proofs.PlacesAfter.{after_placed, after_present}
+use Rattle.object_versions.proofs.PlacesAfter.{after_placed, after_present, made_object}
+use Rattle.object_versions.proofs.PlacesStay.{create_keeps}
 
 -- ---- what doesn't change
 
@@ -27,11 +25,6 @@ unread_still r n number none = by (frame_of (gone_on r n) number) refl where
   by : (o : Option Progress) → frame_of (gone_on r n) number ≡ o → o ≡ None
   by None is = refl
   by (Some now) is = let m = gone_back r n number now is in let e : None ≡ Some m.was = sym none ∙ m.stood in absurd (cc)
-
-placed_elsewhere : (state : VersionState) (frame place : ℕ) (object : Placed) (n p : ℕ) → frame ≢ n → placed_at (with_placed state frame place object) n p ≡ placed_at state n p
-placed_elsewhere state frame place object n p apart =
-    found_in place_total (frame, place) object (n, p) state.places
-    ∙ ap (λ b. cond b (Some object) (placed_at state n p)) (untied (n, p) (frame, place) (λ e. apart (ap (λ (k : ℕ × ℕ). k.0) e)))
 
 present_elsewhere : (state : VersionState) (frame place : ℕ) (object : Placed) (version : Version) (n p : ℕ) → placed_at state frame place ≡ Some object → frame ≢ n
     → placed_at (with_present state frame place object version) n p ≡ placed_at state n p
@@ -69,10 +62,6 @@ module _ (s : Script) (r after : Reading) (old new : VersionState) (giver : Prog
 
 -- ---- a new object
 
--- what the maker has at its place
-abbrev made_object : VersionState → Value → Placed
-made_object state value = record { object = state.made; kind = kind_of value; mode = InOut; given = None; present = settled value }
-
 create_owes : (old : VersionState) (frame place : ℕ) (first : Value) (child number other : ℕ) (has : Placed) → placed_at (objects_after_create old frame place first) number other ≡ Some has → Owes has child
     → placed_at old number other ≡ Some has
 create_owes old frame place first child number other has stands owes = elim (after_placed old frame place (made_object old first) number other has stands) [
@@ -93,8 +82,8 @@ create_giving old now frame place first is = λ s r origin giver child made left
     (others_leave s r then old (objects_after_create old frame place first) giver child made left giving (subst (ObjectsFollow s then) is follows) (unread_still r frame child giving.unread)
     (λ p was stands number now owes there. same_task r frame number now (gone_back r frame number now there))
     (λ object of has. before_more r.objects origin object of has)
-    (λ p. placed_elsewhere old frame place (made_object old first) giver.number p not_giver)
-    (λ p. placed_elsewhere old frame place (made_object old first) child p not_child)
+    (λ p. create_keeps old frame place first giver.number p (inl (λ e. not_giver (sym e))))
+    (λ p. create_keeps old frame place first child p (inl (λ e. not_child (sym e))))
     (λ number other has stands owes. (has, create_owes old frame place first child number other has stands (inl owes), owes))
     (λ number other has stands given. giving.ungiven number other has (create_owes old frame place first child number other has stands (inr given)) given))
 

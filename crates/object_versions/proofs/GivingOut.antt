@@ -1,6 +1,5 @@
 -- A parent gives a child an object to write: the child's version has the zero of the object's kind.
 use Rattle.std.proofs.Common.{◌≡◌, ◌≢◌, ◌⊎◌, inr, ℕ, ◌+◌, ◌<◌, None, Some, refl, sym, ap, ◌∙◌, arith, ⊎_elim}
-use Rattle.std.proofs.lemmas.Option.{same_Some}
 use Rattle.std.proofs.lemmas.Bool.{cases_eq}
 use Rattle.std.specs.BTreeMap.{is_at, insert_entry}
 use Rattle.std.specs.Map.{set_value, keys_of}
@@ -9,7 +8,7 @@ use Rattle.slab.specs.Slab.{Slab, get, Updates}
 use Rattle.swan_model.specs.declared.rights.Mode.TheVariants.{Out}
 use Rattle.swan_model.specs.declared.value.Value.{Value}
 use Rattle.swan_model.specs.Values.{zero_of}
-use Rattle.swan_model.specs.Versions.{settled, owed, place_cmp, after_access, given_from, with_placed, with_present}
+use Rattle.swan_model.specs.Versions.{settled, owed, place_cmp, after_access, got}
 use Rattle.object_versions.specs.declared.node.Node.{Node}
 use Rattle.object_versions.specs.declared.node.NodeState.TheVariants.{Settled, Owed}
 use Rattle.object_versions.specs.declared.placed_object.PlacedObject.{PlacedObject}
@@ -17,8 +16,7 @@ use Rattle.object_versions.specs.Store.{Entries, place_at, told_at, version_at, 
 use Rattle.object_versions.specs.Whole.{IsFit, HasOwing, IsWhole, MayGetAt}
 use Rattle.object_versions.proofs.Counts.{one_self, one_other, told_here, told_elsewhere, unused}
 use Rattle.object_versions.proofs.References.{made_whole, made_told}
-use Rattle.object_versions.proofs.Seeing.{seen_some}
-use Rattle.object_versions.proofs.Given.{given_whole, given_seen}
+use Rattle.object_versions.proofs.Given.{given_access, given_whole, owed_key}
 use Rattle.object_versions.proofs.Differ.{owed_same, settled_not-owed}
 
 module _ (entries with_child later : Entries) (old first middle new : Slab Node) (made parent pp child cp key own : ℕ) (was : PlacedObject) (zero : Value)
@@ -78,11 +76,7 @@ module _ (entries with_child later : Entries) (old first middle new : Slab Node)
     present = ap (λ t. t.0) told_own;
     given = λ k is. absurd (cc);
     reads = λ k is. absurd (cc);
-    owes = λ k is. let e = same_Some key k is in record {
-      same = ap (λ n. (told_at middle n).0) (sym e) ∙ ap (λ t. t.0) told_key;
-      may = refl;
-      by = λ other h. sym (owed_same child other (sym (ap (λ t. t.1) told_key) ∙ ap (version_at middle) e ∙ h));
-    };
+    owes = owed_key middle child key gets told_key refl refl;
   }
 
   owing : (k frame : ℕ) → 0 < uses_of k gets → version_at middle k ≡ owed frame → HasOwing entries k frame ⊎ ((frame ≡ child) × (gets.owes ≡ Some k))
@@ -104,10 +98,7 @@ module _ (entries with_child later : Entries) (old first middle new : Slab Node)
     pub out_seen : versions_of later new made ≡ after_access (versions_of entries old made) parent pp child cp Out
     out_seen =
         let version : version_at middle own ≡ settled (zero_of was.kind) = ap (λ t. t.1) told_own ∙ ap settled is_zero in
-        let object = placed_of old was in
-        let got : placed_of middle gets ≡ record object { mode = Out; given = None; present = settled (zero_of was.kind) } =
+        let gives : placed_of middle gets ≡ got (placed_of old was) Out =
         λ i. record { object = was.object; kind = was.kind; mode = Out; given = None; present = version i } in
-        given_seen entries with_child later old middle new made parent pp child cp key was gets differ with_own same told_key stands free fit may refl owing
-        put sorted_child set sorted release
-        ∙ ap (with_placed (with_present (versions_of entries old made) parent pp object (owed child)) child cp) got
-        ∙ sym (ap (given_from (versions_of entries old made) parent pp child cp Out) (seen_some entries old made parent pp was stands))
+        given_access entries with_child later old middle new made parent pp child cp key was gets differ with_own same told_key stands free fit may refl owing
+        put sorted_child set sorted release Out refl gives

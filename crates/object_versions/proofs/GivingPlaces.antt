@@ -1,12 +1,13 @@
 -- What stands at a place after one access: the child has what it got, the parent has what is left with it, and no other place has
 -- changed.
-use Rattle.std.proofs.Common.{◌≡◌, ◌≢◌, ◌⊎◌, inl, inr, ℕ, Bool, true, false, cond, Option, None, Some, refl, sym, ap, ◌∙◌}
+use Rattle.std.proofs.Common.{◌≡◌, ◌⊎◌, inl, inr, ℕ, Bool, true, false, cond, Option, None, Some, refl, sym, ap, ◌∙◌}
 use Rattle.std.specs.BTreeMap.{is_at}
 use Rattle.swan_model.specs.declared.rights.Mode.{Mode}
 use Rattle.swan_model.specs.declared.rights.Mode.TheVariants.{In, Out, InOut, Push, Pop, PushPop}
-use Rattle.swan_model.specs.Versions.{Version, settled, owed, Placed, VersionState, owing, place_cmp, placed_at, with_placed, with_present, after_access, given_from, got, left_with}
-use Rattle.object_versions.proofs.Lookups.{at_set, equal_by, place_total, untied}
-use Rattle.swan_model.proofs.Lookups.{found_in, found_set}
+use Rattle.swan_model.specs.Versions.{Version, owed, Placed, VersionState, place_cmp, placed_at, with_placed, with_present, after_access, given_from, got, left_with}
+use Rattle.object_versions.proofs.Differ.{owing_owed}
+use Rattle.object_versions.proofs.Lookups.{at_set, equal_by, place_total}
+use Rattle.swan_model.proofs.Lookups.{found_set}
 use Rattle.object_versions.proofs.PlacesAfter.{IsHere, IsThere, after_placed, after_present, at_placed, still_placed}
 
 -- ---- what is got
@@ -44,10 +45,6 @@ got_present object Push frame is = is
 got_present object Pop frame is = is
 got_present object PushPop frame is = is
 
-pub owing_owed : (version : Version) (frame : ℕ) → owing version ≡ Some frame → version ≡ owed frame
-owing_owed (settled value) frame is = absurd (cc)
-owing_owed (owed other) frame is = let e : other ≡ frame = cc in ap owed e
-
 pub got_given : (object : Placed) (mode : Mode) (frame : ℕ) → (got object mode).given ≡ Some frame → object.present ≡ owed frame
 got_given object In frame is = owing_owed object.present frame is
 got_given object Out frame is = absurd (cc)
@@ -70,7 +67,7 @@ pub record IsBack (state : VersionState) (parent place child child_place f p : �
   pub how : IsHere parent place (record object { present = version }) f p has ⊎ IsThere state parent place f p has
 
 -- what stood at a place still does, but for the parent's version
-pub record IsLeft (now : VersionState) (parent place f p : ℕ) (has : Placed) (version : Placed → Version) : Type 0 where
+pub record StillStands (now : VersionState) (parent place f p : ℕ) (has : Placed) (version : Placed → Version) : Type 0 where
   pub now_has : Placed
   pub stands : placed_at now f p ≡ Some now_has
   pub how : (now_has ≡ has) ⊎ ((f ≡ parent) × (p ≡ place) × (now_has ≡ record has { present = version has }))
@@ -108,14 +105,14 @@ module _ (state : VersionState) (parent place child child_place : ℕ) (mode : M
       let new : Placed = record object { present = left_with object child mode } in
       still_placed middle child child_place (got object mode) parent place new free_still (at_set state.places (parent, place) object new stands)
 
-  pub left : (f p : ℕ) (has : Placed) → placed_at state f p ≡ Some has → IsLeft given_now parent place f p has (λ was. left_with was child mode)
+  pub left : (f p : ℕ) (has : Placed) → placed_at state f p ≡ Some has → StillStands given_now parent place f p has (λ was. left_with was child mode)
   left f p has is =
       by (is_at (place_cmp (parent, place)) (f, p)) refl
       (found_set place_total state.places (parent, place) object (record object { present = left_with object child mode }) (f, p) stands)
     where
       by : (b : Bool) → is_at (place_cmp (parent, place)) (f, p) ≡ b
           → placed_at middle f p ≡ cond b (Some (record object { present = left_with object child mode })) (placed_at state f p)
-          → IsLeft given_now parent place f p has (λ was. left_with was child mode)
+          → StillStands given_now parent place f p has (λ was. left_with was child mode)
       by true tie found =
           let both = equal_by parent place f p tie in
           let same : Some object ≡ Some has = sym stands ∙ (λ i. placed_at state (both.0 i) (both.1 i)) ∙ is in
@@ -135,24 +132,3 @@ module _ (state : VersionState) (parent place child child_place : ℕ) (mode : M
 
   pub after_is : after_access state parent place child child_place mode ≡ given_now
   after_is = ap (given_from state parent place child child_place mode) stands
-
--- what other frames have at their places stays as it was
-pub access_others : (state : VersionState) (parent place child child_place : ℕ) (mode : Mode) (frame other : ℕ) → frame ≢ parent → frame ≢ child
-    → placed_at (after_access state parent place child child_place mode) frame other ≡ placed_at state frame other
-access_others state parent place child child_place mode frame other not_parent not_child = by (placed_at state parent place) refl where
-  by : (o : Option Placed) → placed_at state parent place ≡ o → placed_at (given_from state parent place child child_place mode o) frame other ≡ placed_at state frame other
-  by None stands = refl
-  by (Some object) stands =
-      let new : Placed = record object { present = left_with object child mode } in
-      let mid : VersionState = with_present state parent place object (left_with object child mode) in
-      let gets : Placed = got object mode in
-      found_in place_total (child, child_place) gets (frame, other) mid.places
-      ∙ ap (λ b. cond b (Some gets) (placed_at mid frame other)) (untied (frame, other) (child, child_place) (λ e. not_child (ap (λ (k : ℕ × ℕ). k.0) (sym e))))
-      ∙ found_set place_total state.places (parent, place) object new (frame, other) stands
-      ∙ ap (λ b. cond b (Some new) (placed_at state frame other)) (untied (parent, place) (frame, other) (λ e. not_parent (ap (λ (k : ℕ × ℕ). k.0) e)))
-
--- the same, in the shape of the call's clause
-pub others_same : (old now : VersionState) (parent place child child_place : ℕ) (mode : Mode) → now ≡ after_access old parent place child child_place mode
-    → (frame other : ℕ) → frame ≢ parent → frame ≢ child → placed_at now frame other ≡ placed_at old frame other
-others_same old now parent place child child_place mode is = λ frame other not_parent not_child.
-    ap (λ state. placed_at state frame other) is ∙ access_others old parent place child child_place mode frame other not_parent not_child

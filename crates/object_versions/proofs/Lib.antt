@@ -26,7 +26,6 @@ pub mod Making
 pub mod Writing
 pub mod Forgotten
 pub mod Overwriting
-pub mod Others
 -- an object is given to a child
 pub mod Given
 pub mod GivingUp

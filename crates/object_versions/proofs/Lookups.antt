@@ -43,39 +43,39 @@ module _ {X : Type 0} where
   here es n = lookup (is_at (place_cmp n)) es
 
   -- what stands at a place is this entry
-  pub record IsHere (k n : ℕ × ℕ) (value has : X) : Type 0 where
+  pub record IsNewEntry (k n : ℕ × ℕ) (value has : X) : Type 0 where
     pub same : n ≡ k
     pub is : has ≡ value
 
   -- what stands at a place stood there before, and the place is another one
-  pub record IsThere (es : List ((ℕ × ℕ) × X)) (k n : ℕ × ℕ) (has : X) : Type 0 where
+  pub record IsOldEntry (es : List ((ℕ × ℕ) × X)) (k n : ℕ × ℕ) (has : X) : Type 0 where
     pub apart : n ≢ k
     pub was : here es n ≡ Some has
 
   here_or_there : (b : Bool) (es : List ((ℕ × ℕ) × X)) (k n : ℕ × ℕ) (value has : X) → (n ≡ k → b ≡ true) → (b ≡ true → n ≡ k)
-      → cond b (Some value) (here es n) ≡ Some has → IsHere k n value has ⊎ IsThere es k n has
+      → cond b (Some value) (here es n) ≡ Some has → IsNewEntry k n value has ⊎ IsOldEntry es k n has
   here_or_there true es k n value has back same is = inl (record { same = same refl; is = let e : has ≡ value = cc in e })
   here_or_there false es k n value has back same is = inr (record { apart = λ e. false≢true (back e); was = is })
 
   pub after_insert : (es : List ((ℕ × ℕ) × X)) (k : ℕ × ℕ) (value : X) (n : ℕ × ℕ) (has : X)
-      → here (insert_entry place_cmp es k value) n ≡ Some has → IsHere k n value has ⊎ IsThere es k n has
+      → here (insert_entry place_cmp es k value) n ≡ Some has → IsNewEntry k n value has ⊎ IsOldEntry es k n has
   after_insert es k value n has is =
       here_or_there (is_at (place_cmp n) k) es k n value has (λ e. ap (λ z. is_at (place_cmp z) k) e ∙ tied k) (equal_at n k)
       (sym (found_in place_total k value n es) ∙ is)
 
   pub after_set : (es : List ((ℕ × ℕ) × X)) (k : ℕ × ℕ) (was value : X) (n : ℕ × ℕ) (has : X) → here es k ≡ Some was
-      → here (set_value (is_at (place_cmp k)) es value) n ≡ Some has → IsHere k n value has ⊎ IsThere es k n has
+      → here (set_value (is_at (place_cmp k)) es value) n ≡ Some has → IsNewEntry k n value has ⊎ IsOldEntry es k n has
   after_set es k was value n has stands is =
       here_or_there (is_at (place_cmp k) n) es k n value has (λ e. ap (is_at (place_cmp k)) e ∙ tied k) (λ t. sym (equal_at k n t))
       (sym (found_set place_total es k was value n stands) ∙ is)
 
   there_only : (b : Bool) (es : List ((ℕ × ℕ) × X)) (k n : ℕ × ℕ) (has : X) → (n ≡ k → b ≡ true)
-      → cond b None (here es n) ≡ Some has → IsThere es k n has
+      → cond b None (here es n) ≡ Some has → IsOldEntry es k n has
   there_only true es k n has back is = absurd (none-some has is)
   there_only false es k n has back is = record { apart = λ e. false≢true (back e); was = is }
 
   pub after_removal : (es : List ((ℕ × ℕ) × X)) (k n : ℕ × ℕ) (has : X) → IsStrictlySortedBy place_cmp (keys_of es)
-      → here (remove_entry (is_at (place_cmp k)) es) n ≡ Some has → IsThere es k n has
+      → here (remove_entry (is_at (place_cmp k)) es) n ≡ Some has → IsOldEntry es k n has
   after_removal es k n has sorted is =
       there_only (is_at (place_cmp k) n) es k n has (λ e. ap (is_at (place_cmp k)) e ∙ tied k) (sym (found_without place_total es k n sorted) ∙ is)
 

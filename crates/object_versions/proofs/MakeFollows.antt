@@ -9,7 +9,7 @@ use Rattle.std.specs.List.Sorted.{IsStrictlySortedBy}
 use Rattle.std.specs.Option.{option_map}
 use Rattle.swan_model.specs.declared.origin.Origin.{Origin}
 use Rattle.swan_model.specs.declared.origin.Origin.TheVariants.{Root, Step}
-use Rattle.swan_model.specs.declared.rights.Mode.TheVariants.{In, Out, InOut, PushPop}
+use Rattle.swan_model.specs.declared.rights.Mode.TheVariants.{In, InOut, PushPop}
 use Rattle.swan_model.specs.declared.script.Deed.TheVariants as deed
 use Rattle.swan_model.specs.declared.script.Entry.{Entry}
 use Rattle.swan_model.specs.declared.script.OriginGive.{OriginGive}
@@ -22,12 +22,12 @@ use Rattle.swan_model.specs.Readings.{at_start, gone_on, next_deed, one_more, wi
 use Rattle.swan_model.specs.Rights.{allows}
 use Rattle.swan_model.specs.SerialTime.{Progress, Reading, frame_of, is_done, is_of, places_from, point, time, times}
 use Rattle.swan_model.specs.Told.{cell, cell_from, is_same, made}
-use Rattle.swan_model.specs.Values.{kind_of}
-use Rattle.swan_model.specs.Versions.{settled, Placed, VersionState, placed_at, new_versions, objects_after_create}
+use Rattle.swan_model.specs.Versions.{Placed, VersionState, placed_at, new_versions, objects_after_create}
 use Rattle.swan_model.specs.VersionsFollow.{ObjectsFollow, FollowsAt}
 use Rattle.swan_model.proofs.MovedFrames.{frame_number, gone_back, gone_there, path_kept, done_stays}
 use Rattle.swan_model.proofs.Elements.{last_more, more_cases}
-use Rattle.object_versions.proofs.PlacesAfter.{after_placed, sorted_in, still_placed}
+use Rattle.object_versions.specs.Following.{MayWrite}
+use Rattle.object_versions.proofs.PlacesAfter.{after_placed, made_object, sorted_in, still_placed}
 use Rattle.object_versions.proofs.Moves.{Owes, acting, at_gone, at_moves, does_now}
 use Rattle.swan_model.proofs.ScriptCells.{cell_made}
 use Rattle.swan_model.proofs.ScriptRights.{maker_holds_object}
@@ -65,10 +65,6 @@ new_follow s queues lawful = record {
 }
 
 -- ---- an object more
-
--- what the maker has at its place
-abbrev pub made_object : VersionState → Value → Placed
-made_object state value = record { object = state.made; kind = kind_of value; mode = InOut; given = None; present = settled value }
 
 module _ (s : Script) (r after : Reading) (state : VersionState) (follows : ObjectsFollow s r state) (n place : ℕ) (first : Value) (origin : Origin)
     (free : placed_at state n place ≡ None) (objects : after.objects ≡ r.objects ++ origin ∷ []) (tasks : HasTasks s after)
@@ -152,7 +148,7 @@ module _ (s : Script) (r after : Reading) (state : VersionState) (follows : Obje
   ]
 
   made_owing : (number other frame : ℕ) (has : Placed) → placed_at (objects_after_create state n place first) number other ≡ Some has → Owes has frame
-      → (at : ℕ) × (own : Placed) × (placed_at (objects_after_create state n place first) frame at ≡ Some own) × (own.object ≡ has.object) × (allows own.mode Out ≡ true)
+      → MayWrite (objects_after_create state n place first) frame has.object
   made_owing number other frame has at owes = elim (after_placed state n place (made_object state first) number other has at) [
     | inl here ↦ elim owes [
       | inl present ↦ absurd (settled_not-owed first frame (sym (ap (λ o. o.present) here.objects) ∙ present))

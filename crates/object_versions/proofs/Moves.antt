@@ -6,16 +6,14 @@ use Rattle.std.specs.Prelude.{slice_get}
 use Rattle.swan_model.specs.declared.origin.Origin.{Origin}
 use Rattle.swan_model.specs.declared.origin.Origin.TheVariants.{Root, Step}
 use Rattle.swan_model.specs.declared.rights.Mode.{Mode}
-use Rattle.swan_model.specs.declared.rights.Mode.TheVariants.{Out}
 use Rattle.swan_model.specs.declared.script.Deed.{Deed}
 use Rattle.swan_model.specs.declared.script.Script.{Script}
 use Rattle.swan_model.specs.Granted.{holds, is_spawn, may_use}
 use Rattle.swan_model.specs.Lawful.{IsLawful}
 use Rattle.swan_model.specs.Readings.{end_time, next_deed, one_more}
-use Rattle.swan_model.specs.Rights.{allows}
 use Rattle.swan_model.specs.SerialTime.{Progress, Reading, frame_of, point, time}
 use Rattle.swan_model.specs.Told.{cell, deed_at}
-use Rattle.swan_model.specs.Versions.{Version, settled, owed, Placed, VersionState, placed_at}
+use Rattle.swan_model.specs.Versions.{Version, settled, owed, Placed, VersionState}
 use Rattle.swan_model.specs.VersionsFollow.{ObjectsFollow, FollowsAt, IsVersionAt}
 use Rattle.swan_model.proofs.MovedFrames.{IsMoved, frame_number, other_stays, own_moves, path_kept}
 use Rattle.swan_model.proofs.ScriptCells.{cell_unchanged}
@@ -52,10 +50,6 @@ version_moves s r after origin t later (owed number) late same back is = λ owin
 -- a frame that owes a version of this object, the present one or the given one
 abbrev pub Owes : Placed → ℕ → Type 0
 Owes object number = (object.present ≡ owed number) ⊎ (object.given ≡ Some number)
-
--- a frame has an object at a place where it may write it
-abbrev pub IsOwedBy : VersionState → (frame object : ℕ) → Type 0
-IsOwedBy state frame object = (place : ℕ) × (has : Placed) × (placed_at state frame place ≡ Some has) × (has.object ≡ object) × (allows has.mode Out ≡ true)
 
 -- the given version stays right, and so does who owes the present one, whatever the frame itself does
 pub given_stays : (s : Script) (r after : Reading) (was now : Progress) (object : Placed) (origin : Origin) → now.path ≡ was.path

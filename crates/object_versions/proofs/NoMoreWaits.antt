@@ -1,16 +1,11 @@
 -- Who waits for nothing that it was given waits for nothing later: what a frame was given is only ever forgotten.
 use Rattle.std.proofs.Common.{◌≡◌, ◌≢◌, inl, inr, ℕ, Bool, true, false, nat_eq, cond, Option, None, Some, refl, sym, ap, ◌∙◌}
 use Rattle.swan_model.specs.declared.rights.Mode.{Mode}
-use Rattle.swan_model.specs.declared.rights.Mode.TheVariants.{InOut}
 use Rattle.swan_model.specs.declared.value.Value.{Value}
-use Rattle.swan_model.specs.Values.{kind_of}
-use Rattle.swan_model.specs.Versions.{Awaits, Placed, Version, VersionState, settled, placed_at, with_present, after_access, objects_after_create, objects_after_finish, after_write, given_from, got, left_with, still_owing, written_at}
+use Rattle.swan_model.specs.Versions.{Placed, Version, VersionState, settled, placed_at, with_present, after_access, objects_after_create, objects_after_finish, after_write, given_from, got, left_with, still_owing, written_at}
+use Rattle.object_versions.specs.Following.{WaitsForNone}
 use Rattle.object_versions.proofs.FinishPlaces.{after_kept}
-use Rattle.object_versions.proofs.PlacesAfter.{after_placed, after_present}
-
--- the frame waits for no version that it was given to read
-abbrev pub WaitsForNone : VersionState → ℕ → Type 0
-WaitsForNone state n = (place owing : ℕ) → Awaits state n place owing → ⊥
+use Rattle.object_versions.proofs.PlacesAfter.{after_placed, after_present, made_object}
 
 present_waits : (state : VersionState) (frame place : ℕ) (object : Placed) (version : Version) (n : ℕ) → placed_at state frame place ≡ Some object → WaitsForNone state n → WaitsForNone (with_present state frame place object version) n
 present_waits state frame place object version n stands none p owing waits =
@@ -23,8 +18,7 @@ present_waits state frame place object version n stands none p owing waits =
 
 pub create_waits : (state : VersionState) (frame place : ℕ) (value : Value) (n : ℕ) → WaitsForNone state n → WaitsForNone (objects_after_create state frame place value) n
 create_waits state frame place value n none p owing waits =
-    let object : Placed = record { object = state.made; kind = kind_of value; mode = InOut; given = None; present = settled value } in
-    elim (after_placed state frame place object n p waits.object waits.stands) [
+    elim (after_placed state frame place (made_object state value) n p waits.object waits.stands) [
       | inl here ↦ let both : None ≡ Some owing = ap (λ (x : Placed). x.given) (sym here.objects) ∙ waits.owes in cc
       | inr there ↦ none p owing (record { object = waits.object; stands = there.was; owes = waits.owes })
     ]

@@ -1,7 +1,5 @@
 -- What a frame has at a place after an object came to a place, or its version there was changed.
 use Rattle.std.proofs.Common.{◌≡◌, ◌⊎◌, inl, inr, ℕ, Bool, true, false, cond, None, Some, List, [], ◌∷◌, refl, sym, ap, subst, ◌∙◌}
-use Rattle.std.proofs.lemmas.Option.{none-some}
-use Rattle.std.proofs.lemmas.Bool.{false≢true}
 use Rattle.std.proofs.lemmas.Map.{keys-set_value}
 use Rattle.std.specs.List.{AllByRecursion}
 use Rattle.std.specs.List.Sorted.{IsStrictlySortedBy}
@@ -10,9 +8,12 @@ use Rattle.std.specs.BTreeMap.{is_at, insert_entry}
 use Rattle.std.specs.Ordering.{match_ordering, ordering_reverse}
 use Rattle.std.specs.declared.cmp.Ordering.{Ordering}
 use Rattle.std.specs.declared.cmp.Ordering.TheVariants.{Less, Equal, Greater}
-use Rattle.object_versions.proofs.Lookups.{equal_by, place_total, tied, untied}
-use Rattle.swan_model.proofs.Lookups.{found_in, found_set}
-use Rattle.swan_model.specs.Versions.{Version, Placed, Places, VersionState, place_cmp, placed_at, with_placed, with_present}
+use Rattle.object_versions.proofs.Lookups.{IsNewEntry, IsOldEntry, after_insert, after_set, at_inserted, equal_by, place_total, still_inserted}
+use Rattle.swan_model.proofs.Lookups.{found_set}
+use Rattle.swan_model.specs.declared.rights.Mode.TheVariants.{InOut}
+use Rattle.swan_model.specs.declared.value.Value.{Value}
+use Rattle.swan_model.specs.Values.{kind_of}
+use Rattle.swan_model.specs.Versions.{Version, settled, Placed, Places, VersionState, place_cmp, placed_at, with_placed, with_present}
 
 -- the keys stay in order
 below : (k n : ℕ × ℕ) (keys : List (ℕ × ℕ)) → place_cmp k n ≡ Less → AllByRecursion (λ y. place_cmp n y ≡ Less) keys
@@ -47,6 +48,10 @@ sorted_set es k v sorted =
 
 -- ---- in the objects
 
+-- what the maker of a new object has at its place
+abbrev pub made_object : VersionState → Value → Placed
+made_object state value = record { object = state.made; kind = kind_of value; mode = InOut; given = None; present = settled value }
+
 -- what a frame has at a place is the object that came there, or what it has now
 pub record IsHere (frame place : ℕ) (object : Placed) (f p : ℕ) (has : Placed) : Type 0 where
   pub frames : f ≡ frame
@@ -58,45 +63,29 @@ pub record IsThere (state : VersionState) (frame place f p : ℕ) (has : Placed)
   pub apart : f ≡ frame → p ≡ place → ⊥
   pub was : placed_at state f p ≡ Some has
 
-here_or_there : (b : Bool) (state : VersionState) (frame place f p : ℕ) (object has : Placed) → ((f ≡ frame → p ≡ place → b ≡ true)) → (b ≡ true → (f ≡ frame) × (p ≡ place))
-    → cond b (Some object) (placed_at state f p) ≡ Some has → IsHere frame place object f p has ⊎ IsThere state frame place f p has
-here_or_there true state frame place f p object has back same is =
-    let both = same refl in
-    inl (record { frames = both.0; places = both.1; objects = let e : has ≡ object = cc in e })
-here_or_there false state frame place f p object has back same is =
-    inr (record { apart = λ a b. false≢true (back a b); was = is })
-
-tied_by : (a b c d : ℕ) → c ≡ a → d ≡ b → is_at (place_cmp (a, b)) (c, d) ≡ true
-tied_by a b c d e f =
-    let key : (c, d) ≡ (a, b) = λ i. (e i, f i) in
-    ap (λ z. is_at (place_cmp (a, b)) z) key ∙ tied (a, b)
+-- the same of a key, by its frame and its place
+by_parts : (state : VersionState) (frame place f p : ℕ) (object has : Placed) → IsNewEntry (frame, place) (f, p) object has ⊎ IsOldEntry state.places (frame, place) (f, p) has
+    → IsHere frame place object f p has ⊎ IsThere state frame place f p has
+by_parts state frame place f p object has (inl new) = inl (record { frames = ap (λ (k : ℕ × ℕ). k.0) new.same; places = ap (λ (k : ℕ × ℕ). k.1) new.same; objects = new.is })
+by_parts state frame place f p object has (inr old) = inr (record { apart = λ a b. old.apart (λ i. (a i, b i)); was = old.was })
 
 pub after_placed : (state : VersionState) (frame place : ℕ) (object : Placed) (f p : ℕ) (has : Placed) → placed_at (with_placed state frame place object) f p ≡ Some has
     → IsHere frame place object f p has ⊎ IsThere state frame place f p has
-after_placed state frame place object f p has is =
-    here_or_there (is_at (place_cmp (f, p)) (frame, place)) state frame place f p object has
-    (λ a b. tied_by f p frame place (sym a) (sym b)) (λ t. equal_by f p frame place t)
-    (sym (found_in place_total (frame, place) object (f, p) state.places) ∙ is)
+after_placed state frame place object f p has is = by_parts state frame place f p object has (after_insert state.places (frame, place) object (f, p) has is)
 
 pub after_present : (state : VersionState) (frame place : ℕ) (object : Placed) (version : Version) (f p : ℕ) (has : Placed) → placed_at state frame place ≡ Some object
     → placed_at (with_present state frame place object version) f p ≡ Some has
     → IsHere frame place (record object { present = version }) f p has ⊎ IsThere state frame place f p has
 after_present state frame place object version f p has stands is =
-    here_or_there (is_at (place_cmp (frame, place)) (f, p)) state frame place f p (record object { present = version }) has
-    (λ a b. tied_by frame place f p a b) (λ t. let both = equal_by frame place f p t in (sym both.0, sym both.1))
-    (sym (found_set place_total state.places (frame, place) object (record object { present = version }) (f, p) stands) ∙ is)
+    let changed : Placed = record object { present = version } in
+    by_parts state frame place f p changed has (after_set state.places (frame, place) object changed (f, p) has stands is)
 
 pub at_placed : (state : VersionState) (frame place : ℕ) (object : Placed) → placed_at (with_placed state frame place object) frame place ≡ Some object
-at_placed state frame place object =
-    found_in place_total (frame, place) object (frame, place) state.places
-    ∙ ap (λ b. cond b (Some object) (placed_at state frame place)) (tied (frame, place))
+at_placed state frame place object = at_inserted state.places (frame, place) object
 
 pub still_placed : (state : VersionState) (frame place : ℕ) (object : Placed) (f p : ℕ) (has : Placed) → placed_at state frame place ≡ None
     → placed_at state f p ≡ Some has → placed_at (with_placed state frame place object) f p ≡ Some has
-still_placed state frame place object f p has free is =
-    let apart : is_at (place_cmp (f, p)) (frame, place) ≡ false = untied (f, p) (frame, place)
-    (λ e. none-some has (sym free ∙ ap (λ (k : ℕ × ℕ). placed_at state k.0 k.1) e ∙ is)) in
-    found_in place_total (frame, place) object (f, p) state.places ∙ ap (λ b. cond b (Some object) (placed_at state f p)) apart ∙ is
+still_placed state frame place object f p has free is = still_inserted state.places (frame, place) object (f, p) has free is
 
 -- a place is still there, with the same object and mode
 pub record IsStill (state : VersionState) (f p : ℕ) (has : Placed) : Type 0 where

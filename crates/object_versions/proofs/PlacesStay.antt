@@ -3,27 +3,26 @@ use Rattle.std.proofs.Common.{◌≡◌, ◌≢◌, ◌⊎◌, inl, inr, ℕ, �
 use Rattle.std.proofs.lemmas.Bool.{eq-eqb, ne_eqb}
 use Rattle.std.specs.Option.{option_map}
 use Rattle.swan_model.specs.declared.rights.Mode.{Mode}
-use Rattle.swan_model.specs.declared.rights.Mode.TheVariants.{InOut}
 use Rattle.swan_model.specs.declared.value.Value.{Value}
 use Rattle.swan_model.specs.Versions.{Placed, VersionState, settled, placed_at, with_placed, with_present, after_access, objects_after_create, objects_after_finish, after_write, given_from, got, left_with, settle_placed, written_at}
-use Rattle.swan_model.specs.Values.{kind_of}
 use Rattle.object_versions.proofs.FinishPlaces.{found_kept}
 use Rattle.object_versions.proofs.Lookups.{at_inserted, at_set, place_total, still_set, untied}
 use Rattle.swan_model.proofs.Lookups.{found_in}
-use Rattle.object_versions.proofs.Others.{other_key}
+use Rattle.object_versions.proofs.PlacesAfter.{made_object}
 
+-- another frame, or another place, is another key
 apart : (frame place f p : ℕ) → (f ≢ frame) ⊎ (p ≢ place) → ◌≢◌ {A = ℕ × ℕ} (f, p) (frame, place)
-apart frame place f p differ same = other_key (frame, place) (f, p) differ (sym same)
+apart frame place f p (inl differ) same = differ (ap (λ (n : ℕ × ℕ). n.0) same)
+apart frame place f p (inr differ) same = differ (ap (λ (n : ℕ × ℕ). n.1) same)
 
 -- another place than that of an object which was put in
 placed_keeps : (state : VersionState) (frame place : ℕ) (object : Placed) (f p : ℕ) → (f ≢ frame) ⊎ (p ≢ place) → placed_at (with_placed state frame place object) f p ≡ placed_at state f p
 placed_keeps state frame place object f p differ =
     found_in place_total (frame, place) object (f, p) state.places
-    ∙ ap (λ b. cond b (Some object) (placed_at state f p)) (untied (f, p) (frame, place) (other_key (frame, place) (f, p) differ))
+    ∙ ap (λ b. cond b (Some object) (placed_at state f p)) (untied (f, p) (frame, place) (λ e. apart frame place f p differ (sym e)))
 
 pub create_keeps : (state : VersionState) (frame place : ℕ) (value : Value) (f p : ℕ) → (f ≢ frame) ⊎ (p ≢ place) → placed_at (objects_after_create state frame place value) f p ≡ placed_at state f p
-create_keeps state frame place value f p differ =
-    placed_keeps state frame place (record { object = state.made; kind = kind_of value; mode = InOut; given = None; present = settled value }) f p differ
+create_keeps state frame place value f p differ = placed_keeps state frame place (made_object state value) f p differ
 
 pub write_keeps : (state : VersionState) (frame place : ℕ) (value : Value) (f p : ℕ) → (f ≢ frame) ⊎ (p ≢ place) → placed_at (after_write state frame place value) f p ≡ placed_at state f p
 write_keeps state frame place value f p differ = by (placed_at state frame place) refl where

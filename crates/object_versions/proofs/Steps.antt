@@ -11,7 +11,7 @@ use Rattle.object_versions.specs.declared.node.Node.{Node}
 use Rattle.object_versions.specs.declared.placed_object.PlacedObject.{PlacedObject}
 use Rattle.object_versions.specs.Store.{Entries, place_at, told_at, version_at, object_at, one, uses_of, uses}
 use Rattle.object_versions.specs.Whole.{IsCounted, IsFit, HasOwing, IsWhole, MayGetAt}
-use Rattle.object_versions.proofs.Lookups.{here, IsHere, IsThere, after_insert, after_set, after_removal, at_inserted, at_set, still_inserted, still_set, still_without, cases_place}
+use Rattle.object_versions.proofs.Lookups.{here, IsNewEntry, IsOldEntry, after_insert, after_set, after_removal, at_inserted, at_set, still_inserted, still_set, still_without, cases_place}
 use Rattle.object_versions.proofs.Counts.{one_other, same_count, uses_inserted, uses_changed, uses_without, uses_at, present_used, given_used, owes_used}
 
 -- ---- the nodes change
@@ -100,17 +100,17 @@ module _ (entries : Entries) (nodes : Slab Node) (made : ℕ) (held later : ℕ 
       → place ≢ other → a.object ≡ b.object → (a.mode ≡ In) × (b.mode ≡ In)
   alone_after may frame place other a b left right apart same =
       ⊎_elim
-      (λ (x : IsHere (f, p) (frame, place) has a). ⊎_elim
-      (λ (y : IsHere (f, p) (frame, other) has b). absurd (apart (ap (λ (k : ℕ × ℕ). k.1) (x.same ∙ sym y.same))))
-      (λ (y : IsThere entries (f, p) (frame, other) b).
+      (λ (x : IsNewEntry (f, p) (frame, place) has a). ⊎_elim
+      (λ (y : IsNewEntry (f, p) (frame, other) has b). absurd (apart (ap (λ (k : ℕ × ℕ). k.1) (x.same ∙ sym y.same))))
+      (λ (y : IsOldEntry entries (f, p) (frame, other) b).
       let both = may.alone other b (ap (λ n. place_at entries n other) (sym (ap (λ (k : ℕ × ℕ). k.0) x.same)) ∙ y.was) (sym same ∙ ap (λ o. o.object) x.is) in
       (ap (λ o. o.mode) x.is ∙ both.1, both.0))
       (after_insert entries (f, p) has (frame, other) b right))
-      (λ (x : IsThere entries (f, p) (frame, place) a). ⊎_elim
-      (λ (y : IsHere (f, p) (frame, other) has b).
+      (λ (x : IsOldEntry entries (f, p) (frame, place) a). ⊎_elim
+      (λ (y : IsNewEntry (f, p) (frame, other) has b).
       let both = may.alone place a (ap (λ n. place_at entries n place) (sym (ap (λ (k : ℕ × ℕ). k.0) y.same)) ∙ x.was) (same ∙ ap (λ o. o.object) y.is) in
       (both.0, ap (λ o. o.mode) y.is ∙ both.1))
-      (λ (y : IsThere entries (f, p) (frame, other) b). whole.alone frame place other a b x.was y.was apart same)
+      (λ (y : IsOldEntry entries (f, p) (frame, other) b). whole.alone frame place other a b x.was y.was apart same)
       (after_insert entries (f, p) has (frame, other) b right))
       (after_insert entries (f, p) has (frame, place) a left)
 
@@ -122,11 +122,11 @@ module _ (entries : Entries) (nodes : Slab Node) (made : ℕ) (held later : ℕ 
     counted = same_count nodes (λ k. uses k entries + held k) (λ k. uses k after + later k) whole.counted
         (λ k. let sums = uses_inserted entries k f p has whole.sorted free in let count = counts k in omega (arith, sums, count));
     fits = λ frame place other stands. ⊎_elim
-        (λ (x : IsHere (f, p) (frame, place) has other).
+        (λ (x : IsNewEntry (f, p) (frame, place) has other).
         let P : ℕ → Type 0 = λ n. IsFit nodes made n other in
         let Q : PlacedObject → Type 0 = λ o. IsFit nodes made f o in
         subst P (sym (ap (λ (k : ℕ × ℕ). k.0) x.same)) (subst Q (sym x.is) fit))
-        (λ (x : IsThere entries (f, p) (frame, place) other). whole.fits frame place other x.was)
+        (λ (x : IsOldEntry entries (f, p) (frame, place) other). whole.fits frame place other x.was)
         (after_insert entries (f, p) has (frame, place) other stands);
     owing = owing_after new;
     alone = alone_after may;
@@ -167,13 +167,13 @@ module _ (entries : Entries) (nodes : Slab Node) (made : ℕ) (held later : ℕ 
 
   had : (n : ℕ × ℕ) (has : PlacedObject) → here with_changed n ≡ Some has → Had n has
   had n has is = ⊎_elim
-      (λ (x : IsHere (f, p) n changed has). record {
+      (λ (x : IsNewEntry (f, p) n changed has). record {
         before = was;
         stood = ap (here entries) x.same ∙ stands;
         object = sym same_object ∙ ap (λ o. o.object) (sym x.is);
         mode = sym same_mode ∙ ap (λ o. o.mode) (sym x.is);
       })
-      (λ (x : IsThere entries (f, p) n has). record { before = has; stood = x.was; object = refl; mode = refl })
+      (λ (x : IsOldEntry entries (f, p) n has). record { before = has; stood = x.was; object = refl; mode = refl })
       (after_set entries (f, p) was changed n has stands is)
 
   owing_now : ((k frame : ℕ) → 0 < uses_of k changed → version_at nodes k ≡ owed frame → HasOwing entries k frame)
@@ -190,11 +190,11 @@ module _ (entries : Entries) (nodes : Slab Node) (made : ℕ) (held later : ℕ 
     counted = same_count nodes (λ k. uses k entries + held k) (λ k. uses k with_changed + later k) whole.counted
         (λ k. let sums = uses_changed entries k f p was changed stands in let count = counts k in omega (arith, sums, count));
     fits = λ frame place has is. ⊎_elim
-        (λ (x : IsHere (f, p) (frame, place) changed has).
+        (λ (x : IsNewEntry (f, p) (frame, place) changed has).
         let P : ℕ → Type 0 = λ n. IsFit nodes made n has in
         let Q : PlacedObject → Type 0 = λ o. IsFit nodes made f o in
         subst P (sym (ap (λ (k : ℕ × ℕ). k.0) x.same)) (subst Q (sym x.is) fit))
-        (λ (x : IsThere entries (f, p) (frame, place) has). whole.fits frame place has x.was)
+        (λ (x : IsOldEntry entries (f, p) (frame, place) has). whole.fits frame place has x.was)
         (after_set entries (f, p) was changed (frame, place) has stands is);
     owing = owing_now owing;
     alone = λ frame place other a b left right apart same.

@@ -15,9 +15,10 @@ use Rattle.swan_model.specs.Told.{cell, is_same}
 use Rattle.swan_model.specs.Versions.{settled, Placed, VersionState, placed_at, with_present, written_at, after_write}
 use Rattle.swan_model.specs.VersionsFollow.{ObjectsFollow, FollowsAt}
 use Rattle.swan_model.proofs.MovedFrames.{gone_back, gone_there, path_kept, done_stays}
+use Rattle.object_versions.specs.Following.{MayWrite}
 use Rattle.object_versions.proofs.Differ.{settled_not-owed, writes_not-in}
 use Rattle.object_versions.proofs.PlacesAfter.{IsThere, after_present, back_present, sorted_set, still_present}
-use Rattle.object_versions.proofs.Moves.{Owes, IsOwedBy, acting, at_gone, does_now, given_stays, held_on, one_object, same_task}
+use Rattle.object_versions.proofs.Moves.{Owes, acting, at_gone, does_now, given_stays, held_on, one_object, same_task}
 use Rattle.swan_model.proofs.Origins.{is_same-equal}
 use Rattle.swan_model.proofs.ScriptCells.{cell_written}
 use Rattle.object_versions.proofs.Tasks.{tasks_gone}
@@ -69,19 +70,19 @@ module _ (s : Script) (r : Reading) (state : VersionState) (lawful : IsLawful s)
     | inr there ↦ written_there number other now has of moved there made
   ]
 
-  owing_still : (frame of : ℕ) → IsOwedBy state frame of → IsOwedBy (with_present state n place object (settled value)) frame of
+  owing_still : (frame of : ℕ) → MayWrite state frame of → MayWrite (with_present state n place object (settled value)) frame of
   owing_still frame of own =
       let still = still_present state n place object (settled value) frame own.0 own.1 stands own.2 in
       (own.0, still.now, still.stands, still.object ∙ own.3, ap (λ m. allows m Out) still.mode ∙ own.4)
 
   owing_at : (number other frame : ℕ) (has : Placed) → placed_at (with_present state n place object (settled value)) number other ≡ Some has → Owes has frame
-      → (at : ℕ) × (own : Placed) × (placed_at (with_present state n place object (settled value)) frame at ≡ Some own) × (own.object ≡ has.object) × (allows own.mode Out ≡ true)
+      → MayWrite (with_present state n place object (settled value)) frame has.object
   owing_at number other frame has at owes = elim (after_present state n place object (settled value) number other has stands at) [
     | inl here ↦ elim owes [
       | inl present ↦ absurd (settled_not-owed value frame (sym (ap (λ o. o.present) here.objects) ∙ present))
       | inr given ↦
           owing_still frame has.object
-          (subst (IsOwedBy state frame) (sym (ap (λ (o : Placed). o.object) here.objects))
+          (subst (MayWrite state frame) (sym (ap (λ (o : Placed). o.object) here.objects))
           (follows.owing n place frame object stands (inr (sym (ap (λ (o : Placed). o.given) here.objects) ∙ given))))
     ]
     | inr there ↦ owing_still frame has.object (follows.owing number other frame has there.was owes)

@@ -19,6 +19,12 @@ pub record IsSettling (entries : Entries) (start now : Slab Node) (made frame : 
       ≡ settle (versions_of entries start made) frame (object_at start key) (version_at start key)
   pub stay : (key : ℕ) (value : Value) → 0 < uses key entries → version_at start key ≡ settled value → version_at now key ≡ settled value
 
+-- what holds where versions are being settled so, at a place of the frame and what stands there
+abbrev pub OnSettling : (now : Slab Node) → PlacedObject → ((entries : Entries) → (start : Slab Node) → (made frame : ℕ) → Type 0) → Type 0
+OnSettling now place Holds =
+    (entries : Entries) (start : Slab Node) (made frame at : ℕ) → IsSettling entries start now made frame → place_at entries frame at ≡ Some place
+    → Holds entries start made frame
+
 -- what is owed after a step was owed before it
 pub record OwesNoMore (entries : Entries) (old new : Slab Node) : Type 0 where
   pub before : (key frame : ℕ) → 0 < uses key entries → version_at new key ≡ owed frame → version_at old key ≡ owed frame

@@ -2,11 +2,10 @@
 ghost use Rattle.std.specs.Prelude.{◌≡◌, ℕ, ◌+◌, Some, None, IsSome, OnOk};
 ghost use Rattle.swan_model.specs.declared.value.Value.{Value};
 ghost use Rattle.swan_model.specs.Versions.{settled};
-ghost use Rattle.slab.specs.Slab.{Slab as Kept, get};
-ghost use Rattle.object_versions.specs.declared.node.Node.{Node as TheNode};
+ghost use Rattle.slab.specs.Slab.{get};
 ghost use Rattle.object_versions.specs.Store.{Entries, place_at, version_at, one_of, uses_of};
 ghost use Rattle.object_versions.specs.Whole.{IsWhole};
-ghost use Rattle.object_versions.specs.Ending.{IsSettling, OwesNoMore, IsPaid, IsAllPaid, IsReleased, IsForgetting};
+ghost use Rattle.object_versions.specs.Ending.{IsSettling, OnSettling, OwesNoMore, IsPaid, IsAllPaid, IsReleased, IsForgetting};
 
 use crate::nodes::{release, settle, value_at};
 use crate::places::{first_place, take_out};
@@ -17,14 +16,16 @@ use swan_model::NoMemory;
 
 /// Settles the version that a frame owes for a place, with the frame's value there. `O(1)`.
 fn settle_owed(nodes: &mut Slab<Node>, place: &PlacedObject) -> Result<(), NoMemory>
+    // the versions of the place
     requires reads { (value : Value) × (version_at nodes.old place.now.present ≡ settled value) }
     requires owed { (key : ℕ) → place.now.owes ≡ Some key → IsSome (get nodes.old key) }
-    ensures settling { (entries : Entries) (start : Kept TheNode) (made frame at : ℕ) → IsSettling entries start nodes.old made frame
-        → place_at entries frame at ≡ Some place.now → IsSettling entries start nodes.new made frame }
-    ensures no_more { (entries : Entries) (start : Kept TheNode) (made frame at : ℕ) → IsSettling entries start nodes.old made frame
-        → place_at entries frame at ≡ Some place.now → OwesNoMore entries nodes.old nodes.new }
-    ensures paid { OnOk result ((entries : Entries) (start : Kept TheNode) (made frame at : ℕ) → IsSettling entries start nodes.old made frame
-        → place_at entries frame at ≡ Some place.now → IsPaid nodes.new place.now) }
+
+    // what it leaves, with memory and without
+    ensures settling { OnSettling nodes.old place.now (λ entries start made frame. IsSettling entries start nodes.new made frame) }
+    ensures no_more { OnSettling nodes.old place.now (λ entries start made frame. OwesNoMore entries nodes.old nodes.new) }
+
+    // and with memory
+    ensures paid { OnOk result (OnSettling nodes.old place.now (λ entries start made frame. IsPaid nodes.new place.now)) }
 {
     let Some(owed) = place.owes else {
         return Ok(());

@@ -72,13 +72,14 @@ pub fn settle(nodes: &mut Slab<Node>, key: usize, value: Value)
     }
 }
 
-/// Whether there is a version to which places refer just once. `O(1)`; it takes no memory.
+/// Whether places refer to a version just once. `O(1)`; it takes no memory.
 pub fn is_alone(nodes: &Slab<Node>, key: usize) -> bool
+    requires { IsSome (get nodes.now key) }
     ensures { IsTrue result ↔ (uses_in (get nodes.now key) ≡ 1) }
 {
     match nodes.get(key) {
         Some(node) => node.uses == 1,
-        None => false,
+        None => unreachable!(),
     }
 }
 

@@ -44,24 +44,28 @@ pub fn set_present(
     place: u32,
     present: usize,
 )
+    requires { IsSome (place_at places.old.entries frame place) }
     ensures set { (object : Held) → place_at places.old.entries frame place ≡ Some object
         → places.new.entries ≡ set_value (is_at (place_cmp (frame, place))) places.old.entries (record object { present = present }) }
     ensures sorted { IsStrictlySortedBy place_cmp (keys_of places.new.entries) }
 {
-    if let Some(object) = places.get_mut(&(frame, place)) {
-        object.present = present;
-    }
+    let Some(object) = places.get_mut(&(frame, place)) else {
+        unreachable!()
+    };
+    object.present = present;
 }
 
 /// Forgets which version a frame was given at a place. `O(log n)`; it takes no memory.
 pub fn forget_given(places: &mut BTreeMap<(u64, u32), PlacedObject>, frame: u64, place: u32)
+    requires { IsSome (place_at places.old.entries frame place) }
     ensures set { (object : Held) → place_at places.old.entries frame place ≡ Some object
         → places.new.entries ≡ set_value (is_at (place_cmp (frame, place))) places.old.entries (record object { given = None }) }
     ensures sorted { IsStrictlySortedBy place_cmp (keys_of places.new.entries) }
 {
-    if let Some(object) = places.get_mut(&(frame, place)) {
-        object.given = None;
-    }
+    let Some(object) = places.get_mut(&(frame, place)) else {
+        unreachable!()
+    };
+    object.given = None;
 }
 
 /// Takes out what a frame has at a place. `O(log n)`; it takes no memory.

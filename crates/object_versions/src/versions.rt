@@ -1,5 +1,5 @@
 // Renamed objects.
-ghost use Rattle.std.specs.Prelude.{◌≡◌, ◌≢◌, ℕ, ◌≤◌, false, true, Some, None, List, [], ◌∷◌, ◌++◌, ◌⊎◌, length, slice_get, IfOk, IfErr, OnOk};
+ghost use Rattle.std.specs.Prelude.{◌≡◌, ◌≢◌, ℕ, ◌≤◌, false, true, Some, None, List, [], ◌∷◌, ◌++◌, length, slice_get, IfOk, IfErr, OnOk};
 ghost use Rattle.swan_model.specs.declared.origin.Origin.{Origin};
 ghost use Rattle.swan_model.specs.declared.origin.Origin.TheVariants.{Root, Step};
 ghost use Rattle.swan_model.specs.declared.script.Deed.TheVariants as deed;
@@ -7,9 +7,9 @@ ghost use Rattle.swan_model.specs.declared.script.Script.{Script};
 ghost use Rattle.swan_model.specs.Lawful.{IsLawful};
 ghost use Rattle.swan_model.specs.Readings.{at_start, gone_on, next_deed, reading_after_spawn, with_object};
 ghost use Rattle.swan_model.specs.SerialTime.{Progress, Reading, frame_of, point, times, version};
-ghost use Rattle.swan_model.specs.VersionsFollow.{Access, ObjectsFollow, IsGiving};
-ghost use Rattle.object_versions.specs.Following.{IsElsewhere, OnFollowing, OnMeanwhile, WaitsForNone, access_of};
-ghost use Rattle.swan_model.specs.declared.rights.Mode.TheVariants.{In, Out};
+ghost use Rattle.swan_model.specs.VersionsFollow.{ObjectsFollow, IsGiving};
+ghost use Rattle.object_versions.specs.Following.{IsElsewhere, MayWrite, NextWrites, OnAccess, OnFollowing, OnLastAccess, OnMeanwhile, OnOtherGiving, WaitsForNone, access_of};
+ghost use Rattle.swan_model.specs.declared.rights.Mode.TheVariants.{In};
 ghost use Rattle.swan_model.specs.Rights.{allows, is_queue_mode};
 ghost use Rattle.swan_model.specs.Versions.{Placed, VersionState, new_versions, placed_at, settled, owed, objects_after_create, after_access, after_write, objects_after_finish, Holds, MayGet, IsSettled, Awaits};
 
@@ -113,24 +113,16 @@ impl Versions {
             → placed_at self.new frame place ≡ placed_at self.old frame place) }
 
         // by a script and a reading: the child's accesses, one after the other, and the last of them
-        ensures giving { OnOk result ((s : Script) (r : Reading) (giver : Progress) (made left : List Access) → IsLawful s
-            → frame_of r parent ≡ Some giver
-            → IsGiving s r self.old giver child made (access_of parent_place child_place mode ∷ left)
-            → IsGiving s r self.new giver child (made ++ access_of parent_place child_place mode ∷ []) left) }
-        ensures last { OnOk result ((s : Script) (r : Reading) (giver : Progress) (made : List Access) → IsLawful s
-            → frame_of r parent ≡ Some giver
-            → IsGiving s r self.old giver child made (access_of parent_place child_place mode ∷ [])
-            → ObjectsFollow s (reading_after_spawn s r giver child) self.new) }
+        ensures giving { OnOk result (OnAccess self.old parent child (access_of parent_place child_place mode) (λ s r giver made left.
+            IsGiving s r self.new giver child (made ++ access_of parent_place child_place mode ∷ []) left)) }
+        ensures last { OnOk result (OnLastAccess self.old parent child (access_of parent_place child_place mode) (λ s r giver made.
+            ObjectsFollow s (reading_after_spawn s r giver child) self.new)) }
 
         // while another frame gives another child its objects
-        ensures beside { OnOk result ((s : Script) (r : Reading) (own giver : Progress) (other : ℕ) (done rest made left : List Access) → IsLawful s
-            → frame_of r parent ≡ Some own → IsGiving s r self.old own child done (access_of parent_place child_place mode ∷ rest)
-            → frame_of r giver.number ≡ Some giver → parent ≢ giver.number → child ≢ other → IsGiving s r self.old giver other made left
-            → IsGiving s r self.new giver other made left) }
-        ensures last_beside { OnOk result ((s : Script) (r : Reading) (own giver : Progress) (other : ℕ) (done made left : List Access) → IsLawful s
-            → frame_of r parent ≡ Some own → IsGiving s r self.old own child done (access_of parent_place child_place mode ∷ [])
-            → frame_of r giver.number ≡ Some giver → parent ≢ giver.number → child ≢ other → IsGiving s r self.old giver other made left
-            → IsGiving s (reading_after_spawn s r own child) self.new giver other made left) }
+        ensures beside { OnOk result (OnAccess self.old parent child (access_of parent_place child_place mode) (λ s r own done rest.
+            OnOtherGiving s r self.old parent child (λ giver other made left. IsGiving s r self.new giver other made left))) }
+        ensures last_beside { OnOk result (OnLastAccess self.old parent child (access_of parent_place child_place mode) (λ s r own done.
+            OnOtherGiving s r self.old parent child (λ giver other made left. IsGiving s (reading_after_spawn s r own child) self.new giver other made left))) }
     {
         let gift = Gift {
             parent,
@@ -157,8 +149,7 @@ impl Versions {
             × (allows awaits.object.mode In ≡ true) × ((other n : ℕ) → Awaits self.now frame other n → place ≤ other)) }
 
         // that the one who owes it has the object itself, to write
-        ensures owes { IfErr result (λ owing. (place : ℕ) (awaits : Awaits self.now frame place owing)
-            → (other : ℕ) × (has : Placed) × (placed_at self.now owing other ≡ Some has) × (has.object ≡ awaits.object.object) × (allows has.mode Out ≡ true)) }
+        ensures owes { IfErr result (λ owing. (place : ℕ) (awaits : Awaits self.now frame place owing) → MayWrite self.now owing awaits.object.object) }
     {
         match first_awaited(&self.store.places, &self.store.nodes, frame) {
             Some(awaited) => Err(awaited.owing),
@@ -181,8 +172,7 @@ impl Versions {
             → frame_of r frame ≡ Some reader → placed_at self.now frame place ≡ Some object → version s r object.object reader ≡ Some value.now) }
 
         // that the one who owes it has the object itself, to write
-        ensures owes { IfErr result (λ owing. (object : Placed) → placed_at self.now frame place ≡ Some object
-            → (other : ℕ) × (has : Placed) × (placed_at self.now owing other ≡ Some has) × (has.object ≡ object.object) × (allows has.mode Out ≡ true)) }
+        ensures owes { IfErr result (λ owing. (object : Placed) → placed_at self.now frame place ≡ Some object → MayWrite self.now owing object.object) }
     {
         match self.store.places.get(&(frame, place)) {
             Some(object) => value_at(&self.store.nodes, object.present),
@@ -201,15 +191,10 @@ impl Versions {
         ensures ok { OnOk result (self.new ≡ after_write self.old frame place value) }
 
         // by a script and a reading, and while another frame gives a child its objects
-        ensures follows { OnOk result ((s : Script) (r : Reading) (writer : Progress) (object : Placed) (origin : Origin) → IsLawful s → ObjectsFollow s r self.old
-            → frame_of r frame ≡ Some writer → placed_at self.old frame place ≡ Some object → allows object.mode Out ≡ true
-            → slice_get r.objects object.object ≡ Some origin → next_deed s writer ≡ Some (deed.Write origin value)
-            → ObjectsFollow s (gone_on r frame) self.new) }
-        ensures giving { OnOk result ((s : Script) (r : Reading) (writer giver : Progress) (child : ℕ) (made left : List Access) (object : Placed) (origin : Origin)
-            → IsLawful s → frame ≢ giver.number → frame ≢ child → IsGiving s r self.old giver child made left
-            → frame_of r frame ≡ Some writer → placed_at self.old frame place ≡ Some object → allows object.mode Out ≡ true
-            → slice_get r.objects object.object ≡ Some origin → next_deed s writer ≡ Some (deed.Write origin value)
-            → IsGiving s (gone_on r frame) self.new giver child made left) }
+        ensures follows { OnOk result (OnFollowing self.old frame (λ s r writer. NextWrites s r self.old frame place value writer
+            → ObjectsFollow s (gone_on r frame) self.new)) }
+        ensures giving { OnOk result (OnMeanwhile self.old frame (λ s r writer giver child made left. NextWrites s r self.old frame place value writer
+            → IsGiving s (gone_on r frame) self.new giver child made left)) }
     {
         let Some(object) = self.store.places.get(&(frame, place)) else {
             unreachable!()

@@ -3,7 +3,7 @@ use Rattle.std.proofs.Common.{◌≡◌, ◌≢◌, ℕ, true, ◌&&◌, ◌||�
 use Rattle.std.proofs.lemmas.Bool.{and_from, and_parts, false_from_ne_true, false≢true, not-true, or_cases, or_left, or_right}
 use Rattle.std.proofs.lemmas.Bool.Decides.{nat_tests}
 use Rattle.pop_order.specs.Children.{ChildEntry, has, is_entry, IsWith, IsWithout, IsSameFor}
-use Rattle.pop_order.specs.Makers.{Maker, makes, is_maker, IsMakerIn, IsMakerOut}
+use Rattle.pop_order.specs.NumberPairs.{NumberPair, has_pair, is_pair, IsWithPair, IsWithoutPair}
 
 -- an entry is another one
 pub record IsSame (parent queue child p q c : ℕ) : Type 0 where
@@ -58,34 +58,34 @@ others_without before after parent queue child change other apart = λ p c.
 
 -- ---- makers
 
-maker_same : (queue number q n : ℕ) → is_maker queue number q n ≡ true → (queue ≡ q) × (number ≡ n)
+maker_same : (queue number q n : ℕ) → is_pair queue number q n ≡ true → (queue ≡ q) × (number ≡ n)
 maker_same queue number q n h = (grind (arith, nat_tests), grind (arith, nat_tests))
 
-same_maker : (queue number : ℕ) → is_maker queue number queue number ≡ true
+same_maker : (queue number : ℕ) → is_pair queue number queue number ≡ true
 same_maker queue number = grind (arith, nat_tests)
 
-module _ (before after : List Maker) (queue number : ℕ) (change : IsMakerIn before queue number after) where
-  pub maker_in : makes after queue number ≡ true
+module _ (before after : List NumberPair) (queue number : ℕ) (change : IsWithPair before queue number after) where
+  pub maker_in : has_pair after queue number ≡ true
   maker_in = change queue number ∙ or_left _ _ (same_maker queue number)
 
-  pub maker_still : (q n : ℕ) → makes before q n ≡ true → makes after q n ≡ true
+  pub maker_still : (q n : ℕ) → has_pair before q n ≡ true → has_pair after q n ≡ true
   maker_still q n h = change q n ∙ or_right _ _ h
 
-  pub maker_after : (q n : ℕ) → makes after q n ≡ true → ((queue ≡ q) × (number ≡ n)) ⊎ (makes before q n ≡ true)
+  pub maker_after : (q n : ℕ) → has_pair after q n ≡ true → ((queue ≡ q) × (number ≡ n)) ⊎ (has_pair before q n ≡ true)
   maker_after q n h = elim (or_cases _ _ (sym (change q n) ∙ h)) [
     | inl same ↦ inl (maker_same queue number q n same)
     | inr was ↦ inr was
   ]
 
-module _ (before after : List Maker) (queue number : ℕ) (change : IsMakerOut before queue number after) where
-  pub maker_was : (q n : ℕ) → makes after q n ≡ true → makes before q n ≡ true
+module _ (before after : List NumberPair) (queue number : ℕ) (change : IsWithoutPair before queue number after) where
+  pub maker_was : (q n : ℕ) → has_pair after q n ≡ true → has_pair before q n ≡ true
   maker_was q n h = (and_parts _ _ (sym (change q n) ∙ h)).1
 
-  pub maker_gone : makes after queue number ≡ true → ⊥
+  pub maker_gone : has_pair after queue number ≡ true → ⊥
   maker_gone h = false≢true (sym (not-true _ (and_parts _ _ (sym (change queue number) ∙ h)).0) ∙ same_maker queue number)
 
-  pub maker_stays : (q n : ℕ) → n ≢ number → makes before q n ≡ true → makes after q n ≡ true
+  pub maker_stays : (q n : ℕ) → n ≢ number → has_pair before q n ≡ true → has_pair after q n ≡ true
   maker_stays q n apart h = change q n ∙ and_from _ _ (ap not (false_from_ne_true _ (λ e. apart (sym (maker_same queue number q n e).1)))) h
 
-  pub other_makers : (q : ℕ) → q ≢ queue → (n : ℕ) → makes after q n ≡ makes before q n
-  other_makers q apart n = change q n ∙ ap (λ b. not b && makes before q n) (false_from_ne_true _ (λ e. apart (sym (maker_same queue number q n e).0)))
+  pub other_makers : (q : ℕ) → q ≢ queue → (n : ℕ) → has_pair after q n ≡ has_pair before q n
+  other_makers q apart n = change q n ∙ ap (λ b. not b && has_pair before q n) (false_from_ne_true _ (λ e. apart (sym (maker_same queue number q n e).0)))

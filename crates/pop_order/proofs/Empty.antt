@@ -9,7 +9,7 @@ use Rattle.pop_order.specs.Children.{ChildEntry, has}
 use Rattle.pop_order.specs.Frames.{Frames}
 use Rattle.pop_order.specs.Order.{IsChild}
 use Rattle.pop_order.specs.Kept.{AreBelowParents, HasHolders, HasMakers, IsKeptFor, IsKept}
-use Rattle.pop_order.specs.Makers.{Maker, makes}
+use Rattle.pop_order.specs.NumberPairs.{NumberPair, has_pair}
 
 no_child : {p n : ℕ} → IsChild [] p n → ⊥
 no_child child = let e : None ≡ Some child.frame = child.active in cc
@@ -24,8 +24,8 @@ no_holders mode queue = record {
   all = λ p n child holder. absurd (no_child child);
 }
 
-no_maker : (q n : ℕ) → makes [] q n ≡ true → ⊥
-unfolding makes
+no_maker : (q n : ℕ) → has_pair [] q n ≡ true → ⊥
+unfolding has_pair
 no_maker q n h = false≢true h
 
 no_makers : (queue : ℕ) → HasMakers [] queue [] []
@@ -41,7 +41,7 @@ none_below = λ p n child. absurd (no_child child)
 none_for : (queue : ℕ) → IsKeptFor [] [] [] [] queue
 none_for queue = record { pops = no_holders _ queue; pushes = no_holders _ queue; makes = no_makers queue }
 
-pub empty_kept : (frames : Frames) (poppers pushers : List ChildEntry) (makers : List Maker) → IsStrictlySortedBy nat_cmp (keys_of frames)
+pub empty_kept : (frames : Frames) (poppers pushers : List ChildEntry) (makers : List NumberPair) → IsStrictlySortedBy nat_cmp (keys_of frames)
     → frames ≡ [] → poppers ≡ [] → pushers ≡ [] → makers ≡ [] → IsKept frames poppers pushers makers
 empty_kept frames poppers pushers makers sorted f a b c = record {
   sorted = sorted;

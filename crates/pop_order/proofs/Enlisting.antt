@@ -1,5 +1,5 @@
 -- What enlisting, lending and giving back do to the frames.
-use Rattle.std.proofs.Common.{◌≡◌, ℕ, ◌<◌, Bool, true, false, ◌&&◌, not, ◌==◌, Option, None, Some, List, [], ◌∷◌, ◌++◌, refl, sym, ap, subst, ◌∙◌, ◌⊎◌, inl, inr, arith}
+use Rattle.std.proofs.Common.{◌≡◌, ℕ, ◌<◌, true, false, not, ◌==◌, Option, None, Some, List, [], ◌∷◌, ◌++◌, refl, sym, ap, subst, ◌∙◌, ◌⊎◌, inl, inr, arith}
 use Rattle.std.proofs.lemmas.Bool.{cases_eq, false≢true, eqb-true, eq-eqb, leb-true, or_cases, or_left, or_right, and_parts, and_from, both_ways, not-true}
 use Rattle.std.proofs.lemmas.List.Folds.{list_any-append}
 use Rattle.std.specs.List.Sorted.{IsStrictlySortedBy}
@@ -15,15 +15,12 @@ use Rattle.pop_order.specs.Frames.{TurnFrame, Frames, frame_at, lets_use, frames
 use Rattle.pop_order.specs.Order.{IsChild}
 use Rattle.pop_order.specs.Turns.{IsHolder}
 use Rattle.pop_order.specs.Kept.{AreBelowParents, HasHolders, IsKeptFor, IsKept}
-use Rattle.pop_order.specs.Makers.{Maker}
+use Rattle.pop_order.specs.NumberPairs.{NumberPair}
 use Rattle.pop_order.specs.Steps.{IsGrown, IsShrunk}
-use Rattle.swan_model.proofs.Lookups.{at_inserted, by_inserted, at_set, by_set, at_removed, by_removed}
-use Rattle.pop_order.proofs.Lookups.{found_passes}
+use Rattle.swan_model.proofs.Lookups.{at_inserted, by_inserted, at_set, by_set, at_removed, by_removed, equal_at, found_passes}
+use Rattle.pop_order.proofs.Holders.{lets}
 use Rattle.pop_order.proofs.Meeting.{none_or_some}
 use Rattle.swan_model.proofs.Elements.{one_answer}
-
-abbrev lets : ℕ → Mode → Holding → Bool
-lets queue mode h = (h.number == queue) && allows h.mode mode
 
 lets_own : (h : Holding) (mode : Mode) → allows h.mode mode ≡ true → lets h.number mode h ≡ true
 lets_own h mode a = and_from _ _ (eq-eqb h.number h.number refl) a
@@ -54,7 +51,7 @@ now_lets hs mode h a = list_any-append (lets h.number mode) hs (h ∷ []) ∙ or
 childless : (frames : Frames) (child : ℕ) → AreBelowParents frames → AreUpTo frames child → (n : ℕ) → IsChild frames child n → ⊥
 childless frames child rising newest n is =
     let before = rising child n is in
-    let upto = leb-true n child (found_passes (λ f. nat_le f.0 child) frames n is.frame newest is.active) in
+    let upto = leb-true n child (found_passes nat_cmp equal_at (λ (f : ℕ × TurnFrame). nat_le f.0 child) frames n is.frame newest is.active) in
     omega arith
 
 module _ (frames : Frames) (parent child : ℕ) (holding : Holding) (rising : AreBelowParents frames) (newest : AreUpTo frames child) where
@@ -108,7 +105,7 @@ pub shrunk_without : (frames : Frames) (parent child : ℕ) → IsStrictlySorted
 shrunk_without frames parent child sorted is none = record {
   one = record { changed = at_removed frames child sorted; others = λ n apart. by_removed frames child n sorted apart };
   was = is;
-  childless = λ n below. both_ways (below.frame.parent == child) (not-true (below.frame.parent == child) (found_passes (λ f. not (f.1.parent == child)) frames n below.frame none below.active))
+  childless = λ n below. both_ways (below.frame.parent == child) (not-true (below.frame.parent == child) (found_passes nat_cmp equal_at (λ (f : ℕ × TurnFrame). not (f.1.parent == child)) frames n below.frame none below.active))
       (let P : ℕ → Type 0 = λ k. (below.frame.parent == k) ≡ true in subst P below.of (eq-eqb below.frame.parent below.frame.parent refl));
 }
 
@@ -142,7 +139,7 @@ module _ (before after : Frames) (alike : IsAlike before after) (back : IsAlike 
     all = λ p c is holder. h.all p c (child_alike after before back p c is) (holder_alike after before back q m c holder);
   }
 
-  kept_for_alike : (poppers pushers : List ChildEntry) (makers : List Maker) (q : ℕ) → IsKeptFor before poppers pushers makers q → IsKeptFor after poppers pushers makers q
+  kept_for_alike : (poppers pushers : List ChildEntry) (makers : List NumberPair) (q : ℕ) → IsKeptFor before poppers pushers makers q → IsKeptFor after poppers pushers makers q
   kept_for_alike poppers pushers makers q kept = record {
     pops = holders_alike q Pop poppers kept.pops;
     pushes = holders_alike q Push pushers kept.pushes;
@@ -153,7 +150,7 @@ module _ (before after : Frames) (alike : IsAlike before after) (back : IsAlike 
     };
   }
 
-  kept_alike : (poppers pushers : List ChildEntry) (makers : List Maker) → IsStrictlySortedBy nat_cmp (keys_of after) → IsKept before poppers pushers makers → IsKept after poppers pushers makers
+  kept_alike : (poppers pushers : List ChildEntry) (makers : List NumberPair) → IsStrictlySortedBy nat_cmp (keys_of after) → IsKept before poppers pushers makers → IsKept after poppers pushers makers
   kept_alike poppers pushers makers sorted kept = record {
     sorted = sorted;
     below = λ p n is. kept.below p n (child_alike after before back p n is);
@@ -188,7 +185,7 @@ lent_back frames child (Some g) e = record {
   ];
 }
 
-pub kept_lent : (frames : Frames) (child : ℕ) (poppers pushers : List ChildEntry) (makers : List Maker) → IsStrictlySortedBy nat_cmp (keys_of (frames_after_lend frames child))
+pub kept_lent : (frames : Frames) (child : ℕ) (poppers pushers : List ChildEntry) (makers : List NumberPair) → IsStrictlySortedBy nat_cmp (keys_of (frames_after_lend frames child))
     → IsKept frames poppers pushers makers → IsKept (frames_after_lend frames child) poppers pushers makers
 kept_lent frames child poppers pushers makers sorted kept =
     kept_alike frames (frames_after_lend frames child) (lent_alike frames child (frame_at frames child) refl) (lent_back frames child (frame_at frames child) refl)

@@ -3,7 +3,6 @@ use Rattle.std.proofs.Common.{◌≡◌, ℕ, ◌≤◌, Bool, true, false, ◌&
 use Rattle.std.specs.Ordering.{is_gt, is_eq}
 use Rattle.std.proofs.lemmas.Bool.Decides.{nat_tests}
 use Rattle.pop_order.specs.Children.{ChildEntry, entry_cmp, IsUpTo, is_entry}
-use Rattle.pop_order.specs.Makers.{Maker, maker_cmp, IsNotAfter, is_maker}
 
 -- which entries are equal in the order
 pub is_eq-entry_cmp : (parent queue child p q c : ℕ) → is_eq (entry_cmp (parent, queue, child) (p, q, c)) ≡ is_entry parent queue child p q c
@@ -37,28 +36,3 @@ pub from_zero : (parent queue child : ℕ) → is_gt (entry_cmp (parent, queue, 
 from_zero parent queue child = grind (arith, nat_tests)
 
 pub ruleset of_one_parent = (between)
-
--- ---- makers
-
-is_eq-maker_cmp : (queue number q n : ℕ) → is_eq (maker_cmp (queue, number) (q, n)) ≡ is_maker queue number q n
-is_eq-maker_cmp queue number q n = grind (arith, nat_tests)
-
-pub maker_inserted : (queue number q n : ℕ) (was now : Bool) → now ≡ cond (is_eq (maker_cmp (queue, number) (q, n))) true was → now ≡ (is_maker queue number q n || was)
-maker_inserted queue number q n was now h = with_one _ _ was now (is_eq-maker_cmp queue number q n) h
-
-pub maker_removed : (queue number q n : ℕ) (was now : Bool) → now ≡ cond (is_eq (maker_cmp (queue, number) (q, n))) false was → now ≡ (not (is_maker queue number q n) && was)
-maker_removed queue number q n was now h = without_one _ _ was now (is_eq-maker_cmp queue number q n) h
-
--- an entry that stands between two of one queue is of it
-pub between_makers : (e : Maker) (queue from number : ℕ) → IsNotAfter (queue, from) e → IsNotAfter e (queue, number) → (e.0 ≡ queue) × (from ≤ e.1) × (e.1 ≤ number)
-unfolding IsNotAfter
-between_makers e queue from number low high = (grind (arith, nat_tests), grind (arith, nat_tests), grind (arith, nat_tests))
-
-pub not_before : (e : Maker) (queue from : ℕ) → e.0 ≡ queue → IsNotAfter (queue, from) e → from ≤ e.1
-unfolding IsNotAfter
-not_before e queue from same low = grind (arith, nat_tests)
-
-pub from_number : (queue from number : ℕ) → from ≤ number → is_gt (maker_cmp (queue, from) (queue, number)) ≡ false
-from_number queue from number le = grind (arith, nat_tests)
-
-pub ruleset of_one_queue = (between_makers, not_before)

@@ -10,15 +10,15 @@ use Rattle.pop_order.specs.Frames.{TurnFrame, Frames, frame_at, lets_use}
 use Rattle.pop_order.specs.Order.{IsChild}
 use Rattle.pop_order.specs.Turns.{IsHolder}
 use Rattle.pop_order.specs.Kept.{HasHolders, HasMakers}
-use Rattle.pop_order.specs.Makers.{Maker, makes}
+use Rattle.pop_order.specs.NumberPairs.{NumberPair, has_pair}
 use Rattle.pop_order.specs.Steps.{IsGrown, IsMakerNoted, needless, noted}
 use Rattle.pop_order.proofs.Changes.{came_in, still_in, in_after, maker_in, maker_still, maker_after}
 use Rattle.swan_model.proofs.Elements.{one_answer}
 
 -- ---- another set with the same children
 
-pub same_makers : (frames : Frames) (queue : ℕ) (set other : List ChildEntry) (makers now : List Maker) → IsSameFor queue set other
-    → ((n : ℕ) → makes now queue n ≡ makes makers queue n) → HasMakers frames queue set makers → HasMakers frames queue other now
+pub same_makers : (frames : Frames) (queue : ℕ) (set other : List ChildEntry) (makers now : List NumberPair) → IsSameFor queue set other
+    → ((n : ℕ) → has_pair now queue n ≡ has_pair makers queue n) → HasMakers frames queue set makers → HasMakers frames queue other now
 same_makers frames queue set other makers now same still kept = record {
   made = λ n k. let child = kept.made n (sym (still n) ∙ k) in (child.0, same n child.0 ∙ child.1);
   apart = λ n k. kept.apart n (sym (still n) ∙ k);
@@ -150,9 +150,9 @@ module _ (before after : Frames) (parent child : ℕ) (holding : Holding) (grown
     still_apart : (n c : ℕ) → has set n q c ≡ true → ¬ IsHolder before q Push n → ¬ IsHolder after q Push n
     still_apart n c h never holder = never (holder_before q Push n (not_above q n c set pushes h) holder)
 
-    pub makers_noted : (makers now : List Maker) → HasMakers before q set makers → IsMakerNoted after parent holding makers now → HasMakers after q more now
+    pub makers_noted : (makers now : List NumberPair) → HasMakers before q set makers → IsMakerNoted after parent holding makers now → HasMakers after q more now
     makers_noted makers now kept (needless need same) =
-        let P : List Maker → Type 0 = λ m. HasMakers after q more m in
+        let P : List NumberPair → Type 0 = λ m. HasMakers after q more m in
         subst P (sym same) (record {
           made = λ n k. let c = kept.made n k in (c.0, grew n c.0 c.1);
           apart = λ n k. let c = kept.made n k in still_apart n c.0 c.1 (kept.apart n k);
@@ -186,8 +186,8 @@ module _ (before after : Frames) (parent child : ℕ) (holding : Holding) (grown
       all = λ n c h apart. elim (entry_from n c h) [
         | inl was ↦ maker_still makers now holding.number parent change q n (kept.all n c was (λ holder. apart (holder_after q Push n holder)))
         | inr own ↦
-            let Q : ℕ → Type 0 = λ k. makes now k n ≡ true in
-            let R : ℕ → Type 0 = λ k. makes now holding.number k ≡ true in
+            let Q : ℕ → Type 0 = λ k. has_pair now k n ≡ true in
+            let R : ℕ → Type 0 = λ k. has_pair now holding.number k ≡ true in
             subst Q own.0 (subst R (sym own.2) (maker_in makers now holding.number parent change))
       ];
     }

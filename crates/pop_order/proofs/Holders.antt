@@ -15,7 +15,7 @@ use Rattle.pop_order.specs.Kept.{HasHolders}
 -- ---- holdings
 
 -- whether one holding lets use a queue by a mode
-abbrev lets : ℕ → Mode → Holding → Bool
+abbrev pub lets : ℕ → Mode → Holding → Bool
 lets queue mode h = (h.number == queue) && allows h.mode mode
 
 pub holds_more : (hs : List Holding) (i queue : ℕ) (mode : Mode) (h : Holding) → i < length hs → h ≡ get_or hs i h

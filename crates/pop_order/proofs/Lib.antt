@@ -1,9 +1,10 @@
 -- Lemmas on the turns of poppers. Each group stands on those before it; what a file is for stands at its head.
 
--- no frames, and the sets of children
+-- no frames, and the sets of children and of pairs
 pub mod Blocking
 pub mod Empty
 pub mod Entries
+pub mod PairOrder
 pub mod Holders
 -- the order of the frames of a tree, and the way to the first earlier pusher
 pub mod Lineage
@@ -16,7 +17,6 @@ pub mod Growing
 pub mod Shrinking
 pub mod Noted
 -- the frames as one is enlisted, lent to and given back
-pub mod Lookups
 pub mod Enlisting
 pub mod Returning
 -- the law: the order of a tree is the serial order

@@ -7,7 +7,8 @@ use Rattle.swan_model.specs.declared.rights.Mode.TheVariants.{Push, Pop}
 use Rattle.pop_order.specs.Children.{ChildEntry, IsWith, IsWithout}
 use Rattle.pop_order.specs.Frames.{Frames}
 use Rattle.pop_order.specs.Kept.{HasHolders, IsKeptFor}
-use Rattle.pop_order.specs.Makers.{Maker, makes, IsMakerSettled, stays, goes}
+use Rattle.pop_order.specs.Makers.{IsMakerSettled, stays, goes}
+use Rattle.pop_order.specs.NumberPairs.{NumberPair, has_pair}
 use Rattle.pop_order.specs.Steps.{IsGrown, IsShrunk}
 use Rattle.pop_order.proofs.Changes.{others_without, other_makers}
 use Rattle.pop_order.proofs.Growing.{same_makers, same_holders, holders_with, holders_kept}
@@ -29,7 +30,7 @@ module _ (before after : Frames) (parent child : ℕ) (holding : Holding) (grown
 
 module _ (before after : Frames) (parent child : ℕ) (shrunk : IsShrunk before after parent child) where
   -- the sets of a queue after a child was taken out, whether or not it was out before
-  pub taken_out : (q : ℕ) (poppers pushers fewer_pop fewer_push : List ChildEntry) (makers now : List Maker)
+  pub taken_out : (q : ℕ) (poppers pushers fewer_pop fewer_push : List ChildEntry) (makers now : List NumberPair)
       → IsWithout poppers parent q child fewer_pop → IsWithout pushers parent q child fewer_push → IsMakerSettled fewer_push parent q makers now
       → IsKeptFor before poppers pushers makers q ⊎ IsKeptFor after poppers pushers makers q
       → IsKeptFor after fewer_pop fewer_push now q
@@ -48,13 +49,13 @@ module _ (before after : Frames) (parent child : ℕ) (shrunk : IsShrunk before 
         makes = makers_again before after parent child shrunk q pushers fewer_push makers now pushes kept.pushes settled kept.makes;
       }
 
-other_settled : (pushers : List ChildEntry) (parent q other : ℕ) (makers now : List Maker) → other ≢ q → IsMakerSettled pushers parent q makers now
-    → (n : ℕ) → makes now other n ≡ makes makers other n
-other_settled pushers parent q other makers now apart (stays c h same) n = ap (λ m. makes m other n) same
+other_settled : (pushers : List ChildEntry) (parent q other : ℕ) (makers now : List NumberPair) → other ≢ q → IsMakerSettled pushers parent q makers now
+    → (n : ℕ) → has_pair now other n ≡ has_pair makers other n
+other_settled pushers parent q other makers now apart (stays c h same) n = ap (λ m. has_pair m other n) same
 other_settled pushers parent q other makers now apart (goes none change) n = other_makers makers now q parent change other apart n
 
 -- the sets of another queue
-pub left_alone : (frames : Frames) (parent child q other : ℕ) (poppers pushers fewer_pop fewer_push : List ChildEntry) (makers now : List Maker)
+pub left_alone : (frames : Frames) (parent child q other : ℕ) (poppers pushers fewer_pop fewer_push : List ChildEntry) (makers now : List NumberPair)
     → IsWithout poppers parent q child fewer_pop → IsWithout pushers parent q child fewer_push → IsMakerSettled fewer_push parent q makers now
     → other ≢ q → IsKeptFor frames poppers pushers makers other → IsKeptFor frames fewer_pop fewer_push now other
 left_alone frames parent child q other poppers pushers fewer_pop fewer_push makers now a b settled apart kept =

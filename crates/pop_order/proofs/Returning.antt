@@ -13,7 +13,7 @@ use Rattle.pop_order.specs.Children.{ChildEntry}
 use Rattle.pop_order.specs.Frames.{TurnFrame, Frames, frame_at, lets_use, without, HasNoChild}
 use Rattle.pop_order.specs.Turns.{IsHolder}
 use Rattle.pop_order.specs.Kept.{IsKeptFor}
-use Rattle.pop_order.specs.Makers.{Maker}
+use Rattle.pop_order.specs.NumberPairs.{NumberPair}
 use Rattle.pop_order.specs.Steps.{IsShrunk, is_given, HoldsNoOther}
 use Rattle.pop_order.proofs.Enlisting.{shrunk_without}
 use Rattle.pop_order.proofs.Shrinking.{holders_untouched, makers_untouched}
@@ -41,7 +41,7 @@ holds_given (x ∷ xs) queue mode h =
     given_and (x.number == queue) (allows x.mode mode) (lets_use xs queue mode) (is_given xs queue) h (λ t. holds_given xs queue mode t)
 
 module _ (before after : Frames) (parent child : ℕ) (shrunk : IsShrunk before after parent child) where
-  settled_by : (poppers pushers : List ChildEntry) (makers : List Maker) (queue : ℕ) (hs : List Holding) (b : Bool) → is_given hs queue ≡ b → HoldsNoOther before child hs
+  settled_by : (poppers pushers : List ChildEntry) (makers : List NumberPair) (queue : ℕ) (hs : List Holding) (b : Bool) → is_given hs queue ≡ b → HoldsNoOther before child hs
       → IsKeptFor before poppers pushers makers queue ⊎ IsKeptFor after poppers pushers makers queue
       → (is_given hs queue ≡ true → IsKeptFor after poppers pushers makers queue)
       → IsKeptFor after poppers pushers makers queue
@@ -56,7 +56,7 @@ module _ (before after : Frames) (parent child : ℕ) (shrunk : IsShrunk before 
       }
 
   -- the sets of each queue are right once the child is out of those of its own queues
-  pub settled_all : (poppers pushers : List ChildEntry) (makers : List Maker) (queue : ℕ) (hs : List Holding) → HoldsNoOther before child hs
+  pub settled_all : (poppers pushers : List ChildEntry) (makers : List NumberPair) (queue : ℕ) (hs : List Holding) → HoldsNoOther before child hs
       → IsKeptFor before poppers pushers makers queue ⊎ IsKeptFor after poppers pushers makers queue
       → (is_given hs queue ≡ true → IsKeptFor after poppers pushers makers queue)
       → IsKeptFor after poppers pushers makers queue

@@ -8,7 +8,8 @@ use Rattle.pop_order.specs.Frames.{Frames}
 use Rattle.pop_order.specs.Order.{IsChild}
 use Rattle.pop_order.specs.Turns.{IsHolder}
 use Rattle.pop_order.specs.Kept.{HasHolders, HasMakers}
-use Rattle.pop_order.specs.Makers.{Maker, makes, IsMakerSettled, stays, goes}
+use Rattle.pop_order.specs.Makers.{IsMakerSettled, stays, goes}
+use Rattle.pop_order.specs.NumberPairs.{NumberPair, has_pair}
 use Rattle.pop_order.specs.Steps.{IsShrunk}
 use Rattle.pop_order.proofs.Changes.{IsSame, was_in, is_another, stays_in, maker_was, maker_gone, maker_stays}
 use Rattle.pop_order.proofs.Lineage.{same_parent}
@@ -74,21 +75,21 @@ module _ (before after : Frames) (parent child : ℕ) (shrunk : IsShrunk before 
     was_apart : (n c : ℕ) → has set n q c ≡ true → ¬ IsHolder after q Push n → ¬ IsHolder before q Push n
     was_apart n c h never holder = never (holder_after q Push n (not_above q n c set pushes h) holder)
 
-    pub makers_untouched : (makers : List Maker) → HasMakers before q set makers → HasMakers after q set makers
+    pub makers_untouched : (makers : List NumberPair) → HasMakers before q set makers → HasMakers after q set makers
     makers_untouched makers kept = record {
       made = kept.made;
       apart = λ n k holder. kept.apart n k (holder_before q Push n holder);
       all = λ n c h never. kept.all n c h (was_apart n c h never);
     }
 
-  module _ (q : ℕ) (set fewer : List ChildEntry) (makers now : List Maker) (now_pushes : HasHolders after Push q fewer) where
+  module _ (q : ℕ) (set fewer : List ChildEntry) (makers now : List NumberPair) (now_pushes : HasHolders after Push q fewer) where
     -- the makers after the child went out, for what they were before
     pub makers_without : HasHolders before Push q set → IsMakerSettled fewer parent q makers now → HasMakers before q set makers → HasMakers after q fewer now
     makers_without pushes settled kept = by settled where
       fewer_was : (n c : ℕ) → has fewer n q c ≡ true → has set n q c ≡ true
       fewer_was n c h = let is = now_pushes.holders n c h in pushes.all n c (child_before n c is.0) (holder_before q Push c is.1)
 
-      left_of : (n : ℕ) → makes makers q n ≡ true → n ≢ parent → (c : ℕ) × (has fewer n q c ≡ true)
+      left_of : (n : ℕ) → has_pair makers q n ≡ true → n ≢ parent → (c : ℕ) × (has fewer n q c ≡ true)
       left_of n k apart =
           let c = kept.made n k in
           let was = pushes.holders n c.0 c.1 in
@@ -96,12 +97,12 @@ module _ (before after : Frames) (parent child : ℕ) (shrunk : IsShrunk before 
           apart (same_parent before (let P : ℕ → Type 0 = λ k. IsChild before n k in subst P same was.0) shrunk.was) in
           (c.0, now_pushes.all n c.0 (child_after n c.0 other was.0) (holder_after q Push c.0 other was.1))
 
-      known : (n c : ℕ) → has fewer n q c ≡ true → ¬ IsHolder after q Push n → makes makers q n ≡ true
+      known : (n c : ℕ) → has fewer n q c ≡ true → ¬ IsHolder after q Push n → has_pair makers q n ≡ true
       known n c h never = kept.all n c (fewer_was n c h) (was_apart q set pushes n c (fewer_was n c h) never)
 
       by : IsMakerSettled fewer parent q makers now → HasMakers after q fewer now
       by (stays c h same) =
-          let P : List Maker → Type 0 = λ m. HasMakers after q fewer m in
+          let P : List NumberPair → Type 0 = λ m. HasMakers after q fewer m in
           subst P (sym same) (record {
             made = λ n k. elim (cases_eq n parent) [
               | inl e ↦ let S : ℕ → Type 0 = λ k. (c : ℕ) × (has fewer k q c ≡ true) in subst S (sym e) (c, h)
@@ -112,7 +113,7 @@ module _ (before after : Frames) (parent child : ℕ) (shrunk : IsShrunk before 
           })
       by (goes none change) = record {
         made = λ n k. left_of n (maker_was makers now q parent change q n k)
-            (λ e. maker_gone makers now q parent change (let S : ℕ → Type 0 = λ k. makes now q k ≡ true in subst S e k));
+            (λ e. maker_gone makers now q parent change (let S : ℕ → Type 0 = λ k. has_pair now q k ≡ true in subst S e k));
         apart = λ n k holder. kept.apart n (maker_was makers now q parent change q n k) (holder_before q Push n holder);
         all = λ n c h never. maker_stays makers now q parent change q n
             (λ e. false≢true (sym (none c) ∙ (let S : ℕ → Type 0 = λ k. has fewer k q c ≡ true in subst S e h))) (known n c h never);
@@ -124,12 +125,12 @@ module _ (before after : Frames) (parent child : ℕ) (shrunk : IsShrunk before 
       fewer_is : (n c : ℕ) → has fewer n q c ≡ true → has set n q c ≡ true
       fewer_is n c h = let is = now_pushes.holders n c h in pushes.all n c is.0 is.1
 
-      left_of : (n : ℕ) → makes makers q n ≡ true → (c : ℕ) × (has fewer n q c ≡ true)
+      left_of : (n : ℕ) → has_pair makers q n ≡ true → (c : ℕ) × (has fewer n q c ≡ true)
       left_of n k = let c = kept.made n k in let is = pushes.holders n c.0 c.1 in (c.0, now_pushes.all n c.0 is.0 is.1)
 
       by : IsMakerSettled fewer parent q makers now → HasMakers after q fewer now
       by (stays c h same) =
-          let P : List Maker → Type 0 = λ m. HasMakers after q fewer m in
+          let P : List NumberPair → Type 0 = λ m. HasMakers after q fewer m in
           subst P (sym same) (record {
             made = left_of;
             apart = kept.apart;

@@ -4,7 +4,7 @@ use Rattle.std.proofs.lemmas.Bool.{cases_eq, cases_lt, false≢true}
 use Rattle.swan_model.specs.declared.rights.Mode.TheVariants.{Push}
 use Rattle.pop_order.specs.Children.{ChildEntry, has, IsOldest}
 use Rattle.pop_order.specs.Frames.{TurnFrame, Frames, frame_at, lets_use}
-use Rattle.pop_order.specs.Makers.{Maker, makes, IsNext}
+use Rattle.pop_order.specs.NumberPairs.{NumberPair, has_pair, IsNext}
 use Rattle.pop_order.specs.Order.{IsChild, IsAtOrBelow, at, below, ComesBefore, inside, aside}
 use Rattle.pop_order.specs.Turns.{IsHolder}
 use Rattle.pop_order.specs.Kept.{AreBelowParents, HasHolders, HasMakers}
@@ -74,9 +74,9 @@ module _ (frames : Frames) (queue : ℕ) (set : List ChildEntry) (rising : AreBe
 -- ---- from maker to maker
 
 -- a pusher to which a maker leads whose number is lower than one
-pub record IsSeen (set : List ChildEntry) (makers : List Maker) (queue from number : ℕ) : Type 0 where
+pub record IsSeen (set : List ChildEntry) (makers : List NumberPair) (queue from number : ℕ) : Type 0 where
   pub maker : ℕ
-  pub known : makes makers queue maker ≡ true
+  pub known : has_pair makers queue maker ≡ true
   pub before : maker < from
   pub led : IsLed set queue maker number
   pub younger : maker < number
@@ -95,11 +95,11 @@ module _ (frames : Frames) (queue : ℕ) where
   pushes_or_not : (n : ℕ) → IsHolder frames queue Push n ⊎ (IsHolder frames queue Push n → ⊥)
   pushes_or_not n = by_frame n (frame_at frames n) refl
 
-module _ (frames : Frames) (queue : ℕ) (set : List ChildEntry) (makers : List Maker) (rising : AreBelowParents frames)
+module _ (frames : Frames) (queue : ℕ) (set : List ChildEntry) (makers : List NumberPair) (rising : AreBelowParents frames)
     (pushes : HasHolders frames Push queue set) (kept : HasMakers frames queue set makers) where
   -- some maker leads to each pusher
   led_to : (most n : ℕ) → n < most → IsHolder frames queue Push n
-      → (m : ℕ) × (makes makers queue m ≡ true) × IsLed set queue m n × (m < n)
+      → (m : ℕ) × (has_pair makers queue m ≡ true) × IsLed set queue m n × (m < n)
   led_to zero n lt holder = absurd (omega arith)
   led_to (suc most) n lt holder =
       let p = holder.frame.parent in
@@ -112,7 +112,7 @@ module _ (frames : Frames) (queue : ℕ) (set : List ChildEntry) (makers : List 
         | inr never ↦ (p, kept.all p n known never, further p n known here, rising p n child)
       ]
 
-  all_seen : (from n : ℕ) → ((m : ℕ) → from ≤ m → makes makers queue m ≡ false) → IsHolder frames queue Push n → IsSeen set makers queue from n
+  all_seen : (from n : ℕ) → ((m : ℕ) → from ≤ m → has_pair makers queue m ≡ false) → IsHolder frames queue Push n → IsSeen set makers queue from n
   all_seen from n none holder =
       let by = led_to (n + 1) n (omega arith) holder in
       record {
@@ -128,7 +128,7 @@ module _ (frames : Frames) (queue : ℕ) (set : List ChildEntry) (makers : List 
     none_seen other seen before = omega (arith, seen.before)
 
     -- once all makers were seen, what is found is the first of all
-    pub at_end : (from : ℕ) (found : Option ℕ) → ((m : ℕ) → from ≤ m → makes makers queue m ≡ false)
+    pub at_end : (from : ℕ) (found : Option ℕ) → ((m : ℕ) → from ≤ m → has_pair makers queue m ≡ false)
         → IsFirstOf frames queue frame (IsSeen set makers queue from) found → IsFirstEarlier frames queue frame found
     at_end from None none found = λ other pusher. found other (all_seen from other none pusher.0) pusher.1
     at_end from (Some number) none found = (found.0, λ other differ pusher. found.1 other (all_seen from other none pusher.0) differ pusher.1)

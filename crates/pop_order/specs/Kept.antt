@@ -9,7 +9,7 @@ use Rattle.pop_order.specs.Frames.{Frames}
 use Rattle.pop_order.specs.Order.{IsChild}
 use Rattle.pop_order.specs.Turns.{IsHolder}
 use Rattle.pop_order.specs.Children.{ChildEntry, has}
-use Rattle.pop_order.specs.Makers.{Maker, makes}
+use Rattle.pop_order.specs.NumberPairs.{NumberPair, has_pair}
 
 -- each frame's parent has a lower number
 abbrev pub AreBelowParents : Frames → Type 0
@@ -21,18 +21,18 @@ pub record HasHolders (frames : Frames) (mode : Mode) (queue : ℕ) (set : List 
   pub all : (parent child : ℕ) → IsChild frames parent child → IsHolder frames queue mode child → has set parent queue child ≡ true
 
 -- The makers of a queue are exactly the frames that may not push to it and have a child that may.
-pub record HasMakers (frames : Frames) (queue : ℕ) (pushers : List ChildEntry) (makers : List Maker) : Type 0 where
-  pub made : (number : ℕ) → makes makers queue number ≡ true → (child : ℕ) × (has pushers number queue child ≡ true)
-  pub apart : (number : ℕ) → makes makers queue number ≡ true → ¬ IsHolder frames queue Push number
-  pub all : (number child : ℕ) → has pushers number queue child ≡ true → ¬ IsHolder frames queue Push number → makes makers queue number ≡ true
+pub record HasMakers (frames : Frames) (queue : ℕ) (pushers : List ChildEntry) (makers : List NumberPair) : Type 0 where
+  pub made : (number : ℕ) → has_pair makers queue number ≡ true → (child : ℕ) × (has pushers number queue child ≡ true)
+  pub apart : (number : ℕ) → has_pair makers queue number ≡ true → ¬ IsHolder frames queue Push number
+  pub all : (number child : ℕ) → has pushers number queue child ≡ true → ¬ IsHolder frames queue Push number → has_pair makers queue number ≡ true
 
 -- what the sets have for a queue
-pub record IsKeptFor (frames : Frames) (poppers pushers : List ChildEntry) (makers : List Maker) (queue : ℕ) : Type 0 where
+pub record IsKeptFor (frames : Frames) (poppers pushers : List ChildEntry) (makers : List NumberPair) (queue : ℕ) : Type 0 where
   pub pops : HasHolders frames Pop queue poppers
   pub pushes : HasHolders frames Push queue pushers
   pub makes : HasMakers frames queue pushers makers
 
-pub record IsKept (frames : Frames) (poppers pushers : List ChildEntry) (makers : List Maker) : Type 0 where
+pub record IsKept (frames : Frames) (poppers pushers : List ChildEntry) (makers : List NumberPair) : Type 0 where
   pub sorted : IsStrictlySortedBy nat_cmp (keys_of frames)
   pub below : AreBelowParents frames
   pub sets : (queue : ℕ) → IsKeptFor frames poppers pushers makers queue

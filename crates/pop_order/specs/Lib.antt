@@ -4,14 +4,16 @@ pub mod Frames
 pub mod Order
 pub mod Readings
 pub mod Turns
+-- What a set of pairs has, and what a call changes of what is known by numbers; the crates above cite both too.
+pub mod NumberPairs
+pub mod OneChange
 -- By these the code's own functions are stated, and no public clause. Two sets stand beside the frames, of children and of makers
--- (`Children` and `Makers`); `Kept` says what they have, and is read after both. Then what is found on the way to the first earlier
--- pusher and among older siblings, and how the frames differ after a call.
+-- (`Children` and `Makers`), and `Kept` says what they have.
 pub mod Children
+pub mod Makers
 pub mod Kept
+-- What is found on the way to the first earlier pusher, and among older siblings.
 pub mod Walk
 pub mod Poppers
-pub mod Makers
--- What a call changes of what is known by numbers; the crates above cite it too.
-pub mod OneChange
+-- How the frames, and the makers, differ after a child was given a queue, and how the frames do after it was given back.
 pub mod Steps

@@ -9,7 +9,7 @@ use Rattle.pop_order.specs.Frames.{TurnFrame, Frames, frame_at, lets_use}
 use Rattle.pop_order.specs.OneChange.{IsOnlyChange}
 use Rattle.pop_order.specs.Order.{IsChild}
 use Rattle.pop_order.specs.Turns.{IsHolder}
-use Rattle.pop_order.specs.Makers.{Maker, IsMakerIn}
+use Rattle.pop_order.specs.NumberPairs.{NumberPair, IsWithPair}
 
 -- A child without children was given one more queue, and all other frames are as they were.
 pub record IsGrown (before after : Frames) (parent child : ℕ) (holding : Holding) : Type 0 where
@@ -38,8 +38,8 @@ abbrev pub HoldsNoOther : Frames → ℕ → List Holding → Type 0
 HoldsNoOther frames number holdings = (queue : ℕ) (mode : Mode) → IsHolder frames queue mode number → is_given holdings queue ≡ true
 
 -- The makers after a child was given a queue: its parent comes in where the child may push and the parent may not.
-pub data IsMakerNoted (frames : Frames) (parent : ℕ) (holding : Holding) (before after : List Maker) : Type 0 where
+pub data IsMakerNoted (frames : Frames) (parent : ℕ) (holding : Holding) (before after : List NumberPair) : Type 0 where
   needless : (allows holding.mode Push ≡ true → IsHolder frames holding.number Push parent) → after ≡ before
       → IsMakerNoted frames parent holding before after
-  noted : allows holding.mode Push ≡ true → ¬ IsHolder frames holding.number Push parent → IsMakerIn before holding.number parent after
+  noted : allows holding.mode Push ≡ true → ¬ IsHolder frames holding.number Push parent → IsWithPair before holding.number parent after
       → IsMakerNoted frames parent holding before after

@@ -16,13 +16,14 @@
 //!
 //! Promised, and proved of each call: what it answers and what it leaves, with the oldest child, and the
 //! first frame in the order of the tree. By the law `order_is_serial` that is the order of points in a plan's
-//! script, as long as each frame has an entry left. All calls but `new` and `enlist` take no memory. After
-//! want of memory nothing is said of the frames.
+//! script, as long as each frame has an entry left. Of the calls of `PopTurns` only `new` and `enlist` take memory.
+//! After want of memory nothing is said of the frames.
 //!
 //! Inside, three sets stand beside the frames: the children that pop, and those that push, each by parent
 //! and queue; and the makers, by queue: the frames that may not push to it themselves and have a child that
 //! may. All pushers of a queue are below its makers, and a run's queue has one. So no call looks at all
-//! siblings, and none but `certain` goes up or down a tree.
+//! siblings, and none but `certain` goes up or down a tree. The makers are a set of pairs of numbers (`NumberPairs`), which is public
+//! for those who keep such a set of their own; after want of memory it is as it was.
 #![tactic(auto)]
 
 mod certain;
@@ -30,7 +31,7 @@ mod children;
 mod frame;
 mod frames;
 mod laws;
-mod makers;
+mod number_pairs;
 mod order;
 mod poppers;
 mod sets;
@@ -41,6 +42,6 @@ pub use certain::Certain;
 use children::Children;
 use frame::{QueueHolding, TurnFrame};
 pub use laws::order_is_serial;
-use makers::Makers;
+pub use number_pairs::NumberPairs;
 use sets::Sets;
 pub use turns::PopTurns;

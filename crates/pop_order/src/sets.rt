@@ -9,7 +9,7 @@ ghost use Rattle.pop_order.specs.Makers.{IsMakerSettled};
 ghost use Rattle.pop_order.specs.Steps.{IsGrown, IsShrunk, IsMakerNoted};
 ghost use Rattle.pop_order.specs.Turns.{IsHolder};
 
-use crate::{Children, Makers, QueueHolding, TurnFrame};
+use crate::{Children, NumberPairs, QueueHolding, TurnFrame};
 use std::alloc::Global;
 use std::collections::BTreeMap;
 use swan_model::{Mode, NoMemory};
@@ -21,9 +21,9 @@ pub struct Sets {
     pub poppers: Children,
     /// The frames that push, as children by queue.
     pub pushers: Children,
-    /// The frames, by queue, that have a pushing child and don't push themselves. In a run that is the
-    /// frame that made the queue.
-    pub makers: Makers,
+    /// The frames that have a pushing child and don't push themselves, each behind the queue. In a run that
+    /// is the frame that made the queue.
+    pub makers: NumberPairs,
 }
 
 impl Sets {
@@ -36,7 +36,7 @@ impl Sets {
         Sets {
             poppers: Children::new(alloc),
             pushers: Children::new(alloc),
-            makers: Makers::new(alloc),
+            makers: NumberPairs::new(alloc),
         }
     }
 
@@ -109,7 +109,7 @@ fn note(
 fn note_maker(
     frames: &BTreeMap<u64, TurnFrame>,
     pushers: &Children,
-    makers: &mut Makers,
+    makers: &mut NumberPairs,
     parent: u64,
     holding: QueueHolding,
 ) -> Result<(), NoMemory>
@@ -122,7 +122,7 @@ fn note_maker(
     if pushes(frames, pushers, holding.queue, parent) {
         return Ok(());
     }
-    makers.insert(holding.queue, parent)?;
+    makers.insert(holding.queue as u64, parent)?;
     Ok(())
 }
 
@@ -140,11 +140,11 @@ fn pushes(frames: &BTreeMap<u64, TurnFrame>, pushers: &Children, queue: u32, num
 }
 
 /// Takes a frame out of the makers of a queue where it has no pushing child any more. `O(log n)`.
-fn settle(pushers: &Children, makers: &mut Makers, parent: u64, queue: u32)
+fn settle(pushers: &Children, makers: &mut NumberPairs, parent: u64, queue: u32)
     ensures { IsMakerSettled pushers.now parent queue makers.old makers.new }
 {
     match pushers.oldest(parent, queue) {
         Some(_child) => {}
-        None => makers.remove(queue, parent),
+        None => makers.remove(queue as u64, parent),
     }
 }

@@ -7,7 +7,7 @@ ghost use Rattle.pop_order.specs.Kept.{AreBelowParents, HasHolders, HasMakers};
 ghost use Rattle.pop_order.specs.Walk.{IsFirstUnder, IsFirstEarlier, IsSooner};
 
 use crate::order::comes_before;
-use crate::{Children, Makers, TurnFrame};
+use crate::{Children, NumberPairs, TurnFrame};
 use std::collections::BTreeMap;
 
 /// The first, in serial order, of the pushers of a queue that come before a frame. Below each maker of
@@ -16,7 +16,7 @@ use std::collections::BTreeMap;
 pub fn first_earlier(
     frames: &BTreeMap<u64, TurnFrame>,
     pushers: &Children,
-    makers: &Makers,
+    makers: &NumberPairs,
     frame: u64,
     queue: u32,
 ) -> Option<u64>
@@ -27,7 +27,7 @@ pub fn first_earlier(
 {
     let mut found = None;
     let mut from = 0;
-    while let Some(maker) = makers.next(queue, from) {
+    while let Some(maker) = makers.next(queue as u64, from) {
         let pusher = first_under(pushers, maker, queue);
         found = sooner(frames, found, pusher, frame);
         from = maker + 1;

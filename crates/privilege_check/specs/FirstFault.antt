@@ -10,7 +10,7 @@ use Rattle.job_reader.specs.declared.fault.JobKind.{JobKind}
 use Rattle.job_reader.specs.declared.fault.JobKind.TheVariants as fault
 use Rattle.job_reader.specs.declared.line.Line.{Line}
 use Rattle.job_reader.specs.declared.line.Line.TheVariants as line
-use Rattle.privilege_check.specs.Names.{Before, after, at_start, is_main, known, KnownNames}
+use Rattle.privilege_check.specs.Names.{Before, after_line, before_first_line, is_main, known, KnownNames}
 use Rattle.privilege_check.specs.Operations.{assignment}
 use Rattle.privilege_check.specs.Spawns.{spawn}
 use Rattle.privilege_check.specs.Uses.{held, value, variable}
@@ -91,8 +91,8 @@ or_later number (Err k) later = Some (record { line = number; kind = k })
 abbrev pub fault_from : ℕ → Before → List Line → Option JobFault
 fault_from number before [] = has_main number (before.tasks (codes "main"))
 fault_from number before (line ∷ more) =
-    or_later (suc number) (check_line before line) (fault_from (suc number) (after before line) more)
+    or_later (suc number) (check_line before line) (fault_from (suc number) (after_line before line) more)
 
 -- the first fault of a job, if it has one
 abbrev pub first_fault : List Line → Option JobFault
-first_fault job = fault_from 0 at_start job
+first_fault job = fault_from 0 before_first_line job

@@ -27,8 +27,8 @@ pub record Before : Type 0 where
   pub tasks : List ℕ → Option (List Declaration)
 
 -- before the first line
-abbrev pub at_start : Before
-at_start = record { top = no_names; open_task = None; own = no_names; tasks = no_names }
+abbrev pub before_first_line : Before
+before_first_line = record { top = no_names; open_task = None; own = no_names; tasks = no_names }
 
 abbrev pub is_main : List ℕ → Bool
 is_main task = bytes_eq task (codes "main")
@@ -78,13 +78,13 @@ after_open task before =
     }
 
 -- what the lines up to a line say, by what the lines before it say
-abbrev pub after : Before → Line → Before
-after before (line.Input name) = after_declare name (Held Pop kind.Bytes) before
-after before (line.Output name k) = after_declare name (Held Push k) before
-after before (line.Object name k) = after_declare name (Held InOut k) before
-after before (line.Task name) = after_open name before
-after before (line.Param name k) = after_declare_taken name (Variable k) before
-after before (line.Access mode name k) = after_declare_taken name (Held mode k) before
-after before (line.Var name k) = after_declare name (Variable k) before
-after before (line.Queue name k) = after_declare name (Held PushPop k) before
-after before _ = before
+abbrev pub after_line : Before → Line → Before
+after_line before (line.Input name) = after_declare name (Held Pop kind.Bytes) before
+after_line before (line.Output name k) = after_declare name (Held Push k) before
+after_line before (line.Object name k) = after_declare name (Held InOut k) before
+after_line before (line.Task name) = after_open name before
+after_line before (line.Param name k) = after_declare_taken name (Variable k) before
+after_line before (line.Access mode name k) = after_declare_taken name (Held mode k) before
+after_line before (line.Var name k) = after_declare name (Variable k) before
+after_line before (line.Queue name k) = after_declare name (Held PushPop k) before
+after_line before _ = before

@@ -3,7 +3,7 @@ ghost use Rattle.std.specs.Prelude.{◌≡◌, Some, OnOk, bytes_eq, codes};
 ghost use Rattle.std.specs.Map.{update};
 ghost use Rattle.std.specs.Option.{option_copied};
 ghost use Rattle.privilege_check.specs.Checking.{by_name, state_of};
-ghost use Rattle.privilege_check.specs.Names.{after, at_start, after_declare, is_main, known, after_open, after_declare_taken, with_next, with_taken};
+ghost use Rattle.privilege_check.specs.Names.{after_line, before_first_line, after_declare, is_main, known, after_open, after_declare_taken, with_next, with_taken};
 ghost use Rattle.privilege_check.specs.FirstFault.{has_main, is_in_main};
 
 use crate::declaration::Declaration;
@@ -65,7 +65,7 @@ fn take_next<'a>(
 impl<'a> Checker<'a> {
     /// Before the first line. It takes no memory. `O(1)`.
     pub fn new(alloc: Global) -> Checker<'a>
-        ensures { state_of result ≡ at_start }
+        ensures { state_of result ≡ before_first_line }
     {
         Checker {
             alloc,
@@ -129,7 +129,7 @@ impl<'a> Checker<'a> {
 
     /// Adds what a line says. `O(log names)`, and an allocation now and then.
     pub fn learn(&mut self, line: &'a Line) -> Result<(), NoMemory>
-        ensures { OnOk result (state_of self.new ≡ after (state_of self.old) line.now) }
+        ensures { OnOk result (state_of self.new ≡ after_line (state_of self.old) line.now) }
     {
         match line {
             Line::Input(name) => self.declare(name, Declaration::Held(Mode::Pop, Kind::Bytes)),

@@ -2,7 +2,7 @@
 use Rattle.std.proofs.Common.{◌≡◌, ℕ, ◌+◌, ◌<◌, true, false, Option, Some, None, List, [], ◌∷◌, ◌++◌, length, refl, sym, ap, subst, ◌∙◌, inl, inr, arith, length-append}
 use Rattle.std.proofs.lemmas.Bool.{cases_eq}
 use Rattle.std.specs.Option.{option_map}
-use Rattle.std.specs.Prelude.{slice_get, is_some}
+use Rattle.std.specs.Prelude.{slice_get, is_some, IsSome}
 use Rattle.slab.specs.Slab.{Slab}
 use Rattle.pop_order.specs.Frames.{Frames}
 use Rattle.swan_model.specs.declared.rights.Mode.{Mode}
@@ -26,7 +26,7 @@ use Rattle.queue_book.specs.declared.live_frames.LiveFrames.{LiveFrames}
 use Rattle.queues.proofs.ActiveAfter.{one_changed, one_goes_on}
 use Rattle.queue_book.proofs.BookDeeds.{counted, lent_none, not_lent}
 use Rattle.queue_book.proofs.ChainChanges.{chained_same}
-use Rattle.swan_model.proofs.Elements.{more_cases, last_more, one_answer}
+use Rattle.swan_model.proofs.Elements.{more_cases, last_more, one_answer, some_is}
 use Rattle.queue_book.proofs.LiveKept.{kept_changed, kept_live, key_none, keys_same, live_one, place_has}
 use Rattle.queue_book.proofs.LivePut.{keys_put, place_elsewhere, place_here, places_made}
 use Rattle.queues.proofs.Making.{holds_before}
@@ -156,6 +156,11 @@ module _ (name : Option Script) (state : QueueState) (frames : LiveFrames) (head
     mid_one : (kept : KeptFrame) → kept_of frames n ≡ Some kept → IsOnlyChange (kept_of frames) (kept_of mid_frames) n (Some (with_own_chunk q (record { key = made.key; is_maker = true; pushes = true }) kept))
     mid_one kept was =
         kept_changed frames mid_frames n kept (with_own_chunk q (record { key = made.key; is_maker = true; pushes = true })) was made.place
+
+    pub create_there : IsSome (kept_of mid_frames n)
+    create_there =
+        let was = kept_live state frames is.live n act.frame act.may.live in
+        some_is (kept_of mid_frames n) (with_own_chunk q (record { key = made.key; is_maker = true; pushes = true }) was.0) (mid_one was.0 was.1).changed
 
     pub create_room : (kept : KeptFrame) → kept_of mid_frames n ≡ Some kept → kept.deeds < COUNT_MOST
     create_room kept at =

@@ -1,5 +1,5 @@
 -- What holds of hyperqueues in plain form once the rest of a queue was taken.
-use Rattle.std.proofs.Common.{◌≡◌, ◌≢◌, ℕ, zero, suc, ◌<◌, ◌≤◌, true, false, ◌==◌, Option, Some, None, List, [], length, refl, sym, ap, subst, ◌∙◌, inl, inr, arith}
+use Rattle.std.proofs.Common.{◌≡◌, ◌≢◌, ℕ, ◌<◌, true, false, ◌==◌, Option, Some, None, List, [], length, refl, sym, ap, subst, ◌∙◌, inl, inr, arith}
 use Rattle.std.proofs.lemmas.Bool.{cases_eq, false≢true, eq-eqb, ne_eqb}
 use Rattle.std.specs.Prelude.{slice_get}
 use Rattle.slab.specs.Slab.{Slab}
@@ -14,12 +14,12 @@ use Rattle.queues.specs.Chunks.{HasOwners, Matches, items_in}
 use Rattle.queue_book.specs.Chains.{Link, AreChained, in_line}
 use Rattle.queue_book.specs.Live.{key_at, kept_of, Agrees}
 use Rattle.queues.specs.Tells.{OnQueue, rest_of}
-use Rattle.queues.specs.Tree.{IsTree, maker_path}
+use Rattle.queues.specs.Tree.{maker_path}
 use Rattle.queue_book.specs.Whole.{IsBook, IsLine}
 use Rattle.queue_book.specs.declared.live_frames.LiveFrames.{LiveFrames}
+use Rattle.queues.proofs.Above.{none_active}
 use Rattle.queues.proofs.SameHolders.{holders_rest, in_use_back}
 use Rattle.queues.proofs.Calls.{rest_follows}
-use Rattle.queues.proofs.Frames.{active_number}
 use Rattle.queue_book.proofs.LiveKept.{agrees_on, key_none}
 use Rattle.queues.proofs.Match.{matches_rest, rest_told}
 use Rattle.queue_book.proofs.PlainSaid.{in_each, on_queue}
@@ -29,26 +29,6 @@ use Rattle.queues.proofs.TreeOwners.{owners_kept_rest}
 use Rattle.queues.proofs.TurnsCalls.{turns_rest}
 use Rattle.swan_model.proofs.Lists.{some_within}
 use Rattle.swan_model.proofs.Elements.{any_before, any_last}
-
--- who is active has the root above it
-root_active : (most : ℕ) (state : QueueState) → IsTree state → (m : ℕ) (frame : ActiveFrame) → m ≤ most → active state m ≡ Some frame → (root : ActiveFrame) × (active state 0 ≡ Some root)
-root_active zero state tree m frame less live = (frame, ap (active state) (omega arith) ∙ live)
-root_active (suc most) state tree m frame less live = elim (cases_eq m 0) [
-  | inl same ↦ (frame, ap (active state) (sym same) ∙ live)
-  | inr other ↦
-      let parent = tree.others m frame live other in
-      let above = tree.spawned m parent.0 frame live parent.1 in
-      let number : frame.number ≡ m = active_number state m frame live in
-      let older : parent.0 < frame.number = above.older in
-      root_active most state tree parent.0 above.above (omega (arith, number, older)) above.live
-]
-
--- once the root has finished, nobody is active
-pub none_active : (state : QueueState) → IsTree state → active state 0 ≡ None → (m : ℕ) (frame : ActiveFrame) → active state m ≡ Some frame → ⊥
-none_active state tree over m frame live =
-    let root = root_active m state tree m frame (omega arith) live in
-    let never : None ≡ Some root.0 = sym over ∙ root.1 in
-    cc
 
 -- a queue of the root was made at its path
 pub root_path : (maker : QueueMaker) → IsOfRoot (Some maker) → maker_path maker ≡ []

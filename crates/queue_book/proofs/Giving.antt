@@ -1,5 +1,5 @@
 -- One more queue that a child is given keeps what is kept meanwhile.
-use Rattle.std.proofs.Common.{◌≡◌, ◌≢◌, ℕ, true, false, ◌==◌, Option, Some, None, List, [], ◌∷◌, ◌++◌, refl, sym, ap, ◌∙◌, ◌⊎◌, inl, inr}
+use Rattle.std.proofs.Common.{◌≡◌, ◌≢◌, ℕ, true, false, not, ◌==◌, Option, Some, None, List, [], ◌∷◌, ◌++◌, refl, sym, ap, ◌∙◌, ◌⊎◌, inl, inr}
 use Rattle.std.proofs.lemmas.Bool.{cases_eq, eq-eqb, ne_eqb}
 use Rattle.std.specs.Option.{option_map}
 use Rattle.std.specs.Prelude.{is_some, if◌then◌else◌}
@@ -24,7 +24,7 @@ use Rattle.queue_book.proofs.GivenPushes.{push_now, push_other}
 use Rattle.queue_book.proofs.LiveKept.{kept_changed, key_of}
 use Rattle.queue_book.proofs.LivePut.{keys_put, place_elsewhere, place_here}
 use Rattle.swan_model.proofs.Lookups.{at_inserted, by_inserted}
-use Rattle.swan_model.proofs.Elements.{any_before, any_last}
+use Rattle.swan_model.proofs.Elements.{any_before, any_last, none_is}
 
 pub given_now : (gives : List QueueRight) (give : QueueRight) → gives_queue (gives ++ give ∷ []) give.queue ≡ true
 given_now gives give = any_last (λ (r : QueueRight). r.queue == give.queue) gives give (eq-eqb give.queue give.queue refl)
@@ -52,10 +52,6 @@ moved_put before now queue new place is was = record {
     | inr other ↦ is.makers q one (sym (place_elsewhere now queue (record { key = new; is_maker = place.is_maker; pushes = place.pushes }) q other) ∙ at)
   ];
 }
-
-none_is : (o : Option OwnChunk) → is_some o ≡ false → o ≡ None
-none_is None e = refl
-none_is (Some place) e = absurd (cc)
 
 module _ (before now after : LiveFrames) (parent child : ℕ) (gives : List QueueRight) (give : QueueRight) (places then_places : OwnChunks) (heads : List (Option ℕ))
     (nodes now_nodes then_nodes : Slab Link) (turns now_turns : Frames) (is : AreGiven before now parent child gives places heads nodes now_nodes turns now_turns)
@@ -120,7 +116,7 @@ module _ (before now after : LiveFrames) (parent child : ℕ) (gives : List Queu
       (λ r other. ap (λ b. if b then after_hand_on parent child (lines r) else lines r) (given_other gives give r other)) p)
 
   child_free : own_keys child places (key_at now) child give.queue ≡ None
-  child_free = own_placed child places (key_at now) give.queue ∙ ap (option_map (λ (pl : OwnChunk). pl.key)) (none_is (own_chunk_in places give.queue) (is.given give.queue ∙ fresh))
+  child_free = own_placed child places (key_at now) give.queue ∙ ap (option_map (λ (pl : OwnChunk). pl.key)) (none_is (own_chunk_in places give.queue) (ap not (is.given give.queue ∙ fresh)))
 
   parent_key : own_keys child places (key_at now) parent give.queue ≡ Some handed.place.key
   parent_key = other_placed child places (key_at now) parent give.queue two ∙ key_of now parent give.queue handed.place handed.was

@@ -1,6 +1,6 @@
 -- What is kept while a child is given its queues, one after another.
 use Rattle.std.proofs.Common.{◌≡◌, ◌≢◌, ℕ, true, false, Option, Some, None, List, [], ◌∷◌, ◌++◌, take, refl, sym, ap, subst, ◌∙◌, inl, inr, arith}
-use Rattle.std.proofs.lemmas.Bool.{cases_eq, false≢true}
+use Rattle.std.proofs.lemmas.Bool.{cases_eq}
 use Rattle.std.specs.Prelude.{slice_get, is_some, IsSome}
 use Rattle.slab.specs.Slab.{ContainsKey, Slab}
 use Rattle.pop_order.specs.Frames.{Frames, frames_after_enlist, AreUpTo, MayBeEnlisted}
@@ -19,7 +19,7 @@ use Rattle.queue_book.specs.declared.live_frame.OwnChunk.{OwnChunk}
 use Rattle.queue_book.specs.declared.live_frames.LiveFrames.{LiveFrames}
 use Rattle.queue_book.proofs.ChainChanges.{chained_same}
 use Rattle.queue_book.proofs.ChainEnds.{other_placed, own_placed}
-use Rattle.queue_book.proofs.LiveKept.{key_of}
+use Rattle.queue_book.proofs.LiveKept.{key_of, some_of}
 use Rattle.queue_book.proofs.Giving.{step_chained, step_fresh, step_given, step_moved, step_others, step_pushers}
 use Rattle.queues.proofs.GivingTurns.{fresh_at, given_at, turns_given_more, turns_given_none, turns_may_get, turns_newest}
 
@@ -55,10 +55,8 @@ module _ (before now : LiveFrames) (parent child : ℕ) (all : List QueueRight) 
   has_now =
       let was = is.moved may.kept may.live in
       let some : is_some (own_chunk_in was.0.places give.queue) ≡ true = was.2.places give.queue ∙ may.has give.queue (given_at all i give at) in
-      found (own_chunk_in was.0.places give.queue) some (ap (λ o. own_chunk_of o give.queue) was.1) where
-        found : (o : Option OwnChunk) → is_some o ≡ true → own_chunk_at now parent give.queue ≡ o → (place : OwnChunk) × (own_chunk_at now parent give.queue ≡ Some place)
-        found None none e = absurd (false≢true none)
-        found (Some place) some e = (place, e)
+      let found = some_of (own_chunk_in was.0.places give.queue) some in
+      (found.0, ap (λ o. own_chunk_of o give.queue) was.1 ∙ found.1)
 
   -- its node
   pub stands_now : (lines : ℕ → Chunks) → AreChained (key_at before) heads nodes lines → ((q : ℕ) → key_at before child q ≡ None)

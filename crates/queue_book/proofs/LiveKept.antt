@@ -2,8 +2,9 @@
 use Rattle.std.proofs.Common.{◌≡◌, ◌≢◌, ℕ, ◌<◌, Bool, true, false, ◌==◌, Option, Some, None, [], length, refl, sym, ap, subst, ◌∙◌, inl, inr, rules}
 use Rattle.std.proofs.lemmas.Bool.{cases_eq, false≢true}
 use Rattle.std.specs.Option.{option_map}
-use Rattle.std.specs.Prelude.{slice_get, is_some, if◌then◌else◌}
+use Rattle.std.specs.Prelude.{slice_get, is_some, IsSome, if◌then◌else◌}
 use Rattle.swan_model.specs.QueueState.{ActiveFrame, QueueMaker, QueueState, active, root_frame, new_state}
+use Rattle.swan_model.proofs.Elements.{some_is}
 use Rattle.queues.specs.Tree.{IsTree, has_queue}
 use Rattle.queue_book.specs.declared.live_frame.OwnChunk.{OwnChunk}
 use Rattle.queue_book.specs.declared.live_frames.LiveFrames.{LiveFrames}
@@ -14,6 +15,11 @@ use Rattle.pop_order.specs.OneChange.{IsOnlyChange}
 -- the makers of older queues are the same
 abbrev pub SameMakers : QueueState → QueueState → Type 0
 SameMakers state after = (queue : ℕ) (maker : QueueMaker) → queue < length state.makers → slice_get after.makers queue ≡ Some maker → slice_get state.makers queue ≡ Some maker
+
+-- there is one
+pub some_of : {X : Type 0} (o : Option X) → is_some o ≡ true → (x : X) × (o ≡ Some x)
+some_of None none = absurd (false≢true none)
+some_of (Some x) some = (x, refl)
 
 pub kept_active : (state : QueueState) (kept : Option KeptFrame) (found : Option ActiveFrame) (frame : ActiveFrame) → Agrees state kept found → found ≡ Some frame
     → (one : KeptFrame) × (kept ≡ Some one) × IsFrameKept state one frame
@@ -38,6 +44,19 @@ pub live_kept : (state : QueueState) (frames : LiveFrames) → AreLive state fra
     → (frame : ActiveFrame) × (active state n ≡ Some frame) × IsFrameKept state one frame
 live_kept state frames live n one e = active_kept state (kept_of frames n) (active state n) one (live n) e
 
+-- an active frame is kept
+pub active_there : (state : QueueState) (frames : LiveFrames) → AreLive state frames → (n : ℕ) (frame : ActiveFrame) → active state n ≡ Some frame → IsSome (kept_of frames n)
+active_there state frames live n frame e =
+    let one = kept_live state frames live n frame e in
+    some_is (kept_of frames n) one.0 one.1
+
+-- and so is one that has a place
+pub placed_there : (frames : LiveFrames) (n queue : ℕ) (place : OwnChunk) → own_chunk_at frames n queue ≡ Some place → IsSome (kept_of frames n)
+placed_there frames n queue place e = by (kept_of frames n) e where
+  by : (o : Option KeptFrame) → own_chunk_of o queue ≡ Some place → IsSome o
+  by None h = let never : None ≡ Some place = h in absurd (cc)
+  by (Some one) h = refl
+
 -- where a place is, the frame has the queue
 pub place_has : (state : QueueState) (one : KeptFrame) (frame : ActiveFrame) (queue : ℕ) (place : OwnChunk) → IsFrameKept state one frame → own_chunk_in one.places queue ≡ Some place
     → has_queue frame queue ≡ true
@@ -45,10 +64,7 @@ place_has state one frame queue place is e = sym (is.places queue) ∙ ap is_som
 
 pub has_place : (state : QueueState) (one : KeptFrame) (frame : ActiveFrame) (queue : ℕ) → IsFrameKept state one frame → has_queue frame queue ≡ true
     → (place : OwnChunk) × (own_chunk_in one.places queue ≡ Some place)
-has_place state one frame queue is has = found (own_chunk_in one.places queue) (is.places queue ∙ has) where
-  found : (o : Option OwnChunk) → is_some o ≡ true → (place : OwnChunk) × (o ≡ Some place)
-  found None none = absurd (false≢true none)
-  found (Some place) some = (place, refl)
+has_place state one frame queue is has = some_of (own_chunk_in one.places queue) (is.places queue ∙ has)
 
 pub key_has : (state : QueueState) (frames : LiveFrames) → AreLive state frames → (n queue key : ℕ) → key_at frames n queue ≡ Some key
     → (frame : ActiveFrame) × (active state n ≡ Some frame) × (has_queue frame queue ≡ true)

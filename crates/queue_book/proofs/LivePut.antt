@@ -14,7 +14,7 @@ use Rattle.queue_book.specs.declared.live_frames.LiveFrames.{LiveFrames}
 use Rattle.queue_book.proofs.ChainChanges.{put_other, put_same}
 use Rattle.swan_model.proofs.Lookups.{at_inserted, by_inserted}
 use Rattle.swan_model.proofs.Elements.{any_before, any_last}
-use Rattle.queues.proofs.OneChanged.{both_on}
+use Rattle.queues.proofs.Frames.{both_on}
 
 pub place_here : (kept : KeptFrame) (queue : ℕ) (place : OwnChunk) → own_chunk_in (with_own_chunk queue place kept).places queue ≡ Some place
 place_here kept queue place = at_inserted kept.places queue place

@@ -16,6 +16,10 @@ abbrev pub kept_of : LiveFrames → ℕ → Option KeptFrame
 kept_of frames number =
     if number == 0 then frames.root else (if number == frames.newest_number then frames.newest else lookup (is_at (nat_cmp number)) frames.others.entries)
 
+-- what holds of what is kept of a frame, where it is active
+abbrev pub OnKept : LiveFrames → (number : ℕ) → (KeptFrame → Type 0) → Type 0
+OnKept frames number Holds = (kept : KeptFrame) → kept_of frames number ≡ Some kept → Holds kept
+
 abbrev pub own_chunk_of : Option KeptFrame → ℕ → Option OwnChunk
 own_chunk_of None queue = None
 own_chunk_of (Some kept) queue = own_chunk_in kept.places queue

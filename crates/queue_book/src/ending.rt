@@ -1,11 +1,12 @@
 // The end of a frame.
-ghost use Rattle.std.specs.Prelude.{◌≡◌, ◌≢◌, ℕ, ◌<◌, true, [], Option, Some, None, length};
+ghost use Rattle.std.specs.Prelude.{◌≡◌, ◌≢◌, ℕ, ◌<◌, true, [], Option, Some, None, IsSome, length};
 ghost use Rattle.pop_order.specs.Frames.{without, HasNoChild};
 ghost use Rattle.queues.specs.Chunks.{Chunks};
 ghost use Rattle.queue_book.specs.Chains.{in_line, put_at, AreChained};
 ghost use Rattle.queue_book.specs.Ended.{line_after_end, lines_after_end, own_keys, HaveOwn, IsAlone};
-ghost use Rattle.queue_book.specs.KeptFrames.{KeptFrame, own_chunk_in};
-ghost use Rattle.queue_book.specs.Live.{kept_of};
+ghost use Rattle.queue_book.specs.KeptFrames.{own_chunk_in};
+ghost use Rattle.queue_book.specs.Lines.{HaveLines};
+ghost use Rattle.queue_book.specs.Live.{kept_of, OnKept};
 ghost use Rattle.pop_order.specs.OneChange.{IsOnlyChange};
 ghost use Rattle.queue_book.specs.declared.live_frame.OwnChunk.{OwnChunk as Held};
 
@@ -19,19 +20,27 @@ impl QueueStore {
     /// isn't the root, and its turn is over. `O(log n)`, and as much for each of its queues, and `O(1)` for each
     /// chunk and item that is given up. It takes no memory.
     pub fn end(&mut self, number: u64)
-        requires known { (kept : KeptFrame) (queue : ℕ) (place : Held) → kept_of self.old.frames number ≡ Some kept → own_chunk_in kept.places queue ≡ Some place → queue < length self.old.chains.heads.items }
-        requires owned { (kept : KeptFrame) → kept_of self.old.frames number ≡ Some kept
-            → HaveOwn self.old.chains.heads.items self.old.chains.nodes number kept.places }
+        // the frame
+        requires active { IsSome (kept_of self.old.frames number) }
         requires childless { HasNoChild self.old.turns number }
+
+        // where its chunks stand
+        requires known { OnKept self.old.frames number (λ kept. (queue : ℕ) (place : Held) → own_chunk_in kept.places queue ≡ Some place
+            → queue < length self.old.chains.heads.items) }
+        requires owned { OnKept self.old.frames number (λ kept. HaveOwn self.old.chains.heads.items self.old.chains.nodes number kept.places) }
+
+        // the frames and the turns without it
         ensures gone { IsOnlyChange (kept_of self.old.frames) (kept_of self.new.frames) number None }
+        ensures turns { self.new.turns ≡ without self.old.turns number }
+
+        // the chunks of the queues
         ensures same { length self.new.chains.heads.items ≡ length self.old.chains.heads.items }
-        ensures ended { (kept : KeptFrame) (at : ℕ → ℕ → Option ℕ) (lines : ℕ → Chunks) → kept_of self.old.frames number ≡ Some kept
-            → AreChained (own_keys number kept.places at) self.old.chains.heads.items self.old.chains.nodes lines → IsAlone number kept.places at
-            → AreChained (own_keys number [] at) self.new.chains.heads.items self.new.chains.nodes (lines_after_end number kept.places lines) }
-        ensures turns { (kept : KeptFrame) → kept_of self.old.frames number ≡ Some kept → self.new.turns ≡ without self.old.turns number }
+        ensures ended { OnKept self.old.frames number (λ kept. (at : ℕ → ℕ → Option ℕ) (lines : ℕ → Chunks)
+            → HaveLines self.old.chains (own_keys number kept.places at) lines → IsAlone number kept.places at
+            → HaveLines self.new.chains (own_keys number [] at) (lines_after_end number kept.places lines)) }
     {
         let Some(kept) = self.frames.remove(number) else {
-            return;
+            unreachable!()
         };
         end_chunks(&mut self.chains, number, kept.into_places());
         self.turns.back(number);

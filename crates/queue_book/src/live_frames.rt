@@ -1,5 +1,5 @@
 // The active frames by number.
-ghost use Rattle.std.specs.Prelude.{◌≡◌, ◌≢◌, ℕ, ◌+◌, ◌<◌, Some, None, [], OnOk, true, false};
+ghost use Rattle.std.specs.Prelude.{◌≡◌, ◌≢◌, ℕ, ◌+◌, ◌<◌, Some, None, IsSome, [], OnOk, true, false};
 ghost use Rattle.std.specs.Option.{option_copied, option_map};
 ghost use Rattle.swan_model.specs.QueueState.{COUNT_MOST};
 ghost use Rattle.queue_book.specs.Live.{is_lent_with, kept_of, own_chunk_at, with_own_chunk};
@@ -72,83 +72,100 @@ impl LiveFrames {
         }
     }
 
-    /// Counts one more queue deed of a frame. `O(log n)`.
+    /// Counts one more queue deed of an active frame. `O(log n)`.
     pub fn count_deed(&mut self, number: u64)
+        requires active { IsSome (kept_of self.old number) }
         requires room { (kept : KeptFrame) → kept_of self.old number ≡ Some kept → kept.deeds < COUNT_MOST }
         ensures { IsOnlyChange (kept_of self.old) (kept_of self.new) number (option_map (λ (kept : KeptFrame). record kept { deeds = kept.deeds + 1 }) (kept_of self.old number)) }
     {
         if number == 0 {
-            if let Some(frame) = &mut self.root {
-                frame.deeds += 1;
-            }
+            let Some(frame) = &mut self.root else {
+                unreachable!()
+            };
+            frame.deeds += 1;
         } else if number == self.newest_number {
-            if let Some(frame) = &mut self.newest {
-                frame.deeds += 1;
-            }
-        } else if let Some(frame) = self.others.get_mut(&number) {
+            let Some(frame) = &mut self.newest else {
+                unreachable!()
+            };
+            frame.deeds += 1;
+        } else {
+            let Some(frame) = self.others.get_mut(&number) else {
+                unreachable!()
+            };
             frame.deeds += 1;
         }
     }
 
-    /// Notes that the ends of a frame are lent, and answers how many queue deeds it has done. `O(log n)`.
+    /// Notes that the ends of an active frame are lent, and answers how many queue deeds it has done. `O(log n)`.
     pub fn lend(&mut self, number: u64) -> u64
+        requires { IsSome (kept_of self.old number) }
         ensures deeds { (kept : KeptFrame) → kept_of self.old number ≡ Some kept → result ≡ kept.deeds }
         ensures lent { IsOnlyChange (kept_of self.old) (kept_of self.new) number (option_map (λ (kept : KeptFrame). record kept { is_lent = true }) (kept_of self.old number)) }
     {
         if number == 0 {
             match &mut self.root {
                 Some(frame) => frame.lend(),
-                None => 0,
+                None => unreachable!(),
             }
         } else if number == self.newest_number {
             match &mut self.newest {
                 Some(frame) => frame.lend(),
-                None => 0,
+                None => unreachable!(),
             }
         } else {
             match self.others.get_mut(&number) {
                 Some(frame) => frame.lend(),
-                None => 0,
+                None => unreachable!(),
             }
         }
     }
 
-    /// Notes that the ends of a frame are back. `O(log n)`.
+    /// Notes that the ends of an active frame are back. `O(log n)`.
     pub fn take_back(&mut self, number: u64)
+        requires { IsSome (kept_of self.old number) }
         ensures { IsOnlyChange (kept_of self.old) (kept_of self.new) number (option_map (λ (kept : KeptFrame). record kept { is_lent = false }) (kept_of self.old number)) }
     {
         if number == 0 {
-            if let Some(frame) = &mut self.root {
-                frame.is_lent = false;
-            }
+            let Some(frame) = &mut self.root else {
+                unreachable!()
+            };
+            frame.is_lent = false;
         } else if number == self.newest_number {
-            if let Some(frame) = &mut self.newest {
-                frame.is_lent = false;
-            }
-        } else if let Some(frame) = self.others.get_mut(&number) {
+            let Some(frame) = &mut self.newest else {
+                unreachable!()
+            };
+            frame.is_lent = false;
+        } else {
+            let Some(frame) = self.others.get_mut(&number) else {
+                unreachable!()
+            };
             frame.is_lent = false;
         }
     }
 
-    /// Notes where a frame's own chunk of a queue stands. `O(log n)`. Err is want of memory.
+    /// Notes where an active frame's own chunk of a queue stands. `O(log n)`. Err is want of memory.
     pub fn put(&mut self, number: u64, queue: u32, place: OwnChunk) -> Result<(), NoMemory>
+        requires { IsSome (kept_of self.old number) }
         ensures { OnOk result (IsOnlyChange (kept_of self.old) (kept_of self.new) number (option_map (with_own_chunk queue place) (kept_of self.old number))) }
     {
         if number == 0 {
-            if let Some(frame) = &mut self.root {
-                frame.put(queue, place)?;
-            }
+            let Some(frame) = &mut self.root else {
+                unreachable!()
+            };
+            frame.put(queue, place)?;
             return Ok(());
         }
         if number == self.newest_number {
-            if let Some(frame) = &mut self.newest {
-                frame.put(queue, place)?;
-            }
+            let Some(frame) = &mut self.newest else {
+                unreachable!()
+            };
+            frame.put(queue, place)?;
             return Ok(());
         }
-        if let Some(frame) = self.others.get_mut(&number) {
-            frame.put(queue, place)?;
-        }
+        let Some(frame) = self.others.get_mut(&number) else {
+            unreachable!()
+        };
+        frame.put(queue, place)?;
         Ok(())
     }
 

@@ -1,7 +1,8 @@
 // What hyperqueues are kept in.
-ghost use Rattle.std.specs.Prelude.{◌≡◌, ◌+◌, ◌<◌, Option, length, IfOk, OnOk};
+ghost use Rattle.std.specs.Prelude.{◌≡◌, ◌+◌, ◌<◌, Option, IsSome, length, IfOk, OnOk};
 ghost use Rattle.swan_model.specs.declared.script.Script.{Script};
 ghost use Rattle.swan_model.specs.QueueState.{new_state, QUEUES_MOST};
+ghost use Rattle.queue_book.specs.Live.{kept_of};
 ghost use Rattle.queue_book.specs.Made.{IsMadeIn};
 ghost use Rattle.queue_book.specs.Whole.{IsBook};
 
@@ -52,9 +53,10 @@ impl QueueStore {
         Meaning::of(&Nothing)
     }
 
-    /// Makes a queue that a frame owns, with these first items, and answers its number. `O(log n)` amortised. Err is
-    /// want of memory.
+    /// Makes a queue that an active frame owns, with these first items, and answers its number. `O(log n)` amortised.
+    /// Err is want of memory.
     pub fn make(&mut self, frame: u64, first: Values) -> Result<u32, NoMemory>
+        requires active { IsSome (kept_of self.old.frames frame) }
         requires room { length self.old.chains.heads.items < QUEUES_MOST }
         ensures number { IfOk result (λ queue. queue ≡ length self.old.chains.heads.items) }
         ensures more { OnOk result (length self.new.chains.heads.items ≡ length self.old.chains.heads.items + 1) }

@@ -1,5 +1,6 @@
 -- The frames above an active one: all are active, and who uses a queue below its maker uses it by right of each of them.
-use Rattle.std.proofs.Common.{◌≡◌, ◌⊎◌, inl, inr, ℕ, zero, suc, ◌<◌, true, Some, List, [], ◌∷◌, ◌++◌, refl, sym, ap, subst, ◌∙◌, append_assoc, append-nil, arith}
+use Rattle.std.proofs.Common.{◌≡◌, ◌⊎◌, inl, inr, ℕ, zero, suc, ◌<◌, ◌≤◌, true, None, Some, List, [], ◌∷◌, ◌++◌, refl, sym, ap, subst, ◌∙◌, append_assoc, append-nil, arith}
+use Rattle.std.proofs.lemmas.Bool.{cases_eq}
 use Rattle.std.proofs.lemmas.List.{same_from_push}
 use Rattle.std.proofs.lemmas.Option.{same_Some}
 use Rattle.std.specs.Prelude.{slice_get}
@@ -10,6 +11,26 @@ use Rattle.swan_model.proofs.Paths.{not_below-itself, not_root}
 use Rattle.queues.specs.Tree.{IsHeld, made, given, IsTree, has_queue, maker_path}
 use Rattle.queues.proofs.Frames.{active_number, has_held}
 use Rattle.swan_model.proofs.Elements.{one_answer}
+
+-- who is active has the root above it
+root_active : (most : ℕ) (state : QueueState) → IsTree state → (m : ℕ) (frame : ActiveFrame) → m ≤ most → active state m ≡ Some frame → (root : ActiveFrame) × (active state 0 ≡ Some root)
+root_active zero state tree m frame less live = (frame, ap (active state) (omega arith) ∙ live)
+root_active (suc most) state tree m frame less live = elim (cases_eq m 0) [
+  | inl same ↦ (frame, ap (active state) (sym same) ∙ live)
+  | inr other ↦
+      let parent = tree.others m frame live other in
+      let above = tree.spawned m parent.0 frame live parent.1 in
+      let number : frame.number ≡ m = active_number state m frame live in
+      let older : parent.0 < frame.number = above.older in
+      root_active most state tree parent.0 above.above (omega (arith, number, older)) above.live
+]
+
+-- once the root has finished, nobody is active
+pub none_active : (state : QueueState) → IsTree state → active state 0 ≡ None → (m : ℕ) (frame : ActiveFrame) → active state m ≡ Some frame → ⊥
+none_active state tree over m frame live =
+    let root = root_active m state tree m frame (omega arith) live in
+    let never : None ≡ Some root.0 = sym over ∙ root.1 in
+    cc
 
 -- paths with one front that go on by the same part
 pub same_front : (top : List ℕ) (a b : ℕ) (rest more : List ℕ) → top ++ a ∷ rest ≡ top ++ b ∷ more → a ≡ b

@@ -11,7 +11,7 @@ use Rattle.swan_model.specs.declared.script.Entry.{Entry}
 use Rattle.swan_model.specs.declared.script.Script.{Script}
 use Rattle.swan_model.specs.PathOrder.{is_under}
 use Rattle.swan_model.specs.QueueFollows.{IsChildOf, IsMade, IsTask, QueuesFollow, is_done_among, is_reached, queue_origin, queue_point, queue_time}
-use Rattle.swan_model.specs.QueueState.{ActiveFrame, QueueMaker, planned, made_by, QueueState, active, changed}
+use Rattle.swan_model.specs.QueueState.{ActiveFrame, QueueMaker, planned, made_by, QueueState, active, frame_after_change}
 use Rattle.swan_model.proofs.Elements.{all_each, all_from, find_map, mapped_is}
 use Rattle.queues.proofs.Frames.{active_number}
 
@@ -63,44 +63,44 @@ module _ (s : Script) where
       }
 
 module _ (s : Script) (state : QueueState) (follows : QueuesFollow s state) (new : QueueState) (number : ℕ) (change : ActiveFrame → ActiveFrame) (frame : ActiveFrame)
-    (live : active state number ≡ Some frame) (is : KeepsTask change) (frames : new.frames ≡ map (changed number change) state.frames)
+    (live : active state number ≡ Some frame) (is : KeepsTask change) (frames : new.frames ≡ map (frame_after_change number change) state.frames)
     (later : queue_point s frame.path frame.deeds ≤ queue_point s (change frame).path (change frame).deeds) where
-  pub active_new : (n : ℕ) → active new n ≡ option_map (changed number change) (active state n)
+  pub active_new : (n : ℕ) → active new n ≡ option_map (frame_after_change number change) (active state n)
   active_new n =
       ap (find (λ (f : ActiveFrame). nat_eq f.number n)) frames
-      ∙ find_map (λ (f : ActiveFrame). nat_eq f.number n) (changed number change) (λ f. ap (λ k. nat_eq k n) (kept (λ (x : ActiveFrame). x.number) change is.number (nat_eq f.number number) f)) state.frames
+      ∙ find_map (λ (f : ActiveFrame). nat_eq f.number n) (frame_after_change number change) (λ f. ap (λ k. nat_eq k n) (kept (λ (x : ActiveFrame). x.number) change is.number (nat_eq f.number number) f)) state.frames
 
   -- an active frame as it was
   pub record Was (n : ℕ) (y : ActiveFrame) : Type 0 where
     pub old : ActiveFrame
     pub before : active state n ≡ Some old
-    pub becomes : changed number change old ≡ y
+    pub becomes : frame_after_change number change old ≡ y
 
   pub was : (n : ℕ) (y : ActiveFrame) → active new n ≡ Some y → Was n y
   was n y now =
-      let found = mapped_is (changed number change) (active state n) y (sym (active_new n) ∙ now) in
+      let found = mapped_is (frame_after_change number change) (active state n) y (sym (active_new n) ∙ now) in
       record { old = found.0; before = found.1; becomes = found.2 }
 
-  pub now_is : (n : ℕ) (x : ActiveFrame) → active state n ≡ Some x → active new n ≡ Some (changed number change x)
-  now_is n x before = active_new n ∙ ap (option_map (changed number change)) before
+  pub now_is : (n : ℕ) (x : ActiveFrame) → active state n ≡ Some x → active new n ≡ Some (frame_after_change number change x)
+  now_is n x before = active_new n ∙ ap (option_map (frame_after_change number change)) before
 
-  pub path_kept : (x y : ActiveFrame) → changed number change x ≡ y → y.path ≡ x.path
+  pub path_kept : (x y : ActiveFrame) → frame_after_change number change x ≡ y → y.path ≡ x.path
   path_kept x y e = ap (λ (f : ActiveFrame). f.path) (sym e) ∙ kept (λ (f : ActiveFrame). f.path) change is.path (nat_eq x.number number) x
 
-  parent_kept : (x y : ActiveFrame) → changed number change x ≡ y → y.parent ≡ x.parent
+  parent_kept : (x y : ActiveFrame) → frame_after_change number change x ≡ y → y.parent ≡ x.parent
   parent_kept x y e = ap (λ (f : ActiveFrame). f.parent) (sym e) ∙ kept (λ (f : ActiveFrame). f.parent) change is.parent (nat_eq x.number number) x
 
-  number_kept : (x y : ActiveFrame) → changed number change x ≡ y → y.number ≡ x.number
+  number_kept : (x y : ActiveFrame) → frame_after_change number change x ≡ y → y.number ≡ x.number
   number_kept x y e = ap (λ (f : ActiveFrame). f.number) (sym e) ∙ kept (λ (f : ActiveFrame). f.number) change is.number (nat_eq x.number number) x
 
-  children_kept : (x : ActiveFrame) → x.children ≤ (changed number change x).children
+  children_kept : (x : ActiveFrame) → x.children ≤ (frame_after_change number change x).children
   children_kept x = by (nat_eq x.number number)
     where
       by : (b : Bool) → x.children ≤ (cond b (change x) x).children
       by true = is.children x
       by false = omega arith
 
-  later_kept : (x : ActiveFrame) → active state x.number ≡ Some x → queue_point s x.path x.deeds ≤ queue_point s (changed number change x).path (changed number change x).deeds
+  later_kept : (x : ActiveFrame) → active state x.number ≡ Some x → queue_point s x.path x.deeds ≤ queue_point s (frame_after_change number change x).path (frame_after_change number change x).deeds
   later_kept x here = by (nat_eq x.number number) refl
     where
       by : (b : Bool) → nat_eq x.number number ≡ b → queue_point s x.path x.deeds ≤ queue_point s (cond b (change x) x).path (cond b (change x) x).deeds
@@ -114,16 +114,16 @@ module _ (s : Script) (state : QueueState) (follows : QueuesFollow s state) (new
   done_on t done =
       let by = done_is s state t done in
       done_from s new t by.entry by.stands (all_from (is_reached s t by.entry.path) new.frames (λ i y at.
-      let mapped : option_map (changed number change) (slice_get state.frames i) ≡ Some y = sym (slice_get-map (changed number change) state.frames i) ∙ ap (λ xs. slice_get xs i) (sym frames) ∙ at in
-      let x = mapped_is (changed number change) (slice_get state.frames i) y mapped in
+      let mapped : option_map (frame_after_change number change) (slice_get state.frames i) ≡ Some y = sym (slice_get-map (frame_after_change number change) state.frames i) ∙ ap (λ xs. slice_get xs i) (sym frames) ∙ at in
+      let x = mapped_is (frame_after_change number change) (slice_get state.frames i) y mapped in
       let reached = all_each (is_reached s t by.entry.path) state.frames i x.0 by.reached x.1 in
-      let here = reached_on s t by.entry.path x.0 (changed number change x.0) (path_kept x.0 (changed number change x.0) refl) (later_kept x.0 (follows.known i x.0 x.1)) reached in
+      let here = reached_on s t by.entry.path x.0 (frame_after_change number change x.0) (path_kept x.0 (frame_after_change number change x.0) refl) (later_kept x.0 (follows.known i x.0 x.1)) reached in
       ap (is_reached s t by.entry.path) (sym x.2) ∙ here))
 
   module _ (task : IsTask s new (change frame)) (others : (n : ℕ) (other : ActiveFrame) → active state n ≡ Some other → (n ≡ number → ⊥) → IsTask s new other)
       (queues : (queue : ℕ) (maker : QueueMaker) → slice_get new.makers queue ≡ Some maker → (slice_get state.makers queue ≡ Some maker) ⊎ IsMade s new queue maker)
       (once : (queue other : ℕ) (origin : Origin) → queue_origin s new queue ≡ Some origin → queue_origin s new other ≡ Some origin → queue ≡ other) where
-    task_now : (n : ℕ) (old : ActiveFrame) → active state n ≡ Some old → IsTask s new (changed number change old)
+    task_now : (n : ℕ) (old : ActiveFrame) → active state n ≡ Some old → IsTask s new (frame_after_change number change old)
     task_now n old before = elim (cases_eq n number) [
       | inl same ↦
           let at : active state number ≡ Some old = ap (active state) (sym same) ∙ before in
@@ -136,15 +136,15 @@ module _ (s : Script) (state : QueueState) (follows : QueuesFollow s state) (new
           subst (λ b. IsTask s new (cond b (change old) old)) (sym own) (others n old before apart)
     ]
 
-    child_now : (n parent : ℕ) (x y : ActiveFrame) → active state n ≡ Some x → changed number change x ≡ y → x.parent ≡ Some parent → IsChildOf s new y parent
+    child_now : (n parent : ℕ) (x y : ActiveFrame) → active state n ≡ Some x → frame_after_change number change x ≡ y → x.parent ≡ Some parent → IsChildOf s new y parent
     child_now n parent x y before e of =
         let up = follows.children n parent x before of in
         let more = children_kept up.above in
         record {
-          above = changed number change up.above;
+          above = frame_after_change number change up.above;
           live = now_is parent up.above up.live;
           index = up.index;
-          path = path_kept x y e ∙ up.path ∙ ap (λ q. q ++ up.index ∷ []) (sym (path_kept up.above (changed number change up.above) refl));
+          path = path_kept x y e ∙ up.path ∙ ap (λ q. q ++ up.index ∷ []) (sym (path_kept up.above (frame_after_change number change up.above) refl));
           spawned = omega (arith, more, up.spawned);
         }
 
@@ -152,8 +152,8 @@ module _ (s : Script) (state : QueueState) (follows : QueuesFollow s state) (new
     changed_follows =
         record {
           known = λ i y at.
-              let mapped : option_map (changed number change) (slice_get state.frames i) ≡ Some y = sym (slice_get-map (changed number change) state.frames i) ∙ ap (λ xs. slice_get xs i) (sym frames) ∙ at in
-              let x = mapped_is (changed number change) (slice_get state.frames i) y mapped in
+              let mapped : option_map (frame_after_change number change) (slice_get state.frames i) ≡ Some y = sym (slice_get-map (frame_after_change number change) state.frames i) ∙ ap (λ xs. slice_get xs i) (sym frames) ∙ at in
+              let x = mapped_is (frame_after_change number change) (slice_get state.frames i) y mapped in
               ap (active new) (number_kept x.0 y x.2) ∙ now_is x.0.number x.0 (follows.known i x.0 x.1) ∙ ap Some x.2;
           root = λ y now.
               let old = was 0 y now in

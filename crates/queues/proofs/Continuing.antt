@@ -8,7 +8,7 @@ use Rattle.std.specs.Prelude.{slice_get}
 use Rattle.swan_model.specs.declared.script.Script.{Script}
 use Rattle.swan_model.specs.Nested.{spawn_time}
 use Rattle.swan_model.specs.QueueFollows.{Fits, FitsFrame, queue_origin}
-use Rattle.swan_model.specs.QueueState.{ActiveFrame, QueueState, active, changed}
+use Rattle.swan_model.specs.QueueState.{ActiveFrame, QueueState, active, frame_after_change}
 use Rattle.swan_model.specs.Readings.{more_by}
 use Rattle.swan_model.specs.SerialTime.{Progress, Reading, frame_of, point, times}
 use Rattle.queues.proofs.Advancing.{fits_same}
@@ -31,20 +31,20 @@ pub record KeepsOthers (state new : QueueState) (number : ℕ) : Type 0 where
   pub still : (other : ℕ) (frame : ActiveFrame) → (other ≡ number → ⊥) → active new other ≡ Some frame → WasActive state other frame
   pub gone : (other : ℕ) → (other ≡ number → ⊥) → active new other ≡ None → active state other ≡ None
 
-module _ (state new : QueueState) (number : ℕ) (change : ActiveFrame → ActiveFrame) (kept : (f : ActiveFrame) → (change f).number ≡ f.number) (frames : new.frames ≡ map (changed number change) state.frames) where
+module _ (state new : QueueState) (number : ℕ) (change : ActiveFrame → ActiveFrame) (kept : (f : ActiveFrame) → (change f).number ≡ f.number) (frames : new.frames ≡ map (frame_after_change number change) state.frames) where
   number_kept : (b : Bool) (f : ActiveFrame) → (cond b (change f) f).number ≡ f.number
   number_kept true f = kept f
   number_kept false f = refl
 
-  pub active_changed : (n : ℕ) → active new n ≡ option_map (changed number change) (active state n)
+  pub active_changed : (n : ℕ) → active new n ≡ option_map (frame_after_change number change) (active state n)
   active_changed n =
       ap (find (λ (f : ActiveFrame). nat_eq f.number n)) frames
-      ∙ find_map (λ (f : ActiveFrame). nat_eq f.number n) (changed number change) (λ f. ap (λ k. nat_eq k n) (number_kept (nat_eq f.number number) f)) state.frames
+      ∙ find_map (λ (f : ActiveFrame). nat_eq f.number n) (frame_after_change number change) (λ f. ap (λ k. nat_eq k n) (number_kept (nat_eq f.number number) f)) state.frames
 
   pub changed_gone : (n : ℕ) → active new n ≡ None → active state n ≡ None
   changed_gone n none = by (active state n) (sym (active_changed n) ∙ none)
     where
-      by : (o : Option ActiveFrame) → option_map (changed number change) o ≡ None → o ≡ None
+      by : (o : Option ActiveFrame) → option_map (frame_after_change number change) o ≡ None → o ≡ None
       by None is = refl
       by (Some f) is = absurd (cc)
 
@@ -56,7 +56,7 @@ module _ (state new : QueueState) (number : ℕ) (change : ActiveFrame → Activ
 
   pub became : (frame : ActiveFrame) → active new number ≡ Some frame → Became frame
   became frame now =
-      let found = mapped_is (changed number change) (active state number) frame (sym (active_changed number) ∙ now) in
+      let found = mapped_is (frame_after_change number change) (active state number) frame (sym (active_changed number) ∙ now) in
       let same = eq-eqb found.0.number number (active_number state number found.0 found.1) in
       record { was = found.0; live = found.1; is = ap (λ b. cond b (change found.0) found.0) (sym same) ∙ found.2 }
 
@@ -64,7 +64,7 @@ module _ (state new : QueueState) (number : ℕ) (change : ActiveFrame → Activ
   others_kept =
       record {
         still = λ n frame apart now.
-            let found = mapped_is (changed number change) (active state n) frame (sym (active_changed n) ∙ now) in
+            let found = mapped_is (frame_after_change number change) (active state n) frame (sym (active_changed n) ∙ now) in
             let other = ne_eqb found.0.number number (λ same. apart (sym (active_number state n found.0 found.1) ∙ same)) in
             let is : found.0 ≡ frame = ap (λ b. cond b (change found.0) found.0) (sym other) ∙ found.2 in
             record { was = found.0; live = found.1; path = ap (λ (f : ActiveFrame). f.path) (sym is); deeds = ap (λ (f : ActiveFrame). f.deeds) (sym is) };

@@ -19,7 +19,7 @@ use Rattle.swan_model.specs.Lawful.{IsLawful}
 use Rattle.swan_model.specs.Nested.{IsEntryOf}
 use Rattle.swan_model.specs.PathOrder.{is_under}
 use Rattle.swan_model.specs.QueueFollows.{IsMade, IsTask, QueuesFollow, is_done_among, is_reached, next_queue_deed, origin_in, queue_origin, queue_point}
-use Rattle.swan_model.specs.QueueState.{ActiveFrame, IsUntouched, QueueMaker, planned, made_by, QueueState, active, after_create, after_create_root, changed, holds_queue, with_deed, with_made}
+use Rattle.swan_model.specs.QueueState.{ActiveFrame, IsUntouched, QueueMaker, planned, made_by, QueueState, active, after_create, after_create_root, frame_after_change, holds_queue, with_deed, with_made}
 use Rattle.swan_model.specs.Rights.{allows, is_queue_mode}
 use Rattle.swan_model.specs.Told.{deed_at, is_same}
 use Rattle.swan_model.proofs.Origins.{is_same-equal}
@@ -107,7 +107,7 @@ module _ (s : Script) (lawful : IsLawful s) (state : QueueState) (follows : Queu
           let before = entries_before s lawful state follows n frame.number other frame child rest at live is u (own_under s other.path u (queue_point-own s other.path other.deeds (follows.tasks n other at).some)) in
           omega (arith, before, older)
 
-  module _ (after : QueueState) (frames : after.frames ≡ map (changed frame.number change) state.frames) (makers : after.makers ≡ state.makers ++ maker ∷ []) where
+  module _ (after : QueueState) (frames : after.frames ≡ map (frame_after_change frame.number change) state.frames) (makers : after.makers ≡ state.makers ++ maker ∷ []) where
     longer : length after.makers ≡ length state.makers + 1
     longer = ap length makers ∙ length_push state.makers maker
 
@@ -163,7 +163,7 @@ module _ (s : Script) (lawful : IsLawful s) (state : QueueState) (follows : Queu
             none ∙ sym (ap (may_use (holds s other.path (queue_point s other.path other.deeds)) mode) to ∙ others_not n other mode at apart)
 
     -- the entry that made the queue is done
-    reached_here : (i : ℕ) (x : ActiveFrame) → slice_get state.frames i ≡ Some x → is_reached s here own_here.entry.path (changed frame.number change x) ≡ true
+    reached_here : (i : ℕ) (x : ActiveFrame) → slice_get state.frames i ≡ Some x → is_reached s here own_here.entry.path (frame_after_change frame.number change x) ≡ true
     reached_here i x at = elim (cases_eq x.number frame.number) [
       | inl same ↦ own x (follows.known i x at) same
       | inr apart ↦ other x (follows.known i x at) apart
@@ -174,14 +174,14 @@ module _ (s : Script) (lawful : IsLawful s) (state : QueueState) (follows : Queu
         by x known apart (child ∷ rest) is =
             entries_before s lawful state follows frame.number x.number frame x child rest live known is here (own_under s frame.path here own_here)
 
-        own : (x : ActiveFrame) → active state x.number ≡ Some x → x.number ≡ frame.number → is_reached s here own_here.entry.path (changed frame.number change x) ≡ true
+        own : (x : ActiveFrame) → active state x.number ≡ Some x → x.number ≡ frame.number → is_reached s here own_here.entry.path (frame_after_change frame.number change x) ≡ true
         own x known same =
             let one : frame ≡ x = same_Some frame x (sym live ∙ ap (active state) (sym same) ∙ known) in
             let reached : is_reached s here own_here.entry.path (change frame) ≡ true = or_right (not (is_under frame.path own_here.entry.path)) (nat_lt here beyond) (lt-ltb here beyond after_here) in
             let moved : is_reached s here own_here.entry.path (change x) ≡ true = subst (λ f. is_reached s here own_here.entry.path (change f) ≡ true) one reached in
             subst (λ b. is_reached s here own_here.entry.path (cond b (change x) x) ≡ true) (sym (eq-eqb x.number frame.number same)) moved
 
-        other : (x : ActiveFrame) → active state x.number ≡ Some x → (x.number ≡ frame.number → ⊥) → is_reached s here own_here.entry.path (changed frame.number change x) ≡ true
+        other : (x : ActiveFrame) → active state x.number ≡ Some x → (x.number ≡ frame.number → ⊥) → is_reached s here own_here.entry.path (frame_after_change frame.number change x) ≡ true
         other x known apart =
             let u = queue_point s x.path x.deeds in
             let reached : is_reached s here own_here.entry.path x ≡ true = elim (cases_Bool (is_under x.path own_here.entry.path)) [
@@ -195,8 +195,8 @@ module _ (s : Script) (lawful : IsLawful s) (state : QueueState) (follows : Queu
     done_here : is_done_among s after here ≡ true
     done_here =
         done_from s after here own_here.entry own_here.stands (all_from (is_reached s here own_here.entry.path) after.frames (λ i y at.
-        let mapped : option_map (changed frame.number change) (slice_get state.frames i) ≡ Some y = sym (slice_get-map (changed frame.number change) state.frames i) ∙ ap (λ xs. slice_get xs i) (sym frames) ∙ at in
-        let x = mapped_is (changed frame.number change) (slice_get state.frames i) y mapped in
+        let mapped : option_map (frame_after_change frame.number change) (slice_get state.frames i) ≡ Some y = sym (slice_get-map (frame_after_change frame.number change) state.frames i) ∙ ap (λ xs. slice_get xs i) (sym frames) ∙ at in
+        let x = mapped_is (frame_after_change frame.number change) (slice_get state.frames i) y mapped in
         ap (is_reached s here own_here.entry.path) (sym x.2) ∙ reached_here i x.0 x.1))
 
     created : QueuesFollow s after

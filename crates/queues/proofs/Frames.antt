@@ -17,6 +17,10 @@ active_number state number frame live = eqb-true frame.number number (found_is (
 
 -- ---- rights
 
+-- a right on the queue of this number, by both modes
+abbrev pub both_on : ℕ → QueueRight
+both_on queue = record { queue = queue; mode = PushPop }
+
 -- who may use a queue has it
 pub has_held : (frame : ActiveFrame) (queue : ℕ) (mode : Mode) → holds_queue frame queue mode ≡ true → has_queue frame queue ≡ true
 has_held frame queue mode held =

@@ -1,5 +1,5 @@
 -- Who may use what a task made: the task and those below it.
-use Rattle.std.proofs.Common.{◌≡◌, inl, inr, ℕ, zero, suc, ◌+◌, ◌<◌, ◌≤◌, true, List, [], ◌∷◌, ◌++◌, length, Some, refl, sym, ap, subst, ◌∙◌, append_assoc, append-nil, arith}
+use Rattle.std.proofs.Common.{◌≡◌, inl, inr, ℕ, zero, suc, ◌+◌, ◌<◌, ◌≤◌, true, List, [], ◌∷◌, ◌++◌, length, Some, refl, sym, ap, subst, ◌∙◌, arith}
 use Rattle.std.proofs.lemmas.Bool.{and_from, cases_eq, cases_lt, or_left, or_right, ltb-true}
 use Rattle.std.specs.Prelude.{◌&&◌, slice_get}
 use Rattle.swan_model.specs.declared.origin.Origin.TheVariants.{Root, Step}
@@ -13,22 +13,17 @@ use Rattle.swan_model.specs.Nested.{IsEntryOf}
 use Rattle.swan_model.specs.Rights.{allows, is_queue_mode}
 use Rattle.swan_model.specs.Told.{is_same}
 use Rattle.swan_model.proofs.Origins.{is_same-self}
-use Rattle.swan_model.proofs.Paths.{same_path}
+use Rattle.swan_model.proofs.Paths.{IsUnder, same_path, under-child, under-itself}
 use Rattle.swan_model.proofs.ScriptRights.{given_within, held_later, held_older}
 use Rattle.swan_model.proofs.ScriptSteps.{one_entry}
 use Rattle.swan_model.proofs.Uses.{holds-cases, more-append}
-
--- a path is under another one
-pub record IsBelowPath (top path : List ℕ) : Type 0 where
-  pub rest : List ℕ
-  pub is : path ≡ top ++ rest
 
 step_same : (n t : ℕ) → Step t ≡ Step n → n ≡ t
 step_same n t is = cc
 
 module _ (s : Script) (lawful : IsLawful s) (top : List ℕ) (t : ℕ) (own : IsEntryOf s top t) where
   -- who may use what an entry made is the task of that entry, or below it
-  pub maker_above : (u : ℕ) (path : List ℕ) (mode : Mode) → may_use (holds s path u) mode (Step t) ≡ true → IsBelowPath top path
+  pub maker_above : (u : ℕ) (path : List ℕ) (mode : Mode) → may_use (holds s path u) mode (Step t) ≡ true → IsUnder top path
   maker_above zero path mode is =
       let before = ltb-true t zero (held_older s lawful path zero mode (Step t) is) in
       absurd (omega (arith, before))
@@ -40,13 +35,13 @@ module _ (s : Script) (lawful : IsLawful s) (top : List ℕ) (t : ℕ) (own : Is
           let stands : slice_get s.entries t ≡ Some here.entry = ap (slice_get s.entries) (sym at) ∙ here.stands in
           let same = one_entry s t here.entry own.entry stands own.stands in
           let one : path ≡ top = sym (same_path here.entry.path path made.0) ∙ ap (λ (e : Entry). e.path) same ∙ own.own in
-          record { rest = []; is = one ∙ sym (append-nil top) }
+          under-itself top path one
       | inr gift ↦
           let may = given_within s lawful n here.entry gift.gives mode (Step t) here.stands gift.is gift.may in
           let up = maker_above n here.entry.path mode may in
           let k = children_before s here.entry.path n in
           let to : here.entry.path ++ k ∷ [] ≡ path = same_path (here.entry.path ++ k ∷ []) path gift.to in
-          record { rest = up.rest ++ k ∷ []; is = sym to ∙ ap (λ q. q ++ k ∷ []) up.is ∙ append_assoc top up.rest (k ∷ []) }
+          under-child top here.entry.path path k (sym to) up
     ]
   ]
 

@@ -19,6 +19,7 @@ use Rattle.swan_model.proofs.ScriptSteps.{one_entry}
 use Rattle.queues.proofs.Between.{queue_point-own}
 use Rattle.queues.proofs.Changing.{done_is}
 use Rattle.queues.proofs.Done.{reached_under}
+use Rattle.queues.proofs.Frames.{both_on}
 use Rattle.swan_model.proofs.Elements.{all_each, found_is, mapped_is, more_cases, any_before, any_either, any_last}
 use Rattle.queues.proofs.Holders.{all_allowed}
 use Rattle.queues.proofs.Under.{under_from}
@@ -28,19 +29,16 @@ use Rattle.queues.proofs.Under.{under_from}
 abbrev pub is_right : ℕ → Mode → QueueRight → Bool
 is_right queue mode right = nat_eq right.queue queue && allows right.mode mode
 
-abbrev made_right : ℕ → QueueRight
-made_right queue = record { queue = queue; mode = PushPop }
-
 pub holds_before : (frame : ActiveFrame) (made queue : ℕ) (mode : Mode) → queue < made → holds_queue (with_made made frame) queue mode ≡ holds_queue frame queue mode
 holds_before frame made queue mode less =
-    any_before (is_right queue mode) frame.rights (made_right made) (and_left (nat_eq made queue) (allows PushPop mode) (ne_eqb made queue (λ same. omega (arith, less, same))))
+    any_before (is_right queue mode) frame.rights (both_on made) (and_left (nat_eq made queue) (allows PushPop mode) (ne_eqb made queue (λ same. omega (arith, less, same))))
 
 pub holds_made : (frame : ActiveFrame) (made : ℕ) (mode : Mode) → is_queue_mode mode ≡ true → holds_queue (with_made made frame) made mode ≡ true
 holds_made frame made mode is =
-    any_last (is_right made mode) frame.rights (made_right made) (and_from (nat_eq made made) (allows PushPop mode) (eq-eqb made made refl) (all_allowed mode is))
+    any_last (is_right made mode) frame.rights (both_on made) (and_from (nat_eq made made) (allows PushPop mode) (eq-eqb made made refl) (all_allowed mode is))
 
 pub holds_cases : (frame : ActiveFrame) (made queue : ℕ) (mode : Mode) → holds_queue (with_made made frame) queue mode ≡ true → (holds_queue frame queue mode ≡ true) ⊎ (queue ≡ made)
-holds_cases frame made queue mode is = elim (any_either (is_right queue mode) frame.rights (made_right made) is) [
+holds_cases frame made queue mode is = elim (any_either (is_right queue mode) frame.rights (both_on made) is) [
   | inl before ↦ inl before
   | inr it ↦ inr (sym (eqb-true made queue (and_parts (nat_eq made queue) (allows PushPop mode) it).0))
 ]

@@ -6,18 +6,14 @@ use Rattle.std.specs.List.{list_any}
 use Rattle.std.specs.Prelude.{◌&&◌, ◌==◌, slice_get}
 use Rattle.swan_model.specs.declared.rights.Mode.{Mode}
 use Rattle.swan_model.specs.declared.rights.Mode.TheVariants.{Push, Pop, PushPop}
-use Rattle.swan_model.specs.QueueState.{ActiveFrame, QueueMaker, QueueRight, QueueState, active, changed, changing, holds_queue}
+use Rattle.swan_model.specs.QueueState.{ActiveFrame, QueueMaker, QueueRight, QueueState, active, frame_after_change, changing, holds_queue}
 use Rattle.swan_model.specs.Rights.{allows, is_queue_mode}
 use Rattle.queues.specs.Tree.{IsHeld, made, IsTree, has_queue, maker_path}
-use Rattle.queues.proofs.Frames.{active_number}
+use Rattle.queues.proofs.Frames.{active_number, both_on}
 use Rattle.queues.proofs.TreeChanged.{EachIsChanged}
 use Rattle.swan_model.proofs.Elements.{last_more, any_before, any_either, before_more}
 
 -- ---- rights with one more
-
--- a right on the queue of this number, by both modes
-abbrev pub both_on : ℕ → QueueRight
-both_on queue = record { queue = queue; mode = PushPop }
 
 pub has_before : (rights : List QueueRight) (queue new : ℕ) → queue < new → list_any (λ r. r.queue == queue) (rights ++ both_on new ∷ []) ≡ list_any (λ r. r.queue == queue) rights
 has_before rights queue new less = any_before (λ r. r.queue == queue) rights (both_on new) (ne_eqb new queue (λ same. absurd (omega arith)))
@@ -36,10 +32,10 @@ both_of_queues mode is = absurd (false≢true is)
 
 module _ (state : QueueState) (tree : IsTree state) (n : ℕ) (change : ActiveFrame → ActiveFrame) (kept : KeepsTask change) where
   -- each frame is the changed one, or as it was
-  by_cases : (P : ActiveFrame → Type 0) (frame : ActiveFrame) → P (change frame) → P frame → P (changed n change frame)
+  by_cases : (P : ActiveFrame → Type 0) (frame : ActiveFrame) → P (change frame) → P frame → P (frame_after_change n change frame)
   by_cases P frame new old = cond_both (nat_eq frame.number n) (change frame) frame P (λ is. new) (λ is. old)
 
-  keeps_each : KeepsTask (changed n change)
+  keeps_each : KeepsTask (frame_after_change n change)
   keeps_each = record {
     number = λ frame. by_cases (λ now. now.number ≡ frame.number) frame (kept.number frame) refl;
     parent = λ frame. by_cases (λ now. now.parent ≡ frame.parent) frame (kept.parent frame) refl;
@@ -49,15 +45,15 @@ module _ (state : QueueState) (tree : IsTree state) (n : ℕ) (change : ActiveFr
 
   -- a frame goes on with the rights that it had
   module _ (rights : (frame : ActiveFrame) → (change frame).rights ≡ frame.rights) where
-    same_has : (frame : ActiveFrame) (queue : ℕ) → has_queue (changed n change frame) queue ≡ has_queue frame queue
+    same_has : (frame : ActiveFrame) (queue : ℕ) → has_queue (frame_after_change n change frame) queue ≡ has_queue frame queue
     same_has frame queue = by_cases (λ now. has_queue now queue ≡ has_queue frame queue) frame
         (ap (λ rs. list_any (λ (r : QueueRight). r.queue == queue) rs) (rights frame)) refl
 
-    same_holds : (frame : ActiveFrame) (queue : ℕ) (mode : Mode) → holds_queue (changed n change frame) queue mode ≡ holds_queue frame queue mode
+    same_holds : (frame : ActiveFrame) (queue : ℕ) (mode : Mode) → holds_queue (frame_after_change n change frame) queue mode ≡ holds_queue frame queue mode
     same_holds frame queue mode = by_cases (λ now. holds_queue now queue mode ≡ holds_queue frame queue mode) frame
         (ap (λ rs. list_any (λ (r : QueueRight). (r.queue == queue) && allows r.mode mode) rs) (rights frame)) refl
 
-    pub goes_on : EachIsChanged state (changing state n change) (changed n change) n
+    pub goes_on : EachIsChanged state (changing state n change) (frame_after_change n change) n
     goes_on = record {
       frames = refl;
       makers = λ queue maker at. at;
@@ -78,17 +74,17 @@ module _ (state : QueueState) (tree : IsTree state) (n : ℕ) (change : ActiveFr
     abbrev with_queue : QueueState
     with_queue = record (changing state n change) { makers = state.makers ++ maker ∷ [] }
 
-    has_old : (frame : ActiveFrame) (queue : ℕ) → queue < length state.makers → has_queue (changed n change frame) queue ≡ has_queue frame queue
+    has_old : (frame : ActiveFrame) (queue : ℕ) → queue < length state.makers → has_queue (frame_after_change n change frame) queue ≡ has_queue frame queue
     has_old frame queue there = by_cases (λ now. has_queue now queue ≡ has_queue frame queue) frame
         (ap (λ rs. list_any (λ (r : QueueRight). r.queue == queue) rs) (rights frame) ∙ has_before frame.rights queue (length state.makers) there) refl
 
-    holds_old : (frame : ActiveFrame) (queue : ℕ) (mode : Mode) → queue < length state.makers → holds_queue (changed n change frame) queue mode ≡ holds_queue frame queue mode
+    holds_old : (frame : ActiveFrame) (queue : ℕ) (mode : Mode) → queue < length state.makers → holds_queue (frame_after_change n change frame) queue mode ≡ holds_queue frame queue mode
     holds_old frame queue mode there = by_cases (λ now. holds_queue now queue mode ≡ holds_queue frame queue mode) frame
         (ap (λ rs. list_any (λ (r : QueueRight). (r.queue == queue) && allows r.mode mode) rs) (rights frame) ∙ holds_before frame.rights queue (length state.makers) mode there) refl
 
     -- the new queue is the maker's
-    new_queue : (number queue : ℕ) (frame : ActiveFrame) → active state number ≡ Some frame → length state.makers ≤ queue → has_queue (changed n change frame) queue ≡ true
-        → (number ≡ n) × (queue < length with_queue.makers) × IsHeld with_queue (changed n change frame) queue
+    new_queue : (number queue : ℕ) (frame : ActiveFrame) → active state number ≡ Some frame → length state.makers ≤ queue → has_queue (frame_after_change n change frame) queue ≡ true
+        → (number ≡ n) × (queue < length with_queue.makers) × IsHeld with_queue (frame_after_change n change frame) queue
     new_queue number queue frame live fresh = by (nat_eq frame.number n) refl where
       old : has_queue frame queue ≡ true → ⊥
       old has = let there = (tree.held number queue frame live has).0 in absurd (omega arith)
@@ -108,7 +104,7 @@ module _ (state : QueueState) (tree : IsTree state) (n : ℕ) (change : ActiveFr
       ]
       by false is has = absurd (old has)
 
-    new_modes : (number queue : ℕ) (frame : ActiveFrame) (mode : Mode) → active state number ≡ Some frame → holds_queue (changed n change frame) queue mode ≡ true → is_queue_mode mode ≡ true
+    new_modes : (number queue : ℕ) (frame : ActiveFrame) (mode : Mode) → active state number ≡ Some frame → holds_queue (frame_after_change n change frame) queue mode ≡ true → is_queue_mode mode ≡ true
     new_modes number queue frame mode live = by_cases (λ now. holds_queue now queue mode ≡ true → is_queue_mode mode ≡ true) frame
         (λ holds. elim (any_either (λ r. (r.queue == queue) && allows r.mode mode) frame.rights (both_on (length state.makers))
         (sym (ap (λ rs. list_any (λ (r : QueueRight). (r.queue == queue) && allows r.mode mode) rs) (rights frame)) ∙ holds)) [
@@ -117,7 +113,7 @@ module _ (state : QueueState) (tree : IsTree state) (n : ℕ) (change : ActiveFr
         ])
         (tree.modes number queue frame mode live)
 
-    pub makes : EachIsChanged state with_queue (changed n change) n
+    pub makes : EachIsChanged state with_queue (frame_after_change n change) n
     makes = record {
       frames = refl;
       makers = λ queue other at. before_more state.makers maker queue other at;

@@ -2,12 +2,13 @@
 use Rattle.std.proofs.Common.{◌≡◌, ◌⊎◌, inl, inr, ℕ, true, false, List, [], ◌∷◌, length, refl, sym, ap, ◌∙◌, arith}
 use Rattle.std.proofs.lemmas.Bool.{cases_lt, false≢true}
 use Rattle.swan_model.specs.PathOrder.{comes_before}
-use Rattle.swan_model.specs.QueueState.{ActiveFrame, QueueRight, QueueState, active, after_spawn, changed, child_of}
+use Rattle.swan_model.specs.QueueState.{ActiveFrame, QueueRight, QueueState, active, after_spawn, frame_after_change, child_of}
 use Rattle.swan_model.proofs.PathOrder.{before-below, before-parent}
 use Rattle.queues.specs.Asks.{MaySpawn}
 use Rattle.queues.specs.Chunks.{Chunks, after_hand_on, HasOwners}
 use Rattle.queues.specs.Tree.{IsTree, has_queue}
-use Rattle.queues.proofs.TreeCalls.{child_newest, one_more, parent_changed, tree_between, with_one_more}
+use Rattle.queues.proofs.ActiveAfter.{one_child_more}
+use Rattle.queues.proofs.TreeCalls.{child_newest, parent_changed, tree_between, with_one_more}
 use Rattle.queues.proofs.ChunkOwners.{handed_child, handed_still, handed_was, IsFirstOf}
 use Rattle.queues.proofs.Gives.{gives_had}
 use Rattle.queues.proofs.QueueHolders.{added_new, added_still, added_was, before_child, changed_still, changed_was}
@@ -29,25 +30,25 @@ module _ (state : QueueState) (p child : ℕ) (gives : List QueueRight) (q : ℕ
   spawned_was : (number : ℕ) (path : List ℕ) → IsHolder after q number path
       → IsHolder state q number path ⊎ ((number ≡ child) × (has_queue new q ≡ true) × (path ≡ new.path))
   spawned_was number path now =
-      elim (added_was (with_one_more state parent) (one_more parent) new parent.children (tree_between state tree p child gives parent may.act.may may.newest may.lawful)
+      elim (added_was (with_one_more state parent) (one_child_more parent) new parent.children (tree_between state tree p child gives parent may.act.may may.newest may.lawful)
       (child_newest state tree p child gives parent may.act.may may.newest may.lawful) q number path now) [
-        | inl old ↦ inl (changed_was state (with_one_more state parent) (changed parent.number one_more) parent.number tree
+        | inl old ↦ inl (changed_was state (with_one_more state parent) (frame_after_change parent.number one_child_more) parent.number tree
             (parent_changed state tree p child gives parent may.act.may may.newest may.lawful) q (cases_lt q (length state.makers)) number path old)
         | inr own ↦ inr own
       ]
 
   spawned_still : (number : ℕ) (path : List ℕ) → IsHolder state q number path → IsHolder after q number path
   spawned_still number path old =
-      added_still (with_one_more state parent) (one_more parent) new parent.children (tree_between state tree p child gives parent may.act.may may.newest may.lawful)
+      added_still (with_one_more state parent) (one_child_more parent) new parent.children (tree_between state tree p child gives parent may.act.may may.newest may.lawful)
       (child_newest state tree p child gives parent may.act.may may.newest may.lawful) q number path
-      (changed_still state (with_one_more state parent) (changed parent.number one_more) parent.number tree
+      (changed_still state (with_one_more state parent) (frame_after_change parent.number one_child_more) parent.number tree
       (parent_changed state tree p child gives parent may.act.may may.newest may.lawful) q number path old)
 
   -- where the child gets the queue, it comes in before its parent
   child_born : has_queue new q ≡ true → IsBorn (IsHolder state q) (IsHolder after q) p child parent.path new.path
   child_born has = record {
     from = record { frame = parent; live = may.act.may.live; has = gives_had parent gives may.lawful q has; is = refl };
-    born = added_new (with_one_more state parent) (one_more parent) new parent.children (tree_between state tree p child gives parent may.act.may may.newest may.lawful)
+    born = added_new (with_one_more state parent) (one_child_more parent) new parent.children (tree_between state tree p child gives parent may.act.may may.newest may.lawful)
         (child_newest state tree p child gives parent may.act.may may.newest may.lawful) q has;
     was = λ number path now. elim (spawned_was number path now) [ inl old ↦ inl old | inr own ↦ inr (own.0, own.2) ];
     still = spawned_still;

@@ -9,9 +9,8 @@ use Rattle.swan_model.proofs.PathOrder.{how_before, IsAside, IsBelow, left-befor
 use Rattle.queues.specs.Tree.{IsTree, has_queue, maker_path}
 use Rattle.queues.proofs.Above.{climb, under_maker}
 use Rattle.queues.proofs.TreeCalls.{lesser_before}
-use Rattle.queues.proofs.Frames.{active_number}
+use Rattle.queues.proofs.Frames.{active_number, both_on}
 use Rattle.queues.proofs.Owners.{IsHolder}
-use Rattle.queues.proofs.OneChanged.{both_on}
 use Rattle.queues.proofs.TreeAdded.{IsNewest, new_live, still_live, was_live, with_frame}
 use Rattle.queues.proofs.TreeChanged.{EachIsChanged, still, was}
 use Rattle.queues.proofs.TreeWithout.{stays, was_there}

@@ -24,25 +24,25 @@ use Rattle.swan_model.proofs.MovedFrames.{frame_in, frame_number}
 
 -- At this time a frame of the reading has an entry, and each child of it that it has spawned by its point was spawned
 -- before.
-pub record StandsAt (s : Script) (r : Reading) (progress : Progress) (u : ℕ) : Type 0 where
+pub record StandsAtTime (s : Script) (r : Reading) (progress : Progress) (u : ℕ) : Type 0 where
   pub index : ℕ
   pub stands : slice_get r.frames index ≡ Some progress
   pub own : IsEntryOf s progress.path u
   pub past : (spawn : ℕ) → spawn < point s progress → spawn < u
 
-pub under_at : (s : Script) (r : Reading) (p : Progress) (u : ℕ) (path rest : List ℕ) (child : ℕ) → StandsAt s r p u → p.path ≡ path ++ child ∷ rest → IsEntryUnder s (path ++ child ∷ []) u
+pub under_at : (s : Script) (r : Reading) (p : Progress) (u : ℕ) (path rest : List ℕ) (child : ℕ) → StandsAtTime s r p u → p.path ≡ path ++ child ∷ rest → IsEntryUnder s (path ++ child ∷ []) u
 under_at s r p u path rest child at is =
     record { entry = at.own.entry; stands = at.own.stands; rest = rest; under = at.own.own ∙ is ∙ sym (append_assoc path (child ∷ []) rest) }
 
 module _ (s : Script) (r : Reading) (tasks : HasTasks s r) (nested : IsNested s) where
-  below_first : (a b : Progress) (u v : ℕ) → StandsAt s r a u → StandsAt s r b v → IsBelow a.path b.path → u < v
+  below_first : (a b : Progress) (u v : ℕ) → StandsAtTime s r a u → StandsAtTime s r b v → IsBelow a.path b.path → u < v
   below_first a b u v here there below =
       let past = past_above s r tasks (length below.rest) b.path below.rest below.number here.index a refl here.stands below.is in
       let same : past.parent ≡ b = same_frame s r tasks past.index there.index past.parent b past.stands there.stands past.own in
       let done : past.spawn < point s b = subst (λ p. past.spawn < point s p) same past.past in
       nested.whole b.path below.number past.spawn u v past.known (under_at s r a u b.path below.rest below.number here below.is) there.own (there.past past.spawn done)
 
-  aside_first : (a b : Progress) (u v : ℕ) → StandsAt s r a u → StandsAt s r b v → IsAside a.path b.path → u < v
+  aside_first : (a b : Progress) (u v : ℕ) → StandsAtTime s r a u → StandsAtTime s r b v → IsAside a.path b.path → u < v
   aside_first a b u v here there aside =
       let one = past_above s r tasks (length aside.rest) aside.above aside.rest aside.number here.index a refl here.stands aside.is in
       let two = past_above s r tasks (length aside.more) aside.above aside.more aside.later there.index b refl there.stands aside.also in
@@ -53,14 +53,14 @@ module _ (s : Script) (r : Reading) (tasks : HasTasks s r) (nested : IsNested s)
       omega (arith, before, after)
 
   -- who comes before another in serial order stands at an earlier time
-  pub stands_before : (a b : Progress) (u v : ℕ) → StandsAt s r a u → StandsAt s r b v → comes_before a.path b.path ≡ true → u < v
+  pub stands_before : (a b : Progress) (u v : ℕ) → StandsAtTime s r a u → StandsAtTime s r b v → comes_before a.path b.path ≡ true → u < v
   stands_before a b u v here there is = elim (how_before a.path b.path is) [
     | inl below ↦ below_first a b u v here there below
     | inr aside ↦ aside_first a b u v here there aside
   ]
 
   -- and of two different frames the one at the earlier time comes before
-  pub order_is : (a b : Progress) (u v : ℕ) → StandsAt s r a u → StandsAt s r b v → (a.path ≡ b.path → ⊥) → nat_lt u v ≡ comes_before a.path b.path
+  pub order_is : (a b : Progress) (u v : ℕ) → StandsAtTime s r a u → StandsAtTime s r b v → (a.path ≡ b.path → ⊥) → nat_lt u v ≡ comes_before a.path b.path
   order_is a b u v here there apart =
       answers_same (nat_lt u v) (comes_before a.path b.path)
       (λ is.
@@ -89,13 +89,13 @@ module _ (s : Script) (lawful : IsLawful s) (state : QueueState) (r : Reading) (
       let fit : FitsFrame s frame progress = subst (FitsFrame s frame) same found.2 in
       record { live = live; known = known; fit = fit; still = fits_still s lawful frame progress fit }
 
-  at_point : (number : ℕ) (frame : ActiveFrame) (p : Progress) → IsRead number frame p → StandsAt s r p (point s p)
+  at_point : (number : ℕ) (frame : ActiveFrame) (p : Progress) → IsRead number frame p → StandsAtTime s r p (point s p)
   at_point number frame p read =
       let place = frame_in r.frames number p read.known in
       let many : length (times s frame.path) ≡ length (times s p.path) = ap (λ q. length (times s q)) (sym read.fit.path) in
       record { index = place.index; stands = place.stands; own = point_own s p (omega (arith, read.fit.left, many)); past = λ spawn less. less }
 
-  pub at_queue_point : (number : ℕ) (frame : ActiveFrame) (p : Progress) → IsRead number frame p → StandsAt s r p (queue_point s frame.path frame.deeds)
+  pub at_queue_point : (number : ℕ) (frame : ActiveFrame) (p : Progress) → IsRead number frame p → StandsAtTime s r p (queue_point s frame.path frame.deeds)
   at_queue_point number frame p read =
       let place = frame_in r.frames number p read.known in
       let m = queue_point s frame.path frame.deeds in

@@ -1,5 +1,5 @@
 -- The spawn of a child leaves hyperqueues that follow.
-use Rattle.queues.proofs.ActiveAfter.{KeepsTask}
+use Rattle.queues.proofs.ActiveAfter.{KeepsTask, one_child_more}
 use Rattle.std.proofs.Common.{◌≡◌, inl, inr, ℕ, ◌+◌, ◌<◌, ◌≤◌, Bool, true, false, nat_eq, nat_lt, cond, List, [], ◌∷◌, ◌++◌, length, Some, None, refl, sym, ap, subst, ◌∙◌, append_assoc, arith}
 use Rattle.std.proofs.lemmas.Bool.{cases_lt, eq-eqb, false_from_ne_true, or_left}
 use Rattle.std.specs.Cmp.Lexicographic.{pointwise}
@@ -16,7 +16,7 @@ use Rattle.swan_model.specs.Lawful.{IsLawful}
 use Rattle.swan_model.specs.Nested.{IsEntryOf, IsEntryUnder}
 use Rattle.swan_model.specs.PathOrder.{is_under}
 use Rattle.swan_model.specs.QueueFollows.{IsChildOf, NextSpawnGivesQueues, IsTask, QueuesFollow, is_reached, queue_point, queue_time}
-use Rattle.swan_model.specs.QueueState.{ActiveFrame, made_by, QueueRight, QueueState, active, after_spawn, changed, changing, child_of, with_deed}
+use Rattle.swan_model.specs.QueueState.{ActiveFrame, made_by, QueueRight, QueueState, active, after_spawn, frame_after_change, changing, child_of}
 use Rattle.swan_model.specs.Readings.{end_time}
 use Rattle.swan_model.specs.Rights.{is_queue_mode}
 use Rattle.swan_model.specs.SerialTime.{is_of, times}
@@ -36,10 +36,6 @@ use Rattle.queues.proofs.Lineage.{child_spawned, children_are}
 use Rattle.queues.proofs.Moving.{children_next, point_next}
 use Rattle.queues.proofs.QueuePoints.{IsNextDeed, at_own, child_comes, coming, coming_deed, coming_point, next_is, parent_comes, spawn_at}
 use Rattle.queues.proofs.Under.{under_from, under_rest}
-
--- a parent with one child more, which it spawned by one deed more
-abbrev pub one_more : ActiveFrame → ActiveFrame
-one_more f = with_deed (record f { children = f.children + 1 })
 
 -- no entry below a child makes the child's parent
 not_child : (parent rest : List ℕ) (k n : ℕ) → ((parent ++ k ∷ []) ++ rest) ++ n ∷ [] ≡ parent → ⊥
@@ -121,9 +117,9 @@ module _ (s : Script) (lawful : IsLawful s) (state : QueueState) (follows : Queu
   -- ---- the parent, once the child is spawned
 
   abbrev after_parent : QueueState
-  after_parent = changing state parent.number one_more
+  after_parent = changing state parent.number one_child_more
 
-  parent_task : IsTask s after_parent (one_more parent)
+  parent_task : IsTask s after_parent (one_child_more parent)
   parent_task =
       let task = follows.tasks parent.number parent live in
       let one : one_if (is_spawn (deed_at s at_time)) ≡ 1 = ap one_if (ap is_spawn next_spawn.does) in
@@ -138,7 +134,7 @@ module _ (s : Script) (lawful : IsLawful s) (state : QueueState) (follows : Queu
         made = task.made;
       }
 
-  one_change : KeepsTask one_more
+  one_change : KeepsTask one_child_more
   one_change = record { number = λ f. refl; parent = λ f. refl; path = λ f. refl; children = λ f. omega arith }
 
   later_point : at_time ≤ queue_point s parent.path (parent.deeds + 1)
@@ -146,7 +142,7 @@ module _ (s : Script) (lawful : IsLawful s) (state : QueueState) (follows : Queu
 
   parent_follows : QueuesFollow s after_parent
   parent_follows =
-      changed_follows s state follows after_parent parent.number one_more parent live one_change refl later_point parent_task
+      changed_follows s state follows after_parent parent.number one_child_more parent live one_change refl later_point parent_task
       (λ n other at apart. task_on s state after_parent other (λ queue. refl) (omega arith) (follows.tasks n other at))
       (λ queue maker at. inl at) follows.once
 
@@ -181,22 +177,22 @@ module _ (s : Script) (lawful : IsLawful s) (state : QueueState) (follows : Queu
     child_below : IsChildOf s after_parent new_child parent.number
     child_below =
         record {
-          above = changed parent.number one_more parent;
-          live = now_is s state follows after_parent parent.number one_more parent live one_change refl later_point parent.number parent live;
+          above = frame_after_change parent.number one_child_more parent;
+          live = now_is s state follows after_parent parent.number one_child_more parent live one_change refl later_point parent.number parent live;
           index = parent.children;
-          path = ap (λ q. q ++ parent.children ∷ []) (sym (path_kept s state follows after_parent parent.number one_more parent live one_change refl later_point parent (changed parent.number one_more parent) refl));
+          path = ap (λ q. q ++ parent.children ∷ []) (sym (path_kept s state follows after_parent parent.number one_child_more parent live one_change refl later_point parent (frame_after_change parent.number one_child_more parent) refl));
           spawned = more (nat_eq parent.number parent.number) (eq-eqb parent.number parent.number refl);
         }
       where
-        more : (b : Bool) → b ≡ true → parent.children < (cond b (one_more parent) parent).children
+        more : (b : Bool) → b ≡ true → parent.children < (cond b (one_child_more parent) parent).children
         more true is = omega arith
         more false is = absurd (cc)
 
     -- no other frame is this child
     child_apart : (n : ℕ) (other : ActiveFrame) → active after_parent n ≡ Some other → other.path ≡ new_child.path → ⊥
     child_apart n other at same =
-        let old = was s state follows after_parent parent.number one_more parent live one_change refl later_point n other at in
-        let path = path_kept s state follows after_parent parent.number one_more parent live one_change refl later_point old.old other old.becomes in
+        let old = was s state follows after_parent parent.number one_child_more parent live one_change refl later_point n other at in
+        let path = path_kept s state follows after_parent parent.number one_child_more parent live one_change refl later_point old.old other old.becomes in
         let less = child_spawned s lawful state follows 0 n parent.number old.old parent parent.children [] refl old.before live (sym path ∙ same) in
         omega (arith, less)
 
@@ -218,7 +214,7 @@ module _ (s : Script) (lawful : IsLawful s) (state : QueueState) (follows : Queu
         omega (arith, before, after))))
 
     free_after : active after_parent child_number ≡ None
-    free_after = active_new s state follows after_parent parent.number one_more parent live one_change refl later_point child_number ∙ ap (option_map (changed parent.number one_more)) free
+    free_after = active_new s state follows after_parent parent.number one_child_more parent live one_change refl later_point child_number ∙ ap (option_map (frame_after_change parent.number one_child_more)) free
 
     spawned : QueuesFollow s (after_spawn state parent child_number rights)
     spawned = grown_follows s after_parent parent_follows new_child child_number free_after parent.number refl child_below child_task child_apart child_reached

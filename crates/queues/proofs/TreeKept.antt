@@ -3,10 +3,11 @@ use Rattle.std.proofs.Common.{◌≡◌, ℕ, zero, suc, Bool, true, false, cond
 use Rattle.std.proofs.lemmas.Bool.{eqb-true, false≢true}
 use Rattle.std.proofs.lemmas.Option.{same_Some}
 use Rattle.std.specs.Prelude.{slice_get}
-use Rattle.swan_model.specs.QueueState.{ActiveFrame, LentEnd, QueueRight, QueueState, active, after_back, after_create, after_create_root, after_deed, after_finish, after_lend, after_spawn, after_take_rest, changed, child_of, holds_queue, IsUntouched, new_state, root_frame, with_deed, with_made}
+use Rattle.swan_model.specs.QueueState.{ActiveFrame, LentEnd, QueueRight, QueueState, active, after_back, after_create, after_create_root, after_deed, after_finish, after_lend, after_spawn, after_take_rest, frame_after_change, child_of, holds_queue, IsUntouched, new_state, root_frame, with_deed, with_made}
 use Rattle.queues.specs.Asks.{MayDo, MayJoin, MaySpawn}
 use Rattle.queues.specs.Tree.{IsTree, has_queue}
-use Rattle.queues.proofs.TreeCalls.{back_changed, back_now, child_newest, create_changed, deed_changed, lend_changed, lent_now, maker_now, one_more, rest_changed, root_changed, tree_between, with_one_more}
+use Rattle.queues.proofs.ActiveAfter.{one_child_more}
+use Rattle.queues.proofs.TreeCalls.{back_changed, back_now, child_newest, create_changed, deed_changed, lend_changed, lent_now, maker_now, rest_changed, root_changed, tree_between, with_one_more}
 use Rattle.queues.proofs.TreeAdded.{tree_added}
 use Rattle.queues.proofs.TreeChanged.{tree_changed}
 use Rattle.queues.proofs.TreeWithout.{tree_without}
@@ -45,29 +46,29 @@ tree_new = record {
 -- ---- the calls
 
 pub tree_root : (state : QueueState) → IsTree state → IsUntouched state → IsTree (after_create_root state)
-tree_root state tree untouched = tree_changed state (after_create_root state) (changed 0 (with_made (length state.makers))) 0 tree (root_changed state tree)
+tree_root state tree untouched = tree_changed state (after_create_root state) (frame_after_change 0 (with_made (length state.makers))) 0 tree (root_changed state tree)
 
 pub tree_create : (state : QueueState) (n : ℕ) → IsTree state → (act : MayDo state n) → IsTree (after_create state act.frame)
 tree_create state n tree act =
-    tree_changed state (after_create state act.frame) (changed act.frame.number (maker_now state)) act.frame.number tree
+    tree_changed state (after_create state act.frame) (frame_after_change act.frame.number (maker_now state)) act.frame.number tree
     (create_changed state tree n act.frame act.may)
 
 pub tree_deed : (state : QueueState) (n : ℕ) → IsTree state → MayDo state n → IsTree (after_deed state n)
-tree_deed state n tree act = tree_changed state (after_deed state n) (changed n with_deed) n tree (deed_changed state tree n act.frame act.may)
+tree_deed state n tree act = tree_changed state (after_deed state n) (frame_after_change n with_deed) n tree (deed_changed state tree n act.frame act.may)
 
 pub tree_spawn : (state : QueueState) (p child : ℕ) (gives : List QueueRight) → IsTree state → (may : MaySpawn state p child gives)
     → IsTree (after_spawn state may.act.frame child gives)
 tree_spawn state p child gives tree may =
     let frame = may.act.frame in
-    tree_added (with_one_more state frame) (one_more frame) (child_of frame child gives) frame.children
+    tree_added (with_one_more state frame) (one_child_more frame) (child_of frame child gives) frame.children
     (tree_between state tree p child gives frame may.act.may may.newest may.lawful) (child_newest state tree p child gives frame may.act.may may.newest may.lawful)
 
 pub tree_lend : (state : QueueState) (frame : ActiveFrame) (ends : List LentEnd) → IsTree state → IsTree (after_lend state frame ends)
 tree_lend state frame ends tree =
-    tree_changed state (after_lend state frame ends) (changed frame.number (lent_now frame ends)) frame.number tree (lend_changed state frame ends tree)
+    tree_changed state (after_lend state frame ends) (frame_after_change frame.number (lent_now frame ends)) frame.number tree (lend_changed state frame ends tree)
 
 pub tree_back : (state : QueueState) (n deeds : ℕ) → IsTree state → IsTree (after_back state n deeds)
-tree_back state n deeds tree = tree_changed state (after_back state n deeds) (changed n (back_now deeds)) n tree (back_changed state n deeds tree)
+tree_back state n deeds tree = tree_changed state (after_back state n deeds) (frame_after_change n (back_now deeds)) n tree (back_changed state n deeds tree)
 
 pub tree_finish : (state : QueueState) (n : ℕ) → IsTree state → MayJoin state n → IsTree (after_finish state n)
 tree_finish state n tree may = tree_without state n tree may.alone

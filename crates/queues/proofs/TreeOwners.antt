@@ -5,7 +5,7 @@ use Rattle.std.proofs.lemmas.Option.{same_Some}
 use Rattle.std.specs.List.{list_any}
 use Rattle.std.specs.Prelude.{◌==◌, slice_get}
 use Rattle.swan_model.specs.declared.value.Value.{Value}
-use Rattle.swan_model.specs.QueueState.{ActiveFrame, LentEnd, QueueMaker, QueueRight, QueueState, active, after_back, after_create, after_create_root, after_deed, after_finish, after_lend, after_spawn, after_take_rest, changed, IsUntouched, with_deed, with_made}
+use Rattle.swan_model.specs.QueueState.{ActiveFrame, LentEnd, QueueMaker, QueueRight, QueueState, active, after_back, after_create, after_create_root, after_deed, after_finish, after_lend, after_spawn, after_take_rest, frame_after_change, IsUntouched, with_deed, with_made}
 use Rattle.queues.specs.Asks.{MayDo, MayJoin, MaySpawn}
 use Rattle.queues.specs.Chunks.{Chunk, Chunks, after_close, after_hand_on, HasOwners, IsOwner, own, without_spent, with_item, without_first}
 use Rattle.queues.specs.Tree.{IsTree, has_queue, maker_path}
@@ -37,19 +37,19 @@ owners_changed before after each actor tree change queue chunks now there same o
 pub owners_kept_root : (state : QueueState) (q : ℕ) (chunks : Chunks) → IsTree state → q < length state.makers → HasOwners state q chunks
     → HasOwners (after_create_root state) q chunks
 owners_kept_root state q chunks tree known owners =
-    owners_changed state (after_create_root state) (changed 0 (with_made (length state.makers))) 0 tree (root_changed state tree) q chunks chunks (inl known) (λ index. refl) owners
+    owners_changed state (after_create_root state) (frame_after_change 0 (with_made (length state.makers))) 0 tree (root_changed state tree) q chunks chunks (inl known) (λ index. refl) owners
 
 pub owners_kept_create : (state : QueueState) (n q : ℕ) (chunks : Chunks) → IsTree state → (act : MayDo state n) → q < length state.makers → HasOwners state q chunks
     → HasOwners (after_create state act.frame) q chunks
 owners_kept_create state n q chunks tree act known owners =
-    owners_changed state (after_create state act.frame) (changed act.frame.number (maker_now state)) act.frame.number tree (create_changed state tree n act.frame act.may)
+    owners_changed state (after_create state act.frame) (frame_after_change act.frame.number (maker_now state)) act.frame.number tree (create_changed state tree n act.frame act.may)
     q chunks chunks (inl known) (λ index. refl) owners
 
 -- after a deed, with chunks of the same owners
 owners_deed : (state : QueueState) (n q : ℕ) (chunks now : Chunks) → IsTree state → MayDo state n → ((index : ℕ) → owner_at now index ≡ owner_at chunks index)
     → HasOwners state q chunks → HasOwners (after_deed state n) q now
 owners_deed state n q chunks now tree act same owners =
-    owners_changed state (after_deed state n) (changed n with_deed) n tree (deed_changed state tree n act.frame act.may) q chunks now
+    owners_changed state (after_deed state n) (frame_after_change n with_deed) n tree (deed_changed state tree n act.frame act.may) q chunks now
     (cases_lt q (length state.makers)) same owners
 
 pub owners_kept_deed : (state : QueueState) (n q : ℕ) (chunks : Chunks) → IsTree state → MayDo state n → HasOwners state q chunks → HasOwners (after_deed state n) q chunks
@@ -58,12 +58,12 @@ owners_kept_deed state n q chunks tree act owners = owners_deed state n q chunks
 pub owners_kept_lend : (state : QueueState) (frame : ActiveFrame) (ends : List LentEnd) (q : ℕ) (chunks : Chunks) → IsTree state → HasOwners state q chunks
     → HasOwners (after_lend state frame ends) q chunks
 owners_kept_lend state frame ends q chunks tree owners =
-    owners_changed state (after_lend state frame ends) (changed frame.number (lent_now frame ends)) frame.number tree (lend_changed state frame ends tree) q chunks chunks
+    owners_changed state (after_lend state frame ends) (frame_after_change frame.number (lent_now frame ends)) frame.number tree (lend_changed state frame ends tree) q chunks chunks
     (cases_lt q (length state.makers)) (λ index. refl) owners
 
 pub owners_kept_back : (state : QueueState) (n deeds q : ℕ) (chunks : Chunks) → IsTree state → HasOwners state q chunks → HasOwners (after_back state n deeds) q chunks
 owners_kept_back state n deeds q chunks tree owners =
-    owners_changed state (after_back state n deeds) (changed n (back_now deeds)) n tree (back_changed state n deeds tree) q chunks chunks
+    owners_changed state (after_back state n deeds) (frame_after_change n (back_now deeds)) n tree (back_changed state n deeds tree) q chunks chunks
     (cases_lt q (length state.makers)) (λ index. refl) owners
 
 pub owners_kept_rest : (state : QueueState) (queue q : ℕ) (chunks : Chunks) → IsTree state → HasOwners state q chunks → HasOwners (after_take_rest state queue) q chunks
@@ -121,9 +121,9 @@ pub owners_root : (state : QueueState) (first : List Value) → IsTree state →
 owners_root state first tree untouched =
     let root = untouched.root in
     let own_number = active_number state 0 root untouched.live in
-    let now : changed 0 (with_made (length state.makers)) root ≡ with_made (length state.makers) root =
+    let now : frame_after_change 0 (with_made (length state.makers)) root ≡ with_made (length state.makers) root =
     ap (λ b. cond b (with_made (length state.makers) root) root) (eq-eqb root.number 0 own_number) in
-    owners_new state (after_create_root state) (changed 0 (with_made (length state.makers))) 0 root first tree (root_changed state tree) untouched.live
+    owners_new state (after_create_root state) (frame_after_change 0 (with_made (length state.makers))) 0 root first tree (root_changed state tree) untouched.live
     (ap (λ (f : ActiveFrame). has_queue f (length state.makers)) now ∙ has_made root.rights (length state.makers))
 
 pub owners_create : (state : QueueState) (n : ℕ) (first : List Value) → IsTree state → (act : MayDo state n)
@@ -131,11 +131,11 @@ pub owners_create : (state : QueueState) (n : ℕ) (first : List Value) → IsTr
 owners_create state n first tree act =
     let frame = act.frame in
     let named = active_number state n frame act.may.live in
-    let now : changed frame.number (maker_now state) frame ≡ maker_now state frame =
+    let now : frame_after_change frame.number (maker_now state) frame ≡ maker_now state frame =
     ap (λ b. cond b (maker_now state frame) frame) (eq-eqb frame.number frame.number refl) in
     let has = ap (λ (f : ActiveFrame). has_queue f (length state.makers)) now ∙ has_made frame.rights (length state.makers) in
     subst (λ k. HasOwners (after_create state frame) (length state.makers) (own k first ∷ [])) named
-    (owners_new state (after_create state frame) (changed frame.number (maker_now state)) frame.number frame first tree (create_changed state tree n frame act.may)
+    (owners_new state (after_create state frame) (frame_after_change frame.number (maker_now state)) frame.number frame first tree (create_changed state tree n frame act.may)
     (own_live state tree n frame act.may) has)
 
 -- ---- a frame is spawned

@@ -3,12 +3,13 @@
 -- younger than its siblings, nor with an end, which only takes a frame away.
 use Rattle.std.proofs.Common.{◌≡◌, ℕ, ◌<◌, nat_eq, Some, List, length, sym, ap, subst, ◌∙◌, arith}
 use Rattle.std.proofs.lemmas.Bool.{cond_both, eqb-true}
-use Rattle.swan_model.specs.QueueState.{ActiveFrame, LentEnd, QueueRight, QueueState, active, after_back, after_create, after_create_root, after_deed, after_finish, after_lend, after_spawn, after_take_rest, changed, child_of, HasTurn, new_state, with_deed, with_made}
+use Rattle.swan_model.specs.QueueState.{ActiveFrame, LentEnd, QueueRight, QueueState, active, after_back, after_create, after_create_root, after_deed, after_finish, after_lend, after_spawn, after_take_rest, frame_after_change, child_of, HasTurn, new_state, with_deed, with_made}
 use Rattle.queues.specs.Asks.{MayDo, MayJoin, MaySpawn}
 use Rattle.queues.specs.Tree.{SpawnersHaveTurns, IsTree}
+use Rattle.queues.proofs.ActiveAfter.{one_child_more}
 use Rattle.queues.proofs.Frames.{active_number}
 use Rattle.queues.proofs.TreeAdded.{for_both, IsNewest, older_before as older_than_both, with_frame}
-use Rattle.queues.proofs.TreeCalls.{back_changed, back_now, child_newest, create_changed, deed_changed, lend_changed, lent_now, maker_now, one_more, own_live, parent_changed, rest_changed, root_changed, tree_between, with_one_more}
+use Rattle.queues.proofs.TreeCalls.{back_changed, back_now, child_newest, create_changed, deed_changed, lend_changed, lent_now, maker_now, own_live, parent_changed, rest_changed, root_changed, tree_between, with_one_more}
 use Rattle.queues.proofs.TreeChanged.{for_each, EachIsChanged, older_before}
 use Rattle.queues.proofs.TreeKept.{only_root}
 use Rattle.queues.proofs.TreeWithout.{older_left, was_there}
@@ -29,7 +30,7 @@ spawners_changed before after each actor tree change turned = record {
 
 -- It is enough to show it of the one that changes.
 turned_one : (state : QueueState) → SpawnersHaveTurns state → (n : ℕ) (change : ActiveFrame → ActiveFrame)
-    → ((frame : ActiveFrame) → active state n ≡ Some frame → 0 < (change frame).children → HasTurn state frame) → AreTurned state (changed n change)
+    → ((frame : ActiveFrame) → active state n ≡ Some frame → 0 < (change frame).children → HasTurn state frame) → AreTurned state (frame_after_change n change)
 turned_one state spawners n change turned number frame live =
     cond_both (nat_eq frame.number n) (change frame) frame (λ now. 0 < now.children → HasTurn state frame)
     (λ is. turned frame (ap (active state) (sym (eqb-true frame.number n is) ∙ active_number state number frame live) ∙ live))
@@ -65,18 +66,18 @@ spawners_new = record {
 pub spawners_root : (state : QueueState) → IsTree state → SpawnersHaveTurns state → SpawnersHaveTurns (after_create_root state)
 spawners_root state tree spawners =
     let change = with_made (length state.makers) in
-    spawners_changed state (after_create_root state) (changed 0 change) 0 tree (root_changed state tree)
+    spawners_changed state (after_create_root state) (frame_after_change 0 change) 0 tree (root_changed state tree)
     (turned_one state spawners 0 change (spawners.turns 0))
 
 pub spawners_create : (state : QueueState) (n : ℕ) → IsTree state → (act : MayDo state n) → SpawnersHaveTurns state → SpawnersHaveTurns (after_create state act.frame)
 spawners_create state n tree act spawners =
     let frame = act.frame in
-    spawners_changed state (after_create state frame) (changed frame.number (maker_now state)) frame.number tree (create_changed state tree n frame act.may)
+    spawners_changed state (after_create state frame) (frame_after_change frame.number (maker_now state)) frame.number tree (create_changed state tree n frame act.may)
     (turned_one state spawners frame.number (maker_now state) (spawners.turns frame.number))
 
 pub spawners_deed : (state : QueueState) (n : ℕ) → IsTree state → MayDo state n → SpawnersHaveTurns state → SpawnersHaveTurns (after_deed state n)
 spawners_deed state n tree act spawners =
-    spawners_changed state (after_deed state n) (changed n with_deed) n tree (deed_changed state tree n act.frame act.may)
+    spawners_changed state (after_deed state n) (frame_after_change n with_deed) n tree (deed_changed state tree n act.frame act.may)
     (turned_one state spawners n with_deed (spawners.turns n))
 
 -- Who spawns has its turn.
@@ -84,21 +85,21 @@ pub spawners_spawn : (state : QueueState) (p child : ℕ) (gives : List QueueRig
     → HasTurn state may.act.frame → SpawnersHaveTurns (after_spawn state may.act.frame child gives)
 spawners_spawn state p child gives tree may spawners turn =
     let frame = may.act.frame in
-    let between = spawners_changed state (with_one_more state frame) (changed frame.number one_more) frame.number tree
+    let between = spawners_changed state (with_one_more state frame) (frame_after_change frame.number one_child_more) frame.number tree
     (parent_changed state tree p child gives frame may.act.may may.newest may.lawful)
-    (turned_one state spawners frame.number one_more (λ f there some. turn_of state frame.number frame (own_live state tree p frame may.act.may) turn f there)) in
-    spawners_added (with_one_more state frame) (one_more frame) (child_of frame child gives) frame.children
+    (turned_one state spawners frame.number one_child_more (λ f there some. turn_of state frame.number frame (own_live state tree p frame may.act.may) turn f there)) in
+    spawners_added (with_one_more state frame) (one_child_more frame) (child_of frame child gives) frame.children
     (tree_between state tree p child gives frame may.act.may may.newest may.lawful) (child_newest state tree p child gives frame may.act.may may.newest may.lawful) between
 
 pub spawners_lend : (state : QueueState) (frame : ActiveFrame) (ends : List LentEnd) → IsTree state → SpawnersHaveTurns state → SpawnersHaveTurns (after_lend state frame ends)
 spawners_lend state frame ends tree spawners =
-    spawners_changed state (after_lend state frame ends) (changed frame.number (lent_now frame ends)) frame.number tree (lend_changed state frame ends tree)
+    spawners_changed state (after_lend state frame ends) (frame_after_change frame.number (lent_now frame ends)) frame.number tree (lend_changed state frame ends tree)
     (turned_one state spawners frame.number (lent_now frame ends) (spawners.turns frame.number))
 
 -- What a frame did by its ends needs no turn of it.
 pub spawners_back : (state : QueueState) (n deeds : ℕ) → IsTree state → SpawnersHaveTurns state → SpawnersHaveTurns (after_back state n deeds)
 spawners_back state n deeds tree spawners =
-    spawners_changed state (after_back state n deeds) (changed n (back_now deeds)) n tree (back_changed state n deeds tree)
+    spawners_changed state (after_back state n deeds) (frame_after_change n (back_now deeds)) n tree (back_changed state n deeds tree)
     (turned_one state spawners n (back_now deeds) (spawners.turns n))
 
 pub spawners_finish : (state : QueueState) (n : ℕ) → IsTree state → MayJoin state n → SpawnersHaveTurns state → SpawnersHaveTurns (after_finish state n)

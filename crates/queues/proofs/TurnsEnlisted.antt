@@ -1,7 +1,6 @@
 -- The turns of frames with one entry more, or another one for a number.
-use Rattle.std.proofs.Common.{◌≡◌, ◌≢◌, ℕ, ◌≤◌, Bool, true, false, cond, Option, None, Some, [], ◌∷◌, refl, sym, ap, ◌∙◌, inl, inr, arith}
-use Rattle.std.proofs.lemmas.Bool.{cases_Bool, cases_eq, false≢true, and_from}
-use Rattle.std.proofs.lemmas.Bool.Decides.{nat_tests}
+use Rattle.std.proofs.Common.{◌≡◌, ◌≢◌, ℕ, ◌≤◌, Bool, true, false, cond, Option, None, Some, [], ◌∷◌, refl, sym, ap, ◌∙◌, inl, inr}
+use Rattle.std.proofs.lemmas.Bool.{cases_Bool, cases_eq, false≢true, and_from, le-leb}
 use Rattle.std.specs.List.{list_all}
 use Rattle.std.specs.Map.{set_value}
 use Rattle.std.specs.BTreeMap.{is_at, insert_entry}
@@ -55,15 +54,12 @@ apart_enlisted turns parent child holding apart = by (frame_at turns child) refl
   by None fresh = apart_inserted turns child (record { parent = parent; holdings = holding ∷ []; lent = false }) fresh apart
   by (Some frame) found = apart_set turns child _ apart
 
-no_more : (a b : ℕ) → a ≤ b → nat_le a b ≡ true
-no_more a b less = grind (arith, nat_tests)
-
 -- what is found of no newer number tells that there is none
 pub up_to : (es : Frames) (child : ℕ) → AreApart es → ((m : ℕ) (turn : TurnFrame) → frame_at es m ≡ Some turn → m ≤ child) → AreUpTo es child
 up_to [] child apart all = refl
 up_to (e ∷ es) child (first, apart) all =
     let here : frame_at (e ∷ es) e.0 ≡ Some e.1 = ap (λ b. cond b (Some e.1) (frame_at es e.0)) (tied e.0 e.0 refl) in
-    and_from (nat_le e.0 child) (list_all (λ f. nat_le f.0 child) es) (no_more e.0 child (all e.0 e.1 here))
+    and_from (nat_le e.0 child) (list_all (λ f. nat_le f.0 child) es) (le-leb e.0 child (all e.0 e.1 here))
     (up_to es child apart (λ m turn at. all m turn (elim (cases_eq m e.0) [
       | inl same ↦ let never : None ≡ Some turn = sym first ∙ ap (λ k. frame_at es k) (sym same) ∙ at in absurd (cc)
       | inr other ↦ ap (λ b. cond b (Some e.1) (frame_at es m)) (untied m e.0 (λ s. other (sym s))) ∙ at

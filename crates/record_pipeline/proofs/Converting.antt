@@ -20,6 +20,7 @@ use Rattle.swan_model.specs.SerialState.{Holding}
 use Rattle.swan_model.specs.Texts.{item_text, line, out_bytes}
 use Rattle.swan_model.specs.Values.{bytes_of}
 use Rattle.line_blocks.specs.declared.queue_reader.QueueReader.TheVariants as reader
+use Rattle.line_blocks.specs.declared.text_roots.TheConstants.{TEXT_MOST}
 use Rattle.line_blocks.specs.LineBlocks.{Lines, later}
 use Rattle.line_blocks.specs.TextRoots.{text_names}
 use Rattle.line_blocks.proofs.Reading.{hands_block, holds_line, lines_after}
@@ -159,7 +160,7 @@ module _ (body : RecordBody) where
       (runs_blocks task xs first [] (fuel - 1) 0 (shape [] (all_do task [] children)) [] (omega (arith, paid, costs_are xs))
       (λ left same at told is. finishes ghosts (omega (arith, same, paid, costs_are xs)) (is (left - 1)))))
 
-pub is_converted : (text : List ℕ) → length text ≤ 67108864 → IsConverted text (outcome ghosts (record_plan text))
+pub is_converted : (text : List ℕ) → length text ≤ TEXT_MOST → IsConverted text (outcome ghosts (record_plan text))
 is_converted text few =
     let plan = record_plan text in
     let ls = lines text in

@@ -3,7 +3,8 @@ use Rattle.std.proofs.Common.{◌≡◌, ℕ, suc, ◌+◌, ◌≤◌, ◌<◌, 
 use Rattle.std.proofs.lemmas.List.{append-nil}
 use Rattle.std.proofs.lemmas.List.Sums.{length-filter, prefix_len-le-length}
 use Rattle.std.specs.List.{count_by, filter, flat_map, prefix_len}
-use Rattle.line_blocks.specs.Pieces.{before_pieces, pieces}
+use Rattle.swan_model.specs.Lines.{in_front}
+use Rattle.line_blocks.specs.Pieces.{pieces}
 use Rattle.record_pipeline.specs.Netstrings.{fields, netstring, netstrings}
 
 abbrev pub is_tab : ℕ → Bool
@@ -14,7 +15,7 @@ first_len line = prefix_len (λ byte. not (is_tab byte)) line
 
 -- ---- how many there are
 
-longer : (byte : ℕ) (ps : List (List ℕ)) → 0 < length ps → length (before_pieces byte ps) ≡ length ps
+longer : (byte : ℕ) (ps : List (List ℕ)) → 0 < length ps → length (in_front byte ps) ≡ length ps
 longer byte [] some = absurd (omega arith)
 longer byte (piece ∷ ps) some = refl
 
@@ -22,7 +23,7 @@ count_fields : (line : List ℕ) → length (pieces is_tab line) ≡ length (fil
 count_fields [] = refl
 count_fields (byte ∷ line) = by_case (is_tab byte) (count_fields line)
   where
-    by_case : (b : Bool) → length (pieces is_tab line) ≡ length (filter is_tab line) + 1 → length (cond b ([] ∷ pieces is_tab line) (before_pieces byte (pieces is_tab line))) ≡ length (cond b (byte ∷ filter is_tab line) (filter is_tab line)) + 1
+    by_case : (b : Bool) → length (pieces is_tab line) ≡ length (filter is_tab line) + 1 → length (cond b ([] ∷ pieces is_tab line) (in_front byte (pieces is_tab line))) ≡ length (cond b (byte ∷ filter is_tab line) (filter is_tab line)) + 1
     by_case true rest = omega arith
     by_case false rest = longer byte (pieces is_tab line) (omega arith) ∙ rest
 
@@ -42,7 +43,7 @@ last_field (byte ∷ line) all = by_case (is_tab byte) refl (last_field line)
         absurd (omega arith)
     by_case false is rest =
         let more : 1 + first_len line ≡ suc (length line) = sym (ap (λ c. cond (not c) (1 + first_len line) 0) is) ∙ all in
-        ap (λ c. cond c ([] ∷ pieces is_tab line) (before_pieces byte (pieces is_tab line))) is ∙ ap (before_pieces byte) (rest (omega arith))
+        ap (λ c. cond c ([] ∷ pieces is_tab line) (in_front byte (pieces is_tab line))) is ∙ ap (in_front byte) (rest (omega arith))
 
 -- a field with a TAB behind it
 next_field : (line : List ℕ) → first_len line < length line → fields line ≡ take (first_len line) line ∷ fields (drop (suc (first_len line)) line)
@@ -53,14 +54,14 @@ next_field (byte ∷ line) some = by_case (is_tab byte) refl (next_field line)
         → fields (byte ∷ line) ≡ take (first_len (byte ∷ line)) (byte ∷ line) ∷ fields (drop (suc (first_len (byte ∷ line))) (byte ∷ line))
     by_case true is rest =
         let here : first_len (byte ∷ line) ≡ 0 = ap (λ c. cond (not c) (1 + first_len line) 0) is in
-        ap (λ c. cond c ([] ∷ pieces is_tab line) (before_pieces byte (pieces is_tab line))) is
+        ap (λ c. cond c ([] ∷ pieces is_tab line) (in_front byte (pieces is_tab line))) is
         ∙ sym (ap (λ n. take n (byte ∷ line) ∷ fields (drop (suc n) (byte ∷ line))) here)
     by_case false is rest =
         let n = first_len line in
         let here : first_len (byte ∷ line) ≡ suc n = ap (λ c. cond (not c) (1 + n) 0) is ∙ (let e : 1 + n ≡ suc n = omega arith in e) in
         let behind : n < length line = omega (arith, here, some) in
-        ap (λ c. cond c ([] ∷ pieces is_tab line) (before_pieces byte (pieces is_tab line))) is
-        ∙ ap (before_pieces byte) (rest behind)
+        ap (λ c. cond c ([] ∷ pieces is_tab line) (in_front byte (pieces is_tab line))) is
+        ∙ ap (in_front byte) (rest behind)
         ∙ sym (ap (λ m. take m (byte ∷ line) ∷ fields (drop (suc m) (byte ∷ line))) here)
 
 -- ---- their netstrings

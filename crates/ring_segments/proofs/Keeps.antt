@@ -1,6 +1,7 @@
 -- Each step on a ring's words keeps the ring.
 use Rattle.std.proofs.Common.{◌≡◌, ◌≢◌, ℕ, zero, suc, ◌+◌, ◌%◌, ◌<◌, ◌≤◌, true, false, true≢false, List, [], ◌∷◌, ◌++◌, length, set, get_or, sym, refl, ap, ◌∙◌, subst, ⊎_elim, arith, length-set, mod-lt, ◌*◌, map, replicate, max}
 use Rattle.std.proofs.Math.Nat.{add-mul-mod_self_right}
+use Rattle.std.proofs.lemmas.Option.{same_Some}
 use Rattle.std.specs.Prelude.{Option, Some, None}
 use Rattle.std.specs.Option.{ForSome}
 use mathlib.Core.Logic.{dite}
@@ -11,7 +12,7 @@ use Rattle.atomic_table.specs.Table.{State, Me, Act, step, keeps, takes, gives, 
 use Rattle.atomic_table.proofs.Lists.{at_set, at_snoc, set_here, set_else, one_turn}
 use Rattle.ring_segments.specs.declared.rule.SeatView.{SeatView}
 use Rattle.ring_segments.specs.Ends.{first_told}
-use Rattle.ring_segments.specs.Words.{words_of, idle_view, opening_view, producer_of, consumer_of, note_view, sealed_of, last_note_view, spent, learnt, looked, missed, RingState, SeatKnows, AreCounts, AreSlots, IsRing, saw_head, put, took, Bounds, saw_tail, heard, reached}
+use Rattle.ring_segments.specs.Words.{words_of, idle_view, opening_view, producer_of, consumer_of, note_view, sealed_of, last_note_view, spent, view_after_learn, view_after_look, view_after_miss, RingState, SeatKnows, AreCounts, AreSlots, IsRing, saw_head, put, took, Bounds, saw_tail, heard, reached}
 
 module _ {V : Type 0} where
   at_end : (l : List V) (a b : V) (j : ℕ) → get_elem? l j ≢ some b → get_elem? (l ++ a ∷ []) j ≡ some b → j ≡ length l
@@ -23,13 +24,6 @@ module _ {V : Type 0} where
   all_set : (F : ℕ → V → Type 0) (views : List V) (id : ℕ) (w : V) → F id w → ((j : ℕ) (u : V) → j ≢ id → get_elem? views j ≡ some u → F j u) → (j : ℕ) (u : V) → get_elem? (set views id w) j ≡ some u → F j u
   all_set F views id w mine others j u e = ⊎_elim (λ (x : (j ≡ id) × (w ≡ u)). subst (λ (y : ℕ × V). F y.0 y.1) (λ i. (sym x.0 i, x.1 i)) mine)
       (λ (x : (j ≢ id) × (get_elem? views j ≡ some u)). others j u x.0 x.1) (at_set views id j w u e)
-
-abbrev or_else : {O : Type 0} → O → Option O → O
-or_else d (Some x) = x
-or_else d None = d
-
-some_is : {O : Type 0} {a b : O} → Some a ≡ Some b → a ≡ b
-some_is {O} {a} {b} e = ap (or_else a) e
 
 module _ {E O : Type 0} (index : E → ℕ) (of : E → O) (HasRoom : O → ℕ → Type 0) (owner : O) (size : ℕ) where
   abbrev Rule : State (Option E) (SeatView O) → Type 0
@@ -156,7 +150,7 @@ module _ {E O : Type 0} (index : E → ℕ) (of : E → O) (HasRoom : O → ℕ 
       → index e ≡ v.pushed → v.owner ≡ Some (of e) → HasRoom (of e) new → new ≡ v.pushed + 1 → Allows Rule slots id me 8 (λ _. new) (λ _. put (step slots 8 new 0 none) me new)
   puts_in slots id me v e c new is may busy unsealed at_index its inside next = subst (λ (m : Me (Option E) (SeatView O)). Allows Rule slots id m 8 (λ _. new) (λ _. put (step slots 8 new 0 none) m new)) (sym is)
       (allows slots id (v, (v.pushed % slots, Some e) ∷ c) 8 (λ _. new) (λ _. put (step slots 8 new 0 none) (v, (v.pushed % slots, Some e) ∷ c) new) (λ p hs vs g len at. let all = g.each id v at in let mine = all.0 may in let same = mine.1 in
-      let order = g.counts.order in let room = g.counts.puts (sym mine.2 ∙ busy) in let still : p.sealed ≡ false = sym mine.3 ∙ unsealed in let owns : of e ≡ owner = some_is (sym its ∙ mine.4) in
+      let order = g.counts.order in let room = g.counts.puts (sym mine.2 ∙ busy) in let still : p.sealed ≡ false = sym mine.3 ∙ unsealed in let owns : of e ≡ owner = same_Some (of e) owner (sym its ∙ mine.4) in
       let w : SeatView O = record v { putting = false; pushed = v.pushed + 1 } in let q : RingState = record p { putting = false; tail = new } in
       let k : v.pushed % slots ≡ p.tail % size = ap (λ (n : ℕ × ℕ). n.0 % n.1) (λ i. (same i, len i)) in (
         w,
@@ -178,17 +172,17 @@ module _ {E O : Type 0} (index : E → ℕ) (of : E → O) (HasRoom : O → ℕ 
   -- what a consumer finds at the tail
   bounds : (p : RingState) (hs : List (Maybe (Option E))) (vs : List (SeatView O)) (id : ℕ) (v : SeatView O) → Here p hs vs → get_elem? vs id ≡ some v → v.pops ≡ true → Bounds HasRoom v p.tail
   bounds p hs vs id v g at may = let all = g.each id v at in let mine = all.1 may in let same = mine.1 in let order = g.counts.order in
-      (omega arith, all.2, (λ n e. (all.3 n e).0), λ o e. subst (λ (x : O). HasRoom x p.tail) (some_is (sym mine.3 ∙ e)) g.counts.inside)
+      (omega arith, all.2, (λ n e. (all.3 n e).0), λ o e. subst (λ (x : O). HasRoom x p.tail) (same_Some owner o (sym mine.3 ∙ e)) g.counts.inside)
 
   -- and what its view is then
-  knows_looked : (p : RingState) (id : ℕ) (v : SeatView O) → SeatKnows owner p id v → SeatKnows owner p id (looked v p.tail)
+  knows_looked : (p : RingState) (id : ℕ) (v : SeatView O) → SeatKnows owner p id v → SeatKnows owner p id (view_after_look v p.tail)
   knows_looked p id v f = (f.0, f.1, omega arith, f.3)
 
   pub looks_tail : (slots id : ℕ) (v : SeatView O) (c : List (ℕ × Option E)) → v.pops ≡ true → Allows Rule slots id (v, c) 8 (λ n. n) (saw_tail HasRoom (step slots 8 0 0 none) (v, c))
   looks_tail slots id v c may = allows slots id (v, c) 8 (λ n. n) (saw_tail HasRoom (step slots 8 0 0 none) (v, c)) (λ p hs vs g len at. let all = g.each id v at in
       dite (dec_le p.tail v.popped)
-      (λ empty. let w : SeatView O = missed v p.tail in (w, keeps, tt, only_view p hs vs id w (words_of p.head p.tail) refl g (knows_looked p id v all), (bounds p hs vs id v g at may, (λ l. absurd (omega arith)), λ _. refl)))
-      (λ some_item. let w : SeatView O = looked v p.tail in (w, keeps, tt, only_view p hs vs id w (words_of p.head p.tail) refl g (knows_looked p id v all), (bounds p hs vs id v g at may, (λ _. refl), λ l. absurd (omega arith)))))
+      (λ empty. let w : SeatView O = view_after_miss v p.tail in (w, keeps, tt, only_view p hs vs id w (words_of p.head p.tail) refl g (knows_looked p id v all), (bounds p hs vs id v g at may, (λ l. absurd (omega arith)), λ _. refl)))
+      (λ some_item. let w : SeatView O = view_after_look v p.tail in (w, keeps, tt, only_view p hs vs id w (words_of p.head p.tail) refl g (knows_looked p id v all), (bounds p hs vs id v g at may, (λ _. refl), λ l. absurd (omega arith)))))
 
   pub hears : (slots id : ℕ) (v : SeatView O) (c : List (ℕ × Option E)) → v.pops ≡ true → Allows Rule slots id (v, c) 8 (λ n. n) (heard HasRoom (step slots 8 0 0 none) (v, c))
   hears slots id v c may = allows slots id (v, c) 8 (λ n. n) (heard HasRoom (step slots 8 0 0 none) (v, c)) (λ p hs vs g len at. let w : SeatView O = record v { looks = v.looks + 1 } in
@@ -198,8 +192,8 @@ module _ {E O : Type 0} (index : E → ℕ) (of : E → O) (HasRoom : O → ℕ 
   reaches slots id v c may idle = allows slots id (v, c) 8 (λ n. n) (reached HasRoom index of (step slots 8 0 0 none) (v, c)) (λ p hs vs g len at. let all = g.each id v at in let mine = all.1 may in let same = mine.1 in
       let order = g.counts.order in let room = g.counts.room in let rested : p.taking ≡ false = sym mine.2 ∙ idle in
       dite (dec_le p.tail v.popped)
-      (λ empty. let w : SeatView O = missed v p.tail in (w, keeps, tt, only_view p hs vs id w (words_of p.head p.tail) refl g (knows_looked p id v all), (bounds p hs vs id v g at may, (λ l. absurd (omega arith)), λ _. refl)))
-      (λ some_item. let w : SeatView O = record (looked v p.tail) { taking = true } in let x = g.slots.full p.head (omega arith) (omega arith) (λ t. true≢false (sym t.0 ∙ rested)) in
+      (λ empty. let w : SeatView O = view_after_miss v p.tail in (w, keeps, tt, only_view p hs vs id w (words_of p.head p.tail) refl g (knows_looked p id v all), (bounds p hs vs id v g at may, (λ l. absurd (omega arith)), λ _. refl)))
+      (λ some_item. let w : SeatView O = record (view_after_look v p.tail) { taking = true } in let x = g.slots.full p.head (omega arith) (omega arith) (λ t. true≢false (sym t.0 ∙ rested)) in
       let k : v.popped % slots ≡ p.head % size = ap (λ (n : ℕ × ℕ). n.0 % n.1) (λ i. (same i, len i)) in let q : RingState = record p { taking = true } in (
         w,
         takes (v.popped % slots) (Some x.0),
@@ -281,7 +275,7 @@ module _ {E O : Type 0} (index : E → ℕ) (of : E → O) (HasRoom : O → ℕ 
         each = λ j u e. ⊎_elim
             (all_set (SeatKnows owner q) s.views id l ((λ m. let h = mine.0 m in (h.0, h.1, h.2, refl, h.4)), mine.1, mine.2, λ n e. ((mine.3 n e).0, refl))
             (λ j u ne e. let h = r.each j u e in ((λ m. absurd (ne ((h.0 m).0 ∙ sym (mine.0 may).0))), h.1, h.2, λ n e. ((h.3 n e).0, refl))) j u)
-            (λ (is : o ≡ u). subst (SeatKnows owner q j) is (knows_idle q j v.pushed (Some v.pushed) (omega arith) (λ m e. (sym (some_is e) ∙ same, refl)))) (at_snoc (set s.views id l) o u j e);
+            (λ (is : o ≡ u). subst (SeatKnows owner q j) is (knows_idle q j v.pushed (Some v.pushed) (omega arith) (λ m e. (sym (same_Some v.pushed m e) ∙ same, refl)))) (at_snoc (set s.views id l) o u j e);
       }
 
   least : (a b c : ℕ) → a ≤ c → b ≤ c → max a b ≤ c
@@ -291,8 +285,8 @@ module _ {E O : Type 0} (index : E → ℕ) (of : E → O) (HasRoom : O → ℕ 
   both_told P (Some n) b f g = f
   both_told P None b f g = g
 
-  pub learns : (id : ℕ) (v : SeatView O) (other : ℕ) (u : SeatView O) → Joins Rule id v other u (learnt v u) spent
-  learns id v other u s r at apart at' = let w : SeatView O = learnt v u in let mine = r.each id v at in
+  pub learns : (id : ℕ) (v : SeatView O) (other : ℕ) (u : SeatView O) → Joins Rule id v other u (view_after_learn v u) spent
+  learns id v other u s r at apart at' = let w : SeatView O = view_after_learn v u in let mine = r.each id v at in
       let was : get_elem? s.views other ≡ some u = ⊎_elim (λ x. absurd (apart x.0)) (λ x. x.1) (at_set s.views id other w u at') in let theirs = r.each other u was in
       let now = all_set (SeatKnows owner r.at) s.views id w (mine.0, mine.1, least v.known u.known r.at.tail mine.2 theirs.2, both_told (λ m. (m ≡ r.at.tail) × (r.at.sealed ≡ true)) u.all v.all theirs.3 mine.3) (λ j y _ e. r.each j y e) in record {
         at = r.at;

@@ -1,7 +1,8 @@
 -- The ends of a segment, links and notes, as contracts see them.
-use Rattle.std.specs.Prelude.{◌≡◌, ℕ, ◌+◌, ◌-◌, ◌^◌, ◌≤◌, ◌⊎◌, Option, Some, None, max}
+use Rattle.std.specs.Prelude.{◌≡◌, ℕ, ◌+◌, ◌≤◌, ◌⊎◌, Option, Some, None, max}
 use Rattle.std.specs.Option.{ForSome}
 use Rattle.atomic_table.specs.Seated.{TableId}
+use Rattle.swan_model.specs.QueueState.{COUNT_MOST}
 use Rattle.ring_segments.specs.Tags.{SegmentId}
 
 -- what the first tells, or else the second
@@ -10,7 +11,7 @@ first_told (Some n) other = Some n
 first_told None other = other
 
 -- what a segment shows at each of its ends
-pub record Shown : Type 0 where
+pub record SegmentShown : Type 0 where
   pub id : SegmentId
   -- the caller's own number for it
   pub key : ℕ
@@ -18,7 +19,7 @@ pub record Shown : Type 0 where
   pub table : TableId
 
 pub record ProducerState : Type 0 where
-  pub of : Shown
+  pub of : SegmentShown
   -- how many items it has pushed
   pub pushed : ℕ
   -- how often it has looked how much was popped, and how often the ring was full then
@@ -26,7 +27,7 @@ pub record ProducerState : Type 0 where
   pub fulls : ℕ
 
 pub record ConsumerState : Type 0 where
-  pub of : Shown
+  pub of : SegmentShown
   -- how many items it has popped
   pub popped : ℕ
   -- so many, at least, it knows to have been pushed
@@ -38,7 +39,7 @@ pub record ConsumerState : Type 0 where
   pub empties : ℕ
 
 pub record LinkState : Type 0 where
-  pub of : Shown
+  pub of : SegmentShown
   -- how many items its spent producer has pushed
   pub pushed : ℕ
   -- the consumer of the next segment
@@ -51,10 +52,10 @@ pub record NoteState : Type 0 where
   -- how many it ever pushes, where the note came from a link, so that no push follows
   pub all : Option ℕ
 
-abbrev pub new_producer : Shown → ProducerState
+abbrev pub new_producer : SegmentShown → ProducerState
 new_producer of = record { of = of; pushed = 0; looks = 0; fulls = 0 }
 
-abbrev pub new_consumer : Shown → ConsumerState
+abbrev pub new_consumer : SegmentShown → ConsumerState
 new_consumer of = record { of = of; popped = 0; known = 0; all = None; looks = 0; empties = 0 }
 
 -- a push after which there is one item more
@@ -64,7 +65,7 @@ after_push old = record old { pushed = old.pushed + 1; looks = old.looks + 1 }
 -- A push was refused: it looked once, and the ring was full then; or its count has no next number.
 abbrev pub WasRefused : ProducerState → ProducerState → Type 0
 WasRefused old new =
-    (new ≡ record old { looks = old.looks + 1; fulls = old.fulls + 1 }) ⊎ ((old.pushed ≡ 2 ^ 64 - 1) × (new ≡ old))
+    (new ≡ record old { looks = old.looks + 1; fulls = old.fulls + 1 }) ⊎ ((old.pushed ≡ COUNT_MOST) × (new ≡ old))
 
 -- a look that found so many items pushed
 abbrev pub after_look : ConsumerState → (pushed : ℕ) → ConsumerState
@@ -80,10 +81,10 @@ abbrev pub after_pop : ConsumerState → (pushed : ℕ) → ConsumerState
 after_pop old pushed = record (after_look old pushed) { popped = old.popped + 1 }
 
 -- the note that a producer, and that a spent producer, gives
-abbrev pub note_of : Shown → ℕ → NoteState
+abbrev pub note_of : SegmentShown → ℕ → NoteState
 note_of of pushed = record { table = of.table; keeps = pushed; all = None }
 
-abbrev pub last_note_of : Shown → ℕ → NoteState
+abbrev pub last_note_of : SegmentShown → ℕ → NoteState
 last_note_of of pushed = record { table = of.table; keeps = pushed; all = Some pushed }
 
 -- what is known after a note

@@ -3,7 +3,7 @@ use Rattle.std.specs.Prelude.{◌≡◌, ℕ, ◌<◌, true, false, [], Option, 
 use Rattle.atomic_table.specs.declared.shared.Seat.{Seat}
 use Rattle.ring_segments.specs.declared.rule.SeatView.{SeatView}
 use Rattle.ring_segments.specs.declared.ring.Ring.{Ring}
-use Rattle.ring_segments.specs.Ends.{Shown, ProducerState, ConsumerState, NoteState}
+use Rattle.ring_segments.specs.Ends.{SegmentShown, ProducerState, ConsumerState, NoteState}
 use Rattle.ring_segments.specs.Entries.{IndexedItem}
 use Rattle.ring_segments.specs.Seating.{id_of}
 use Rattle.ring_segments.specs.Tags.{SegmentId}
@@ -39,7 +39,7 @@ pub record IsPopping (ring : Ring) (seat : RingSeat) (popped : ℕ) : Type 0 whe
   pub count : seat.me.0.popped ≡ popped
 
 -- what an end of the segment shows of it
-abbrev pub shown_of : Ring → Shown
+abbrev pub shown_of : Ring → SegmentShown
 shown_of ring = record { id = id_of ring.about; key = ring.about.key; table = ring.table.shared.table_id }
 
 abbrev pub producer_state : Ring → SeatView SegmentId → ProducerState

@@ -57,15 +57,15 @@ module _ {O : Type 0} where
   abbrev pub spent : SeatView O
   spent = idle_view 0 None
 
-  abbrev pub learnt : SeatView O → SeatView O → SeatView O
-  learnt v w = record v { known = max v.known w.known; all = first_told w.all v.all }
+  abbrev pub view_after_learn : SeatView O → SeatView O → SeatView O
+  view_after_learn v w = record v { known = max v.known w.known; all = first_told w.all v.all }
 
   -- a look at the tail, which counts
-  abbrev pub looked : SeatView O → ℕ → SeatView O
-  looked v found = record v { known = found; looks = v.looks + 1 }
+  abbrev pub view_after_look : SeatView O → ℕ → SeatView O
+  view_after_look v found = record v { known = found; looks = v.looks + 1 }
 
-  abbrev pub missed : SeatView O → ℕ → SeatView O
-  missed v found = record (looked v found) { misses = v.misses + 1 }
+  abbrev pub view_after_miss : SeatView O → ℕ → SeatView O
+  view_after_miss v found = record (view_after_look v found) { misses = v.misses + 1 }
 
 -- ---- the rule
 
@@ -144,8 +144,8 @@ module _ {O : Type 0} (HasRoom : O → ℕ → Type 0) where
     abbrev pub saw_tail : Step (Option E) → Me (Option E) (SeatView O) → ℕ → Me (Option E) (SeatView O) → Type 0
     saw_tail st m found m' =
         Bounds m.0 found
-        × (m.0.popped < found → m' ≡ (looked m.0 found, m.1))
-        × (found ≤ m.0.popped → m' ≡ (missed m.0 found, m.1))
+        × (m.0.popped < found → m' ≡ (view_after_look m.0 found, m.1))
+        × (found ≤ m.0.popped → m' ≡ (view_after_miss m.0 found, m.1))
 
     -- the tail was read after a note was learnt
     abbrev pub heard : Step (Option E) → Me (Option E) (SeatView O) → ℕ → Me (Option E) (SeatView O) → Type 0
@@ -155,5 +155,5 @@ module _ {O : Type 0} (HasRoom : O → ℕ → Type 0) where
     abbrev pub reached : (E → ℕ) → (E → O) → Step (Option E) → Me (Option E) (SeatView O) → ℕ → Me (Option E) (SeatView O) → Type 0
     reached index of st m found m' =
         Bounds m.0 found
-        × (m.0.popped < found → (e : E) × (m' ≡ (record (looked m.0 found) { taking = true }, (m.0.popped % st.slots, Some e) ∷ m.1)) × (index e ≡ m.0.popped) × (m.0.owner ≡ Some (of e)))
-        × (found ≤ m.0.popped → m' ≡ (missed m.0 found, m.1))
+        × (m.0.popped < found → (e : E) × (m' ≡ (record (view_after_look m.0 found) { taking = true }, (m.0.popped % st.slots, Some e) ∷ m.1)) × (index e ≡ m.0.popped) × (m.0.owner ≡ Some (of e)))
+        × (found ≤ m.0.popped → m' ≡ (view_after_miss m.0 found, m.1))

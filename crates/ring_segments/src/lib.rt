@@ -42,7 +42,7 @@ pub use link::Link;
 pub use note::Note;
 use plays::{Ends, Hear, LastNotes, Notes, Put, Reach, SeeHead, SeeTail, Take};
 pub use producer::Producer;
-pub use ring::{RING_PLACES_MOST, segment};
+pub use ring::segment;
 use ring::{Ring, RingSeat};
 use rule::{About, RingRule, Seen};
 pub use tag::Tag;

@@ -82,9 +82,9 @@ impl Split<Seen> for Notes {
 }
 
 impl Join<Seen> for Notes {
-    ghost use Rattle.ring_segments.specs.Words.{learnt, spent};
+    ghost use Rattle.ring_segments.specs.Words.{view_after_learn, spent};
 
-    ghost both = { learnt };
+    ghost both = { view_after_learn };
 
     ghost spent = { spent };
 }

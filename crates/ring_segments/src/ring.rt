@@ -32,7 +32,7 @@ pub(crate) struct Ring {
     pub(crate) about: About,
 }
 
-/// A new segment of that many places, 1 to `RING_PLACES_MOST`: the end that pushes to it and the end that pops from it.
+/// A new segment of that many places, 1 to 16,777,216: the end that pushes to it and the end that pops from it.
 ///
 /// The name is that of its run, the tag says what made it, and the key is the caller's own number for it, which all its
 /// ends show. Where the name has a script, the segment owes a list by it.

@@ -5,7 +5,7 @@ ghost use Rattle.std.specs.Option.{ForSome};
 ghost use Rattle.ring_segments.specs.Seating.{id_of};
 ghost use Rattle.ring_segments.specs.Sits.{IsPopping, IsPushing, Sits};
 ghost use Rattle.ring_segments.specs.Tags.{HasRoomFor, IsInside, IsItem};
-ghost use Rattle.ring_segments.specs.Words.{last_note_view, learnt, looked, missed, note_view, sealed_of};
+ghost use Rattle.ring_segments.specs.Words.{last_note_view, view_after_learn, view_after_look, view_after_miss, note_view, sealed_of};
 
 use crate::ring::{HEAD, TAIL};
 use crate::{Hear, LastNotes, Notes, OwedItem, Put, Reach, Ring, RingSeat, SeeHead, SeeTail, Take};
@@ -37,12 +37,16 @@ pub(crate) fn put_in(
 /// Takes the next item out of its slot, where there is one, and then counts it as popped. One load, and one store. `O(1)`.
 pub(crate) fn take_out(ring: &Ring, seat: &mut RingSeat, popped: u64) -> Option<Value>
     requires { IsPopping ring.now seat.old popped }
+
+    // the item that is given, and what the seat knows then
     ensures item { IfSome result (λ item. IsItem (id_of ring.now.about) popped item) }
     ensures seat { IfSome result (λ item. IsPopping ring.now seat.new (popped + 1)) }
-    ensures view { IfSome result (λ item. seat.new.me.0 ≡ record (looked seat.old.me.0 seat.new.me.0.known) { popped = popped + 1 }) }
+    ensures view { IfSome result (λ item. seat.new.me.0 ≡ record (view_after_look seat.old.me.0 seat.new.me.0.known) { popped = popped + 1 }) }
     ensures known { IfSome result (λ item. (popped < seat.new.me.0.known) × (seat.old.me.0.known ≤ seat.new.me.0.known) × (seat.new.me.0.known < 2 ^ 64)) }
     ensures all { IfSome result (λ item. ForSome seat.old.me.0.all (λ n. popped + 1 ≤ n)) }
-    ensures none { IfNone result ((seat.old.me.0.known ≤ popped) × IsPopping ring.now seat.new popped × (seat.new.me.0 ≡ missed seat.old.me.0 popped)) }
+
+    // what shows that there was none
+    ensures none { IfNone result ((seat.old.me.0.known ≤ popped) × IsPopping ring.now seat.new popped × (seat.new.me.0 ≡ view_after_miss seat.old.me.0 popped)) }
 {
     let shared = &ring.table.shared;
     let tail = shared.load::<Reach>(seat, TAIL);
@@ -61,8 +65,8 @@ pub(crate) fn take_out(ring: &Ring, seat: &mut RingSeat, popped: u64) -> Option<
 pub(crate) fn look(ring: &Ring, seat: &mut RingSeat, popped: u64) -> bool
     requires { IsPopping ring.now seat.old popped }
     ensures seat { IsPopping ring.now seat.new popped × (seat.old.me.0.known ≤ seat.new.me.0.known) }
-    ensures yes { result ≡ true → (popped < seat.new.me.0.known) × (seat.new.me.0 ≡ looked seat.old.me.0 seat.new.me.0.known) × IsInside (id_of ring.now.about) popped }
-    ensures no { result ≡ false → (seat.old.me.0.known ≤ popped) × (seat.new.me.0 ≡ missed seat.old.me.0 popped) }
+    ensures yes { result ≡ true → (popped < seat.new.me.0.known) × (seat.new.me.0 ≡ view_after_look seat.old.me.0 seat.new.me.0.known) × IsInside (id_of ring.now.about) popped }
+    ensures no { result ≡ false → (seat.old.me.0.known ≤ popped) × (seat.new.me.0 ≡ view_after_miss seat.old.me.0 popped) }
 {
     let tail = ring.table.shared.load::<SeeTail>(seat, TAIL);
     popped < tail
@@ -91,7 +95,7 @@ pub(crate) fn hear(ring: &Ring, seat: &mut RingSeat, note: RingSeat, popped: u64
     requires seat { IsPopping ring.now seat.old popped }
     requires note { (note.table_id ≡ ring.now.table.shared.table_id) × (note.me.1 ≡ []) }
     ensures seat { IsPopping ring.now seat.new popped }
-    ensures view { seat.new.me.0 ≡ record (learnt seat.old.me.0 note.me.0) { looks = seat.old.me.0.looks + 1 } }
+    ensures view { seat.new.me.0 ≡ record (view_after_learn seat.old.me.0 note.me.0) { looks = seat.old.me.0.looks + 1 } }
     ensures all { ForSome seat.new.me.0.all (λ n. popped ≤ n) }
 {
     let shared = &ring.table.shared;

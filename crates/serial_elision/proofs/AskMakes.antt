@@ -26,14 +26,14 @@ use Rattle.swan_model.specs.Rights.{is_aliased}
 use Rattle.swan_model.specs.Roots.{IsWithinBounds}
 use Rattle.swan_model.specs.Script.{asked, deed_of, give_of, gives_of, origin_at, origin_of, script, spawn_of}
 use Rattle.swan_model.specs.SerialState.{Activation, Cell, Holding, Queue, Store}
-use Rattle.swan_model.specs.SerialStep.{Effect, goes_on, spawns, faults, after, effect, given, moved, number_at, spawn_effect, with_place, zeroed}
+use Rattle.swan_model.specs.SerialStep.{Effect, goes_on, spawns, faults, state_after, effect, given, after_next, number_at, spawn_effect, with_place, cells_with_zeros}
 use Rattle.swan_model.specs.SerialTime.{time}
 use Rattle.swan_model.specs.TrueFrames.{effect_at, gives_at, state_at}
 use Rattle.swan_model.specs.Values.{kind_of}
 use Rattle.swan_model.proofs.Elements.{last_more}
 use Rattle.swan_model.proofs.Times.{times_rise}
 use Rattle.serial_elision.specs.Laws.{named_give}
-use Rattle.serial_elision.specs.TaskSteps.{Faults, GetsPlace, IsAsking, MayUseAt, child_activation, parent_activation}
+use Rattle.serial_elision.specs.TaskSteps.{MeetsFault, GetsPlace, IsAsking, MayUseAt, child_activation, parent_activation}
 use Rattle.serial_elision.specs.TaskSteps as step
 use Rattle.serial_elision.proofs.AskSteps.{deed-is, effect-is, faults-by, used}
 use Rattle.serial_elision.proofs.Held.{gives-held, give-of, given-each, used-at}
@@ -79,17 +79,17 @@ module _ {B L : Type 0} (G : Ghosts B L) (plan : Plan B L) (path : List ℕ) (k 
   -- ---- a queue or an object
 
   gets-by : IsWithinBounds plan.roots.queues plan.roots.objects → (asks : Ask L) (mode : Mode) (number : ℕ) (then : Store) (does : Deed) → IsAsking G plan path k top local asks
-      → effect steps store (moved top local) asks ≡ goes_on (with_place (moved top local) (record { mode = mode; number = number })) then
+      → effect steps store (after_next top local) asks ≡ goes_on (with_place (after_next top local) (record { mode = mode; number = number })) then
       → asked store top.holdings asks ≡ does → origin_of then mode number ≡ Some (Step steps) → GetsPlace G plan path k top local mode does
   gets-by bounds asks mode number then does is effect_is asks_for made =
       let s = script G plan in
       let holding : Holding = record { mode = mode; number = number } in
-      let next = with_place (moved top local) holding in
+      let next = with_place (after_next top local) holding in
       let goes : effect_at G plan path k top ≡ goes_on next then = effect-is G plan path k top local asks is ∙ effect_is in
       let stands = goes_on_next G plan path k top is.stands next then goes in
       let late = times_rise s path k (k + 1) (omega arith) stands.left in
       let store_is : (serial G plan (suc now)).store ≡ then =
-      ap (λ t. t.store) (next-state G plan path k top is.stands) ∙ ap (λ d. (after (serial G plan now) is.stands.below top.path (G.place_of plan.body top.local) d).store) goes in
+      ap (λ t. t.store) (next-state G plan path k top is.stands) ∙ ap (λ d. (state_after (serial G plan now) is.stands.below top.path (G.place_of plan.body top.local) d).store) goes in
       let step_is : Step steps ≡ Step now = ap Step (steps-are G plan now top is.stands.below is.stands.stack) in
       let made_now : origin_of (serial G plan (suc now)).store mode number ≡ Some (Step now) = ap (λ t. origin_of t mode number) store_is ∙ made ∙ ap Some step_is in
       let later : origin_of (state_at G plan path (k + 1)).store mode number ≡ Some (Step now) =
@@ -117,59 +117,59 @@ module _ {B L : Type 0} (G : Ghosts B L) (plan : Plan B L) (path : List ℕ) (k 
   -- ---- a child
 
   module _ (child : Child L) (is : IsAsking G plan path k top local (ask.Spawn child)) (hs : List Holding) (held : given top.holdings child.gives ≡ Some hs) where
-    spawned-is : effect steps store (moved top local) (ask.Spawn child) ≡ spawn_effect store (moved top local) child (Some hs)
-    spawned-is = ap (spawn_effect store (moved top local) child) held
+    spawned-is : effect steps store (after_next top local) (ask.Spawn child) ≡ spawn_effect store (after_next top local) child (Some hs)
+    spawned-is = ap (spawn_effect store (after_next top local) child) held
 
-    pub aliased : is_aliased child.gives ≡ true → Faults G plan path k top kind.Alias deed.Quiet
+    pub aliased : is_aliased child.gives ≡ true → MeetsFault G plan path k top kind.Alias deed.Quiet
     aliased twice = faults-by G plan path k top local (ask.Spawn child) kind.Alias is (spawned-is ∙ ap (λ b. cond b (faults kind.Alias) (deeper b)) twice) where
       deeper : Bool → Effect L
       deeper b = cond (nat_le PATH_MOST (length top.path)) (faults kind.Depth)
           (cond (nat_lt (top.fuel - 1) child.fuel) (faults kind.Fuel)
-          (spawns (parent_activation (moved top local) child) (child_activation top child hs) (record store { cells = zeroed store.cells hs })))
+          (spawns (parent_activation (after_next top local) child) (child_activation top child hs) (record store { cells = cells_with_zeros store.cells hs })))
 
     module _ (once : is_aliased child.gives ≡ false) where
-      deeper-is : spawn_effect store (moved top local) child (Some hs)
+      deeper-is : spawn_effect store (after_next top local) child (Some hs)
           ≡ cond (nat_le PATH_MOST (length top.path)) (faults kind.Depth)
           (cond (nat_lt (top.fuel - 1) child.fuel) (faults kind.Fuel)
-          (spawns (parent_activation (moved top local) child) (child_activation top child hs) (record store { cells = zeroed store.cells hs })))
+          (spawns (parent_activation (after_next top local) child) (child_activation top child hs) (record store { cells = cells_with_zeros store.cells hs })))
       deeper-is = ap (λ b. cond b (faults kind.Alias) (cond (nat_le PATH_MOST (length top.path)) (faults kind.Depth)
           (cond (nat_lt (top.fuel - 1) child.fuel) (faults kind.Fuel)
-          (spawns (parent_activation (moved top local) child) (child_activation top child hs) (record store { cells = zeroed store.cells hs }))))) once
+          (spawns (parent_activation (after_next top local) child) (child_activation top child hs) (record store { cells = cells_with_zeros store.cells hs }))))) once
 
-      pub too-deep : PATH_MOST ≤ length top.path → Faults G plan path k top kind.Depth deed.Quiet
+      pub too-deep : PATH_MOST ≤ length top.path → MeetsFault G plan path k top kind.Depth deed.Quiet
       too-deep deep =
           let yes : nat_le PATH_MOST (length top.path) ≡ true = search (rules, tests) in
           faults-by G plan path k top local (ask.Spawn child) kind.Depth is
           (spawned-is ∙ deeper-is ∙ ap (λ b. cond b (faults kind.Depth)
           (cond (nat_lt (top.fuel - 1) child.fuel) (faults kind.Fuel)
-          (spawns (parent_activation (moved top local) child) (child_activation top child hs) (record store { cells = zeroed store.cells hs })))) yes)
+          (spawns (parent_activation (after_next top local) child) (child_activation top child hs) (record store { cells = cells_with_zeros store.cells hs })))) yes)
 
       module _ (shallow : length top.path < PATH_MOST) where
-        fuel-is : spawn_effect store (moved top local) child (Some hs)
+        fuel-is : spawn_effect store (after_next top local) child (Some hs)
             ≡ cond (nat_lt (top.fuel - 1) child.fuel) (faults kind.Fuel)
-            (spawns (parent_activation (moved top local) child) (child_activation top child hs) (record store { cells = zeroed store.cells hs }))
+            (spawns (parent_activation (after_next top local) child) (child_activation top child hs) (record store { cells = cells_with_zeros store.cells hs }))
         fuel-is =
             let no : nat_le PATH_MOST (length top.path) ≡ false = search (rules, tests) in
             deeper-is ∙ ap (λ b. cond b (faults kind.Depth)
             (cond (nat_lt (top.fuel - 1) child.fuel) (faults kind.Fuel)
-            (spawns (parent_activation (moved top local) child) (child_activation top child hs) (record store { cells = zeroed store.cells hs })))) no
+            (spawns (parent_activation (after_next top local) child) (child_activation top child hs) (record store { cells = cells_with_zeros store.cells hs })))) no
 
-        pub too-dear : top.fuel - 1 < child.fuel → Faults G plan path k top kind.Fuel deed.Quiet
+        pub too-dear : top.fuel - 1 < child.fuel → MeetsFault G plan path k top kind.Fuel deed.Quiet
         too-dear dear =
             let yes : nat_lt (top.fuel - 1) child.fuel ≡ true = search (rules, tests) in
             faults-by G plan path k top local (ask.Spawn child) kind.Fuel is
             (spawned-is ∙ fuel-is ∙ ap (λ b. cond b (faults kind.Fuel)
-            (spawns (parent_activation (moved top local) child) (child_activation top child hs) (record store { cells = zeroed store.cells hs }))) yes)
+            (spawns (parent_activation (after_next top local) child) (child_activation top child hs) (record store { cells = cells_with_zeros store.cells hs }))) yes)
 
         module _ (enough : child.fuel ≤ top.fuel - 1) (bounds : IsWithinBounds plan.roots.queues plan.roots.objects) where
           abbrev parent : Activation L
-          parent = parent_activation (moved top local) child
+          parent = parent_activation (after_next top local) child
 
           abbrev begun : Activation L
           begun = child_activation top child hs
 
           abbrev then : Store
-          then = record store { cells = zeroed store.cells hs }
+          then = record store { cells = cells_with_zeros store.cells hs }
 
           spawns-it : effect_at G plan path k top ≡ spawns parent begun then
           spawns-it =

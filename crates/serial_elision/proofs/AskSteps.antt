@@ -23,14 +23,14 @@ use Rattle.swan_model.specs.Rights.{allows, is_queue_mode}
 use Rattle.swan_model.specs.Roots.{IsWithinBounds}
 use Rattle.swan_model.specs.Script.{about, asked, deed_of, entry_of, give_of, origin_at, origin_of, script}
 use Rattle.swan_model.specs.SerialState.{Activation, Cell, Holding, Queue, Store}
-use Rattle.swan_model.specs.SerialStep.{Effect, goes_on, faults, effect, is_nothing_left, moved, number_at, on_cell, on_list, on_object, on_queue, popped, spawn_effect, told, used_by, with_items, with_value}
+use Rattle.swan_model.specs.SerialStep.{Effect, goes_on, faults, effect, is_nothing_left, after_next, number_at, on_cell, on_list, on_object, on_queue, popped, spawn_effect, with_answer, used_by, with_items, with_value}
 use Rattle.swan_model.specs.SerialTime.{time}
 use Rattle.swan_model.specs.Told.{cell, count, deed_at, items, pushes, taken}
 use Rattle.swan_model.specs.TrueFrames.{StandsAt, effect_at, state_at}
 use Rattle.swan_model.proofs.Lists.{some_within}
 use Rattle.swan_model.proofs.ScriptCounts.{count_le}
 use Rattle.swan_model.proofs.ScriptSteps.{deed_is}
-use Rattle.serial_elision.specs.TaskSteps.{Faults, GoesOn, IsAsking, LacksRight, MayUseAt}
+use Rattle.serial_elision.specs.TaskSteps.{MeetsFault, GoesOn, IsAsking, LacksRight, MayUseAt}
 use Rattle.serial_elision.specs.TaskSteps as step
 use Rattle.serial_elision.proofs.Endings.{entry_now}
 use Rattle.serial_elision.proofs.Held.{origin-kind}
@@ -83,11 +83,11 @@ module _ {B L : Type 0} (G : Ghosts B L) (plan : Plan B L) (path : List ℕ) (k 
   steps = (state_at G plan path k).steps
 
   -- a task without fuel ends by a fault
-  pub dry : StandsAt G plan path k top → top.fuel ≡ 0 → Faults G plan path k top kind.Fuel deed.Quiet
+  pub dry : StandsAt G plan path k top → top.fuel ≡ 0 → MeetsFault G plan path k top kind.Fuel deed.Quiet
   dry at none =
       let yes : nat_eq top.fuel 0 ≡ true = search (rules, tests) in
       let said = G.next plan.body top.local top.answer (top.fuel - 1) in
-      let is : effect_at G plan path k top ≡ faults kind.Fuel = ap (λ b. cond b (faults kind.Fuel) (effect steps store (moved top said.0) said.1)) yes in
+      let is : effect_at G plan path k top ≡ faults kind.Fuel = ap (λ b. cond b (faults kind.Fuel) (effect steps store (after_next top said.0) said.1)) yes in
       record {
         effect = is;
         deed = deed_is (script G plan) now (entry_of G plan.body steps store top) (entry_now G plan now top at.below at.stack)
@@ -121,13 +121,13 @@ module _ {B L : Type 0} (G : Ghosts B L) (plan : Plan B L) (path : List ℕ) (k 
       (held.0, record { holding = h; stands = stands; may = may; named = held.1 })
 
   module _ (local : L) where
-    pub effect-is : (asks : Ask L) → IsAsking G plan path k top local asks → effect_at G plan path k top ≡ effect steps store (moved top local) asks
+    pub effect-is : (asks : Ask L) → IsAsking G plan path k top local asks → effect_at G plan path k top ≡ effect steps store (after_next top local) asks
     effect-is asks is =
         let paid = is.paid in
         let yes : nat_eq top.fuel 0 ≡ false = search (rules, tests) in
         let said = G.next plan.body top.local top.answer (top.fuel - 1) in
-        ap (λ b. cond b (faults kind.Fuel) (effect steps store (moved top said.0) said.1)) yes
-        ∙ ap (λ p. effect steps store (moved top p.0) p.1) (sym is.said)
+        ap (λ b. cond b (faults kind.Fuel) (effect steps store (after_next top said.0) said.1)) yes
+        ∙ ap (λ p. effect steps store (after_next top p.0) p.1) (sym is.said)
 
     pub deed-is : (asks : Ask L) → IsAsking G plan path k top local asks → deed_at (script G plan) now ≡ deed_of (asked store top.holdings asks) (effect_at G plan path k top)
     deed-is asks is =
@@ -135,8 +135,8 @@ module _ {B L : Type 0} (G : Ghosts B L) (plan : Plan B L) (path : List ℕ) (k 
         ∙ ap (λ p. deed_of (asked store top.holdings p.1) (effect_at G plan path k top)) (sym is.said)
 
     -- a step with this effect, whose ask is to do this
-    pub faults-by : (asks : Ask L) (fault : _) → IsAsking G plan path k top local asks → effect steps store (moved top local) asks ≡ faults fault
-        → Faults G plan path k top fault (deed_of {L = L} (asked store top.holdings asks) (faults fault))
+    pub faults-by : (asks : Ask L) (fault : _) → IsAsking G plan path k top local asks → effect steps store (after_next top local) asks ≡ faults fault
+        → MeetsFault G plan path k top fault (deed_of {L = L} (asked store top.holdings asks) (faults fault))
     faults-by asks fault is does =
         let effect_is = effect-is asks is ∙ does in
         record { effect = effect_is; deed = deed-is asks is ∙ ap (deed_of (asked store top.holdings asks)) effect_is }
@@ -146,23 +146,23 @@ module _ {B L : Type 0} (G : Ghosts B L) (plan : Plan B L) (path : List ℕ) (k 
         let effect_is = effect-is ask.Finish is in
         record { effect = effect_is; deed = deed-is ask.Finish is ∙ ap (deed_of deed.Quiet) effect_is }
 
-    pub fails : (trouble : Trouble) → IsAsking G plan path k top local (ask.Fail trouble) → Faults G plan path k top (kind.Trouble trouble) deed.Quiet
+    pub fails : (trouble : Trouble) → IsAsking G plan path k top local (ask.Fail trouble) → MeetsFault G plan path k top (kind.Trouble trouble) deed.Quiet
     fails trouble is = faults-by (ask.Fail trouble) (kind.Trouble trouble) is refl
 
     -- a use of what may not be used so
-    pub refused : (asks : Ask L) → IsAsking G plan path k top local asks → LacksRight G plan path k top asks → Faults G plan path k top kind.Privilege deed.Quiet
+    pub refused : (asks : Ask L) → IsAsking G plan path k top local asks → LacksRight G plan path k top asks → MeetsFault G plan path k top kind.Privilege deed.Quiet
     refused ask.Work is none = absurd none
-    refused (ask.Read place) is none = faults-by (ask.Read place) kind.Privilege is (ap (λ n. on_object store n (λ number c. goes_on (told (moved top local) (answer.Item c.value)) store)) none)
+    refused (ask.Read place) is none = faults-by (ask.Read place) kind.Privilege is (ap (λ n. on_object store n (λ number c. goes_on (with_answer (after_next top local) (answer.Item c.value)) store)) none)
     refused (ask.Write place value) is none =
-        faults-by (ask.Write place value) kind.Privilege is (ap (λ n. on_object store n (λ number c. goes_on (told (moved top local) answer.Nothing) (with_value store number c value))) none)
+        faults-by (ask.Write place value) kind.Privilege is (ap (λ n. on_object store n (λ number c. goes_on (with_answer (after_next top local) answer.Nothing) (with_value store number c value))) none)
     refused (ask.Push place value) is none =
-        faults-by (ask.Push place value) kind.Privilege is (ap (λ n. on_queue store n (λ number q. goes_on (told (moved top local) answer.Nothing) (with_items store number q (q.items ++ value ∷ [])))) none)
-    refused (ask.Pop place) is none = faults-by (ask.Pop place) kind.Privilege is (ap (λ n. on_queue store n (λ number q. popped store (moved top local) number q q.items)) none)
+        faults-by (ask.Push place value) kind.Privilege is (ap (λ n. on_queue store n (λ number q. goes_on (with_answer (after_next top local) answer.Nothing) (with_items store number q (q.items ++ value ∷ [])))) none)
+    refused (ask.Pop place) is none = faults-by (ask.Pop place) kind.Privilege is (ap (λ n. on_queue store n (λ number q. popped store (after_next top local) number q q.items)) none)
     refused (ask.Empty place) is none =
-        faults-by (ask.Empty place) kind.Privilege is (ap (λ n. on_queue store n (λ number q. goes_on (told (moved top local) (answer.Flag (is_nothing_left q.items))) store)) none)
+        faults-by (ask.Empty place) kind.Privilege is (ap (λ n. on_queue store n (λ number q. goes_on (with_answer (after_next top local) (answer.Flag (is_nothing_left q.items))) store)) none)
     refused ask.NewQueue is none = absurd none
     refused (ask.NewObject value) is none = absurd none
-    refused (ask.Spawn child) is none = faults-by (ask.Spawn child) kind.Privilege is (ap (spawn_effect store (moved top local) child) none)
+    refused (ask.Spawn child) is none = faults-by (ask.Spawn child) kind.Privilege is (ap (spawn_effect store (after_next top local) child) none)
     refused ask.Sync is none = absurd none
     refused ask.Finish is none = absurd none
     refused (ask.Fail trouble) is none = absurd none
@@ -170,10 +170,10 @@ module _ {B L : Type 0} (G : Ghosts B L) (plan : Plan B L) (path : List ℕ) (k 
     module _ (bounds : IsWithinBounds plan.roots.queues plan.roots.objects) where
       -- a step that answers
       goes-by : (asks : Ask L) (said : Answer) (after : Store) (does : Deed) → IsAsking G plan path k top local asks
-          → effect steps store (moved top local) asks ≡ goes_on (told (moved top local) said) after → asked store top.holdings asks ≡ does → GoesOn G plan path k top local said does
+          → effect steps store (after_next top local) asks ≡ goes_on (with_answer (after_next top local) said) after → asked store top.holdings asks ≡ does → GoesOn G plan path k top local said does
       goes-by asks said after does is effect_is asks_for =
-          let goes : effect_at G plan path k top ≡ goes_on (told (moved top local) said) after = effect-is asks is ∙ effect_is in
-          let next = told (moved top local) said in
+          let goes : effect_at G plan path k top ≡ goes_on (with_answer (after_next top local) said) after = effect-is asks is ∙ effect_is in
+          let next = with_answer (after_next top local) said in
           record {
             store = after;
             effect = goes;
@@ -201,7 +201,7 @@ module _ {B L : Type 0} (G : Ghosts B L) (plan : Plan B L) (path : List ℕ) (k 
       reads place origin is has =
           let use_is = used place In origin has in
           let found = object-found place In origin has refl in
-          let does : ℕ → Cell → Effect L = λ number c. goes_on (told (moved top local) (answer.Item c.value)) store in
+          let does : ℕ → Cell → Effect L = λ number c. goes_on (with_answer (after_next top local) (answer.Item c.value)) store in
           let told_is : cell (script G plan) found.thing.origin now ≡ Some found.thing.value =
           subst (λ o. IfSome o (λ (c : Cell). cell (script G plan) c.origin now ≡ Some c.value)) found.stands (cells_told G plan now use_is.number) in
           let is_value : cell (script G plan) origin now ≡ Some found.thing.value = ap (λ o. cell (script G plan) o now) (sym found.is) ∙ told_is in
@@ -215,7 +215,7 @@ module _ {B L : Type 0} (G : Ghosts B L) (plan : Plan B L) (path : List ℕ) (k 
       writes place value origin is has =
           let use_is = used place Out origin has in
           let found = object-found place Out origin has refl in
-          let does : ℕ → Cell → Effect L = λ number c. goes_on (told (moved top local) answer.Nothing) (with_value store number c value) in
+          let does : ℕ → Cell → Effect L = λ number c. goes_on (with_answer (after_next top local) answer.Nothing) (with_value store number c value) in
           goes-by (ask.Write place value) answer.Nothing (with_value store use_is.number found.thing value) (deed.Write origin value) is
           (ap (λ n. on_object store n does) use_is.at ∙ ap (λ c. on_cell c (does use_is.number)) found.stands)
           (ap (λ o. about o (λ (x : Origin). deed.Write x value)) use_is.named)
@@ -239,7 +239,7 @@ module _ {B L : Type 0} (G : Ghosts B L) (plan : Plan B L) (path : List ℕ) (k 
       pushes-on place value origin is has =
           let use_is = used place Push origin has in
           let found = queue-found place Push origin has refl in
-          let does : ℕ → Queue → Effect L = λ number q. goes_on (told (moved top local) answer.Nothing) (with_items store number q (q.items ++ value ∷ [])) in
+          let does : ℕ → Queue → Effect L = λ number q. goes_on (with_answer (after_next top local) answer.Nothing) (with_items store number q (q.items ++ value ∷ [])) in
           goes-by (ask.Push place value) answer.Nothing (with_items store use_is.number found.thing (found.thing.items ++ value ∷ [])) (deed.Push origin value) is
           (ap (λ n. on_queue store n does) use_is.at ∙ ap (λ q. on_list q (does use_is.number)) found.stands)
           (ap (λ o. about o (λ (x : Origin). deed.Push x value)) use_is.named)
@@ -277,30 +277,30 @@ module _ {B L : Type 0} (G : Ghosts B L) (plan : Plan B L) (path : List ℕ) (k 
             let item = has-item some in
             subst (λ o. IsSomeAnd o (λ value. GoesOn G plan path k top local (answer.Item value) (deed.Pop origin))) (sym item.item)
             (goes-by (ask.Pop place) (answer.Item item.value) (with_items store use_is.number found.thing item.rest) (deed.Pop origin) is
-            (ap (λ n. on_queue store n (λ number q. popped store (moved top local) number q q.items)) use_is.at
-            ∙ ap (λ q. on_list q (λ q. popped store (moved top local) use_is.number q q.items)) found.stands
-            ∙ ap (popped store (moved top local) use_is.number found.thing) item.all)
+            (ap (λ n. on_queue store n (λ number q. popped store (after_next top local) number q q.items)) use_is.at
+            ∙ ap (λ q. on_list q (λ q. popped store (after_next top local) use_is.number q q.items)) found.stands
+            ∙ ap (popped store (after_next top local) use_is.number found.thing) item.all)
             (ap (λ o. about o deed.Pop) use_is.named))
 
-        pub pops-none : IsAsking G plan path k top local (ask.Pop place) → count s origin now ≤ taken s origin now → Faults G plan path k top kind.PopEmpty (deed.Pop origin)
+        pub pops-none : IsAsking G plan path k top local (ask.Pop place) → count s origin now ≤ taken s origin now → MeetsFault G plan path k top kind.PopEmpty (deed.Pop origin)
         pops-none is none =
             let use_is = used place Pop origin has in
             let found = queue-found place Pop origin has refl in
-            subst (Faults G plan path k top kind.PopEmpty) (ap (λ o. about o deed.Pop) use_is.named)
+            subst (MeetsFault G plan path k top kind.PopEmpty) (ap (λ o. about o deed.Pop) use_is.named)
             (faults-by (ask.Pop place) kind.PopEmpty is
-            (ap (λ n. on_queue store n (λ number q. popped store (moved top local) number q q.items)) use_is.at
-            ∙ ap (λ q. on_list q (λ q. popped store (moved top local) use_is.number q q.items)) found.stands
-            ∙ ap (popped store (moved top local) use_is.number found.thing) (none-is none)))
+            (ap (λ n. on_queue store n (λ number q. popped store (after_next top local) number q q.items)) use_is.at
+            ∙ ap (λ q. on_list q (λ q. popped store (after_next top local) use_is.number q q.items)) found.stands
+            ∙ ap (popped store (after_next top local) use_is.number found.thing) (none-is none)))
 
         tests-by : IsAsking G plan path k top local (ask.Empty place) → (items : List Value) → (queue-found place Pop origin has refl).thing.items ≡ items
             → GoesOn G plan path k top local (answer.Flag (is_nothing_left items)) (deed.Test origin)
         tests-by is items items_are =
             let use_is = used place Pop origin has in
             let found = queue-found place Pop origin has refl in
-            let does : ℕ → Queue → Effect L = λ number q. goes_on (told (moved top local) (answer.Flag (is_nothing_left q.items))) store in
+            let does : ℕ → Queue → Effect L = λ number q. goes_on (with_answer (after_next top local) (answer.Flag (is_nothing_left q.items))) store in
             goes-by (ask.Empty place) (answer.Flag (is_nothing_left items)) store (deed.Test origin) is
             (ap (λ n. on_queue store n does) use_is.at ∙ ap (λ q. on_list q (does use_is.number)) found.stands
-            ∙ ap (λ is. goes_on (told (moved top local) (answer.Flag (is_nothing_left is))) store) items_are)
+            ∙ ap (λ is. goes_on (with_answer (after_next top local) (answer.Flag (is_nothing_left is))) store) items_are)
             (ap (λ o. about o deed.Test) use_is.named)
 
         pub tests-some : IsAsking G plan path k top local (ask.Empty place) → taken s origin now < count s origin now → GoesOn G plan path k top local (answer.Flag false) (deed.Test origin)

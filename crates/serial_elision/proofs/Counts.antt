@@ -1,7 +1,6 @@
 -- No step makes a list of objects or queues shorter. So the outcome has as many as the plan.
-use Rattle.std.proofs.Common.{◌≡◌, ℕ, zero, suc, ◌-◌, ◌≤◌, Bool, true, false, nat_eq, nat_lt, nat_le, cond, List, [], ◌∷◌, Option, Some, None, arith, length, map, length-append, length-set}
+use Rattle.std.proofs.Common.{◌≡◌, ℕ, zero, suc, ◌-◌, nat_eq, nat_lt, nat_le, List, [], ◌∷◌, ◌++◌, Option, Some, None, arith, length, map, length-append}
 use Rattle.std.proofs.lemmas.List.{length-map, length-take-le}
-use Rattle.std.specs.Prelude.{slice_get, slice_set}
 use Rattle.swan_model.specs.declared.body.Ask.{Ask}
 use Rattle.swan_model.specs.declared.body.Ask.TheVariants as ask
 use Rattle.swan_model.specs.declared.body.Body.{Ghosts}
@@ -13,14 +12,11 @@ use Rattle.swan_model.specs.declared.value.Value.{Value}
 use Rattle.swan_model.specs.Elision.{serial, final, outcome, most_steps}
 use Rattle.swan_model.specs.Rights.{is_aliased}
 use Rattle.swan_model.specs.SerialState.{Activation, Cell, Holding, Queue, Store, State}
-use Rattle.swan_model.specs.SerialStep.{Effect, goes_on, spawns, ends, faults, after, effect, effect_of, step_on, moved, number_at, on_object, on_cell, on_queue, on_list, popped, spawn_effect, given}
+use Rattle.swan_model.specs.SerialStep.{Effect, goes_on, spawns, ends, faults, state_after, effect, effect_of, step_on, after_next, number_at, popped, spawn_effect, given}
 use Rattle.swan_model.proofs.ZeroedCells.{length-zeroed}
 use Rattle.swan_model.proofs.RootLists.{length-first_queues, length-first_cells}
-
--- a store has all objects and queues of an earlier one
-pub record HasGrown (before after : Store) : Type 0 where
-  pub cells : length before.cells ≤ length after.cells
-  pub queues : length before.queues ≤ length after.queues
+use Rattle.swan_model.proofs.Stores.{HasGrown, grown-items, grown-same, grown-value}
+use Rattle.serial_elision.proofs.Asks.{if-either, on_object-either, on_queue-either}
 
 -- an effect leaves a store that has all of this one
 abbrev pub Keeps : {L : Type 0} → Store → Effect L → Type 0
@@ -29,84 +25,53 @@ Keeps store (spawns parent child after) = HasGrown store after
 Keeps store ends = Unit {0}
 Keeps store (faults kind) = Unit {0}
 
-same : (store : Store) → HasGrown store store
-same store = record { cells = omega arith; queues = omega arith }
-
-on_cell-keeps : {L : Type 0} (store : Store) (cell : Option Cell) (f : Cell → Effect L) → ((c : Cell) → Keeps store (f c)) → Keeps store (on_cell cell f)
-on_cell-keeps store None f each = tt
-on_cell-keeps store (Some cell) f each = each cell
-
-on_object-keeps : {L : Type 0} (store : Store) (at : Option ℕ) (f : ℕ → Cell → Effect L) → ((n : ℕ) (c : Cell) → Keeps store (f n c)) → Keeps store (on_object store at f)
-on_object-keeps store None f each = tt
-on_object-keeps store (Some n) f each = on_cell-keeps store (slice_get store.cells n) (f n) (each n)
-
-on_list-keeps : {L : Type 0} (store : Store) (queue : Option Queue) (f : Queue → Effect L) → ((q : Queue) → Keeps store (f q)) → Keeps store (on_list queue f)
-on_list-keeps store None f each = tt
-on_list-keeps store (Some queue) f each = each queue
-
-on_queue-keeps : {L : Type 0} (store : Store) (at : Option ℕ) (f : ℕ → Queue → Effect L) → ((n : ℕ) (q : Queue) → Keeps store (f n q)) → Keeps store (on_queue store at f)
-on_queue-keeps store None f each = tt
-on_queue-keeps store (Some n) f each = on_list-keeps store (slice_get store.queues n) (f n) (each n)
-
-with_cell-keeps : (store : Store) (n : ℕ) (cell : Cell) → HasGrown store (record store { cells = slice_set store.cells n cell })
-with_cell-keeps store n cell =
-    record { cells = omega (arith, length-set store.cells n cell); queues = omega arith }
-
-with_queue-keeps : (store : Store) (n : ℕ) (queue : Queue) → HasGrown store (record store { queues = slice_set store.queues n queue })
-with_queue-keeps store n queue =
-    record { cells = omega arith; queues = omega (arith, length-set store.queues n queue) }
-
 popped-keeps : {L : Type 0} (store : Store) (a : Activation L) (n : ℕ) (queue : Queue) (items : List Value) → Keeps store (popped store a n queue items)
 popped-keeps store a n queue [] = tt
-popped-keeps store a n queue (item ∷ items) = with_queue-keeps store n (record queue { items = items })
-
-if-keeps : {L : Type 0} (store : Store) (b : Bool) (x y : Effect L) → Keeps store x → Keeps store y → Keeps store (cond b x y)
-if-keeps store true x y then_kept else_kept = then_kept
-if-keeps store false x y then_kept else_kept = else_kept
+popped-keeps store a n queue (item ∷ items) = grown-items store n queue items
 
 spawned-keeps : {L : Type 0} (store : Store) (a : Activation L) (child : Child L) (holdings : Option (List Holding)) → Keeps store (spawn_effect store a child holdings)
 spawned-keeps store a child None = tt
 spawned-keeps store a child (Some holdings) =
-    if-keeps store (is_aliased child.gives) _ _ tt
-    (if-keeps store (nat_le PATH_MOST (length a.path)) _ _ tt
-    (if-keeps store (nat_lt a.fuel child.fuel) _ _ tt
+    if-either (Keeps store) (is_aliased child.gives) _ _ tt
+    (if-either (Keeps store) (nat_le PATH_MOST (length a.path)) _ _ tt
+    (if-either (Keeps store) (nat_lt a.fuel child.fuel) _ _ tt
     (record { cells = omega (arith, length-zeroed store.cells holdings); queues = omega arith })))
 
 effect-keeps : {L : Type 0} (n : ℕ) (store : Store) (a : Activation L) (asked : Ask L) → Keeps store (effect n store a asked)
-effect-keeps n store a ask.Work = same store
+effect-keeps n store a ask.Work = grown-same store
 effect-keeps n store a (ask.Read place) =
-    on_object-keeps store (number_at a.holdings place In) _ (λ number cell. same store)
+    on_object-either (Keeps store) tt store (number_at a.holdings place In) _ (λ number cell held found. grown-same store)
 effect-keeps n store a (ask.Write place value) =
-    on_object-keeps store (number_at a.holdings place Out) _ (λ number cell. with_cell-keeps store number _)
+    on_object-either (Keeps store) tt store (number_at a.holdings place Out) _ (λ number cell held found. grown-value store number cell value)
 effect-keeps n store a (ask.Push place value) =
-    on_queue-keeps store (number_at a.holdings place Push) _ (λ number queue. with_queue-keeps store number _)
+    on_queue-either (Keeps store) tt store (number_at a.holdings place Push) _ (λ number queue held found. grown-items store number queue (queue.items ++ value ∷ []))
 effect-keeps n store a (ask.Pop place) =
-    on_queue-keeps store (number_at a.holdings place Pop) _ (λ number queue. popped-keeps store a number queue queue.items)
+    on_queue-either (Keeps store) tt store (number_at a.holdings place Pop) _ (λ number queue held found. popped-keeps store a number queue queue.items)
 effect-keeps n store a (ask.Empty place) =
-    on_queue-keeps store (number_at a.holdings place Pop) _ (λ number queue. same store)
+    on_queue-either (Keeps store) tt store (number_at a.holdings place Pop) _ (λ number queue held found. grown-same store)
 effect-keeps n store a ask.NewQueue = record { cells = omega arith; queues = omega (arith, length-append {A = Queue}) }
 effect-keeps n store a (ask.NewObject value) = record { cells = omega (arith, length-append {A = Cell}); queues = omega arith }
 effect-keeps n store a (ask.Spawn child) = spawned-keeps store a child (given a.holdings child.gives)
-effect-keeps n store a ask.Sync = same store
+effect-keeps n store a ask.Sync = grown-same store
 effect-keeps n store a ask.Finish = tt
 effect-keeps n store a (ask.Fail trouble) = tt
 
-after-keeps : {L : Type 0} (s : State L) (below : List (Activation L)) (path : List ℕ) (place : ℕ) (done : Effect L) → Keeps s.store done → HasGrown s.store (after s below path place done).store
+after-keeps : {L : Type 0} (s : State L) (below : List (Activation L)) (path : List ℕ) (place : ℕ) (done : Effect L) → Keeps s.store done → HasGrown s.store (state_after s below path place done).store
 after-keeps s below path place (goes_on a store) kept = kept
 after-keeps s below path place (spawns parent child store) kept = kept
-after-keeps s below path place ends kept = same s.store
-after-keeps s below path place (faults kind) kept = same s.store
+after-keeps s below path place ends kept = grown-same s.store
+after-keeps s below path place (faults kind) kept = grown-same s.store
 
 module _ {B L : Type 0} (G : Ghosts B L) where
   step-keeps : (body : B) (s : State L) (stack : List (Activation L)) → HasGrown s.store (step_on G body s stack).store
-  step-keeps body s [] = same s.store
+  step-keeps body s [] = grown-same s.store
   step-keeps body s (top ∷ below) =
       let asked = G.next body top.local top.answer (top.fuel - 1) in
       after-keeps s below top.path (G.place_of body top.local) (effect_of G body s.steps s.store top)
-      (if-keeps s.store (nat_eq top.fuel 0) _ _ tt (effect-keeps s.steps s.store (moved top asked.0) asked.1))
+      (if-either (Keeps s.store) (nat_eq top.fuel 0) _ _ tt (effect-keeps s.steps s.store (after_next top asked.0) asked.1))
 
   pub serial-keeps : (plan : Plan B L) (n : ℕ) → HasGrown (serial G plan zero).store (serial G plan n).store
-  serial-keeps plan zero = same (serial G plan zero).store
+  serial-keeps plan zero = grown-same (serial G plan zero).store
   serial-keeps plan (suc n) =
       let before = serial-keeps plan n in
       let last = step-keeps plan.body (serial G plan n) (serial G plan n).stack in

@@ -20,7 +20,7 @@ use Rattle.swan_model.specs.Elision.{serial}
 use Rattle.swan_model.specs.Rights.{is_aliased}
 use Rattle.swan_model.specs.Script.{asked, deed_of, is_end, script, spawn_of}
 use Rattle.swan_model.specs.SerialState.{Activation, Holding, Queue, Store}
-use Rattle.swan_model.specs.SerialStep.{Effect, goes_on, spawns, ends, faults, effect, effect_of, moved, number_at, popped, spawn_effect, given}
+use Rattle.swan_model.specs.SerialStep.{Effect, goes_on, spawns, ends, faults, effect, effect_of, after_next, number_at, popped, spawn_effect, given}
 use Rattle.swan_model.specs.Told.{count, items, taken}
 use Rattle.serial_elision.proofs.Asks.{on_object-either, on_queue-either, if-either}
 use Rattle.serial_elision.proofs.AsksTold.{named}
@@ -97,7 +97,7 @@ module _ {B L : Type 0} (G : Ghosts B L) where
   step-ends : (body : B) (n : ℕ) (store : Store) (top : Activation L) → EndsStill store (next_deed G body store top) (effect_of G body n store top)
   step-ends body n store top =
       let step = G.next body top.local top.answer (top.fuel - 1) in
-      if-either (EndsStill store (next_deed G body store top)) (nat_eq top.fuel 0) _ _ (inl refl) (effect-ends n store (moved top step.0) step.1)
+      if-either (EndsStill store (next_deed G body store top)) (nat_eq top.fuel 0) _ _ (inl refl) (effect-ends n store (after_next top step.0) step.1)
 
   pub ending : (plan : Plan B L) (n : ℕ) (entry : Entry) → slice_get (script G plan).entries n ≡ Some entry → entry.ends ≡ true → (entry.deed ≡ deed.Quiet) ⊎ ((queue : Origin) × (entry.deed ≡ deed.Pop queue) × (taken (script G plan) queue n ≡ count (script G plan) queue n))
   ending plan n entry is over =

@@ -1,6 +1,5 @@
 -- Why the elision ends: each step takes fuel, or ends an activation that has none.
 use Rattle.std.proofs.Common.{◌≡◌, ℕ, zero, suc, ◌+◌, ◌-◌, ◌*◌, ◌≤◌, ◌<◌, Bool, true, false, nat_eq, nat_lt, nat_le, cond, List, [], ◌∷◌, Option, Some, None, refl, ap, arith, rules, tests, length}
-use Rattle.std.specs.Prelude.{slice_get}
 use Rattle.swan_model.specs.declared.body.Ask.{Ask}
 use Rattle.swan_model.specs.declared.body.Ask.TheVariants as ask
 use Rattle.swan_model.specs.declared.body.Body.{Ghosts}
@@ -12,8 +11,9 @@ use Rattle.swan_model.specs.declared.rights.Mode.TheVariants.{In, Out, Push, Pop
 use Rattle.swan_model.specs.declared.value.Value.{Value}
 use Rattle.swan_model.specs.Elision.{serial, most_steps}
 use Rattle.swan_model.specs.Rights.{is_aliased}
-use Rattle.swan_model.specs.SerialState.{Activation, Cell, Holding, Queue, Store, State}
-use Rattle.swan_model.specs.SerialStep.{Effect, goes_on, spawns, ends, faults, after, effect, step_on, moved, number_at, on_object, on_cell, on_queue, on_list, popped, spawn_effect, given}
+use Rattle.swan_model.specs.SerialState.{Activation, Holding, Queue, Store, State}
+use Rattle.swan_model.specs.SerialStep.{Effect, goes_on, spawns, ends, faults, state_after, effect, step_on, after_next, number_at, popped, spawn_effect, given}
+use Rattle.serial_elision.proofs.Asks.{on_object-either, on_queue-either}
 
 -- how many steps a stack can still take
 abbrev pub potential : {L : Type 0} → List (Activation L) → ℕ
@@ -26,22 +26,6 @@ IsWithinFuel fuel (goes_on a store) = a.fuel ≤ fuel
 IsWithinFuel fuel (spawns parent child store) = parent.fuel + child.fuel ≤ fuel
 IsWithinFuel fuel ends = Unit {0}
 IsWithinFuel fuel (faults kind) = Unit {0}
-
-on_cell-within : {L : Type 0} (fuel : ℕ) (cell : Option Cell) (f : Cell → Effect L) → ((c : Cell) → IsWithinFuel fuel (f c)) → IsWithinFuel fuel (on_cell cell f)
-on_cell-within fuel None f each = tt
-on_cell-within fuel (Some cell) f each = each cell
-
-on_object-within : {L : Type 0} (fuel : ℕ) (store : Store) (at : Option ℕ) (f : ℕ → Cell → Effect L) → ((n : ℕ) (c : Cell) → IsWithinFuel fuel (f n c)) → IsWithinFuel fuel (on_object store at f)
-on_object-within fuel store None f each = tt
-on_object-within fuel store (Some n) f each = on_cell-within fuel (slice_get store.cells n) (f n) (each n)
-
-on_list-within : {L : Type 0} (fuel : ℕ) (queue : Option Queue) (f : Queue → Effect L) → ((q : Queue) → IsWithinFuel fuel (f q)) → IsWithinFuel fuel (on_list queue f)
-on_list-within fuel None f each = tt
-on_list-within fuel (Some queue) f each = each queue
-
-on_queue-within : {L : Type 0} (fuel : ℕ) (store : Store) (at : Option ℕ) (f : ℕ → Queue → Effect L) → ((n : ℕ) (q : Queue) → IsWithinFuel fuel (f n q)) → IsWithinFuel fuel (on_queue store at f)
-on_queue-within fuel store None f each = tt
-on_queue-within fuel store (Some n) f each = on_list-within fuel (slice_get store.queues n) (f n) (each n)
 
 popped-within : {L : Type 0} (store : Store) (a : Activation L) (n : ℕ) (queue : Queue) (items : List Value) → IsWithinFuel a.fuel (popped store a n queue items)
 popped-within store a n queue [] = tt
@@ -62,15 +46,15 @@ spawned-within store a child (Some holdings) =
 pub effect-within : {L : Type 0} (n : ℕ) (store : Store) (a : Activation L) (asked : Ask L) → IsWithinFuel a.fuel (effect n store a asked)
 effect-within n store a ask.Work = omega arith
 effect-within n store a (ask.Read place) =
-    on_object-within a.fuel store (number_at a.holdings place In) _ (λ number cell. omega arith)
+    on_object-either (IsWithinFuel a.fuel) tt store (number_at a.holdings place In) _ (λ number cell held found. omega arith)
 effect-within n store a (ask.Write place value) =
-    on_object-within a.fuel store (number_at a.holdings place Out) _ (λ number cell. omega arith)
+    on_object-either (IsWithinFuel a.fuel) tt store (number_at a.holdings place Out) _ (λ number cell held found. omega arith)
 effect-within n store a (ask.Push place value) =
-    on_queue-within a.fuel store (number_at a.holdings place Push) _ (λ number queue. omega arith)
+    on_queue-either (IsWithinFuel a.fuel) tt store (number_at a.holdings place Push) _ (λ number queue held found. omega arith)
 effect-within n store a (ask.Pop place) =
-    on_queue-within a.fuel store (number_at a.holdings place Pop) _ (λ number queue. popped-within store a number queue queue.items)
+    on_queue-either (IsWithinFuel a.fuel) tt store (number_at a.holdings place Pop) _ (λ number queue held found. popped-within store a number queue queue.items)
 effect-within n store a (ask.Empty place) =
-    on_queue-within a.fuel store (number_at a.holdings place Pop) _ (λ number queue. omega arith)
+    on_queue-either (IsWithinFuel a.fuel) tt store (number_at a.holdings place Pop) _ (λ number queue held found. omega arith)
 effect-within n store a ask.NewQueue = omega arith
 effect-within n store a (ask.NewObject value) = omega arith
 effect-within n store a (ask.Spawn child) = spawned-within store a child (given a.holdings child.gives)
@@ -79,7 +63,7 @@ effect-within n store a ask.Finish = tt
 effect-within n store a (ask.Fail trouble) = tt
 
 -- after a step that was paid with one of this many units, and more, the stack can take fewer steps
-after-falls : {L : Type 0} (s : State L) (below : List (Activation L)) (path : List ℕ) (place fuel : ℕ) (done : Effect L) → IsWithinFuel (fuel - 1) done → 0 < fuel → potential (after s below path place done).stack ≤ 2 * fuel + potential below
+after-falls : {L : Type 0} (s : State L) (below : List (Activation L)) (path : List ℕ) (place fuel : ℕ) (done : Effect L) → IsWithinFuel (fuel - 1) done → 0 < fuel → potential (state_after s below path place done).stack ≤ 2 * fuel + potential below
 after-falls s below path place fuel (goes_on a store) within paid = omega arith
 after-falls s below path place fuel (spawns parent child store) within paid = omega arith
 after-falls s below path place fuel ends within paid = omega arith
@@ -89,13 +73,13 @@ module _ {B L : Type 0} (G : Ghosts B L) where
   top-falls : (body : B) (s : State L) (top : Activation L) (below : List (Activation L)) (dry : Bool) → nat_eq top.fuel 0 ≡ dry → potential (step_on G body s (top ∷ below)).stack ≤ 2 * top.fuel + potential below
   top-falls body s top below true is =
       let asked = G.next body top.local top.answer (top.fuel - 1) in
-      omega (arith, ap (λ b. potential (after s below top.path (G.place_of body top.local) (cond b (faults kind.Fuel) (effect s.steps s.store (moved top asked.0) asked.1))).stack) is)
+      omega (arith, ap (λ b. potential (state_after s below top.path (G.place_of body top.local) (cond b (faults kind.Fuel) (effect s.steps s.store (after_next top asked.0) asked.1))).stack) is)
   top-falls body s top below false is =
       let asked = G.next body top.local top.answer (top.fuel - 1) in
-      let done = effect s.steps s.store (moved top asked.0) asked.1 in
+      let done = effect s.steps s.store (after_next top asked.0) asked.1 in
       let paid : 0 < top.fuel = search (rules, tests) in
-      let falls = after-falls s below top.path (G.place_of body top.local) top.fuel done (effect-within s.steps s.store (moved top asked.0) asked.1) paid in
-      omega (arith, falls, ap (λ b. potential (after s below top.path (G.place_of body top.local) (cond b (faults kind.Fuel) done)).stack) is)
+      let falls = after-falls s below top.path (G.place_of body top.local) top.fuel done (effect-within s.steps s.store (after_next top asked.0) asked.1) paid in
+      omega (arith, falls, ap (λ b. potential (state_after s below top.path (G.place_of body top.local) (cond b (faults kind.Fuel) done)).stack) is)
 
   -- each step that is taken lessens how many can still be taken
   step-falls : (body : B) (s : State L) (stack : List (Activation L)) → s.stack ≡ stack → potential (step_on G body s stack).stack ≤ potential stack - 1

@@ -16,7 +16,7 @@ use Rattle.swan_model.specs.declared.value.Value.{Value}
 use Rattle.swan_model.specs.Elision.{serial}
 use Rattle.swan_model.specs.Rights.{is_aliased}
 use Rattle.swan_model.specs.SerialState.{Activation, Holding, Queue, Store, State}
-use Rattle.swan_model.specs.SerialStep.{Effect, goes_on, spawns, ends, faults, after, effect, effect_of, step_on, moved, number_at, popped, spawn_effect, given}
+use Rattle.swan_model.specs.SerialStep.{Effect, goes_on, spawns, ends, faults, state_after, effect, effect_of, step_on, after_next, number_at, popped, spawn_effect, given}
 use Rattle.swan_model.specs.PathOrder.{comes_before}
 use Rattle.serial_elision.specs.Laws.{AreInOrder}
 use Rattle.serial_elision.proofs.Asks.{on_object-either, on_queue-either, if-either}
@@ -32,9 +32,9 @@ PrecedesEach path [] = Unit {0}
 PrecedesEach path (a ∷ below) = Precedes path a × PrecedesEach path below
 
 -- each activation comes before those below it
-abbrev pub IsNested : {L : Type 0} → List (Activation L) → Type 0
-IsNested [] = Unit {0}
-IsNested (top ∷ below) = PrecedesEach top.path below × IsNested below
+abbrev pub EachPrecedesBelow : {L : Type 0} → List (Activation L) → Type 0
+EachPrecedesBelow [] = Unit {0}
+EachPrecedesBelow (top ∷ below) = PrecedesEach top.path below × EachPrecedesBelow below
 
 -- each fault comes before all activations
 abbrev FaultsPrecede : {L : Type 0} → List Fault → List (Activation L) → Type 0
@@ -42,7 +42,7 @@ FaultsPrecede [] stack = Unit {0}
 FaultsPrecede (fault ∷ booked) stack = PrecedesEach fault.path stack × FaultsPrecede booked stack
 
 pub record IsOrdered {L : Type 0} (stack : List (Activation L)) (booked : List Fault) : Type 0 where
-  pub nested : IsNested stack
+  pub nested : EachPrecedesBelow stack
   pub before : FaultsPrecede booked stack
   pub in_order : AreInOrder booked
 
@@ -105,35 +105,35 @@ in_order-push top below (first ∷ booked) fault is precede ordered =
     AllPairs-cons InOrder first (booked ++ fault ∷ []) (All-push (InOrder first) booked fault later last) (in_order-push top below booked fault is precede.1 rest)
 
 -- the activations that an effect leaves stand where that of the step stood, and its child below it
-abbrev StandsAt : {L : Type 0} → Activation L → Effect L → Type 0
-StandsAt a (goes_on b store) = (b.path ≡ a.path) × (b.children ≡ a.children)
-StandsAt a (spawns parent child store) = (parent.path ≡ a.path) × (parent.children ≡ a.children + 1) × (child.path ≡ a.path ++ a.children ∷ [])
-StandsAt a ends = Unit {0}
-StandsAt a (faults kind) = Unit {0}
+abbrev StandWhereItStood : {L : Type 0} → Activation L → Effect L → Type 0
+StandWhereItStood a (goes_on b store) = (b.path ≡ a.path) × (b.children ≡ a.children)
+StandWhereItStood a (spawns parent child store) = (parent.path ≡ a.path) × (parent.children ≡ a.children + 1) × (child.path ≡ a.path ++ a.children ∷ [])
+StandWhereItStood a ends = Unit {0}
+StandWhereItStood a (faults kind) = Unit {0}
 
-popped-stands : {L : Type 0} (store : Store) (a : Activation L) (n : ℕ) (queue : Queue) (items : List Value) → StandsAt a (popped store a n queue items)
+popped-stands : {L : Type 0} (store : Store) (a : Activation L) (n : ℕ) (queue : Queue) (items : List Value) → StandWhereItStood a (popped store a n queue items)
 popped-stands store a n queue [] = tt
 popped-stands store a n queue (item ∷ items) = (refl, refl)
 
-spawned-stands : {L : Type 0} (store : Store) (a : Activation L) (child : Child L) (holdings : Option (List Holding)) → StandsAt a (spawn_effect store a child holdings)
+spawned-stands : {L : Type 0} (store : Store) (a : Activation L) (child : Child L) (holdings : Option (List Holding)) → StandWhereItStood a (spawn_effect store a child holdings)
 spawned-stands store a child None = tt
 spawned-stands store a child (Some holdings) =
-    if-either (StandsAt a) (is_aliased child.gives) _ _ tt
-    (if-either (StandsAt a) (nat_le PATH_MOST (length a.path)) _ _ tt
-    (if-either (StandsAt a) (nat_lt a.fuel child.fuel) _ _ tt (refl, refl, refl)))
+    if-either (StandWhereItStood a) (is_aliased child.gives) _ _ tt
+    (if-either (StandWhereItStood a) (nat_le PATH_MOST (length a.path)) _ _ tt
+    (if-either (StandWhereItStood a) (nat_lt a.fuel child.fuel) _ _ tt (refl, refl, refl)))
 
-effect-stands : {L : Type 0} (n : ℕ) (store : Store) (a : Activation L) (asked : Ask L) → StandsAt a (effect n store a asked)
+effect-stands : {L : Type 0} (n : ℕ) (store : Store) (a : Activation L) (asked : Ask L) → StandWhereItStood a (effect n store a asked)
 effect-stands n store a ask.Work = (refl, refl)
 effect-stands n store a (ask.Read place) =
-    on_object-either (StandsAt a) tt store (number_at a.holdings place In) _ (λ number cell held found. (refl, refl))
+    on_object-either (StandWhereItStood a) tt store (number_at a.holdings place In) _ (λ number cell held found. (refl, refl))
 effect-stands n store a (ask.Write place value) =
-    on_object-either (StandsAt a) tt store (number_at a.holdings place Out) _ (λ number cell held found. (refl, refl))
+    on_object-either (StandWhereItStood a) tt store (number_at a.holdings place Out) _ (λ number cell held found. (refl, refl))
 effect-stands n store a (ask.Push place value) =
-    on_queue-either (StandsAt a) tt store (number_at a.holdings place Push) _ (λ number queue held found. (refl, refl))
+    on_queue-either (StandWhereItStood a) tt store (number_at a.holdings place Push) _ (λ number queue held found. (refl, refl))
 effect-stands n store a (ask.Pop place) =
-    on_queue-either (StandsAt a) tt store (number_at a.holdings place Pop) _ (λ number queue held found. popped-stands store a number queue queue.items)
+    on_queue-either (StandWhereItStood a) tt store (number_at a.holdings place Pop) _ (λ number queue held found. popped-stands store a number queue queue.items)
 effect-stands n store a (ask.Empty place) =
-    on_queue-either (StandsAt a) tt store (number_at a.holdings place Pop) _ (λ number queue held found. (refl, refl))
+    on_queue-either (StandWhereItStood a) tt store (number_at a.holdings place Pop) _ (λ number queue held found. (refl, refl))
 effect-stands n store a ask.NewQueue = (refl, refl)
 effect-stands n store a (ask.NewObject value) = (refl, refl)
 effect-stands n store a (ask.Spawn child) = spawned-stands store a child (given a.holdings child.gives)
@@ -141,7 +141,7 @@ effect-stands n store a ask.Sync = (refl, refl)
 effect-stands n store a ask.Finish = tt
 effect-stands n store a (ask.Fail trouble) = tt
 
-after-ordered : {L : Type 0} (s : State L) (top : Activation L) (below : List (Activation L)) (place : ℕ) (done : Effect L) → StandsAt top done → IsOrdered (top ∷ below) s.faults → IsOrdered (after s below top.path place done).stack (after s below top.path place done).faults
+after-ordered : {L : Type 0} (s : State L) (top : Activation L) (below : List (Activation L)) (place : ℕ) (done : Effect L) → StandWhereItStood top done → IsOrdered (top ∷ below) s.faults → IsOrdered (state_after s below top.path place done).stack (state_after s below top.path place done).faults
 after-ordered s top below place (goes_on a store) stands ordered =
     record {
       nested = (subst (λ path. PrecedesEach path below) (sym stands.0) ordered.nested.0, ordered.nested.1);
@@ -180,7 +180,7 @@ module _ {B L : Type 0} (G : Ghosts B L) where
   step_on-ordered body s [] is ordered = subst (λ stack. IsOrdered stack s.faults) (sym is) ordered
   step_on-ordered body s (top ∷ below) is ordered =
       let asked = G.next body top.local top.answer (top.fuel - 1) in
-      let stands = if-either (StandsAt top) (nat_eq top.fuel 0) _ _ tt (effect-stands s.steps s.store (moved top asked.0) asked.1) in
+      let stands = if-either (StandWhereItStood top) (nat_eq top.fuel 0) _ _ tt (effect-stands s.steps s.store (after_next top asked.0) asked.1) in
       after-ordered s top below (G.place_of body top.local) (effect_of G body s.steps s.store top) stands ordered
 
   pub serial-ordered : (plan : Plan B L) (n : ℕ) → IsOrdered (serial G plan n).stack (serial G plan n).faults

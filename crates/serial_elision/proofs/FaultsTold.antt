@@ -10,7 +10,7 @@ use Rattle.swan_model.specs.Elision.{most_steps, outcome, serial}
 use Rattle.swan_model.specs.PathOrder.{comes_before}
 use Rattle.swan_model.specs.Script.{is_end, script}
 use Rattle.swan_model.specs.SerialState.{Activation, State}
-use Rattle.swan_model.specs.SerialStep.{Effect, goes_on, spawns, ends, faults, after, effect_of, step_on}
+use Rattle.swan_model.specs.SerialStep.{Effect, goes_on, spawns, ends, faults, state_after, effect_of, step_on}
 use Rattle.swan_model.specs.SerialTime.{time}
 use Rattle.swan_model.specs.TrueFrames.{effect_at}
 use Rattle.serial_elision.specs.Laws.{AreInOrder}
@@ -79,7 +79,7 @@ same-faults (x ∷ xs) (y ∷ ys) one two among also =
 module _ {B L : Type 0} (G : Ghosts B L) (plan : Plan B L) where
   booked-on : (n : ℕ) (top : Activation L) (below : List (Activation L)) (done : Effect L) → (serial G plan n).stack ≡ top ∷ below → effect_of G plan.body (serial G plan n).steps (serial G plan n).store top ≡ done
       → (j : ℕ) (fault : Fault) → ((i : ℕ) → slice_get (serial G plan n).faults i ≡ Some fault → IsFaultOf G plan fault)
-      → slice_get (after (serial G plan n) below top.path (G.place_of plan.body top.local) done).faults j ≡ Some fault → IsFaultOf G plan fault
+      → slice_get (state_after (serial G plan n) below top.path (G.place_of plan.body top.local) done).faults j ≡ Some fault → IsFaultOf G plan fault
   booked-on n top below (goes_on a store) is does j fault before at = before j at
   booked-on n top below (spawns parent child store) is does j fault before at = before j at
   booked-on n top below ends is does j fault before at = before j at
@@ -119,7 +119,7 @@ module _ {B L : Type 0} (G : Ghosts B L) (plan : Plan B L) where
   kept-on : (s : State L) (stack : List (Activation L)) (j : ℕ) (fault : Fault) → slice_get s.faults j ≡ Some fault → slice_get (step_on G plan.body s stack).faults j ≡ Some fault
   kept-on s [] j fault at = at
   kept-on s (top ∷ below) j fault at = by (effect_of G plan.body s.steps s.store top) where
-    by : (done : Effect L) → slice_get (after s below top.path (G.place_of plan.body top.local) done).faults j ≡ Some fault
+    by : (done : Effect L) → slice_get (state_after s below top.path (G.place_of plan.body top.local) done).faults j ≡ Some fault
     by (goes_on a store) = at
     by (spawns parent child store) = at
     by ends = at
@@ -139,7 +139,7 @@ module _ {B L : Type 0} (G : Ghosts B L) (plan : Plan B L) where
       let path = (top_path G plan fault.path is.k is.top is.stands).1 in
       let it : new ≡ fault = ap {B = Fault} (λ p. record { path = p; place = G.place_of plan.body is.top.local; kind = fault.kind }) path ∙ ap {B = Fault} (λ p. record { path = fault.path; place = p; kind = fault.kind }) (sym is.place) in
       let then : (serial G plan (suc t)).faults ≡ s.faults ++ new ∷ [] =
-      ap (λ (x : State L). x.faults) (next-state G plan fault.path is.k is.top is.stands) ∙ ap (λ d. (after s is.stands.below is.top.path (G.place_of plan.body is.top.local) d).faults) is.effect in
+      ap (λ (x : State L). x.faults) (next-state G plan fault.path is.k is.top is.stands) ∙ ap (λ d. (state_after s is.stands.below is.top.path (G.place_of plan.body is.top.local) d).faults) is.effect in
       let j = length s.faults in
       let here : slice_get (serial G plan (suc t)).faults j ≡ Some fault = ap (λ fs. slice_get fs j) then ∙ last_more s.faults new ∙ ap Some it in
       (j, ap (λ (x : State L). slice_get x.faults j) (sym (final-past G plan (suc t + most_steps plan) (omega arith))) ∙ kept-more (suc t) (most_steps plan) j fault here)

@@ -9,15 +9,15 @@ use Rattle.swan_model.specs.declared.rights.Give.{Give}
 use Rattle.swan_model.specs.declared.script.Deed.{Deed}
 use Rattle.swan_model.specs.Elision.{serial}
 use Rattle.swan_model.specs.SerialState.{Activation, Holding, State, Store}
-use Rattle.swan_model.specs.SerialStep.{Effect, goes_on, spawns, ends, faults, after, effect, effect_of, given, given_also, moved, number_at, step_on}
+use Rattle.swan_model.specs.SerialStep.{Effect, goes_on, spawns, ends, faults, state_after, effect, effect_of, given, given_also, after_next, number_at, step_on}
 use Rattle.swan_model.specs.TrueFrames.{StandsAt, state_at}
 use Rattle.swan_model.specs.SerialTime.{time}
 use Rattle.swan_model.specs.Script.{script}
 use Rattle.serial_elision.proofs.Ends.{IsWithinFuel, effect-within}
-use Rattle.serial_elision.proofs.Granting.{Grants, IsMade}
+use Rattle.serial_elision.proofs.Granting.{Grants, IsMadeByStep}
 use Rattle.serial_elision.proofs.RightsTold.{step-grants}
 use Rattle.serial_elision.proofs.TaskSteps.{HasStood, stands-one, stood-before}
-use Rattle.serial_elision.proofs.Turns.{Fits, next_deed, step-fits}
+use Rattle.serial_elision.proofs.Turns.{FitsDeed, next_deed, step-fits}
 
 -- an effect leaves less fuel than this
 abbrev pub LeavesLess : {L : Type 0} → ℕ → Effect L → Type 0
@@ -32,19 +32,19 @@ leaves-less fuel (spawns parent child store) paid within = omega arith
 leaves-less fuel ends paid within = tt
 leaves-less fuel (faults kind) paid within = tt
 
-asked-less : {L : Type 0} (n : ℕ) (store : Store) (top : Activation L) (said : L × Ask L) (dry : Bool) → nat_eq top.fuel 0 ≡ dry → LeavesLess top.fuel (cond dry (faults kind.Fuel) (effect n store (moved top said.0) said.1))
+asked-less : {L : Type 0} (n : ℕ) (store : Store) (top : Activation L) (said : L × Ask L) (dry : Bool) → nat_eq top.fuel 0 ≡ dry → LeavesLess top.fuel (cond dry (faults kind.Fuel) (effect n store (after_next top said.0) said.1))
 asked-less n store top said true is = tt
 asked-less n store top said false is =
     let paid : 0 < top.fuel = search (rules, tests) in
-    leaves-less top.fuel (effect n store (moved top said.0) said.1) paid (effect-within n store (moved top said.0) said.1)
+    leaves-less top.fuel (effect n store (after_next top said.0) said.1) paid (effect-within n store (after_next top said.0) said.1)
 
 -- so many children go with this fuel
 abbrev AreWithin : {L : Type 0} → ℕ → List (Activation L) → Type 0
 AreWithin most [] = Unit {0}
 AreWithin most (a ∷ below) = (a.children + a.fuel ≤ most) × AreWithin most below
 
-after-within : {L : Type 0} (most : ℕ) (s : State L) (top : Activation L) (below : List (Activation L)) (place : ℕ) (does : Deed) (done : Effect L) → Fits top does done → LeavesLess top.fuel done
-    → AreWithin most (top ∷ below) → AreWithin most (after s below top.path place done).stack
+after-within : {L : Type 0} (most : ℕ) (s : State L) (top : Activation L) (below : List (Activation L)) (place : ℕ) (does : Deed) (done : Effect L) → FitsDeed top does done → LeavesLess top.fuel done
+    → AreWithin most (top ∷ below) → AreWithin most (state_after s below top.path place done).stack
 after-within most s top below place does (goes_on a store) fits less are = (omega (arith, fits.1, are.0), are.1)
 after-within most s top below place does (spawns parent child store) fits less are = (omega (arith, fits.3, are.0), (omega (arith, fits.1, are.0), are.1))
 after-within most s top below place does ends fits less are = are.1
@@ -72,7 +72,7 @@ module _ {B L : Type 0} (G : Ghosts B L) (plan : Plan B L) where
 
   -- ---- places
 
-  placed-less : (n : ℕ) (store : Store) (before top : Activation L) (does : Deed) → (top.holdings ≡ before.holdings) ⊎ IsMade n does store before.holdings top.holdings → top.fuel < before.fuel
+  placed-less : (n : ℕ) (store : Store) (before top : Activation L) (does : Deed) → (top.holdings ≡ before.holdings) ⊎ IsMadeByStep n does store before.holdings top.holdings → top.fuel < before.fuel
       → length top.holdings + top.fuel ≤ length before.holdings + before.fuel
   placed-less n store before top does (inl same) less = omega (arith, ap length same)
   placed-less n store before top does (inr made) less = omega (arith, ap length made.last, length-append before.holdings (made.holding ∷ []))

@@ -22,7 +22,7 @@ use Rattle.swan_model.specs.Elision.{most_steps, serial}
 use Rattle.swan_model.specs.QueueFollows.{queue_times}
 use Rattle.swan_model.specs.Script.{asked, deed_of, entry_of, entry_on, script}
 use Rattle.swan_model.specs.SerialState.{Activation, State}
-use Rattle.swan_model.specs.SerialStep.{Effect, goes_on, spawns, ends, faults, after, effect, effect_of, moved, step_on}
+use Rattle.swan_model.specs.SerialStep.{Effect, goes_on, spawns, ends, faults, state_after, effect, effect_of, after_next, step_on}
 use Rattle.swan_model.specs.SerialTime.{is_of, is_queue_deed, places_from, times}
 use Rattle.swan_model.specs.Told.{deed_at}
 use Rattle.swan_model.proofs.Elements.{option_cases, one_if, any_number}
@@ -41,7 +41,7 @@ abbrev fuel_of : {L : Type 0} → List (Activation L) → ℕ
 fuel_of [] = 0
 fuel_of (a ∷ below) = a.fuel + fuel_of below
 
-after-fuel : {L : Type 0} (s : State L) (below : List (Activation L)) (path : List ℕ) (place fuel : ℕ) (done : Effect L) → IsWithinFuel fuel done → fuel_of (after s below path place done).stack ≤ fuel + fuel_of below
+after-fuel : {L : Type 0} (s : State L) (below : List (Activation L)) (path : List ℕ) (place fuel : ℕ) (done : Effect L) → IsWithinFuel fuel done → fuel_of (state_after s below path place done).stack ≤ fuel + fuel_of below
 after-fuel s below path place fuel (goes_on a store) within = omega arith
 after-fuel s below path place fuel (spawns parent child store) within = omega arith
 after-fuel s below path place fuel ends within = omega arith
@@ -60,17 +60,17 @@ module _ {B L : Type 0} (G : Ghosts B L) (plan : Plan B L) (test : Deed → Bool
       → one_if (passes (entry_of G plan.body s.steps s.store top)) + fuel_of (step_on G plan.body s (top ∷ below)).stack ≤ fuel_of (top ∷ below)
   top-pays s top below true is =
       let said = G.next plan.body top.local top.answer (top.fuel - 1) in
-      let none : effect_of G plan.body s.steps s.store top ≡ faults kind.Fuel = ap (λ b. cond b (faults kind.Fuel) (effect s.steps s.store (moved top said.0) said.1)) is in
+      let none : effect_of G plan.body s.steps s.store top ≡ faults kind.Fuel = ap (λ b. cond b (faults kind.Fuel) (effect s.steps s.store (after_next top said.0) said.1)) is in
       let fails : one_if (passes (entry_of G plan.body s.steps s.store top)) ≡ 0 = ap (λ d. one_if (test (deed_of (asked s.store top.holdings said.1) d))) none ∙ ap one_if quiet in
-      let left : fuel_of (step_on G plan.body s (top ∷ below)).stack ≡ fuel_of below = ap (λ d. fuel_of (after s below top.path (G.place_of plan.body top.local) d).stack) none in
+      let left : fuel_of (step_on G plan.body s (top ∷ below)).stack ≡ fuel_of below = ap (λ d. fuel_of (state_after s below top.path (G.place_of plan.body top.local) d).stack) none in
       omega (arith, fails, left)
   top-pays s top below false is =
       let said = G.next plan.body top.local top.answer (top.fuel - 1) in
-      let done = effect s.steps s.store (moved top said.0) said.1 in
+      let done = effect s.steps s.store (after_next top said.0) said.1 in
       let paid : 0 < top.fuel = search (rules, tests) in
-      let falls = after-fuel s below top.path (G.place_of plan.body top.local) (top.fuel - 1) done (effect-within s.steps s.store (moved top said.0) said.1) in
-      let left : fuel_of (step_on G plan.body s (top ∷ below)).stack ≡ fuel_of (after s below top.path (G.place_of plan.body top.local) done).stack =
-      ap (λ b. fuel_of (after s below top.path (G.place_of plan.body top.local) (cond b (faults kind.Fuel) done)).stack) is in
+      let falls = after-fuel s below top.path (G.place_of plan.body top.local) (top.fuel - 1) done (effect-within s.steps s.store (after_next top said.0) said.1) in
+      let left : fuel_of (step_on G plan.body s (top ∷ below)).stack ≡ fuel_of (state_after s below top.path (G.place_of plan.body top.local) done).stack =
+      ap (λ b. fuel_of (state_after s below top.path (G.place_of plan.body top.local) (cond b (faults kind.Fuel) done)).stack) is in
       omega (arith, falls, left, one_if-most (passes (entry_of G plan.body s.steps s.store top)))
 
   abbrev es : List Entry
@@ -96,9 +96,9 @@ module _ {B L : Type 0} (G : Ghosts B L) (plan : Plan B L) (test : Deed → Bool
   -- ---- and so no more origins
 
   -- the origin is one of so many roots, or of a step that passes
-  abbrev IsMade : ℕ → Origin → Type 0
-  IsMade roots (Root i) = i < roots
-  IsMade roots (Step n) = test (deed_at (script G plan) n) ≡ true
+  abbrev IsRootOrPassing : ℕ → Origin → Type 0
+  IsRootOrPassing roots (Root i) = i < roots
+  IsRootOrPassing roots (Step n) = test (deed_at (script G plan) n) ≡ true
 
   abbrev number_of : ℕ → Origin → ℕ
   number_of roots (Root i) = i
@@ -115,11 +115,11 @@ module _ {B L : Type 0} (G : Ghosts B L) (plan : Plan B L) (test : Deed → Bool
         omega (arith, passing-more passes es n some.0 some.1, one)
   ]
 
-  number-below : (roots : ℕ) (o : Origin) → IsMade roots o → number_of roots o < roots + plan.fuel
+  number-below : (roots : ℕ) (o : Origin) → IsRootOrPassing roots o → number_of roots o < roots + plan.fuel
   number-below roots (Root i) is = omega arith
   number-below roots (Step n) is = omega (arith, passing-next n is, few-pass (suc n))
 
-  number-one : (roots : ℕ) (o p : Origin) → IsMade roots o → IsMade roots p → number_of roots o ≡ number_of roots p → o ≡ p
+  number-one : (roots : ℕ) (o p : Origin) → IsRootOrPassing roots o → IsRootOrPassing roots p → number_of roots o ≡ number_of roots p → o ≡ p
   number-one roots (Root i) (Root j) one two same = ap Root same
   number-one roots (Root i) (Step n) one two same = absurd (omega arith)
   number-one roots (Step n) (Root i) one two same = absurd (omega arith)
@@ -143,7 +143,7 @@ module _ {B L : Type 0} (G : Ghosts B L) (plan : Plan B L) (test : Deed → Bool
   numbered : (roots : ℕ) (origins : List Origin) (i q : ℕ) → slice_get (map (number_of roots) origins) i ≡ Some q → HasNumber roots origins i q
   numbered roots origins i q at = has-number roots origins i q (slice_get origins i) refl (sym (slice_get-map (number_of roots) origins i) ∙ at)
 
-  pub few-origins : (roots : ℕ) (origins : List Origin) → AreEachOnce (IsMade roots) origins → length origins ≤ roots + plan.fuel
+  pub few-origins : (roots : ℕ) (origins : List Origin) → AreEachOnce (IsRootOrPassing roots) origins → length origins ≤ roots + plan.fuel
   few-origins roots origins are =
       let numbers = map (number_of roots) origins in
       let many : length numbers ≡ length origins = length-map origins (number_of roots) in
@@ -176,11 +176,11 @@ makes_object (deed.MakeObject first) = true
 makes_object _ = false
 
 module _ {B L : Type 0} (G : Ghosts B L) (plan : Plan B L) where
-  queue-made : (o : Origin) → IsQueueOf (script G plan) o → IsMade G plan makes_queue refl (length plan.roots.queues) o
+  queue-made : (o : Origin) → IsQueueOf (script G plan) o → IsRootOrPassing G plan makes_queue refl (length plan.roots.queues) o
   queue-made (Root i) is = omega (arith, is, length-map plan.roots.queues (λ (queue : RootQueue). queue.items))
   queue-made (Step n) is = ap makes_queue is
 
-  object-made : (o : Origin) → IsObjectOf (script G plan) o → IsMade G plan makes_object refl (length plan.roots.objects) o
+  object-made : (o : Origin) → IsObjectOf (script G plan) o → IsRootOrPassing G plan makes_object refl (length plan.roots.objects) o
   object-made (Root i) is = is
   object-made (Step n) is = ap makes_object is.1
 

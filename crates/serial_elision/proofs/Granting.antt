@@ -22,7 +22,7 @@ use Rattle.swan_model.specs.Granted.{holds, granted, granted_by, child_path, may
 use Rattle.swan_model.specs.Rights.{allows, is_aliased}
 use Rattle.swan_model.specs.Script.{asked, deed_of, gives_of, origin_of, spawn_of}
 use Rattle.swan_model.specs.SerialState.{Activation, Cell, Holding, Queue, State, Store}
-use Rattle.swan_model.specs.SerialStep.{Effect, goes_on, spawns, ends, faults, after, effect, number_at, popped, spawn_effect, given}
+use Rattle.swan_model.specs.SerialStep.{Effect, goes_on, spawns, ends, faults, state_after, effect, number_at, popped, spawn_effect, given}
 use Rattle.swan_model.specs.SerialTime.{is_of}
 use Rattle.swan_model.specs.Told.{is_same}
 use Rattle.serial_elision.proofs.Asks.{on_object-either, on_queue-either, if-either}
@@ -31,13 +31,13 @@ use Rattle.serial_elision.proofs.Held.{IsHeldBy, AreHeldBy, Stand, held-more, he
 use Rattle.swan_model.proofs.Origins.{is_same-self}
 use Rattle.swan_model.proofs.Places.{passing}
 use Rattle.serial_elision.proofs.Rights.{MayUseEach}
-use Rattle.serial_elision.proofs.Turns.{Fits}
+use Rattle.serial_elision.proofs.Turns.{FitsDeed}
 use Rattle.swan_model.proofs.Paths.{path_is-itself}
 use Rattle.swan_model.proofs.TaskEntries.{is_spawn_of}
 use Rattle.swan_model.proofs.Uses.{HasMore, holds-next, more-after, more-next, own-made}
 
 -- one holding more is of what this step made, with both rights
-pub record IsMade (n : ℕ) (does : Deed) (after : Store) (before now : List Holding) : Type 0 where
+pub record IsMadeByStep (n : ℕ) (does : Deed) (after : Store) (before now : List Holding) : Type 0 where
   pub holding : Holding
   pub last : now ≡ before ++ holding ∷ []
   pub stands : origin_of after holding.mode holding.number ≡ Some (Step n)
@@ -50,7 +50,7 @@ pub record IsGiven (does : Deed) (before : Store) (held now : List Holding) : Ty
 
 -- what an effect leaves each activation to hold
 abbrev pub Grants : {L : Type 0} → ℕ → Store → Activation L → Deed → Effect L → Type 0
-Grants n before a does (goes_on b after) = (b.holdings ≡ a.holdings) ⊎ IsMade n does after a.holdings b.holdings
+Grants n before a does (goes_on b after) = (b.holdings ≡ a.holdings) ⊎ IsMadeByStep n does after a.holdings b.holdings
 Grants n before a does (spawns parent child after) = (parent.holdings ≡ a.holdings) × IsGiven does before a.holdings child.holdings
 Grants n before a does ends = Unit {0}
 Grants n before a does (faults kind) = Unit {0}
@@ -67,7 +67,7 @@ spawned-grants {L = L} n store a child (Some hs) may =
     (if-either P (nat_le PATH_MOST (length a.path)) _ _ tt
     (if-either P (nat_lt a.fuel child.fuel) _ _ tt (refl, record { gives = refl; may = may hs refl })))
 
-made-queue : (n : ℕ) (store : Store) (before : List Holding) → IsMade n deed.MakeQueue (record store { queues = store.queues ++ (record { origin = Step n; items = [] }) ∷ [] }) before (before ++ (record { mode = PushPop; number = length store.queues }) ∷ [])
+made-queue : (n : ℕ) (store : Store) (before : List Holding) → IsMadeByStep n deed.MakeQueue (record store { queues = store.queues ++ (record { origin = Step n; items = [] }) ∷ [] }) before (before ++ (record { mode = PushPop; number = length store.queues }) ∷ [])
 made-queue n store before =
     record {
       holding = record { mode = PushPop; number = length store.queues };
@@ -76,7 +76,7 @@ made-queue n store before =
       may = λ is_child mode allowed. or_left (allows PushPop mode && is_same (Step n) (Step n)) false (and_from (allows PushPop mode) (is_same (Step n) (Step n)) allowed (is_same-self (Step n)));
     }
 
-made-object : (n : ℕ) (store : Store) (value : Value) (cell : Cell) (before : List Holding) → cell.origin ≡ Step n → IsMade n (deed.MakeObject value) (record store { cells = store.cells ++ cell ∷ [] }) before (before ++ (record { mode = InOut; number = length store.cells }) ∷ [])
+made-object : (n : ℕ) (store : Store) (value : Value) (cell : Cell) (before : List Holding) → cell.origin ≡ Step n → IsMadeByStep n (deed.MakeObject value) (record store { cells = store.cells ++ cell ∷ [] }) before (before ++ (record { mode = InOut; number = length store.cells }) ∷ [])
 made-object n store value cell before is =
     record {
       holding = record { mode = InOut; number = length store.cells };
@@ -137,7 +137,7 @@ each-next s n e before after (a ∷ below) is stand each = (
 )
 
 -- what a task holds after its step
-top-next : (s : Script) (n : ℕ) (e : Entry) (before after : Store) (path : List ℕ) (hs now : List Holding) → slice_get s.entries n ≡ Some e → e.path ≡ path → Stand before after → AreHeldBy (holds s path n) before hs → (now ≡ hs) ⊎ IsMade n e.deed after hs now → AreHeldBy (holds s path (suc n)) after now
+top-next : (s : Script) (n : ℕ) (e : Entry) (before after : Store) (path : List ℕ) (hs now : List Holding) → slice_get s.entries n ≡ Some e → e.path ≡ path → Stand before after → AreHeldBy (holds s path n) before hs → (now ≡ hs) ⊎ IsMadeByStep n e.deed after hs now → AreHeldBy (holds s path (suc n)) after now
 top-next s n e before after path hs now is own stand are (inl same) =
     subst (AreHeldBy (holds s path (suc n)) after) (sym same) (held-more (holds s path n) (holds s path (suc n)) before after hs (more-next s path n e is) stand are)
 top-next s n e before after path hs now is own stand are (inr made) =
@@ -147,10 +147,10 @@ top-next s n e before after path hs now is own stand are (inr made) =
     subst (AreHeldBy (holds s path (suc n)) after) (sym made.last)
     (held-append (holds s path (suc n)) after hs (made.holding ∷ []) kept (new, tt))
 
-pub after-hold : {L : Type 0} (s : Script) (n : ℕ) (e : Entry) (state : State L) (top : Activation L) (below : List (Activation L)) (place : ℕ) (does : Deed) (done : Effect L) → Fits top does done → Grants n state.store top does done → slice_get s.entries n ≡ Some e → e.path ≡ top.path → e.deed ≡ deed_of does done → passing (is_spawn_of top.path) n s.entries ≡ top.children → Stand state.store (after state below top.path place done).store → HoldEach s n state.store (top ∷ below) → HoldEach s (suc n) (after state below top.path place done).store (after state below top.path place done).stack
+pub after-hold : {L : Type 0} (s : Script) (n : ℕ) (e : Entry) (state : State L) (top : Activation L) (below : List (Activation L)) (place : ℕ) (does : Deed) (done : Effect L) → FitsDeed top does done → Grants n state.store top does done → slice_get s.entries n ≡ Some e → e.path ≡ top.path → e.deed ≡ deed_of does done → passing (is_spawn_of top.path) n s.entries ≡ top.children → Stand state.store (state_after state below top.path place done).store → HoldEach s n state.store (top ∷ below) → HoldEach s (suc n) (state_after state below top.path place done).store (state_after state below top.path place done).stack
 after-hold s n e state top below place does (goes_on a store) fits grants is own deed_is counted stand each =
-    let made : (a.holdings ≡ top.holdings) ⊎ IsMade n e.deed store top.holdings a.holdings =
-    subst (λ d. (a.holdings ≡ top.holdings) ⊎ IsMade n d store top.holdings a.holdings) (sym deed_is) grants in
+    let made : (a.holdings ≡ top.holdings) ⊎ IsMadeByStep n e.deed store top.holdings a.holdings =
+    subst (λ d. (a.holdings ≡ top.holdings) ⊎ IsMadeByStep n d store top.holdings a.holdings) (sym deed_is) grants in
     let next = top-next s n e state.store store top.path top.holdings a.holdings is own stand each.0 made in
     (held-as s (suc n) store top.path a.path a.holdings a.holdings fits.0 refl next, each-next s n e state.store store below is stand each.1)
 after-hold s n e state top below place does (spawns parent child store) fits grants is own deed_is counted stand each =

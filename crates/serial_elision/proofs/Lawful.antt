@@ -13,13 +13,13 @@ use Rattle.swan_model.specs.Nested.{IsEndOf}
 use Rattle.swan_model.specs.Roots.{IsWithinBounds}
 use Rattle.swan_model.specs.Script.{deed_of, is_end, script}
 use Rattle.swan_model.specs.SerialState.{Activation, State}
-use Rattle.swan_model.specs.SerialStep.{Effect, goes_on, spawns, ends, faults, after, effect_of, step_on}
+use Rattle.swan_model.specs.SerialStep.{Effect, goes_on, spawns, ends, faults, state_after, effect_of, step_on}
 use Rattle.serial_elision.proofs.EndDeeds.{ending}
 use Rattle.serial_elision.proofs.Endings.{nested, root_ends}
 use Rattle.serial_elision.proofs.Nesting.{top_at, next_stack, end_is_last, counted}
 use Rattle.serial_elision.proofs.Passing.{AreCounted}
 use Rattle.serial_elision.proofs.RightsTold.{within_rights}
-use Rattle.serial_elision.proofs.Turns.{Fits, next_deed, step-fits}
+use Rattle.serial_elision.proofs.Turns.{FitsDeed, next_deed, step-fits}
 
 -- ---- each activation is a child of the one below it
 
@@ -39,7 +39,7 @@ AreChildren (a ∷ below) = IsChildOfFirst a.path below × AreChildren below
 child-moved : {L : Type 0} (path other : List ℕ) (below : List (Activation L)) → other ≡ path → IsChildOfFirst path below → IsChildOfFirst other below
 child-moved path other below same is = subst (λ p. IsChildOfFirst p below) (sym same) is
 
-after-children : {L : Type 0} (s : State L) (top : Activation L) (below : List (Activation L)) (place : ℕ) (does : Deed) (done : Effect L) → Fits top does done → AreChildren (top ∷ below) → AreChildren (after s below top.path place done).stack
+after-children : {L : Type 0} (s : State L) (top : Activation L) (below : List (Activation L)) (place : ℕ) (does : Deed) (done : Effect L) → FitsDeed top does done → AreChildren (top ∷ below) → AreChildren (state_after s below top.path place done).stack
 after-children s top below place does (goes_on a store) fits each = (child-moved top.path a.path below fits.0 each.0, each.1)
 after-children s top below place does (spawns parent child store) fits each = (
   record { number = top.children; is = fits.2 ∙ ap (λ p. p ++ top.children ∷ []) (sym fits.0) },
@@ -56,7 +56,7 @@ next-parent s n entry path below under then own quiet over child left =
     let first : IsChild path then.path = subst (IsChildOfFirst path) left child in
     of_parent quiet over first.number (own ∙ first.is)
 
-next-path : {L : Type 0} (s : Script) (n : ℕ) (entry : Entry) (state : State L) (top : Activation L) (below : List (Activation L)) (place : ℕ) (does : Deed) (done : Effect L) → Fits top does done → entry.path ≡ top.path → entry.deed ≡ deed_of does done → entry.ends ≡ is_end done → children_before s top.path n ≡ top.children → IsChildOfFirst top.path below → (then : Activation L) (under : List (Activation L)) → (after state below top.path place done).stack ≡ then ∷ under → IsNextPath s n entry then.path
+next-path : {L : Type 0} (s : Script) (n : ℕ) (entry : Entry) (state : State L) (top : Activation L) (below : List (Activation L)) (place : ℕ) (does : Deed) (done : Effect L) → FitsDeed top does done → entry.path ≡ top.path → entry.deed ≡ deed_of does done → entry.ends ≡ is_end done → children_before s top.path n ≡ top.children → IsChildOfFirst top.path below → (then : Activation L) (under : List (Activation L)) → (state_after state below top.path place done).stack ≡ then ∷ under → IsNextPath s n entry then.path
 next-path s n entry state top below place does (goes_on a store) fits own deed over many child then under left =
     let same : a ≡ then = cc in
     of_same (ap is_spawn deed ∙ fits.2) over (ap (λ (b : Activation _). b.path) (sym same) ∙ fits.0 ∙ sym own)

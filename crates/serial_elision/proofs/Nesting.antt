@@ -10,7 +10,7 @@ use Rattle.swan_model.specs.Granted.{is_spawn}
 use Rattle.swan_model.specs.Nested.{spawn_time, IsEntryUnder, IsEndOf}
 use Rattle.swan_model.specs.Script.{deed_of, is_end, entry_of, entry_on, script}
 use Rattle.swan_model.specs.SerialState.{Activation, State}
-use Rattle.swan_model.specs.SerialStep.{step_on, effect_of, after}
+use Rattle.swan_model.specs.SerialStep.{step_on, effect_of, state_after}
 use Rattle.swan_model.specs.SerialTime.{is_of}
 use Rattle.swan_model.specs.PathOrder.{comes_before}
 use Rattle.serial_elision.proofs.Entries.{get_script}
@@ -55,7 +55,7 @@ module _ {B L : Type 0} (G : Ghosts B L) where
 
   -- the stack after the step of the top activation
   abbrev pub stepped : B → State L → Activation L → List (Activation L) → List (Activation L)
-  stepped body s top below = (after s below top.path (G.place_of body top.local) (effect_of G body s.steps s.store top)).stack
+  stepped body s top below = (state_after s below top.path (G.place_of body top.local) (effect_of G body s.steps s.store top)).stack
 
   pub next_stack : (plan : Plan B L) (n : ℕ) (top : Activation L) (below : List (Activation L)) → (serial G plan n).stack ≡ top ∷ below → (serial G plan (suc n)).stack ≡ stepped plan.body (serial G plan n) top below
   next_stack plan n top below stack =
@@ -75,7 +75,7 @@ module _ {B L : Type 0} (G : Ghosts B L) where
   -- the top activation comes before those below it
   pub top_precedes : (plan : Plan B L) (n : ℕ) (top : Activation L) (below : List (Activation L)) → (serial G plan n).stack ≡ top ∷ below → PrecedesEach top.path below
   top_precedes plan n top below stack =
-      let nested : order.IsNested (top ∷ below) = subst order.IsNested stack (serial-ordered G plan n).nested in
+      let nested : order.EachPrecedesBelow (top ∷ below) = subst order.EachPrecedesBelow stack (serial-ordered G plan n).nested in
       nested.0
 
   -- an entry that ends its activation is the last of its path, and of all below it

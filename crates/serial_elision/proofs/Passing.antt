@@ -10,19 +10,19 @@ use Rattle.swan_model.specs.declared.script.Entry.{Entry}
 use Rattle.swan_model.specs.Granted.{is_spawn}
 use Rattle.swan_model.specs.Script.{deed_of, is_end}
 use Rattle.swan_model.specs.SerialState.{Activation, State}
-use Rattle.swan_model.specs.SerialStep.{Effect, goes_on, spawns, ends, faults, after}
+use Rattle.swan_model.specs.SerialStep.{Effect, goes_on, spawns, ends, faults, state_after}
 use Rattle.swan_model.specs.SerialTime.{is_of}
 use Rattle.swan_model.specs.PathOrder.{comes_before}
 use Rattle.serial_elision.proofs.FaultOrder.{Precedes, PrecedesEach, precedes-moved, precedes-spawned}
 use Rattle.swan_model.proofs.PathOrder.{is_left, not_before-under, not_left-above}
 use Rattle.swan_model.proofs.Places.{passing, passing-more, passing-none}
-use Rattle.serial_elision.proofs.Turns.{Fits}
-use Rattle.swan_model.proofs.Paths.{not_below-itself, path_is-itself, same_path}
+use Rattle.serial_elision.proofs.Turns.{FitsDeed}
+use Rattle.swan_model.proofs.Paths.{IsUnder, not_below-itself, path_is-itself, same_path, under-child, under-itself, under-moved}
 use Rattle.swan_model.proofs.TaskEntries.{is_spawn_of}
 use Rattle.swan_model.proofs.Elements.{one_if}
 
 -- what comes before all activations comes before them still after a step
-pub after-precedes : {L : Type 0} (path : List ℕ) (s : State L) (top : Activation L) (below : List (Activation L)) (place : ℕ) (does : Deed) (done : Effect L) → Fits top does done → PrecedesEach path (top ∷ below) → PrecedesEach path (after s below top.path place done).stack
+pub after-precedes : {L : Type 0} (path : List ℕ) (s : State L) (top : Activation L) (below : List (Activation L)) (place : ℕ) (does : Deed) (done : Effect L) → FitsDeed top does done → PrecedesEach path (top ∷ below) → PrecedesEach path (state_after s below top.path place done).stack
 after-precedes path s top below place does (goes_on a store) fits each =
     (precedes-moved path top a fits.0 (omega (arith, fits.1)) each.0, each.1)
 after-precedes path s top below place does (spawns parent child store) fits each =
@@ -65,7 +65,7 @@ not_yet-spawned path a child same before =
           before.none a.children (number ∷ rest) (omega arith) (is ∙ ap (λ p. p ++ number ∷ rest) same ∙ append_assoc a.path (a.children ∷ []) (number ∷ rest));
     }
 
-pub after-not_yet : {L : Type 0} (path : List ℕ) (s : State L) (top : Activation L) (below : List (Activation L)) (place : ℕ) (does : Deed) (done : Effect L) → Fits top does done → IsNotYetEach path (top ∷ below) → IsNotYetEach path (after s below top.path place done).stack
+pub after-not_yet : {L : Type 0} (path : List ℕ) (s : State L) (top : Activation L) (below : List (Activation L)) (place : ℕ) (does : Deed) (done : Effect L) → FitsDeed top does done → IsNotYetEach path (top ∷ below) → IsNotYetEach path (state_after s below top.path place done).stack
 after-not_yet path s top below place does (goes_on a store) fits each =
     (not_yet-moved path top a fits.0 (omega (arith, fits.1)) each.0, each.1)
 after-not_yet path s top below place does (spawns parent child store) fits each =
@@ -73,27 +73,12 @@ after-not_yet path s top below place does (spawns parent child store) fits each 
 after-not_yet path s top below place does ends fits each = each.1
 after-not_yet path s top below place does (faults kind) fits each = each.1
 
--- a path is that of an activation, or below it
-pub record IsUnder (path other : List ℕ) : Type 0 where
-  pub rest : List ℕ
-  pub is : other ≡ path ++ rest
-
 -- the activation of a path is on the stack, and all above it is below it in the tree
 abbrev pub IsRunning : {L : Type 0} → List ℕ → List (Activation L) → Type 0
 IsRunning path [] = ⊥
 IsRunning path (a ∷ below) = (a.path ≡ path) ⊎ (IsUnder path a.path × IsRunning path below)
 
-pub under-moved : (path a b : List ℕ) → b ≡ a → IsUnder path a → IsUnder path b
-under-moved path a b same under = record { rest = under.rest; is = same ∙ under.is }
-
-pub under-child : (path a child : List ℕ) (number : ℕ) → child ≡ a ++ number ∷ [] → IsUnder path a → IsUnder path child
-under-child path a child number same under =
-    record { rest = under.rest ++ number ∷ []; is = same ∙ ap (λ p. p ++ number ∷ []) under.is ∙ append_assoc path under.rest (number ∷ []) }
-
-pub under-itself : (path other : List ℕ) → other ≡ path → IsUnder path other
-under-itself path other same = record { rest = []; is = same ∙ sym (append-nil path) }
-
-pub after-running : {L : Type 0} (path : List ℕ) (s : State L) (top : Activation L) (below : List (Activation L)) (place : ℕ) (does : Deed) (done : Effect L) → Fits top does done → IsRunning path (top ∷ below) → ((top.path ≡ path) × (is_end done ≡ true)) ⊎ IsRunning path (after s below top.path place done).stack
+pub after-running : {L : Type 0} (path : List ℕ) (s : State L) (top : Activation L) (below : List (Activation L)) (place : ℕ) (does : Deed) (done : Effect L) → FitsDeed top does done → IsRunning path (top ∷ below) → ((top.path ≡ path) × (is_end done ≡ true)) ⊎ IsRunning path (state_after s below top.path place done).stack
 after-running path s top below place does (goes_on a store) fits (inl own) = inr (inl (fits.0 ∙ own))
 after-running path s top below place does (goes_on a store) fits (inr over) = inr (inr (under-moved path top.path a.path fits.0 over.0, over.1))
 after-running path s top below place does (spawns parent child store) fits (inl own) =
@@ -106,14 +91,14 @@ after-running path s top below place does (faults kind) fits (inl own) = inl (ow
 after-running path s top below place does (faults kind) fits (inr over) = inr over.1
 
 -- an effect that ends its activation leaves those below it
-pub after-end : {L : Type 0} (s : State L) (below : List (Activation L)) (path : List ℕ) (place : ℕ) (done : Effect L) → is_end done ≡ true → (after s below path place done).stack ≡ below
+pub after-end : {L : Type 0} (s : State L) (below : List (Activation L)) (path : List ℕ) (place : ℕ) (done : Effect L) → is_end done ≡ true → (state_after s below path place done).stack ≡ below
 after-end s below path place (goes_on a store) is = absurd (cc)
 after-end s below path place (spawns parent child store) is = absurd (cc)
 after-end s below path place ends is = refl
 after-end s below path place (faults kind) is = refl
 
 -- an effect whose deed is a spawn leaves the child that it made on its stack
-pub after-spawn : {L : Type 0} (s : State L) (top : Activation L) (below : List (Activation L)) (place : ℕ) (does : Deed) (done : Effect L) → Fits top does done → is_spawn (deed_of does done) ≡ true → IsRunning (top.path ++ top.children ∷ []) (after s below top.path place done).stack
+pub after-spawn : {L : Type 0} (s : State L) (top : Activation L) (below : List (Activation L)) (place : ℕ) (does : Deed) (done : Effect L) → FitsDeed top does done → is_spawn (deed_of does done) ≡ true → IsRunning (top.path ++ top.children ∷ []) (state_after s below top.path place done).stack
 after-spawn s top below place does (goes_on a store) fits is = absurd (both_ways (is_spawn (deed_of does (goes_on a store))) fits.2 is)
 after-spawn s top below place does (spawns parent child store) fits is = inl fits.2
 after-spawn {L = L} s top below place does ends fits is = absurd (both_ways (is_spawn (deed_of {L = L} does ends)) fits is)
@@ -180,7 +165,7 @@ count-moved : (es : List Entry) (n : ℕ) (path other : List ℕ) (many more : �
 count-moved es n path other many more same equal before =
     ap (λ p. passing (is_spawn_of p) n es) same ∙ before ∙ sym equal
 
-pub after-counted : {L : Type 0} (es : List Entry) (n : ℕ) (e : Entry) (s : State L) (top : Activation L) (below : List (Activation L)) (place : ℕ) (does : Deed) (done : Effect L) → Fits top does done → slice_get es n ≡ Some e → e.path ≡ top.path → e.deed ≡ deed_of does done → PrecedesEach top.path below → AreNotYet es n (top ∷ below) → AreCounted es n (top ∷ below) → AreCounted es (suc n) (after s below top.path place done).stack
+pub after-counted : {L : Type 0} (es : List Entry) (n : ℕ) (e : Entry) (s : State L) (top : Activation L) (below : List (Activation L)) (place : ℕ) (does : Deed) (done : Effect L) → FitsDeed top does done → slice_get es n ≡ Some e → e.path ≡ top.path → e.deed ≡ deed_of does done → PrecedesEach top.path below → AreNotYet es n (top ∷ below) → AreCounted es n (top ∷ below) → AreCounted es (suc n) (state_after s below top.path place done).stack
 after-counted es n e s top below place does (goes_on a store) fits stands own deed each not_yet counted =
     let quiet : is_spawn e.deed ≡ false = ap is_spawn deed ∙ fits.2 in
     let kept = counted-same es n e top.path top.children stands (and_right (is_of top.path e) (is_spawn e.deed) quiet) counted.0 in

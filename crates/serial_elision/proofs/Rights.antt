@@ -15,7 +15,7 @@ use Rattle.swan_model.specs.Elision.{serial}
 use Rattle.swan_model.specs.Rights.{is_aliased}
 use Rattle.swan_model.specs.SerialState.{Activation, Cell, Holding, Queue, Store, State}
 use Rattle.swan_model.specs.SerialStep as serial
-use Rattle.swan_model.specs.SerialStep.{Effect, goes_on, spawns, ends, faults, after, effect, effect_of, step_on, moved, number_at, spawn_effect, given, given_also, zeroed, zeroed_by, zero_cell}
+use Rattle.swan_model.specs.SerialStep.{Effect, goes_on, spawns, ends, faults, state_after, effect, effect_of, step_on, after_next, number_at, spawn_effect, given, given_also, cells_with_zeros, zeroed_by, zero_cell}
 use Rattle.swan_model.specs.Values.{zero_of}
 use Rattle.serial_elision.specs.Laws.{HoldsToUse, IsCellAfter, IsQueueAfter, stayed, pushed, popped, EachStill, RightsBind, top_holdings}
 use Rattle.serial_elision.proofs.Asks.{on_object-either, on_queue-either, if-either}
@@ -82,11 +82,11 @@ given-may held [] = tt
 given-may held (give ∷ gives) =
     given_also-may held give (number_at held give.place give.mode) (given held gives) refl (given-may held gives)
 
-zeroed-binds : (held : List Holding) (cells : List Cell) (holdings : List Holding) → MayUseEach held holdings → EachStill (IsCellAfter held) cells (zeroed cells holdings)
+zeroed-binds : (held : List Holding) (cells : List Cell) (holdings : List Holding) → MayUseEach held holdings → EachStill (IsCellAfter held) cells (cells_with_zeros cells holdings)
 zeroed-binds held cells [] may = cells-same held cells
 zeroed-binds held cells (holding ∷ holdings) may =
     let first = zeroed_by holding.mode cells holding.number in
-    still-more (IsCellAfter held) (cell-more held) cells first (zeroed first holdings) (zeroed_by-binds held holding.mode cells holding.number may.0) (zeroed-binds held first holdings may.1)
+    still-more (IsCellAfter held) (cell-more held) cells first (cells_with_zeros first holdings) (zeroed_by-binds held holding.mode cells holding.number may.0) (zeroed-binds held first holdings may.1)
 
 -- the store that an effect leaves is one that the holder may make of the one before
 abbrev Binds : {L : Type 0} → List Holding → Store → Effect L → Type 0
@@ -142,7 +142,7 @@ effect-binds n store a ask.Sync = store-same a.holdings store
 effect-binds n store a ask.Finish = tt
 effect-binds n store a (ask.Fail trouble) = tt
 
-after-binds : {L : Type 0} (s : State L) (held : List Holding) (below : List (Activation L)) (path : List ℕ) (place : ℕ) (done : Effect L) → Binds held s.store done → RightsBind held s.store (after s below path place done).store
+after-binds : {L : Type 0} (s : State L) (held : List Holding) (below : List (Activation L)) (path : List ℕ) (place : ℕ) (done : Effect L) → Binds held s.store done → RightsBind held s.store (state_after s below path place done).store
 after-binds s held below path place (goes_on a store) binds = binds
 after-binds s held below path place (spawns parent child store) binds = binds
 after-binds s held below path place ends binds = store-same held s.store
@@ -153,7 +153,7 @@ module _ {B L : Type 0} (G : Ghosts B L) where
   step_on-binds body s [] = store-same [] s.store
   step_on-binds body s (top ∷ below) =
       let asked = G.next body top.local top.answer (top.fuel - 1) in
-      let binds = if-either (Binds top.holdings s.store) (nat_eq top.fuel 0) _ _ tt (effect-binds s.steps s.store (moved top asked.0) asked.1) in
+      let binds = if-either (Binds top.holdings s.store) (nat_eq top.fuel 0) _ _ tt (effect-binds s.steps s.store (after_next top asked.0) asked.1) in
       after-binds s top.holdings below top.path (G.place_of body top.local) (effect_of G body s.steps s.store top) binds
 
   -- each step keeps to the rights of the one that takes it

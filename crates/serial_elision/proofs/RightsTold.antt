@@ -21,7 +21,7 @@ use Rattle.swan_model.specs.Rights.{allows, is_queue_mode}
 use Rattle.swan_model.specs.Roots.{IsWithinBounds}
 use Rattle.swan_model.specs.Script.{origin_of, entry_of, entry_on, script}
 use Rattle.swan_model.specs.SerialState.{Activation, Cell, Queue, Holding, Store}
-use Rattle.swan_model.specs.SerialStep.{step_on, effect_of, moved}
+use Rattle.swan_model.specs.SerialStep.{step_on, effect_of, after_next}
 use Rattle.swan_model.specs.Told.{is_same}
 use Rattle.swan_model.specs.Values.{kind_of}
 use Rattle.serial_elision.specs.Laws.{RightsBind, IsCellAfter, IsQueueAfter}
@@ -161,7 +161,7 @@ module _ {B L : Type 0} (G : Ghosts B L) where
       let done = effect_of G plan.body s.steps s.store top in
       let step = G.next plan.body top.local top.answer (top.fuel - 1) in
       subst (λ k. Grants k s.store top does done) (steps-are G plan n top below is)
-      (if-either (Grants s.steps s.store top does) (nat_eq top.fuel 0) _ _ tt (effect-grants s.steps s.store (moved top step.0) step.1))
+      (if-either (Grants s.steps s.store top does) (nat_eq top.fuel 0) _ _ tt (effect-grants s.steps s.store (after_next top step.0) step.1))
 
   hold-on : (plan : Plan B L) (n : ℕ) (stack : List (Activation L)) → (serial G plan n).stack ≡ stack → HoldEach (script G plan) n (serial G plan n).store stack → HoldEach (script G plan) (suc n) (step_on G plan.body (serial G plan n) stack).store (step_on G plan.body (serial G plan n) stack).stack
   hold-on plan n [] is each =

@@ -7,11 +7,11 @@ use Rattle.swan_model.specs.declared.outcome.Outcome.{Outcome}
 use Rattle.swan_model.specs.declared.value.Value.{Value}
 use Rattle.swan_model.specs.Elision.{serial, final, most_steps, outcome}
 use Rattle.swan_model.specs.SerialState.{Activation, Cell, Queue, State}
-use Rattle.swan_model.specs.SerialStep.{Effect, goes_on, spawns, ends, faults, after, step, step_on, effect_of}
+use Rattle.swan_model.specs.SerialStep.{Effect, goes_on, spawns, ends, faults, state_after, step, step_on, effect_of}
 use Rattle.serial_elision.specs.Working.{after_steps}
 
 -- an effect counts one step
-pub steps-after : {L : Type 0} (s : State L) (below : List (Activation L)) (path : List ℕ) (place : ℕ) (effect : Effect L) → (after s below path place effect).steps ≡ s.steps + 1
+pub steps-after : {L : Type 0} (s : State L) (below : List (Activation L)) (path : List ℕ) (place : ℕ) (effect : Effect L) → (state_after s below path place effect).steps ≡ s.steps + 1
 steps-after s below path place (goes_on a store) = refl
 steps-after s below path place (spawns parent child store) = refl
 steps-after s below path place ends = refl

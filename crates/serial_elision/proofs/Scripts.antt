@@ -16,7 +16,7 @@ use Rattle.swan_model.specs.Elision.{serial, most_steps}
 use Rattle.swan_model.specs.Script.{asked, deed_of, is_end, give_of, gives_of, entry_on, next_entry, with_entry, entries}
 use Rattle.swan_model.specs.SerialState.{Activation, Holding, Store, State}
 use Rattle.swan_model.specs.SerialStep as serial
-use Rattle.swan_model.specs.SerialStep.{told, moved, effect, effect_of}
+use Rattle.swan_model.specs.SerialStep.{with_answer, after_next, effect, effect_of}
 use Rattle.serial_elision.specs.declared.effect.Effect as code
 use Rattle.serial_elision.specs.declared.effect.Effect.TheVariants.{Answered, Spawned, Ended, Faulted}
 use Rattle.serial_elision.specs.Effects.{IsEffect, kept, is_over}
@@ -56,7 +56,7 @@ is_over-is a before after (Faulted fault) said is = ap is_end (sym is.0)
 
 module _ {B L : Type 0} (G : Ghosts B L) where
   -- the entry of a step that costs fuel
-  pub entry-paid : (body : B) (s : State L) (top paid a : Activation L) (ask : Ask L) (below : List (Activation L)) (done : code.Effect L) (after : Store) (path : List ℕ) (does : Deed) → s.stack ≡ top ∷ below → (top.fuel ≡ 0 → ⊥) → paid ≡ told (moved top (stepped G body top).0) answer.Nothing → ask ≡ (stepped G body top).1 → path ≡ top.path → does ≡ asked s.store paid.holdings ask → IsEffect done a s.store after (effect s.steps s.store paid ask) → ◌≡◌ {A = Option Entry} (Some (record { path = path; deed = kept does done; ends = is_over done })) (next_entry G body s)
+  pub entry-paid : (body : B) (s : State L) (top paid a : Activation L) (ask : Ask L) (below : List (Activation L)) (done : code.Effect L) (after : Store) (path : List ℕ) (does : Deed) → s.stack ≡ top ∷ below → (top.fuel ≡ 0 → ⊥) → paid ≡ with_answer (after_next top (stepped G body top).0) answer.Nothing → ask ≡ (stepped G body top).1 → path ≡ top.path → does ≡ asked s.store paid.holdings ask → IsEffect done a s.store after (effect s.steps s.store paid ask) → ◌≡◌ {A = Option Entry} (Some (record { path = path; deed = kept does done; ends = is_over done })) (next_entry G body s)
   entry-paid body s top paid a ask below done after path does stack fuel moved_is ask_is path_is does_is is =
       let said : serial.Effect L = effect s.steps s.store paid ask in
       let final : serial.Effect L = effect_of G body s.steps s.store top in

@@ -4,7 +4,7 @@ use Rattle.swan_model.specs.declared.body.Body.{Ghosts}
 use Rattle.swan_model.specs.declared.plan.Plan.{Plan}
 use Rattle.swan_model.specs.Elision.{serial}
 use Rattle.swan_model.specs.SerialState.{Activation, State}
-use Rattle.swan_model.specs.SerialStep.{Effect, goes_on, spawns, ends, faults, after, step, step_on, effect_of}
+use Rattle.swan_model.specs.SerialStep.{Effect, goes_on, spawns, ends, faults, state_after, step, step_on, effect_of}
 use Rattle.serial_elision.specs.Laws.{EndsWhereItFaults}
 
 module _ {B L : Type 0} (G : Ghosts B L) where
@@ -12,7 +12,7 @@ module _ {B L : Type 0} (G : Ghosts B L) where
   serial_add_one plan n = ap (serial G plan) (add-one n)
 
   -- an effect that is a fault ends the activation whose step it was
-  after-faults : (body : B) (s : State L) (top : Activation L) (below : List (Activation L)) (done : Effect L) → s.stack ≡ top ∷ below → EndsWhereItFaults G body s (after s below top.path (G.place_of body top.local) done)
+  after-faults : (body : B) (s : State L) (top : Activation L) (below : List (Activation L)) (done : Effect L) → s.stack ≡ top ∷ below → EndsWhereItFaults G body s (state_after s below top.path (G.place_of body top.local) done)
   after-faults body s top below (goes_on a store) is = inl refl
   after-faults body s top below (spawns parent child store) is = inl refl
   after-faults body s top below ends is = inl refl

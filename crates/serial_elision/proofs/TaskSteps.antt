@@ -13,17 +13,17 @@ use Rattle.swan_model.specs.Elision.{most_steps, root, serial}
 use Rattle.swan_model.specs.Nested.{IsEndOf, IsEntryOf, IsEntryUnder}
 use Rattle.swan_model.specs.Script.{entry_of, is_end, script}
 use Rattle.swan_model.specs.SerialState.{Activation, State, Store}
-use Rattle.swan_model.specs.SerialStep.{Effect, goes_on, spawns, ends, faults, after, effect_of, step_on}
+use Rattle.swan_model.specs.SerialStep.{Effect, goes_on, spawns, ends, faults, state_after, effect_of, step_on}
 use Rattle.swan_model.specs.SerialTime.{time, times}
 use Rattle.swan_model.specs.TrueFrames.{StandsAt, effect_at}
-use Rattle.swan_model.proofs.Paths.{not_below-itself, path_is-itself}
+use Rattle.swan_model.proofs.Paths.{IsUnder, not_below-itself, path_is-itself, under-child, under-itself, under-moved}
 use Rattle.swan_model.proofs.Times.{times_all}
 use Rattle.swan_model.proofs.TaskEntries.{first_time, last_time, next_time, own_before}
 use Rattle.serial_elision.proofs.Endings.{entry_now}
 use Rattle.serial_elision.proofs.Entries.{over-after}
 use Rattle.serial_elision.proofs.Nesting.{end_is_last, next_stack, not_yet, top_at}
-use Rattle.serial_elision.proofs.Passing.{IsNotYetEach, IsUnder, under-child, under-itself, under-moved}
-use Rattle.serial_elision.proofs.Turns.{Fits, next_deed, step-fits}
+use Rattle.serial_elision.proofs.Passing.{IsNotYetEach}
+use Rattle.serial_elision.proofs.Turns.{FitsDeed, next_deed, step-fits}
 
 -- The last of these is the task of a path, and the others are below it in the tree.
 abbrev Runs : {L : Type 0} → List ℕ → List (Activation L) → Type 0
@@ -32,8 +32,8 @@ Runs path (a ∷ []) = a.path ≡ path
 Runs path (a ∷ b ∷ more) = IsUnder path a.path × Runs path (b ∷ more)
 
 -- a step of the top one leaves none of them, or such ones
-after-runs : {L : Type 0} (path : List ℕ) (s : State L) (top : Activation L) (more : List (Activation L)) (place : ℕ) (does : Deed) (done : Effect L) → Fits top does done
-    → Runs path (top ∷ more) → ((after s more top.path place done).stack ≡ []) ⊎ Runs path (after s more top.path place done).stack
+after-runs : {L : Type 0} (path : List ℕ) (s : State L) (top : Activation L) (more : List (Activation L)) (place : ℕ) (does : Deed) (done : Effect L) → FitsDeed top does done
+    → Runs path (top ∷ more) → ((state_after s more top.path place done).stack ≡ []) ⊎ Runs path (state_after s more top.path place done).stack
 after-runs path s top [] place does (goes_on a store) fits is = inr (fits.0 ∙ is)
 after-runs path s top [] place does (spawns parent child store) fits is =
     inr (under-child path top.path child.path top.children fits.2 (under-itself path top.path is), fits.0 ∙ is)
@@ -47,7 +47,7 @@ after-runs path s top (b ∷ more) place does (faults kind) fits is = inr is.1
 
 -- a step doesn't touch what stands below
 after-below : {L : Type 0} (s : State L) (more rest : List (Activation L)) (path : List ℕ) (place : ℕ) (done : Effect L)
-    → (after s (more ++ rest) path place done).stack ≡ (after s more path place done).stack ++ rest
+    → (state_after s (more ++ rest) path place done).stack ≡ (state_after s more path place done).stack ++ rest
 after-below s more rest path place (goes_on a store) = refl
 after-below s more rest path place (spawns parent child store) = refl
 after-below s more rest path place ends = refl
@@ -79,11 +79,11 @@ module _ {B L : Type 0} (G : Ghosts B L) (plan : Plan B L) where
       let s = serial G plan n in
       let place = G.place_of plan.body a.local in
       let done = effect_of G plan.body s.steps s.store a in
-      let next : (serial G plan (suc n)).stack ≡ (after s more a.path place done).stack ++ rest =
+      let next : (serial G plan (suc n)).stack ≡ (state_after s more a.path place done).stack ++ rest =
       next_stack G plan n a (more ++ rest) is ∙ after-below s more rest a.path place done in
       elim (after-runs path s a more place (next_deed G plan.body s.store a) done (step-fits G plan.body s.steps s.store a) runs) [
         | inl none ↦ inl (next ∙ ap (λ k. k ++ rest) none)
-        | inr on ↦ inr (record { above = (after s more a.path place done).stack; stack = next; runs = on })
+        | inr on ↦ inr (record { above = (state_after s more a.path place done).stack; stack = next; runs = on })
       ]
 
   -- The task has ended by then, and what stood below is on top again; before that only the task and those below it had entries.
@@ -165,14 +165,14 @@ module _ {B L : Type 0} (G : Ghosts B L) (plan : Plan B L) where
     abbrev t : ℕ
     t = time (script G plan) path k
 
-    fits-here : Fits top (next_deed G plan.body (serial G plan t).store top) (effect_at G plan path k top)
+    fits-here : FitsDeed top (next_deed G plan.body (serial G plan t).store top) (effect_at G plan path k top)
     fits-here = step-fits G plan.body (serial G plan t).steps (serial G plan t).store top
 
     -- what the step leaves
-    pub next-state : serial G plan (suc t) ≡ after (serial G plan t) at.below top.path (G.place_of plan.body top.local) (effect_at G plan path k top)
+    pub next-state : serial G plan (suc t) ≡ state_after (serial G plan t) at.below top.path (G.place_of plan.body top.local) (effect_at G plan path k top)
     next-state = ap (step_on G plan.body (serial G plan t)) at.stack
 
-    next-here : (serial G plan (suc t)).stack ≡ (after (serial G plan t) at.below top.path (G.place_of plan.body top.local) (effect_at G plan path k top)).stack
+    next-here : (serial G plan (suc t)).stack ≡ (state_after (serial G plan t) at.below top.path (G.place_of plan.body top.local) (effect_at G plan path k top)).stack
     next-here = next_stack G plan t top at.below at.stack
 
     -- a step that goes on
@@ -181,18 +181,18 @@ module _ {B L : Type 0} (G : Ghosts B L) (plan : Plan B L) where
         let s = script G plan in
         let place = G.place_of plan.body top.local in
         let own = top_path path k top at in
-        let stack : (serial G plan (suc t)).stack ≡ next ∷ at.below = next-here ∙ ap (λ d. (after (serial G plan t) at.below top.path place d).stack) is in
-        let fits : Fits top (next_deed G plan.body (serial G plan t).store top) (goes_on next store) = subst (Fits top (next_deed G plan.body (serial G plan t).store top)) is fits-here in
+        let stack : (serial G plan (suc t)).stack ≡ next ∷ at.below = next-here ∙ ap (λ d. (state_after (serial G plan t) at.below top.path place d).stack) is in
+        let fits : FitsDeed top (next_deed G plan.body (serial G plan t).store top) (goes_on next store) = subst (FitsDeed top (next_deed G plan.body (serial G plan t).store top)) is fits-here in
         let entry = entry_own path (suc t) next at.below stack (fits.0 ∙ own.1) in
         let found = next_time s path k t (suc t) (slice_get-get_or (times s path) k 0 at.left) entry (omega arith) (λ v late early other. absurd (omega arith)) in
         stands-later path (k + 1) (suc t) next at.below found stack
 
     module _ (parent child : Activation L) (store : _) (is : effect_at G plan path k top ≡ spawns parent child store) where
       stack-then : (serial G plan (suc t)).stack ≡ child ∷ parent ∷ at.below
-      stack-then = next-here ∙ ap (λ d. (after (serial G plan t) at.below top.path (G.place_of plan.body top.local) d).stack) is
+      stack-then = next-here ∙ ap (λ d. (state_after (serial G plan t) at.below top.path (G.place_of plan.body top.local) d).stack) is
 
-      fits-then : Fits top (next_deed G plan.body (serial G plan t).store top) (spawns parent child store)
-      fits-then = subst (Fits top (next_deed G plan.body (serial G plan t).store top)) is fits-here
+      fits-then : FitsDeed top (next_deed G plan.body (serial G plan t).store top) (spawns parent child store)
+      fits-then = subst (FitsDeed top (next_deed G plan.body (serial G plan t).store top)) is fits-here
 
       child_is : child.path ≡ path ++ top.children ∷ []
       child_is = fits-then.2 ∙ ap (λ p. p ++ top.children ∷ []) (top_path path k top at).1

@@ -14,52 +14,52 @@ use Rattle.swan_model.specs.Granted.{is_spawn}
 use Rattle.swan_model.specs.Rights.{is_aliased}
 use Rattle.swan_model.specs.Script.{about, asked, deed_of, origin_at, spawn_of}
 use Rattle.swan_model.specs.SerialState.{Activation, Holding, Queue, Store}
-use Rattle.swan_model.specs.SerialStep.{Effect, goes_on, spawns, ends, faults, effect, effect_of, moved, number_at, popped, spawn_effect, given}
+use Rattle.swan_model.specs.SerialStep.{Effect, goes_on, spawns, ends, faults, effect, effect_of, after_next, number_at, popped, spawn_effect, given}
 use Rattle.serial_elision.proofs.Asks.{on_object-either, on_queue-either, if-either}
 
 -- The activations that an effect leaves have these paths and children. The deed is a spawn where the effect
 -- has a child, and nowhere else.
-abbrev pub Fits : {L : Type 0} → Activation L → Deed → Effect L → Type 0
-Fits a does (goes_on b store) = (b.path ≡ a.path) × (b.children ≡ a.children) × (is_spawn (deed_of does (goes_on b store)) ≡ false)
-Fits a does (spawns parent child store) = (parent.path ≡ a.path) × (parent.children ≡ a.children + 1) × (child.path ≡ a.path ++ a.children ∷ []) × (child.children ≡ 0) × (is_spawn (deed_of does (spawns parent child store)) ≡ true)
-Fits {L = L} a does ends = is_spawn (deed_of {L = L} does ends) ≡ false
-Fits {L = L} a does (faults kind) = is_spawn (deed_of {L = L} does (faults kind)) ≡ false
+abbrev pub FitsDeed : {L : Type 0} → Activation L → Deed → Effect L → Type 0
+FitsDeed a does (goes_on b store) = (b.path ≡ a.path) × (b.children ≡ a.children) × (is_spawn (deed_of does (goes_on b store)) ≡ false)
+FitsDeed a does (spawns parent child store) = (parent.path ≡ a.path) × (parent.children ≡ a.children + 1) × (child.path ≡ a.path ++ a.children ∷ []) × (child.children ≡ 0) × (is_spawn (deed_of does (spawns parent child store)) ≡ true)
+FitsDeed {L = L} a does ends = is_spawn (deed_of {L = L} does ends) ≡ false
+FitsDeed {L = L} a does (faults kind) = is_spawn (deed_of {L = L} does (faults kind)) ≡ false
 
 -- what is asked about an object or a queue is no spawn
 pub about-is : (origin : Option Origin) (does : Origin → Deed) → ((o : Origin) → is_spawn (does o) ≡ false) → is_spawn (about origin does) ≡ false
 about-is None does each = refl
 about-is (Some origin) does each = each origin
 
-popped-fits : {L : Type 0} (store : Store) (a : Activation L) (does : Deed) (n : ℕ) (queue : Queue) (items : List Value) → is_spawn does ≡ false → Fits a does (popped store a n queue items)
+popped-fits : {L : Type 0} (store : Store) (a : Activation L) (does : Deed) (n : ℕ) (queue : Queue) (items : List Value) → is_spawn does ≡ false → FitsDeed a does (popped store a n queue items)
 popped-fits store a does n queue [] quiet = quiet
 popped-fits store a does n queue (item ∷ items) quiet = (refl, refl, quiet)
 
-spawned-fits : {L : Type 0} (store before : Store) (a : Activation L) (child : Child L) (holdings : Option (List Holding)) → Fits a (spawn_of before holdings) (spawn_effect store a child holdings)
+spawned-fits : {L : Type 0} (store before : Store) (a : Activation L) (child : Child L) (holdings : Option (List Holding)) → FitsDeed a (spawn_of before holdings) (spawn_effect store a child holdings)
 spawned-fits store before a child None = refl
 spawned-fits {L = L} store before a child (Some holdings) =
-    let P : Effect L → Type 0 = Fits a (spawn_of before (Some holdings)) in
+    let P : Effect L → Type 0 = FitsDeed a (spawn_of before (Some holdings)) in
     if-either P (is_aliased child.gives) _ _ refl
     (if-either P (nat_le PATH_MOST (length a.path)) _ _ refl
     (if-either P (nat_lt a.fuel child.fuel) _ _ refl (refl, refl, refl, refl, refl)))
 
-effect-fits : {L : Type 0} (n : ℕ) (store : Store) (a : Activation L) (asks : Ask L) → Fits a (asked store a.holdings asks) (effect n store a asks)
+effect-fits : {L : Type 0} (n : ℕ) (store : Store) (a : Activation L) (asks : Ask L) → FitsDeed a (asked store a.holdings asks) (effect n store a asks)
 effect-fits n store a ask.Work = (refl, refl, refl)
 effect-fits {L = L} n store a (ask.Read place) =
     let quiet = about-is (origin_at store a.holdings place In) deed.Read (λ o. refl) in
-    on_object-either (Fits a (asked {L = L} store a.holdings (ask.Read place))) refl store (number_at a.holdings place In) _ (λ number cell held found. (refl, refl, quiet))
+    on_object-either (FitsDeed a (asked {L = L} store a.holdings (ask.Read place))) refl store (number_at a.holdings place In) _ (λ number cell held found. (refl, refl, quiet))
 effect-fits {L = L} n store a (ask.Write place value) =
     let quiet = about-is (origin_at store a.holdings place Out) (λ o. deed.Write o value) (λ o. refl) in
-    on_object-either (Fits a (asked {L = L} store a.holdings (ask.Write place value))) refl store (number_at a.holdings place Out) _ (λ number cell held found. (refl, refl, quiet))
+    on_object-either (FitsDeed a (asked {L = L} store a.holdings (ask.Write place value))) refl store (number_at a.holdings place Out) _ (λ number cell held found. (refl, refl, quiet))
 effect-fits {L = L} n store a (ask.Push place value) =
     let quiet = about-is (origin_at store a.holdings place Push) (λ o. deed.Push o value) (λ o. refl) in
-    on_queue-either (Fits a (asked {L = L} store a.holdings (ask.Push place value))) refl store (number_at a.holdings place Push) _ (λ number queue held found. (refl, refl, quiet))
+    on_queue-either (FitsDeed a (asked {L = L} store a.holdings (ask.Push place value))) refl store (number_at a.holdings place Push) _ (λ number queue held found. (refl, refl, quiet))
 effect-fits {L = L} n store a (ask.Pop place) =
     let quiet = about-is (origin_at store a.holdings place Pop) deed.Pop (λ o. refl) in
     let does = asked {L = L} store a.holdings (ask.Pop place) in
-    on_queue-either (Fits a does) refl store (number_at a.holdings place Pop) _ (λ number queue held found. popped-fits store a does number queue queue.items quiet)
+    on_queue-either (FitsDeed a does) refl store (number_at a.holdings place Pop) _ (λ number queue held found. popped-fits store a does number queue queue.items quiet)
 effect-fits {L = L} n store a (ask.Empty place) =
     let quiet = about-is (origin_at store a.holdings place Pop) deed.Test (λ o. refl) in
-    on_queue-either (Fits a (asked {L = L} store a.holdings (ask.Empty place))) refl store (number_at a.holdings place Pop) _ (λ number queue held found. (refl, refl, quiet))
+    on_queue-either (FitsDeed a (asked {L = L} store a.holdings (ask.Empty place))) refl store (number_at a.holdings place Pop) _ (λ number queue held found. (refl, refl, quiet))
 effect-fits n store a ask.NewQueue = (refl, refl, refl)
 effect-fits n store a (ask.NewObject value) = (refl, refl, refl)
 effect-fits n store a (ask.Spawn child) = spawned-fits store store a child (given a.holdings child.gives)
@@ -72,7 +72,7 @@ module _ {B L : Type 0} (G : Ghosts B L) where
   abbrev pub next_deed : B → Store → Activation L → Deed
   next_deed body store top = asked store top.holdings (G.next body top.local top.answer (top.fuel - 1)).1
 
-  pub step-fits : (body : B) (n : ℕ) (store : Store) (top : Activation L) → Fits top (next_deed body store top) (effect_of G body n store top)
+  pub step-fits : (body : B) (n : ℕ) (store : Store) (top : Activation L) → FitsDeed top (next_deed body store top) (effect_of G body n store top)
   step-fits body n store top =
       let step = G.next body top.local top.answer (top.fuel - 1) in
-      if-either (Fits top (next_deed body store top)) (nat_eq top.fuel 0) _ _ refl (effect-fits n store (moved top step.0) step.1)
+      if-either (FitsDeed top (next_deed body store top)) (nat_eq top.fuel 0) _ _ refl (effect-fits n store (after_next top step.0) step.1)

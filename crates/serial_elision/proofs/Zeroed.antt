@@ -11,7 +11,7 @@ use Rattle.swan_model.specs.declared.script.Deed.TheVariants as deed
 use Rattle.swan_model.specs.declared.script.OriginGive.{OriginGive}
 use Rattle.swan_model.specs.Script.{origin_of, give_of, gives_of}
 use Rattle.swan_model.specs.SerialState.{Cell, Queue, Holding, Store}
-use Rattle.swan_model.specs.SerialStep.{zeroed, zeroed_by, zero_cell}
+use Rattle.swan_model.specs.SerialStep.{cells_with_zeros, zeroed_by, zero_cell}
 use Rattle.swan_model.specs.Told.{is_same, is_out, is_given_out}
 use Rattle.swan_model.specs.Values.{zero_of}
 use Rattle.swan_model.proofs.Elements.{set_cases}
@@ -143,7 +143,7 @@ module _ (store : Store) where
             ∙ ap (λ b. cond b (zero_of c.kind) c.value) (sym (any-cons (is_given_out c.origin) give gives));
       }
 
-  pub all-zeroed : (holdings : List Holding) (cells : List Cell) → SameOrigins cells store.cells → OneOrigin cells → (i : ℕ) (now : Cell) → slice_get (zeroed cells holdings) i ≡ Some now → IsZeroedBy (gives_of store holdings) cells i now
+  pub all-zeroed : (holdings : List Holding) (cells : List Cell) → SameOrigins cells store.cells → OneOrigin cells → (i : ℕ) (now : Cell) → slice_get (cells_with_zeros cells holdings) i ≡ Some now → IsZeroedBy (gives_of store holdings) cells i now
   all-zeroed [] cells same one i now is = unzeroed [] cells i now refl is
   all-zeroed (holding ∷ holdings) cells same one i now is =
       let first = zeroed_by holding.mode cells holding.number in
@@ -185,7 +185,7 @@ module _ (store : Store) where
       ∙ ap (λ b. b || list_any (is_given_out (Step m)) (gives_of store holdings)) (give-old n holding.mode m (origin_of store holding.mode holding.number) later (origin-old n holding.mode holding.number has))
       ∙ none-later n holdings m has later
 
-  pub spawn-becomes : (n : ℕ) (holdings : List Holding) → HasOrigins n store → Becomes n (deed.Spawn (gives_of store holdings)) store (record store { cells = zeroed store.cells holdings })
+  pub spawn-becomes : (n : ℕ) (holdings : List Holding) → HasOrigins n store → Becomes n (deed.Spawn (gives_of store holdings)) store (record store { cells = cells_with_zeros store.cells holdings })
   spawn-becomes n holdings has =
       let gives : List OriginGive = gives_of store holdings in
       record {

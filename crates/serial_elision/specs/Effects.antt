@@ -6,7 +6,7 @@ use Rattle.swan_model.specs.declared.fault.FaultKind.TheVariants.{PopEmpty}
 use Rattle.swan_model.specs.declared.script.Deed.{Deed}
 use Rattle.swan_model.specs.declared.script.Deed.TheVariants as deed
 use Rattle.swan_model.specs.SerialState.{Activation, Store, State}
-use Rattle.swan_model.specs.SerialStep.{told}
+use Rattle.swan_model.specs.SerialStep.{with_answer}
 use Rattle.swan_model.specs.SerialStep as serial
 use Rattle.serial_elision.specs.declared.effect.Effect.{Effect}
 use Rattle.serial_elision.specs.declared.effect.Effect.TheVariants.{Answered, Spawned, Ended, Faulted}
@@ -18,7 +18,7 @@ use Rattle.serial_elision.specs.declared.reply.Reply.TheVariants as reply
 -- The activation and the store that the code leaves are those of the effect; an activation that ends
 -- leaves the store as it was.
 abbrev pub IsEffect : {L : Type 0} → Effect L → Activation L → Store → Store → serial.Effect L → Type 0
-IsEffect (Answered answer) a before after effect = effect ≡ serial.goes_on (told a answer) after
+IsEffect (Answered answer) a before after effect = effect ≡ serial.goes_on (with_answer a answer) after
 IsEffect (Spawned child) a before after effect = effect ≡ serial.spawns a child after
 IsEffect Ended a before after effect = (effect ≡ serial.ends) × (after ≡ before)
 IsEffect (Faulted kind) a before after effect = (effect ≡ serial.faults kind) × (after ≡ before)
@@ -34,13 +34,13 @@ as_ask (own.Fail trouble) = ask.Fail trouble
 -- What the store says to an ask: that it has the effect, or that the ask is about the task itself and has had
 -- none yet.
 abbrev pub IsReply : {L : Type 0} → Reply L → Activation L → Store → Store → Ask L → serial.Effect L → Type 0
-IsReply (reply.Told answer) a before after asks effect = effect ≡ serial.goes_on (told a answer) after
+IsReply (reply.Told answer) a before after asks effect = effect ≡ serial.goes_on (with_answer a answer) after
 IsReply (reply.Fault kind) a before after asks effect = (effect ≡ serial.faults kind) × (after ≡ before)
 IsReply (reply.Own task) a before after asks effect = (asks ≡ as_ask task) × (after ≡ before)
 
 -- The state once an effect has come to the activation that was taken off its stack.
 abbrev pub after_effect : {L : Type 0} → Effect L → Activation L → ℕ → State L → State L
-after_effect (Answered answer) a place s = record s { steps = s.steps + 1; stack = told a answer ∷ s.stack }
+after_effect (Answered answer) a place s = record s { steps = s.steps + 1; stack = with_answer a answer ∷ s.stack }
 after_effect (Spawned child) a place s = record s { steps = s.steps + 1; stack = child ∷ a ∷ s.stack }
 after_effect Ended a place s = record s { steps = s.steps + 1 }
 after_effect (Faulted kind) a place s = record s { steps = s.steps + 1; faults = s.faults ++ (record { path = a.path; place = place; kind = kind }) ∷ [] }

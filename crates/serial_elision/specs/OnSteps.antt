@@ -18,7 +18,7 @@ use Rattle.swan_model.specs.SerialStep.{Effect, given}
 use Rattle.swan_model.specs.SerialTime.{time}
 use Rattle.swan_model.specs.Told.{count, taken}
 use Rattle.swan_model.specs.TrueFrames.{StandsAt, effect_at, gives_at}
-use Rattle.serial_elision.specs.TaskSteps.{Faults, GetsPlace, GoesOn, IsAsking, MayUseAt}
+use Rattle.serial_elision.specs.TaskSteps.{MeetsFault, GetsPlace, GoesOn, IsAsking, MayUseAt}
 
 -- the plan's lists are within their bounds, as those of each plan that is made are
 abbrev pub IsBounded : {B L : Type 0} → Plan B L → Type 0
@@ -95,7 +95,7 @@ module _ {B L : Type 0} (G : Ghosts B L) where
 
   -- the step ends the task by this fault, and is this deed
   abbrev pub EndsBy : TaskStep B L → FaultKind → Deed → Type 0
-  EndsBy at kind does = Faults G at.plan at.path at.k at.top kind does
+  EndsBy at kind does = MeetsFault G at.plan at.path at.k at.top kind does
 
   -- the queue has an item left at this step, or none
   abbrev pub IsItemLeft : TaskStep B L → Origin → Type 0

@@ -21,7 +21,7 @@ use Rattle.swan_model.specs.declared.script.OriginGive.{OriginGive}
 use Rattle.swan_model.specs.Rights.{allows}
 use Rattle.swan_model.specs.Script.{script}
 use Rattle.swan_model.specs.SerialState.{Activation, Holding, Store}
-use Rattle.swan_model.specs.SerialStep.{goes_on, spawns, ends, faults, given, moved, number_at, told, with_place}
+use Rattle.swan_model.specs.SerialStep.{goes_on, spawns, ends, faults, given, after_next, number_at, with_answer, with_place}
 use Rattle.swan_model.specs.SerialTime.{time, times}
 use Rattle.swan_model.specs.Told.{deed_at}
 use Rattle.swan_model.specs.TrueFrames.{StandsAt, effect_at, gives_at}
@@ -65,17 +65,17 @@ module _ {B L : Type 0} (G : Ghosts B L) (plan : Plan B L) (path : List ℕ) (k 
   -- The step leaves the task with this local and this answer; it holds the same.
   pub record GoesOn (local : L) (said : Answer) (does : Deed) : Type 0 where
     pub store : Store
-    pub effect : effect_at G plan path k top ≡ goes_on (told (moved top local) said) store
+    pub effect : effect_at G plan path k top ≡ goes_on (with_answer (after_next top local) said) store
     pub deed : Does does
-    pub names : gives_at G plan path (k + 1) (told (moved top local) said) ≡ gives_at G plan path k top
+    pub names : gives_at G plan path (k + 1) (with_answer (after_next top local) said) ≡ gives_at G plan path k top
 
   -- The step gives the task one place more, for what the step made, and the task is told which place it is.
   pub record GetsPlace (local : L) (mode : Mode) (does : Deed) : Type 0 where
     pub number : ℕ
     pub store : Store
-    pub effect : effect_at G plan path k top ≡ goes_on (with_place (moved top local) (record { mode = mode; number = number })) store
+    pub effect : effect_at G plan path k top ≡ goes_on (with_place (after_next top local) (record { mode = mode; number = number })) store
     pub deed : Does does
-    pub names : gives_at G plan path (k + 1) (with_place (moved top local) (record { mode = mode; number = number }))
+    pub names : gives_at G plan path (k + 1) (with_place (after_next top local) (record { mode = mode; number = number }))
         ≡ gives_at G plan path k top ++ Some (record { origin = Step (time (script G plan) path k); mode = mode }) ∷ []
 
   -- the step ends the task
@@ -84,7 +84,7 @@ module _ {B L : Type 0} (G : Ghosts B L) (plan : Plan B L) (path : List ℕ) (k 
     pub deed : Does deed.Quiet
 
   -- the step ends the task by this fault
-  pub record Faults (kind : FaultKind) (does : Deed) : Type 0 where
+  pub record MeetsFault (kind : FaultKind) (does : Deed) : Type 0 where
     pub effect : effect_at G plan path k top ≡ faults kind
     pub deed : Does does
 
@@ -93,13 +93,13 @@ module _ {B L : Type 0} (G : Ghosts B L) (plan : Plan B L) (path : List ℕ) (k 
     pub holdings : List Holding
     pub held : given top.holdings child.gives ≡ Some holdings
     pub store : Store
-    pub effect : effect_at G plan path k top ≡ spawns (parent_activation (moved top local) child) (child_activation top child holdings) store
+    pub effect : effect_at G plan path k top ≡ spawns (parent_activation (after_next top local) child) (child_activation top child holdings) store
     pub gives : List OriginGive
     pub deed : Does (deed.Spawn gives)
     pub many : length gives ≡ length child.gives
     pub each : (i : ℕ) (give : Give) → slice_get child.gives i ≡ Some give
         → (origin : Origin) × MayUseAt give.place give.mode origin × (slice_get gives i ≡ Some (record { origin = origin; mode = give.mode }))
-    pub names : gives_at G plan path (k + 1) (parent_activation (moved top local) child) ≡ gives_at G plan path k top
+    pub names : gives_at G plan path (k + 1) (parent_activation (after_next top local) child) ≡ gives_at G plan path k top
     pub begins : gives_at G plan (top.path ++ top.children ∷ []) 0 (child_activation top child holdings) ≡ map Some gives
 
 module _ {B L : Type 0} (G : Ghosts B L) (plan : Plan B L) where

@@ -1,6 +1,6 @@
 // Activations: the tasks of the serial elision.
 ghost use Rattle.std.specs.Prelude.{◌≡◌, ◌+◌, ◌-◌, ◌<◌, ◌≤◌, ◌++◌, ◌∷◌, [], length, IfOk, OnOk};
-ghost use Rattle.swan_model.specs.SerialStep.{moved, told, number_at};
+ghost use Rattle.swan_model.specs.SerialStep.{after_next, with_answer, number_at};
 ghost use Rattle.swan_model.specs.declared.body.Answer.TheVariants as answer;
 
 use crate::Holding;
@@ -78,7 +78,7 @@ impl<L> Activation<L> {
     ) -> Result<(Activation<L>, Ask<L>), NoMemory>
         requires { 0 < self.fuel }
         ensures moved { let step = B.next body.now self.local self.answer (self.fuel - 1) in
-            IfOk result (λ r. r.0 ≡ told (moved self step.0) answer.Nothing) }
+            IfOk result (λ r. r.0 ≡ with_answer (after_next self step.0) answer.Nothing) }
         ensures ask { let step = B.next body.now self.local self.answer (self.fuel - 1) in
             IfOk result (λ r. r.1 ≡ step.1) }
         ensures paid { IfOk result (λ r. HasPaid r.0) }

@@ -46,12 +46,15 @@ pub fn each_step_has_its_entry<B: Body>()
 /// and nothing stands past them. The items are all that ever stood in the queue, but those that were taken.
 #[tactic(auto, using(crate::proofs::SerialTold::items_told, crate::proofs::SerialTold::cells_told))]
 pub fn a_script_tells_queues_and_objects<B: Body>()
+    // after any number of steps
     ensures items { (plan : Plan B B.Local) (n i : ℕ) →
         IfSome (slice_get (serial B.Body plan n).store.queues i)
         (λ queue. queue.items ≡ items (script B.Body plan) queue.origin n) }
     ensures values { (plan : Plan B B.Local) (n i : ℕ) →
         IfSome (slice_get (serial B.Body plan n).store.cells i)
         (λ object. cell (script B.Body plan) object.origin n ≡ Some object.value) }
+
+    // what the elision leaves of the plan's queues and objects
     ensures items_left { (plan : Plan B B.Local) (i : ℕ) → let s = script B.Body plan in
         slice_get (outcome B.Body plan).queues i
         ≡ option_map (λ first. items s (Root i) (length s.entries)) (slice_get s.queues i) }
@@ -79,10 +82,13 @@ pub fn times_of_a_task_rise()
 /// and between the two stand only entries of the child and of tasks below it. The root ends at the last
 /// entry of all.
 pub fn each_task_ends_once<B: Body>()
+    // the last entry of a task and of those below it
     ensures last { (plan : Plan B B.Local) (path : List ℕ) (end t : ℕ) → let s = script B.Body plan in
         IsEndOf s path end → IsEntryUnder s path t → t ≤ end }
     ensures once { (plan : Plan B B.Local) (path : List ℕ) (end other : ℕ) → let s = script B.Body plan in
         IsEndOf s path end → IsEndOf s path other → end ≡ other }
+
+    // from the spawn of a child to its end
     ensures spawned { (s : Script) (n : ℕ) (entry : Entry) → slice_get s.entries n ≡ Some entry
         → IsTrue (is_spawn entry.deed) → spawn_time s entry.path (children_before s entry.path n) ≡ Some n }
     ensures ends { (plan : Plan B B.Local) (path : List ℕ) (child spawn : ℕ) → let s = script B.Body plan in
@@ -91,6 +97,8 @@ pub fn each_task_ends_once<B: Body>()
     ensures between { (plan : Plan B B.Local) (path : List ℕ) (child spawn end t : ℕ) → let s = script B.Body plan in
         spawn_time s path child ≡ Some spawn → IsEndOf s (path ++ child ∷ []) end → spawn < t → t < end
         → IsEntryUnder s (path ++ child ∷ []) t }
+
+    // the end of all
     ensures root { (plan : Plan B B.Local) → let s = script B.Body plan in
         (end : ℕ) × (length s.entries ≡ end + 1) × IsEndOf s [] end }
 {}
@@ -148,15 +156,20 @@ pub fn scripts_are_lawful<B: Body>()
 /// child, and once others are no longer active: no other frame can push before the item any more. The
 /// active frames are frames of a reading of a lawful script, in which the spawn of each child is done.
 pub fn a_ripe_item_stays()
+    // as another frame goes on
     ensures goes_on { (s : Script) (r : Reading) (active : List Progress) (frame : Progress) (queue : Origin) (other : ℕ)
         → IsLawful s → HasTasks s r → AreFramesOf r active → IsTrue (is_ripe s r active frame queue)
         → IsTrue (is_ripe s (gone_on r other) (map (one_more other) active) frame queue) }
+
+    // as another frame spawns a child
     ensures spawns { (s : Script) (r : Reading) (active : List Progress) (frame : Progress) (queue : Origin)
         (parent : Progress) (gives : List OriginGive) (number i : ℕ)
         → let child : Progress = record { number = number; path = child_path s parent.path (point s parent); done = 0 } in
         IsLawful s → HasTasks s r → AreFramesOf r active → slice_get active i ≡ Some parent
         → next_deed s parent ≡ Some (Spawn gives) → parent.number ≢ frame.number → IsTrue (is_ripe s r active frame queue)
         → IsTrue (is_ripe s (reading_after_spawn s r parent number) (map (one_more parent.number) active ++ child ∷ []) frame queue) }
+
+    // as others are no longer active
     ensures fewer { (s : Script) (r : Reading) (active fewer : List Progress) (frame : Progress) (queue : Origin)
         → ((i : ℕ) (other : Progress) → slice_get fewer i ≡ Some other → (j : ℕ) × (slice_get active j ≡ Some other))
         → IsTrue (is_ripe s r active frame queue) → IsTrue (is_ripe s r fewer frame queue) }

@@ -1,6 +1,6 @@
 // The serial state, and the serial step.
 ghost use Rattle.std.specs.Prelude.{◌≡◌, ℕ, suc, ◌+◌, ◌^◌, ◌<◌, ◌++◌, ◌∷◌, [], IfOk, OnOk, IsTrue, ◌↔◌};
-ghost use Rattle.swan_model.specs.SerialStep.{after, effect, faults};
+ghost use Rattle.swan_model.specs.SerialStep.{state_after, effect, faults};
 ghost use Rattle.swan_model.specs.declared.plan.TheConstants.{FUEL_MOST};
 ghost use Rattle.serial_elision.specs.Bounds.{HasPaid};
 ghost use Rattle.serial_elision.specs.Effects.{as_ask, IsEffect, after_effect};
@@ -130,7 +130,7 @@ impl<L: Drop> State<L> {
     /// Ends a task that was taken off the stack by a fault, in one step. `O(1)` amortised.
     fn fail(&mut self, path: Path, place: u64, kind: FaultKind) -> Result<(), NoMemory>
         requires { self.old.steps + 1 < 2 ^ 64 }
-        ensures { OnOk result (self.new ≡ after self.old self.old.stack path place (faults kind)) }
+        ensures { OnOk result (self.new ≡ state_after self.old self.old.stack path place (faults kind)) }
     {
         self.steps += 1;
         self.book(path, place, kind)
@@ -148,7 +148,7 @@ impl<L: Drop> State<L> {
     ) -> Result<(), NoMemory>
         requires paid { HasPaid top }
         requires steps { self.old.steps + 1 < 2 ^ 64 }
-        ensures { OnOk result (self.new ≡ after self.old self.old.stack top.path place
+        ensures { OnOk result (self.new ≡ state_after self.old self.old.stack top.path place
             (effect self.old.steps self.old.store top (as_ask ask))) }
     {
         let effect = self.perform_own(alloc, &mut top, ask)?;

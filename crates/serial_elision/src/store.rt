@@ -2,7 +2,7 @@
 ghost use Rattle.std.specs.Option.{option_map};
 ghost use Rattle.std.specs.Prelude.{◌≡◌, IfOk, OnOk, is_some, slice_get};
 ghost use Rattle.swan_model.specs.Script.{origin_of, origin_at};
-ghost use Rattle.swan_model.specs.SerialStep.{effect, is_nothing_left, zeroed, zeroed_by, zero_cell};
+ghost use Rattle.swan_model.specs.SerialStep.{effect, is_nothing_left, cells_with_zeros, zeroed_by, zero_cell};
 ghost use Rattle.swan_model.specs.declared.body.Ask.TheVariants as ask;
 ghost use Rattle.swan_model.specs.declared.rights.Mode.TheVariants.{In, Out, Push, Pop};
 ghost use Rattle.serial_elision.specs.Bounds.{HasPaid};
@@ -184,7 +184,7 @@ impl Store {
 
     /// Gives each object that is held by Out its zero. `O(holdings)`.
     pub fn zero(&mut self, alloc: Global, holdings: &[Holding]) -> Result<(), NoMemory>
-        ensures { OnOk result (self.new ≡ record self.old { cells = zeroed self.old.cells holdings.now }) }
+        ensures { OnOk result (self.new ≡ record self.old { cells = cells_with_zeros self.old.cells holdings.now }) }
     {
         for holding in holdings {
             self.zero_held(alloc, holding)?;

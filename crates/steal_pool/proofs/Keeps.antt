@@ -1,7 +1,7 @@
 -- Each step keeps the rule of a deque.
 use Rattle.std.specs.Prelude.{sum_by, slice_index_or, slice_set}
 use Rattle.std.proofs.lemmas.List.Sums.{sum_by-set}
-use Rattle.std.proofs.Common.{◌≡◌, ◌≢◌, ℕ, zero, suc, ◌+◌, ◌<◌, List, [], ◌∷◌, ◌++◌, length, set, sym, refl, ap, ◌∙◌, subst, ⊎_elim, arith, All}
+use Rattle.std.proofs.Common.{◌≡◌, ◌≢◌, ℕ, zero, suc, ◌+◌, ◌<◌, List, [], ◌∷◌, ◌++◌, length, set, sym, refl, ap, ◌∙◌, subst, ⊎_elim, arith}
 use Rattle.std.specs.Prelude.{Option, Some, None}
 use mathlib.Core.Option.{some, some-ne-none, some-injective}
 use lib.ListN.{get_elem?}
@@ -118,9 +118,6 @@ module _ {T N : Type 0} (name : T → N) where
 
   pub one_label : (a b : N) → ◌≡◌ {A = List (Parcel T N)} (Label a ∷ []) (Label b ∷ []) → a ≡ b
   one_label a b e = ap (name_in a) e
-
-pub all_tail : {X : Type 0} (P : X → Type 0) (ys xs : List X) (x : X) → ys ≡ x ∷ xs → All P ys → All P xs
-all_tail P ys xs x e h = let t = subst (All P) e h in λ k d l. t (suc k) d (omega arith)
 
 -- where one of a list is raised, so is the sum
 pub raised : {X : Type 0} (f : X → ℕ) (xs : List X) (i n : ℕ) (y d : X) → i < length xs → f y ≡ f (slice_index_or xs i d) + n → sum_by f (slice_set xs i y) ≡ sum_by f xs + n

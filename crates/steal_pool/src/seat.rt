@@ -98,9 +98,15 @@ impl<T: Named> PoolSeat<T> {
     /// deque, the list is empty, and no steal gave a frame. It takes no memory. `O(1)`, or `O(seats)` where it steals.
     pub fn take<M: Outcome<T, PoolView<T::Name>>>(&mut self) -> Result<T, Dry>
         requires { Finds (Pooled T.name) (own_port self.old) (own_view self.old) (M.empty (own_view self.old)) }
+
+        // which seat it stays
         ensures same { SameSeat self.old self.new × (next_put self.new ≤ next_put self.old) }
+
+        // the frame that is taken, and where it was
         ensures named { IfOk result (λ frame. T.name frame ≡ pool_name self.old) }
         ensures once { IfOk result (λ frame. GivesFirst self.old self.new ⊎ (GivesListed frame self.old self.new ⊎ GivesStolen self.old self.new)) }
+
+        // what shows that none was found
         ensures empty { OnErr result (M.empty (own_view self.old)) }
         ensures none_taken { OnErr result (SameView self.old self.new) }
         ensures none_listed { OnErr result ((listed self.old ≡ []) × (listed self.new ≡ [])) }

@@ -1,6 +1,6 @@
 -- Lemmas on the book, which other crates cite too; what a file is for stands at its head. Four groups, in the order to read them:
 -- lists, entries and places: `Elements`, `Lists`, `RootLists`, `Lookups`, `Places`, `Paths`, `Origins`;
--- texts, cells and steps: `FirstLine`, `FewLines`, `ZeroedCells`, `Working`, `ScriptLength`;
+-- texts, cells and steps: `FirstLine`, `FewLines`, `ZeroedCells`, `Stores`, `Working`, `ScriptLength`;
 -- serial order, and the entries of a task: `PathOrder`, `Times`, `TaskEntries`, `Points`;
 -- what lawful scripts tell of frames, rights, deeds, values and items: `ScriptSteps`, `MovedFrames`, `Uses`, `ScriptRights`, `ScriptDeeds`,
 -- `ScriptCells`, `ScriptCounts`.
@@ -22,6 +22,7 @@ pub mod ScriptCounts
 pub mod ScriptDeeds
 pub mod ScriptRights
 pub mod ScriptSteps
+pub mod Stores
 pub mod TaskEntries
 pub mod Times
 pub mod Uses

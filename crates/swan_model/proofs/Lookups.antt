@@ -1,12 +1,15 @@
--- What is found in a list of entries after one came in, was changed, or went out: for any order of keys, and for keys that are numbers.
+-- What is found in a list of entries: what holds of each entry holds of one that is found, and what is found after one came in, was changed, or
+-- went out, for any order of keys, and for keys that are numbers.
 use Rattle.std.proofs.Common.{◌≡◌, ◌≢◌, ℕ, Bool, true, false, cond, Option, None, Some, List, [], ◌∷◌, refl, sym, ap, ◌∙◌, arith}
-use Rattle.std.proofs.lemmas.Bool.{false≢true}
+use Rattle.std.proofs.lemmas.Bool.{and_parts, false≢true}
 use Rattle.std.proofs.lemmas.Bool.Decides.{nat_tests}
 use Rattle.std.proofs.lemmas.Cmp.{alike_right, eq_by_cmp_equiv, nat_cmp_total}
 use Rattle.std.proofs.lemmas.Map.{lookup-set_value, lookup-remove_entry}
 use Rattle.std.proofs.lemmas.Map.Keys.{IsDistinct-from_sorted}
+use Rattle.std.proofs.lemmas.Option.{none-some, same_Some}
 use Rattle.std.specs.BTreeMap.{is_at, insert_entry}
 use Rattle.std.specs.Cmp.{IsTotalOrder}
+use Rattle.std.specs.List.{list_all}
 use Rattle.std.specs.List.Sorted.{IsStrictlySortedBy}
 use Rattle.std.specs.Map.{lookup, set_value, remove_entry, keys_of}
 use Rattle.std.specs.Ordering.{nat_cmp, is_eq, match_ordering, eq_by_cmp}
@@ -39,6 +42,22 @@ hidden true true x y z e = refl
 hidden true false x y z e = absurd (false≢true (sym e))
 hidden false true x y z e = absurd (false≢true e)
 hidden false false x y z e = refl
+
+-- ---- tests of entries
+
+-- what each entry passes, one that is found passes, where keys that tie are the same
+module _ {K X : Type 0} (cmp : K → K → Ordering) (equal : (k n : K) → is_at (cmp k) n ≡ true → k ≡ n) (p : K × X → Bool) where
+  pub found_passes : (es : List (K × X)) (k : K) (x : X) → list_all p es ≡ true → lookup (is_at (cmp k)) es ≡ Some x → p (k, x) ≡ true
+  found_passes [] k x all found = absurd (none-some x found)
+  found_passes (e ∷ es) k x all found = by (is_at (cmp k) e.0) refl found (found_passes es k x (and_parts (p e) (list_all p es) all).1) where
+    by : (b : Bool) → is_at (cmp k) e.0 ≡ b → cond b (Some e.1) (lookup (is_at (cmp k)) es) ≡ Some x
+        → (lookup (is_at (cmp k)) es ≡ Some x → p (k, x) ≡ true) → p (k, x) ≡ true
+    by true is h rest =
+        let value : e.1 ≡ x = same_Some e.1 x h in
+        let key : e.0 ≡ k = sym (equal k e.0 is) in
+        let same : (k, x) ≡ e = λ i. (sym key i, sym value i) in
+        ap p same ∙ (and_parts (p e) (list_all p es) all).0
+    by false is h rest = rest h
 
 -- ---- any order of keys
 

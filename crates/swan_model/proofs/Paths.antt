@@ -1,6 +1,7 @@
 -- Paths that are the same, and paths that are below another one.
-use Rattle.std.proofs.Common.{◌≡◌, ℕ, true, nat_eq, List, [], ◌∷◌, ◌++◌, length, refl, ap, arith, length-append}
+use Rattle.std.proofs.Common.{◌≡◌, ℕ, true, nat_eq, List, [], ◌∷◌, ◌++◌, length, refl, sym, ap, ◌∙◌, append_assoc, arith, length-append}
 use Rattle.std.proofs.lemmas.Bool.{and_parts, and_from, eqb-true, eq-eqb}
+use Rattle.std.proofs.lemmas.List.{append-nil}
 use Rattle.std.specs.Cmp.Lexicographic.{pointwise}
 
 pub same_part : (part : ℕ) → nat_eq part part ≡ true
@@ -30,3 +31,18 @@ same_path (part ∷ parts) (other ∷ others) is =
 pub path_is-itself : (path : List ℕ) → pointwise nat_eq path path ≡ true
 path_is-itself [] = refl
 path_is-itself (part ∷ parts) = and_from (nat_eq part part) (pointwise nat_eq parts parts) (same_part part) (path_is-itself parts)
+
+-- a path is another one, or below it
+pub record IsUnder (path other : List ℕ) : Type 0 where
+  pub rest : List ℕ
+  pub is : other ≡ path ++ rest
+
+pub under-moved : (path a b : List ℕ) → b ≡ a → IsUnder path a → IsUnder path b
+under-moved path a b same under = record { rest = under.rest; is = same ∙ under.is }
+
+pub under-child : (path a child : List ℕ) (number : ℕ) → child ≡ a ++ number ∷ [] → IsUnder path a → IsUnder path child
+under-child path a child number same under =
+    record { rest = under.rest ++ number ∷ []; is = same ∙ ap (λ p. p ++ number ∷ []) under.is ∙ append_assoc path under.rest (number ∷ []) }
+
+pub under-itself : (path other : List ℕ) → other ≡ path → IsUnder path other
+under-itself path other same = record { rest = []; is = same ∙ sym (append-nil path) }

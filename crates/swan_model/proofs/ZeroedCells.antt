@@ -4,7 +4,7 @@ use Rattle.std.specs.Prelude.{slice_get}
 use Rattle.swan_model.specs.declared.rights.Mode.{Mode}
 use Rattle.swan_model.specs.declared.rights.Mode.TheVariants.{In, Out, InOut, Push, Pop, PushPop}
 use Rattle.swan_model.specs.SerialState.{Cell, Holding}
-use Rattle.swan_model.specs.SerialStep.{zero_cell, zeroed, zeroed_by}
+use Rattle.swan_model.specs.SerialStep.{zero_cell, cells_with_zeros, zeroed_by}
 
 length-zero_cell : (cells : List Cell) (n : ℕ) (cell : Option Cell) → length (zero_cell cells n cell) ≡ length cells
 length-zero_cell cells n None = refl
@@ -18,7 +18,7 @@ length-zeroed_by Push cells n = refl
 length-zeroed_by Pop cells n = refl
 length-zeroed_by PushPop cells n = refl
 
-pub length-zeroed : (cells : List Cell) (holdings : List Holding) → length (zeroed cells holdings) ≡ length cells
+pub length-zeroed : (cells : List Cell) (holdings : List Holding) → length (cells_with_zeros cells holdings) ≡ length cells
 length-zeroed cells [] = refl
 length-zeroed cells (holding ∷ holdings) =
     omega (arith, length-zeroed (zeroed_by holding.mode cells holding.number) holdings, length-zeroed_by holding.mode cells holding.number)

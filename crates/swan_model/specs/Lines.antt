@@ -5,14 +5,14 @@ use Rattle.swan_model.specs.declared.lines.LinesAnswer.TheVariants.{TooLong, Too
 use Rattle.swan_model.specs.declared.lines.TheConstants.{LINES_MOST}
 use Rattle.swan_model.specs.declared.record.TheConstants.{RECORD_MOST}
 
--- the lines with one more byte at the front of the first
-abbrev pub before_lines : ℕ → List (List ℕ) → List (List ℕ)
-before_lines byte [] = (byte ∷ []) ∷ []
-before_lines byte (line ∷ lines) = (byte ∷ line) ∷ lines
+-- the pieces of a text, such as its lines, with one more byte at the front of the first
+abbrev pub in_front : ℕ → List (List ℕ) → List (List ℕ)
+in_front byte [] = (byte ∷ []) ∷ []
+in_front byte (piece ∷ pieces) = (byte ∷ piece) ∷ pieces
 
 abbrev pub lines : List ℕ → List (List ℕ)
 lines [] = []
-lines (byte ∷ bytes) = if byte == 10 then [] ∷ lines bytes else before_lines byte (lines bytes)
+lines (byte ∷ bytes) = if byte == 10 then [] ∷ lines bytes else in_front byte (lines bytes)
 
 -- Why lines are refused as the records of an input, with so many lines before them: the first line
 -- that is one too many, or too long for a record.

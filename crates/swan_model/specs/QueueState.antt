@@ -91,12 +91,12 @@ new_state = record { frames = root_frame ∷ []; makers = []; latest = 0; emptie
 abbrev pub active : QueueState → ℕ → Option ActiveFrame
 active state number = find (λ frame. frame.number == number) state.frames
 
-abbrev pub changed : ℕ → (ActiveFrame → ActiveFrame) → ActiveFrame → ActiveFrame
-changed number change frame = if frame.number == number then change frame else frame
+abbrev pub frame_after_change : ℕ → (ActiveFrame → ActiveFrame) → ActiveFrame → ActiveFrame
+frame_after_change number change frame = if frame.number == number then change frame else frame
 
 -- the frame of this number changed so
 abbrev pub changing : QueueState → ℕ → (ActiveFrame → ActiveFrame) → QueueState
-changing state number change = record state { frames = map (changed number change) state.frames }
+changing state number change = record state { frames = map (frame_after_change number change) state.frames }
 
 -- whether a frame may use a queue by this mode
 abbrev pub holds_queue : ActiveFrame → ℕ → Mode → Bool
@@ -138,7 +138,7 @@ abbrev pub after_spawn : QueueState → ActiveFrame → ℕ → List QueueRight 
 after_spawn state parent child gives =
     let one_more : ActiveFrame → ActiveFrame = λ f. with_deed (record f { children = f.children + 1 }) in
     record (changing state parent.number one_more) {
-      frames = map (changed parent.number one_more) state.frames ++ child_of parent child gives ∷ [];
+      frames = map (frame_after_change parent.number one_more) state.frames ++ child_of parent child gives ∷ [];
       latest = child;
     }
 

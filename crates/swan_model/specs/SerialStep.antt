@@ -72,8 +72,8 @@ abbrev pub with_items : Store → ℕ → Queue → List Value → Store
 with_items store number queue items = record store { queues = slice_set store.queues number (record queue { items = items }) }
 
 -- the activation with what its next step is told
-abbrev pub told : {L : Type 0} → Activation L → Answer → Activation L
-told a answer = record a { answer = answer }
+abbrev pub with_answer : {L : Type 0} → Activation L → Answer → Activation L
+with_answer a answer = record a { answer = answer }
 
 -- the activation with one more place, which it is told
 abbrev pub with_place : {L : Type 0} → Activation L → Holding → Activation L
@@ -82,7 +82,7 @@ with_place a holding = record a { answer = answer.Place (length a.holdings); hol
 -- a pop: the first item leaves the queue, and an empty queue is a fault
 abbrev pub popped : {L : Type 0} → Store → Activation L → ℕ → Queue → List Value → Effect L
 popped store a number queue [] = faults kind.PopEmpty
-popped store a number queue (item ∷ items) = goes_on (told a (answer.Item item)) (with_items store number queue items)
+popped store a number queue (item ∷ items) = goes_on (with_answer a (answer.Item item)) (with_items store number queue items)
 
 abbrev pub is_nothing_left : List Value → Bool
 is_nothing_left [] = true
@@ -107,9 +107,9 @@ abbrev pub zeroed_by : Mode → List Cell → ℕ → List Cell
 zeroed_by Out cells number = zero_cell cells number (slice_get cells number)
 zeroed_by _ cells number = cells
 
-abbrev pub zeroed : List Cell → List Holding → List Cell
-zeroed cells [] = cells
-zeroed cells (holding ∷ holdings) = zeroed (zeroed_by holding.mode cells holding.number) holdings
+abbrev pub cells_with_zeros : List Cell → List Holding → List Cell
+cells_with_zeros cells [] = cells
+cells_with_zeros cells (holding ∷ holdings) = cells_with_zeros (zeroed_by holding.mode cells holding.number) holdings
 
 -- A spawn. Its faults are tried in this order: a give of what the parent doesn't hold so, a place that
 -- is given twice, the depth of the path, the fuel.
@@ -122,21 +122,21 @@ spawn_effect store a child (Some holdings) =
     else spawns
     (record a { answer = answer.Nothing; fuel = a.fuel - child.fuel; children = a.children + 1 })
     (record { path = a.path ++ a.children ∷ []; local = child.local; answer = answer.Start; fuel = child.fuel; holdings = holdings; children = 0 })
-    (record store { cells = zeroed store.cells holdings })
+    (record store { cells = cells_with_zeros store.cells holdings })
 
 -- The effect of an ask at the step of this number, where the activation has paid for the step.
 abbrev pub effect : {L : Type 0} → ℕ → Store → Activation L → Ask L → Effect L
-effect n store a ask.Work = goes_on (told a answer.Nothing) store
+effect n store a ask.Work = goes_on (with_answer a answer.Nothing) store
 effect n store a (ask.Read place) =
-    on_object store (number_at a.holdings place In) (λ number cell. goes_on (told a (answer.Item cell.value)) store)
+    on_object store (number_at a.holdings place In) (λ number cell. goes_on (with_answer a (answer.Item cell.value)) store)
 effect n store a (ask.Write place value) =
-    on_object store (number_at a.holdings place Out) (λ number cell. goes_on (told a answer.Nothing) (with_value store number cell value))
+    on_object store (number_at a.holdings place Out) (λ number cell. goes_on (with_answer a answer.Nothing) (with_value store number cell value))
 effect n store a (ask.Push place value) =
-    on_queue store (number_at a.holdings place Push) (λ number queue. goes_on (told a answer.Nothing) (with_items store number queue (queue.items ++ value ∷ [])))
+    on_queue store (number_at a.holdings place Push) (λ number queue. goes_on (with_answer a answer.Nothing) (with_items store number queue (queue.items ++ value ∷ [])))
 effect n store a (ask.Pop place) =
     on_queue store (number_at a.holdings place Pop) (λ number queue. popped store a number queue queue.items)
 effect n store a (ask.Empty place) =
-    on_queue store (number_at a.holdings place Pop) (λ number queue. goes_on (told a (answer.Flag (is_nothing_left queue.items))) store)
+    on_queue store (number_at a.holdings place Pop) (λ number queue. goes_on (with_answer a (answer.Flag (is_nothing_left queue.items))) store)
 effect n store a ask.NewQueue =
     goes_on (with_place a (record { mode = PushPop; number = length store.queues }))
     (record store { queues = store.queues ++ (record { origin = origin.Step n; items = [] }) ∷ [] })
@@ -144,22 +144,22 @@ effect n store a (ask.NewObject value) =
     goes_on (with_place a (record { mode = InOut; number = length store.cells }))
     (record store { cells = store.cells ++ (record { origin = origin.Step n; kind = kind_of value; value = value }) ∷ [] })
 effect n store a (ask.Spawn child) = spawn_effect store a child (given a.holdings child.gives)
-effect n store a ask.Sync = goes_on (told a answer.Nothing) store
+effect n store a ask.Sync = goes_on (with_answer a answer.Nothing) store
 effect n store a ask.Finish = ends
 effect n store a (ask.Fail trouble) = faults (kind.Trouble trouble)
 
 -- The state after an effect. The activations below the top stay. A fault is booked with the path and with
 -- the place before the step, and ends its activation and nothing else: what it wrote and pushed stays, its
 -- parent and its siblings go on. What an ended activation had left of fuel is gone.
-abbrev pub after : {L : Type 0} → State L → List (Activation L) → List ℕ → ℕ → Effect L → State L
-after s below path place (goes_on a store) = record { steps = s.steps + 1; stack = a ∷ below; store = store; faults = s.faults }
-after s below path place (spawns parent child store) = record { steps = s.steps + 1; stack = child ∷ parent ∷ below; store = store; faults = s.faults }
-after s below path place ends = record { steps = s.steps + 1; stack = below; store = s.store; faults = s.faults }
-after s below path place (faults kind) = record { steps = s.steps + 1; stack = below; store = s.store; faults = s.faults ++ (record { path = path; place = place; kind = kind }) ∷ [] }
+abbrev pub state_after : {L : Type 0} → State L → List (Activation L) → List ℕ → ℕ → Effect L → State L
+state_after s below path place (goes_on a store) = record { steps = s.steps + 1; stack = a ∷ below; store = store; faults = s.faults }
+state_after s below path place (spawns parent child store) = record { steps = s.steps + 1; stack = child ∷ parent ∷ below; store = store; faults = s.faults }
+state_after s below path place ends = record { steps = s.steps + 1; stack = below; store = s.store; faults = s.faults }
+state_after s below path place (faults kind) = record { steps = s.steps + 1; stack = below; store = s.store; faults = s.faults ++ (record { path = path; place = place; kind = kind }) ∷ [] }
 
 -- the activation once its body has answered a step
-abbrev pub moved : {L : Type 0} → Activation L → L → Activation L
-moved a local = record a { local = local; fuel = a.fuel - 1 }
+abbrev pub after_next : {L : Type 0} → Activation L → L → Activation L
+after_next a local = record a { local = local; fuel = a.fuel - 1 }
 
 -- The body's step is an argument: `next` and `place_of` of G.
 module _ {B L : Type 0} (G : Ghosts B L) where
@@ -167,11 +167,11 @@ module _ {B L : Type 0} (G : Ghosts B L) where
   abbrev pub effect_of : B → ℕ → Store → Activation L → Effect L
   effect_of body n store top =
       if top.fuel == 0 then faults kind.Fuel
-      else (let step = G.next body top.local top.answer (top.fuel - 1) in effect n store (moved top step.0) step.1)
+      else (let step = G.next body top.local top.answer (top.fuel - 1) in effect n store (after_next top step.0) step.1)
 
   abbrev pub step_on : B → State L → List (Activation L) → State L
   step_on body s [] = s
-  step_on body s (top ∷ below) = after s below top.path (G.place_of body top.local) (effect_of body s.steps s.store top)
+  step_on body s (top ∷ below) = state_after s below top.path (G.place_of body top.local) (effect_of body s.steps s.store top)
 
   -- one serial step; where the stack is empty there is none
   abbrev pub step : B → State L → State L

@@ -13,7 +13,7 @@ pub struct Failed;
 pub enum ReadAnswer {
     /// The file can't be read, and the count of faults rose.
     Failed,
-    /// The file has more than `FILE_MOST` bytes, and the count of long reads rose.
+    /// The file has more than 67,108,864 bytes, and the count of long reads rose.
     TooLong,
     /// Memory ran out.
     NoMemory,

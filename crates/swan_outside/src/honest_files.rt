@@ -49,7 +49,7 @@ impl Files for HonestFiles {
     ghost long_reads = { λ it. it.long_reads };
 
     /// Adds the content of the first file of this name to the end of the buffer, and nothing where no
-    /// file has the name. Failed never comes. TooLong comes exactly where the content passes `FILE_MOST`
+    /// file has the name. Failed never comes. TooLong comes exactly where the content passes 67,108,864
     /// bytes. `O(files + content)`.
     fn read(&mut self, name: &Word, into: &mut Vec<u8>) -> Result<(), ReadAnswer>
         // the exact answer, and what it leaves

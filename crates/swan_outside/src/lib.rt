@@ -10,9 +10,9 @@
 //!
 //! Promised of every implementation of files and sinks:
 //!
-//! - A read adds the whole content to the buffer, of at most `FILE_MOST` bytes, or leaves the
-//!   buffer as it was. Where contents are told, the bytes are the told ones, and a file is too long
-//!   exactly where the told content passes the limit.
+//! - A read adds the whole content to the buffer, of at most 67,108,864 bytes (`FILE_MOST`), or
+//!   leaves the buffer as it was. Where contents are told, the bytes are the told ones, and a file is
+//!   too long exactly where the told content passes the limit.
 //! - A put takes a front of its piece, at least one byte, or nothing. `put_all` leaves all bytes in
 //!   the sink, or a front of them.
 //! - A fault of reading comes exactly where the count of faults of the files rose in that call, and a
@@ -40,7 +40,8 @@ mod sink;
 mod test_reads;
 
 pub use answer::{Failed, ReadAnswer};
-pub use files::{FILE_MOST, FileBlob, Files};
+use files::FILE_MOST;
+pub use files::{FileBlob, Files};
 pub use gate::{Gate, OpenGate};
 pub use honest_files::HonestFiles;
 pub use honest_sink::HonestSink;

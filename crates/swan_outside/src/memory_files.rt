@@ -59,7 +59,7 @@ impl Files for MemoryFiles {
 
     /// Adds the content of the first file of this name to the end of the buffer. Failed comes
     /// exactly where the call's number is one of those that fail, or no file has the name. TooLong
-    /// comes exactly where else the content passes `FILE_MOST` bytes. `O(files + numbers that fail
+    /// comes exactly where else the content passes 67,108,864 bytes. `O(files + numbers that fail
     /// + content)`.
     fn read(&mut self, name: &Word, into: &mut Vec<u8>) -> Result<(), ReadAnswer>
         // the exact answer, and what it leaves

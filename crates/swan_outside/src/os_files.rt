@@ -57,16 +57,16 @@ impl<T: Runtime> Files for OsFiles<T> {
     ghost long_reads = { λ it. it.long_reads };
 
     /// Adds the whole content of a file to the end of the buffer. The name is its path, as it is. A
-    /// pipe or another special file is read to its end, or to one byte past `FILE_MOST`. Failed
+    /// pipe or another special file is read to its end, or to one byte past 67,108,864 bytes. Failed
     /// comes where the system can't open or read the file: it is missing, or a directory, or its
-    /// name is empty or has a NUL byte. TooLong comes where the file has more than `FILE_MOST`
+    /// name is empty or has a NUL byte. TooLong comes where the file has more than 67,108,864
     /// bytes, of which no more than one past that is read. NoMemory comes where the buffer can't grow
     /// or the system has no memory to read, and only where the runtime has a file. That a missing
     /// file is Failed is so by the body, which asks for no memory before it has opened the file: no
     /// clause says it, since the kit's `open` has no contract on names.
     ///
     /// Where the runtime tells what its files have left, the bytes are all that one of its files
-    /// had, and TooLong comes only where one had more than `FILE_MOST`. `O(bytes that are read)`.
+    /// had, and TooLong comes only where one had more than 67,108,864 bytes. `O(bytes that are read)`.
     fn read(&mut self, name: &Word, into: &mut Vec<u8>) -> Result<(), ReadAnswer>
         // what is known of a system
         ensures counts { self.new ≡ counts_after_read self.old result }

@@ -10,7 +10,8 @@ use Rattle.swan_model.specs.declared.body.Body as body_trait
 use Rattle.swan_model.specs.declared.body.Child.{Child}
 use Rattle.swan_model.specs.declared.fault.Fault.{Fault}
 use Rattle.swan_model.specs.declared.fault.Trouble.{Trouble}
-use Rattle.swan_model.specs.declared.rights.Mode.TheVariants.{Push, Pop, PushPop}
+use Rattle.swan_model.specs.declared.lines.TheConstants.{LINES_MOST}
+use Rattle.swan_model.specs.declared.rights.Mode.TheVariants.{Push, Pop}
 use Rattle.swan_model.specs.declared.value.Value.{Value}
 use Rattle.swan_model.specs.declared.value.Value.TheVariants.{Bytes}
 use Rattle.swan_model.specs.Elision.{outcome}
@@ -23,9 +24,10 @@ use Rattle.line_blocks.specs.TextRoots.{text_names}
 use Rattle.swan_model.proofs.FewLines.{few_lines}
 use Rattle.swan_model.specs.Values.{bytes_of}
 use Rattle.line_blocks.proofs.Reading.{hands_block, holds_line, lines_after}
-use Rattle.whole_runs.specs.Whole.{Contents, RunsWhole}
+use Rattle.whole_runs.specs.Whole.{RunsWhole}
 use Rattle.whole_runs.proofs.BlockReaders.{Reader, IsGiven, begun, last, reading, reads_alone}
 use Rattle.whole_runs.proofs.Blocks.{Held, BlockTask, all_book, all_cost, all_do, blocks, cost_of_blocks, given_if, kept_if, runs_blocks, seen_of_blocks, with_block}
+use Rattle.whole_runs.proofs.CollectedParts.{input_and_parts, parts_and_output, held_by_root}
 use Rattle.whole_runs.proofs.Wholes.{ends_so, outcome_is}
 use Rattle.whole_runs.proofs.WholeSteps.{fails, finishes, makes_queue, pushes, spawns_child, tests_empty}
 use Rattle.swan_reducers.specs.declared.body.FoldBody.{FoldBody}
@@ -43,17 +45,6 @@ use Rattle.swan_reducers.proofs.Joining.{as_part-is, items_are_parts, joined_is_
 written : (end : Result (List ℕ) Trouble) (faults : List Fault) → out_bytes text_names (record { objects = []; queues = [] ∷ end_records end ∷ []; faults = faults }) ≡ end_text end
 written (Ok item) faults = append-nil (line item ++ []) ∙ append-nil (line item)
 written (Err trouble) faults = refl
-
--- the input and the parts
-abbrev shape : List Value → List Value → Contents
-shape xs parts = record { objects = []; queues = xs ∷ [] ∷ parts ∷ [] }
-
--- the parts and the output
-abbrev left_shape : List Value → List Value → Contents
-left_shape parts out = record { objects = []; queues = [] ∷ out ∷ parts ∷ [] }
-
-abbrev holds : List Holding
-holds = (record { mode = Pop; number = 0 }) ∷ (record { mode = Push; number = 1 }) ∷ (record { mode = PushPop; number = 2 }) ∷ []
 
 -- what a block task holds
 abbrev pushing : List Holding
@@ -118,11 +109,11 @@ module _ {R : Type 0} (g : Ghosts R) where
         booked_by (local.Lines block) = bad_line path (bad block)
         booked_by _ = []
 
-    after_part : (at : Option ℕ) (path : List ℕ) (xs parts : List Value) → RunsWhole G body (record { path = path; local = local.Told at; answer = answer.Nothing; fuel = 2 - 1; holdings = pushing; children = 0 }) (shape xs parts) (shape xs parts) (bad_line path at)
+    after_part : (at : Option ℕ) (path : List ℕ) (xs parts : List Value) → RunsWhole G body (record { path = path; local = local.Told at; answer = answer.Nothing; fuel = 2 - 1; holdings = pushing; children = 0 }) (input_and_parts xs parts) (input_and_parts xs parts) (bad_line path at)
     after_part None path xs parts = finishes G (omega arith) refl
     after_part (Some n) path xs parts = fails G (omega arith) refl
 
-    block_given : (block : Lines) → IsGiven G body [] holds shape adds books (block_task block)
+    block_given : (block : Lines) → IsGiven G body [] held_by_root input_and_parts adds books (block_task block)
     block_given block = record {
       held = pushing;
       holds = refl;
@@ -139,12 +130,12 @@ module _ {R : Type 0} (g : Ghosts R) where
       rest = λ all. local.SpawnsCollector;
       finale = λ all. (local.Ends, ask.Spawn (collector g body));
       path = [];
-      holdings = holds;
+      holdings = held_by_root;
       place = 0;
       number = 0;
       size = 64;
       block = λ before items. block_task (lines_after before items);
-      shape = shape;
+      shape = input_and_parts;
       does = adds;
       books = books;
       held = refl;
@@ -274,7 +265,7 @@ module _ {R : Type 0} (g : Ghosts R) where
       number = 2;
       keeps = λ v item. g.joined body.reducer (as_part g body.reducer v) (item_part g body.reducer item);
       gives = λ v item. None;
-      shape = left_shape;
+      shape = parts_and_output;
       does = λ out child. out;
       books = λ path child. [];
       held = refl;
@@ -293,21 +284,21 @@ module _ {R : Type 0} (g : Ghosts R) where
     got_all n (item ∷ items) v = got_all n items (g.joined body.reducer (as_part g body.reducer v) (item_part g body.reducer item))
 
     whole_end : (v : List ℕ) (end : Result (List ℕ) Trouble) → g.end_of body.reducer (as_part g body.reducer v) ≡ end → (n fuel kids : ℕ) → 2 ≤ fuel
-        → RunsWhole G body (reading (collecting n) (local.Collects (reader.Tested v)) (answer.Flag true) fuel kids) (left_shape [] []) (left_shape [] (end_records end)) (end_faults n end)
+        → RunsWhole G body (reading (collecting n) (local.Collects (reader.Tested v)) (answer.Flag true) fuel kids) (parts_and_output [] []) (parts_and_output [] (end_records end)) (end_faults n end)
     whole_end v (Ok r) is n fuel kids enough =
         pushes G (omega arith) (ap {B = FoldLocal × Ask FoldLocal} (λ e. (local.Ends, pushed_end e)) is) refl refl (finishes G (omega arith) refl)
     whole_end v (Err trouble) is n fuel kids enough =
         fails G (omega arith) (ap {B = FoldLocal × Ask FoldLocal} (λ e. (local.Ends, pushed_end e)) is)
 
     collector_whole : (n : ℕ) (parts : List Value) (v : List ℕ) → collected (g.zero_part body.reducer) parts ≡ v → g.is_part body.reducer v ≡ true → 2 * length parts + 3 ≤ body.collector_fuel
-        → RunsWhole G body (begun (n ∷ []) (collector g body) (collecting n).holdings) (left_shape parts []) (left_shape [] (end_records (g.end_of body.reducer v))) (end_faults n (g.end_of body.reducer v))
+        → RunsWhole G body (begun (n ∷ []) (collector g body) (collecting n).holdings) (parts_and_output parts []) (parts_and_output [] (end_records (g.end_of body.reducer v))) (end_faults n (g.end_of body.reducer v))
     collector_whole n parts v is part_is enough =
         let zero = g.zero_part body.reducer in
         let end = g.end_of body.reducer v in
         tests_empty G (omega arith) refl refl refl
-        (reads_alone (collecting n) (λ got x. refl) parts zero [] (body.collector_fuel - 1) 0 (left_shape [] (end_records end)) (end_faults n end) (omega arith)
+        (reads_alone (collecting n) (λ got x. refl) parts zero [] (body.collector_fuel - 1) 0 (parts_and_output [] (end_records end)) (end_faults n end) (omega arith)
         (λ left kids same.
-        subst (λ got. RunsWhole G body (reading (collecting n) (local.Collects (reader.Tested got)) (answer.Flag true) left kids) (left_shape [] []) (left_shape [] (end_records end)) (end_faults n end)) (sym (got_all n parts zero ∙ is))
+        subst (λ got. RunsWhole G body (reading (collecting n) (local.Collects (reader.Tested got)) (answer.Flag true) left kids) (parts_and_output [] []) (parts_and_output [] (end_records end)) (end_faults n end)) (sym (got_all n parts zero ∙ is))
         (whole_end v end (ap (g.end_of body.reducer) (as_part-is g body.reducer v part_is)) n left kids (omega (arith, same)))))
 
     -- ---- how many blocks there are
@@ -339,7 +330,7 @@ module _ {R : Type 0} (g : Ghosts R) where
 
     root_whole : (xs : List Value) (fuel : ℕ) → length xs + 1 < 2 ^ 64 → 2 * ((length xs + 63) / 64) + 3 ≤ body.collector_fuel → 4 + 5 * length xs + body.collector_fuel ≤ fuel
         → RunsWhole G body (record { path = []; local = local.Begins; answer = answer.Start; fuel = fuel; holdings = (record { mode = Pop; number = 0 }) ∷ (record { mode = Push; number = 1 }) ∷ []; children = 0 })
-        (record { objects = []; queues = xs ∷ [] ∷ [] }) (left_shape [] (end_records (end_is xs))) (faults_are xs)
+        (record { objects = []; queues = xs ∷ [] ∷ [] }) (parts_and_output [] (end_records (end_is xs))) (faults_are xs)
     root_whole xs fuel few enough paid =
         let children = blocks task first xs in
         let parts = all_do task [] children in
@@ -353,7 +344,7 @@ module _ {R : Type 0} (g : Ghosts R) where
         makes_queue G (omega (arith, paid)) refl
         (tests_empty G (omega (arith, paid)) refl refl refl
         (ends_so G refl (ap (λ fs. fs ++ end_faults (length children) end) booked ∙ ap (λ n. bad_blocks g body.reducer 0 0 cut ++ end_faults n end) many)
-        (runs_blocks task xs first [] (fuel - 1 - 1) 0 (left_shape [] (end_records end)) (end_faults (length children) end) (omega (arith, paid, costs_are xs))
+        (runs_blocks task xs first [] (fuel - 1 - 1) 0 (parts_and_output [] (end_records end)) (end_faults (length children) end) (omega (arith, paid, costs_are xs))
         (λ left same at told is.
         ends_so G refl (append-nil (end_faults (0 + length children) end) ∙ ap (λ n. end_faults n end) (let e : 0 + length children ≡ length children = omega arith in e))
         (spawns_child G (omega (arith, same, paid, costs_are xs)) (is (left - 1)) refl refl (omega arith) (omega (arith, same, paid, costs_are xs))
@@ -366,7 +357,7 @@ module _ {R : Type 0} (g : Ghosts R) where
       let ls = lines text in
       let xs = map Bytes ls in
       let many : length xs ≡ length ls = length-map ls Bytes in
-      let few : 0 + length ls ≤ 1000000 = few_lines 0 ls (omega arith) accepted in
+      let few : 0 + length ls ≤ LINES_MOST = few_lines 0 ls (omega arith) accepted in
       let same : map bytes_of xs ≡ ls = bytes_are ls in
       let counted : (length xs + 63) / 64 ≡ (length ls + 63) / 64 = ap (λ n. (n + 63) / 64) many in
       outcome_is G plan (root_whole plan.body xs plan.fuel (omega (arith, many, few)) (omega (arith, counted)) (omega (arith, many)))

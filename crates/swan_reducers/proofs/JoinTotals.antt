@@ -3,7 +3,7 @@ use Rattle.std.proofs.Common.{◌≡◌, ℕ, ◌≤◌, ◌<◌, Bool, true, fa
 use Rattle.std.proofs.lemmas.List.{append-nil}
 use Rattle.std.specs.Prelude.{Ok, Err, ⊤}
 use Rattle.swan_model.specs.declared.fault.Trouble.TheVariants.{TooLong}
-use Rattle.swan_model.specs.Lines.{before_lines, lines}
+use Rattle.swan_model.specs.Lines.{in_front, lines}
 use Rattle.swan_reducers.specs.contracts.join_reducer.JoinReducerReducer.TheImpl.{ghosts}
 use Rattle.swan_reducers.specs.declared.join_reducer.JoinReducer.{JoinReducer}
 use Rattle.swan_reducers.specs.declared.join_reducer.TheConstants.{JOIN_MOST}
@@ -20,7 +20,7 @@ before_short : (byte : ℕ) (line : List ℕ) → nat_eq byte 10 ≡ false → i
 before_short byte [] is = is
 before_short byte (next ∷ line) is = refl
 
-before_feeds : (byte : ℕ) (ls : List (List ℕ)) → nat_eq byte 10 ≡ false → NoFeeds ls → NoFeeds (before_lines byte ls)
+before_feeds : (byte : ℕ) (ls : List (List ℕ)) → nat_eq byte 10 ≡ false → NoFeeds ls → NoFeeds (in_front byte ls)
 before_feeds byte [] is none = (is, tt)
 before_feeds byte (line ∷ ls) is none = (before_short byte line is, none.1)
 
@@ -28,7 +28,7 @@ no_feeds : (text : List ℕ) → NoFeeds (lines text)
 no_feeds [] = tt
 no_feeds (byte ∷ text) = by_case (nat_eq byte 10) refl (no_feeds text)
   where
-    by_case : (b : Bool) → nat_eq byte 10 ≡ b → NoFeeds (lines text) → NoFeeds (cond b ([] ∷ lines text) (before_lines byte (lines text)))
+    by_case : (b : Bool) → nat_eq byte 10 ≡ b → NoFeeds (lines text) → NoFeeds (cond b ([] ∷ lines text) (in_front byte (lines text)))
     by_case true is none = (refl, none)
     by_case false is none = before_feeds byte (lines text) is none
 

@@ -1,20 +1,21 @@
 -- Joins of parts, by the laws of a reducer.
 use Rattle.std.proofs.Common.{◌≡◌, ℕ, Bool, true, false, cond, Option, Some, None, List, [], ◌∷◌, ◌++◌, refl, sym, ap, ◌∙◌}
+use Rattle.std.specs.Option.{option_or}
 use Rattle.swan_model.specs.declared.value.Value.{Value}
 use Rattle.swan_model.specs.declared.value.Value.TheVariants.{Int, Bytes}
 use Rattle.swan_reducers.specs.declared.reducer.Reducer.{Ghosts}
 use Rattle.swan_reducers.specs.Fold.{joined_from}
-use Rattle.swan_reducers.specs.LineFolds.{or_first, unless_part, with_part}
+use Rattle.swan_reducers.specs.LineFolds.{unless_part, with_part}
 use Rattle.swan_reducers.specs.Steps.{as_part, item_part}
 
 -- a bad line that is known stays the first one
-pub bad_step : (at : Option (List ℕ)) (bad : Option ℕ) (number : ℕ) (others : Option ℕ) → or_first (or_first bad (unless_part at number None)) others ≡ or_first bad (unless_part at number others)
+pub bad_step : (at : Option (List ℕ)) (bad : Option ℕ) (number : ℕ) (others : Option ℕ) → option_or (option_or bad (unless_part at number None)) others ≡ option_or bad (unless_part at number others)
 bad_step None None number others = refl
 bad_step None (Some known) number others = refl
 bad_step (Some part) None number others = refl
 bad_step (Some part) (Some known) number others = refl
 
-pub bad_last : (bad : Option ℕ) → or_first bad None ≡ bad
+pub bad_last : (bad : Option ℕ) → option_or bad None ≡ bad
 bad_last None = refl
 bad_last (Some known) = refl
 

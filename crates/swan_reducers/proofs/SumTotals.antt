@@ -4,6 +4,7 @@ use Rattle.std.proofs.lemmas.Int.{int_wrap_fits}
 use Rattle.std.proofs.Math.IntN.{+ℤ_assoc, +ℤ_idl, +ℤ_idr}
 use Rattle.std.specs.Prelude.{ℤ, pos, ◌+ℤ◌, option_map, unsigned_abs}
 use Rattle.std.specs.Int.{w128}
+use Rattle.swan_model.specs.declared.lines.TheConstants.{LINES_MOST}
 use Rattle.job_reader.specs.Atoms.{number}
 use Rattle.swan_reducers.specs.contracts.sum_reducer.SumReducerReducer.TheImpl.{ghosts}
 use Rattle.swan_reducers.specs.declared.sum_reducer.SumReducer.{SumReducer}
@@ -41,7 +42,7 @@ total_most (line ∷ ls) = by_case (number line) refl (total_most ls)
     by_case None is rest = omega (arith, ap unsigned_abs (+ℤ_idl (total ls)), rest)
     by_case (Some n) is rest = omega (arith, abs_add n (total ls), number_most line n is, rest)
 
-pub sums_are_exact : (reducer : SumReducer) (ls : List (List ℕ)) → length ls ≤ 1000000 → sum_end (fold_of ghosts reducer ls) ≡ decimal_text (total ls)
+pub sums_are_exact : (reducer : SumReducer) (ls : List (List ℕ)) → length ls ≤ LINES_MOST → sum_end (fold_of ghosts reducer ls) ≡ decimal_text (total ls)
 sums_are_exact reducer ls few =
     ap sum_end (sums_all reducer (pos 0) ls (omega (arith, few)) ∙ ap sum_part (+ℤ_idl (total ls)))
     ∙ ap decimal_text (sum_back (total ls) (fits (total ls) (omega (arith, total_most ls, few))))

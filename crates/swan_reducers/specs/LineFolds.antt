@@ -17,11 +17,6 @@ abbrev pub unless_part : Option (List ℕ) → ℕ → Option ℕ → Option ℕ
 unless_part None number others = Some number
 unless_part (Some part) number others = others
 
--- the first bad line that is known, or else another
-abbrev pub or_first : Option ℕ → Option ℕ → Option ℕ
-or_first None other = other
-or_first (Some number) other = Some number
-
 -- the number of the first bad line of a block, the first line of which has this number
 abbrev pub bad_number : (List ℕ → Option (List ℕ)) → ℕ → List (List ℕ) → Option ℕ
 bad_number part_of number [] = None

@@ -11,6 +11,7 @@ ghost use Rattle.swan_reducers.specs.Folded.{IsFolded};
 ghost use Rattle.swan_reducers.specs.Joins.{all_bytes, join_end, whole_text};
 ghost use Rattle.swan_reducers.specs.Plans.{fold_plan};
 ghost use Rattle.swan_reducers.specs.Sums.{decimal_text, sum_end, total};
+ghost use Rattle.swan_reducers.specs.declared.body.TheConstants.{PARTS};
 
 use crate::{FoldBody, JoinReducer, Reducer, SumReducer};
 use std::marker::{Send, Sync};
@@ -35,4 +36,10 @@ pub fn sums_are_exact()
 pub fn joins_are_whole()
     ensures whole { (reducer : JoinReducer) (text : List ℕ) → join_end (fold_of ⟦<JoinReducer as Reducer>⟧ reducer (lines text)) ≡ whole_text (all_bytes (lines text)) }
     ensures most { JOIN_MOST ≡ 65535 }
+{}
+
+/// The law that says of the place of the parts which number it is. The definitions name it, so without it another number would
+/// change what they mean.
+pub fn place_of_the_parts()
+    ensures { PARTS ≡ 2 }
 {}

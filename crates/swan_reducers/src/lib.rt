@@ -28,7 +28,7 @@ mod sum_reducer;
 
 pub use body::FoldBody;
 pub use join_reducer::{JOIN_MOST, JoinReducer};
-pub use laws::{joins_are_whole, sums_are_exact, the_outcome_is_the_fold};
+pub use laws::{joins_are_whole, place_of_the_parts, sums_are_exact, the_outcome_is_the_fold};
 pub use local::FoldLocal;
 pub use plan::{fold_names, fold_plan};
 pub use reducer::{BlockFold, EndAnswer, LineAnswer, Reducer};

@@ -1,9 +1,10 @@
 // Reducers: what a fold joins.
 ghost use Rattle.std.specs.Prelude.{◌≡◌, ℕ, Bool, true, List, Option, Some, None, Result, Ok, Err, IfOk, map};
+ghost use Rattle.std.specs.Option.{option_or};
 ghost use Rattle.swan_model.specs.declared.fault.Trouble.{Trouble};
 ghost use Rattle.swan_model.specs.Values.{bytes_of};
 ghost use Rattle.swan_reducers.specs.Lawful.{IsLawfulReducer};
-ghost use Rattle.swan_reducers.specs.LineFolds.{bad_number, joined_lines, or_first, unless_part, with_part};
+ghost use Rattle.swan_reducers.specs.LineFolds.{bad_number, joined_lines, unless_part, with_part};
 ghost use Rattle.swan_reducers.specs.declared.reducer.EndAnswer.TheVariants as end_answer;
 ghost use Rattle.swan_reducers.specs.declared.reducer.LineAnswer.TheVariants as line_answer;
 
@@ -127,7 +128,7 @@ pub trait Reducer: Drop {
         requires { is_part self.now fold.part ≡ true }
         ensures part { IfOk result (λ next. next.part ≡ with_part (joined self.now) fold.part (part_of self.now line.now)) }
         ensures is_part { IfOk result (λ next. is_part self.now next.part ≡ true) }
-        ensures bad { IfOk result (λ next. next.bad ≡ or_first fold.bad (unless_part (part_of self.now line.now) number None)) }
+        ensures bad { IfOk result (λ next. next.bad ≡ option_or fold.bad (unless_part (part_of self.now line.now) number None)) }
     {
         match self.of_line(alloc, line) {
             Ok(part) => Ok(BlockFold {

@@ -2,8 +2,9 @@
 ghost use Rattle.std.specs.Prelude.{◌≡◌, ◌≤◌, ◌+ℤ◌, pos, None, option_map, length, map, IfOk};
 ghost use Rattle.std.specs.Fmt.{signed_decimal};
 ghost use Rattle.std.specs.Int.{int_wrap, w128};
+ghost use Rattle.std.specs.Option.{option_or};
 ghost use Rattle.swan_model.specs.Values.{bytes_of};
-ghost use Rattle.swan_reducers.specs.LineFolds.{bad_number, or_first, unless_part};
+ghost use Rattle.swan_reducers.specs.LineFolds.{bad_number, unless_part};
 ghost use Rattle.swan_reducers.specs.Sums.{added_number, is_sum_part, lines_summed, narrowed, number_part, sum_of, sum_part};
 
 use crate::{BlockFold, EndAnswer, LineAnswer, Reducer};
@@ -86,7 +87,7 @@ fn with_number(sum: i128, read: Option<i64>) -> i128
 
 /// The first bad line, after one more line with this number.
 fn first_bad(bad: Option<u64>, number: u64, read: Option<i64>) -> Option<u64>
-    ensures { result ≡ or_first bad (unless_part (option_map sum_part read) number None) }
+    ensures { result ≡ option_or bad (unless_part (option_map sum_part read) number None) }
 {
     match read {
         Some(_) => bad,

@@ -6,6 +6,7 @@ use Rattle.std.proofs.lemmas.List.{take-append-drop, take_more}
 use Rattle.std.proofs.lemmas.List.Elements.{All-same, All-tail, filter_map-append}
 use Rattle.std.proofs.lemmas.List.Folds.{find-append, list_any-append}
 use Rattle.std.proofs.lemmas.List.Sorted.{All-permutation, IsPermutation-swap_remove}
+use Rattle.std.proofs.lemmas.Option.{slice_get_read}
 use Rattle.std.proofs.lemmas.Result.{on_ok_weaker}
 use Rattle.std.specs.BTreeMap.{UpdatesBy, get, is_at}
 use Rattle.std.specs.List.{filter_map, find, swap_remove}
@@ -17,6 +18,7 @@ use Rattle.pop_order.proofs.Holders.{holds_more as holds_one_more}
 use Rattle.swan_model.specs.Rights.{allows}
 use Rattle.swan_model.specs.SerialState.{Holding}
 use Rattle.swan_model.specs.declared.rights.Mode.TheVariants.{Pop, Push}
+use Rattle.swan_model.proofs.Lists.{take_next}
 use Rattle.swan_model.proofs.Lookups.{untied}
 use Rattle.queues.specs.declared.answers.WaitFor.{WaitFor}
 use Rattle.task_frames.specs.Asked.{asked_queue}
@@ -33,13 +35,10 @@ one_found : (found : Option ℕ) (P : Holding → Option ℕ) (h : Holding) → 
 one_found None P h is = grind arith
 one_found (Some x) P h is = grind arith
 
-next : {X : Type 0} (xs : List X) (i : ℕ) (x : X) → i < length xs → x ≡ get_or xs i x → take (i + 1) xs ≡ take i xs ++ x ∷ []
-next xs i x within is = take_more xs i x within ∙ ap (λ y. take i xs ++ y ∷ []) (sym is)
-
 pub poppers_more : {B Q L E : Type 0} (row : Row B Q L E) (hs : List Holding) (i : ℕ) (h : Holding) (found : Option ℕ) → i < length hs → h ≡ get_or hs i h
     → found ≡ popper_at row h → poppers_of row (take (i + 1) hs) ≡ poppers_of row (take i hs) ++ option_to_list found
 poppers_more row hs i h found within is found_is =
-    ap (poppers_of row) (next hs i h within is) ∙ filter_map-append (popper_at row) (take i hs) (h ∷ [])
+    ap (poppers_of row) (take_next hs i h (slice_get_read hs (length hs) i h refl within is)) ∙ filter_map-append (popper_at row) (take i hs) (h ∷ [])
     ∙ ap (λ o. poppers_of row (take i hs) ++ o) (one_found found (popper_at row) h found_is)
 
 at_is : (k q : ℕ) → is_at (nat_cmp k) q ≡ (k == q)
@@ -60,7 +59,7 @@ not_chosen false false = refl
 holds_more : (hs : List Holding) (i : ℕ) (h : Holding) (q : ℕ) → i < length hs → h ≡ get_or hs i h
     → lets_use (take (i + 1) hs) q Pop ≡ (lets_use (take i hs) q Pop || (((h.number == q) && allows h.mode Pop) || false))
 holds_more hs i h q within is =
-    ap (λ (some : List Holding). lets_use some q Pop) (next hs i h within is) ∙ list_any-append (λ (x : Holding). (x.number == q) && allows x.mode Pop) (take i hs) (h ∷ [])
+    ap (λ (some : List Holding). lets_use some q Pop) (take_next hs i h (slice_get_read hs (length hs) i h refl within is)) ∙ list_any-append (λ (x : Holding). (x.number == q) && allows x.mode Pop) (take i hs) (h ∷ [])
 
 pub noted_more : (first was now : ℕ → Option ℕ) (child : ℕ) (hs : List Holding) (i : ℕ) (h : Holding) → i < length hs → h ≡ get_or hs i h → allows h.mode Pop ≡ true
     → ((q : ℕ) → was q ≡ (if lets_use (take i hs) q Pop then Some child else first q)) → ((q : ℕ) → now q ≡ cond (is_at (nat_cmp h.number) q) (Some child) (was q))

@@ -13,12 +13,12 @@ use Rattle.swan_model.specs.Elision.{serial}
 use Rattle.swan_model.specs.Rights.{is_aliased}
 use Rattle.swan_model.specs.Script.{script}
 use Rattle.swan_model.specs.SerialState.{Activation, Holding, Queue, State, Store}
-use Rattle.swan_model.specs.SerialStep.{Effect, after, effect, effect_of, ends, faults, given, goes_on, moved, number_at, popped, spawn_effect, spawns, step_on}
+use Rattle.swan_model.specs.SerialStep.{Effect, state_after, effect, effect_of, ends, faults, given, goes_on, after_next, number_at, popped, spawn_effect, spawns, step_on}
 use Rattle.swan_model.specs.SerialTime.{time}
 use Rattle.swan_model.specs.TrueFrames.{StandsAt}
 use Rattle.serial_elision.proofs.Asks.{if-either, on_object-either, on_queue-either}
 use Rattle.serial_elision.proofs.TaskSteps.{top_path}
-use Rattle.serial_elision.proofs.Turns.{Fits, next_deed, step-fits}
+use Rattle.serial_elision.proofs.Turns.{FitsDeed, next_deed, step-fits}
 
 -- a child comes only of a task that isn't so deep
 abbrev IsShallow : {L : Type 0} → Activation L → Effect L → Type 0
@@ -61,8 +61,8 @@ abbrev AreShallow : {L : Type 0} → List (Activation L) → Type 0
 AreShallow [] = Unit {0}
 AreShallow (a ∷ below) = (length a.path ≤ PATH_MOST) × AreShallow below
 
-after-shallow : {L : Type 0} (s : State L) (top : Activation L) (below : List (Activation L)) (place : ℕ) (does : Deed) (done : Effect L) → Fits top does done → IsShallow top done
-    → AreShallow (top ∷ below) → AreShallow (after s below top.path place done).stack
+after-shallow : {L : Type 0} (s : State L) (top : Activation L) (below : List (Activation L)) (place : ℕ) (does : Deed) (done : Effect L) → FitsDeed top does done → IsShallow top done
+    → AreShallow (top ∷ below) → AreShallow (state_after s below top.path place done).stack
 after-shallow s top below place does (goes_on a store) fits is are = (subst (λ p. length p ≤ PATH_MOST) (sym fits.0) are.0, are.1)
 after-shallow s top below place does (spawns parent child store) fits is are = (
   (let long : length child.path ≡ length (top.path ++ top.children ∷ []) = ap length fits.2 in omega (arith, is, long, length-append top.path (top.children ∷ []))),
@@ -75,7 +75,7 @@ module _ {B L : Type 0} (G : Ghosts B L) (plan : Plan B L) where
   step-shallow : (n : ℕ) (store : Store) (top : Activation L) → IsShallow top (effect_of G plan.body n store top)
   step-shallow n store top =
       let step = G.next plan.body top.local top.answer (top.fuel - 1) in
-      if-either (IsShallow top) (nat_eq top.fuel 0) _ _ tt (effect-shallow n store (moved top step.0) step.1)
+      if-either (IsShallow top) (nat_eq top.fuel 0) _ _ tt (effect-shallow n store (after_next top step.0) step.1)
 
   shallow-on : (s : State L) (stack : List (Activation L)) → s.stack ≡ stack → AreShallow stack → AreShallow (step_on G plan.body s stack).stack
   shallow-on s [] is are = subst AreShallow (sym is) are

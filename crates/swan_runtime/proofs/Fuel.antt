@@ -13,7 +13,7 @@ use Rattle.swan_model.proofs.ScriptSteps.{deed_is}
 use Rattle.serial_elision.proofs.Endings.{entry_now}
 use Rattle.serial_elision.proofs.FewHeld.{LeavesLess, step-less}
 use Rattle.serial_elision.proofs.TaskSteps.{spawns_child, stands-one, stood-before, top_path}
-use Rattle.serial_elision.proofs.Turns.{Fits, next_deed, step-fits}
+use Rattle.serial_elision.proofs.Turns.{FitsDeed, next_deed, step-fits}
 
 module _ {B L : Type 0} (G : Ghosts B L) (plan : Plan B L) where
   -- a step that goes on, or spawns, leaves less fuel
@@ -77,12 +77,12 @@ module _ {B L : Type 0} (G : Ghosts B L) (plan : Plan B L) where
       let deed = deed-now path k stood.before stood.stands in
       let less : parent.fuel + child.fuel < stood.before.fuel = elim stood.effect [
         | inl goes ↦
-            let here : Fits stood.before does (goes_on parent stood.store) = subst (Fits stood.before does) goes fits in
+            let here : FitsDeed stood.before does (goes_on parent stood.store) = subst (FitsDeed stood.before does) goes fits in
             let is : deed_at (script G plan) (time (script G plan) path k) ≡ deed_of does (goes_on parent stood.store) = deed ∙ ap (deed_of does) goes in
             let no : true ≡ false = sym is-spawn ∙ ap is_spawn is ∙ here.2 in
             absurd (cc)
         | inr made ↦
-            let here : Fits stood.before does (spawns parent made.0 stood.store) = subst (Fits stood.before does) made.1 fits in
+            let here : FitsDeed stood.before does (spawns parent made.0 stood.store) = subst (FitsDeed stood.before does) made.1 fits in
             let own = top_path G plan path k stood.before stood.stands in
             let child-path : made.0.path ≡ path ++ top.children ∷ [] =
             here.2 ∙ ap (λ p. p ++ stood.before.children ∷ []) own.1 ∙ ap (λ (a : Activation L). path ++ a.children ∷ []) same in

@@ -15,6 +15,7 @@
 mod alone;
 mod asleep;
 mod laws;
+mod limits;
 mod opening;
 mod row;
 mod shape;
@@ -27,6 +28,7 @@ mod worker_turns;
 
 pub use alone::run_alone;
 pub use laws::turns_are_few;
+pub use limits::limit_of_rings;
 pub use opening::{close, open};
 pub use shape::{Shape, WORKERS_MOST};
 pub use threads::run;

@@ -61,9 +61,13 @@ fn has_spawned<B: Body, Q: Queues>(
     steps: Steps,
 ) -> Result<Tried<B, Q>, NoMemory>
     requires one { steps.count ≡ 1 }
+
+    // what is answered, and that all frames stay of their run
     ensures tried { IfOk result (λ tried. IsOneTry tried.turn) }
     ensures frame { IfOk result (λ tried. tried.frame ≡ Some child) }
     ensures kept { KeepsOfRun (ends_of Q.Ends.LocalEnds) (parent ∷ []) asleep.old asleep.new ready.old.items ready.new.items }
+
+    // who has come in, and that the parent is the first of those that are ready
     ensures entered { OnOk result (HasEntered asleep.old asleep.new parent.task.number child.task.number child.task.holdings) }
     ensures ready { OnOk result (IsOnTop parent ready.new.items) }
 {
@@ -116,10 +120,13 @@ fn has_to_wait<B: Body, Q: Queues>(
     frame: Frame<B, Q>,
     waited: Waited,
 ) -> Result<Tried<B, Q>, NoMemory>
+    // what is answered, and that all frames stay of their run
     ensures tried { IfOk result (λ tried. IsOneTry tried.turn) }
     ensures frame { (plan : Plan B B.Local) (run : List ℕ) → IsOfRun (ends_of Q.Ends.LocalEnds) plan run frame → SleepersAreOfRun (ends_of Q.Ends.LocalEnds) plan run asleep.old
         → AreOfRun (ends_of Q.Ends.LocalEnds) plan run ready.old.items → IfOk result (λ tried. IfSome tried.frame (IsOfRun (ends_of Q.Ends.LocalEnds) plan run)) }
     ensures kept { KeepsOfRun (ends_of Q.Ends.LocalEnds) (frame ∷ []) asleep.old asleep.new ready.old.items ready.new.items }
+
+    // where the frame sleeps
     ensures bed { IfOk result (λ tried. HasGoneToBed (bed_of asleep.old frame.task.number waited.wait) asleep.old asleep.new ready.old.items
         (ready.new.items ++ option_to_list tried.frame) frame waited.wait) }
 {

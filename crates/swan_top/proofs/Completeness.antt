@@ -21,7 +21,7 @@ use Rattle.swan_top.specs.Command.{Command, help, version, check, elide, run, in
 use Rattle.swan_top.specs.Completeness.{IsTold, AreTold, NothingFailed, RunsInOrder, ChecksInOrder, TextInOrder, InOrder, GeneratedInOrder, Completes, CompletesWell, EndsWell}
 use Rattle.swan_top.specs.Decision.{Verdict, prints, refuses, Next, reads, settled, next, files_of, unread, unless_unread, accepted, checked, generated, ran, printed, unless_refused, unless_unfit, next_of_check, next_of_job, next_of_run, next_of_text}
 use Rattle.swan_top.specs.Elisions.{Elisions, cheapest, conversion_end, index_end}
-use Rattle.swan_top.specs.Headline.{FilesSeen, SinkSeen, Answers, WereRead, WasRead, Ends, FailedToWrite, Follows, ReadRefused, Settles, Wrote, ends_of, usage}
+use Rattle.swan_top.specs.Headline.{CallSeen, FilesSeen, SinkSeen, Answers, WereRead, WasRead, Ends, FailedToWrite, Follows, ReadRefused, Settles, Wrote, status_of_verdict, usage}
 use Rattle.swan_top.specs.declared.status.Status.{Status}
 use Rattle.swan_top.specs.declared.how.How.{How}
 use Rattle.swan_top.specs.declared.run_end.RunEnd.{RunEnd}
@@ -143,19 +143,19 @@ no_failed_write out report (prints a b ends) out_well report_well (inl failed) =
 no_failed_write out report (prints a b ends) out_well report_well (inr failed) = report_well failed.1.0
 no_failed_write out report (refuses line ends) out_well report_well failed = report_well failed.1.0
 
-module _ (elisions : Elisions) (files : FilesSeen) (out report : SinkSeen) where
-  written : (command : Command) (verdict : Verdict) (ends : Status) → Settles elisions files command verdict → (ends ≡ ends_of verdict) × Wrote out report verdict → Completes elisions files out report (Some command) ends
+module _ (elisions : Elisions) (seen : CallSeen) where
+  written : (command : Command) (verdict : Verdict) (ends : Status) → Settles elisions seen.files command verdict → (ends ≡ status_of_verdict verdict) × Wrote seen.out seen.report verdict → Completes elisions seen (Some command) ends
   written command verdict ends settles is =
       λ texts verdict' told order well.
-      let P : Verdict → Type 0 = λ v. (ends ≡ ends_of v) × Wrote out report v in
-      let same : verdict ≡ verdict' = leads_in_order files well.files_well verdict' verdict elisions command texts told order settles in
+      let P : Verdict → Type 0 = λ v. (ends ≡ status_of_verdict v) × Wrote seen.out seen.report v in
+      let same : verdict ≡ verdict' = leads_in_order seen.files well.files_well verdict' verdict elisions command texts told order settles in
       inr (subst P same is)
 
-  pub completes : (asked : Option Command) (ends : Status) → Answers elisions files out report asked ends → Completes elisions files out report asked ends
+  pub completes : (asked : Option Command) (ends : Status) → Answers elisions seen asked ends → Completes elisions seen asked ends
   completes None ends is = tt
   completes (Some command) status.NoMemory is = λ texts verdict told order well. inl refl
   completes (Some command) status.WriteFailed is =
-      λ texts verdict told order well. absurd (no_failed_write out report is.0 well.out_well well.report_well is.2)
+      λ texts verdict told order well. absurd (no_failed_write seen.out seen.report is.0 well.out_well well.report_well is.2)
   completes (Some command) (status.Done how) is = written command is.0 (status.Done how) is.1 is.2
   completes (Some command) (status.Faulted how) is = written command is.0 (status.Faulted how) is.1 is.2
   completes (Some command) status.Usage is = written command is.0 status.Usage is.1 is.2
@@ -164,7 +164,7 @@ module _ (elisions : Elisions) (files : FilesSeen) (out report : SinkSeen) where
   completes (Some command) status.InputRefused is = written command is.0 status.InputRefused is.1 is.2
 
 -- No decision settles that a read failed: that comes of reads alone.
-checked_ends : (r : Result (List Line) JobFault) → ends_of (checked r) ≡ status.ReadFailed → ⊥
+checked_ends : (r : Result (List Line) JobFault) → status_of_verdict (checked r) ≡ status.ReadFailed → ⊥
 checked_ends (Ok lines) is = cc
 checked_ends (Err fault) is = cc
 
@@ -173,38 +173,38 @@ status_ends how true is = cc
 status_ends how false is = cc
 
 module _ (end_of : Plan (List Line) Standing → RunEnd) where
-  ran_ends : (lines : List Line) (inputs : List (List ℕ)) (fuel : ℕ) (why : Option PlanAnswer) → ends_of (unless_refused end_of lines inputs fuel why) ≡ status.ReadFailed → ⊥
+  ran_ends : (lines : List Line) (inputs : List (List ℕ)) (fuel : ℕ) (why : Option PlanAnswer) → status_of_verdict (unless_refused end_of lines inputs fuel why) ≡ status.ReadFailed → ⊥
   ran_ends lines inputs fuel None is =
       let end = end_of (plan_of_job lines inputs fuel) in
       status_ends end.how (has_fault end.outcome) is
   ran_ends lines inputs fuel (Some why) is = cc
 
-  unless_unread_ends : (file : Option (List ℕ)) (verdict v : Verdict) → (ends_of verdict ≡ status.ReadFailed → ⊥) → unless_unread file verdict ≡ settled v → ends_of v ≡ status.ReadFailed → ⊥
-  unless_unread_ends None verdict v never is ends = let same : verdict ≡ v = cc in never (ap ends_of same ∙ ends)
+  unless_unread_ends : (file : Option (List ℕ)) (verdict v : Verdict) → (status_of_verdict verdict ≡ status.ReadFailed → ⊥) → unless_unread file verdict ≡ settled v → status_of_verdict v ≡ status.ReadFailed → ⊥
+  unless_unread_ends None verdict v never is ends = let same : verdict ≡ v = cc in never (ap status_of_verdict same ∙ ends)
   unless_unread_ends (Some file) verdict v never is ends = cc
 
-  job_ends : (fuel : ℕ) (names : List (List ℕ)) (job : Result (List Line) JobFault) (inputs : List (List ℕ)) (v : Verdict) → next_of_job end_of fuel names job inputs ≡ settled v → ends_of v ≡ status.ReadFailed → ⊥
+  job_ends : (fuel : ℕ) (names : List (List ℕ)) (job : Result (List Line) JobFault) (inputs : List (List ℕ)) (v : Verdict) → next_of_job end_of fuel names job inputs ≡ settled v → status_of_verdict v ≡ status.ReadFailed → ⊥
   job_ends fuel names (Ok lines) inputs v is ends =
       unless_unread_ends (unread names inputs) (ran end_of lines inputs fuel) v (ran_ends lines inputs fuel (refusal_of_plan lines inputs)) is ends
   job_ends fuel names (Err fault) inputs v is ends = cc
 
-  run_ends : (fuel : ℕ) (job : List ℕ) (names texts : List (List ℕ)) (v : Verdict) → next_of_run end_of fuel job names texts ≡ settled v → ends_of v ≡ status.ReadFailed → ⊥
+  run_ends : (fuel : ℕ) (job : List ℕ) (names texts : List (List ℕ)) (v : Verdict) → next_of_run end_of fuel job names texts ≡ settled v → status_of_verdict v ≡ status.ReadFailed → ⊥
   run_ends fuel job names [] v is ends = cc
   run_ends fuel job names (text ∷ inputs) v is ends = job_ends fuel names (accepted text) inputs v is ends
 
-  generated_ends : (number size : ℕ) (v : Verdict) → generated end_of number size ≡ settled v → ends_of v ≡ status.ReadFailed → ⊥
+  generated_ends : (number size : ℕ) (v : Verdict) → generated end_of number size ≡ settled v → status_of_verdict v ≡ status.ReadFailed → ⊥
   unfolding generated
   generated_ends number size = job_ends (bulk_fuel size) [] (accepted (bulk_job size)) (bulk_input number size ∷ [])
 
-unfit_ends : (why : Option LinesAnswer) (end : RunEnd) → ends_of (unless_unfit why (printed text_names end)) ≡ status.ReadFailed → ⊥
+unfit_ends : (why : Option LinesAnswer) (end : RunEnd) → status_of_verdict (unless_unfit why (printed text_names end)) ≡ status.ReadFailed → ⊥
 unfit_ends None end is = status_ends end.how (has_fault end.outcome) is
 unfit_ends (Some why) end is = cc
 
-text_ends : (end_over : List ℕ → RunEnd) (input : List ℕ) (texts : List (List ℕ)) (v : Verdict) → next_of_text end_over input texts ≡ settled v → ends_of v ≡ status.ReadFailed → ⊥
+text_ends : (end_over : List ℕ → RunEnd) (input : List ℕ) (texts : List (List ℕ)) (v : Verdict) → next_of_text end_over input texts ≡ settled v → status_of_verdict v ≡ status.ReadFailed → ⊥
 text_ends end_over input [] v is ends = cc
 text_ends end_over input (text ∷ texts) v is ends =
     let same : unless_unfit (refusal_of text) (printed text_names (end_over text)) ≡ v = cc in
-    unfit_ends (refusal_of text) (end_over text) (ap ends_of same ∙ ends)
+    unfit_ends (refusal_of text) (end_over text) (ap status_of_verdict same ∙ ends)
 
 -- What is read next is a file of the command.
 the_file : (file name : List ℕ) (names : List (List ℕ)) → reads name ≡ reads file → Contains (name ∷ names) file
@@ -235,12 +235,12 @@ module _ (end_of : Plan (List Line) Standing → RunEnd) where
   generated_among number size = job_among (bulk_fuel size) [] (accepted (bulk_job size)) (bulk_input number size ∷ [])
 
 module _ (elisions : Elisions) where
-  next_ends : (command : Command) (texts : List (List ℕ)) (v : Verdict) → next elisions command texts ≡ settled v → ends_of v ≡ status.ReadFailed → ⊥
+  next_ends : (command : Command) (texts : List (List ℕ)) (v : Verdict) → next elisions command texts ≡ settled v → status_of_verdict v ≡ status.ReadFailed → ⊥
   next_ends (help) texts v is ends = cc
   next_ends (version) texts v is ends = cc
   next_ends (check job) [] v is ends = cc
   next_ends (check job) (text ∷ texts) v is ends =
-      let same : checked (accepted text) ≡ v = cc in checked_ends (accepted text) (ap ends_of same ∙ ends)
+      let same : checked (accepted text) ≡ v = cc in checked_ends (accepted text) (ap status_of_verdict same ∙ ends)
   next_ends (elide fuel job names) texts v is ends = run_ends (elisions.of_job way.Elide) fuel job names texts v is ends
   next_ends (run workers fuel job names) texts v is ends = run_ends (elisions.of_job (way.Run workers)) fuel job names texts v is ends
   next_ends (index workers input) texts v is ends = text_ends (index_end elisions workers) input texts v is ends
@@ -260,19 +260,19 @@ module _ (elisions : Elisions) where
   next_reads (convert workers input) (text ∷ texts) file is = cc
   next_reads (bulk number size workers) texts file is = generated_among (elisions.of_job (cheapest workers)) number size file is
 
-  module _ (files : FilesSeen) (out report : SinkSeen) (well : NothingFailed files out report) where
-    read_refused : (command : Command) (n : Next) (verdict : Verdict) → ((v : Verdict) → n ≡ settled v → ends_of v ≡ status.ReadFailed → ⊥) → ((file : List ℕ) → n ≡ reads file → Contains (files_of command) file) → Follows files n verdict → status.ReadFailed ≡ ends_of verdict → Wrote out report verdict → EndsWell files out report (Some command) status.ReadFailed
-    read_refused command (settled v) verdict never among follows ends wrote = absurd (never v refl (sym (ends ∙ ap ends_of follows.0)))
+  module _ (seen : CallSeen) (well : NothingFailed seen) where
+    read_refused : (command : Command) (n : Next) (verdict : Verdict) → ((v : Verdict) → n ≡ settled v → status_of_verdict v ≡ status.ReadFailed → ⊥) → ((file : List ℕ) → n ≡ reads file → Contains (files_of command) file) → Follows seen.files n verdict → status.ReadFailed ≡ status_of_verdict verdict → Wrote seen.out seen.report verdict → EndsWell seen (Some command) status.ReadFailed
+    read_refused command (settled v) verdict never among follows ends wrote = absurd (never v refl (sym (ends ∙ ap status_of_verdict follows.0)))
     read_refused command (reads file) verdict never among (inl failed) ends wrote = absurd (well.files_well failed.1)
     read_refused command (reads file) verdict never among (inr longer) ends wrote =
-        let P : Verdict → Type 0 = λ v. Wrote out report v in
+        let P : Verdict → Type 0 = λ v. Wrote seen.out seen.report v in
         let line = subst P longer.0 wrote in
         (file, among file refl, longer.3, line.0, line.1)
 
-    pub ends_well : (asked : Option Command) (ends : Status) → Answers elisions files out report asked ends → EndsWell files out report asked ends
-    ends_well None status.WriteFailed is = absurd (no_failed_write out report usage well.out_well well.report_well is.0)
+    pub ends_well : (asked : Option Command) (ends : Status) → Answers elisions seen asked ends → EndsWell seen asked ends
+    ends_well None status.WriteFailed is = absurd (no_failed_write seen.out seen.report usage well.out_well well.report_well is.0)
     ends_well None status.ReadFailed is = let bad : status.ReadFailed ≡ status.Usage = is.0.0 in cc
-    ends_well (Some command) status.WriteFailed is = absurd (no_failed_write out report is.0 well.out_well well.report_well is.2)
+    ends_well (Some command) status.WriteFailed is = absurd (no_failed_write seen.out seen.report is.0 well.out_well well.report_well is.2)
     ends_well (Some command) status.ReadFailed is =
         read_refused command (next elisions command is.1.texts) is.0 (next_ends command is.1.texts) (next_reads command is.1.texts) is.1.follows is.2.0 is.2.1
     ends_well asked (status.Done how) is = tt
@@ -282,8 +282,8 @@ module _ (elisions : Elisions) where
     ends_well asked status.NoMemory is = tt
     ends_well asked status.InputRefused is = tt
 
-    usage_ends : (ends : Status) → Ends out report usage ends → (ends ≡ status.Usage) × Wrote out report usage
-    usage_ends status.WriteFailed is = absurd (no_failed_write out report usage well.out_well well.report_well is)
+    usage_ends : (ends : Status) → Ends seen.out seen.report usage ends → (ends ≡ status.Usage) × Wrote seen.out seen.report usage
+    usage_ends status.WriteFailed is = absurd (no_failed_write seen.out seen.report usage well.out_well well.report_well is)
     usage_ends (status.Done how) is = is
     usage_ends (status.Faulted how) is = is
     usage_ends status.Usage is = is
@@ -292,7 +292,7 @@ module _ (elisions : Elisions) where
     usage_ends status.NoMemory is = is
     usage_ends status.InputRefused is = is
 
-    pub completes_well : (asked : Option Command) (ends : Status) → Answers elisions files out report asked ends → CompletesWell elisions files out report asked ends
+    pub completes_well : (asked : Option Command) (ends : Status) → Answers elisions seen asked ends → CompletesWell elisions seen asked ends
     completes_well None ends is = usage_ends ends is.0
     completes_well (Some command) ends is =
-        λ texts verdict told order. completes elisions files out report (Some command) ends is texts verdict told order well
+        λ texts verdict told order. completes elisions seen (Some command) ends is texts verdict told order well

@@ -17,7 +17,7 @@ use Rattle.swan_top.specs.Completeness.{GeneratedInOrder, RunsInOrder}
 use Rattle.swan_top.specs.Decision.{Verdict, Next, settled, accepted, accepted_lines, generated, next_of_job, ran, unless_fault, unless_refused}
 use Rattle.swan_top.specs.Elisions.{Elisions, cheapest}
 use Rattle.swan_top.specs.Generated.{NeverRefused}
-use Rattle.swan_top.specs.Headline.{Answers, Ends, FilesSeen, Follows, NoReadFailed, NoneTooLong, Settles, SinkSeen, ends_of}
+use Rattle.swan_top.specs.Headline.{Answers, CallSeen, Ends, FilesSeen, Follows, NoReadFailed, NoneTooLong, Settles, status_of_verdict}
 use Rattle.swan_top.specs.Settled.{IsRefused, Stops}
 use Rattle.swan_top.specs.declared.status.Status.{Status}
 use Rattle.swan_top.specs.declared.how.How.{How}
@@ -87,23 +87,23 @@ status_runs : (how : How) (b : Bool) → is_run (if b then status.Faulted how el
 status_runs how true = refl
 status_runs how false = refl
 
-order_runs : (end_of : Plan (List Line) Standing → RunEnd) (number size : ℕ) (verdict : Verdict) (ends : Status) → GeneratedInOrder end_of number size verdict → ends ≡ ends_of verdict → is_run ends ≡ true
+order_runs : (end_of : Plan (List Line) Standing → RunEnd) (number size : ℕ) (verdict : Verdict) (ends : Status) → GeneratedInOrder end_of number size verdict → ends ≡ status_of_verdict verdict → is_run ends ≡ true
 unfolding GeneratedInOrder
 order_runs end_of number size verdict ends order same =
     let end = end_of (plan_of_job order.lines (bulk_input number size ∷ []) (bulk_fuel size)) in
-    ap is_run same ∙ ap (λ v. is_run (ends_of v)) order.prints_outcome ∙ status_runs end.how (has_fault end.outcome)
+    ap is_run same ∙ ap (λ v. is_run (status_of_verdict v)) order.prints_outcome ∙ status_runs end.how (has_fault end.outcome)
 
-module _ (law : (number size : ℕ) → size ≤ BULK_MOST → IsNeverRefused number size) (elisions : Elisions) (files : FilesSeen) (out report : SinkSeen) where
-  bulk_ends : (number size workers : ℕ) (ends : Status) → size ≤ BULK_MOST → (verdict : Verdict) × Settles elisions files (bulk number size workers) verdict × Ends out report verdict ends
-      → (verdict : Verdict) × GeneratedInOrder (elisions.of_job (cheapest workers)) number size verdict × Ends out report verdict ends
+module _ (law : (number size : ℕ) → size ≤ BULK_MOST → IsNeverRefused number size) (elisions : Elisions) (seen : CallSeen) where
+  bulk_ends : (number size workers : ℕ) (ends : Status) → size ≤ BULK_MOST → (verdict : Verdict) × Settles elisions seen.files (bulk number size workers) verdict × Ends seen.out seen.report verdict ends
+      → (verdict : Verdict) × GeneratedInOrder (elisions.of_job (cheapest workers)) number size verdict × Ends seen.out seen.report verdict ends
   bulk_ends number size workers ends most is =
-      (is.0, generated_in_order (elisions.of_job (cheapest workers)) files number size is.0 (law number size most) is.1.follows, is.2)
+      (is.0, generated_in_order (elisions.of_job (cheapest workers)) seen.files number size is.0 (law number size most) is.1.follows, is.2)
 
-  bulk_runs : (number size workers : ℕ) (ends : Status) → size ≤ BULK_MOST → (verdict : Verdict) → Settles elisions files (bulk number size workers) verdict → ends ≡ ends_of verdict → is_run ends ≡ true
+  bulk_runs : (number size workers : ℕ) (ends : Status) → size ≤ BULK_MOST → (verdict : Verdict) → Settles elisions seen.files (bulk number size workers) verdict → ends ≡ status_of_verdict verdict → is_run ends ≡ true
   bulk_runs number size workers ends most verdict settles same =
-      order_runs (elisions.of_job (cheapest workers)) number size verdict ends (generated_in_order (elisions.of_job (cheapest workers)) files number size verdict (law number size most) settles.follows) same
+      order_runs (elisions.of_job (cheapest workers)) number size verdict ends (generated_in_order (elisions.of_job (cheapest workers)) seen.files number size verdict (law number size most) settles.follows) same
 
-  pub never_refused : (asked : Option Command) (ends : Status) → IfSome asked IsWithinLimits → Answers elisions files out report asked ends → NeverRefused elisions out report asked ends
+  pub never_refused : (asked : Option Command) (ends : Status) → IfSome asked IsWithinLimits → Answers elisions seen asked ends → NeverRefused elisions seen asked ends
   never_refused None ends most is = tt
   never_refused (Some (help)) ends most is = tt
   never_refused (Some (version)) ends most is = tt

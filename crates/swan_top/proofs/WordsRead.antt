@@ -1,5 +1,7 @@
 -- The words of a command with fuel, a job and inputs.
-use Rattle.std.proofs.Common.{◌≡◌, ℕ, ◌≤◌, Bool, true, false, cond, List, [], ◌∷◌, Option, Some, None, refl, ap, ◌∙◌, subst, leb-true}
+use Rattle.std.proofs.Common.{◌≡◌, ℕ, ◌≤◌, true, List, [], ◌∷◌, Option, Some, None, refl, ap, ◌∙◌, subst, leb-true}
+use Rattle.std.proofs.lemmas.Bool.{and_parts}
+use Rattle.std.proofs.lemmas.Option.{cond_some}
 use Rattle.std.specs.Prelude.{◌&&◌, nat_le, ℤ, pos, negsuc}
 use Rattle.std.specs.List.{list_all}
 use Rattle.bulk_workload.specs.declared.texts.TheConstants.{BULK_MOST}
@@ -8,17 +10,14 @@ use Rattle.swan_top.specs.Command.{Command, bulk, number_within, within, is_file
 use Rattle.swan_runtime.specs.declared.shape.TheConstants.{WORKERS_MOST}
 use Rattle.swan_top.specs.declared.command.TheConstants.{FUEL_WORD_MOST, NUMBER_WORD_MOST}
 
-chosen : (a b : Bool) (n m : ℕ) → cond (a && b) (Some n) None ≡ Some m → (b ≡ true) × (n ≡ m)
-chosen true true n m is = (refl, cc)
-chosen true false n m is = cc
-chosen false _ n m is = cc
-
 -- a number is in its range
 pub within_le : (low high : ℕ) (z : Option ℤ) (n : ℕ) → within low high z ≡ Some n → n ≤ high
 within_le low high None n is = cc
 within_le low high (Some (negsuc k)) n is = cc
 within_le low high (Some (pos k)) n is =
-    let c = chosen (nat_le low k) (nat_le k high) k n is in subst (λ m. m ≤ high) c.1 (leb-true k high c.0)
+    let c = cond_some (nat_le low k && nat_le k high) k n is in
+    let both = and_parts (nat_le low k) (nat_le k high) c.0 in
+    subst (λ m. m ≤ high) c.1 (leb-true k high both.1)
 
 with_files : (command : ℕ → List ℕ → List (List ℕ) → Command) (fuel : ℕ) (job : List ℕ) (inputs : List (List ℕ)) → is_file job ≡ true → list_all is_file inputs ≡ true → job_and_inputs command (Some fuel) (job ∷ inputs) ≡ Some (command fuel job inputs)
 with_files command fuel job inputs a b = rw (a, b) refl

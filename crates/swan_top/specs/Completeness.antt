@@ -16,7 +16,7 @@ use Rattle.swan_outside.specs.declared.files.TheConstants.{FILE_MOST}
 use Rattle.swan_top.specs.Command.{Command, help, version, check, elide, run, index, convert, bulk}
 use Rattle.swan_top.specs.Decision.{Verdict, prints, accepted, printed, files_of}
 use Rattle.swan_top.specs.Elisions.{Elisions, cheapest, conversion_end, index_end}
-use Rattle.swan_top.specs.Headline.{FilesSeen, SinkSeen, Took, Wrote, ends_of, usage}
+use Rattle.swan_top.specs.Headline.{CallSeen, Took, Wrote, status_of_verdict, usage}
 use Rattle.swan_top.specs.Refusals.{file_line}
 use Rattle.swan_top.specs.declared.help.TheConstants.{HELP, VERSION}
 use Rattle.swan_top.specs.declared.how.How.TheVariants as how
@@ -38,10 +38,10 @@ AreTold content (name ∷ names) [] = ⊥
 AreTold content (name ∷ names) (text ∷ texts) = IsTold (content name) text × AreTold content names texts
 
 -- no count of faults rose: neither that of the files nor that of a sink
-pub record NothingFailed (files : FilesSeen) (out report : SinkSeen) : Type 0 where
-  pub files_well : ¬ Rose files.faults_before files.faults_after
-  pub out_well : ¬ Rose out.faults_before out.faults_after
-  pub report_well : ¬ Rose report.faults_before report.faults_after
+pub record NothingFailed (seen : CallSeen) : Type 0 where
+  pub files_well : ¬ Rose seen.files.faults_before seen.files.faults_after
+  pub out_well : ¬ Rose seen.out.faults_before seen.out.faults_after
+  pub report_well : ¬ Rose seen.report.faults_before seen.report.faults_after
 
 -- A check is in order: its job is accepted.
 pub record ChecksInOrder (text : List ℕ) (verdict : Verdict) : Type 0 where
@@ -83,28 +83,28 @@ module _ (elisions : Elisions) where
 
   -- Where the files tell texts over which the command is in order, and no count of faults rises, the call wrote
   -- all that the command comes to and ends so; or memory ran out.
-  abbrev pub Completes : FilesSeen → (out report : SinkSeen) → Option Command → Status → Type 0
-  Completes files out report None ends = Unit {0}
-  Completes files out report (Some command) ends =
+  abbrev pub Completes : CallSeen → Option Command → Status → Type 0
+  Completes seen None ends = Unit {0}
+  Completes seen (Some command) ends =
       (texts : List (List ℕ)) (verdict : Verdict)
-      → AreTold files.content (files_of command) texts → InOrder command texts verdict → NothingFailed files out report
-      → (ends ≡ status.NoMemory) ⊎ ((ends ≡ ends_of verdict) × Wrote out report verdict)
+      → AreTold seen.files.content (files_of command) texts → InOrder command texts verdict → NothingFailed seen
+      → (ends ≡ status.NoMemory) ⊎ ((ends ≡ status_of_verdict verdict) × Wrote seen.out seen.report verdict)
 
   -- The same over files and sinks that never fail, so that nothing is asked of counts. Words that are no command
   -- are refused.
-  abbrev pub CompletesWell : FilesSeen → (out report : SinkSeen) → Option Command → Status → Type 0
-  CompletesWell files out report None ends = (ends ≡ status.Usage) × Wrote out report usage
-  CompletesWell files out report (Some command) ends =
+  abbrev pub CompletesWell : CallSeen → Option Command → Status → Type 0
+  CompletesWell seen None ends = (ends ≡ status.Usage) × Wrote seen.out seen.report usage
+  CompletesWell seen (Some command) ends =
       (texts : List (List ℕ)) (verdict : Verdict)
-      → AreTold files.content (files_of command) texts → InOrder command texts verdict
-      → (ends ≡ status.NoMemory) ⊎ ((ends ≡ ends_of verdict) × Wrote out report verdict)
+      → AreTold seen.files.content (files_of command) texts → InOrder command texts verdict
+      → (ends ≡ status.NoMemory) ⊎ ((ends ≡ status_of_verdict verdict) × Wrote seen.out seen.report verdict)
 
 -- How a call ends over files and sinks that never fail: it writes all that it settles, and a read is refused only
 -- where a file of the command is too long. Then one line names the file, and the output takes nothing.
-abbrev pub EndsWell : FilesSeen → (out report : SinkSeen) → Option Command → Status → Type 0
-EndsWell files out report asked status.WriteFailed = ⊥
-EndsWell files out report None status.ReadFailed = ⊥
-EndsWell files out report (Some command) status.ReadFailed =
-    (file : List ℕ) × Contains (files_of command) file × IsTooLong (files.content file)
-    × Took out [] × Took report (file_line (codes "too long ") file)
-EndsWell files out report asked ends = Unit {0}
+abbrev pub EndsWell : CallSeen → Option Command → Status → Type 0
+EndsWell seen asked status.WriteFailed = ⊥
+EndsWell seen None status.ReadFailed = ⊥
+EndsWell seen (Some command) status.ReadFailed =
+    (file : List ℕ) × Contains (files_of command) file × IsTooLong (seen.files.content file)
+    × Took seen.out [] × Took seen.report (file_line (codes "too long ") file)
+EndsWell seen asked ends = Unit {0}

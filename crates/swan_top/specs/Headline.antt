@@ -3,7 +3,9 @@ use Rattle.std.specs.Prelude.{◌≡◌, ℕ, ◌≤◌, ◌⊎◌, length, Opti
 use Rattle.swan_outside.specs.Counts.{Rose}
 use Rattle.swan_outside.specs.Reads.{IsTooLong}
 use Rattle.swan_outside.specs.Told.{Appends, AppendsFront, Tells}
+use Rattle.swan_outside.specs.declared.files.Files.{Ghosts as FilesMeaning}
 use Rattle.swan_outside.specs.declared.files.TheConstants.{FILE_MOST}
+use Rattle.swan_outside.specs.declared.sink.Sink.{Ghosts as SinkMeaning}
 use Rattle.swan_top.specs.Command.{Command}
 use Rattle.swan_top.specs.Decision.{Verdict, prints, refuses, Next, reads, settled, next, files_of}
 use Rattle.swan_top.specs.Elisions.{Elisions}
@@ -19,12 +21,14 @@ pub record SinkSeen : Type 0 where
   pub faults_before : ℕ
   pub faults_after : ℕ
 
-abbrev pub seen_of : Option (List ℕ) → Option (List ℕ) → ℕ → ℕ → SinkSeen
-seen_of before after faults_before faults_after = record { before = before; after = after; faults_before = faults_before; faults_after = faults_after }
-
--- that of a sink before a call and after it
-abbrev pub sink_over : {S : Type 0} → (S → Option (List ℕ)) → (S → ℕ) → (before after : S) → SinkSeen
-sink_over written faults before after = seen_of (written before) (written after) (faults before) (faults after)
+-- what is seen of a sink before a call and after it, by the ghost members of its trait
+abbrev pub sink_over : {S : Type 0} → SinkMeaning S → (before after : S) → SinkSeen
+sink_over meaning before after = record {
+  before = meaning.written before;
+  after = meaning.written after;
+  faults_before = meaning.faults before;
+  faults_after = meaning.faults after;
+}
 
 abbrev pub Took : SinkSeen → List ℕ → Type 0
 Took sink text = Appends sink.before text sink.after
@@ -48,14 +52,14 @@ abbrev pub WroteNothing : (out report : SinkSeen) → Type 0
 WroteNothing out report = Took out [] × Took report []
 
 -- how the call ends where all is written
-abbrev pub ends_of : Verdict → Status
-ends_of (prints out report ends) = ends
-ends_of (refuses line ends) = ends
+abbrev pub status_of_verdict : Verdict → Status
+status_of_verdict (prints out report ends) = ends
+status_of_verdict (refuses line ends) = ends
 
 -- The call ends with this status after it settled this verdict.
 abbrev pub Ends : (out report : SinkSeen) → Verdict → Status → Type 0
 Ends out report verdict status.WriteFailed = FailedToWrite out report verdict
-Ends out report verdict ends = (ends ≡ ends_of verdict) × Wrote out report verdict
+Ends out report verdict ends = (ends ≡ status_of_verdict verdict) × Wrote out report verdict
 
 -- What is known of the files: what stands under each name, where that is told, and the counts of reads
 -- that failed and of files that are too long, before and after.
@@ -70,9 +74,24 @@ abbrev pub files_seen : (List ℕ → Option (List ℕ)) → ℕ → ℕ → ℕ
 files_seen content faults_before faults_after long_before long_after =
     record { content = content; faults_before = faults_before; faults_after = faults_after; long_before = long_before; long_after = long_after }
 
--- that of files before a call and after it
-abbrev pub files_over : {F : Type 0} → (F → List ℕ → Option (List ℕ)) → (faults long_reads : F → ℕ) → (before after : F) → FilesSeen
-files_over content faults long_reads before after = files_seen (content before) (faults before) (faults after) (long_reads before) (long_reads after)
+-- what is seen of files before a call and after it, by the ghost members of their trait
+abbrev pub files_over : {F : Type 0} → FilesMeaning F → (before after : F) → FilesSeen
+files_over meaning before after =
+    files_seen (meaning.content before) (meaning.faults before) (meaning.faults after) (meaning.long_reads before) (meaning.long_reads after)
+
+-- What a call saw: what is known of its files, of its output and of its report.
+pub record CallSeen : Type 0 where
+  pub files : FilesSeen
+  pub out : SinkSeen
+  pub report : SinkSeen
+
+-- that of a call over files, an output and a report, before it and after it
+abbrev pub call_over : {F O R : Type 0} → FilesMeaning F → SinkMeaning O → SinkMeaning R → (before after : F × O × R) → CallSeen
+call_over of_files of_out of_report before after = record {
+  files = files_over of_files before.0 after.0;
+  out = sink_over of_out before.1 after.1;
+  report = sink_over of_report before.2 after.2;
+}
 
 -- A text was read: it is within the limit of files, and it is the told content, where one is told.
 pub record WasRead (content : Option (List ℕ)) (text : List ℕ) : Type 0 where
@@ -122,8 +141,8 @@ usage = refuses (codes "usage\n") status.Usage
 -- What a call answers. Words that are no command are refused without memory, and no read was refused. Else the
 -- call ends as the verdict says that its command leads to; or memory ran out, where no read was refused, and
 -- nothing was written.
-abbrev pub Answers : Elisions → FilesSeen → (out report : SinkSeen) → Option Command → Status → Type 0
-Answers elisions files out report None ends = Ends out report usage ends × NoReadFailed files × NoneTooLong files
-Answers elisions files out report (Some command) status.NoMemory = WroteNothing out report × NoReadFailed files × NoneTooLong files
-Answers elisions files out report (Some command) ends =
-    (verdict : Verdict) × Settles elisions files command verdict × Ends out report verdict ends
+abbrev pub Answers : Elisions → CallSeen → Option Command → Status → Type 0
+Answers elisions seen None ends = Ends seen.out seen.report usage ends × NoReadFailed seen.files × NoneTooLong seen.files
+Answers elisions seen (Some command) status.NoMemory = WroteNothing seen.out seen.report × NoReadFailed seen.files × NoneTooLong seen.files
+Answers elisions seen (Some command) ends =
+    (verdict : Verdict) × Settles elisions seen.files command verdict × Ends seen.out seen.report verdict ends

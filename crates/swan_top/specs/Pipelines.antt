@@ -7,7 +7,7 @@ use Rattle.swan_model.specs.Lines.{lines, refusal_of}
 use Rattle.swan_model.specs.Texts.{fault_line, is_some_fault, line}
 use Rattle.swan_model.specs.declared.fault.Fault.{Fault}
 use Rattle.swan_top.specs.Command.{Command, index, convert}
-use Rattle.swan_top.specs.Headline.{FilesSeen, SinkSeen, WasRead, Took}
+use Rattle.swan_top.specs.Headline.{CallSeen, WasRead, Took}
 use Rattle.swan_top.specs.declared.status.Status.{Status}
 use Rattle.swan_top.specs.declared.status.Status.TheVariants as status
 
@@ -20,19 +20,19 @@ abbrev pub pipeline_report : List Fault → List ℕ
 pipeline_report faults = codes "left input 0\n" ++ (line (codes "faults " ++ decimal (length faults)) ++ flat_map fault_line faults)
 
 -- A text was read of a file, its lines are within their limits, and the sinks took what is said of it.
-pub record WrittenOf (files : FilesSeen) (out report : SinkSeen) (input : List ℕ) (out_of : List ℕ → List ℕ) (faults_of : List ℕ → List Fault) (is_faulted : Bool) : Type 0 where
+pub record WrittenOf (seen : CallSeen) (input : List ℕ) (out_of : List ℕ → List ℕ) (faults_of : List ℕ → List Fault) (is_faulted : Bool) : Type 0 where
   pub text : List ℕ
-  pub is_read : WasRead (files.content input) text
+  pub is_read : WasRead (seen.files.content input) text
   pub none_refused : refusal_of text ≡ None
   pub faulted : is_some_fault (faults_of text) ≡ is_faulted
-  pub wrote_out : Took out (out_of text)
-  pub wrote_report : Took report (pipeline_report (faults_of text))
+  pub wrote_out : Took seen.out (out_of text)
+  pub wrote_report : Took seen.report (pipeline_report (faults_of text))
 
 -- An index that is Done wrote the index of the text, and none is Faulted. A conversion wrote the conversion, and is
 -- Faulted where a line was left out.
-abbrev pub WroteOfText : FilesSeen → (out report : SinkSeen) → Option Command → Status → Type 0
-WroteOfText files out report (Some (index workers input)) (status.Done how) = WrittenOf files out report input index_of (λ text. []) false
-WroteOfText files out report (Some (index workers input)) (status.Faulted how) = ⊥
-WroteOfText files out report (Some (convert workers input)) (status.Done how) = WrittenOf files out report input convert_of conversion_faults false
-WroteOfText files out report (Some (convert workers input)) (status.Faulted how) = WrittenOf files out report input convert_of conversion_faults true
-WroteOfText files out report command ends = Unit {0}
+abbrev pub WroteOfText : CallSeen → Option Command → Status → Type 0
+WroteOfText seen (Some (index workers input)) (status.Done how) = WrittenOf seen input index_of (λ text. []) false
+WroteOfText seen (Some (index workers input)) (status.Faulted how) = ⊥
+WroteOfText seen (Some (convert workers input)) (status.Done how) = WrittenOf seen input convert_of conversion_faults false
+WroteOfText seen (Some (convert workers input)) (status.Faulted how) = WrittenOf seen input convert_of conversion_faults true
+WroteOfText seen command ends = Unit {0}

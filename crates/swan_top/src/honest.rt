@@ -4,7 +4,7 @@ ghost use Rattle.swan_outside.specs.Honest.{HonestFilesState, HonestSinkState};
 ghost use Rattle.swan_top.specs.Command.{Command, command};
 ghost use Rattle.swan_top.specs.Completeness.{CompletesWell, EndsWell, NothingFailed};
 ghost use Rattle.swan_top.specs.Elisions.{elisions};
-ghost use Rattle.swan_top.specs.Headline.{Answers, files_over, sink_over};
+ghost use Rattle.swan_top.specs.Headline.{Answers, call_over};
 ghost use Rattle.swan_top.specs.declared.status.Status.{Status};
 
 use crate::{Status, swan};
@@ -18,37 +18,33 @@ use swan_outside::{Files, Gate, HonestFiles, HonestSink, Sink};
 
 /// The law that over `HonestFiles` and `HonestSink` no count of faults rises, whatever a call leaves of them
 /// (`nothing_fails`). So by the clause `answered` of `swan` no call ends as WriteFailed, and one ends as ReadFailed
-/// only where a file of the command has more than `FILE_MOST` bytes, with the line `too long NAME` and nothing in the
+/// only where a file of the command has more than 67,108,864 bytes, with the line `too long NAME` and nothing in the
 /// output (`ends_well`); and where words, job and inputs are in order, the call writes what they come to and ends as Done or Faulted by the elision's
 /// outcome, or memory ran out (`completes`).
 #[tactic(auto, using(crate::proofs::Completeness::ends_well, crate::proofs::Completeness::completes_well))]
 pub fn honest_calls_end_well()
+    // no count of faults rises
     ensures nothing_fails { (files files' : HonestFilesState) (out out' report report' : HonestSinkState) →
         let F = ⟦<HonestFiles as Files>⟧ in let S = ⟦<HonestSink as Sink>⟧ in
-        NothingFailed
-        (files_over F.content F.faults F.long_reads files files')
-        (sink_over S.written S.faults out out')
-        (sink_over S.written S.faults report report') }
+        NothingFailed (call_over F S S (files, out, report) (files', out', report')) }
+
+    // so no write fails, and a read is refused only where a file is too long
     ensures ends_well { (files files' : HonestFilesState) (out out' report report' : HonestSinkState)
         (asked : Option Command) (ends : Status) →
         let F = ⟦<HonestFiles as Files>⟧ in let S = ⟦<HonestSink as Sink>⟧ in
-        let seen = files_over F.content F.faults F.long_reads files files' in
-        let printed = sink_over S.written S.faults out out' in
-        let written = sink_over S.written S.faults report report' in
-        Answers elisions seen printed written asked ends
-        → EndsWell seen printed written asked ends }
+        let seen = call_over F S S (files, out, report) (files', out', report') in
+        Answers elisions seen asked ends → EndsWell seen asked ends }
+
+    // and a command that is in order writes what it comes to, or memory ran out; words that are none are refused
     ensures completes { (files files' : HonestFilesState) (out out' report report' : HonestSinkState)
         (asked : Option Command) (ends : Status) →
         let F = ⟦<HonestFiles as Files>⟧ in let S = ⟦<HonestSink as Sink>⟧ in
-        let seen = files_over F.content F.faults F.long_reads files files' in
-        let printed = sink_over S.written S.faults out out' in
-        let written = sink_over S.written S.faults report report' in
-        Answers elisions seen printed written asked ends
-        → CompletesWell elisions seen printed written asked ends }
+        let seen = call_over F S S (files, out, report) (files', out', report') in
+        Answers elisions seen asked ends → CompletesWell elisions seen asked ends }
 {}
 
 /// A call of `swan` over files and sinks that never fail, for a caller that has all in memory. It never ends as
-/// WriteFailed, and as ReadFailed only where a file of the command has more than `FILE_MOST` bytes, with the line
+/// WriteFailed, and as ReadFailed only where a file of the command has more than 67,108,864 bytes, with the line
 /// `too long NAME` in the report and nothing in the output. Where words, job and inputs are in order it writes what they
 /// come to and ends as Done or Faulted, or it ends as NoMemory. Words that are no command end as Usage. It costs what
 /// `swan` does, and returns where that does.
@@ -61,18 +57,15 @@ pub fn honest_call<T: Threads + Wait + Clock + Sync, G: Gate>(
     report: &mut HonestSink,
     gate: &G,
 ) -> Status
+    // no write fails, and a read is refused only where a file is too long
     ensures ends_well { let F = ⟦<HonestFiles as Files>⟧ in let S = ⟦<HonestSink as Sink>⟧ in
-        EndsWell
-        (files_over F.content F.faults F.long_reads files.old files.new)
-        (sink_over S.written S.faults out.old out.new)
-        (sink_over S.written S.faults report.old report.new)
-        (command words.now) result }
+        let seen = call_over F S S (files.old, out.old, report.old) (files.new, out.new, report.new) in
+        EndsWell seen (command words.now) result }
+
+    // a command that is in order writes what it comes to, or memory ran out; words that are none are refused
     ensures completes { let F = ⟦<HonestFiles as Files>⟧ in let S = ⟦<HonestSink as Sink>⟧ in
-        CompletesWell elisions
-        (files_over F.content F.faults F.long_reads files.old files.new)
-        (sink_over S.written S.faults out.old out.new)
-        (sink_over S.written S.faults report.old report.new)
-        (command words.now) result }
+        let seen = call_over F S S (files.old, out.old, report.old) (files.new, out.new, report.new) in
+        CompletesWell elisions seen (command words.now) result }
 {
     honest_calls_end_well();
     swan(rt, alloc, words, files, out, report, gate)

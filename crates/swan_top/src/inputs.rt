@@ -18,7 +18,7 @@ pub(crate) fn read_inputs<F: Files>(
 ) -> Result<Vec<Blob>, WhyStopped>
     ensures read { IfOk result (λ inputs. WereRead (F.content files.old) names.now inputs.items) }
     ensures all { IfOk result (λ inputs. unread names.now inputs.items ≡ None) }
-    ensures refused { let seen = files_over F.content F.faults F.long_reads files.old files.new in
+    ensures refused { let seen = files_over F.Files files.old files.new in
         IfErr result (λ stop. StopsOver seen (InputRefused seen names.now) stop) }
     ensures no_fault { OnOk result (F.faults files.new ≡ F.faults files.old) }
     ensures no_long_read { OnOk result (F.long_reads files.new ≡ F.long_reads files.old) }

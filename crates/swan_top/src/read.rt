@@ -54,7 +54,7 @@ pub(crate) fn read_file<F: Files>(
     file: &Word,
 ) -> Result<Vec<u8>, WhyStopped>
     ensures read { IfOk result (λ text. WasRead (F.content files.old file.now) text.items) }
-    ensures refused { let seen = files_over F.content F.faults F.long_reads files.old files.new in
+    ensures refused { let seen = files_over F.Files files.old files.new in
         IfErr result (λ stop. StopsOver seen (ReadRefused seen file.now) stop) }
     ensures no_fault { OnOk result (F.faults files.new ≡ F.faults files.old) }
     ensures no_long_read { OnOk result (F.long_reads files.new ≡ F.long_reads files.old) }

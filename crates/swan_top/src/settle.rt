@@ -57,9 +57,9 @@ fn settle_checked(alloc: Global, job: &CheckedJob) -> Result<Settled, WhyStopped
 
 // What the check of a job leads to.
 fn settle_check<F: Files>(alloc: Global, files: &mut F, job: &Word) -> Result<Settled, WhyStopped>
-    ensures ok { IfOk result (Is (Leads (files_over F.content F.faults F.long_reads files.old files.new)
+    ensures ok { IfOk result (Is (Leads (files_over F.Files files.old files.new)
         (job.now ∷ []) (next_of_check job.now))) }
-    ensures err { let seen = files_over F.content F.faults F.long_reads files.old files.new in
+    ensures err { let seen = files_over F.Files files.old files.new in
         IfErr result (StopsOver seen (Leads seen (job.now ∷ []) (next_of_check job.now))) }
 {
     let text = read_file(alloc, files, job)?;
@@ -77,9 +77,9 @@ fn settle_run<T: Threads + Wait + Clock + Sync, F: Files, G: Gate>(
     inputs: &[Word],
 ) -> Result<Settled, WhyStopped>
     requires { fuel ≤ FUEL_MOST }
-    ensures ok { IfOk result (Is (Leads (files_over F.content F.faults F.long_reads files.old files.new)
+    ensures ok { IfOk result (Is (Leads (files_over F.Files files.old files.new)
         (job.now ∷ inputs.now) (next_of_run (elisions.of_job way) fuel job.now inputs.now))) }
-    ensures err { let seen = files_over F.content F.faults F.long_reads files.old files.new in
+    ensures err { let seen = files_over F.Files files.old files.new in
         IfErr result (StopsOver seen (Leads seen (job.now ∷ inputs.now)
         (next_of_run (elisions.of_job way) fuel job.now inputs.now))) }
 {
@@ -96,9 +96,9 @@ fn settle_index<T: Threads + Wait + Clock + Sync, F: Files, G: Gate>(
     workers: u32,
     input: &Word,
 ) -> Result<Settled, WhyStopped>
-    ensures ok { IfOk result (Is (Leads (files_over F.content F.faults F.long_reads files.old files.new)
+    ensures ok { IfOk result (Is (Leads (files_over F.Files files.old files.new)
         (input.now ∷ []) (next_of_text (index_end elisions workers) input.now))) }
-    ensures err { let seen = files_over F.content F.faults F.long_reads files.old files.new in
+    ensures err { let seen = files_over F.Files files.old files.new in
         IfErr result (StopsOver seen (Leads seen (input.now ∷ [])
         (next_of_text (index_end elisions workers) input.now))) }
 {
@@ -116,9 +116,9 @@ fn settle_convert<T: Threads + Wait + Clock + Sync, F: Files, G: Gate>(
     workers: u32,
     input: &Word,
 ) -> Result<Settled, WhyStopped>
-    ensures ok { IfOk result (Is (Leads (files_over F.content F.faults F.long_reads files.old files.new)
+    ensures ok { IfOk result (Is (Leads (files_over F.Files files.old files.new)
         (input.now ∷ []) (next_of_text (conversion_end elisions workers) input.now))) }
-    ensures err { let seen = files_over F.content F.faults F.long_reads files.old files.new in
+    ensures err { let seen = files_over F.Files files.old files.new in
         IfErr result (StopsOver seen (Leads seen (input.now ∷ [])
         (next_of_text (conversion_end elisions workers) input.now))) }
 {
@@ -153,8 +153,8 @@ pub(crate) fn settle<T: Threads + Wait + Clock + Sync, F: Files, G: Gate>(
     command: Command<'_>,
 ) -> Result<Settled, WhyStopped>
     requires { IsWithinLimits (asked command) }
-    ensures ok { IfOk result (Is (Settles elisions (files_over F.content F.faults F.long_reads files.old files.new) (asked command.entry))) }
-    ensures err { let seen = files_over F.content F.faults F.long_reads files.old files.new in
+    ensures ok { IfOk result (Is (Settles elisions (files_over F.Files files.old files.new) (asked command.entry))) }
+    ensures err { let seen = files_over F.Files files.old files.new in
         IfErr result (StopsOver seen (Settles elisions seen (asked command.entry))) }
 {
     match command {

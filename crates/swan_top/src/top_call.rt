@@ -4,7 +4,7 @@ ghost use Rattle.swan_top.specs.Command.{command, IsWithinLimits};
 ghost use Rattle.swan_top.specs.Completeness.{Completes};
 ghost use Rattle.swan_top.specs.Elisions.{elisions};
 ghost use Rattle.swan_top.specs.Generated.{NeverRefused};
-ghost use Rattle.swan_top.specs.Headline.{Answers, files_over, sink_over};
+ghost use Rattle.swan_top.specs.Headline.{Answers, call_over};
 ghost use Rattle.swan_top.specs.Pipelines.{WroteOfText};
 
 use crate::engine::Engine;
@@ -66,25 +66,21 @@ pub fn swan<T: Threads + Wait + Clock + Sync, F: Files, O: Sink, R: Sink, G: Gat
     report: &mut R,
     gate: &G,
 ) -> Status
-    ensures answered { Answers elisions
-        (files_over F.content F.faults F.long_reads files.old files.new)
-        (sink_over O.written O.faults out.old out.new)
-        (sink_over R.written R.faults report.old report.new)
-        (command words.now) result }
-    ensures complete { Completes elisions
-        (files_over F.content F.faults F.long_reads files.old files.new)
-        (sink_over O.written O.faults out.old out.new)
-        (sink_over R.written R.faults report.old report.new)
-        (command words.now) result }
-    ensures written_of_text { WroteOfText
-        (files_over F.content F.faults F.long_reads files.old files.new)
-        (sink_over O.written O.faults out.old out.new)
-        (sink_over R.written R.faults report.old report.new)
-        (command words.now) result }
-    ensures never_refused { NeverRefused elisions
-        (sink_over O.written O.faults out.old out.new)
-        (sink_over R.written R.faults report.old report.new)
-        (command words.now) result }
+    // what was read and settled, how the call ends, and what the sinks have then
+    ensures answered { let seen = call_over F.Files O.Sink R.Sink (files.old, out.old, report.old) (files.new, out.new, report.new) in
+        Answers elisions seen (command words.now) result }
+
+    // how it ends where the command is in order and nothing outside fails
+    ensures complete { let seen = call_over F.Files O.Sink R.Sink (files.old, out.old, report.old) (files.new, out.new, report.new) in
+        Completes elisions seen (command words.now) result }
+
+    // what an index and a conversion wrote, told of the text alone
+    ensures written_of_text { let seen = call_over F.Files O.Sink R.Sink (files.old, out.old, report.old) (files.new, out.new, report.new) in
+        WroteOfText seen (command words.now) result }
+
+    // how a generated run ends, whose job is never refused
+    ensures never_refused { let seen = call_over F.Files O.Sink R.Sink (files.old, out.old, report.old) (files.new, out.new, report.new) in
+        NeverRefused elisions seen (command words.now) result }
 {
     // what the pipelines leave is what they are for, and the generated job is in order
     the_outcome_is_the_index();
@@ -102,11 +98,8 @@ fn follow<T: Threads + Wait + Clock + Sync, F: Files, O: Sink, R: Sink, G: Gate>
     out: &mut O,
     report: &mut R,
 ) -> Status
-    ensures answered { Answers elisions
-        (files_over F.content F.faults F.long_reads files.old files.new)
-        (sink_over O.written O.faults out.old out.new)
-        (sink_over R.written R.faults report.old report.new)
-        (command words.now) result }
+    ensures answered { let seen = call_over F.Files O.Sink R.Sink (files.old, out.old, report.old) (files.new, out.new, report.new) in
+        Answers elisions seen (command words.now) result }
     ensures within_limits { IfSome (command words.now) IsWithinLimits }
 {
     let command = match read_words(words) {

@@ -17,9 +17,7 @@ fn write_texts<O: Sink, R: Sink>(
     ends: Status,
 ) -> Status
     requires { IsEnd ends }
-    ensures { Ends
-        (sink_over O.written O.faults out.old out.new)
-        (sink_over R.written R.faults report.old report.new)
+    ensures { Ends (sink_over O.Sink out.old out.new) (sink_over R.Sink report.old report.new)
         (prints out_text.now report_text.now ends) result }
 {
     if put_all(out, out_text).is_err() {
@@ -39,9 +37,7 @@ pub(crate) fn write_line<O: Sink, R: Sink>(
     ends: Status,
 ) -> Status
     requires { IsEnd ends }
-    ensures { Ends
-        (sink_over O.written O.faults _out.old _out.new)
-        (sink_over R.written R.faults report.old report.new)
+    ensures { Ends (sink_over O.Sink _out.old _out.new) (sink_over R.Sink report.old report.new)
         (refuses line.now ends) result }
 {
     if put_all(report, line).is_err() {
@@ -57,9 +53,7 @@ pub(crate) fn write_settled<O: Sink, R: Sink>(
     settled: Settled,
 ) -> Status
     requires { EndsSo settled }
-    ensures { Ends
-        (sink_over O.written O.faults out.old out.new)
-        (sink_over R.written R.faults report.old report.new)
+    ensures { Ends (sink_over O.Sink out.old out.new) (sink_over R.Sink report.old report.new)
         (verdict_of settled) result }
 {
     match settled {

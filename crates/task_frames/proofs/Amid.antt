@@ -14,7 +14,7 @@ use Rattle.swan_model.specs.declared.script.Deed.TheVariants as deed
 use Rattle.swan_model.specs.declared.script.Script.{Script}
 use Rattle.swan_model.specs.Script.{script}
 use Rattle.swan_model.specs.SerialState.{Activation}
-use Rattle.swan_model.specs.SerialStep.{moved, told}
+use Rattle.swan_model.specs.SerialStep.{after_next, with_answer}
 use Rattle.swan_model.specs.SerialTime.{is_queue_deed, time, times}
 use Rattle.swan_model.specs.Told.{deed_at}
 use Rattle.swan_model.specs.TrueFrames.{gives_at}
@@ -95,7 +95,7 @@ module _ {B L : Type 0} (G : Ghosts B L) (name : Option Script) where
           → AreLocal s task.path since (task.done + 1) → 0 < since
           → IsFrame G (record task { done = task.done + 1; since = since }) name then_ends (Ready local said)
       goes-to since said does then_ends goes ends_are before_is are_local some =
-          let next = told (moved top local) said in
+          let next = with_answer (after_next top local) said in
           let stands = goes_on_next G task.plan task.path task.done top is.alone.stands next goes.store goes.effect in
           let ends_of : AreEndsOf G (record task { done = task.done + 1; since = since }) name (with_deeds ends (ends.deeds + one_if (is_queue_deed does))) = record {
             named = is.lent.named;

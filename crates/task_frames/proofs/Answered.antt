@@ -174,8 +174,8 @@ module _ {B L E : Type 0} (G : Ghosts B L) (of : EndsOf E) (before after : CoreV
           task = sym its_so.task;
           stage = its_so.stage;
           shows = subst (λ k. IsShown G k same waited.wait) (so.1 ∙ come) (subst (IsShown G stepped same) (sym answered.0) so.3);
-          earlier = subst (λ k. IsLiveBefore k it.task.path (waited_for waited.wait)) (so.1 ∙ come)
-              (subst (λ q. IsLiveBefore stepped q (waited_for waited.wait)) path (subst (λ w. IsLiveBefore stepped frame.task.path (waited_for w)) (sym answered.0) so.4));
+          earlier = subst (λ (k : KeptView). IsLiveBefore k.live it.task.path (waited_for waited.wait)) (so.1 ∙ come)
+              (subst (λ q. IsLiveBefore stepped.live q (waited_for waited.wait)) path (subst (λ w. IsLiveBefore stepped.live frame.task.path (waited_for w)) (sym answered.0) so.4));
           kept = given;
           keeps = given_is;
           lent = subst (λ k. HasLent k given it.task.number) (so.1 ∙ come) (subst (HasLent stepped given) its_own answered.2);

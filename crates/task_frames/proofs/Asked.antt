@@ -28,14 +28,14 @@ use Rattle.swan_model.specs.Told.{count, deed_at, pushes, taken}
 use Rattle.swan_model.specs.Versions.{Placed, after_write, placed_at}
 use Rattle.swan_model.specs.VersionsFollow.{is_object_deed}
 use Rattle.queues.specs.Asks.{MayDo}
-use Rattle.serial_elision.specs.TaskSteps.{Faults, GoesOn, IsAsking, LacksRight, MayUseAt}
+use Rattle.serial_elision.specs.TaskSteps.{MeetsFault, GoesOn, IsAsking, LacksRight, MayUseAt}
 use Rattle.serial_elision.proofs.AskSteps.{pops-none, pops-on, refused, use-named}
 use Rattle.serial_elision.proofs.Held.{used-at}
 use Rattle.serial_elision.proofs.TaskSteps.{stands-one}
 use Rattle.task_frames.specs.declared.stage.Stage.TheVariants.{Ready}
 use Rattle.task_frames.specs.declared.step.Step.TheVariants as step
 use Rattle.task_frames.specs.Cores.{AtCore, HasIt, KeptView, MayBegin, Mid, asking, one_on}
-use Rattle.task_frames.specs.Records.{HasNoLiveChild, IsOnlyLive, LiveFrame, LiveFrames, come_to, live_at}
+use Rattle.task_frames.specs.Records.{HasNoLiveChild, IsOnlyLive, LiveFrame, NumberedFrames, come_to, live_at}
 use Rattle.task_frames.specs.Resumes.{EndsTaskByFault, IsStep, MayNotUse}
 use Rattle.task_frames.proofs.Goings.{runs-quiet, runs-used, runs-written}
 use Rattle.task_frames.proofs.Served.{same-mode, some-and}
@@ -71,7 +71,7 @@ given-none xs ys (give ∷ gives) same none = by (number_at xs give.place give.m
   by (Some number) (Some hs) some rest is before = absurd (cc)
 
 -- the record, once a frame in it has come so far
-pub noted : (before after : LiveFrames) (n done : ℕ) (f : LiveFrame) → live_at before n ≡ Some f → IsOnlyLive before after n (option_map (come_to done) (live_at before n)) → IsOnlyLive before after n (Some (record f { done = done }))
+pub noted : (before after : NumberedFrames) (n done : ℕ) (f : LiveFrame) → live_at before n ≡ Some f → IsOnlyLive before after n (option_map (come_to done) (live_at before n)) → IsOnlyLive before after n (Some (record f { done = done }))
 noted before after n done f there only = subst (λ o. IsOnlyLive before after n (option_map (come_to done) o)) there only
 
 -- the same, by a number and a count that are the frame's, and over what is the same
@@ -120,10 +120,10 @@ module _ {B L : Type 0} (G : Ghosts B L) (kept : KeptView) (mid : Mid B L) (asks
   is-refused (ask.Fail trouble) none = absurd none
 
   -- a fault of the step at which it stands, at the place before it
-  pub ends-by : (fault : _) → Faults G mid.task.plan mid.task.path mid.task.done top fault deed.Quiet → EndsTaskByFault G mid.task mid.at fault
+  pub ends-by : (fault : _) → MeetsFault G mid.task.plan mid.task.path mid.task.done top fault deed.Quiet → EndsTaskByFault G mid.task mid.at fault
   ends-by fault is other at =
       let one = stands-one G mid.task.plan mid.task.path mid.task.done top other has.is.alone.stands at in
-      (subst (λ a. Faults G mid.task.plan mid.task.path mid.task.done a fault deed.Quiet) one is, has.is.alone.stage.2 ∙ ap (λ (a : Activation L). G.place_of mid.task.plan.body a.local) one)
+      (subst (λ a. MeetsFault G mid.task.plan mid.task.path mid.task.done a fault deed.Quiet) one is, has.is.alone.stage.2 ∙ ap (λ (a : Activation L). G.place_of mid.task.plan.body a.local) one)
 
   pub refused-so : MayNotUse mid.task.holdings asks → EndsTaskByFault G mid.task mid.at kind.Privilege
   refused-so none = ends-by kind.Privilege (refused G mid.task.plan mid.task.path mid.task.done top mid.local asks (is-asking-so) (is-refused asks none)) where

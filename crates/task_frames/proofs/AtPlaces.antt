@@ -24,7 +24,7 @@ use Rattle.swan_model.specs.QueueState.{ActiveFrame, QueueState, after_create, w
 use Rattle.swan_model.specs.Readings.{with_object, with_queue}
 use Rattle.swan_model.specs.Script.{script}
 use Rattle.swan_model.specs.SerialState.{Activation, Holding}
-use Rattle.swan_model.specs.SerialStep.{moved, with_place}
+use Rattle.swan_model.specs.SerialStep.{after_next, with_place}
 use Rattle.swan_model.specs.SerialTime.{Reading, time}
 use Rattle.swan_model.specs.TrueFrames.{StandsAt}
 use Rattle.swan_model.specs.Versions.{VersionState, objects_after_create, placed_at}
@@ -39,7 +39,7 @@ use Rattle.serial_elision.proofs.TaskSteps.{goes_on_next}
 use Rattle.task_frames.specs.declared.stage.Stage.TheVariants.{Ready}
 use Rattle.task_frames.specs.declared.step.Step.TheVariants as step
 use Rattle.task_frames.specs.Cores.{AtCore, HasIt, IsAtCore, IsCore, KeptView, MayBegin, Mid, asking, one_on}
-use Rattle.task_frames.specs.Records.{IsOnlyLive, LiveFrames, come_to, holding_too, live_at}
+use Rattle.task_frames.specs.Records.{IsOnlyLive, NumberedFrames, come_to, holding_too, live_at}
 use Rattle.task_frames.specs.Resumes.{IsStep}
 use Rattle.task_frames.proofs.AtQueues.{a, a-back, a-live, asked, done-now, for-next, law, may-do, told}
 use Rattle.task_frames.proofs.Booked as booked
@@ -74,7 +74,7 @@ as-many f ys xs same = elim (cases_lt (length ys) (length xs)) [
 -- ---- what is kept, by a number and a count that are the frame's, and over what is the same
 
 -- the record, with a place more
-pub noted-place : (kept other : KeptView) (then_live : LiveFrames) (n m d e : ℕ) (h g : Holding) → other ≡ kept → n ≡ m → d ≡ e → h ≡ g
+pub noted-place : (kept other : KeptView) (then_live : NumberedFrames) (n m d e : ℕ) (h g : Holding) → other ≡ kept → n ≡ m → d ≡ e → h ≡ g
     → IsOnlyLive other.live then_live n (option_map (come_to (d + 1)) (option_map (holding_too h) (live_at other.live n)))
     → IsOnlyLive kept.live then_live m (option_map (come_to (e + 1)) (option_map (holding_too g) (live_at kept.live m)))
 noted-place kept other then_live n m d e h g same number done held only =
@@ -124,7 +124,7 @@ module _ {B L : Type 0} (G : Ghosts B L) (kept : KeptView) (mid : Mid B L) (asks
 
   module _ (mode : Mode) (does : Deed) (gets : GetsPlace G mid.task.plan mid.task.path mid.task.done has.is.alone.top mid.local mode does) (h : Holding) (mode_is : h.mode ≡ mode) where
     abbrev next : Activation L
-    next = with_place (moved has.is.alone.top mid.local) (record { mode = mode; number = gets.number })
+    next = with_place (after_next has.is.alone.top mid.local) (record { mode = mode; number = gets.number })
 
     abbrev more : AtCore B L
     more = record { task = record (one_on mid.task) { holdings = mid.task.holdings ++ h ∷ [] }; stage = Ready mid.local (answer.Place (length mid.task.holdings)) }
@@ -175,7 +175,7 @@ module _ {B L : Type 0} (G : Ghosts B L) (kept : KeptView) (mid : Mid B L) (asks
       places = (has-next, refl, ap is_spawn gets.deed ∙ no_spawn, record { live = only.others; active_are = changed.others }, λ is. absurd (no_wait (sym gets.deed ∙ is)), begun)
 
   -- the record, by what stood in it
-  pub held-more : (then_live : LiveFrames) (h : Holding) → IsOnlyLive kept.live then_live mid.task.number (option_map (come_to (mid.task.done + 1)) (option_map (holding_too h) (live_at kept.live mid.task.number)))
+  pub held-more : (then_live : NumberedFrames) (h : Holding) → IsOnlyLive kept.live then_live mid.task.number (option_map (come_to (mid.task.done + 1)) (option_map (holding_too h) (live_at kept.live mid.task.number)))
       → IsOnlyLive kept.live then_live mid.task.number (Some (record has.of.frame { done = mid.task.done + 1; holdings = has.of.frame.holdings ++ h ∷ [] }))
   held-more then_live h only =
       subst (λ o. IsOnlyLive kept.live then_live mid.task.number (option_map (come_to (mid.task.done + 1)) (option_map (holding_too h) o))) has.of.live only
@@ -199,7 +199,7 @@ module _ {B L : Type 0} (G : Ghosts B L) (kept : KeptView) (mid : Mid B L) (has 
       mid.task.path mid.task.done has.is.alone.top has.of.path (done-now G kept mid ask.NewQueue has) has.is.alone.stands kept.state kept.turns has.core.queues
       (a G kept mid ask.NewQueue has) (a-live G kept mid ask.NewQueue has) deed.MakeQueue queue-gets.deed refl)
 
-  module _ (then_live : LiveFrames) where
+  module _ (then_live : NumberedFrames) where
     abbrev made-queue : Holding
     made-queue = record { mode = PushPop; number = length kept.state.makers }
 
@@ -230,7 +230,7 @@ module _ {B L : Type 0} (G : Ghosts B L) (kept : KeptView) (mid : Mid B L) (has 
             objects = objects.queue-made s lawful r kept.versions kept.live kept.objects has.core.objects n mid.task.path mid.task.done known_is has.of.frame has.of.live then_live
                 (record { mode = PushPop; number = length kept.state.makers }) (r.queues ++ o ∷ []) queue-gets.deed has.is.alone.stands.left refl begun.ready only;
             frames = live.made-queue G mid.task.plan r kept.state kept.live kept.frames has.core.frames n has.of.frame has.of.live own own_live then_live has.is.plan.lists has.core.queues.tree act
-                mid.task.path mid.task.done top (with_place (moved top mid.local) (record { mode = PushPop; number = queue-gets.number })) (after_create kept.state own)
+                mid.task.path mid.task.done top (with_place (after_next top mid.local) (record { mode = PushPop; number = queue-gets.number })) (after_create kept.state own)
                 has.of.path (done-now G kept mid ask.NewQueue has) has.is.alone.stands
                 (stands-next G kept mid ask.NewQueue has PushPop deed.MakeQueue queue-gets (record { mode = PushPop; number = length kept.state.makers }) refl)
                 queue-gets.names (as-many (origin_in s) r.queues kept.state.makers has.core.queues.fit.queues) (begun.turn own own_live) refl only;
@@ -285,7 +285,7 @@ module _ {B L : Type 0} (G : Ghosts B L) (kept : KeptView) (mid : Mid B L) (valu
       (objects.free-place (script G mid.task.plan) (law G kept mid (ask.NewObject value) has) kept.reading kept.versions kept.live kept.objects has.core.objects mid.task.number mid.task.path mid.task.done
       (known G kept (asking mid (ask.NewObject value)) has) has.of.frame has.of.live kept.live)
 
-  module _ (then_live : LiveFrames) where
+  module _ (then_live : NumberedFrames) where
     abbrev with-one-object : KeptView
     with-one-object = record kept {
       versions = objects_after_create kept.versions mid.task.number (length mid.task.holdings) value;
@@ -316,7 +316,7 @@ module _ {B L : Type 0} (G : Ghosts B L) (kept : KeptView) (mid : Mid B L) (valu
                 value (objects_after_create kept.versions n (length mid.task.holdings) value) object-gets.deed has.is.alone.stands.left
                 (ap (λ hs. objects_after_create kept.versions n (length hs) value) (sym has.of.holdings)) begun.ready only;
             frames = live.made-object G mid.task.plan r kept.state kept.live kept.frames has.core.frames n has.of.frame has.of.live own own_live then_live has.is.plan.lists
-                mid.task.path mid.task.done kept.objects top (with_place (moved top mid.local) (record { mode = InOut; number = object-gets.number }))
+                mid.task.path mid.task.done kept.objects top (with_place (after_next top mid.local) (record { mode = InOut; number = object-gets.number }))
                 has.of.path (done-now G kept mid asks has) has.is.alone.stands then
                 object-gets.names (has.core.objects.follow.objects ∙ has.core.objects.count) (begun.turn own own_live) only;
             booked = booked.frames-same G mid.task.plan (gone_on_by r n 1) (with_object (gone_on_by r n 1) o) kept.faults refl

@@ -36,7 +36,7 @@ use Rattle.queues.specs.Tree.{IsOnlyFrame}
 use Rattle.queues.specs.declared.answers.WaitFor.{WaitFor}
 use Rattle.queues.proofs.ActiveAfter.{one_changed, one_gone}
 use Rattle.queues.proofs.TurnsGoOn.{go_on-deed}
-use Rattle.serial_elision.specs.TaskSteps.{Faults, GoesOn, IsAsking, IsFaultOf, MayUseAt}
+use Rattle.serial_elision.specs.TaskSteps.{MeetsFault, GoesOn, IsAsking, IsFaultOf, MayUseAt}
 use Rattle.serial_elision.proofs.AskSteps.{pops-none, pops-on, pushes-on, tests-none, tests-some}
 use Rattle.serial_elision.proofs.TaskSteps.{ends_last}
 use Rattle.task_frames.specs.declared.stage.Stage.TheVariants.{Ready}
@@ -248,7 +248,7 @@ module _ {B L : Type 0} (G : Ghosts B L) (kept : KeptView) (mid : Mid B L) (plac
   -- ---- no item is left
 
   none-faults : OnActive kept.state mid.task.number (λ own. OnQueue kept.name kept.state queue (FindsNone own))
-      → Faults G mid.task.plan mid.task.path mid.task.done has.is.alone.top kind.PopEmpty (deed.Pop pop-used.0)
+      → MeetsFault G mid.task.plan mid.task.path mid.task.done has.is.alone.top kind.PopEmpty (deed.Pop pop-used.0)
   none-faults none =
       let mine = a G kept mid (ask.Pop place) has in
       let there = a-live G kept mid (ask.Pop place) has in

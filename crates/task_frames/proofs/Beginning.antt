@@ -20,7 +20,7 @@ use Rattle.serial_elision.proofs.TaskSteps.{root_stands}
 use Rattle.task_frames.specs.declared.stage.Stage.TheVariants.{Ready}
 use Rattle.task_frames.specs.Cores.{AreBooked, AreFrames, AreObjects, AreQueues, HasIt, IsAtCore, IsCore, KeptView}
 use Rattle.task_frames.specs.Frames.{IsPlan, Task, root_task}
-use Rattle.task_frames.specs.Opened.{AreFirstObjects, AreFirstQueues, IsFirstKept, roots_to}
+use Rattle.task_frames.specs.Opened.{AreFirstObjects, AreFirstQueues, IsKeptAtFirst, roots_to}
 use Rattle.task_frames.specs.Records.{live_at}
 use Rattle.task_frames.proofs.Opening.{booked-open, frames-open, objects-open, queues-open}
 use Rattle.swan_model.proofs.Lists.{get-drop, drop_next}
@@ -70,7 +70,7 @@ module _ {B L : Type 0} (G : Ghosts B L) (plan : Plan B L) (sound : IsPlan plan)
         since = refl;
       }
 
-  module _ (kept : KeptView) (first : IsFirstKept s (length plan.roots.queues) (length plan.roots.objects) (root_holdings plan.roots) kept) where
+  module _ (kept : KeptView) (first : IsKeptAtFirst s (length plan.roots.queues) (length plan.roots.objects) (root_holdings plan.roots) kept) where
     first-queues : AreFirstQueues s kept.state (length s.queues)
     first-queues = subst (AreFirstQueues s kept.state) (sym many-queues) first.queues_are
 

@@ -1,48 +1,28 @@
 -- What a child is given, one after the other: the next one each time.
-use Rattle.std.proofs.Common.{◌≡◌, ◌≢◌, ℕ, zero, suc, ◌+◌, ◌<◌, Bool, true, false, nat_eq, List, [], ◌∷◌, None, Some, get_or, length, take, refl, sym, ap, subst, ◌∙◌}
-use Rattle.std.proofs.lemmas.Bool.{eq-eqb, ne_eqb, both_ways}
-use Rattle.std.proofs.lemmas.Map.Keys.{any_passes_from_place}
-use Rattle.std.proofs.lemmas.Option.{same_Some, slice_get-get_or}
-use Rattle.std.specs.List.{list_any}
-use Rattle.std.specs.Prelude.{◌||◌, slice_get}
+use Rattle.std.proofs.Common.{◌≡◌, ℕ, ◌+◌, ◌<◌, true, false, List, None, Some, get_or, length, take, sym, ap, subst, ◌∙◌}
+use Rattle.std.proofs.lemmas.Option.{slice_get-get_or}
+use Rattle.std.specs.Prelude.{slice_get}
 use Rattle.swan_model.specs.declared.rights.Give.{Give}
-use Rattle.swan_model.specs.QueueState.{QueueRight}
+use Rattle.swan_model.specs.QueueState.{ActiveFrame, MayGive, QueueRight}
 use Rattle.swan_model.specs.Rights.{is_queue_mode}
 use Rattle.swan_model.specs.Versions.{Holds, MayGet, Placed, VersionState, after_access, placed_at}
 use Rattle.pop_order.specs.Frames.{AreUpTo, Frames, MayBeEnlisted as MayGetQueue, frames_after_enlist}
-use Rattle.queues.specs.Turned.{AreApart, AreGivenTurns, AreOlder, gives_queue, holding_of}
-use Rattle.queues.proofs.GivingTurns.{turns_given_more, turns_may_get, turns_newest}
-use Rattle.task_frames.specs.Giving.{AreGivesOfQueues, AreMade, GivesObjects}
+use Rattle.queues.specs.Turned.{AreApart, AreGivenTurns, AreOlder, holding_of}
+use Rattle.queues.proofs.GivingTurns.{fresh_at, turns_given_more, turns_may_get, turns_newest}
+use Rattle.task_frames.specs.Giving.{AreMade, GivesObjects}
 use Rattle.task_frames.proofs.Giving.{alone-access, free-access, giving-object, giving-queue, may-access}
 use Rattle.swan_model.proofs.Lists.{take_next}
 
 -- ---- queues
 
-none-same : (rights : List QueueRight) (queue i : ℕ) (right : QueueRight) → list_any (λ (other : QueueRight). nat_eq other.queue queue) rights ≡ false → slice_get rights i ≡ Some right → right.queue ≢ queue
-none-same rights queue i right none at same =
-    let test : QueueRight → Bool = λ other. nat_eq other.queue queue in
-    both_ways (list_any test rights) none (any_passes_from_place test rights i right at (eq-eqb right.queue queue same))
-
-fresh-before : (rights : List QueueRight) → AreGivesOfQueues rights → (i : ℕ) (right : QueueRight) → slice_get rights i ≡ Some right → gives_queue (take i rights) right.queue ≡ false
-fresh-before [] are i right at = absurd (cc)
-fresh-before (x ∷ rights) are zero right at = refl
-fresh-before (x ∷ rights) are (suc i) right at =
-    ap (λ b. b || gives_queue (take i rights) right.queue) (ne_eqb x.queue right.queue (λ same. none-same rights x.queue i right are.1 at (sym same)))
-    ∙ fresh-before rights are.2 i right at
-
-pub gives-mode : (rights : List QueueRight) → AreGivesOfQueues rights → (i : ℕ) (right : QueueRight) → slice_get rights i ≡ Some right → is_queue_mode right.mode ≡ true
-gives-mode [] are i right at = absurd (cc)
-gives-mode (x ∷ rights) are zero right at = ap (λ (q : QueueRight). is_queue_mode q.mode) (sym (same_Some x right at)) ∙ are.0
-gives-mode (x ∷ rights) are (suc i) right at = gives-mode rights are.2 i right at
-
-module _ (before now : Frames) (parent child : ℕ) (rights : List QueueRight) (older : AreOlder before child) (apart : AreApart before) (are : AreGivesOfQueues rights) (i : ℕ)
+module _ (before now : Frames) (parent child : ℕ) (rights : List QueueRight) (older : AreOlder before child) (apart : AreApart before) (giver : ActiveFrame) (may : MayGive giver rights) (i : ℕ)
     (given : AreGivenTurns before now parent child (take i rights)) where
   pub next-newest : AreUpTo now child
   next-newest = turns_newest before now parent child (take i rights) older apart given
 
   module _ (right : QueueRight) (at : slice_get rights i ≡ Some right) where
     pub next-fits : MayGetQueue now parent child right.queue
-    next-fits = turns_may_get before now parent child (take i rights) given right.queue (fresh-before rights are i right at)
+    next-fits = turns_may_get before now parent child (take i rights) given right.queue (fresh_at giver rights may i right at)
 
     pub next-given : (then : Frames) → then ≡ frames_after_enlist now parent child (holding_of right) → AreGivenTurns before then parent child (take (i + 1) rights)
     next-given then is =

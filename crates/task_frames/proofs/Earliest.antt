@@ -21,7 +21,7 @@ use Rattle.task_frames.specs.declared.resumed.Resumed.TheVariants as resumed
 use Rattle.task_frames.specs.Cores.{CoreView, IsCore, IsCoreView, IsGiven, KeptView, is_over}
 use Rattle.task_frames.specs.Earliest.{IsEarliest, has_stepped, progress_of}
 use Rattle.task_frames.specs.Frames.{FrameView, Task}
-use Rattle.task_frames.specs.Records.{LiveFrame, LiveFrames, come_at, come_to, live_at}
+use Rattle.task_frames.specs.Records.{LiveFrame, NumberedFrames, come_at, come_to, live_at}
 use Rattle.task_frames.specs.Resumes.{EndsOf, IsResumed, IsShownBy, waited_for}
 use Rattle.task_frames.proofs.Lives.{come-only}
 
@@ -170,7 +170,7 @@ module _ {B L E : Type 0} (of : EndsOf E) (kept : KeptView) (frame : FrameView B
   path-is : first.frame.path ≡ frame.task.path
   path-is = ap (λ (x : LiveFrame). x.path) (same_Some first.frame given.of.frame (sym first.there ∙ given.of.live)) ∙ given.of.path
 
-  abbrev then-live : LiveFrames
+  abbrev then-live : NumberedFrames
   then-live = come_at kept.live n frame.task.done (live_at kept.live n)
 
   -- no frame comes before it, once it has come in

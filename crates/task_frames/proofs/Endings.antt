@@ -1,5 +1,5 @@
 -- A frame at the core that ends by its next step, or has to wait for its children before it may.
-use Rattle.std.proofs.Common.{◌≡◌, inr, ℕ, true, false, None, [], ◌∷◌, ◌++◌, refl, sym, ap, subst, ◌∙◌}
+use Rattle.std.proofs.Common.{◌≡◌, inr, ℕ, false, None, [], ◌∷◌, ◌++◌, refl, sym, ap, subst, ◌∙◌}
 use Rattle.swan_model.specs.declared.body.Body.{Ghosts}
 use Rattle.swan_model.specs.declared.fault.Fault.{Fault}
 use Rattle.swan_model.specs.declared.script.Deed.{Deed}
@@ -24,7 +24,6 @@ use Rattle.task_frames.specs.Resumes.{IsLast, IsLiveBefore, IsStep, deed_now}
 use Rattle.queues.specs.declared.answers.WaitFor.TheVariants as wait
 use Rattle.queues.proofs.ActiveAfter.{one_gone}
 use Rattle.serial_elision.specs.TaskSteps.{IsFaultOf}
-use Rattle.swan_model.specs.PathOrder.{comes_before}
 use Rattle.task_frames.proofs.Booked as booked
 use Rattle.task_frames.proofs.Goings.{known, lawful}
 use Rattle.task_frames.proofs.Live as live
@@ -42,10 +41,10 @@ module _ {B L : Type 0} (G : Ghosts B L) (kept : KeptView) (frame : AtCore B L) 
   -- ---- waits
 
   -- the frame stands as it did, and waits for its oldest child
-  pub child-before : (child : ℕ) → IsOldestChild kept.live task.number child → IsLiveBefore kept task.path child
+  pub child-before : (child : ℕ) → IsOldestChild kept.live task.number child → IsLiveBefore kept.live task.path child
   child-before child is =
-      let before = waiting.oldest-live G task.plan (lawful G kept frame has) kept.reading kept.state kept.turns kept.live kept.frames has.core.queues has.core.frames task.number has.of.frame has.of.live child is in
-      record { frame = before.0; live = before.1; earlier = subst (λ path. comes_before before.0.path path ≡ true) has.of.path before.2 }
+      subst (λ path. IsLiveBefore kept.live path child) has.of.path
+      (waiting.oldest-live G task.plan (lawful G kept frame has) kept.reading kept.state kept.turns kept.live kept.frames has.core.queues has.core.frames task.number has.of.frame has.of.live child is)
 
   pub waits-child : (child : ℕ) → IsOldestChild kept.live task.number child → IsLast G task → IsStep G kept kept task (step.Waits frame (wait.Child child))
   waits-child child is last = (has, refl, refl, (is, inr last), child-before child is)

@@ -1,8 +1,7 @@
 -- Whom a frame at the core has to wait for, and when it may begin.
-use Rattle.std.proofs.Common.{◌≡◌, ◌⊎◌, inl, inr, ℕ, ◌<◌, true, false, nat_lt, Some, refl, sym, subst, ◌∙◌, arith}
+use Rattle.std.proofs.Common.{◌≡◌, ◌⊎◌, inl, inr, ℕ, ◌<◌, false, nat_lt, Some, refl, sym, subst, ◌∙◌, arith}
 use Rattle.std.proofs.lemmas.Bool.{cases_lt, lt-ltb, false≢true}
 use Rattle.swan_model.specs.declared.body.Body.{Ghosts}
-use Rattle.swan_model.specs.PathOrder.{comes_before}
 use Rattle.swan_model.specs.QueueState.{ActiveFrame, IsPoppingChild, active}
 use Rattle.swan_model.specs.Versions.{Awaits, Placed, owed, placed_at}
 use Rattle.pop_order.specs.Turns.{Blocks}
@@ -30,8 +29,8 @@ module _ {B L : Type 0} (G : Ghosts B L) (kept : KeptView) (frame : AtCore B L) 
   abbrev f : LiveFrame
   f = has.of.frame
 
-  live-before : (m : ℕ) → waiting.IsLiveBefore kept.live m f.path → IsLiveBefore kept frame.task.path m
-  live-before m before = record { frame = before.0; live = before.1; earlier = subst (λ path. comes_before before.0.path path ≡ true) has.of.path before.2 }
+  live-before : (m : ℕ) → IsLiveBefore kept.live f.path m → IsLiveBefore kept.live frame.task.path m
+  live-before m before = subst (λ path. IsLiveBefore kept.live path m) has.of.path before
 
   -- ---- before the first step
 
@@ -54,17 +53,17 @@ module _ {B L : Type 0} (G : Ghosts B L) (kept : KeptView) (frame : AtCore B L) 
       → WaitsForTurn G kept frame m
   waits-blocked done m same not_so ready first = at_start (sym same ∙ not-less done not_so) ready first
 
-  pub awaited-before : (m place : ℕ) → Awaits kept.versions frame.task.number place m → IsLiveBefore kept frame.task.path m
+  pub awaited-before : (m place : ℕ) → Awaits kept.versions frame.task.number place m → IsLiveBefore kept.live frame.task.path m
   awaited-before m place awaits =
       live-before m (waiting.awaited-live G frame.task.plan (lawful G kept frame has) kept.reading kept.state kept.turns kept.live kept.frames has.core.queues has.core.frames frame.task.number f has.of.live
       kept.versions kept.objects has.core.objects m place awaits)
 
-  pub owed-before : (m place : ℕ) (object : Placed) → placed_at kept.versions frame.task.number place ≡ Some object → object.present ≡ owed m → IsLiveBefore kept frame.task.path m
+  pub owed-before : (m place : ℕ) (object : Placed) → placed_at kept.versions frame.task.number place ≡ Some object → object.present ≡ owed m → IsLiveBefore kept.live frame.task.path m
   owed-before m place object stands owes =
       live-before m (waiting.owner-live G frame.task.plan (lawful G kept frame has) kept.reading kept.state kept.turns kept.live kept.frames has.core.queues has.core.frames frame.task.number f has.of.live
       kept.versions kept.objects has.core.objects m place object stands (inl owes))
 
-  pub blocked-before : (m : ℕ) → Blocks kept.turns frame.task.number m → IsLiveBefore kept frame.task.path m
+  pub blocked-before : (m : ℕ) → Blocks kept.turns frame.task.number m → IsLiveBefore kept.live frame.task.path m
   blocked-before m blocks =
       live-before m (waiting.blocker-live G frame.task.plan (lawful G kept frame has) kept.reading kept.state kept.turns kept.live kept.frames has.core.queues has.core.frames frame.task.number f has.of.live m blocks)
 
@@ -76,7 +75,7 @@ module _ {B L : Type 0} (G : Ghosts B L) (kept : KeptView) (frame : AtCore B L) 
   a-live : active kept.state frame.task.number ≡ Some a
   a-live = (own G kept frame has).1
 
-  pub cause-before : (queue : ℕ) (wait_for : WaitFor) → IsCause kept.name kept.state a queue wait_for → IsLiveBefore kept frame.task.path (waited_for wait_for)
+  pub cause-before : (queue : ℕ) (wait_for : WaitFor) → IsCause kept.name kept.state a queue wait_for → IsLiveBefore kept.live frame.task.path (waited_for wait_for)
   cause-before queue (wait.Child m) cause = absurd cause
   cause-before queue (wait.Version m) cause = absurd cause
   cause-before queue (wait.PopTurn m) cause =
@@ -93,7 +92,7 @@ module _ {B L : Type 0} (G : Ghosts B L) (kept : KeptView) (frame : AtCore B L) 
 
   -- ---- it waits
 
-  pub waits-so : (after : KeptView) (same : AtCore B L) (wait_for : WaitFor) → after ≡ kept → same ≡ frame → IsShown G kept frame wait_for → IsLiveBefore kept frame.task.path (waited_for wait_for)
+  pub waits-so : (after : KeptView) (same : AtCore B L) (wait_for : WaitFor) → after ≡ kept → same ≡ frame → IsShown G kept frame wait_for → IsLiveBefore kept.live frame.task.path (waited_for wait_for)
       → IsStep G kept after frame.task (step.Waits same wait_for)
   waits-so after same wait_for after_is same_is shown before =
       subst (λ k. IsStep G kept k frame.task (step.Waits same wait_for)) (sym after_is)

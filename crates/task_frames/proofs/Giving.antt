@@ -27,7 +27,7 @@ use Rattle.object_versions.proofs.PlacesStay.{access_keeps, access_leaves}
 use Rattle.swan_model.proofs.Elements.{option_cases, taken_stands}
 use Rattle.task_frames.specs.Cores.{AreObjects, AwaitsNone, HasObjects, IsPlacedSo}
 use Rattle.task_frames.specs.Giving.{AreMade, access_of_give, accesses_from, with_access}
-use Rattle.task_frames.specs.Records.{LiveFrame, LiveFrames, live_at}
+use Rattle.task_frames.specs.Records.{LiveFrame, NumberedFrames, live_at}
 use Rattle.task_frames.proofs.GoneOn.{with-child}
 use Rattle.task_frames.proofs.Names.{AreGivenSo, IsHeldSo, first-given, held-origin}
 use Rattle.task_frames.proofs.QueueUse.{IsOfGive, given-at, gives-differ}
@@ -347,7 +347,7 @@ module _ (s : Script) (lawful : IsLawful s) (r : Reading) (before now : VersionS
   }
 
 -- The core keeps its objects through a spawn.
-pub spawned-objects : (s : Script) → IsLawful s → (r : Reading) (before now : VersionState) (live then_live : LiveFrames) (objects : ℕ) → AreObjects s r before live objects
+pub spawned-objects : (s : Script) → IsLawful s → (r : Reading) (before now : VersionState) (live then_live : NumberedFrames) (objects : ℕ) → AreObjects s r before live objects
     → (n : ℕ) (path : List ℕ) (k : ℕ) → frame_of r n ≡ Some (record { number = n; path = path; done = k }) → (f c : LiveFrame) → live_at live n ≡ Some f
     → (child : ℕ) → n ≢ child → child ≢ 0 → (gives : List Give) → given f.holdings gives ≡ Some c.holdings
     → AreMade s r before now (record { number = n; path = path; done = k }) child gives (length gives) → (new : Progress)

@@ -1,5 +1,5 @@
 -- A frame at the core that goes on by its next step.
-use Rattle.std.proofs.Common.{◌≡◌, ◌≢◌, ℕ, ◌+◌, true, false, Option, Some, None, map, refl, sym, ap, subst, ◌∙◌, arith}
+use Rattle.std.proofs.Common.{◌≡◌, ◌≢◌, ℕ, ◌+◌, true, false, Option, Some, None, IsSome, map, refl, sym, ap, subst, ◌∙◌, arith}
 use Rattle.std.proofs.lemmas.Bool.{false≢true}
 use Rattle.std.proofs.lemmas.Option.{same_Some}
 use Rattle.std.specs.Prelude.{slice_get}
@@ -19,11 +19,12 @@ use Rattle.swan_model.specs.QueueState.{ActiveFrame, active, after_deed, with_de
 use Rattle.swan_model.specs.Rights.{allows}
 use Rattle.swan_model.specs.Script.{script}
 use Rattle.swan_model.specs.SerialState.{Activation}
-use Rattle.swan_model.specs.SerialStep.{moved, told}
+use Rattle.swan_model.specs.SerialStep.{after_next, with_answer}
 use Rattle.swan_model.specs.SerialTime.{Progress, frame_of, is_queue_deed}
 use Rattle.swan_model.specs.TrueFrames.{StandsAt, give_in, gives_at}
 use Rattle.swan_model.specs.Versions.{Placed, after_write, placed_at}
 use Rattle.swan_model.specs.VersionsFollow.{is_object_deed}
+use Rattle.swan_model.proofs.Elements.{some_is}
 use Rattle.queues.specs.Asks.{MayDo}
 use Rattle.swan_model.specs.Readings.{gone_on_by}
 use Rattle.queues.specs.Tree.{IsOnlyFrame}
@@ -35,7 +36,7 @@ use Rattle.task_frames.specs.declared.stage.Stage.TheVariants.{Ready}
 use Rattle.task_frames.specs.declared.step.Step.TheVariants as step
 use Rattle.task_frames.specs.Cores.{AreBooked, AreFrames, AreObjects, AreQueues, AtCore, HasIt, IsAtCore, IsCore, IsAsRead, KeptView, MayBegin, Mid, asking, one_on}
 use Rattle.task_frames.specs.Frames.{Task}
-use Rattle.task_frames.specs.Records.{HasNoLiveChild, IsOnlyLive, LiveFrame}
+use Rattle.task_frames.specs.Records.{HasNoLiveChild, IsOnlyLive, LiveFrame, live_at}
 use Rattle.task_frames.specs.Resumes.{IsStep}
 use Rattle.task_frames.proofs.Booked as booked
 use Rattle.task_frames.proofs.Live as live
@@ -53,6 +54,9 @@ module _ {B L : Type 0} (G : Ghosts B L) (kept : KeptView) (frame : AtCore B L) 
 
   abbrev here : LiveFrame
   here = has.of.frame
+
+  pub live-here : IsSome (live_at kept.live task.number)
+  live-here = some_is (live_at kept.live task.number) here has.of.live
 
   abbrev top : Activation L
   top = has.is.alone.top
@@ -98,7 +102,7 @@ module _ {B L : Type 0} (G : Ghosts B L) (kept : KeptView) (mid : Mid B L) (asks
 
   module _ (said : Answer) (does : Deed) (goes : GoesOn G mid.task.plan mid.task.path mid.task.done has.is.alone.top mid.local said does) where
     abbrev next : Activation L
-    next = told (moved has.is.alone.top mid.local) said
+    next = with_answer (after_next has.is.alone.top mid.local) said
 
     abbrev after-task : Task B L
     after-task = one_on mid.task

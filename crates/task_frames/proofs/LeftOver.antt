@@ -38,7 +38,7 @@ use Rattle.queues.proofs.Refitting.{past_done}
 use Rattle.queues.proofs.Under.{led_to}
 use Rattle.serial_elision.proofs.OutcomeTold.{objects_told, rest_told}
 use Rattle.task_frames.specs.Cores.{AreBooked, AreFrames, AreObjects, AreQueues, HasEnded}
-use Rattle.task_frames.specs.Records.{LiveFrames, live_at}
+use Rattle.task_frames.specs.Records.{NumberedFrames, live_at}
 use Rattle.task_frames.proofs.FaultsSorted.{is_earlier_fault, sorted-faults}
 
 -- ---- nobody is live
@@ -92,7 +92,7 @@ module _ (s : Script) (lawful : IsLawful s) (state : QueueState) (r : Reading) (
       let it = task-read t own.entry own.stands [] own.entry.path refl root in
       record { index = it.index; progress = it.progress; stands = it.stands; own = it.own ∙ own.own }
 
-module _ {B L : Type 0} (G : Ghosts B L) (plan : Plan B L) (lawful : IsLawful (script G plan)) (r : Reading) (state : QueueState) (turns : Frames) (live : LiveFrames) (frames : ℕ)
+module _ {B L : Type 0} (G : Ghosts B L) (plan : Plan B L) (lawful : IsLawful (script G plan)) (r : Reading) (state : QueueState) (turns : Frames) (live : NumberedFrames) (frames : ℕ)
     (queues : AreQueues (script G plan) r state turns) (are : AreFrames G plan r state live frames) (gone : live_at live 0 ≡ None) where
   abbrev s : Script
   s = script G plan

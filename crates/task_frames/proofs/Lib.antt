@@ -37,7 +37,6 @@ pub mod Opening
 pub mod FaultsSorted
 pub mod LeftOver
 -- the record of live frames
-pub mod Pairs
 pub mod Lives
 -- frames at the core, and those that stay as they are meanwhile
 pub mod Given

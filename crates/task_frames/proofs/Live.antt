@@ -34,7 +34,7 @@ use Rattle.serial_elision.proofs.NamesStay.{held-named}
 use Rattle.serial_elision.proofs.TaskSteps.{stands-one}
 use Rattle.task_frames.specs.Cores.{HasQueuesOnce, AreFrames, IsAsRead}
 use Rattle.task_frames.specs.Frames.{AreLocal}
-use Rattle.task_frames.specs.Records.{IsOnlyLive, LiveFrame, LiveFrames, live_at}
+use Rattle.task_frames.specs.Records.{IsOnlyLive, LiveFrame, NumberedFrames, live_at}
 use Rattle.task_frames.proofs.LocalNames.{local-names}
 use Rattle.task_frames.proofs.Names.{name-origin, origin_in}
 use Rattle.task_frames.proofs.GoneOn.{child-spawned, number-by, other-gone_by, other-spawned, own-gone_by, parent-spawned, with-child}
@@ -111,10 +111,10 @@ module _ {B L : Type 0} (G : Ghosts B L) (plan : Plan B L) where
         let named = held-named G plan bounds path k top at i h here in
         (record { origin = named.0; mode = h.mode }, same_Some name _ (sym is ∙ named.1))
 
-  module _ (r : Reading) (state : QueueState) (live : LiveFrames) (frames : ℕ) (are : AreFrames G plan r state live frames) where
+  module _ (r : Reading) (state : QueueState) (live : NumberedFrames) (frames : ℕ) (are : AreFrames G plan r state live frames) where
     -- ---- from frame to frame
 
-    module _ (then_r : Reading) (after : QueueState) (then_live : LiveFrames) where
+    module _ (then_r : Reading) (after : QueueState) (then_live : NumberedFrames) where
       -- a frame that is changed, or new
       pub record IsNewAt (m : ℕ) : Type 0 where
         pub frame : LiveFrame
@@ -206,7 +206,7 @@ module _ {B L : Type 0} (G : Ghosts B L) (plan : Plan B L) where
           let same : was.number ≡ progress.number = sym (number-by n many was) ∙ ap (λ (p : Progress). p.number) (same_Some (more_by n many was) progress is) in
           subst (λ m. m < frames) same (are.known i was here)
 
-    module _ (n : ℕ) (f : LiveFrame) (there : live_at live n ≡ Some f) (a : ActiveFrame) (own : active state n ≡ Some a) (then_live : LiveFrames) where
+    module _ (n : ℕ) (f : LiveFrame) (there : live_at live n ≡ Some f) (a : ActiveFrame) (own : active state n ≡ Some a) (then_live : NumberedFrames) where
       parent-is : a.parent ≡ f.parent
       parent-is = let it = are.active_is n f there in ap (λ (x : ActiveFrame). x.parent) (same_Some a it.0 (sym own ∙ it.1)) ∙ it.2
 
@@ -409,7 +409,7 @@ module _ {B L : Type 0} (G : Ghosts B L) (plan : Plan B L) where
 
     -- ---- a frame that ends
 
-    pub leaves : (n : ℕ) (after : QueueState) (then_live : LiveFrames) → IsOnlyLive live then_live n None → IsOnlyFrame state after n None → after.latest ≡ state.latest → TurnsGoOn state after
+    pub leaves : (n : ℕ) (after : QueueState) (then_live : NumberedFrames) → IsOnlyLive live then_live n None → IsOnlyFrame state after n None → after.latest ≡ state.latest → TurnsGoOn state after
         → AreFrames G plan (gone_on_by r n 1) after then_live frames
     leaves n after then_live only changed latest turns =
         let each : (m : ℕ) → IsNewAt (gone_on_by r n 1) after then_live m ⊎ (IsGoneAt (gone_on_by r n 1) after then_live m ⊎ IsSameAt (gone_on_by r n 1) after then_live m) =
@@ -422,14 +422,14 @@ module _ {B L : Type 0} (G : Ghosts B L) (plan : Plan B L) where
         (λ i progress at. known-by n 1 i progress at)
         (length-map r.frames (more_by n 1) ∙ are.count)
 
-    pub leaves-finish : IsTree state → (n : ℕ) (after : QueueState) (then_live : LiveFrames) → MayJoin state n → after ≡ after_finish state n → IsOnlyLive live then_live n None
+    pub leaves-finish : IsTree state → (n : ℕ) (after : QueueState) (then_live : NumberedFrames) → MayJoin state n → after ≡ after_finish state n → IsOnlyLive live then_live n None
         → AreFrames G plan (gone_on_by r n 1) after then_live frames
     leaves-finish tree n after then_live may is only =
         subst (λ q. AreFrames G plan (gone_on_by r n 1) q then_live frames) (sym is)
         (leaves n (after_finish state n) then_live only (one_gone state n) refl (go_on-finish state n tree may))
 
     -- by the pop of an empty queue
-    pub leaves-dry : IsTree state → (n : ℕ) (a : ActiveFrame) (after : QueueState) (then_live : LiveFrames) → active state n ≡ Some a → MayDo state n → MayJoin (after_deed state n) n
+    pub leaves-dry : IsTree state → (n : ℕ) (a : ActiveFrame) (after : QueueState) (then_live : NumberedFrames) → active state n ≡ Some a → MayDo state n → MayJoin (after_deed state n) n
         → after ≡ after_finish (after_deed state n) n → IsOnlyLive live then_live n None → AreFrames G plan (gone_on_by r n 1) after then_live frames
     leaves-dry tree n a after then_live own act may is only =
         let popped = one_changed state n with_deed (λ x. refl) a own in
@@ -446,7 +446,7 @@ module _ {B L : Type 0} (G : Ghosts B L) (plan : Plan B L) where
 
     -- ---- a spawn
 
-    module _ (n : ℕ) (f : LiveFrame) (there : live_at live n ≡ Some f) (a : ActiveFrame) (own : active state n ≡ Some a) (then_live : LiveFrames) where
+    module _ (n : ℕ) (f : LiveFrame) (there : live_at live n ≡ Some f) (a : ActiveFrame) (own : active state n ≡ Some a) (then_live : NumberedFrames) where
       -- the child is the next frame
       pub spawns : (bounds : IsWithinBounds plan.roots.queues plan.roots.objects) → IsTree state → (path : List ℕ) (k : ℕ) (top next child_top : Activation L) (index : ℕ) (hs : List Holding)
           (gives : List QueueRight) (may : MaySpawn state n frames gives) (after : QueueState)

@@ -16,7 +16,7 @@ use Rattle.swan_model.specs.Roots.{IsWithinBounds}
 use Rattle.swan_model.specs.Rights.{is_aliased}
 use Rattle.swan_model.specs.Script.{asked, deed_of, entry_of, script}
 use Rattle.swan_model.specs.SerialState.{Activation, Cell, Holding, Queue, Store}
-use Rattle.swan_model.specs.SerialStep.{Effect, effect, faults, given, goes_on, moved, number_at, on_cell, on_list, on_object, on_queue, popped, spawn_effect, spawns}
+use Rattle.swan_model.specs.SerialStep.{Effect, effect, faults, given, goes_on, after_next, number_at, on_cell, on_list, on_object, on_queue, popped, spawn_effect, spawns}
 use Rattle.swan_model.specs.SerialTime.{time}
 use Rattle.swan_model.specs.Told.{deed_at}
 use Rattle.swan_model.specs.TrueFrames.{StandsAt, effect_at, gives_at, state_at}
@@ -107,10 +107,10 @@ module _ {B L : Type 0} (G : Ghosts B L) (plan : Plan B L) (bounds : IsWithinBou
     where
       keeps-of : (a : Activation L) → is_local (asked (state_at G plan path k).store a.holdings (G.next plan.body a.local a.answer (a.fuel - 1)).1) ≡ true → Keeps a.holdings (effect_at G plan path k a)
       keeps-of a is = by (nat_eq a.fuel 0) where
-        by : (dry : Bool) → Keeps a.holdings (cond dry (faults kind.Fuel) (effect (state_at G plan path k).steps (state_at G plan path k).store (moved a (G.next plan.body a.local a.answer (a.fuel - 1)).0) (G.next plan.body a.local a.answer (a.fuel - 1)).1))
+        by : (dry : Bool) → Keeps a.holdings (cond dry (faults kind.Fuel) (effect (state_at G plan path k).steps (state_at G plan path k).store (after_next a (G.next plan.body a.local a.answer (a.fuel - 1)).0) (G.next plan.body a.local a.answer (a.fuel - 1)).1))
         by true = tt
         by false =
-            effect-keeps (state_at G plan path k).steps (state_at G plan path k).store (moved a (G.next plan.body a.local a.answer (a.fuel - 1)).0) (G.next plan.body a.local a.answer (a.fuel - 1)).1 is
+            effect-keeps (state_at G plan path k).steps (state_at G plan path k).store (after_next a (G.next plan.body a.local a.answer (a.fuel - 1)).0) (G.next plan.body a.local a.answer (a.fuel - 1)).1 is
 
   -- and so many of them
   pub local-names : (many k : ℕ) (top next : Activation L) → StandsAt G plan path k top → StandsAt G plan path (k + many) next → AreLocal s path k (k + many)

@@ -25,12 +25,12 @@ use Rattle.queues.proofs.ActiveAfter.{one_changed}
 use Rattle.queues.proofs.NextDeeds.{none_after, none_then}
 use Rattle.queues.proofs.Rereading.{fit_of}
 use Rattle.task_frames.specs.Cores.{AreFrames, AreObjects, AreQueues, AwaitsNone}
-use Rattle.task_frames.specs.Records.{IsLiveChild, LiveFrame, LiveFrames, live_at}
+use Rattle.task_frames.specs.Records.{IsLiveChild, LiveFrame, NumberedFrames, live_at}
 use Rattle.task_frames.proofs.Queues.{next-does}
 use Rattle.task_frames.proofs.Waiting.{same-path}
 use Rattle.swan_model.proofs.Paths.{not_root}
 
-module _ {B L : Type 0} (G : Ghosts B L) (plan : Plan B L) (lawful : IsLawful (script G plan)) (r : Reading) (state : QueueState) (turns : Frames) (live : LiveFrames) (frames : ℕ)
+module _ {B L : Type 0} (G : Ghosts B L) (plan : Plan B L) (lawful : IsLawful (script G plan)) (r : Reading) (state : QueueState) (turns : Frames) (live : NumberedFrames) (frames : ℕ)
     (queues : AreQueues (script G plan) r state turns) (are : AreFrames G plan r state live frames) (n : ℕ) (f : LiveFrame) (there : live_at live n ≡ Some f)
     (alone : (m : ℕ) → ¬ IsLiveChild live n m) where
   abbrev s : Script

@@ -35,12 +35,6 @@ use Rattle.task_frames.proofs.Goings.{done-is, is-asking, known, lawful}
 use Rattle.task_frames.proofs.Rights as rights
 use Rattle.task_frames.proofs.Served.{some-and}
 
--- what a frame has at a place of an object that it may use so
-pub record IsObjectOf (versions : VersionState) (n place : ℕ) (mode : Mode) : Type 0 where
-  pub object : Placed
-  pub stands : placed_at versions n place ≡ Some object
-  pub may : allows object.mode mode ≡ true
-
 module _ {B L : Type 0} (G : Ghosts B L) (kept : KeptView) (mid : Mid B L) (asks : Ask L) (has : HasIt G kept (asking mid asks)) (place number : ℕ) (mode : Mode) (kind : is_queue_mode mode ≡ false)
     (at : number_at mid.task.holdings place mode ≡ Some number) where
   abbrev pub at-record : number_at has.of.frame.holdings place mode ≡ Some number

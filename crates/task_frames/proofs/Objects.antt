@@ -32,7 +32,7 @@ use Rattle.swan_model.specs.Readings.{gone_on_by}
 use Rattle.serial_elision.specs.Laws.{IsObjectOf}
 use Rattle.task_frames.specs.Cores.{AreObjects, AwaitsNone, HasObjects, IsPlacedSo, IsRootObject}
 use Rattle.task_frames.specs.Frames.{AreLocal}
-use Rattle.task_frames.specs.Records.{IsOnlyLive, LiveFrame, LiveFrames, live_at}
+use Rattle.task_frames.specs.Records.{IsOnlyLive, LiveFrame, NumberedFrames, live_at}
 use Rattle.task_frames.proofs.CatchUp.{caught-up}
 use Rattle.task_frames.proofs.Queues.{next-does}
 use Rattle.task_frames.proofs.GoneOn.{own-gone}
@@ -93,9 +93,9 @@ written-keep before n place value object stands = record { on = on; back = back 
     ]
   ]
 
-module _ (s : Script) (lawful : IsLawful s) (r : Reading) (versions : VersionState) (live : LiveFrames) (objects : ℕ) (are : AreObjects s r versions live objects)
+module _ (s : Script) (lawful : IsLawful s) (r : Reading) (versions : VersionState) (live : NumberedFrames) (objects : ℕ) (are : AreObjects s r versions live objects)
     (n : ℕ) (path : List ℕ) (k : ℕ) (known : frame_of r n ≡ Some (record { number = n; path = path; done = k }))
-    (f : LiveFrame) (there : live_at live n ≡ Some f) (then_live : LiveFrames) where
+    (f : LiveFrame) (there : live_at live n ≡ Some f) (then_live : NumberedFrames) where
   -- who is not in the record then was not there before
   gone-before : (g : LiveFrame) → IsOnlyLive live then_live n (Some g) → (m : ℕ) → live_at then_live m ≡ None → live_at live m ≡ None
   gone-before g only m none = elim (cases_eq m n) [

@@ -49,7 +49,7 @@ use Rattle.serial_elision.proofs.TaskSteps.{root_stands}
 use Rattle.task_frames.specs.Cores.{HasQueuesOnce, AreBooked, AreFrames, AreObjects, AreQueues, HasEnded, HasObjects, IsPlacedSo, IsAsRead}
 use Rattle.task_frames.specs.Frames.{IsPlan}
 use Rattle.task_frames.specs.Opened.{AreFirstObjects, AreFirstQueues, roots_to}
-use Rattle.task_frames.specs.Records.{LiveFrame, LiveFrames, live_at}
+use Rattle.task_frames.specs.Records.{LiveFrame, NumberedFrames, live_at}
 use Rattle.task_frames.proofs.LeftOver.{lists-same}
 
 -- ---- the first origins
@@ -243,7 +243,7 @@ root-holding queues objects place h at = elim (append-cases (queue_holdings 0 qu
 
 -- ---- the core as it opens
 
-module _ {B L : Type 0} (G : Ghosts B L) (plan : Plan B L) (sound : IsPlan plan) (lawful : IsLawful (script G plan)) (state : QueueState) (versions : VersionState) (live : LiveFrames)
+module _ {B L : Type 0} (G : Ghosts B L) (plan : Plan B L) (sound : IsPlan plan) (lawful : IsLawful (script G plan)) (state : QueueState) (versions : VersionState) (live : NumberedFrames)
     (queues : AreFirstQueues (script G plan) state (length (script G plan).queues)) (objects : AreFirstObjects (script G plan) versions (length (script G plan).queues) (length (script G plan).objects))
     (own : live_at live 0 ≡ Some (record { parent = None; path = []; done = 0; holdings = root_holdings plan.roots })) (others : (n : ℕ) → n ≢ 0 → live_at live n ≡ None) where
   abbrev s : Script

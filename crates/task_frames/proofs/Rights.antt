@@ -41,7 +41,7 @@ use Rattle.serial_elision.proofs.Room.{room-deeds, room-queues}
 use Rattle.serial_elision.proofs.TaskSteps.{stands-one}
 use Rattle.task_frames.specs.Cores.{AreObjects, AreQueues, HasObjects, IsAsRead}
 use Rattle.task_frames.specs.Frames.{IsPlan}
-use Rattle.task_frames.specs.Records.{LiveFrame, LiveFrames}
+use Rattle.task_frames.specs.Records.{LiveFrame, NumberedFrames}
 use Rattle.task_frames.proofs.Names.{held-number, held-origin, origin_in, use-held}
 use Rattle.task_frames.proofs.Queues.{next-does}
 use Rattle.task_frames.proofs.QueueUse.{may-use}
@@ -181,7 +181,7 @@ module _ {B L : Type 0} (G : Ghosts B L) (plan : Plan B L) (sound : IsPlan plan)
         ap (cell s origin) (sym (point_is s p at.left)) ∙ sym (ap (option_and_then (λ o. cell s o (point s p))) named) ∙ is
 
   -- one more object may be made
-  pub room-for-object : (versions : VersionState) (live : LiveFrames) (objects : ℕ) → AreObjects s r versions live objects → objects < OBJECTS_MOST
+  pub room-for-object : (versions : VersionState) (live : NumberedFrames) (objects : ℕ) → AreObjects s r versions live objects → objects < OBJECTS_MOST
   room-for-object versions live objects have =
       omega (arith, few-objects G plan r.objects once, sound.lists.roots, sound.fuel, have.count, have.follow.objects)
     where

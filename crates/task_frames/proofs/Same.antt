@@ -1,5 +1,6 @@
 -- A frame before and after several of its steps.
-use Rattle.std.proofs.Common.{◌≡◌, inl, inr, ◌⊎◌, ℕ, Bool, true, false, List, Option, Some, refl, sym, ap, subst, ◌∙◌, arith}
+use Rattle.std.proofs.Common.{◌≡◌, inl, inr, ℕ, Bool, true, false, List, Option, Some, refl, sym, ap, subst, ◌∙◌, arith}
+use Rattle.std.proofs.lemmas.Bool.{cases_Bool}
 use Rattle.std.proofs.lemmas.Option.{same_Some}
 use Rattle.swan_model.specs.declared.body.Ask.{Ask}
 use Rattle.swan_model.specs.declared.body.Ask.TheVariants as ask
@@ -20,10 +21,6 @@ full-earlier before between after later (counted is) = counted is
 empty-earlier : (before between after : EndCounts) → IsLater before between → WasEmptySince between after → WasEmptySince before after
 empty-earlier before between after later was = record { looked = let l = was.looked in let m = later.looks in omega (arith, l, m); empty = was.empty }
 
-either : (b : Bool) → (b ≡ false) ⊎ (b ≡ true)
-either true = inr refl
-either false = inl refl
-
 pub not-served-so : {L : Type 0} (holdings hs : List Holding) (ends es : LentEnds) (before after : Counts) (asks again : Ask L) → holdings ≡ hs → es ≡ ends → again ≡ asks
     → IsNotServed holdings ends before after asks → IsNotServed hs es before after again
 not-served-so holdings hs ends es before after asks again holds same asked not =
@@ -36,19 +33,19 @@ not-served-earlier : {L : Type 0} (holdings : List Holding) (ends : LentEnds) (b
 not-served-earlier holdings ends before between after ask.Work later not = not
 not-served-earlier holdings ends before between after (ask.Read place) later not = not
 not-served-earlier holdings ends before between after (ask.Write place value) later not = not
-not-served-earlier holdings ends before between after (ask.Push place value) later not = λ queue at. elim (either (has_end ends queue true)) [
-  | inl none ↦ inl none
-  | inr has ↦ elim (not queue at) [
+not-served-earlier holdings ends before between after (ask.Push place value) later not = λ queue at. elim (cases_Bool (has_end ends queue true)) [
+  | inl has ↦ elim (not queue at) [
     | inl none ↦ inl none
     | inr was ↦ inr (full-earlier (before queue true) (between queue true) (after queue true) (later queue true has) was)
   ]
+  | inr none ↦ inl none
 ]
-not-served-earlier holdings ends before between after (ask.Pop place) later not = λ queue at. elim (either (has_end ends queue false)) [
-  | inl none ↦ inl none
-  | inr has ↦ elim (not queue at) [
+not-served-earlier holdings ends before between after (ask.Pop place) later not = λ queue at. elim (cases_Bool (has_end ends queue false)) [
+  | inl has ↦ elim (not queue at) [
     | inl none ↦ inl none
     | inr was ↦ inr (empty-earlier (before queue false) (between queue false) (after queue false) (later queue false has) was)
   ]
+  | inr none ↦ inl none
 ]
 not-served-earlier holdings ends before between after (ask.Empty place) later not = not
 not-served-earlier holdings ends before between after ask.NewQueue later not = not

@@ -19,11 +19,11 @@ use Rattle.swan_model.specs.declared.script.Script.{Script}
 use Rattle.swan_model.specs.Granted.{is_spawn}
 use Rattle.swan_model.specs.Lawful.{IsLawful}
 use Rattle.swan_model.specs.QueueFollows.{NextSpawnGivesQueues}
-use Rattle.swan_model.specs.QueueState.{ActiveFrame, MayGive, QueueRight, QueueState, active, after_spawn, child_of, with_deed, COUNT_MOST}
+use Rattle.swan_model.specs.QueueState.{ActiveFrame, QueueState, active, after_spawn, child_of, with_deed, COUNT_MOST}
 use Rattle.swan_model.specs.Rights.{allows, is_aliased}
 use Rattle.swan_model.specs.Script.{script}
 use Rattle.swan_model.specs.SerialState.{Activation, Holding}
-use Rattle.swan_model.specs.SerialStep.{given, given_also, moved, number_at, used_by}
+use Rattle.swan_model.specs.SerialStep.{given, given_also, after_next, number_at, used_by}
 use Rattle.swan_model.specs.SerialTime.{Progress}
 use Rattle.swan_model.specs.TrueFrames.{StandsAt}
 use Rattle.queues.specs.Asks.{IsOnTurn, MaySpawn, OnNext}
@@ -42,7 +42,7 @@ use Rattle.task_frames.specs.declared.step.Step.{Step}
 use Rattle.task_frames.specs.declared.step.Step.TheVariants as step
 use Rattle.task_frames.specs.Cores.{AreBooked, AreFrames, AreObjects, AreQueues, AtCore, HasIt, IsAtCore, IsCore, KeptView, MayBegin, Mid, asking}
 use Rattle.task_frames.specs.Frames.{Task}
-use Rattle.task_frames.specs.Giving.{AreGivesOfQueues, AreMade, GivesObjects, queue_rights}
+use Rattle.task_frames.specs.Giving.{AreMade, GivesObjects, queue_rights}
 use Rattle.task_frames.specs.Records.{LiveFrame, come_to, live_at}
 use Rattle.task_frames.specs.Resumes.{EndsTaskByFault, IsStep}
 use Rattle.task_frames.proofs.Asked.{ends-by}
@@ -82,11 +82,6 @@ given-modes xs (give ∷ gives) hs is =
 
 pub given-some : {X : Type 0} (items : X → List Holding) (found : Option X) (held : X) (all : Option (List Holding)) → option_map items found ≡ all → found ≡ Some held → all ≡ Some (items held)
 given-some items found held all is some = sym is ∙ ap (option_map items) some
-
--- queues that may be given are queues, and none stands twice
-gives-of : (frame : ActiveFrame) (rights : List QueueRight) → MayGive frame rights → AreGivesOfQueues rights
-gives-of frame [] may = tt
-gives-of frame (right ∷ rights) may = (may.1, may.2, gives-of frame rights may.3)
 
 module _ {B L : Type 0} (G : Ghosts B L) (kept : KeptView) (mid : Mid B L) (child : Child L) (has : HasIt G kept (asking mid (ask.Spawn child))) (hs : List Holding)
     (given_is : given mid.task.holdings child.gives ≡ Some hs) where
@@ -188,9 +183,6 @@ module _ {B L : Type 0} (G : Ghosts B L) (kept : KeptView) (mid : Mid B L) (chil
             subst (λ y. NextSpawnGivesQueues z kept.state y (queue_rights hs)) (same_Some a x (sym own-live ∙ live))
             (subst (λ y. NextSpawnGivesQueues y kept.state a (queue_rights hs)) (same_Some s z (sym has.core.name ∙ is)) next-gives)
 
-        pub gives-so : AreGivesOfQueues (queue_rights hs)
-        gives-so = gives-of may-spawn.act.frame (queue_rights hs) may-spawn.lawful
-
         -- what the objects are asked
         abbrev gives-objects : GivesObjects kept.versions n kept.frames child.gives
         gives-objects = record {
@@ -263,7 +255,7 @@ module _ {B L : Type 0} (G : Ghosts B L) (kept : KeptView) (mid : Mid B L) (chil
           abbrev then-state : QueueState
           then-state = after_spawn kept.state a kept.frames (queue_rights hs)
 
-          is-spawned : spawning.IsSpawned G plan has.core.sound law kept.reading kept.state kept.turns kept.live kept.frames has.core.queues has.core.frames n f has.of.live a own-live task.path task.done top has.of.path done-so
+          is-spawned : spawning.IsAfterSpawn G plan has.core.sound law kept.reading kept.state kept.turns kept.live kept.frames has.core.queues has.core.frames n f has.of.live a own-live task.path task.done top has.of.path done-so
               has.is.alone.stands mid.local child spawn hs record-given alone kept.versions after.versions then-state after.turns after.live
           is-spawned = record {
             state_is = refl;
@@ -318,8 +310,8 @@ module _ {B L : Type 0} (G : Ghosts B L) (kept : KeptView) (mid : Mid B L) (chil
           parent-at = record {
             plan = has.is.plan;
             alone = record {
-              top = parent_activation (moved top mid.local) child;
-              stands = spawns_next G plan task.path task.done top has.is.alone.stands (parent_activation (moved top mid.local) child) (child_activation top child spawn.holdings) spawn.store spawn.effect;
+              top = parent_activation (after_next top mid.local) child;
+              stands = spawns_next G plan task.path task.done top has.is.alone.stands (parent_activation (after_next top mid.local) child) (child_activation top child spawn.holdings) spawn.store spawn.effect;
               stage = (refl, ap (λ k. k - child.fuel) has.is.alone.stage.1, refl);
               modes = has.is.alone.modes;
               children = ap (λ k. k + 1) has.is.alone.children;
@@ -335,7 +327,7 @@ module _ {B L : Type 0} (G : Ghosts B L) (kept : KeptView) (mid : Mid B L) (chil
           child-stands =
               subst (λ i. StandsAt G plan (task.path ++ i ∷ []) 0 (child_activation top child spawn.holdings)) (sym children-so)
               (subst (λ q. StandsAt G plan (q ++ top.children ∷ []) 0 (child_activation top child spawn.holdings)) path-so
-              (spawns_child G plan task.path task.done top has.is.alone.stands (parent_activation (moved top mid.local) child) (child_activation top child spawn.holdings) spawn.store spawn.effect))
+              (spawns_child G plan task.path task.done top has.is.alone.stands (parent_activation (after_next top mid.local) child) (child_activation top child spawn.holdings) spawn.store spawn.effect))
 
           child-at : IsAtCore G (record { task = child-task; stage = Ready child.local answer.Start })
           child-at = record {
@@ -408,9 +400,6 @@ module _ {B L : Type 0} (G : Ghosts B L) (kept : KeptView) (mid : Mid B L) (chil
 
           pub older-asked : AreOlder kept.turns number
           older-asked = subst (AreOlder kept.turns) (sym number_is) older-turns
-
-          pub gives-asked : AreGivesOfQueues (queue_rights held)
-          gives-asked = subst (λ x. AreGivesOfQueues (queue_rights x)) (sym held_is) gives-so
 
         -- what is kept once the child has what it is given
         module _ (handed : KeptView) (same : handed ≡ record kept { name = handed.name; run = handed.run; state = handed.state; versions = handed.versions; turns = handed.turns }) where

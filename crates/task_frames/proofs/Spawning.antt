@@ -16,7 +16,7 @@ use Rattle.swan_model.specs.Readings.{reading_after_spawn}
 use Rattle.swan_model.specs.Rights.{is_aliased}
 use Rattle.swan_model.specs.Script.{script}
 use Rattle.swan_model.specs.SerialState.{Activation, Holding}
-use Rattle.swan_model.specs.SerialStep.{given, moved}
+use Rattle.swan_model.specs.SerialStep.{given, after_next}
 use Rattle.swan_model.specs.SerialTime.{Progress, Reading, frame_of, point}
 use Rattle.swan_model.specs.TrueFrames.{StandsAt, give_in, gives_at}
 use Rattle.swan_model.specs.Versions.{VersionState, placed_at}
@@ -34,7 +34,7 @@ use Rattle.serial_elision.proofs.TaskSteps.{spawns_child, spawns_next, top_path}
 use Rattle.task_frames.specs.Cores.{HasQueuesOnce, AreBooked, AreFrames, AreObjects, AreQueues, AwaitsNone}
 use Rattle.task_frames.specs.Frames.{IsPlan}
 use Rattle.task_frames.specs.Giving.{AreMade, accesses_from, queue_rights}
-use Rattle.task_frames.specs.Records.{LiveFrame, LiveFrames, live_at}
+use Rattle.task_frames.specs.Records.{LiveFrame, NumberedFrames, live_at}
 use Rattle.task_frames.proofs.Booked as booked
 use Rattle.task_frames.proofs.Giving.{next-gives_objects, spawned-objects}
 use Rattle.task_frames.proofs.GoneOn.{with-child}
@@ -46,7 +46,7 @@ use Rattle.task_frames.proofs.Rights.{known-so, may-do, names-so, next-so}
 
 -- ---- the next frame's number
 
-module _ {B L : Type 0} (G : Ghosts B L) (plan : Plan B L) (r : Reading) (state : QueueState) (live : LiveFrames) (frames : ℕ) (are : AreFrames G plan r state live frames) where
+module _ {B L : Type 0} (G : Ghosts B L) (plan : Plan B L) (r : Reading) (state : QueueState) (live : NumberedFrames) (frames : ℕ) (are : AreFrames G plan r state live frames) where
   -- each frame has a lesser one
   pub lesser-number : (n : ℕ) (p : Progress) → frame_of r n ≡ Some p → n < frames
   lesser-number n p known =
@@ -76,7 +76,7 @@ module _ {B L : Type 0} (G : Ghosts B L) (plan : Plan B L) (r : Reading) (state 
 
 -- ---- a spawn
 
-module _ {B L : Type 0} (G : Ghosts B L) (plan : Plan B L) (sound : IsPlan plan) (lawful : IsLawful (script G plan)) (r : Reading) (state : QueueState) (turns : Frames) (live : LiveFrames) (frames : ℕ)
+module _ {B L : Type 0} (G : Ghosts B L) (plan : Plan B L) (sound : IsPlan plan) (lawful : IsLawful (script G plan)) (r : Reading) (state : QueueState) (turns : Frames) (live : NumberedFrames) (frames : ℕ)
     (queues : AreQueues (script G plan) r state turns) (are : AreFrames G plan r state live frames)
     (n : ℕ) (f : LiveFrame) (there : live_at live n ≡ Some f) (a : ActiveFrame) (own : active state n ≡ Some a)
     (path : List ℕ) (k : ℕ) (top : Activation L) (path_is : f.path ≡ path) (done_is : f.done ≡ k) (at : StandsAt G plan path k top)
@@ -143,8 +143,8 @@ module _ {B L : Type 0} (G : Ghosts B L) (plan : Plan B L) (sound : IsPlan plan)
   abbrev pub new-frame : Progress
   new-frame = record { number = frames; path = path ++ top.children ∷ []; done = 0 }
 
-  parent-stands : StandsAt G plan path (k + 1) (parent_activation (moved top local) child)
-  parent-stands = spawns_next G plan path k top at (parent_activation (moved top local) child) (child_activation top child spawn.holdings) spawn.store spawn.effect
+  parent-stands : StandsAt G plan path (k + 1) (parent_activation (after_next top local) child)
+  parent-stands = spawns_next G plan path k top at (parent_activation (after_next top local) child) (child_activation top child spawn.holdings) spawn.store spawn.effect
 
   own-path : top.path ≡ path
   own-path = (top_path G plan path k top at).1
@@ -152,7 +152,7 @@ module _ {B L : Type 0} (G : Ghosts B L) (plan : Plan B L) (sound : IsPlan plan)
   child-stands : StandsAt G plan (path ++ top.children ∷ []) 0 (child_activation top child spawn.holdings)
   child-stands =
       subst (λ q. StandsAt G plan (q ++ top.children ∷ []) 0 (child_activation top child spawn.holdings)) own-path
-      (spawns_child G plan path k top at (parent_activation (moved top local) child) (child_activation top child spawn.holdings) spawn.store spawn.effect)
+      (spawns_child G plan path k top at (parent_activation (after_next top local) child) (child_activation top child spawn.holdings) spawn.store spawn.effect)
 
   differ : n ≢ frames
   differ same = let less = lesser-number G plan r state live frames are n p known in absurd (omega (arith, less, same))
@@ -161,7 +161,7 @@ module _ {B L : Type 0} (G : Ghosts B L) (plan : Plan B L) (sound : IsPlan plan)
   reads = spawned-is s lawful r state turns queues n path k known a frames own at.left ∙ ap (λ i. with-child r n (record { number = frames; path = path ++ i ∷ []; done = 0 })) same-children
 
   -- The core's part of queues, of objects, of frames and of faults, once the calls are made and the record has both frames.
-  pub record IsSpawned (versions then_versions : VersionState) (then_state : QueueState) (then_turns : Frames) (then_live : LiveFrames) : Type 0 where
+  pub record IsAfterSpawn (versions then_versions : VersionState) (then_state : QueueState) (then_turns : Frames) (then_live : NumberedFrames) : Type 0 where
     pub state_is : then_state ≡ after_spawn state a frames (queue_rights hs)
     pub turns_are : AreGivenTurns turns then_turns n frames (queue_rights hs)
     pub made : AreMade s r versions then_versions (record { number = n; path = path; done = k }) frames child.gives (length child.gives)
@@ -169,8 +169,8 @@ module _ {B L : Type 0} (G : Ghosts B L) (plan : Plan B L) (sound : IsPlan plan)
     pub new : live_at then_live frames ≡ Some (record { parent = Some n; path = path ++ top.children ∷ []; done = 0; holdings = hs })
     pub others : (m : ℕ) → m ≢ n → m ≢ frames → live_at then_live m ≡ live_at live m
 
-  module _ (back : a.lent ≡ None) (deep : length path < PATH_MOST) (versions then_versions : VersionState) (then_state : QueueState) (then_turns : Frames) (then_live : LiveFrames)
-      (is : IsSpawned versions then_versions then_state then_turns then_live) where
+  module _ (back : a.lent ≡ None) (deep : length path < PATH_MOST) (versions then_versions : VersionState) (then_state : QueueState) (then_turns : Frames) (then_live : NumberedFrames)
+      (is : IsAfterSpawn versions then_versions then_state then_turns then_live) where
     pub queues-then : AreQueues s (with-child r n new-frame) then_state then_turns
     queues-then =
         subst (λ i. AreQueues s (with-child r n (record { number = frames; path = path ++ i ∷ []; done = 0 })) then_state then_turns) same-children
@@ -184,7 +184,7 @@ module _ {B L : Type 0} (G : Ghosts B L) (plan : Plan B L) (sound : IsPlan plan)
 
     pub frames-then : HasTurn state a → AreFrames G plan (with-child r n new-frame) then_state then_live (frames + 1)
     frames-then turn =
-        live_frames.spawns G plan r state live frames are n f there a own then_live sound.lists queues.tree path k top (parent_activation (moved top local) child) (child_activation top child spawn.holdings) top.children hs
+        live_frames.spawns G plan r state live frames are n f there a own then_live sound.lists queues.tree path k top (parent_activation (after_next top local) child) (child_activation top child spawn.holdings) top.children hs
         (queue_rights hs) (may-spawn back deep) then_state path_is done_is at parent-stands spawn.names child-stands
         (child-named ∙ sym (sym (ap (λ q. gives_at G plan (q ++ top.children ∷ []) 0 (child_activation top child spawn.holdings)) own-path) ∙ spawn.begins)) child-once turn is.state_is is.parent is.new is.others
 

@@ -22,7 +22,7 @@ use Rattle.serial_elision.proofs.Lawful as elision
 use Rattle.task_frames.specs.declared.stage.Stage.{Stage}
 use Rattle.task_frames.specs.Cores.{AtCore, HasIt, IsCore, IsGiven, IsOf, KeptView, after_coming_in}
 use Rattle.task_frames.specs.Frames.{AreEndsOf, AreLocal, FrameView, IsFrame, Task}
-use Rattle.task_frames.specs.Records.{IsOnlyLive, LiveFrame, LiveFrames, come_at, come_to, live_at}
+use Rattle.task_frames.specs.Records.{IsOnlyLive, LiveFrame, NumberedFrames, come_at, come_to, live_at}
 use Rattle.task_frames.specs.Resumes.{EndsOf, HasLent, IsGivenAs, OthersStay}
 use Rattle.task_frames.proofs.Booked as booked
 use Rattle.task_frames.proofs.EndsLent.{ends-are}
@@ -235,7 +235,7 @@ module _ {B L : Type 0} (G : Ghosts B L) (kept : KeptView) (at : AtCore B L) (ha
 -- ---- a frame that comes back, as its call has it
 
 module _ {B L : Type 0} (G : Ghosts B L) (kept : KeptView) (task : Task B L) (core : IsCore G task.plan kept) (of : IsOf kept task) (stage : Stage L) (name : Option Script) (ends : LentEnds)
-    (is : IsFrame G task name ends stage) (then_name : Option Script) (then_run : List ℕ) (then_state : QueueState) (then_reading : Reading) (then_live : LiveFrames) (done many : ℕ)
+    (is : IsFrame G task name ends stage) (then_name : Option Script) (then_run : List ℕ) (then_state : QueueState) (then_reading : Reading) (then_live : NumberedFrames) (done many : ℕ)
     (same_name : then_name ≡ kept.name) (same_run : then_run ≡ kept.run) (state_is : then_state ≡ after_back kept.state task.number ends.deeds)
     (reading_is : then_reading ≡ gone_on_by kept.reading task.number many) (many_is : many ≡ task.done - task.since) (done_is : done ≡ task.done)
     (only : IsOnlyLive kept.live then_live task.number (option_map (come_to done) (live_at kept.live task.number)))
@@ -273,7 +273,7 @@ pub stay-from : (before same after : KeptView) (number : ℕ) → before ≡ sam
 stay-from before same after number are stays = subst (λ k. OthersStay k after (λ other. other ≢ number)) are stays
 
 -- what is kept once a frame has come in, as its call has it
-pub come-so : {B L : Type 0} (kept now : KeptView) (task : Task B L) (ends : LentEnds) (number done since : ℕ) (name : Option Script) (run : List ℕ) (state : QueueState) (reading : Reading) (live : LiveFrames)
+pub come-so : {B L : Type 0} (kept now : KeptView) (task : Task B L) (ends : LentEnds) (number done since : ℕ) (name : Option Script) (run : List ℕ) (state : QueueState) (reading : Reading) (live : NumberedFrames)
     → kept ≡ now → number ≡ task.number → done ≡ task.done → since ≡ task.since → name ≡ kept.name → run ≡ kept.run → state ≡ after_back kept.state task.number ends.deeds
     → reading ≡ gone_on_by kept.reading number (done - since) → live ≡ come_at kept.live number done (live_at kept.live number)
     → ◌≡◌ {A = KeptView} (record kept { name = name; run = run; state = state; reading = reading; live = live }) (after_coming_in now task ends)

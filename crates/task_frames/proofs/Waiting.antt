@@ -1,32 +1,27 @@
 -- Whom a frame waits for: a live frame, which comes before it in serial order.
-use Rattle.std.proofs.Common.{◌≡◌, ◌⊎◌, inl, inr, ℕ, true, nat_eq, List, [], ◌∷◌, ◌++◌, Some, sym, ap, ◌∙◌}
+use Rattle.std.proofs.Common.{◌≡◌, ◌⊎◌, inl, inr, ℕ, true, List, [], ◌∷◌, ◌++◌, Some, sym, ap, ◌∙◌}
 use Rattle.std.proofs.lemmas.Option.{same_Some}
 use Rattle.swan_model.specs.declared.body.Body.{Ghosts}
 use Rattle.swan_model.specs.declared.plan.Plan.{Plan}
 use Rattle.swan_model.specs.declared.script.Script.{Script}
 use Rattle.swan_model.specs.Lawful.{IsLawful}
-use Rattle.swan_model.specs.Nested.{IsLeft}
 use Rattle.swan_model.specs.PathOrder.{comes_before}
 use Rattle.swan_model.specs.QueueState.{ActiveFrame, IsEarlierPusher, IsPoppingChild, QueueState, active}
 use Rattle.swan_model.specs.Script.{script}
-use Rattle.swan_model.specs.SerialTime.{Progress, Reading, is_earlier}
+use Rattle.swan_model.specs.SerialTime.{Progress, Reading}
 use Rattle.swan_model.specs.Versions.{Awaits, Placed, VersionState, owed, placed_at}
-use Rattle.swan_model.proofs.Elements.{found_is, option_cases}
+use Rattle.swan_model.proofs.Elements.{option_cases}
 use Rattle.swan_model.proofs.PathOrder.{before-parent}
-use Rattle.swan_model.proofs.Points.{before_earlier}
 use Rattle.object_versions.proofs.OwnersEarlier.{owner_earlier, owner_other}
 use Rattle.pop_order.specs.Frames.{Frames}
 use Rattle.pop_order.specs.Turns.{Blocks}
 use Rattle.queues.proofs.Rereading.{fit_of}
 use Rattle.queues.proofs.TurnsTold.{blocker_before}
 use Rattle.task_frames.specs.Cores.{AreFrames, AreObjects, AreQueues}
-use Rattle.task_frames.specs.Records.{IsLiveChild, IsOldestChild, LiveFrame, LiveFrames, live_at}
+use Rattle.task_frames.specs.Records.{IsLiveChild, IsOldestChild, LiveFrame, NumberedFrames, live_at}
+use Rattle.task_frames.specs.Resumes.{IsLiveBefore}
 
--- a live frame comes before the task with this path
-abbrev pub IsLiveBefore : LiveFrames → (number : ℕ) → List ℕ → Type 0
-IsLiveBefore live number path = (frame : LiveFrame) × (live_at live number ≡ Some frame) × (comes_before frame.path path ≡ true)
-
-module _ {B L : Type 0} (G : Ghosts B L) (plan : Plan B L) (lawful : IsLawful (script G plan)) (r : Reading) (state : QueueState) (turns : Frames) (live : LiveFrames) (frames : ℕ)
+module _ {B L : Type 0} (G : Ghosts B L) (plan : Plan B L) (lawful : IsLawful (script G plan)) (r : Reading) (state : QueueState) (turns : Frames) (live : NumberedFrames) (frames : ℕ)
     (queues : AreQueues (script G plan) r state turns) (are : AreFrames G plan r state live frames) where
   abbrev s : Script
   s = script G plan
@@ -38,48 +33,48 @@ module _ {B L : Type 0} (G : Ghosts B L) (plan : Plan B L) (lawful : IsLawful (s
       (fit_of s lawful state r queues.fit m (record { number = m; path = frame.path; done = frame.done }) told.progress own now).path
 
   -- an active frame that comes before this one is a live one
-  active-before : (m : ℕ) (other : ActiveFrame) (path : List ℕ) → active state m ≡ Some other → comes_before other.path path ≡ true → IsLiveBefore live m path
+  active-before : (m : ℕ) (other : ActiveFrame) (path : List ℕ) → active state m ≡ Some other → comes_before other.path path ≡ true → IsLiveBefore live path m
   active-before m other path now before =
       let found = are.live_is m other now in
-      (found.0, found.1, ap (λ q. comes_before q path) (same-path m found.0 other found.1 now) ∙ before)
+      record { frame = found.0; live = found.1; earlier = ap (λ q. comes_before q path) (same-path m found.0 other found.1 now) ∙ before }
 
   module _ (n : ℕ) (f : LiveFrame) (there : live_at live n ≡ Some f) where
     own : (a : ActiveFrame) × (active state n ≡ Some a) × (f.path ≡ a.path)
     own = let it = are.active_is n f there in (it.0, it.1, same-path n f it.0 there it.1)
 
     -- an active child
-    child-before : (m : ℕ) (other : ActiveFrame) → active state m ≡ Some other → other.parent ≡ Some n → IsLiveBefore live m f.path
+    child-before : (m : ℕ) (other : ActiveFrame) → active state m ≡ Some other → other.parent ≡ Some n → IsLiveBefore live f.path m
     child-before m other now of =
         let it = queues.follow.children m n other now of in
         let above : it.above ≡ own.0 = same_Some it.above own.0 (sym it.live ∙ own.1) in
         let path : other.path ≡ f.path ++ it.index ∷ [] = it.path ∙ ap (λ (x : ActiveFrame). x.path ++ it.index ∷ []) above ∙ ap (λ q. q ++ it.index ∷ []) (sym own.2) in
         active-before m other f.path now (ap (λ q. comes_before q f.path) path ∙ before-parent f.path it.index)
 
-    pub child-live : (m : ℕ) → IsLiveChild live n m → IsLiveBefore live m f.path
+    pub child-live : (m : ℕ) → IsLiveChild live n m → IsLiveBefore live f.path m
     child-live m child =
         let it = are.active_is m child.frame child.live in
         child-before m it.0 it.1 (it.2 ∙ child.of)
 
-    pub oldest-live : (m : ℕ) → IsOldestChild live n m → IsLiveBefore live m f.path
+    pub oldest-live : (m : ℕ) → IsOldestChild live n m → IsLiveBefore live f.path m
     oldest-live m oldest = child-live m oldest.child
 
-    pub popping-live : (queue m : ℕ) → IsPoppingChild state n queue m → IsLiveBefore live m f.path
+    pub popping-live : (queue m : ℕ) → IsPoppingChild state n queue m → IsLiveBefore live f.path m
     popping-live queue m child = child-before m child.frame child.live child.of
 
     -- an earlier frame that may push
-    pub pusher-live : (a : ActiveFrame) → active state n ≡ Some a → (queue m : ℕ) → IsEarlierPusher state a queue m → IsLiveBefore live m f.path
+    pub pusher-live : (a : ActiveFrame) → active state n ≡ Some a → (queue m : ℕ) → IsEarlierPusher state a queue m → IsLiveBefore live f.path m
     pusher-live a now queue m pusher =
         active-before m pusher.other f.path pusher.live (ap (comes_before pusher.other.path) (same-path n f a there now) ∙ pusher.earlier)
 
     -- an older sibling that keeps it from starting
-    pub blocker-live : (m : ℕ) → Blocks turns n m → IsLiveBefore live m f.path
+    pub blocker-live : (m : ℕ) → Blocks turns n m → IsLiveBefore live f.path m
     blocker-live m blocks =
         let it = blocker_before state queues.tree turns queues.turns_are n m own.0 own.1 blocks in
         active-before m it.0 f.path it.1 (ap (comes_before it.0.path) own.2 ∙ it.2)
 
     -- who owes a version
     module _ (versions : VersionState) (objects : ℕ) (have : AreObjects s r versions live objects) where
-      pub owner-live : (m place : ℕ) (object : Placed) → placed_at versions n place ≡ Some object → (object.present ≡ owed m) ⊎ (object.given ≡ Some m) → IsLiveBefore live m f.path
+      pub owner-live : (m place : ℕ) (object : Placed) → placed_at versions n place ≡ Some object → (object.present ≡ owed m) ⊎ (object.given ≡ Some m) → IsLiveBefore live f.path m
       owner-live m place object stands owes =
           let told = are.told n f there in
           let p : Progress = record { number = n; path = f.path; done = f.done } in
@@ -91,22 +86,8 @@ module _ {B L : Type 0} (G : Ghosts B L) (plan : Plan B L) (lawful : IsLawful (s
                 let owner = are.told m found.0 found.1 in
                 let q : Progress = record { number = m; path = found.0.path; done = found.0.done } in
                 let earlier = owner_earlier s lawful r versions have.follow n p told.progress told.stands.left m q owner.progress owner.stands.left (place, object, stands, owes) in
-                (found.0, found.1, earlier.1)
+                record { frame = found.0; live = found.1; earlier = earlier.1 }
           ]
 
-      pub awaited-live : (m place : ℕ) → Awaits versions n place m → IsLiveBefore live m f.path
+      pub awaited-live : (m place : ℕ) → Awaits versions n place m → IsLiveBefore live f.path m
       awaited-live m place waits = owner-live m place waits.object waits.stands (inr waits.owes)
-
-    -- and its point is earlier
-    pub earlier-live : (m : ℕ) (before : IsLiveBefore live m f.path)
-        → is_earlier s (record { number = m; path = before.0.path; done = before.0.done }) (record { number = n; path = f.path; done = f.done }) ≡ true
-    earlier-live m before =
-        let one = left m before.0 before.1 in
-        let two = left n f there in
-        before_earlier s r lawful.nested queues.fit.tasks one.0 two.0 _ _ one.1 two.1 before.2
-      where
-        left : (k : ℕ) (g : LiveFrame) → live_at live k ≡ Some g → (i : ℕ) × IsLeft s r i (record { number = k; path = g.path; done = g.done })
-        left k g at =
-            let told = are.told k g at in
-            let found = found_is (λ (q : Progress). nat_eq q.number k) r.frames _ told.progress in
-            (found.index, record { stands = found.stands; left = told.stands.left })

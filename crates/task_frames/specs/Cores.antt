@@ -28,7 +28,7 @@ use Rattle.serial_elision.specs.TaskSteps.{IsFaultOf}
 use Rattle.task_frames.specs.declared.stage.Stage.{Stage}
 use Rattle.task_frames.specs.declared.stage.Stage.TheVariants.{Asking}
 use Rattle.task_frames.specs.Frames.{IsPlan, Task, state_of}
-use Rattle.task_frames.specs.Records.{LiveFrame, LiveFrames, come_at, live_at}
+use Rattle.task_frames.specs.Records.{LiveFrame, NumberedFrames, come_at, live_at}
 
 -- what a core keeps until want of memory
 pub record KeptView : Type 0 where
@@ -39,7 +39,7 @@ pub record KeptView : Type 0 where
   pub versions : VersionState
   -- which task, queue and object of the script each number is, and how far each frame has come
   pub reading : Reading
-  pub live : LiveFrames
+  pub live : NumberedFrames
   pub turns : Frames
   -- how many frames, and how many objects, there were so far
   pub frames : ℕ
@@ -95,7 +95,7 @@ AwaitsNone versions number = (place owing : ℕ) → ¬ Awaits versions number p
 
 -- The objects follow the script and the reading. The live frames have theirs, and nobody else has any but the root, each
 -- of whose objects has its value in the end. Who has begun waits for nothing that it was given.
-pub record AreObjects (s : Script) (r : Reading) (versions : VersionState) (live : LiveFrames) (objects : ℕ) : Type 0 where
+pub record AreObjects (s : Script) (r : Reading) (versions : VersionState) (live : NumberedFrames) (objects : ℕ) : Type 0 where
   pub follow : ObjectsFollow s r versions
   pub known : (i : ℕ) (origin : Origin) → slice_get r.objects i ≡ Some origin → IsObjectOf s origin
   pub count : versions.made ≡ objects
@@ -125,7 +125,7 @@ module _ {B L : Type 0} (G : Ghosts B L) (plan : Plan B L) where
 
   -- The record has exactly the active frames, each as the reading tells; who has begun has its turn to pop. Frames have numbers
   -- in the order of their making.
-  pub record AreFrames (r : Reading) (state : QueueState) (live : LiveFrames) (frames : ℕ) : Type 0 where
+  pub record AreFrames (r : Reading) (state : QueueState) (live : NumberedFrames) (frames : ℕ) : Type 0 where
     pub told : (number : ℕ) (frame : LiveFrame) → live_at live number ≡ Some frame → IsAsRead r number frame
     pub active_is : (number : ℕ) (frame : LiveFrame) → live_at live number ≡ Some frame
         → (own : ActiveFrame) × (active state number ≡ Some own) × (own.parent ≡ frame.parent)

@@ -4,14 +4,14 @@ use Rattle.swan_model.specs.PathOrder.{comes_before}
 use Rattle.swan_model.specs.SerialTime.{Progress}
 use Rattle.task_frames.specs.declared.resumed.Resumed.{Resumed}
 use Rattle.task_frames.specs.declared.resumed.Resumed.TheVariants as resumed
-use Rattle.task_frames.specs.Records.{LiveFrame, LiveFrames, live_at}
+use Rattle.task_frames.specs.Records.{LiveFrame, NumberedFrames, live_at}
 
 -- how far a live frame has come, as the reading tells
 abbrev pub progress_of : ℕ → LiveFrame → Progress
 progress_of number frame = record { number = number; path = frame.path; done = frame.done }
 
 -- a live frame that comes before all others
-pub record IsEarliest (live : LiveFrames) (number : ℕ) : Type 0 where
+pub record IsEarliest (live : NumberedFrames) (number : ℕ) : Type 0 where
   pub frame : LiveFrame
   pub there : live_at live number ≡ Some frame
   pub first : (other : ℕ) (later : LiveFrame) → live_at live other ≡ Some later → other ≢ number → comes_before frame.path later.path ≡ true

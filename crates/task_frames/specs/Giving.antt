@@ -1,6 +1,5 @@
 -- What a child is given: the queues among what it will hold, and the accesses to its parent's objects, one after the other.
-use Rattle.std.specs.Prelude.{◌≡◌, ◌≢◌, ℕ, ◌+◌, ◌==◌, Bool, true, false, List, [], ◌∷◌, Some, drop, filter, if◌then◌else◌, map, take}
-use Rattle.std.specs.List.{list_any}
+use Rattle.std.specs.Prelude.{◌≡◌, ◌≢◌, ℕ, ◌+◌, Bool, false, List, [], ◌∷◌, Some, drop, filter, if◌then◌else◌, map, take}
 use Rattle.swan_model.specs.declared.rights.Give.{Give}
 use Rattle.swan_model.specs.declared.script.Script.{Script}
 use Rattle.swan_model.specs.Lawful.{IsLawful}
@@ -21,11 +20,6 @@ right_of h = record { queue = h.number; mode = h.mode }
 -- the queues among what is held
 abbrev pub queue_rights : List Holding → List QueueRight
 queue_rights hs = map right_of (filter (λ (h : Holding). is_queue_mode h.mode) hs)
-
--- each is by a mode of queues, and no queue stands twice
-abbrev pub AreGivesOfQueues : List QueueRight → Type 0
-AreGivesOfQueues [] = Unit {0}
-AreGivesOfQueues (give ∷ gives) = (is_queue_mode give.mode ≡ true) × (list_any (λ other. other.queue == give.queue) gives ≡ false) × AreGivesOfQueues gives
 
 -- ---- objects
 

@@ -13,7 +13,7 @@ use Rattle.swan_model.specs.VersionsFollow.{ObjectsFollow}
 use Rattle.queues.specs.Tree.{IsTree}
 use Rattle.queues.specs.Turned.{AreTurns}
 use Rattle.task_frames.specs.Cores.{KeptView}
-use Rattle.task_frames.specs.Records.{IsOnlyLive, LiveFrames}
+use Rattle.task_frames.specs.Records.{IsOnlyLive, NumberedFrames}
 
 -- so many queues, or objects, of the plan
 abbrev pub roots_to : ℕ → List Origin
@@ -41,11 +41,11 @@ pub record AreFirstObjects (s : Script) (versions : VersionState) (first i : ℕ
   pub all : (n place : ℕ) (object : Placed) → placed_at versions n place ≡ Some object → (n ≡ 0) × ((j : ℕ) × (j < i) × (place ≡ first + j))
 
 -- The record has the root alone, which holds this and has taken no step.
-abbrev pub IsRootAlone : LiveFrames → List Holding → Type 0
+abbrev pub IsRootAlone : NumberedFrames → List Holding → Type 0
 IsRootAlone live holdings = IsOnlyLive [] live 0 (Some (record { parent = None; path = []; done = 0; holdings = holdings }))
 
 -- What a core keeps at first, for a script: so many root queues and root objects, the root, which holds this, and nothing else.
-pub record IsFirstKept (s : Script) (queues objects : ℕ) (holdings : List Holding) (kept : KeptView) : Type 0 where
+pub record IsKeptAtFirst (s : Script) (queues objects : ℕ) (holdings : List Holding) (kept : KeptView) : Type 0 where
   pub name : kept.name ≡ Some s
   pub queues_are : AreFirstQueues s kept.state queues
   pub objects_are : AreFirstObjects s kept.versions queues objects

@@ -28,7 +28,7 @@ use Rattle.queues.specs.Asks.{LentEnds}
 use Rattle.queues.specs.Tells.{IsCause}
 use Rattle.queues.specs.declared.answers.WaitFor.{WaitFor}
 use Rattle.queues.specs.declared.answers.WaitFor.TheVariants as wait
-use Rattle.serial_elision.specs.TaskSteps.{Faults}
+use Rattle.serial_elision.specs.TaskSteps.{MeetsFault}
 use Rattle.task_frames.specs.declared.stage.Stage.TheVariants.{Asking, Ready}
 use Rattle.task_frames.specs.declared.resumed.Resumed.{Resumed}
 use Rattle.task_frames.specs.declared.resumed.Resumed.TheVariants as resumed
@@ -36,7 +36,7 @@ use Rattle.task_frames.specs.declared.step.Step.{Step}
 use Rattle.task_frames.specs.declared.step.Step.TheVariants as step
 use Rattle.task_frames.specs.Cores.{AwaitsNone, MayBegin, AtCore, CoreView, HasIt, IsCore, IsGiven, KeptView, after_coming_in}
 use Rattle.task_frames.specs.Frames.{FrameView, Task, is_whole, root_task}
-use Rattle.task_frames.specs.Records.{HasNoLiveChild, IsOldestChild, LiveFrame, live_at}
+use Rattle.task_frames.specs.Records.{HasNoLiveChild, IsOldestChild, LiveFrame, NumberedFrames, live_at}
 
 -- ---- waits
 
@@ -48,9 +48,9 @@ waited_for (wait.PopTurn n) = n
 waited_for (wait.Pusher n) = n
 
 -- it is live, and earlier in serial order than a task of this path
-pub record IsLiveBefore (kept : KeptView) (path : List ℕ) (number : ℕ) : Type 0 where
+pub record IsLiveBefore (frames : NumberedFrames) (path : List ℕ) (number : ℕ) : Type 0 where
   pub frame : LiveFrame
-  pub live : live_at kept.live number ≡ Some frame
+  pub live : live_at frames number ≡ Some frame
   pub earlier : comes_before frame.path path ≡ true
 
 -- a frame asks to pop from a queue that it may pop, or whether that is empty
@@ -82,7 +82,7 @@ module _ {B L : Type 0} (G : Ghosts B L) where
   abbrev pub EndsTaskByFault : Task B L → (place : ℕ) → FaultKind → Type 0
   EndsTaskByFault task place kind =
       (top : Activation L) → StandsAt G task.plan task.path task.done top
-      → Faults G task.plan task.path task.done top kind deed.Quiet × (place ≡ G.place_of task.plan.body top.local)
+      → MeetsFault G task.plan task.path task.done top kind deed.Quiet × (place ≡ G.place_of task.plan.body top.local)
 
   -- it is the task's last one
   abbrev pub IsLast : Task B L → Type 0
@@ -151,7 +151,7 @@ module _ {B L : Type 0} (G : Ghosts B L) (before after : KeptView) (task : Task 
       × MayBegin before task.number
   IsStep (step.Waits same wait_for) =
       HasIt G after same × (after ≡ before) × (same.task ≡ record task { fuel = same.task.fuel })
-      × IsShown G after same wait_for × IsLiveBefore after task.path (waited_for wait_for)
+      × IsShown G after same wait_for × IsLiveBefore after.live task.path (waited_for wait_for)
   IsStep step.Ended =
       IsCore G task.plan after × IsLast G task × (is_spawn (deed_now G task) ≡ false)
       × (live_at after.live task.number ≡ None) × OthersStay before after (λ other. other ≢ task.number)
@@ -232,7 +232,7 @@ pub record IsShownBy {B L E : Type 0} (G : Ghosts B L) (of : EndsOf E) (before a
   pub task : at.task ≡ same.task
   pub stage : same.stage ≡ Some at.stage
   pub shows : IsShown G (after_coming_in was frame.task (of.ends frame.ends)) at wait_for
-  pub earlier : IsLiveBefore (after_coming_in was frame.task (of.ends frame.ends)) same.task.path (waited_for wait_for)
+  pub earlier : IsLiveBefore (after_coming_in was frame.task (of.ends frame.ends)).live same.task.path (waited_for wait_for)
   pub kept : KeptView
   pub keeps : after.kept ≡ Some kept
   pub lent : HasLent (after_coming_in was frame.task (of.ends frame.ends)) kept same.task.number

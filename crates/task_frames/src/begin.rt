@@ -6,8 +6,8 @@ ghost use Rattle.swan_model.specs.Readings.{at_start};
 ghost use Rattle.swan_model.specs.Script.{script};
 ghost use Rattle.swan_model.specs.declared.plan.TheConstants.{ROOTS_MOST};
 ghost use Rattle.queues.specs.Asks.{IsSameRun};
-ghost use Rattle.task_frames.specs.Frames.{IsPlan};
-ghost use Rattle.task_frames.specs.Opened.{AreFirstObjects, AreFirstQueues, IsFirstKept, IsRootAlone, roots_to};
+ghost use Rattle.task_frames.specs.Frames.{IsPlan, root_task};
+ghost use Rattle.task_frames.specs.Opened.{AreFirstObjects, AreFirstQueues, IsKeptAtFirst, IsRootAlone, roots_to};
 ghost use Rattle.task_frames.specs.Resumes.{IsOpened, ends_of};
 
 use crate::{
@@ -181,24 +181,17 @@ fn root_alone(alloc: Global, holdings: &[Holding]) -> Result<LiveRecord, NoMemor
     Ok(live)
 }
 
-/// What a core keeps at first, and how many queues and objects the plan begins with.
-#[derive(Drop)]
-struct FirstKept<Q: Queues> {
-    kept: Kept<Q>,
-    queues: u32,
-    objects: u32,
-}
-
 /// Makes what a core keeps of a plan's run at first: its root queues, its root objects, and the root, which has taken no step. Err is
-/// want of memory. The plan itself is there for what contracts say alone.
-fn first_kept<B: Body, Q: Queues>(
+/// want of memory. `O(r log r)` for r queues and objects that the plan begins with. The plan itself is there for what contracts say
+/// alone.
+fn kept_at_first<B: Body, Q: Queues>(
     alloc: Global,
     plan: &Meaning<Plan<B>>,
-    queues: Q,
+    mut queues: Q,
     root_queues: RootQueues,
     root_objects: Values,
     holdings: &[Holding],
-) -> Result<FirstKept<Q>, NoMemory>
+) -> Result<Kept<Q>, NoMemory>
     // for which plan, and over which queues
     requires plan { IsPlan plan.now.means }
     requires new { Q.state queues ≡ new_state }
@@ -207,20 +200,18 @@ fn first_kept<B: Body, Q: Queues>(
     requires root_objects { root_objects ≡ plan.now.means.roots.objects }
 
     // what is answered
-    ensures kept { IfOk result (λ first. IsFirstKept (script B.Body plan.now.means) (length root_queues) (length root_objects) holdings.now first.kept) }
-    ensures run { IfOk result (λ first. first.kept.run ≡ Q.run queues) }
-    ensures counts { IfOk result (λ first. (first.queues ≡ length root_queues) × (first.objects ≡ length root_objects)) }
+    ensures kept { IfOk result (λ kept. IsKeptAtFirst (script B.Body plan.now.means) (length root_queues) (length root_objects) holdings.now kept) }
+    ensures run { IfOk result (λ kept. kept.run ≡ Q.run queues) }
 {
     let live = root_alone(alloc, holdings)?;
-    let first = root_queues.len() as u32;
-    let mut queues = queues;
+    let first_place = root_queues.len() as u32;
     let reading = make_queues(plan, &mut queues, root_queues)?;
     let FirstObjects {
         versions,
         reading,
         made,
-    } = make_objects(alloc, plan, first, reading, root_objects)?;
-    let kept = Kept {
+    } = make_objects(alloc, plan, first_place, reading, root_objects)?;
+    Ok(Kept {
         queues,
         versions,
         reading,
@@ -229,12 +220,27 @@ fn first_kept<B: Body, Q: Queues>(
         frames: 1,
         objects: made,
         faults: Vec::new(alloc),
-    };
-    Ok(FirstKept {
-        kept,
-        queues: first,
-        objects: made,
     })
+}
+
+/// The root's task before its first step, with this fuel and what it holds. It takes no memory. `O(1)`.
+fn root_task<B: Body>(
+    alloc: Global,
+    plan: &Meaning<Plan<B>>,
+    fuel: u64,
+    holdings: Vec<Holding>,
+) -> TaskAtCore<B>
+    ensures { result ≡ record (root_task plan.now.means holdings.items) { fuel = fuel } }
+{
+    TaskAtCore {
+        plan: plan.again(),
+        path: Path::root(alloc),
+        number: 0,
+        done: 0,
+        fuel,
+        holdings,
+        children: 0,
+    }
 }
 
 impl<B: Body, Q: Queues> Core<B, Q> {
@@ -258,8 +264,10 @@ impl<B: Body, Q: Queues> Core<B, Q> {
         } = plan;
         let fuel = fuel.units();
         let (root_queues, root_objects) = roots.into_lists();
+        let queue_count = root_queues.len() as u32;
+        let object_count = root_objects.len() as u32;
         let holdings = held(alloc, &root_queues, &root_objects)?;
-        let first = first_kept(
+        let mut kept = kept_at_first(
             alloc,
             &means,
             queues,
@@ -268,30 +276,17 @@ impl<B: Body, Q: Queues> Core<B, Q> {
             holdings.as_slice(),
         )?;
         let body = Arc::new(alloc, body)?;
-        let task = TaskAtCore {
-            plan: means.again(),
-            path: Path::root(alloc),
-            number: 0,
-            done: 0,
-            fuel,
-            holdings,
-            children: 0,
-        };
+        let task = root_task(alloc, &means, fuel, holdings);
         let stage = Stage::Ready(root_local, Answer::Start);
-        let at = FrameAtCore::begun(alloc, task, stage)?;
-        let FirstKept {
-            mut kept,
-            queues: root_queues,
-            objects: root_objects,
-        } = first;
-        let root = kept.give(at);
+        let begun = FrameAtCore::begun(alloc, task, stage)?;
+        let root = kept.give(begun);
         let core = Core {
             plan: means,
             run,
             is_done: false,
             kept: Some(kept),
-            root_queues,
-            root_objects,
+            root_queues: queue_count,
+            root_objects: object_count,
         };
         Ok(Opened { core, body, root })
     }

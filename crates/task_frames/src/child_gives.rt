@@ -1,9 +1,10 @@
 // What a child is given.
 ghost use Rattle.std.specs.Prelude.{◌≡◌, ◌<◌, Some, IfOk, OnOk, length};
 ghost use Rattle.std.specs.Option.{option_map};
+ghost use Rattle.swan_model.specs.QueueState.{ActiveFrame, MayGive};
 ghost use Rattle.swan_model.specs.SerialStep.{given};
 ghost use Rattle.queues.specs.Turned.{AreApart, AreGivenTurns, AreOlder};
-ghost use Rattle.task_frames.specs.Giving.{AreMade, AreGivesOfQueues, GivesObjects, queue_rights};
+ghost use Rattle.task_frames.specs.Giving.{AreMade, GivesObjects, queue_rights};
 
 use crate::Holding;
 use crate::holding::number_at;
@@ -85,7 +86,7 @@ pub fn enlist_all(
     requires rising { parent < child }
     requires older { AreOlder turns.old child }
     requires apart { AreApart turns.old }
-    requires gives { AreGivesOfQueues gives.now }
+    requires gives { (giver : ActiveFrame) × MayGive giver gives.now }
     ensures given { OnOk result (AreGivenTurns turns.old turns.new parent child gives.now) }
 {
     for give in gives {

@@ -1,5 +1,5 @@
 // Steps that end their frame.
-ghost use Rattle.std.specs.Prelude.{◌≡◌, None, IfOk, OnOk};
+ghost use Rattle.std.specs.Prelude.{◌≡◌, None, IsSome, IfOk, OnOk};
 ghost use Rattle.swan_model.specs.declared.body.Ask.TheVariants as ask;
 ghost use Rattle.swan_model.specs.QueueFollows.{next_queue_deed};
 ghost use Rattle.swan_model.specs.QueueState.{after_finish};
@@ -8,7 +8,7 @@ ghost use Rattle.pop_order.specs.Frames.{HasNoChild, without};
 ghost use Rattle.queues.specs.Asks.{IsOnTurn, MayJoin, OnNext};
 ghost use Rattle.swan_model.specs.Readings.{gone_on_by};
 ghost use Rattle.task_frames.specs.Cores.{HasIt, MayBegin, asking};
-ghost use Rattle.task_frames.specs.Records.{IsOnlyLive};
+ghost use Rattle.task_frames.specs.Records.{IsOnlyLive, live_at};
 ghost use Rattle.task_frames.specs.Resumes.{EndsTaskByFault, IsStep, MayNotUse};
 
 use crate::{FrameAtCore, Kept, MidStep, Step};
@@ -80,6 +80,7 @@ impl<Q: Queues> Kept<Q> {
     /// `Queues::finish` costs.
     pub fn leave(&mut self, number: u64) -> Result<(), NoMemory>
         // what may end
+        requires live { IsSome (live_at self.old.live number) }
         requires settled { IsSettled self.old.versions number }
         requires may { MayJoin self.old.state number }
         requires turn { IsOnTurn self.old.name self.old.state number }

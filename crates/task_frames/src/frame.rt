@@ -194,7 +194,7 @@ impl<B: Body, Q: Queues> Frame<B, Q> {
     {
         let staged = &mut *self.staged;
         match staged.stage.take() {
-            None => return Err(NoMemory),
+            None => unreachable!(),
             Some(Stage::Asking(local, ask, place)) => {
                 staged.stage = Some(Stage::Asking(local, ask, place));
                 return Ok(0);
@@ -238,7 +238,7 @@ impl<B: Body, Q: Queues> Frame<B, Q> {
                 true
             }
             Some(Stage::Ready(_, _)) => false,
-            None => false,
+            None => unreachable!(),
         }
     }
 

@@ -1,5 +1,5 @@
 // The live frames by their numbers.
-ghost use Rattle.std.specs.Prelude.{◌≡◌, ◌≢◌, ℕ, None, Some, [], OnOk, OnErr};
+ghost use Rattle.std.specs.Prelude.{◌≡◌, ◌≢◌, ℕ, None, Some, [], IsSome, OnOk, OnErr};
 ghost use Rattle.std.specs.Option.{option_copied, option_map};
 ghost use Rattle.task_frames.specs.Records.{IsOnlyLive, come_at, holding_too, live_at};
 
@@ -24,9 +24,9 @@ pub struct FramesByNumber {
 
 impl Model for FramesByNumber {
     ghost use Rattle.std.specs.Prelude.{◌≡◌, None};
-    ghost use Rattle.task_frames.specs.Records.{LiveFrames, live_at, with_newest};
+    ghost use Rattle.task_frames.specs.Records.{NumberedFrames, live_at, with_newest};
 
-    ghost Value = { LiveFrames };
+    ghost Value = { NumberedFrames };
 
     ghost view = { λ frames. with_newest frames.newest_number frames.newest frames.older.entries };
 
@@ -73,30 +73,31 @@ impl FramesByNumber {
         Ok(())
     }
 
-    /// Notes that a frame is given with so many steps done. It changes nothing for one that isn't there. `O(log n)`, and
-    /// `O(1)` for the newest one; it takes no memory.
+    /// Notes that a frame is given with so many steps done. `O(log n)`, and `O(1)` for the newest one; it takes no memory.
     pub fn come_to(&mut self, number: u64, done: u64)
+        requires live { IsSome (live_at self.old number) }
         ensures { self.new ≡ come_at self.old number done (live_at self.old number) }
     {
         if number == self.newest_number {
-            if let Some(frame) = &mut self.newest {
-                frame.come_to(done);
-            }
+            let Some(frame) = &mut self.newest else {
+                unreachable!()
+            };
+            frame.come_to(done);
         } else {
             come_to(&mut self.older, number, done);
         }
     }
 
-    /// Notes that a frame holds one place more. It changes nothing for one that isn't there. Err is want of memory, and
-    /// changes nothing. `O(log n)`, amortised.
+    /// Notes that a frame holds one place more. Err is want of memory, and changes nothing. `O(log n)`, amortised.
     pub fn hold(&mut self, number: u64, holding: Holding) -> Result<(), NoMemory>
+        requires live { IsSome (live_at self.old number) }
         ensures ok { OnOk result (IsOnlyLive self.old self.new number (option_map (holding_too holding) (live_at self.old number))) }
         ensures err { OnErr result (IsOnlyLive self.old self.new number (live_at self.old number)) }
     {
         if number == self.newest_number {
             match &mut self.newest {
                 Some(frame) => frame.hold(holding),
-                None => Ok(()),
+                None => unreachable!(),
             }
         } else {
             hold(&mut self.older, number, holding)
@@ -127,23 +128,26 @@ impl FramesByNumber {
 
 /// Notes in the older frames that one is given with so many steps done. `O(log n)`.
 fn come_to(older: &mut BTreeMap<u64, LiveFrame>, number: u64, done: u64)
+    requires live { IsSome (live_at older.old.entries number) }
     ensures come { older.new.entries ≡ come_at older.old.entries number done (live_at older.old.entries number) }
     ensures others { (other : ℕ) → other ≢ number → live_at older.new.entries other ≡ live_at older.old.entries other }
 {
-    if let Some(frame) = older.get_mut(&number) {
-        frame.come_to(done);
-    }
+    let Some(frame) = older.get_mut(&number) else {
+        unreachable!()
+    };
+    frame.come_to(done);
 }
 
 /// Notes in the older frames that one holds one place more. Err is want of memory, and changes nothing. `O(log n)`, amortised.
 fn hold(older: &mut BTreeMap<u64, LiveFrame>, number: u64, holding: Holding) -> Result<(), NoMemory>
+    requires live { IsSome (live_at older.old.entries number) }
     ensures ok { OnOk result (IsOnlyLive older.old.entries older.new.entries number (option_map (holding_too holding) (live_at older.old.entries number))) }
     ensures err { OnErr result (IsOnlyLive older.old.entries older.new.entries number (live_at older.old.entries number)) }
     ensures others { (other : ℕ) → other ≢ number → live_at older.new.entries other ≡ live_at older.old.entries other }
 {
     match older.get_mut(&number) {
         Some(frame) => frame.hold(holding),
-        None => Ok(()),
+        None => unreachable!(),
     }
 }
 

@@ -41,7 +41,6 @@
 mod at_core;
 mod begin;
 mod child_gives;
-mod children;
 mod ending;
 mod frame;
 mod frames_by_number;
@@ -71,7 +70,6 @@ mod steps;
 
 use at_core::{FrameAtCore, MidStep, StagedTask, TaskAtCore};
 pub use begin::Opened;
-use children::Children;
 pub use frame::Frame;
 pub use holding::Holding;
 use kept::Kept;

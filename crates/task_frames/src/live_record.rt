@@ -1,10 +1,11 @@
 // The record of live frames.
-ghost use Rattle.std.specs.Prelude.{◌≡◌, ℕ, Some, None, [], OnOk, OnErr, IfSome, IfNone};
+ghost use Rattle.std.specs.Prelude.{◌≡◌, ℕ, Some, None, [], IsSome, OnOk, OnErr, IfSome, IfNone};
 ghost use Rattle.std.specs.Option.{option_map};
 ghost use Rattle.task_frames.specs.Records.{HasChildren, IsLiveChild, IsOldestChild, IsOnlyLive, LiveFrame as Live, come_at, come_to, holding_too, live_at};
 
+use crate::Holding;
 use crate::frames_by_number::FramesByNumber;
-use crate::{Children, Holding};
+use pop_order::NumberPairs;
 use std::alloc::Global;
 use std::marker::Model;
 use swan_model::{NoMemory, Path};
@@ -60,13 +61,13 @@ impl LiveFrame {
 pub struct LiveRecord {
     frames: FramesByNumber,
     // Each that has a parent, behind the parent.
-    children: Children,
+    children: NumberPairs,
 }
 
 impl Model for LiveRecord {
-    ghost use Rattle.task_frames.specs.Records.{HasChildren, LiveFrames};
+    ghost use Rattle.task_frames.specs.Records.{HasChildren, NumberedFrames};
 
-    ghost Value = { LiveFrames };
+    ghost Value = { NumberedFrames };
 
     ghost view = { λ record_of. record_of.frames };
 
@@ -80,7 +81,7 @@ impl LiveRecord {
     {
         LiveRecord {
             frames: FramesByNumber::new(alloc),
-            children: Children::new(alloc),
+            children: NumberPairs::new(alloc),
         }
     }
 
@@ -97,7 +98,7 @@ impl LiveRecord {
         ensures oldest { IfSome result (IsOldestChild self.now parent) }
         ensures none { IfNone result ((other : ℕ) → ¬ IsLiveChild self.now parent other) }
     {
-        self.children.oldest(parent)
+        self.children.next(parent, 0)
     }
 
     /// Enters the root, where there is no frame yet. Err is want of memory. It allocates once.
@@ -126,9 +127,9 @@ impl LiveRecord {
         }
     }
 
-    /// Notes that a frame is given with so many steps done. It changes nothing for one that isn't there. `O(log n)`; it
-    /// takes no memory.
+    /// Notes that a frame is given with so many steps done. `O(log n)`; it takes no memory.
     pub fn come_to(&mut self, number: u64, done: u64)
+        requires live { IsSome (live_at self.old number) }
         ensures come { self.new ≡ come_at self.old number done (live_at self.old number) }
         ensures only { IsOnlyLive self.old self.new number (option_map (come_to done) (live_at self.old number)) }
     {
@@ -139,6 +140,7 @@ impl LiveRecord {
     /// same. Else as `come_to`.
     #[tactic(auto, using(crate::proofs::Lives::come_same, crate::proofs::Lives::only_same))]
     pub fn come_on(&mut self, number: u64, since: u64, done: u64)
+        requires live { IsSome (live_at self.old number) }
         requires since { (live : Live) → live_at self.old number ≡ Some live → live.done ≡ since }
         ensures come { self.new ≡ come_at self.old number done (live_at self.old number) }
         ensures only { IsOnlyLive self.old self.new number (option_map (come_to done) (live_at self.old number)) }
@@ -148,20 +150,22 @@ impl LiveRecord {
         }
     }
 
-    /// Notes that a frame holds one place more. It changes nothing for one that isn't there. Err is want of memory, and
-    /// nothing is said of the record after it. `O(log n)`, amortised.
+    /// Notes that a frame holds one place more. Err is want of memory, and nothing is said of the record after it. `O(log n)`,
+    /// amortised.
     pub fn hold(&mut self, number: u64, holding: Holding) -> Result<(), NoMemory>
+        requires live { IsSome (live_at self.old number) }
         ensures { OnOk result (IsOnlyLive self.old self.new number (option_map (holding_too holding) (live_at self.old number))) }
     {
         self.frames.hold(number, holding)
     }
 
-    /// Takes a frame out. It changes nothing for one that isn't there. `O(log n)`; it takes no memory.
+    /// Takes a frame out. `O(log n)`; it takes no memory.
     pub fn leave(&mut self, number: u64)
+        requires live { IsSome (live_at self.old number) }
         ensures { IsOnlyLive self.old self.new number None }
     {
         let Some(frame) = self.frames.leave(number) else {
-            return;
+            unreachable!()
         };
         if let Some(parent) = frame.parent {
             self.children.remove(parent, number);
@@ -172,7 +176,7 @@ impl LiveRecord {
 /// Adds a child to the frames and to the children. Err is want of memory.
 fn add(
     frames: &mut FramesByNumber,
-    children: &mut Children,
+    children: &mut NumberPairs,
     parent: u64,
     number: u64,
     frame: LiveFrame,

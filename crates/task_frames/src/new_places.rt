@@ -1,5 +1,5 @@
 // Steps that make a queue or an object.
-ghost use Rattle.std.specs.Prelude.{◌≡◌, ◌+◌, ◌<◌, ◌≤◌, ◌∷◌, ◌++◌, [], length, IfOk, OnOk};
+ghost use Rattle.std.specs.Prelude.{◌≡◌, ◌+◌, ◌<◌, ◌≤◌, ◌∷◌, ◌++◌, [], length, IsSome, IfOk, OnOk};
 ghost use Rattle.std.specs.Option.{option_map};
 ghost use Rattle.swan_model.specs.declared.body.Ask.TheVariants as ask;
 ghost use Rattle.swan_model.specs.declared.origin.Origin.TheVariants as origin;
@@ -111,7 +111,7 @@ impl<Q: Queues> Kept<Q> {
         Ok(Step::Runs(frame))
     }
 
-    /// Notes that a frame has taken a step, after so many others, which gave it one place more. Err is want of memory.
+    /// Notes that a live frame has taken a step, after so many others, which gave it one place more. Err is want of memory.
     /// `O(log n)`, amortised.
     fn note_place(
         &mut self,
@@ -120,7 +120,8 @@ impl<Q: Queues> Kept<Q> {
         holding: Holding,
         reading: KeptReading,
     ) -> Result<(), NoMemory>
-        requires { done < COUNT_MOST }
+        requires few { done < COUNT_MOST }
+        requires live { IsSome (live_at self.old.live number) }
         ensures same { OnOk result (self.new ≡ record self.old { reading = reading; live = self.new.live }) }
         ensures live { OnOk result (IsOnlyLive self.old.live self.new.live number
             (option_map (come_to (done + 1)) (option_map (holding_too holding) (live_at self.old.live number)))) }

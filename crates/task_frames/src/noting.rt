@@ -1,5 +1,5 @@
 // What each step leaves in the record and in the reading.
-ghost use Rattle.std.specs.Prelude.{◌≡◌, ◌+◌, ◌<◌};
+ghost use Rattle.std.specs.Prelude.{◌≡◌, ◌+◌, ◌<◌, IsSome};
 ghost use Rattle.std.specs.Option.{option_map};
 ghost use Rattle.swan_model.specs.Readings.{gone_on_by};
 ghost use Rattle.swan_model.specs.QueueState.{COUNT_MOST};
@@ -9,9 +9,10 @@ use crate::Kept;
 use queues::Queues;
 
 impl<Q: Queues> Kept<Q> {
-    /// Notes that a frame has taken one step, after so many others. `O(log n)`; it takes no memory.
+    /// Notes that a live frame has taken one step, after so many others. `O(log n)`; it takes no memory.
     pub fn note_step(&mut self, number: u64, done: u64)
-        requires { done < COUNT_MOST }
+        requires few { done < COUNT_MOST }
+        requires live { IsSome (live_at self.old.live number) }
         ensures same { self.new ≡ record self.old { reading = gone_on_by self.old.reading number 1; live = self.new.live } }
         ensures live { IsOnlyLive self.old.live self.new.live number (option_map (come_to (done + 1)) (live_at self.old.live number)) }
     {

@@ -1,5 +1,5 @@
 // Steps that spawn a child.
-ghost use Rattle.std.specs.Prelude.{◌≡◌, ℕ, ◌+◌, ◌-◌, ◌<◌, ◌≤◌, ◌≢◌, ◌∷◌, ◌++◌, [], Some, None, IfOk, OnOk, false, length};
+ghost use Rattle.std.specs.Prelude.{◌≡◌, ℕ, ◌+◌, ◌-◌, ◌<◌, ◌≤◌, ◌≢◌, ◌∷◌, ◌++◌, [], Some, None, IsSome, IfOk, OnOk, false, length};
 ghost use Rattle.std.specs.Option.{option_map};
 ghost use Rattle.swan_model.specs.declared.body.Answer.TheVariants as answer;
 ghost use Rattle.swan_model.specs.declared.body.Ask.TheVariants as ask;
@@ -15,7 +15,7 @@ ghost use Rattle.queues.specs.Turned.{AreApart, AreGivenTurns, AreOlder};
 ghost use Rattle.task_frames.specs.declared.stage.Stage.TheVariants.{Ready};
 ghost use Rattle.task_frames.specs.declared.step.Step.TheVariants as step;
 ghost use Rattle.task_frames.specs.Cores.{HasIt, MayBegin, asking};
-ghost use Rattle.task_frames.specs.Giving.{AreGivesOfQueues, AreMade, GivesObjects, queue_rights};
+ghost use Rattle.task_frames.specs.Giving.{AreMade, GivesObjects, queue_rights};
 ghost use Rattle.task_frames.specs.Records.{come_to, live_at};
 ghost use Rattle.task_frames.specs.Resumes.{IsStep};
 
@@ -213,7 +213,6 @@ impl<Q: Queues> Kept<Q> {
         requires rising { parent < child }
         requires older { AreOlder self.old.turns child }
         requires apart { AreApart self.old.turns }
-        requires gives { AreGivesOfQueues (queue_rights held.now) }
 
         // what it leaves
         ensures made { OnOk result ((may : GivesObjects self.old.versions parent child gives.now)
@@ -237,7 +236,7 @@ impl<Q: Queues> Kept<Q> {
         Ok(())
     }
 
-    /// Notes that a frame has taken one step, after so many others, by which it has spawned a child of this path, which holds
+    /// Notes that a live frame has taken one step, after so many others, by which it has spawned a child of this path, which holds
     /// this. Err is want of memory, and nothing is said of what is kept after it. `O(log n + d + k)` for a path of d parts and
     /// k places, amortised.
     fn note_child(
@@ -247,7 +246,8 @@ impl<Q: Queues> Kept<Q> {
         path: &Path,
         held: &Vec<Holding>,
     ) -> Result<(), NoMemory>
-        // that there is room for the step and for the child
+        // that the frame is live, and that there is room for the step and for the child
+        requires live { IsSome (live_at self.old.live parent) }
         requires few { done < COUNT_MOST }
         requires room { self.old.frames < COUNT_MOST }
         requires rising { parent < self.old.frames }

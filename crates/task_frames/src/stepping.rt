@@ -68,7 +68,7 @@ impl<Q: Queues> Kept<Q> {
     fn first_wait<B: Body>(&self, frame: &FrameAtCore<B>) -> Option<WaitFor>
         requires has { HasIt B.Body self.now frame.now }
         ensures shown { IfSome result (IsShown B.Body self.now frame.now) }
-        ensures earlier { IfSome result (λ wait. IsLiveBefore self.now frame.now.task.path (waited_for wait)) }
+        ensures earlier { IfSome result (λ wait. IsLiveBefore self.now.live frame.now.task.path (waited_for wait)) }
         ensures begun { IfNone result (MayBegin self.now frame.now.task.number) }
     {
         let done = frame.done();

@@ -1,17 +1,15 @@
 -- Where a step is allowed, its call is.
-use Rattle.std.proofs.Common.{◌≡◌, ◌≢◌, ℕ, Bool, true, false, ◌&&◌, ◌||◌, ◌==◌, not, cond, Option, None, Some, [], ◌∷◌, is_none, refl, sym, ap, subst, ◌∙◌}
-use Rattle.std.proofs.lemmas.Option.{none-some}
+use Rattle.std.proofs.Common.{◌≡◌, ◌≢◌, ℕ, Bool, true, false, ◌&&◌, ◌||◌, ◌==◌, not, Option, None, Some, is_none, refl, sym, ap, subst, ◌∙◌}
 use Rattle.std.specs.List.{list_all}
-use Rattle.std.specs.BTreeMap.{is_at}
-use Rattle.std.specs.Map.{lookup}
 use Rattle.std.proofs.lemmas.Bool.{and_parts, false≢true, eq-eqb, not-true}
 use Rattle.swan_model.specs.declared.rights.Mode.{Mode}
 use Rattle.swan_model.specs.declared.value.Value.{Value}
 use Rattle.swan_model.specs.Rights.{allows, is_in, is_queue_mode}
-use Rattle.swan_model.specs.Versions.{VersionState, Version, settled, owed, owing, Placed, Places, place_cmp, placed_at, Holds, IsSettled, MayGet}
+use Rattle.swan_model.specs.Versions.{VersionState, Version, settled, owed, owing, Placed, place_cmp, placed_at, Holds, IsSettled, MayGet}
 use Rattle.object_versions.proofs.Lookups.{equal_at}
 use Rattle.version_tests.specs.declared.step.Step.TheVariants.{Access, Finish}
 use Rattle.version_tests.specs.Steps.{allows_step, is_settled, may_give, stands_beside}
+use Rattle.swan_model.proofs.Lookups.{found_passes}
 use Rattle.swan_model.proofs.Uses.{in_is}
 use Rattle.swan_model.proofs.Elements.{none_is}
 
@@ -28,28 +26,13 @@ value_by_test : (version : Version) → is_none (owing version) ≡ true → (va
 value_by_test (settled value) e = (value, refl)
 value_by_test (owed frame) e = absurd (false≢true e)
 
--- ---- what all entries pass, a found one passes
-
-found_passes : (p : (ℕ × ℕ) × Placed → Bool) (es : Places) (k : ℕ × ℕ) (object : Placed) → list_all p es ≡ true
-    → lookup (is_at (place_cmp k)) es ≡ Some object → p (k, object) ≡ true
-found_passes p [] k object all found = absurd (none-some object found)
-found_passes p (e ∷ es) k object all found = by (is_at (place_cmp k) e.0) refl found (found_passes p es k object (and_parts (p e) (list_all p es) all).1) where
-  by : (b : Bool) → is_at (place_cmp k) e.0 ≡ b → cond b (Some e.1) (lookup (is_at (place_cmp k)) es) ≡ Some object
-      → (lookup (is_at (place_cmp k)) es ≡ Some object → p (k, object) ≡ true) → p (k, object) ≡ true
-  by true is h rest =
-      let value : e.1 ≡ object = cc in
-      let key : e.0 ≡ k = sym (equal_at k e.0 is) in
-      let same : (k, object) ≡ e = λ i. (sym key i, sym value i) in
-      ap p same ∙ (and_parts (p e) (list_all p es) all).0
-  by false is h rest = rest h
-
 -- ---- the calls
 
 alone_by_test : (state : VersionState) (child object : ℕ) (mode : Mode) → list_all (stands_beside child object mode) state.places ≡ true
     → MayGet state child object mode
 alone_by_test state child object mode all = record {
   alone = λ place has stands same.
-      let passes = found_passes (stands_beside child object mode) state.places (child, place) has all stands in
+      let passes = found_passes place_cmp equal_at (stands_beside child object mode) state.places (child, place) has all stands in
       let there : ((child == child) && (has.object == object)) ≡ true =
       ap (λ b. b && (has.object == object)) (eq-eqb child child refl) ∙ eq-eqb has.object object same in
       let both = and_parts (is_in has.mode) (is_in mode)
@@ -100,6 +83,6 @@ access_by_test state parent place child child_place mode e =
 pub finish_by_test : (state : VersionState) (frame : ℕ) → allows_step state (Finish frame) ≡ true → IsSettled state frame
 finish_by_test state frame all = record {
   values = λ place object stands.
-      let passes = found_passes (is_settled frame) state.places (frame, place) object all stands in
+      let passes = found_passes place_cmp equal_at (is_settled frame) state.places (frame, place) object all stands in
       value_by_test object.present (or_second (frame == frame) (is_none (owing object.present)) passes (eq-eqb frame frame refl));
 }

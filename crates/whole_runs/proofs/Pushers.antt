@@ -1,5 +1,5 @@
 -- Tasks that push the items of a list and end, run whole over any contents.
-use Rattle.std.proofs.Common.{◌≡◌, ℕ, zero, suc, ◌+◌, ◌-◌, ◌≤◌, List, [], ◌∷◌, ◌++◌, Some, refl, sym, ap, subst, ◌∙◌, append_assoc, arith, length}
+use Rattle.std.proofs.Common.{◌≡◌, ℕ, zero, suc, ◌+◌, ◌-◌, ◌≤◌, List, [], ◌∷◌, ◌++◌, Some, refl, sym, ap, subst, ◌∙◌, append_assoc, arith, length, set-set}
 use Rattle.std.proofs.lemmas.List.{append-nil}
 use Rattle.std.specs.Prelude.{slice_get, slice_set}
 use Rattle.swan_model.specs.declared.body.Answer.{Answer}
@@ -19,11 +19,6 @@ pub get-set_same : {X : Type 0} (xs : List X) (n : ℕ) (x y : X) → slice_get 
 get-set_same [] n x y is = absurd (cc)
 get-set_same (z ∷ zs) zero x y is = refl
 get-set_same (z ∷ zs) (suc n) x y is = get-set_same zs n x y is
-
-pub set-set : {X : Type 0} (xs : List X) (n : ℕ) (x y : X) → slice_set (slice_set xs n x) n y ≡ slice_set xs n y
-set-set [] n x y = refl
-set-set (z ∷ zs) zero x y = refl
-set-set (z ∷ zs) (suc n) x y = ap (λ ys. z ∷ ys) (set-set zs n x y)
 
 pub with_queue-same : (c : Contents) (n : ℕ) (items : List Value) → slice_get c.queues n ≡ Some items → with_queue c n items ≡ c
 with_queue-same c n items is = ap {B = Contents} (λ qs. record c { queues = qs }) (set-found c.queues n items is)

@@ -1,5 +1,5 @@
 -- How a task runs whole, by what it asks for first.
-use Rattle.std.proofs.Common.{◌≡◌, ℕ, zero, suc, ◌+◌, ◌-◌, ◌≤◌, ◌<◌, false, nat_eq, nat_lt, nat_le, cond, List, [], ◌∷◌, ◌++◌, Option, Some, None, refl, sym, ap, ◌∙◌, rules, tests, length, map}
+use Rattle.std.proofs.Common.{◌≡◌, ℕ, zero, suc, ◌-◌, ◌≤◌, ◌<◌, false, nat_eq, nat_lt, nat_le, cond, List, [], ◌∷◌, ◌++◌, Option, Some, None, refl, sym, ap, ◌∙◌, rules, tests, length, map}
 use Rattle.std.proofs.lemmas.List.{map-append, map-set, length-map}
 use Rattle.std.proofs.lemmas.Option.{slice_get-map}
 use Rattle.std.specs.Option.{option_map}
@@ -19,8 +19,9 @@ use Rattle.swan_model.specs.declared.rights.Mode.TheVariants.{In, Out, InOut, Pu
 use Rattle.swan_model.specs.declared.value.Value.{Value}
 use Rattle.swan_model.specs.Rights.{is_aliased}
 use Rattle.swan_model.specs.SerialState.{Activation, Cell, Holding, Queue, Store}
-use Rattle.swan_model.specs.SerialStep.{Effect, goes_on, spawns, faults, effect, effect_of, moved, told, with_items, with_place, with_value, number_at, on_object, on_cell, on_queue, on_list, popped, spawn_effect, given, is_nothing_left, zeroed, zeroed_by, zero_cell}
+use Rattle.swan_model.specs.SerialStep.{Effect, goes_on, spawns, faults, effect, effect_of, after_next, with_answer, with_items, with_place, with_value, number_at, on_object, on_cell, on_queue, on_list, popped, spawn_effect, given, is_nothing_left, cells_with_zeros, zeroed_by, zero_cell}
 use Rattle.swan_model.specs.Values.{kind_of}
+use Rattle.serial_elision.specs.TaskSteps.{child_activation, parent_activation}
 use Rattle.whole_runs.specs.Whole.{Contents, Object, contents_of, object_of, items_of, new_object, with_queue, with_object, zero_object, zeroed_object, zeroed_objects, given_contents, RunsWhole}
 use Rattle.whole_runs.proofs.Wholes.{by_going_on, by_spawning, by_ending, by_fault}
 
@@ -85,26 +86,19 @@ zeroed_by-are Push cells number = refl
 zeroed_by-are Pop cells number = refl
 zeroed_by-are PushPop cells number = refl
 
-zeroed-are : (cells : List Cell) (holdings : List Holding) → map object_of (zeroed cells holdings) ≡ zeroed_objects (map object_of cells) holdings
+zeroed-are : (cells : List Cell) (holdings : List Holding) → map object_of (cells_with_zeros cells holdings) ≡ zeroed_objects (map object_of cells) holdings
 zeroed-are cells [] = refl
 zeroed-are cells (holding ∷ holdings) =
     zeroed-are (zeroed_by holding.mode cells holding.number) holdings
     ∙ ap (λ objects. zeroed_objects objects holdings) (zeroed_by-are holding.mode cells holding.number)
 
--- the child of a spawn that has no fault
-abbrev pub child_of : {L : Type 0} → Activation L → Child L → List Holding → Activation L
-child_of a child holdings = record { path = a.path ++ a.children ∷ []; local = child.local; answer = answer.Start; fuel = child.fuel; holdings = holdings; children = 0 }
-
--- its parent, which has paid for the step
-abbrev pub parent_of : {L : Type 0} → Activation L → Child L → Activation L
-parent_of a child = record a { answer = answer.Nothing; fuel = a.fuel - child.fuel; children = a.children + 1 }
-
+-- a spawn that has no fault
 spawned-is : {L : Type 0} (store : Store) (a : Activation L) (child : Child L) (at : Option (List Holding)) (holdings : List Holding) → at ≡ Some holdings → is_aliased child.gives ≡ false → length a.path < PATH_MOST → child.fuel ≤ a.fuel
-    → spawn_effect store a child at ≡ spawns (parent_of a child) (child_of a child holdings) (record store { cells = zeroed store.cells holdings })
+    → spawn_effect store a child at ≡ spawns (parent_activation a child) (child_activation a child holdings) (record store { cells = cells_with_zeros store.cells holdings })
 spawned-is {L = L} store a child at holdings holds lawful shallow enough =
     let deep : nat_le PATH_MOST (length a.path) ≡ false = search (rules, tests) in
     let dry : nat_lt a.fuel child.fuel ≡ false = search (rules, tests) in
-    let made : Effect L = spawns (parent_of a child) (child_of a child holdings) (record store { cells = zeroed store.cells holdings }) in
+    let made : Effect L = spawns (parent_activation a child) (child_activation a child holdings) (record store { cells = cells_with_zeros store.cells holdings }) in
     ap (spawn_effect store a child) holds
     ∙ ap (λ b. cond b (faults kind.Alias) (cond (nat_le PATH_MOST (length a.path)) (faults kind.Depth) (cond (nat_lt a.fuel child.fuel) (faults kind.Fuel) made))) lawful
     ∙ ap (λ b. cond b (faults kind.Depth) (cond (nat_lt a.fuel child.fuel) (faults kind.Fuel) made)) deep
@@ -112,26 +106,26 @@ spawned-is {L = L} store a child at holdings holds lawful shallow enough =
 
 module _ {B L : Type 0} (G : Ghosts B L) where
   -- a step with fuel has the effect of its ask
-  paid : (body : B) (n : ℕ) (store : Store) (a : Activation L) (local : L) (asked : Ask L) → 0 < a.fuel → G.next body a.local a.answer (a.fuel - 1) ≡ (local, asked) → effect_of G body n store a ≡ effect n store (moved a local) asked
+  paid : (body : B) (n : ℕ) (store : Store) (a : Activation L) (local : L) (asked : Ask L) → 0 < a.fuel → G.next body a.local a.answer (a.fuel - 1) ≡ (local, asked) → effect_of G body n store a ≡ effect n store (after_next a local) asked
   paid body n store a local asked fuel is =
       let full : nat_eq a.fuel 0 ≡ false = search (rules, tests) in
       let said = G.next body a.local a.answer (a.fuel - 1) in
-      ap (λ b. cond b (faults kind.Fuel) (effect n store (moved a said.0) said.1)) full
-      ∙ ap (λ (x : L × Ask L). effect n store (moved a x.0) x.1) is
+      ap (λ b. cond b (faults kind.Fuel) (effect n store (after_next a said.0) said.1)) full
+      ∙ ap (λ (x : L × Ask L). effect n store (after_next a x.0) x.1) is
 
   pub works : {body : B} {a : Activation L} {local : L} {before after_it : Contents} {fs : List Fault} → 0 < a.fuel → G.next body a.local a.answer (a.fuel - 1) ≡ (local, ask.Work)
-      → RunsWhole G body (told (moved a local) answer.Nothing) before after_it fs → RunsWhole G body a before after_it fs
+      → RunsWhole G body (with_answer (after_next a local) answer.Nothing) before after_it fs → RunsWhole G body a before after_it fs
   works {body = body} {a = a} {local = local} fuel is rest =
       by_going_on G (λ n store are. record { left = store; is = paid body n store a local ask.Work fuel is; contents = are }) rest
 
   pub syncs : {body : B} {a : Activation L} {local : L} {before after_it : Contents} {fs : List Fault} → 0 < a.fuel → G.next body a.local a.answer (a.fuel - 1) ≡ (local, ask.Sync)
-      → RunsWhole G body (told (moved a local) answer.Nothing) before after_it fs → RunsWhole G body a before after_it fs
+      → RunsWhole G body (with_answer (after_next a local) answer.Nothing) before after_it fs → RunsWhole G body a before after_it fs
   syncs {body = body} {a = a} {local = local} fuel is rest =
       by_going_on G (λ n store are. record { left = store; is = paid body n store a local ask.Sync fuel is; contents = are }) rest
 
   pub pushes : {body : B} {a : Activation L} {local : L} {place number : ℕ} {value : Value} {items : List Value} {before after_it : Contents} {fs : List Fault} → 0 < a.fuel → G.next body a.local a.answer (a.fuel - 1) ≡ (local, ask.Push place value)
       → number_at a.holdings place Push ≡ Some number → slice_get before.queues number ≡ Some items
-      → RunsWhole G body (told (moved a local) answer.Nothing) (with_queue before number (items ++ value ∷ [])) after_it fs → RunsWhole G body a before after_it fs
+      → RunsWhole G body (with_answer (after_next a local) answer.Nothing) (with_queue before number (items ++ value ∷ [])) after_it fs → RunsWhole G body a before after_it fs
   pushes {body = body} {a = a} {local = local} {place = place} {number = number} {value = value} {items = items} {before = before} fuel is held there rest =
       by_going_on G (λ n store are.
       let at = held_queue store before number items are there in
@@ -139,13 +133,13 @@ module _ {B L : Type 0} (G : Ghosts B L) where
         left = with_items store number at.queue (items ++ value ∷ []);
         is = paid body n store a local (ask.Push place value) fuel is
             ∙ on_queue-is store (number_at a.holdings place Push) number at.queue _ held at.found
-            ∙ ap (λ xs. goes_on (told (moved a local) answer.Nothing) (with_items store number at.queue (xs ++ value ∷ []))) at.has;
+            ∙ ap (λ xs. goes_on (with_answer (after_next a local) answer.Nothing) (with_items store number at.queue (xs ++ value ∷ []))) at.has;
         contents = with_items-are store before number at.queue (items ++ value ∷ []) are;
       }) rest
 
   pub pops : {body : B} {a : Activation L} {local : L} {place number : ℕ} {item : Value} {items : List Value} {before after_it : Contents} {fs : List Fault} → 0 < a.fuel → G.next body a.local a.answer (a.fuel - 1) ≡ (local, ask.Pop place)
       → number_at a.holdings place Pop ≡ Some number → slice_get before.queues number ≡ Some (item ∷ items)
-      → RunsWhole G body (told (moved a local) (answer.Item item)) (with_queue before number items) after_it fs → RunsWhole G body a before after_it fs
+      → RunsWhole G body (with_answer (after_next a local) (answer.Item item)) (with_queue before number items) after_it fs → RunsWhole G body a before after_it fs
   pops {body = body} {a = a} {local = local} {place = place} {number = number} {item = item} {items = items} {before = before} fuel is held there rest =
       by_going_on G (λ n store are.
       let at = held_queue store before number (item ∷ items) are there in
@@ -153,13 +147,13 @@ module _ {B L : Type 0} (G : Ghosts B L) where
         left = with_items store number at.queue items;
         is = paid body n store a local (ask.Pop place) fuel is
             ∙ on_queue-is store (number_at a.holdings place Pop) number at.queue _ held at.found
-            ∙ ap (popped store (moved a local) number at.queue) at.has;
+            ∙ ap (popped store (after_next a local) number at.queue) at.has;
         contents = with_items-are store before number at.queue items are;
       }) rest
 
   pub tests_empty : {body : B} {a : Activation L} {local : L} {place number : ℕ} {items : List Value} {before after_it : Contents} {fs : List Fault} → 0 < a.fuel → G.next body a.local a.answer (a.fuel - 1) ≡ (local, ask.Empty place)
       → number_at a.holdings place Pop ≡ Some number → slice_get before.queues number ≡ Some items
-      → RunsWhole G body (told (moved a local) (answer.Flag (is_nothing_left items))) before after_it fs → RunsWhole G body a before after_it fs
+      → RunsWhole G body (with_answer (after_next a local) (answer.Flag (is_nothing_left items))) before after_it fs → RunsWhole G body a before after_it fs
   tests_empty {body = body} {a = a} {local = local} {place = place} {number = number} {items = items} {before = before} fuel is held there rest =
       by_going_on G (λ n store are.
       let at = held_queue store before number items are there in
@@ -167,7 +161,7 @@ module _ {B L : Type 0} (G : Ghosts B L) where
         left = store;
         is = paid body n store a local (ask.Empty place) fuel is
             ∙ on_queue-is store (number_at a.holdings place Pop) number at.queue _ held at.found
-            ∙ ap (λ xs. goes_on (told (moved a local) (answer.Flag (is_nothing_left xs))) store) at.has;
+            ∙ ap (λ xs. goes_on (with_answer (after_next a local) (answer.Flag (is_nothing_left xs))) store) at.has;
         contents = are;
       }) rest
 
@@ -181,7 +175,7 @@ module _ {B L : Type 0} (G : Ghosts B L) where
       by_fault G (kind.Trouble trouble) (λ n store are. paid body n store a local (ask.Fail trouble) fuel is)
 
   pub makes_queue : {body : B} {a : Activation L} {local : L} {before after_it : Contents} {fs : List Fault} → 0 < a.fuel → G.next body a.local a.answer (a.fuel - 1) ≡ (local, ask.NewQueue)
-      → RunsWhole G body (with_place (moved a local) (record { mode = PushPop; number = length before.queues })) (record before { queues = before.queues ++ [] ∷ [] }) after_it fs → RunsWhole G body a before after_it fs
+      → RunsWhole G body (with_place (after_next a local) (record { mode = PushPop; number = length before.queues })) (record before { queues = before.queues ++ [] ∷ [] }) after_it fs → RunsWhole G body a before after_it fs
   makes_queue {body = body} {a = a} {local = local} {before = before} fuel is rest =
       by_going_on G (λ n store are.
       let made : Queue = record { origin = origin.Step n; items = [] } in
@@ -189,13 +183,13 @@ module _ {B L : Type 0} (G : Ghosts B L) where
       record {
         left = record store { queues = store.queues ++ made ∷ [] };
         is = paid body n store a local ask.NewQueue fuel is
-            ∙ ap (λ k. goes_on (with_place (moved a local) (record { mode = PushPop; number = k })) (record store { queues = store.queues ++ made ∷ [] })) many;
+            ∙ ap (λ k. goes_on (with_place (after_next a local) (record { mode = PushPop; number = k })) (record store { queues = store.queues ++ made ∷ [] })) many;
         contents = ap {B = Contents} (λ qs. record { objects = map object_of store.cells; queues = qs }) (map-append items_of store.queues (made ∷ []))
             ∙ ap {B = Contents} (λ (c : Contents). record c { queues = c.queues ++ [] ∷ [] }) are;
       }) rest
 
   pub makes_object : {body : B} {a : Activation L} {local : L} {value : Value} {before after_it : Contents} {fs : List Fault} → 0 < a.fuel → G.next body a.local a.answer (a.fuel - 1) ≡ (local, ask.NewObject value)
-      → RunsWhole G body (with_place (moved a local) (record { mode = InOut; number = length before.objects })) (record before { objects = before.objects ++ new_object value ∷ [] }) after_it fs → RunsWhole G body a before after_it fs
+      → RunsWhole G body (with_place (after_next a local) (record { mode = InOut; number = length before.objects })) (record before { objects = before.objects ++ new_object value ∷ [] }) after_it fs → RunsWhole G body a before after_it fs
   makes_object {body = body} {a = a} {local = local} {value = value} {before = before} fuel is rest =
       by_going_on G (λ n store are.
       let made : Cell = record { origin = origin.Step n; kind = kind_of value; value = value } in
@@ -203,14 +197,14 @@ module _ {B L : Type 0} (G : Ghosts B L) where
       record {
         left = record store { cells = store.cells ++ made ∷ [] };
         is = paid body n store a local (ask.NewObject value) fuel is
-            ∙ ap (λ k. goes_on (with_place (moved a local) (record { mode = InOut; number = k })) (record store { cells = store.cells ++ made ∷ [] })) many;
+            ∙ ap (λ k. goes_on (with_place (after_next a local) (record { mode = InOut; number = k })) (record store { cells = store.cells ++ made ∷ [] })) many;
         contents = ap {B = Contents} (λ os. record { objects = os; queues = map items_of store.queues }) (map-append object_of store.cells (made ∷ []))
             ∙ ap {B = Contents} (λ (c : Contents). record c { objects = c.objects ++ new_object value ∷ [] }) are;
       }) rest
 
   pub reads : {body : B} {a : Activation L} {local : L} {place number : ℕ} {object : Object} {before after_it : Contents} {fs : List Fault} → 0 < a.fuel → G.next body a.local a.answer (a.fuel - 1) ≡ (local, ask.Read place)
       → number_at a.holdings place In ≡ Some number → slice_get before.objects number ≡ Some object
-      → RunsWhole G body (told (moved a local) (answer.Item object.value)) before after_it fs → RunsWhole G body a before after_it fs
+      → RunsWhole G body (with_answer (after_next a local) (answer.Item object.value)) before after_it fs → RunsWhole G body a before after_it fs
   reads {body = body} {a = a} {local = local} {place = place} {number = number} {object = object} {before = before} fuel is held there rest =
       by_going_on G (λ n store are.
       let at = held_object store before number object are there in
@@ -218,13 +212,13 @@ module _ {B L : Type 0} (G : Ghosts B L) where
         left = store;
         is = paid body n store a local (ask.Read place) fuel is
             ∙ on_object-is store (number_at a.holdings place In) number at.cell _ held at.found
-            ∙ ap (λ (o : Object). goes_on (told (moved a local) (answer.Item o.value)) store) at.has;
+            ∙ ap (λ (o : Object). goes_on (with_answer (after_next a local) (answer.Item o.value)) store) at.has;
         contents = are;
       }) rest
 
   pub writes : {body : B} {a : Activation L} {local : L} {place number : ℕ} {value : Value} {object : Object} {before after_it : Contents} {fs : List Fault} → 0 < a.fuel → G.next body a.local a.answer (a.fuel - 1) ≡ (local, ask.Write place value)
       → number_at a.holdings place Out ≡ Some number → slice_get before.objects number ≡ Some object
-      → RunsWhole G body (told (moved a local) answer.Nothing) (with_object before number (record object { value = value })) after_it fs → RunsWhole G body a before after_it fs
+      → RunsWhole G body (with_answer (after_next a local) answer.Nothing) (with_object before number (record object { value = value })) after_it fs → RunsWhole G body a before after_it fs
   writes {body = body} {a = a} {local = local} {place = place} {number = number} {value = value} {object = object} {before = before} fuel is held there rest =
       by_going_on G (λ n store are.
       let at = held_object store before number object are there in
@@ -240,14 +234,14 @@ module _ {B L : Type 0} (G : Ghosts B L) where
   -- a spawn without a fault: the child runs whole, and then the task goes on
   pub spawns_child : {body : B} {a : Activation L} {local : L} {child : Child L} {holdings : List Holding} {before between after_it : Contents} {fs more : List Fault} → 0 < a.fuel → G.next body a.local a.answer (a.fuel - 1) ≡ (local, ask.Spawn child)
       → given a.holdings child.gives ≡ Some holdings → is_aliased child.gives ≡ false → length a.path < PATH_MOST → child.fuel ≤ a.fuel - 1
-      → RunsWhole G body (child_of a child holdings) (given_contents before holdings) between fs
-      → RunsWhole G body (parent_of (moved a local) child) between after_it more → RunsWhole G body a before after_it (fs ++ more)
+      → RunsWhole G body (child_activation a child holdings) (given_contents before holdings) between fs
+      → RunsWhole G body (parent_activation (after_next a local) child) between after_it more → RunsWhole G body a before after_it (fs ++ more)
   spawns_child {body = body} {a = a} {local = local} {child = child} {holdings = holdings} fuel is holds lawful shallow enough whole rest =
       by_spawning G (λ n store are.
       record {
-        left = record store { cells = zeroed store.cells holdings };
+        left = record store { cells = cells_with_zeros store.cells holdings };
         is = paid body n store a local (ask.Spawn child) fuel is
-            ∙ spawned-is store (moved a local) child (given a.holdings child.gives) holdings holds lawful shallow enough;
+            ∙ spawned-is store (after_next a local) child (given a.holdings child.gives) holdings holds lawful shallow enough;
         contents = ap {B = Contents} (λ os. record { objects = os; queues = map items_of store.queues }) (zeroed-are store.cells holdings)
             ∙ ap (λ c. given_contents c holdings) are;
       }) whole rest

@@ -11,7 +11,7 @@ use Rattle.swan_model.specs.declared.plan.RootQueue.{RootQueue}
 use Rattle.swan_model.specs.declared.value.Value.{Value}
 use Rattle.swan_model.specs.Elision.{start, root, final, outcome, first_queues, first_cells}
 use Rattle.swan_model.specs.SerialState.{Activation, Store, State}
-use Rattle.swan_model.specs.SerialStep.{Effect, goes_on, spawns, ends, faults, after, effect_of, step_on}
+use Rattle.swan_model.specs.SerialStep.{Effect, goes_on, spawns, ends, faults, state_after, effect_of, step_on}
 use Rattle.whole_runs.specs.Whole.{Contents, Object, contents_of, object_of, items_of, new_object, first_contents, value_of, outcome_of, ComesTo, RunsWhole}
 use Rattle.serial_elision.specs.Working.{after_steps}
 use Rattle.serial_elision.proofs.Finals.{final-empty}
@@ -54,8 +54,8 @@ module _ {B L : Type 0} (G : Ghosts B L) where
       }
 
   -- one step
-  next : (body : B) (s : State L) (a : Activation L) (below : List (Activation L)) (done : Effect L) → s.stack ≡ a ∷ below → effect_of G body s.steps s.store a ≡ done → after_steps G body s 1 ≡ after s below a.path (G.place_of body a.local) done
-  next body s a below done stack is = ap (step_on G body s) stack ∙ ap (after s below a.path (G.place_of body a.local)) is
+  next : (body : B) (s : State L) (a : Activation L) (below : List (Activation L)) (done : Effect L) → s.stack ≡ a ∷ below → effect_of G body s.steps s.store a ≡ done → after_steps G body s 1 ≡ state_after s below a.path (G.place_of body a.local) done
+  next body s a below done stack is = ap (step_on G body s) stack ∙ ap (state_after s below a.path (G.place_of body a.local)) is
 
   -- what the step of a task over these contents is, whenever it is
   abbrev pub Does : B → Activation L → Contents → (Store → Effect L → Type 0) → Type 0

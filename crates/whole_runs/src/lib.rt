@@ -10,7 +10,8 @@
 //!
 //! The lemmas in `proofs/` are for the proofs of pipelines: `WholeSteps` has a rule for each ask, `Pushers` the
 //! run of a task that pushes a list, `BlockReaders` that of a task that reads a queue to its end, and `Blocks` that
-//! of a task that reads it in blocks and gives each to a child.
+//! of a task that reads it in blocks and gives each to a child. `CollectedParts` has the queues of a plan in which what
+//! the blocks push is collected.
 #![tactic(auto)]
 
 mod laws;

@@ -4,6 +4,7 @@ use Rattle.object_versions.proofs.GivingInOut.{changed_whole, changed_seen}
 use Rattle.object_versions.proofs.Given.{still_stands}
 use Rattle.object_versions.proofs.GivingUp.{set_keeps, set_shares}
 use Rattle.object_versions.proofs.Referred.{still_there, still_shared}
+use Rattle.swan_model.proofs.Elements.{some_is}
 use Rattle.object_versions.proofs.store.VersionStore.give_to_change.Goals as goal
 
 pub returns-clause-whole : goal.returns-clause-whole
@@ -51,3 +52,8 @@ release-requires c =
 pub share-requires-clause-room : goal.share-requires-clause-room
 share-requires-clause-room c = λ node is.
     two_more_fit c.args.self.now.places.entries c.args.self.now.nodes c.requires.known.0 c.args.object.now.present node c.requires.known.1 (omega (arith, c.len-few.ensures.len, c.len-few.ensures.small)) is
+
+pub set_present-requires : goal.set_present-requires
+set_present-requires c =
+    some_is _ c.args.object.now (still_stands c.args.self.now.places.entries c.put.new.places.entries c.args.gift.parent c.args.gift.parent_place c.args.gift.child c.args.gift.child_place
+    c.args.object.now _ c.requires.stands c.requires.free c.in_ok-put.ensures.put)

@@ -2,6 +2,7 @@ use Rattle.object_versions.proofs.GivingOut.{out_whole, out_seen}
 use Rattle.object_versions.proofs.Given.{still_stands}
 use Rattle.object_versions.proofs.GivingUp.{set_keeps}
 use Rattle.object_versions.proofs.Referred.{still_there}
+use Rattle.swan_model.proofs.Elements.{some_is}
 use Rattle.object_versions.proofs.store.VersionStore.give_to_write.Goals as goal
 
 pub returns-clause-whole : goal.returns-clause-whole
@@ -37,3 +38,8 @@ pub release-requires : goal.release-requires
 release-requires c =
     still_there c.make.new.nodes c.make-2.new.nodes c.in_ok-own.own c.args.object.now.present _ c.in_ok-own.ensures.made
     (still_there c.args.self.now.nodes c.make.new.nodes c.in_ok-owed.owed c.args.object.now.present _ c.in_ok-owed.ensures.made c.requires.present)
+
+pub set_present-requires : goal.set_present-requires
+set_present-requires c =
+    some_is _ c.args.object.now (still_stands c.args.self.now.places.entries c.put.new.places.entries c.args.gift.parent c.args.gift.parent_place c.args.gift.child c.args.gift.child_place
+    c.args.object.now _ c.requires.stands c.requires.free c.in_ok-put.ensures.put)

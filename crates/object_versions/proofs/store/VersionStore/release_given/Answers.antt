@@ -4,6 +4,7 @@ use Rattle.object_versions.specs.Store.{Entries, place_at}
 use Rattle.object_versions.proofs.Lookups.{at_set, still_set}
 use Rattle.object_versions.proofs.Forgotten.{forgotten_whole, forgotten_seen}
 use Rattle.object_versions.proofs.Referred.{given_there}
+use Rattle.swan_model.proofs.Elements.{some_is}
 use Rattle.object_versions.proofs.store.VersionStore.release_given.Goals as goal
 
 pub returns-clause-stands : goal.returns-clause-stands
@@ -37,3 +38,6 @@ value_at-requires c =
 pub release-requires : goal.release-requires
 release-requires c =
     given_there c.args.self.now.places.entries c.args.self.now.nodes c.requires.whole.0 c.args.frame c.args.place c.args.object c.requires.whole.1 c.requires.stands c.in-Some.given c.in-Some.is
+
+pub forget_given-requires : goal.forget_given-requires
+forget_given-requires c = some_is _ c.args.object c.requires.stands

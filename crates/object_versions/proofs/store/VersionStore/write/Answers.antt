@@ -4,6 +4,7 @@ use Rattle.object_versions.proofs.Forgotten.{left_owed}
 use Rattle.object_versions.proofs.Writing.{written_whole, written_seen, written_own}
 use Rattle.object_versions.proofs.Overwriting.{overwritten_whole, overwritten_seen, overwritten_own}
 use Rattle.object_versions.proofs.Referred.{present_there, still_there}
+use Rattle.swan_model.proofs.Elements.{some_is}
 use Rattle.object_versions.proofs.store.VersionStore.write.Goals as goal
 
 pub returns-then-is_alone-clause-whole : goal.returns-then-is_alone-clause-whole
@@ -55,3 +56,12 @@ release-requires c =
     let made = c.requires.whole.0 in
     still_there own.new.self.nodes c.make.new.nodes c.in_ok-next.next own.result.present _ c.in_ok-next.ensures.made
     (present_there own.new.self.places.entries own.new.self.nodes made c.args.frame c.args.place own.result (own.ensures.whole made c.requires.whole.1) own.ensures.stands)
+
+pub is_alone-requires : goal.is_alone-requires
+is_alone-requires c =
+    let own = c.release_given-own in
+    let made = c.requires.whole.0 in
+    present_there own.new.self.places.entries own.new.self.nodes made c.args.frame c.args.place own.result (own.ensures.whole made c.requires.whole.1) own.ensures.stands
+
+pub set_present-requires : goal.set_present-requires
+set_present-requires c = some_is _ c.release_given-own.result c.release_given-own.ensures.stands

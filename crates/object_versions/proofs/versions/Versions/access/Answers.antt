@@ -1,8 +1,8 @@
-use Rattle.std.proofs.Common.{◌≡◌, None, Some, sym, ap, ◌∙◌, subst, rules}
+use Rattle.std.proofs.Common.{◌≡◌, inl, None, Some, sym, ap, ◌∙◌, subst, rules}
 use Rattle.swan_model.specs.Versions.{VersionState, Placed, placed_at, after_access, Holds, MayGet}
 use Rattle.object_versions.proofs.Seeing.{free_of}
 use Rattle.object_versions.proofs.Awaited.{may_give}
-use Rattle.object_versions.proofs.Others.{others_keep}
+use Rattle.object_versions.proofs.PlacesStay.{access_keeps}
 use Rattle.object_versions.proofs.GivingCalls.{access_giving, access_last}
 use Rattle.object_versions.proofs.GivingMeanwhile.{access_meanwhile, last_meanwhile}
 use Rattle.object_versions.proofs.versions.Versions.access.Goals as goal
@@ -29,7 +29,7 @@ pub returns-in-Ok-clause-others : goal.returns-in-Ok-clause-others
 returns-in-Ok-clause-others c = λ frame place from to.
     ap (λ (state : VersionState). placed_at state frame place) (c.in-Ok.ensures.given c.self.inside.made c.self.invariant)
     ∙ ap (λ (state : VersionState). placed_at (after_access state c.args.parent c.args.parent_place c.args.child c.args.child_place c.args.mode) frame place) c.self.view_is
-    ∙ others_keep c.args.self.now c.args.parent c.args.parent_place c.args.child c.args.child_place c.args.mode frame place from to
+    ∙ access_keeps c.args.self.now c.args.parent c.args.parent_place c.args.child c.args.child_place c.args.mode frame place (inl from) to
 
 pub returns-in-Ok-clause-giving : goal.returns-in-Ok-clause-giving
 returns-in-Ok-clause-giving c =

@@ -1,7 +1,8 @@
-use Rattle.std.proofs.Common.{◌≡◌, ℕ, true, Some, sym, subst}
-use Rattle.swan_model.specs.declared.rights.Mode.TheVariants.{In, Out}
+use Rattle.std.proofs.Common.{◌≡◌, ℕ, true, sym, subst}
+use Rattle.swan_model.specs.declared.rights.Mode.TheVariants.{In}
 use Rattle.swan_model.specs.Rights.{allows}
-use Rattle.swan_model.specs.Versions.{VersionState, Placed, placed_at, Awaits}
+use Rattle.swan_model.specs.Versions.{VersionState, Awaits}
+use Rattle.object_versions.specs.Following.{MayWrite}
 use Rattle.object_versions.proofs.Awaited.{awaits_kept, awaits_read, given_owes}
 use Rattle.object_versions.proofs.versions.Versions.ready.Goals as goal
 
@@ -30,8 +31,7 @@ returns-in-None-clause-ok c = λ place owing waits.
 pub returns-in-Some-clause-owes : goal.returns-in-Some-clause-owes
 returns-in-Some-clause-owes c =
     let owing = c.in-Some.awaited.owing in
-    let P : VersionState → Type 0 = λ state. (place : ℕ) (awaits : Awaits state c.args.frame place owing)
-    → (other : ℕ) × (has : Placed) × (placed_at state owing other ≡ Some has) × (has.object ≡ awaits.object.object) × (allows has.mode Out ≡ true) in
+    let P : VersionState → Type 0 = λ state. (place : ℕ) (awaits : Awaits state c.args.frame place owing) → MayWrite state owing awaits.object.object in
     subst P c.self.view_is (λ place awaits. given_owes c.self.inside.store.places.entries c.self.inside.store.nodes c.self.inside.made c.self.invariant c.args.frame place owing awaits)
 
 pub first_awaited-requires : goal.first_awaited-requires

@@ -1,8 +1,7 @@
-use Rattle.std.proofs.Common.{◌≡◌, ℕ, true, Some, sym, subst}
+use Rattle.std.proofs.Common.{◌≡◌, Some, sym, subst}
 use Rattle.std.proofs.lemmas.Result.{IfOk-weaker, IfErr-weaker}
-use Rattle.swan_model.specs.declared.rights.Mode.TheVariants.{Out}
-use Rattle.swan_model.specs.Rights.{allows}
-use Rattle.swan_model.specs.Versions.{VersionState, Placed, placed_at, settled, owed}
+use Rattle.swan_model.specs.Versions.{VersionState, placed_at, settled, owed}
+use Rattle.object_versions.specs.Following.{MayWrite}
 use Rattle.object_versions.proofs.Awaited.{absent, present_by, present_owes}
 use Rattle.object_versions.proofs.CallsFollow.{value_told}
 use Rattle.object_versions.proofs.Referred.{present_there}
@@ -29,8 +28,7 @@ returns-clause-err c = IfErr-weaker c.value_at.result _ _ (λ owing reads object
 
 pub returns-clause-owes : goal.returns-clause-owes
 returns-clause-owes c = IfErr-weaker c.value_at.result _ _ (λ owing all object seen.
-    let P : VersionState → Type 0 = λ state. placed_at state c.args.frame c.args.place ≡ Some object → (other : ℕ) × (has : Placed) × (placed_at state owing other ≡ Some has)
-    × (has.object ≡ object.object) × (allows has.mode Out ≡ true) in
+    let P : VersionState → Type 0 = λ state. placed_at state c.args.frame c.args.place ≡ Some object → MayWrite state owing object.object in
     subst P c.self.view_is
     (λ stands. present_owes c.self.inside.store.places.entries c.self.inside.store.nodes c.self.inside.made c.self.invariant c.args.frame c.args.place owing object stands (all object seen)) seen)
     (returns-clause-err c)

@@ -1,7 +1,7 @@
 use Rattle.std.proofs.Common.{◌≡◌, Some, sym, subst, rules}
 use Rattle.swan_model.specs.Versions.{VersionState, placed_at}
 use Rattle.object_versions.proofs.Awaited.{absent}
-use Rattle.object_versions.proofs.CallsFollow.{write_told}
+use Rattle.object_versions.proofs.CallsFollow.{next_write_told}
 use Rattle.object_versions.proofs.GivingCalls.{written_giving}
 use Rattle.object_versions.proofs.versions.Versions.write.Goals as goal
 
@@ -17,7 +17,7 @@ pub invariant_of-self-in-Err : goal.invariant_of-self-in-Err
 invariant_of-self-in-Err c = c.clear.ensures.whole c.self.inside.made
 
 pub returns-in-Ok-clause-follows : goal.returns-in-Ok-clause-follows
-returns-in-Ok-clause-follows c = write_told c.args.self.now _ c.args.frame c.args.place c.args.value (search rules)
+returns-in-Ok-clause-follows c = next_write_told c.args.self.now _ c.args.frame c.args.place c.args.value (search rules)
 
 pub returns-in-Ok-clause-giving : goal.returns-in-Ok-clause-giving
 returns-in-Ok-clause-giving c = written_giving c.args.self.now _ c.args.frame c.args.place c.args.value (search rules)

@@ -9,7 +9,20 @@ use Rattle.queues.specs.Asks.{IsRecorded, OnNext}
 use Rattle.queue_book.specs.NoEnds.{no_ends}
 use Rattle.queue_book.specs.Live.{is_lent_with, kept_of}
 use Rattle.swan_model.proofs.Elements.{one_answer}
+use Rattle.queue_book.proofs.LiveKept.{active_there}
 use Rattle.queue_book.proofs.book.BookQueuesQueues.back.Goals as goal
+
+pub take_back-requires : goal.take_back-requires
+take_back-requires c =
+    let is = c.self.invariant in
+    let state = c.self.inside.state.means in
+    let frames = c.self.inside.store.frames in
+    let n = c.args.frame in
+    let d = c.args.ends.deeds in
+    let path = c.args.ends.path.means in
+    let lent : is_lent_with (kept_of frames n) d ≡ true = ap (is_lent_with (kept_of frames n)) (sym c.deeds.ensures) ∙ sym c.is_lent.ensures ∙ c.if-not-is_lent.false in
+    let told = recorded state frames is.live n d path lent in
+    active_there state frames is.live n told.0.frame told.0.live
 
 pub invariant_of-self : goal.invariant_of-self
 invariant_of-self c =

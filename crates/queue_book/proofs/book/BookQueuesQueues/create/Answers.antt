@@ -7,9 +7,10 @@ use Rattle.queue_book.specs.Whole.{IsBook}
 use Rattle.queue_book.proofs.BookLent.{called}
 use Rattle.swan_model.specs.QueueFollows.{next_queue_deed}
 use Rattle.swan_model.specs.QueueState.{after_create}
-use Rattle.queue_book.proofs.BookMade.{book_create, create_room}
+use Rattle.queue_book.proofs.BookMade.{book_create, create_room, create_there}
 use Rattle.swan_model.specs.declared.value.Value.{Value}
 use Rattle.queue_book.specs.Made.{IsMadeIn}
+use Rattle.queue_book.proofs.LiveKept.{active_there}
 use Rattle.queue_book.proofs.book.BookQueuesQueues.create.Goals as goal
 
 pub make-requires : goal.make-requires
@@ -24,7 +25,10 @@ make-requires c =
     let P : BookView → Type 0 = λ v. HasRoom v.state in
     let room : HasRoom state = subst P (sym c.self.view_is) c.requires.room in
     let Q : ℕ → Type 0 = λ k. k < QUEUES_MOST in
-    record { room = subst Q (sym is.count) room }
+    let n = c.args.frame in
+    let R : BookView → Type 0 = λ v. MayDo v.state n in
+    let act : MayDo state n = subst R (sym c.self.view_is) c.requires.may in
+    record { active = active_there state frames is.live n act.frame act.may.live; room = subst Q (sym is.count) room }
 
 pub count_deed-requires : goal.count_deed-requires
 count_deed-requires c =
@@ -41,7 +45,10 @@ count_deed-requires c =
     let M : List Value → Type 0 = λ items. IsMadeIn frames c.make.new.self.frames n c.in-Ok.queue items heads nodes c.make.new.self.chains.heads.items c.make.new.self.chains.nodes in
     let made : IsMadeIn frames c.make.new.self.frames n c.in-Ok.queue [] heads nodes c.make.new.self.chains.heads.items c.make.new.self.chains.nodes =
     subst M c.new-none.ensures c.in-Ok.ensures.made in
-    record { room = create_room name state frames heads nodes turns is n act c.in-Ok.queue c.in-Ok.ensures.number c.make.new.self.frames c.make.new.self.chains.heads.items c.make.new.self.chains.nodes made }
+    record {
+      active = create_there name state frames heads nodes turns is n act c.in-Ok.queue c.in-Ok.ensures.number c.make.new.self.frames c.make.new.self.chains.heads.items c.make.new.self.chains.nodes made;
+      room = create_room name state frames heads nodes turns is n act c.in-Ok.queue c.in-Ok.ensures.number c.make.new.self.frames c.make.new.self.chains.heads.items c.make.new.self.chains.nodes made;
+    }
 
 pub invariant_of-self : goal.invariant_of-self
 invariant_of-self c =

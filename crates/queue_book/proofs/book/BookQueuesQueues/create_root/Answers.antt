@@ -7,6 +7,7 @@ use Rattle.swan_model.specs.QueueState.{IsUntouched}
 use Rattle.queues.specs.Asks.{HasRoom}
 use Rattle.queue_book.proofs.BookMade.{book_create_root}
 use Rattle.swan_model.specs.declared.script.Script.{Script}
+use Rattle.queue_book.proofs.LiveKept.{active_there}
 use Rattle.queue_book.proofs.book.BookQueuesQueues.create_root.Goals as goal
 
 pub make-requires : goal.make-requires
@@ -21,7 +22,9 @@ make-requires c =
     let P : BookView → Type 0 = λ v. HasRoom v.state in
     let room : HasRoom state = subst P (sym c.self.view_is) c.requires.room in
     let Q : ℕ → Type 0 = λ k. k < QUEUES_MOST in
-    record { room = subst Q (sym is.count) room }
+    let U : BookView → Type 0 = λ v. IsUntouched v.state in
+    let untouched : IsUntouched state = subst U (sym c.self.view_is) c.requires.untouched in
+    record { active = active_there state frames is.live 0 untouched.root untouched.live; room = subst Q (sym is.count) room }
 
 pub invariant_of-self : goal.invariant_of-self
 invariant_of-self c =

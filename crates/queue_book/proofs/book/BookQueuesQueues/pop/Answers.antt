@@ -6,7 +6,7 @@ use Rattle.swan_model.specs.QueueState.{ActiveFrame, QueueState, active}
 use Rattle.queues.specs.Asks.{MayUse, IsOnTurn, OnNext}
 use Rattle.queues.specs.Chunks.{without_spent}
 use Rattle.queue_book.specs.Chains.{first_item, in_line}
-use Rattle.queue_book.specs.Live.{key_at}
+use Rattle.queue_book.specs.Live.{key_at, kept_of}
 use Rattle.queue_book.specs.BookView.{BookView}
 use Rattle.queues.specs.Tells.{IsPopped}
 use Rattle.queue_book.specs.Whole.{IsBook}
@@ -14,6 +14,9 @@ use Rattle.queues.specs.declared.answers.Popped.TheVariants as popped
 use Rattle.queues.specs.declared.answers.Tested.TheVariants as tested
 use Rattle.queue_book.proofs.BookDeeds.{book_empty, book_pop}
 use Rattle.queue_book.proofs.BookFronts.{book_looked, found_item, known, look_of, looked_all, popped_all}
+use Rattle.queue_book.proofs.LiveKept.{active_there}
+use Rattle.queue_book.specs.declared.live_frames.LiveFrames.{LiveFrames}
+use Rattle.std.specs.Prelude.{IsSome}
 use Rattle.queue_book.proofs.book.BookQueuesQueues.pop.Goals as goal
 
 pub front-requires : goal.front-requires
@@ -33,6 +36,28 @@ front-requires c =
     let Turn : BookView → Type 0 = λ v. IsOnTurn v.name v.state n in
     let turn : IsOnTurn name state n = subst Turn (sym c.self.view_is) c.requires.turn in
     record { known = known name state frames heads nodes turns is n q look; kept = (key_at frames, is.lines, is.chained) }
+
+pub count_deed-requires-clause-active : goal.count_deed-requires-clause-active
+count_deed-requires-clause-active c =
+    let is = c.self.invariant in
+    let state = c.self.inside.state.means in
+    let frames = c.self.inside.store.frames in
+    let n = c.args.frame in
+    let May : BookView → Type 0 = λ v. MayUse v.state n c.args.queue Pop in
+    let may : MayUse state n c.args.queue Pop = subst May (sym c.self.view_is) c.requires.may in
+    let P : LiveFrames → Type 0 = λ fs. IsSome (kept_of fs n) in
+    subst P (sym c.front.ensures.frames) (active_there state frames is.live n may.act.frame may.act.may.live)
+
+pub count_deed-requires-in-Some-clause-active : goal.count_deed-requires-in-Some-clause-active
+count_deed-requires-in-Some-clause-active c =
+    let is = c.self.invariant in
+    let state = c.self.inside.state.means in
+    let frames = c.self.inside.store.frames in
+    let n = c.args.frame in
+    let May : BookView → Type 0 = λ v. MayUse v.state n c.args.queue Pop in
+    let may : MayUse state n c.args.queue Pop = subst May (sym c.self.view_is) c.requires.may in
+    let P : LiveFrames → Type 0 = λ fs. IsSome (kept_of fs n) in
+    subst P (sym c.front.ensures.frames) (active_there state frames is.live n may.act.frame may.act.may.live)
 
 pub invariant_of-self : goal.invariant_of-self
 invariant_of-self c =

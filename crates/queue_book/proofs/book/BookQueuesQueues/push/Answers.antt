@@ -9,7 +9,7 @@ use Rattle.queue_book.specs.Live.{key_at}
 use Rattle.queue_book.specs.BookView.{BookView}
 use Rattle.queue_book.specs.Whole.{IsBook}
 use Rattle.queue_book.proofs.BookDeeds.{book_push}
-use Rattle.queue_book.proofs.LiveKept.{has_key, key_of, place_of_key}
+use Rattle.queue_book.proofs.LiveKept.{has_key, key_of, place_of_key, active_there}
 use Rattle.queues.proofs.Frames.{has_held}
 use Rattle.queue_book.proofs.book.BookQueuesQueues.push.Goals as goal
 
@@ -37,6 +37,16 @@ push-requires c =
     let key : key_at c.self.inside.store.frames c.args.frame c.args.queue ≡ Some place.key = key_of c.self.inside.store.frames c.args.frame c.args.queue place (sym c.in-Some.ensures) in
     let node = is.chained.owned c.args.frame c.args.queue place.key key in
     record { known = subst IsSome (sym node.1) refl }
+
+pub count_deed-requires-clause-active : goal.count_deed-requires-clause-active
+count_deed-requires-clause-active c =
+    let is = c.self.invariant in
+    let state = c.self.inside.state.means in
+    let frames = c.self.inside.store.frames in
+    let n = c.args.frame in
+    let May : BookView → Type 0 = λ v. MayUse v.state n c.args.queue Push in
+    let may : MayUse state n c.args.queue Push = subst May (sym c.self.view_is) c.requires.may in
+    active_there state frames is.live n may.act.frame may.act.may.live
 
 pub invariant_of-self : goal.invariant_of-self
 invariant_of-self c =

@@ -4,13 +4,16 @@ use Rattle.swan_model.specs.declared.script.Deed.TheVariants as deed
 use Rattle.swan_model.specs.QueueFollows.{IsNextAbout}
 use Rattle.swan_model.specs.QueueState.{ActiveFrame, QueueState, active}
 use Rattle.queues.specs.Asks.{MayUse, IsOnTurn, OnNext}
-use Rattle.queue_book.specs.Live.{key_at}
+use Rattle.queue_book.specs.Live.{key_at, kept_of}
 use Rattle.queue_book.specs.BookView.{BookView}
 use Rattle.queues.specs.Tells.{IsTested}
 use Rattle.queue_book.specs.Whole.{IsBook}
 use Rattle.queues.specs.declared.answers.Tested.TheVariants as tested
 use Rattle.queue_book.proofs.BookDeeds.{book_test}
 use Rattle.queue_book.proofs.BookFronts.{book_looked, known, look_of, looked_all}
+use Rattle.queue_book.proofs.LiveKept.{active_there}
+use Rattle.queue_book.specs.declared.live_frames.LiveFrames.{LiveFrames}
+use Rattle.std.specs.Prelude.{IsSome}
 use Rattle.queue_book.proofs.book.BookQueuesQueues.test.Goals as goal
 
 pub front-requires : goal.front-requires
@@ -30,6 +33,28 @@ front-requires c =
     let Turn : BookView → Type 0 = λ v. IsOnTurn v.name v.state n in
     let turn : IsOnTurn name state n = subst Turn (sym c.self.view_is) c.requires.turn in
     record { known = known name state frames heads nodes turns is n q look; kept = (key_at frames, is.lines, is.chained) }
+
+pub count_deed-requires-clause-active : goal.count_deed-requires-clause-active
+count_deed-requires-clause-active c =
+    let is = c.self.invariant in
+    let state = c.self.inside.state.means in
+    let frames = c.self.inside.store.frames in
+    let n = c.args.frame in
+    let May : BookView → Type 0 = λ v. MayUse v.state n c.args.queue Pop in
+    let may : MayUse state n c.args.queue Pop = subst May (sym c.self.view_is) c.requires.may in
+    let P : LiveFrames → Type 0 = λ fs. IsSome (kept_of fs n) in
+    subst P (sym c.front.ensures.frames) (active_there state frames is.live n may.act.frame may.act.may.live)
+
+pub count_deed-requires-in-Holds-clause-active : goal.count_deed-requires-in-Holds-clause-active
+count_deed-requires-in-Holds-clause-active c =
+    let is = c.self.invariant in
+    let state = c.self.inside.state.means in
+    let frames = c.self.inside.store.frames in
+    let n = c.args.frame in
+    let May : BookView → Type 0 = λ v. MayUse v.state n c.args.queue Pop in
+    let may : MayUse state n c.args.queue Pop = subst May (sym c.self.view_is) c.requires.may in
+    let P : LiveFrames → Type 0 = λ fs. IsSome (kept_of fs n) in
+    subst P (sym c.front.ensures.frames) (active_there state frames is.live n may.act.frame may.act.may.live)
 
 pub invariant_of-self : goal.invariant_of-self
 invariant_of-self c =

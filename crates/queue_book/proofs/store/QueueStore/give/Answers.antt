@@ -7,6 +7,7 @@ use Rattle.queue_book.specs.Handed.{IsHandedIn}
 use Rattle.swan_model.specs.declared.rights.Mode.TheVariants.{Push}
 use Rattle.swan_model.specs.QueueState.{QueueRight}
 use Rattle.swan_model.specs.Rights.{allows}
+use Rattle.queue_book.proofs.LiveKept.{placed_there}
 use Rattle.queue_book.proofs.store.QueueStore.give.Goals as goal
 
 pub returns-clause-given : goal.returns-clause-given
@@ -30,3 +31,6 @@ returns-clause-given c =
           AreChained (put_at parent q (Some c.in_ok-new.new) (put_at child q (Some c.in-Some.place.key) at)) hs c.hand_on.new.self.nodes (in_line q (after_hand_on parent child) lines) in
           subst P c.hand_on.ensures.heads (c.in_ok-new.ensures.handed at lines is q mine free);
     })
+
+pub put-requires : goal.put-requires
+put-requires c = placed_there c.args.self.now.frames c.args.parent c.one.inside.queue c.in-Some.place (sym c.in-Some.ensures)

@@ -11,6 +11,7 @@ use Rattle.queue_book.specs.Live.{kept_of}
 use Rattle.pop_order.specs.OneChange.{IsOnlyChange}
 use Rattle.queue_book.proofs.GivingSteps.{given_more, given_none, has_now, may_get_now, newest_now, stands_now}
 use Rattle.queues.proofs.GivingTurns.{queue_mode_at}
+use Rattle.swan_model.proofs.Elements.{some_is}
 use Rattle.queue_book.proofs.store.QueueStore.spawn.Goals as goal
 
 pub loop-one-init : goal.loop-one-init
@@ -103,6 +104,7 @@ count_deed-requires c =
     let may = c.requires.may in
     let was = c.loop-one.invariant.given.moved may.kept may.live in
     record {
+      active = some_is (kept_of c.loop-one.self.frames c.args.parent) was.0 was.1;
       room = λ kept at.
           let both : Some was.0 ≡ Some kept = sym was.1 ∙ at in
           let same : was.0 ≡ kept = cc in

@@ -5,7 +5,7 @@ use Rattle.swan_model.specs.declared.body.Worked.{Worked}
 use Rattle.swan_model.specs.declared.fault.FaultKind.TheVariants as kind
 use Rattle.swan_model.specs.declared.plan.TheConstants.{FUEL_MOST}
 use Rattle.swan_model.specs.SerialState.{Activation, State}
-use Rattle.swan_model.specs.SerialStep.{after, effect, faults}
+use Rattle.swan_model.specs.SerialStep.{state_after, effect, faults}
 use Rattle.serial_elision.specs.declared.reply.Reply.{Reply}
 use Rattle.serial_elision.specs.Effects.{as_ask, IsReply}
 use Rattle.serial_elision.proofs.Works.{dry-end, fault-row, HasRow, HasTurned, last-end, own-row, told-row}
@@ -75,7 +75,7 @@ returns g c =
     let at_loop = c.loop-row.self in
     let a : Activation g.row.L.Denot = record { path = c.loop-row.path; local = c.loop-row.local; answer = c.loop-row.answer; fuel = c.loop-row.left; holdings = c.top.inside.holdings.items; children = c.top.inside.children } in
     let place = c.place-place.result in
-    let booked : State g.row.L.Denot → State g.row.L.Denot = λ t. after t t.stack a.path place (faults kind.Fuel) in
+    let booked : State g.row.L.Denot → State g.row.L.Denot = λ t. state_after t t.stack a.path place (faults kind.Fuel) in
     elim c.if-row-fuel.branch [
       | else-row-fuel w ↦
           let now : State g.row.L.Denot = record { steps = at_loop.steps; stack = a ∷ at_loop.stack; store = at_loop.store; faults = at_loop.faults } in

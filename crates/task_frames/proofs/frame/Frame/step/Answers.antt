@@ -1,4 +1,5 @@
 use Rattle.std.proofs.Common.{◌≡◌, ◌<◌, true, Some, refl, sym, ap, subst, ◌∙◌, arith}
+use Rattle.std.proofs.lemmas.Bool.{false≢true}
 use Rattle.std.specs.Option.{is_some}
 use Rattle.task_frames.specs.declared.at_core.StagedTask.{StagedTask}
 use Rattle.task_frames.specs.declared.stage.Stage.{Stage}
@@ -30,6 +31,13 @@ is_told-requires-clause-few g c κs within =
     let less = few g.B.Body _ _ _ _ (c.self.invariant.0 _ at) in
     let same = ap (λ (st : StagedTask g.row.B.Denot g.row.B-Local.Denot). st.task.done) is in
     omega (arith, less, same)
+
+pub unreachable-requires : goal.unreachable-requires
+unreachable-requires g c =
+    let View : Type 0 = FrameView g.row.B.Denot g.row.B-Local.Denot g.row.Q-Ends.Denot in
+    let is = c.deref_mut-staged.ensures.value in
+    let none = sym (ap (λ (st : StagedTask g.row.B.Denot g.row.B-Local.Denot). st.stage) is) ∙ c.in-None.is in
+    false≢true (sym (ap is_some none) ∙ ap (λ (v : View). is_some v.stage) c.self.view_is ∙ c.requires.whole)
 
 pub invariant_of-self : goal.invariant_of-self
 invariant_of-self g c =

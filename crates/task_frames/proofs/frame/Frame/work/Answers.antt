@@ -1,10 +1,19 @@
 use Rattle.std.proofs.Common.{Some, refl, sym, ap, subst, ◌∙◌, arith, rules}
+use Rattle.std.proofs.lemmas.Bool.{false≢true}
+use Rattle.std.specs.Option.{is_some}
 use Rattle.task_frames.specs.declared.at_core.StagedTask.{StagedTask}
 use Rattle.task_frames.specs.declared.stage.Stage.TheVariants.{Asking, Ready}
 use Rattle.task_frames.specs.Frames.{FrameView, IsFrame, Task}
 use Rattle.task_frames.specs.Going.{IsRow}
 use Rattle.task_frames.proofs.Amid.{few, for-one, rowed}
 use Rattle.task_frames.proofs.frame.Frame.work.Goals as goal
+
+pub unreachable-requires : goal.unreachable-requires
+unreachable-requires g c =
+    let View : Type 0 = FrameView g.row.B.Denot g.row.B-Local.Denot g.row.Q-Ends.Denot in
+    let is = c.deref_mut-staged.ensures.value in
+    let none = sym (ap (λ (st : StagedTask g.row.B.Denot g.row.B-Local.Denot). st.stage) is) ∙ sym c.take.ensures.value ∙ c.in-None.is in
+    false≢true (sym (ap is_some none) ∙ ap (λ (v : View). is_some v.stage) c.self.view_is ∙ c.requires.whole)
 
 pub invariant_of-self-then-fuel-eq0 : goal.invariant_of-self-then-fuel-eq0
 invariant_of-self-then-fuel-eq0 g c =
@@ -37,8 +46,8 @@ invariant_of-self-2 g c =
     let last = subst (λ (t : Task g.row.B.Denot g.row.B-Local.Denot). IsFrame g.B.Body (record t { since = c.self.inside.since }) (g.Q.Ends.LocalEnds.name c.self.inside.ends) (g.Q.Ends.LocalEnds.ends c.self.inside.ends) c.in_ok-row-in-Some-Ready.row.stage) (sym c.goes_on.ensures) then in
     (for-one _ _ last, λ _. refl)
 
-pub invariant_of-self-in-Some-Asking : goal.invariant_of-self-in-Some-Asking
-invariant_of-self-in-Some-Asking g c =
+pub invariant_of-self : goal.invariant_of-self
+invariant_of-self g c =
     let is = c.deref_mut-staged.ensures.value in
     let was = sym c.take.ensures.value ∙ c.in-Some-Asking.is ∙ ap Some c.in-Some-Asking.field-0-is in
     let own = subst (λ (st : StagedTask g.row.B.Denot g.row.B-Local.Denot). IsFrame g.B.Body (record st.task { since = c.self.inside.since }) (g.Q.Ends.LocalEnds.name c.self.inside.ends) (g.Q.Ends.LocalEnds.ends c.self.inside.ends)

@@ -1,10 +1,11 @@
-use Rattle.std.proofs.Common.{◌≡◌, None, inr, refl, sym, subst}
+use Rattle.std.proofs.Common.{◌≡◌, None, inr, refl, sym, subst, IsSome}
 use Rattle.pop_order.specs.Frames.{HasNoChild}
 use Rattle.queues.specs.Asks.{IsOnTurn, MayJoin, OnNext}
 use Rattle.swan_model.specs.declared.script.Deed.TheVariants as deed
 use Rattle.swan_model.specs.QueueFollows.{next_queue_deed}
 use Rattle.swan_model.specs.Versions.{IsSettled}
-use Rattle.task_frames.specs.Records.{IsLiveChild, IsOldestChild}
+use Rattle.task_frames.specs.Records.{IsLiveChild, IsOldestChild, live_at}
+use Rattle.task_frames.proofs.Goings.{live-here}
 use Rattle.task_frames.proofs.Endings.{ends-quietly}
 use Rattle.task_frames.proofs.Firsts.{waits-oldest}
 use Rattle.task_frames.proofs.Given.{over}
@@ -17,6 +18,10 @@ returns-in-Some-clause-step g c =
     waits-oldest g.B.Body _ _ has _ c.asks.result c.in-Some.child refl c.asks.ensures
     (over (λ k n. IsOldestChild k.live n c.in-Some.child) _ _ _ _ (sym c.self.view_is) (sym c.number-number.ensures) c.in-Some.ensures.oldest)
     (inr (finish-last g.B.Body _ _ has))
+
+pub leave-requires-clause-live : goal.leave-requires-clause-live
+leave-requires-clause-live g c κs within =
+    subst (λ n. IsSome (live_at c.args.self.now.live n)) (sym c.number-number.ensures) (live-here g.B.Body _ _ c.requires.has)
 
 pub leave-requires-clause-settled : goal.leave-requires-clause-settled
 leave-requires-clause-settled g c κs within =

@@ -1,7 +1,10 @@
 use Rattle.std.proofs.lemmas.Result.{IfOk-weaker}
+use Rattle.task_frames.specs.Records.{live_at}
 use Rattle.task_frames.proofs.Asked.{steps-few}
-use Rattle.task_frames.proofs.SpawnStep.{free-then, gives-asked, next-asked, objects-asked, older-asked, rising-asked, rising-then, room-then, spawn-asked, step-so, turn-asked}
-use Rattle.std.proofs.Common.{◌<◌, sym, subst}
+use Rattle.task_frames.proofs.Given.{over}
+use Rattle.task_frames.proofs.Goings.{live-here}
+use Rattle.task_frames.proofs.SpawnStep.{free-then, next-asked, objects-asked, older-asked, rising-asked, rising-then, room-then, spawn-asked, step-so, turn-asked}
+use Rattle.std.proofs.Common.{◌<◌, IsSome, sym, subst}
 use Rattle.swan_model.specs.QueueState.{COUNT_MOST}
 use Rattle.task_frames.proofs.kept.Kept.make_child.Goals as goal
 
@@ -29,9 +32,9 @@ pub hand_over-requires-clause-older : goal.hand_over-requires-clause-older
 hand_over-requires-clause-older g c κs within =
     older-asked g.B.Body _ c.args.mid c.args.child c.requires.has _ c.requires.given c.requires.alone c.requires.shallow c.requires.cheap _ _ _ c.number-parent.ensures c.next_number-number.ensures c.as_slice.ensures.value
 
-pub hand_over-requires-clause-gives : goal.hand_over-requires-clause-gives
-hand_over-requires-clause-gives g c κs within =
-    gives-asked g.B.Body _ c.args.mid c.args.child c.requires.has _ c.requires.given c.requires.alone c.requires.shallow c.requires.cheap _ _ _ c.number-parent.ensures c.next_number-number.ensures c.as_slice.ensures.value
+pub note_child-requires-clause-live : goal.note_child-requires-clause-live
+note_child-requires-clause-live g c κs within =
+    over (λ k n. IsSome (live_at k.live n)) _ _ _ _ c.in_ok-hand_over.ensures.same c.number-parent.ensures (live-here g.B.Body _ _ c.requires.has)
 
 pub note_child-requires-clause-few : goal.note_child-requires-clause-few
 note_child-requires-clause-few g c κs within =

@@ -1,9 +1,11 @@
-use Rattle.std.proofs.Common.{◌≡◌, ◌<◌, ◌+◌, None, sym, subst, ap, arith}
+use Rattle.std.proofs.Common.{◌≡◌, ◌<◌, ◌+◌, None, sym, subst, ap, arith, IsSome}
 use Rattle.swan_model.specs.declared.rights.Mode.TheVariants.{InOut}
 use Rattle.swan_model.specs.SerialState.{Holding}
 use Rattle.swan_model.specs.Versions.{placed_at}
 use Rattle.swan_model.specs.QueueState.{COUNT_MOST, OBJECTS_MOST}
 use Rattle.task_frames.specs.Cores.{KeptView, Mid}
+use Rattle.task_frames.specs.Records.{live_at}
+use Rattle.task_frames.proofs.Goings.{live-here}
 use Rattle.task_frames.proofs.Asked.{steps-few}
 use Rattle.task_frames.proofs.AtPlaces.{noted-place, object-free, object-kept, object-room, object-runs, told-more}
 use Rattle.task_frames.proofs.Given.{over}
@@ -20,8 +22,12 @@ overflow_add-self g c =
     let room = subst (λ (k : KeptView). k.objects < OBJECTS_MOST) (sym c.self.view_is) (object-room g.B.Body _ _ _ c.requires.has c.requires.begun) in
     omega (arith, room)
 
-pub note_place-requires-after_bounds : goal.note_place-requires-after_bounds
-note_place-requires-after_bounds g c κs within = subst (λ k. k < COUNT_MOST) (sym c.done-done.ensures) (steps-few g.B.Body _ _ _ c.requires.has)
+pub note_place-requires-clause-few : goal.note_place-requires-clause-few
+note_place-requires-clause-few g c κs within = subst (λ k. k < COUNT_MOST) (sym c.done-done.ensures) (steps-few g.B.Body _ _ _ c.requires.has)
+
+pub note_place-requires-clause-live : goal.note_place-requires-clause-live
+note_place-requires-clause-live g c κs within =
+    over (λ k n. IsSome (live_at k.live n)) _ _ _ _ c.self.view_is c.number-number.ensures (live-here g.B.Body _ _ c.requires.has)
 
 pub is_told-frame-requires-after_bounds : goal.is_told-frame-requires-after_bounds
 is_told-frame-requires-after_bounds g c κs within =

@@ -1,9 +1,11 @@
-use Rattle.std.proofs.Common.{◌≡◌, ◌<◌, Some, length, refl, sym, subst, ap, ◌∙◌}
+use Rattle.std.proofs.Common.{◌≡◌, ◌<◌, Some, length, refl, sym, subst, ap, ◌∙◌, IsSome}
 use Rattle.swan_model.specs.declared.script.Deed.TheVariants as deed
 use Rattle.swan_model.specs.QueueFollows.{next_queue_deed}
 use Rattle.swan_model.specs.QueueState.{after_create, COUNT_MOST}
 use Rattle.queues.specs.Asks.{HasRoom, IsOnTurn, MayDo, OnActive, OnNext}
 use Rattle.task_frames.specs.Cores.{KeptView, Mid}
+use Rattle.task_frames.specs.Records.{live_at}
+use Rattle.task_frames.proofs.Goings.{live-here}
 use Rattle.task_frames.proofs.Asked.{steps-few}
 use Rattle.task_frames.proofs.AtPlaces.{noted-place, queue-kept, queue-next, queue-room, queue-runs, told-more}
 use Rattle.task_frames.proofs.AtQueues.{may-do, turn}
@@ -24,8 +26,12 @@ create-requires-clause-next g c =
     over (λ k n. OnNext k.name k.state n (λ s own. next_queue_deed s own.path own.deeds ≡ Some deed.MakeQueue)) _ _ _ _ c.self.view_is c.number-number.ensures
     (queue-next g.B.Body _ _ c.requires.has c.requires.begun)
 
-pub note_place-requires-after_bounds : goal.note_place-requires-after_bounds
-note_place-requires-after_bounds g c κs within = subst (λ k. k < COUNT_MOST) (sym c.done-done.ensures) (steps-few g.B.Body _ _ _ c.requires.has)
+pub note_place-requires-clause-few : goal.note_place-requires-clause-few
+note_place-requires-clause-few g c κs within = subst (λ k. k < COUNT_MOST) (sym c.done-done.ensures) (steps-few g.B.Body _ _ _ c.requires.has)
+
+pub note_place-requires-clause-live : goal.note_place-requires-clause-live
+note_place-requires-clause-live g c κs within =
+    over (λ k n. IsSome (live_at k.live n)) _ _ _ _ c.self.view_is c.number-number.ensures (live-here g.B.Body _ _ c.requires.has)
 
 pub is_told-frame-requires-after_bounds : goal.is_told-frame-requires-after_bounds
 is_told-frame-requires-after_bounds g c κs within =

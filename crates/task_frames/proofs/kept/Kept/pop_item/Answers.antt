@@ -1,10 +1,12 @@
-use Rattle.std.proofs.Common.{refl, sym, subst, ◌<◌, ◌≡◌, Some}
+use Rattle.std.proofs.Common.{refl, sym, subst, ◌<◌, ◌≡◌, Some, IsSome}
 use Rattle.swan_model.specs.declared.rights.Mode.TheVariants.{Pop}
 use Rattle.swan_model.specs.declared.script.Deed.TheVariants as deed
 use Rattle.swan_model.specs.QueueFollows.{IsNextAbout, next_item}
 use Rattle.swan_model.specs.QueueState.{COUNT_MOST}
 use Rattle.queues.specs.Asks.{IsOnTurn, MayUse, OnActive, OnNext}
 use Rattle.queues.specs.Tells.{FindsItem, FindsNone, IsCause, OnQueue}
+use Rattle.task_frames.specs.Records.{live_at}
+use Rattle.task_frames.proofs.Goings.{live-here}
 use Rattle.task_frames.proofs.Asked.{noted-so, steps-few}
 use Rattle.task_frames.proofs.AtQueues.{deed-kept, finds-one, item-steps, pop-may, state-kept, turn, waits}
 use Rattle.task_frames.specs.Resumes.{to_pop}
@@ -23,8 +25,12 @@ pop-requires-clause-next g c =
     over (λ k n. OnNext k.name k.state n (λ s own. IsNextAbout deed.Pop s k.state own c.args.queue)) _ _ _ _ c.self.view_is c.number-number.ensures
     (pop-may g.B.Body _ _ _ c.requires.has c.args.queue c.requires.at).1
 
-pub note_step-requires-after_bounds : goal.note_step-requires-after_bounds
-note_step-requires-after_bounds g c κs within = subst (λ k. k < COUNT_MOST) (sym c.done.ensures) (steps-few g.B.Body _ _ _ c.requires.has)
+pub note_step-requires-clause-few : goal.note_step-requires-clause-few
+note_step-requires-clause-few g c κs within = subst (λ k. k < COUNT_MOST) (sym c.done.ensures) (steps-few g.B.Body _ _ _ c.requires.has)
+
+pub note_step-requires-clause-live : goal.note_step-requires-clause-live
+note_step-requires-clause-live g c κs within =
+    over (λ k n. IsSome (live_at k.live n)) _ _ _ _ c.self.view_is c.number-number.ensures (live-here g.B.Body _ _ c.requires.has)
 
 pub is_told-frame-requires-after_bounds : goal.is_told-frame-requires-after_bounds
 is_told-frame-requires-after_bounds g c κs within = steps-few g.B.Body _ _ _ c.requires.has

@@ -1,4 +1,4 @@
-use Rattle.std.proofs.Common.{◌≡◌, None, Some, inr, refl, sym, subst}
+use Rattle.std.proofs.Common.{◌≡◌, None, Some, inr, refl, sym, subst, IsSome}
 use Rattle.swan_model.specs.declared.rights.Mode.TheVariants.{Pop}
 use Rattle.swan_model.specs.declared.script.Deed.TheVariants as deed
 use Rattle.swan_model.specs.QueueFollows.{IsNextAbout, next_item, next_queue_deed}
@@ -7,7 +7,8 @@ use Rattle.swan_model.specs.Versions.{IsSettled}
 use Rattle.pop_order.specs.Frames.{HasNoChild}
 use Rattle.queues.specs.Asks.{IsOnTurn, MayJoin, MayUse, OnActive, OnNext}
 use Rattle.queues.specs.Tells.{FindsItem, IsCause, OnQueue}
-use Rattle.task_frames.specs.Records.{IsLiveChild, IsOldestChild}
+use Rattle.task_frames.specs.Records.{IsLiveChild, IsOldestChild, live_at}
+use Rattle.task_frames.proofs.Goings.{live-here}
 use Rattle.task_frames.proofs.AtQueues.{dry-ends, dry-join, dry-kept, dry-over, dry-turn, finds-one, none-last, pop-may, state-kept, turn, waits}
 use Rattle.task_frames.proofs.Firsts.{waits-oldest}
 use Rattle.task_frames.specs.Resumes.{to_pop}
@@ -40,6 +41,10 @@ unreachable-requires g c =
     (λ own live s named law origin made. (over (λ k n. OnActive k.state n (λ own. OnQueue k.name k.state c.args.queue (λ s origin. (next_item s own origin ≡ Some c.in-Item.field-0) × FindsItem own s origin))) _ _ _ _
     (sym c.self.view_is) (sym c.number-number.ensures) c.in-Item.ensures.answer own live s named law origin made).1)
     c.requires.none
+
+pub leave-requires-clause-live : goal.leave-requires-clause-live
+leave-requires-clause-live g c κs within =
+    over (λ k n. IsSome (live_at k.live n)) _ _ _ _ c.self.view_is c.number-number.ensures (live-here g.B.Body _ _ c.requires.has)
 
 pub leave-requires-clause-settled : goal.leave-requires-clause-settled
 leave-requires-clause-settled g c κs within =

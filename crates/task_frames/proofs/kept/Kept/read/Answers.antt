@@ -1,4 +1,4 @@
-use Rattle.std.proofs.Common.{◌<◌, ◌≡◌, Some, refl, sym, subst, ap, ◌∙◌}
+use Rattle.std.proofs.Common.{◌<◌, ◌≡◌, Some, refl, sym, subst, ap, ◌∙◌, IsSome}
 use Rattle.swan_model.specs.declared.body.Answer.TheVariants as answer
 use Rattle.swan_model.specs.declared.script.Script.{Script}
 use Rattle.swan_model.specs.declared.value.Value.{Value}
@@ -9,6 +9,8 @@ use Rattle.swan_model.specs.declared.rights.Mode.TheVariants.{In}
 use Rattle.swan_model.specs.Versions.{Placed, owed, placed_at}
 use Rattle.swan_model.specs.QueueState.{COUNT_MOST}
 use Rattle.task_frames.specs.Cores.{AtCore, one_on}
+use Rattle.task_frames.specs.Records.{live_at}
+use Rattle.task_frames.proofs.Goings.{live-here}
 use Rattle.task_frames.proofs.Amid.{some-of}
 use Rattle.task_frames.proofs.Asked.{noted-so, steps-few}
 use Rattle.task_frames.proofs.Given.{over}
@@ -23,8 +25,12 @@ value-requires g c =
           (object-there g.B.Body _ _ _ c.requires.has c.args.place at.0 In refl (sym c.number_at.ensures ∙ at.1));
     }
 
-pub note_step-requires-after_bounds : goal.note_step-requires-after_bounds
-note_step-requires-after_bounds g c κs within = subst (λ k. k < COUNT_MOST) (sym c.done.ensures) (steps-few g.B.Body _ _ _ c.requires.has)
+pub note_step-requires-clause-few : goal.note_step-requires-clause-few
+note_step-requires-clause-few g c κs within = subst (λ k. k < COUNT_MOST) (sym c.done.ensures) (steps-few g.B.Body _ _ _ c.requires.has)
+
+pub note_step-requires-clause-live : goal.note_step-requires-clause-live
+note_step-requires-clause-live g c κs within =
+    subst (λ n. IsSome (live_at c.args.self.now.live n)) (sym c.number-number.ensures) (live-here g.B.Body _ _ c.requires.has)
 
 pub is_told-frame-requires-after_bounds : goal.is_told-frame-requires-after_bounds
 is_told-frame-requires-after_bounds g c κs within = steps-few g.B.Body _ _ _ c.requires.has

@@ -1,14 +1,14 @@
-use Rattle.std.proofs.Common.{◌<◌, inl, refl, sym, subst, ◌∙◌}
+use Rattle.std.proofs.Common.{◌<◌, inl, refl, sym, subst, ◌∙◌, IsSome}
 use Rattle.swan_model.specs.declared.body.Answer.TheVariants as answer
 use Rattle.swan_model.specs.declared.script.Deed.TheVariants as deed
 use Rattle.swan_model.specs.QueueState.{COUNT_MOST}
 use Rattle.queues.specs.Asks.{IsOnTurn, MayJoin}
 use Rattle.serial_elision.proofs.AskSteps.{syncs}
-use Rattle.task_frames.specs.Records.{HasNoLiveChild, IsLiveChild, IsOldestChild}
+use Rattle.task_frames.specs.Records.{HasNoLiveChild, IsLiveChild, IsOldestChild, live_at}
 use Rattle.task_frames.proofs.Asked.{noted-so, quiet-so, steps-few}
 use Rattle.task_frames.proofs.Firsts.{waits-oldest}
 use Rattle.task_frames.proofs.Given.{over, same-state}
-use Rattle.task_frames.proofs.Goings.{is-asking}
+use Rattle.task_frames.proofs.Goings.{is-asking, live-here}
 use Rattle.task_frames.proofs.Tried.{join-so, on-turn-so}
 use Rattle.task_frames.proofs.kept.Kept.sync.Goals as goal
 
@@ -29,8 +29,12 @@ sync-requires-clause-turn g c =
     over (λ k n. IsOnTurn k.name k.state n) _ _ _ _ c.self.view_is c.number-number.ensures
     (on-turn-so g.B.Body _ _ c.requires.has c.requires.begun (over (λ k n. (m : _) → ¬ IsLiveChild k.live n m) _ _ _ _ (sym c.self.view_is) (sym c.number-number.ensures) c.in_default.ensures.none))
 
-pub note_step-requires-after_bounds : goal.note_step-requires-after_bounds
-note_step-requires-after_bounds g c κs within = subst (λ k. k < COUNT_MOST) (sym c.done.ensures) (steps-few g.B.Body _ _ _ c.requires.has)
+pub note_step-requires-clause-few : goal.note_step-requires-clause-few
+note_step-requires-clause-few g c κs within = subst (λ k. k < COUNT_MOST) (sym c.done.ensures) (steps-few g.B.Body _ _ _ c.requires.has)
+
+pub note_step-requires-clause-live : goal.note_step-requires-clause-live
+note_step-requires-clause-live g c κs within =
+    over (λ k n. IsSome (live_at k.live n)) _ _ _ _ c.self.view_is c.number-number.ensures (live-here g.B.Body _ _ c.requires.has)
 
 pub is_told-frame-requires-after_bounds : goal.is_told-frame-requires-after_bounds
 is_told-frame-requires-after_bounds g c κs within = steps-few g.B.Body _ _ _ c.requires.has

@@ -2,6 +2,7 @@ use Rattle.std.proofs.Common.{◌≡◌, ◌-◌, Some, refl, sym, subst, ap, �
 use Rattle.std.proofs.lemmas.Option.{same_Some}
 use Rattle.std.specs.Option.{option_map}
 use Rattle.swan_model.specs.Readings.{gone_on_by}
+use Rattle.swan_model.proofs.Elements.{some_is}
 use Rattle.task_frames.specs.Cores.{IsCore, KeptView}
 use Rattle.task_frames.specs.Records.{IsOnlyLive, LiveFrame, come_to, live_at}
 use Rattle.task_frames.specs.Frames.{Task}
@@ -54,5 +55,6 @@ returns-in-Ok-clause-come g c =
 
 pub come_on-requires : goal.come_on-requires
 come_on-requires g c = record {
+  live = some_is (live_at c.self.inside.live c.number-number.result) c.in-Some.live.now c.in-Some.ensures.some;
   since = λ live is. ap (λ (l : LiveFrame). l.done) (same_Some live c.in-Some.live.now (sym is ∙ c.in-Some.ensures.some)) ∙ sym (ap (λ (l : LiveFrame). l.done) c.live.view_is);
 }

@@ -1,10 +1,12 @@
-use Rattle.std.proofs.Common.{refl, sym, subst, ◌∙◌, ◌<◌, ◌≡◌}
+use Rattle.std.proofs.Common.{refl, sym, subst, ◌∙◌, ◌<◌, ◌≡◌, IsSome}
 use Rattle.swan_model.specs.declared.rights.Mode.TheVariants.{Pop}
 use Rattle.swan_model.specs.declared.script.Deed.TheVariants as deed
 use Rattle.swan_model.specs.QueueFollows.{IsNextAbout}
 use Rattle.queues.specs.Asks.{IsOnTurn, MayUse, OnActive, OnNext}
 use Rattle.queues.specs.Tells.{FindsItem, FindsNone, IsCause, OnQueue}
 use Rattle.swan_model.specs.QueueState.{COUNT_MOST, after_deed}
+use Rattle.task_frames.specs.Records.{live_at}
+use Rattle.task_frames.proofs.Goings.{live-here}
 use Rattle.task_frames.proofs.Asked.{noted-so, steps-few}
 use Rattle.task_frames.proofs.AtQueues.{IsToldOf, deed-kept, state-kept, test-may, test-steps, turn, waits}
 use Rattle.task_frames.specs.Resumes.{to_test}
@@ -30,8 +32,12 @@ returns-in-NotYet-clause-step g c =
     (state-kept _ _ _ _ _ c.self.view_is c.in-NotYet.ensures.same.0 c.in-NotYet.ensures.same.1 c.in-NotYet.ensures.after) c.asks.ensures (to_test _ _ _ refl (sym c.number_at.ensures ∙ c.in-Some.is))
     (over (λ k n. OnActive k.state n (λ b. IsCause k.name k.state b c.in-Some.queue c.in-NotYet.wait)) _ _ _ _ (sym c.self.view_is) (sym c.number-number.ensures) c.in-NotYet.ensures.answer)
 
-pub note_step-requires-after_bounds : goal.note_step-requires-after_bounds
-note_step-requires-after_bounds g c κs within = subst (λ k. k < COUNT_MOST) (sym c.done.ensures) (steps-few g.B.Body _ _ _ c.requires.has)
+pub note_step-requires-clause-few : goal.note_step-requires-clause-few
+note_step-requires-clause-few g c κs within = subst (λ k. k < COUNT_MOST) (sym c.done.ensures) (steps-few g.B.Body _ _ _ c.requires.has)
+
+pub note_step-requires-clause-live : goal.note_step-requires-clause-live
+note_step-requires-clause-live g c κs within =
+    over (λ k n. IsSome (live_at k.live n)) _ _ _ _ c.self.view_is c.number-number.ensures (live-here g.B.Body _ _ c.requires.has)
 
 pub is_told-frame-requires-after_bounds : goal.is_told-frame-requires-after_bounds
 is_told-frame-requires-after_bounds g c κs within = steps-few g.B.Body _ _ _ c.requires.has

@@ -1,7 +1,9 @@
-use Rattle.std.proofs.Common.{◌<◌, ◌≡◌, Some, refl, sym, subst, ◌∙◌}
+use Rattle.std.proofs.Common.{◌<◌, ◌≡◌, Some, refl, sym, subst, ◌∙◌, IsSome}
 use Rattle.swan_model.specs.declared.rights.Mode.TheVariants.{Out}
 use Rattle.swan_model.specs.Versions.{Placed, after_write, placed_at}
 use Rattle.swan_model.specs.QueueState.{COUNT_MOST}
+use Rattle.task_frames.specs.Records.{live_at}
+use Rattle.task_frames.proofs.Goings.{live-here}
 use Rattle.task_frames.proofs.Amid.{some-of}
 use Rattle.task_frames.proofs.Asked.{noted-so, steps-few}
 use Rattle.task_frames.proofs.Given.{over}
@@ -16,8 +18,12 @@ write-requires g c =
           (object-there g.B.Body _ _ _ c.requires.has c.args.place at.0 Out refl (sym c.number_at.ensures ∙ at.1));
     }
 
-pub note_step-requires-after_bounds : goal.note_step-requires-after_bounds
-note_step-requires-after_bounds g c κs within = subst (λ k. k < COUNT_MOST) (sym c.done.ensures) (steps-few g.B.Body _ _ _ c.requires.has)
+pub note_step-requires-clause-few : goal.note_step-requires-clause-few
+note_step-requires-clause-few g c κs within = subst (λ k. k < COUNT_MOST) (sym c.done.ensures) (steps-few g.B.Body _ _ _ c.requires.has)
+
+pub note_step-requires-clause-live : goal.note_step-requires-clause-live
+note_step-requires-clause-live g c κs within =
+    over (λ k n. IsSome (live_at k.live n)) _ _ _ _ c.self.view_is c.number-number.ensures (live-here g.B.Body _ _ c.requires.has)
 
 pub is_told-frame-requires-after_bounds : goal.is_told-frame-requires-after_bounds
 is_told-frame-requires-after_bounds g c κs within = steps-few g.B.Body _ _ _ c.requires.has

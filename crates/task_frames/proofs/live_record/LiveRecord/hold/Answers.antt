@@ -1,6 +1,10 @@
-use Rattle.std.proofs.Common.{refl}
+use Rattle.std.proofs.Common.{IsSome, refl, sym, subst}
+use Rattle.task_frames.specs.Records.{NumberedFrames, live_at}
 use Rattle.task_frames.proofs.Lives.{held-keeps}
 use Rattle.task_frames.proofs.live_record.LiveRecord.hold.Goals as goal
+
+pub hold-requires : goal.hold-requires
+hold-requires c = record { live = subst (λ (fs : NumberedFrames). IsSome (live_at fs c.args.number)) (sym c.self.view_is) c.requires.live }
 
 pub invariant_of-self : goal.invariant_of-self
 invariant_of-self c =

@@ -1,4 +1,4 @@
-use Rattle.std.proofs.Common.{◌≡◌, [], ◌++◌, List, length, refl, sym, ap, ◌∙◌, subst}
+use Rattle.std.proofs.Common.{◌≡◌, ◌++◌, List, length, refl, sym, ap, ◌∙◌, subst}
 use Rattle.swan_model.specs.declared.plan.Plan.{Plan}
 use Rattle.swan_model.specs.declared.plan.RootQueue.{RootQueue}
 use Rattle.swan_model.specs.declared.value.Value.{Value}
@@ -7,7 +7,7 @@ use Rattle.swan_model.specs.Script.{script}
 use Rattle.swan_model.specs.SerialState.{Holding}
 use Rattle.task_frames.specs.Cores.{HasIt, KeptView}
 use Rattle.task_frames.specs.Frames.{IsPlan, Task, root_task}
-use Rattle.task_frames.specs.Opened.{IsFirstKept}
+use Rattle.task_frames.specs.Opened.{IsKeptAtFirst}
 use Rattle.task_frames.proofs.Beginning.{opened-has}
 use Rattle.task_frames.proofs.run_core.Core.open.Goals as goal
 
@@ -22,23 +22,17 @@ give-root-requires-clause-has g c κs within =
     c.in_ok-holdings.ensures ∙ ap (λ (qs : List RootQueue). queue_holdings 0 qs ++ object_holdings 0 c.into_lists-root_queues.result.1) queues-are
     ∙ ap (λ (vs : List Value). queue_holdings 0 plan.roots.queues ++ object_holdings 0 vs) objects-are in
     let listed : c.as_slice.result.now ≡ root_holdings plan.roots = c.as_slice.ensures.value ∙ held in
-    let kept : KeptView = c.in_ok-first.first.kept in
-    let first : IsFirstKept (script g.B.Body plan) (length plan.roots.queues) (length plan.roots.objects) (root_holdings plan.roots) kept =
-    subst (λ (hs : List Holding). IsFirstKept (script g.B.Body plan) (length plan.roots.queues) (length plan.roots.objects) hs kept) listed
-    (subst (λ (vs : List Value). IsFirstKept (script g.B.Body plan) (length plan.roots.queues) (length vs) c.as_slice.result.now kept) objects-are
-    (subst (λ (qs : List RootQueue). IsFirstKept (script g.B.Body plan) (length qs) (length c.into_lists-root_queues.result.1) c.as_slice.result.now kept) queues-are
-    (subst (λ (p : Plan g.row.B.Denot g.row.B-Local.Denot). IsFirstKept (script g.B.Body p) (length c.into_lists-root_queues.result.0) (length c.into_lists-root_queues.result.1) c.as_slice.result.now kept)
-    means c.in_ok-first.ensures.kept))) in
-    let again : c.again.result.means ≡ plan = c.again.ensures ∙ means in
-    let path : c.root.result ≡ [] = c.root.ensures in
-    let task : Task g.row.B.Denot g.row.B-Local.Denot =
-    record { plan = c.again.result.means; number = 0; path = c.root.result; done = 0; since = 0; fuel = c.units-fuel.result; holdings = c.in_ok-holdings.holdings.items; children = 0 } in
+    let kept : KeptView = c.in_ok-kept.kept in
+    let first : IsKeptAtFirst (script g.B.Body plan) (length plan.roots.queues) (length plan.roots.objects) (root_holdings plan.roots) kept =
+    subst (λ (hs : List Holding). IsKeptAtFirst (script g.B.Body plan) (length plan.roots.queues) (length plan.roots.objects) hs kept) listed
+    (subst (λ (vs : List Value). IsKeptAtFirst (script g.B.Body plan) (length plan.roots.queues) (length vs) c.as_slice.result.now kept) objects-are
+    (subst (λ (qs : List RootQueue). IsKeptAtFirst (script g.B.Body plan) (length qs) (length c.into_lists-root_queues.result.1) c.as_slice.result.now kept) queues-are
+    (subst (λ (p : Plan g.row.B.Denot g.row.B-Local.Denot). IsKeptAtFirst (script g.B.Body p) (length c.into_lists-root_queues.result.0) (length c.into_lists-root_queues.result.1) c.as_slice.result.now kept)
+    means c.in_ok-kept.ensures.kept))) in
+    let task : Task g.row.B.Denot g.row.B-Local.Denot = c.root_task-task.result in
     let task-is : task ≡ record (root_task plan (root_holdings plan.roots)) { fuel = c.units-fuel.result } =
-    ap {B = Task g.row.B.Denot g.row.B-Local.Denot} (λ (p : Plan g.row.B.Denot g.row.B-Local.Denot).
-    record { plan = p; number = 0; path = c.root.result; done = 0; since = 0; fuel = c.units-fuel.result; holdings = c.in_ok-holdings.holdings.items; children = 0 }) again
-    ∙ ap {B = Task g.row.B.Denot g.row.B-Local.Denot} (λ p.
-    record { plan = plan; number = 0; path = p; done = 0; since = 0; fuel = c.units-fuel.result; holdings = c.in_ok-holdings.holdings.items; children = 0 }) path
-    ∙ ap {B = Task g.row.B.Denot g.row.B-Local.Denot} (λ (hs : List Holding).
-    record { plan = plan; number = 0; path = []; done = 0; since = 0; fuel = c.units-fuel.result; holdings = hs; children = 0 }) held in
-    subst (HasIt g.B.Body _) (sym c.in_ok-at.ensures)
+    c.root_task-task.ensures
+    ∙ ap {B = Task g.row.B.Denot g.row.B-Local.Denot} (λ (p : Plan g.row.B.Denot g.row.B-Local.Denot). record (root_task p c.in_ok-holdings.holdings.items) { fuel = c.units-fuel.result }) means
+    ∙ ap {B = Task g.row.B.Denot g.row.B-Local.Denot} (λ (hs : List Holding). record (root_task plan hs) { fuel = c.units-fuel.result }) held in
+    subst (HasIt g.B.Body _) (sym c.in_ok-begun.ensures)
     (opened-has g.B.Body plan sound _ first task plan.root_local c.units-fuel.result c.units-fuel.ensures.units task-is refl)

@@ -1,0 +1,7 @@
+use Rattle.std.proofs.Common.{IsSome, sym, subst}
+use Rattle.task_frames.specs.Cores.{KeptView}
+use Rattle.task_frames.specs.Records.{live_at}
+use Rattle.task_frames.proofs.kept.Kept.note_step.Goals as goal
+
+pub come_to-requires : goal.come_to-requires
+come_to-requires g c = record { live = subst (λ (k : KeptView). IsSome (live_at k.live c.args.number)) (sym c.self.view_is) c.requires.live }
