@@ -56,36 +56,36 @@ pub others_without : (before after : List ChildEntry) (parent queue child : ℕ)
 others_without before after parent queue child change other apart = λ p c.
     change p other c ∙ ap (λ b. not b && has before p other c) (false_from_ne_true _ (λ e. apart (sym (is_same parent queue child p other c e).queues)))
 
--- ---- makers
+-- ---- givers
 
-maker_same : (queue number q n : ℕ) → is_pair queue number q n ≡ true → (queue ≡ q) × (number ≡ n)
-maker_same queue number q n h = (grind (arith, nat_tests), grind (arith, nat_tests))
+giver_same : (queue number q n : ℕ) → is_pair queue number q n ≡ true → (queue ≡ q) × (number ≡ n)
+giver_same queue number q n h = (grind (arith, nat_tests), grind (arith, nat_tests))
 
-same_maker : (queue number : ℕ) → is_pair queue number queue number ≡ true
-same_maker queue number = grind (arith, nat_tests)
+same_giver : (queue number : ℕ) → is_pair queue number queue number ≡ true
+same_giver queue number = grind (arith, nat_tests)
 
 module _ (before after : List NumberPair) (queue number : ℕ) (change : IsWithPair before queue number after) where
-  pub maker_in : has_pair after queue number ≡ true
-  maker_in = change queue number ∙ or_left _ _ (same_maker queue number)
+  pub giver_in : has_pair after queue number ≡ true
+  giver_in = change queue number ∙ or_left _ _ (same_giver queue number)
 
-  pub maker_still : (q n : ℕ) → has_pair before q n ≡ true → has_pair after q n ≡ true
-  maker_still q n h = change q n ∙ or_right _ _ h
+  pub giver_still : (q n : ℕ) → has_pair before q n ≡ true → has_pair after q n ≡ true
+  giver_still q n h = change q n ∙ or_right _ _ h
 
-  pub maker_after : (q n : ℕ) → has_pair after q n ≡ true → ((queue ≡ q) × (number ≡ n)) ⊎ (has_pair before q n ≡ true)
-  maker_after q n h = elim (or_cases _ _ (sym (change q n) ∙ h)) [
-    | inl same ↦ inl (maker_same queue number q n same)
+  pub giver_after : (q n : ℕ) → has_pair after q n ≡ true → ((queue ≡ q) × (number ≡ n)) ⊎ (has_pair before q n ≡ true)
+  giver_after q n h = elim (or_cases _ _ (sym (change q n) ∙ h)) [
+    | inl same ↦ inl (giver_same queue number q n same)
     | inr was ↦ inr was
   ]
 
 module _ (before after : List NumberPair) (queue number : ℕ) (change : IsWithoutPair before queue number after) where
-  pub maker_was : (q n : ℕ) → has_pair after q n ≡ true → has_pair before q n ≡ true
-  maker_was q n h = (and_parts _ _ (sym (change q n) ∙ h)).1
+  pub giver_was : (q n : ℕ) → has_pair after q n ≡ true → has_pair before q n ≡ true
+  giver_was q n h = (and_parts _ _ (sym (change q n) ∙ h)).1
 
-  pub maker_gone : has_pair after queue number ≡ true → ⊥
-  maker_gone h = false≢true (sym (not-true _ (and_parts _ _ (sym (change queue number) ∙ h)).0) ∙ same_maker queue number)
+  pub giver_gone : has_pair after queue number ≡ true → ⊥
+  giver_gone h = false≢true (sym (not-true _ (and_parts _ _ (sym (change queue number) ∙ h)).0) ∙ same_giver queue number)
 
-  pub maker_stays : (q n : ℕ) → n ≢ number → has_pair before q n ≡ true → has_pair after q n ≡ true
-  maker_stays q n apart h = change q n ∙ and_from _ _ (ap not (false_from_ne_true _ (λ e. apart (sym (maker_same queue number q n e).1)))) h
+  pub giver_stays : (q n : ℕ) → n ≢ number → has_pair before q n ≡ true → has_pair after q n ≡ true
+  giver_stays q n apart h = change q n ∙ and_from _ _ (ap not (false_from_ne_true _ (λ e. apart (sym (giver_same queue number q n e).1)))) h
 
-  pub other_makers : (q : ℕ) → q ≢ queue → (n : ℕ) → has_pair after q n ≡ has_pair before q n
-  other_makers q apart n = change q n ∙ ap (λ b. not b && has_pair before q n) (false_from_ne_true _ (λ e. apart (sym (maker_same queue number q n e).0)))
+  pub other_givers : (q : ℕ) → q ≢ queue → (n : ℕ) → has_pair after q n ≡ has_pair before q n
+  other_givers q apart n = change q n ∙ ap (λ b. not b && has_pair before q n) (false_from_ne_true _ (λ e. apart (sym (giver_same queue number q n e).0)))

@@ -8,7 +8,7 @@ use Rattle.swan_model.specs.declared.rights.Mode.{Mode}
 use Rattle.pop_order.specs.Children.{ChildEntry, has}
 use Rattle.pop_order.specs.Frames.{Frames}
 use Rattle.pop_order.specs.Order.{IsChild}
-use Rattle.pop_order.specs.Kept.{AreBelowParents, HasHolders, HasMakers, IsKeptFor, IsKept}
+use Rattle.pop_order.specs.Kept.{AreBelowParents, HasHolders, HasGivers, IsKeptFor, IsKept}
 use Rattle.pop_order.specs.NumberPairs.{NumberPair, has_pair}
 
 no_child : {p n : ℕ} → IsChild [] p n → ⊥
@@ -24,14 +24,14 @@ no_holders mode queue = record {
   all = λ p n child holder. absurd (no_child child);
 }
 
-no_maker : (q n : ℕ) → has_pair [] q n ≡ true → ⊥
+no_giver : (q n : ℕ) → has_pair [] q n ≡ true → ⊥
 unfolding has_pair
-no_maker q n h = false≢true h
+no_giver q n h = false≢true h
 
-no_makers : (queue : ℕ) → HasMakers [] queue [] []
-no_makers queue = record {
-  made = λ n k. absurd (no_maker queue n k);
-  apart = λ n k. absurd (no_maker queue n k);
+no_givers : (queue : ℕ) → HasGivers [] queue [] []
+no_givers queue = record {
+  gave = λ n k. absurd (no_giver queue n k);
+  apart = λ n k. absurd (no_giver queue n k);
   all = λ n c h never. absurd (no_entry n queue c h);
 }
 
@@ -39,11 +39,11 @@ none_below : AreBelowParents []
 none_below = λ p n child. absurd (no_child child)
 
 none_for : (queue : ℕ) → IsKeptFor [] [] [] [] queue
-none_for queue = record { pops = no_holders _ queue; pushes = no_holders _ queue; makes = no_makers queue }
+none_for queue = record { pops = no_holders _ queue; pushes = no_holders _ queue; gives = no_givers queue }
 
-pub empty_kept : (frames : Frames) (poppers pushers : List ChildEntry) (makers : List NumberPair) → IsStrictlySortedBy nat_cmp (keys_of frames)
-    → frames ≡ [] → poppers ≡ [] → pushers ≡ [] → makers ≡ [] → IsKept frames poppers pushers makers
-empty_kept frames poppers pushers makers sorted f a b c = record {
+pub empty_kept : (frames : Frames) (poppers pushers : List ChildEntry) (givers : List NumberPair) → IsStrictlySortedBy nat_cmp (keys_of frames)
+    → frames ≡ [] → poppers ≡ [] → pushers ≡ [] → givers ≡ [] → IsKept frames poppers pushers givers
+empty_kept frames poppers pushers givers sorted f a b c = record {
   sorted = sorted;
   below = rw f none_below;
   sets = λ queue. rw (f, a, b, c) (none_for queue);

@@ -139,22 +139,22 @@ module _ (before after : Frames) (alike : IsAlike before after) (back : IsAlike 
     all = λ p c is holder. h.all p c (child_alike after before back p c is) (holder_alike after before back q m c holder);
   }
 
-  kept_for_alike : (poppers pushers : List ChildEntry) (makers : List NumberPair) (q : ℕ) → IsKeptFor before poppers pushers makers q → IsKeptFor after poppers pushers makers q
-  kept_for_alike poppers pushers makers q kept = record {
+  kept_for_alike : (poppers pushers : List ChildEntry) (givers : List NumberPair) (q : ℕ) → IsKeptFor before poppers pushers givers q → IsKeptFor after poppers pushers givers q
+  kept_for_alike poppers pushers givers q kept = record {
     pops = holders_alike q Pop poppers kept.pops;
     pushes = holders_alike q Push pushers kept.pushes;
-    makes = record {
-      made = kept.makes.made;
-      apart = λ n k holder. kept.makes.apart n k (holder_alike after before back q Push n holder);
-      all = λ n c h never. kept.makes.all n c h (λ holder. never (holder_alike before after alike q Push n holder));
+    gives = record {
+      gave = kept.gives.gave;
+      apart = λ n k holder. kept.gives.apart n k (holder_alike after before back q Push n holder);
+      all = λ n c h never. kept.gives.all n c h (λ holder. never (holder_alike before after alike q Push n holder));
     };
   }
 
-  kept_alike : (poppers pushers : List ChildEntry) (makers : List NumberPair) → IsStrictlySortedBy nat_cmp (keys_of after) → IsKept before poppers pushers makers → IsKept after poppers pushers makers
-  kept_alike poppers pushers makers sorted kept = record {
+  kept_alike : (poppers pushers : List ChildEntry) (givers : List NumberPair) → IsStrictlySortedBy nat_cmp (keys_of after) → IsKept before poppers pushers givers → IsKept after poppers pushers givers
+  kept_alike poppers pushers givers sorted kept = record {
     sorted = sorted;
     below = λ p n is. kept.below p n (child_alike after before back p n is);
-    sets = λ q. kept_for_alike poppers pushers makers q (kept.sets q);
+    sets = λ q. kept_for_alike poppers pushers givers q (kept.sets q);
   }
 
 lent_alike : (frames : Frames) (child : ℕ) (found : Option TurnFrame) → frame_at frames child ≡ found → IsAlike frames (frames_after_lend_at frames child found)
@@ -185,8 +185,8 @@ lent_back frames child (Some g) e = record {
   ];
 }
 
-pub kept_lent : (frames : Frames) (child : ℕ) (poppers pushers : List ChildEntry) (makers : List NumberPair) → IsStrictlySortedBy nat_cmp (keys_of (frames_after_lend frames child))
-    → IsKept frames poppers pushers makers → IsKept (frames_after_lend frames child) poppers pushers makers
-kept_lent frames child poppers pushers makers sorted kept =
+pub kept_lent : (frames : Frames) (child : ℕ) (poppers pushers : List ChildEntry) (givers : List NumberPair) → IsStrictlySortedBy nat_cmp (keys_of (frames_after_lend frames child))
+    → IsKept frames poppers pushers givers → IsKept (frames_after_lend frames child) poppers pushers givers
+kept_lent frames child poppers pushers givers sorted kept =
     kept_alike frames (frames_after_lend frames child) (lent_alike frames child (frame_at frames child) refl) (lent_back frames child (frame_at frames child) refl)
-    poppers pushers makers sorted kept
+    poppers pushers givers sorted kept

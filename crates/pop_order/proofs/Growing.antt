@@ -9,18 +9,18 @@ use Rattle.pop_order.specs.Children.{ChildEntry, has, IsWith, IsSameFor}
 use Rattle.pop_order.specs.Frames.{TurnFrame, Frames, frame_at, lets_use}
 use Rattle.pop_order.specs.Order.{IsChild}
 use Rattle.pop_order.specs.Turns.{IsHolder}
-use Rattle.pop_order.specs.Kept.{HasHolders, HasMakers}
+use Rattle.pop_order.specs.Kept.{HasHolders, HasGivers}
 use Rattle.pop_order.specs.NumberPairs.{NumberPair, has_pair}
-use Rattle.pop_order.specs.Steps.{IsGrown, IsMakerNoted, needless, noted}
-use Rattle.pop_order.proofs.Changes.{came_in, still_in, in_after, maker_in, maker_still, maker_after}
+use Rattle.pop_order.specs.Steps.{IsGrown, IsGiverNoted, needless, noted}
+use Rattle.pop_order.proofs.Changes.{came_in, still_in, in_after, giver_in, giver_still, giver_after}
 use Rattle.swan_model.proofs.Elements.{one_answer}
 
 -- ---- another set with the same children
 
-pub same_makers : (frames : Frames) (queue : ℕ) (set other : List ChildEntry) (makers now : List NumberPair) → IsSameFor queue set other
-    → ((n : ℕ) → has_pair now queue n ≡ has_pair makers queue n) → HasMakers frames queue set makers → HasMakers frames queue other now
-same_makers frames queue set other makers now same still kept = record {
-  made = λ n k. let child = kept.made n (sym (still n) ∙ k) in (child.0, same n child.0 ∙ child.1);
+pub same_givers : (frames : Frames) (queue : ℕ) (set other : List ChildEntry) (givers now : List NumberPair) → IsSameFor queue set other
+    → ((n : ℕ) → has_pair now queue n ≡ has_pair givers queue n) → HasGivers frames queue set givers → HasGivers frames queue other now
+same_givers frames queue set other givers now same still kept = record {
+  gave = λ n k. let child = kept.gave n (sym (still n) ∙ k) in (child.0, same n child.0 ∙ child.1);
   apart = λ n k. kept.apart n (sym (still n) ∙ k);
   all = λ n c h never. still n ∙ kept.all n c (sym (same n c) ∙ h) never;
 }
@@ -150,12 +150,12 @@ module _ (before after : Frames) (parent child : ℕ) (holding : Holding) (grown
     still_apart : (n c : ℕ) → has set n q c ≡ true → ¬ IsHolder before q Push n → ¬ IsHolder after q Push n
     still_apart n c h never holder = never (holder_before q Push n (not_above q n c set pushes h) holder)
 
-    pub makers_noted : (makers now : List NumberPair) → HasMakers before q set makers → IsMakerNoted after parent holding makers now → HasMakers after q more now
-    makers_noted makers now kept (needless need same) =
-        let P : List NumberPair → Type 0 = λ m. HasMakers after q more m in
+    pub givers_noted : (givers now : List NumberPair) → HasGivers before q set givers → IsGiverNoted after parent holding givers now → HasGivers after q more now
+    givers_noted givers now kept (needless need same) =
+        let P : List NumberPair → Type 0 = λ m. HasGivers after q more m in
         subst P (sym same) (record {
-          made = λ n k. let c = kept.made n k in (c.0, grew n c.0 c.1);
-          apart = λ n k. let c = kept.made n k in still_apart n c.0 c.1 (kept.apart n k);
+          gave = λ n k. let c = kept.gave n k in (c.0, grew n c.0 c.1);
+          apart = λ n k. let c = kept.gave n k in still_apart n c.0 c.1 (kept.apart n k);
           all = λ n c h never. elim (entry_from n c h) [
             | inl was ↦ kept.all n c was (λ holder. never (holder_after q Push n holder))
             | inr own ↦
@@ -164,8 +164,8 @@ module _ (before after : Frames) (parent child : ℕ) (holding : Holding) (grown
                 absurd (never (subst R (sym own.2) (subst Q own.0 (need own.1))))
           ];
         })
-    makers_noted makers now kept (noted may never change) = record {
-      made = λ n k. elim (maker_after makers now holding.number parent change q n k) [
+    givers_noted givers now kept (noted may never change) = record {
+      gave = λ n k. elim (giver_after givers now holding.number parent change q n k) [
         | inl same ↦
             let S : ℕ → Type 0 = λ k. (c : ℕ) × (has more k q c ≡ true) in
             let H : ℕ → Type 0 = λ k. IsHolder after k Push child in
@@ -174,20 +174,20 @@ module _ (before after : Frames) (parent child : ℕ) (holding : Holding) (grown
               now_pushes.all parent child child_now
                   (subst H same.0 (record { frame = grown.frame; active = grown.one.changed; held = grown.new Push may })),
             )
-        | inr was ↦ let c = kept.made n was in (c.0, grew n c.0 c.1)
+        | inr was ↦ let c = kept.gave n was in (c.0, grew n c.0 c.1)
       ];
-      apart = λ n k. elim (maker_after makers now holding.number parent change q n k) [
+      apart = λ n k. elim (giver_after givers now holding.number parent change q n k) [
         | inl same ↦
             let Q : ℕ → Type 0 = λ k. ¬ IsHolder after k Push n in
             let R : ℕ → Type 0 = λ k. ¬ IsHolder after holding.number Push k in
             subst Q same.0 (subst R same.1 never)
-        | inr was ↦ let c = kept.made n was in still_apart n c.0 c.1 (kept.apart n was)
+        | inr was ↦ let c = kept.gave n was in still_apart n c.0 c.1 (kept.apart n was)
       ];
       all = λ n c h apart. elim (entry_from n c h) [
-        | inl was ↦ maker_still makers now holding.number parent change q n (kept.all n c was (λ holder. apart (holder_after q Push n holder)))
+        | inl was ↦ giver_still givers now holding.number parent change q n (kept.all n c was (λ holder. apart (holder_after q Push n holder)))
         | inr own ↦
             let Q : ℕ → Type 0 = λ k. has_pair now k n ≡ true in
             let R : ℕ → Type 0 = λ k. has_pair now holding.number k ≡ true in
-            subst Q own.0 (subst R (sym own.2) (maker_in makers now holding.number parent change))
+            subst Q own.0 (subst R (sym own.2) (giver_in givers now holding.number parent change))
       ];
     }

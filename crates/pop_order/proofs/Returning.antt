@@ -16,7 +16,7 @@ use Rattle.pop_order.specs.Kept.{IsKeptFor}
 use Rattle.pop_order.specs.NumberPairs.{NumberPair}
 use Rattle.pop_order.specs.Steps.{IsShrunk, is_given, HoldsNoOther}
 use Rattle.pop_order.proofs.Enlisting.{shrunk_without}
-use Rattle.pop_order.proofs.Shrinking.{holders_untouched, makers_untouched}
+use Rattle.pop_order.proofs.Shrinking.{holders_untouched, givers_untouched}
 use Rattle.swan_model.proofs.Elements.{one_answer}
 
 -- a queue that isn't the last one of the holdings so far was among those before
@@ -41,26 +41,26 @@ holds_given (x ∷ xs) queue mode h =
     given_and (x.number == queue) (allows x.mode mode) (lets_use xs queue mode) (is_given xs queue) h (λ t. holds_given xs queue mode t)
 
 module _ (before after : Frames) (parent child : ℕ) (shrunk : IsShrunk before after parent child) where
-  settled_by : (poppers pushers : List ChildEntry) (makers : List NumberPair) (queue : ℕ) (hs : List Holding) (b : Bool) → is_given hs queue ≡ b → HoldsNoOther before child hs
-      → IsKeptFor before poppers pushers makers queue ⊎ IsKeptFor after poppers pushers makers queue
-      → (is_given hs queue ≡ true → IsKeptFor after poppers pushers makers queue)
-      → IsKeptFor after poppers pushers makers queue
-  settled_by poppers pushers makers queue hs true e other either done = done e
-  settled_by poppers pushers makers queue hs false e other (inr kept) done = kept
-  settled_by poppers pushers makers queue hs false e other (inl kept) done =
+  settled_by : (poppers pushers : List ChildEntry) (givers : List NumberPair) (queue : ℕ) (hs : List Holding) (b : Bool) → is_given hs queue ≡ b → HoldsNoOther before child hs
+      → IsKeptFor before poppers pushers givers queue ⊎ IsKeptFor after poppers pushers givers queue
+      → (is_given hs queue ≡ true → IsKeptFor after poppers pushers givers queue)
+      → IsKeptFor after poppers pushers givers queue
+  settled_by poppers pushers givers queue hs true e other either done = done e
+  settled_by poppers pushers givers queue hs false e other (inr kept) done = kept
+  settled_by poppers pushers givers queue hs false e other (inl kept) done =
       let never : (mode : Mode) → IsHolder before queue mode child → ⊥ = λ mode holder. false≢true (sym e ∙ other queue mode holder) in
       record {
         pops = holders_untouched before after parent child shrunk Pop queue poppers kept.pops (never Pop);
         pushes = holders_untouched before after parent child shrunk Push queue pushers kept.pushes (never Push);
-        makes = makers_untouched before after parent child shrunk queue pushers kept.pushes makers kept.makes;
+        gives = givers_untouched before after parent child shrunk queue pushers kept.pushes givers kept.gives;
       }
 
   -- the sets of each queue are right once the child is out of those of its own queues
-  pub settled_all : (poppers pushers : List ChildEntry) (makers : List NumberPair) (queue : ℕ) (hs : List Holding) → HoldsNoOther before child hs
-      → IsKeptFor before poppers pushers makers queue ⊎ IsKeptFor after poppers pushers makers queue
-      → (is_given hs queue ≡ true → IsKeptFor after poppers pushers makers queue)
-      → IsKeptFor after poppers pushers makers queue
-  settled_all poppers pushers makers queue hs = settled_by poppers pushers makers queue hs (is_given hs queue) refl
+  pub settled_all : (poppers pushers : List ChildEntry) (givers : List NumberPair) (queue : ℕ) (hs : List Holding) → HoldsNoOther before child hs
+      → IsKeptFor before poppers pushers givers queue ⊎ IsKeptFor after poppers pushers givers queue
+      → (is_given hs queue ≡ true → IsKeptFor after poppers pushers givers queue)
+      → IsKeptFor after poppers pushers givers queue
+  settled_all poppers pushers givers queue hs = settled_by poppers pushers givers queue hs (is_given hs queue) refl
 
 module _ (frames after : Frames) (child parent : ℕ) (f : TurnFrame) (hs : List Holding) (active : frame_at frames child ≡ Some f) where
   pub is_shrunk : IsStrictlySortedBy nat_cmp (keys_of frames) → f.parent ≡ parent → HasNoChild frames child → after ≡ without frames child

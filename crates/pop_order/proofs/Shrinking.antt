@@ -7,11 +7,11 @@ use Rattle.pop_order.specs.Children.{ChildEntry, has, IsWithout}
 use Rattle.pop_order.specs.Frames.{Frames}
 use Rattle.pop_order.specs.Order.{IsChild}
 use Rattle.pop_order.specs.Turns.{IsHolder}
-use Rattle.pop_order.specs.Kept.{HasHolders, HasMakers}
-use Rattle.pop_order.specs.Makers.{IsMakerSettled, stays, goes}
+use Rattle.pop_order.specs.Kept.{HasHolders, HasGivers}
+use Rattle.pop_order.specs.Givers.{IsGiverSettled, stays, goes}
 use Rattle.pop_order.specs.NumberPairs.{NumberPair, has_pair}
 use Rattle.pop_order.specs.Steps.{IsShrunk}
-use Rattle.pop_order.proofs.Changes.{IsSame, was_in, is_another, stays_in, maker_was, maker_gone, maker_stays}
+use Rattle.pop_order.proofs.Changes.{IsSame, was_in, is_another, stays_in, giver_was, giver_gone, giver_stays}
 use Rattle.pop_order.proofs.Lineage.{same_parent}
 use Rattle.pop_order.proofs.Meeting.{none_or_some}
 
@@ -75,36 +75,36 @@ module _ (before after : Frames) (parent child : ℕ) (shrunk : IsShrunk before 
     was_apart : (n c : ℕ) → has set n q c ≡ true → ¬ IsHolder after q Push n → ¬ IsHolder before q Push n
     was_apart n c h never holder = never (holder_after q Push n (not_above q n c set pushes h) holder)
 
-    pub makers_untouched : (makers : List NumberPair) → HasMakers before q set makers → HasMakers after q set makers
-    makers_untouched makers kept = record {
-      made = kept.made;
+    pub givers_untouched : (givers : List NumberPair) → HasGivers before q set givers → HasGivers after q set givers
+    givers_untouched givers kept = record {
+      gave = kept.gave;
       apart = λ n k holder. kept.apart n k (holder_before q Push n holder);
       all = λ n c h never. kept.all n c h (was_apart n c h never);
     }
 
-  module _ (q : ℕ) (set fewer : List ChildEntry) (makers now : List NumberPair) (now_pushes : HasHolders after Push q fewer) where
-    -- the makers after the child went out, for what they were before
-    pub makers_without : HasHolders before Push q set → IsMakerSettled fewer parent q makers now → HasMakers before q set makers → HasMakers after q fewer now
-    makers_without pushes settled kept = by settled where
+  module _ (q : ℕ) (set fewer : List ChildEntry) (givers now : List NumberPair) (now_pushes : HasHolders after Push q fewer) where
+    -- the givers after the child went out, for what they were before
+    pub givers_without : HasHolders before Push q set → IsGiverSettled fewer parent q givers now → HasGivers before q set givers → HasGivers after q fewer now
+    givers_without pushes settled kept = by settled where
       fewer_was : (n c : ℕ) → has fewer n q c ≡ true → has set n q c ≡ true
       fewer_was n c h = let is = now_pushes.holders n c h in pushes.all n c (child_before n c is.0) (holder_before q Push c is.1)
 
-      left_of : (n : ℕ) → has_pair makers q n ≡ true → n ≢ parent → (c : ℕ) × (has fewer n q c ≡ true)
+      left_of : (n : ℕ) → has_pair givers q n ≡ true → n ≢ parent → (c : ℕ) × (has fewer n q c ≡ true)
       left_of n k apart =
-          let c = kept.made n k in
+          let c = kept.gave n k in
           let was = pushes.holders n c.0 c.1 in
           let other : c.0 ≢ child = λ same.
           apart (same_parent before (let P : ℕ → Type 0 = λ k. IsChild before n k in subst P same was.0) shrunk.was) in
           (c.0, now_pushes.all n c.0 (child_after n c.0 other was.0) (holder_after q Push c.0 other was.1))
 
-      known : (n c : ℕ) → has fewer n q c ≡ true → ¬ IsHolder after q Push n → has_pair makers q n ≡ true
+      known : (n c : ℕ) → has fewer n q c ≡ true → ¬ IsHolder after q Push n → has_pair givers q n ≡ true
       known n c h never = kept.all n c (fewer_was n c h) (was_apart q set pushes n c (fewer_was n c h) never)
 
-      by : IsMakerSettled fewer parent q makers now → HasMakers after q fewer now
+      by : IsGiverSettled fewer parent q givers now → HasGivers after q fewer now
       by (stays c h same) =
-          let P : List NumberPair → Type 0 = λ m. HasMakers after q fewer m in
+          let P : List NumberPair → Type 0 = λ m. HasGivers after q fewer m in
           subst P (sym same) (record {
-            made = λ n k. elim (cases_eq n parent) [
+            gave = λ n k. elim (cases_eq n parent) [
               | inl e ↦ let S : ℕ → Type 0 = λ k. (c : ℕ) × (has fewer k q c ≡ true) in subst S (sym e) (c, h)
               | inr apart ↦ left_of n k apart
             ];
@@ -112,34 +112,34 @@ module _ (before after : Frames) (parent child : ℕ) (shrunk : IsShrunk before 
             all = known;
           })
       by (goes none change) = record {
-        made = λ n k. left_of n (maker_was makers now q parent change q n k)
-            (λ e. maker_gone makers now q parent change (let S : ℕ → Type 0 = λ k. has_pair now q k ≡ true in subst S e k));
-        apart = λ n k holder. kept.apart n (maker_was makers now q parent change q n k) (holder_before q Push n holder);
-        all = λ n c h never. maker_stays makers now q parent change q n
+        gave = λ n k. left_of n (giver_was givers now q parent change q n k)
+            (λ e. giver_gone givers now q parent change (let S : ℕ → Type 0 = λ k. has_pair now q k ≡ true in subst S e k));
+        apart = λ n k holder. kept.apart n (giver_was givers now q parent change q n k) (holder_before q Push n holder);
+        all = λ n c h never. giver_stays givers now q parent change q n
             (λ e. false≢true (sym (none c) ∙ (let S : ℕ → Type 0 = λ k. has fewer k q c ≡ true in subst S e h))) (known n c h never);
       }
 
     -- the same where the child was out already
-    pub makers_again : HasHolders after Push q set → IsMakerSettled fewer parent q makers now → HasMakers after q set makers → HasMakers after q fewer now
-    makers_again pushes settled kept = by settled where
+    pub givers_again : HasHolders after Push q set → IsGiverSettled fewer parent q givers now → HasGivers after q set givers → HasGivers after q fewer now
+    givers_again pushes settled kept = by settled where
       fewer_is : (n c : ℕ) → has fewer n q c ≡ true → has set n q c ≡ true
       fewer_is n c h = let is = now_pushes.holders n c h in pushes.all n c is.0 is.1
 
-      left_of : (n : ℕ) → has_pair makers q n ≡ true → (c : ℕ) × (has fewer n q c ≡ true)
-      left_of n k = let c = kept.made n k in let is = pushes.holders n c.0 c.1 in (c.0, now_pushes.all n c.0 is.0 is.1)
+      left_of : (n : ℕ) → has_pair givers q n ≡ true → (c : ℕ) × (has fewer n q c ≡ true)
+      left_of n k = let c = kept.gave n k in let is = pushes.holders n c.0 c.1 in (c.0, now_pushes.all n c.0 is.0 is.1)
 
-      by : IsMakerSettled fewer parent q makers now → HasMakers after q fewer now
+      by : IsGiverSettled fewer parent q givers now → HasGivers after q fewer now
       by (stays c h same) =
-          let P : List NumberPair → Type 0 = λ m. HasMakers after q fewer m in
+          let P : List NumberPair → Type 0 = λ m. HasGivers after q fewer m in
           subst P (sym same) (record {
-            made = left_of;
+            gave = left_of;
             apart = kept.apart;
             all = λ n c h never. kept.all n c (fewer_is n c h) never;
           })
       by (goes none change) = record {
-        made = λ n k. left_of n (maker_was makers now q parent change q n k);
-        apart = λ n k. kept.apart n (maker_was makers now q parent change q n k);
-        all = λ n c h never. maker_stays makers now q parent change q n
+        gave = λ n k. left_of n (giver_was givers now q parent change q n k);
+        apart = λ n k. kept.apart n (giver_was givers now q parent change q n k);
+        all = λ n c h never. giver_stays givers now q parent change q n
             (λ e. false≢true (sym (none c) ∙ (let S : ℕ → Type 0 = λ k. has fewer k q c ≡ true in subst S e h)))
             (kept.all n c (fewer_is n c h) never);
       }

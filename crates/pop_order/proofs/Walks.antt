@@ -7,18 +7,18 @@ use Rattle.pop_order.specs.Frames.{TurnFrame, Frames, frame_at, lets_use}
 use Rattle.pop_order.specs.NumberPairs.{NumberPair, has_pair, IsNext}
 use Rattle.pop_order.specs.Order.{IsChild, IsAtOrBelow, at, below, ComesBefore, inside, aside}
 use Rattle.pop_order.specs.Turns.{IsHolder}
-use Rattle.pop_order.specs.Kept.{AreBelowParents, HasHolders, HasMakers}
+use Rattle.pop_order.specs.Kept.{AreBelowParents, HasHolders, HasGivers}
 use Rattle.pop_order.specs.Walk.{IsLed, here, further, IsFirstUnder, IsFirstOf, IsFirstEarlier, IsSooner, late, second, taken}
 use Rattle.pop_order.proofs.Before.{one_is_first, before_before}
 use Rattle.pop_order.proofs.Lineage.{below_below, le_below}
 use Rattle.swan_model.proofs.Elements.{one_answer}
 
--- ---- down from a maker
+-- ---- down from a giver
 
--- The pushers that a maker leads to are led to by the node too, or all at or below the node comes before them.
-pub record IsDown (frames : Frames) (set : List ChildEntry) (queue maker node : ℕ) : Type 0 where
-  pub known : (node ≡ maker) ⊎ IsHolder frames queue Push node
-  pub first : (other : ℕ) → IsLed set queue maker other → other ≢ maker
+-- The pushers that a giver leads to are led to by the node too, or all at or below the node comes before them.
+pub record IsDown (frames : Frames) (set : List ChildEntry) (queue giver node : ℕ) : Type 0 where
+  pub known : (node ≡ giver) ⊎ IsHolder frames queue Push node
+  pub first : (other : ℕ) → IsLed set queue giver other → other ≢ giver
       → IsLed set queue node other ⊎ ((n : ℕ) → IsAtOrBelow frames node n → ComesBefore frames n other)
 
 module _ (set : List ChildEntry) (queue : ℕ) where
@@ -35,11 +35,11 @@ module _ (frames : Frames) (queue : ℕ) (set : List ChildEntry) (rising : AreBe
   led_below top n here = at
   led_below top n (further parent _ h q) = below parent n (pushes.holders parent n h).0 (led_below top parent q)
 
-  pub down_start : (maker : ℕ) → IsDown frames set queue maker maker
-  down_start maker = record { known = inl refl; first = λ other led apart. inl led }
+  pub down_start : (giver : ℕ) → IsDown frames set queue giver giver
+  down_start giver = record { known = inl refl; first = λ other led apart. inl led }
 
-  pub down : (maker node oldest : ℕ) → IsOldest set node queue oldest → IsDown frames set queue maker node → IsDown frames set queue maker oldest
-  down maker node oldest is d =
+  pub down : (giver node oldest : ℕ) → IsOldest set node queue oldest → IsDown frames set queue giver node → IsDown frames set queue giver oldest
+  down giver node oldest is d =
       let child = (pushes.holders node oldest is.known).0 in
       let step : IsAtOrBelow frames node oldest = below node oldest child at in
       record {
@@ -58,11 +58,11 @@ module _ (frames : Frames) (queue : ℕ) (set : List ChildEntry) (rising : AreBe
       }
 
   -- where no child pushes, the frame itself is the first
-  pub at_last : (maker node child : ℕ) → has set maker queue child ≡ true → ((c : ℕ) → has set node queue c ≡ false) → IsDown frames set queue maker node
-      → IsFirstUnder frames set queue maker node
-  at_last maker node child made none d = record {
+  pub at_last : (giver node child : ℕ) → has set giver queue child ≡ true → ((c : ℕ) → has set node queue c ≡ false) → IsDown frames set queue giver node
+      → IsFirstUnder frames set queue giver node
+  at_last giver node child gave none d = record {
     pushes = elim d.known [
-      | inl same ↦ absurd (let P : ℕ → Type 0 = λ k. has set k queue child ≡ true in false≢true (sym (none child) ∙ subst P (sym same) made))
+      | inl same ↦ absurd (let P : ℕ → Type 0 = λ k. has set k queue child ≡ true in false≢true (sym (none child) ∙ subst P (sym same) gave))
       | inr holder ↦ holder
     ];
     first = λ other led apart differ. elim (d.first other led apart) [
@@ -71,15 +71,15 @@ module _ (frames : Frames) (queue : ℕ) (set : List ChildEntry) (rising : AreBe
     ];
   }
 
--- ---- from maker to maker
+-- ---- from giver to giver
 
--- a pusher to which a maker leads whose number is lower than one
-pub record IsSeen (set : List ChildEntry) (makers : List NumberPair) (queue from number : ℕ) : Type 0 where
-  pub maker : ℕ
-  pub known : has_pair makers queue maker ≡ true
-  pub before : maker < from
-  pub led : IsLed set queue maker number
-  pub younger : maker < number
+-- a pusher to which a giver leads whose number is lower than one
+pub record IsSeen (set : List ChildEntry) (givers : List NumberPair) (queue from number : ℕ) : Type 0 where
+  pub giver : ℕ
+  pub known : has_pair givers queue giver ≡ true
+  pub before : giver < from
+  pub led : IsLed set queue giver number
+  pub younger : giver < number
 
 module _ (frames : Frames) (queue : ℕ) where
   by_held : (n : ℕ) (f : TurnFrame) (b : Bool) → frame_at frames n ≡ Some f → lets_use f.holdings queue Push ≡ b → IsHolder frames queue Push n ⊎ (IsHolder frames queue Push n → ⊥)
@@ -95,11 +95,11 @@ module _ (frames : Frames) (queue : ℕ) where
   pushes_or_not : (n : ℕ) → IsHolder frames queue Push n ⊎ (IsHolder frames queue Push n → ⊥)
   pushes_or_not n = by_frame n (frame_at frames n) refl
 
-module _ (frames : Frames) (queue : ℕ) (set : List ChildEntry) (makers : List NumberPair) (rising : AreBelowParents frames)
-    (pushes : HasHolders frames Push queue set) (kept : HasMakers frames queue set makers) where
-  -- some maker leads to each pusher
+module _ (frames : Frames) (queue : ℕ) (set : List ChildEntry) (givers : List NumberPair) (rising : AreBelowParents frames)
+    (pushes : HasHolders frames Push queue set) (kept : HasGivers frames queue set givers) where
+  -- some giver leads to each pusher
   led_to : (most n : ℕ) → n < most → IsHolder frames queue Push n
-      → (m : ℕ) × (has_pair makers queue m ≡ true) × IsLed set queue m n × (m < n)
+      → (m : ℕ) × (has_pair givers queue m ≡ true) × IsLed set queue m n × (m < n)
   led_to zero n lt holder = absurd (omega arith)
   led_to (suc most) n lt holder =
       let p = holder.frame.parent in
@@ -112,11 +112,11 @@ module _ (frames : Frames) (queue : ℕ) (set : List ChildEntry) (makers : List 
         | inr never ↦ (p, kept.all p n known never, further p n known here, rising p n child)
       ]
 
-  all_seen : (from n : ℕ) → ((m : ℕ) → from ≤ m → has_pair makers queue m ≡ false) → IsHolder frames queue Push n → IsSeen set makers queue from n
+  all_seen : (from n : ℕ) → ((m : ℕ) → from ≤ m → has_pair givers queue m ≡ false) → IsHolder frames queue Push n → IsSeen set givers queue from n
   all_seen from n none holder =
       let by = led_to (n + 1) n (omega arith) holder in
       record {
-        maker = by.0;
+        giver = by.0;
         known = by.1;
         before = elim (cases_lt by.0 from) [ inl lt ↦ lt | inr ge ↦ absurd (false≢true (sym (none by.0 (omega arith)) ∙ by.1)) ];
         led = by.2;
@@ -124,22 +124,22 @@ module _ (frames : Frames) (queue : ℕ) (set : List ChildEntry) (makers : List 
       }
 
   module _ (frame : ℕ) where
-    pub none_seen : IsFirstOf frames queue frame (IsSeen set makers queue 0) None
+    pub none_seen : IsFirstOf frames queue frame (IsSeen set givers queue 0) None
     none_seen other seen before = omega (arith, seen.before)
 
-    -- once all makers were seen, what is found is the first of all
-    pub at_end : (from : ℕ) (found : Option ℕ) → ((m : ℕ) → from ≤ m → has_pair makers queue m ≡ false)
-        → IsFirstOf frames queue frame (IsSeen set makers queue from) found → IsFirstEarlier frames queue frame found
+    -- once all givers were seen, what is found is the first of all
+    pub at_end : (from : ℕ) (found : Option ℕ) → ((m : ℕ) → from ≤ m → has_pair givers queue m ≡ false)
+        → IsFirstOf frames queue frame (IsSeen set givers queue from) found → IsFirstEarlier frames queue frame found
     at_end from None none found = λ other pusher. found other (all_seen from other none pusher.0) pusher.1
     at_end from (Some number) none found = (found.0, λ other differ pusher. found.1 other (all_seen from other none pusher.0) differ pusher.1)
 
-    module _ (from maker n : ℕ) (next : IsNext makers queue from maker) (under : IsFirstUnder frames set queue maker n) where
-      -- what is seen was seen before, or the first below this maker comes before it
-      seen_or_here : (other : ℕ) → IsSeen set makers queue (maker + 1) other → IsSeen set makers queue from other ⊎ (other ≢ n → ComesBefore frames n other)
-      seen_or_here other seen = elim (cases_lt seen.maker from) [
-        | inl lt ↦ inl (record { maker = seen.maker; known = seen.known; before = lt; led = seen.led; younger = seen.younger })
+    module _ (from giver n : ℕ) (next : IsNext givers queue from giver) (under : IsFirstUnder frames set queue giver n) where
+      -- what is seen was seen before, or the first below this giver comes before it
+      seen_or_here : (other : ℕ) → IsSeen set givers queue (giver + 1) other → IsSeen set givers queue from other ⊎ (other ≢ n → ComesBefore frames n other)
+      seen_or_here other seen = elim (cases_lt seen.giver from) [
+        | inl lt ↦ inl (record { giver = seen.giver; known = seen.known; before = lt; led = seen.led; younger = seen.younger })
         | inr ge ↦
-            let same : seen.maker ≡ maker = omega (arith, seen.before, next.least seen.maker (omega arith) seen.known) in
+            let same : seen.giver ≡ giver = omega (arith, seen.before, next.least seen.giver (omega arith) seen.known) in
             let P : ℕ → Type 0 = λ k. IsLed set queue k other in
             inr (λ differ. under.first other (subst P same seen.led) (λ e. omega (arith, seen.younger)) differ)
       ]
@@ -150,8 +150,8 @@ module _ (frames : Frames) (queue : ℕ) (set : List ChildEntry) (makers : List 
         | inr differ ↦ never (before_before frames rising n other frame (first differ) before)
       ]
 
-      as_found : (found : Option ℕ) → ¬ ComesBefore frames n frame → IsFirstOf frames queue frame (IsSeen set makers queue from) found
-          → IsFirstOf frames queue frame (IsSeen set makers queue (maker + 1)) found
+      as_found : (found : Option ℕ) → ¬ ComesBefore frames n frame → IsFirstOf frames queue frame (IsSeen set givers queue from) found
+          → IsFirstOf frames queue frame (IsSeen set givers queue (giver + 1)) found
       as_found None never found = λ other seen before. elim (seen_or_here other seen) [
         | inl old ↦ found other old before
         | inr first ↦ not_late other never first before
@@ -164,8 +164,8 @@ module _ (frames : Frames) (queue : ℕ) (set : List ChildEntry) (makers : List 
         ],
       )
 
-      as_second : (number : ℕ) → ComesBefore frames number n → IsFirstOf frames queue frame (IsSeen set makers queue from) (Some number)
-          → IsFirstOf frames queue frame (IsSeen set makers queue (maker + 1)) (Some number)
+      as_second : (number : ℕ) → ComesBefore frames number n → IsFirstOf frames queue frame (IsSeen set givers queue from) (Some number)
+          → IsFirstOf frames queue frame (IsSeen set givers queue (giver + 1)) (Some number)
       as_second number sooner found = (
         found.0,
         λ other seen differ before. elim (seen_or_here other seen) [
@@ -183,7 +183,7 @@ module _ (frames : Frames) (queue : ℕ) (set : List ChildEntry) (makers : List 
       before_found number before other never apart = elim (one_is_first frames n number frame apart before other) [ inl first ↦ first | inr last ↦ absurd (never last) ]
 
       as_taken : (found : Option ℕ) → ComesBefore frames n frame → ((first : ℕ) → found ≡ Some first → ¬ ComesBefore frames first n)
-          → IsFirstOf frames queue frame (IsSeen set makers queue from) found → (other : ℕ) → IsSeen set makers queue from other → other ≢ n
+          → IsFirstOf frames queue frame (IsSeen set givers queue from) found → (other : ℕ) → IsSeen set givers queue from other → other ≢ n
           → ComesBefore frames other frame → ComesBefore frames n other
       as_taken None before never found other seen differ earlier = absurd (found other seen earlier)
       as_taken (Some number) before never found other seen differ earlier = elim (cases_eq n number) [
@@ -198,17 +198,17 @@ module _ (frames : Frames) (queue : ℕ) (set : List ChildEntry) (makers : List 
             ]
       ]
 
-      pub one_more : (found kept : Option ℕ) → IsSooner frames frame found n kept → IsFirstOf frames queue frame (IsSeen set makers queue from) found
-          → IsFirstOf frames queue frame (IsSeen set makers queue (maker + 1)) kept
+      pub one_more : (found kept : Option ℕ) → IsSooner frames frame found n kept → IsFirstOf frames queue frame (IsSeen set givers queue from) found
+          → IsFirstOf frames queue frame (IsSeen set givers queue (giver + 1)) kept
       one_more found kept (late never same) first =
-          let P : Option ℕ → Type 0 = λ x. IsFirstOf frames queue frame (IsSeen set makers queue (maker + 1)) x in
+          let P : Option ℕ → Type 0 = λ x. IsFirstOf frames queue frame (IsSeen set givers queue (giver + 1)) x in
           subst P (sym same) (as_found found never first)
       one_more found kept (second number before is sooner same) first =
-          let P : Option ℕ → Type 0 = λ x. IsFirstOf frames queue frame (IsSeen set makers queue (maker + 1)) x in
-          let Q : Option ℕ → Type 0 = λ x. IsFirstOf frames queue frame (IsSeen set makers queue from) x in
+          let P : Option ℕ → Type 0 = λ x. IsFirstOf frames queue frame (IsSeen set givers queue (giver + 1)) x in
+          let Q : Option ℕ → Type 0 = λ x. IsFirstOf frames queue frame (IsSeen set givers queue from) x in
           subst P (sym (same ∙ is)) (as_second number sooner (subst Q is first))
       one_more found kept (taken before never same) first =
-          let P : Option ℕ → Type 0 = λ x. IsFirstOf frames queue frame (IsSeen set makers queue (maker + 1)) x in
+          let P : Option ℕ → Type 0 = λ x. IsFirstOf frames queue frame (IsSeen set givers queue (giver + 1)) x in
           subst P (sym same) (
             (under.pushes, before),
             λ other seen differ earlier. elim (seen_or_here other seen) [

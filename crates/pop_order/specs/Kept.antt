@@ -20,19 +20,19 @@ pub record HasHolders (frames : Frames) (mode : Mode) (queue : ℕ) (set : List 
   pub holders : (parent child : ℕ) → has set parent queue child ≡ true → IsChild frames parent child × IsHolder frames queue mode child
   pub all : (parent child : ℕ) → IsChild frames parent child → IsHolder frames queue mode child → has set parent queue child ≡ true
 
--- The makers of a queue are exactly the frames that may not push to it and have a child that may.
-pub record HasMakers (frames : Frames) (queue : ℕ) (pushers : List ChildEntry) (makers : List NumberPair) : Type 0 where
-  pub made : (number : ℕ) → has_pair makers queue number ≡ true → (child : ℕ) × (has pushers number queue child ≡ true)
-  pub apart : (number : ℕ) → has_pair makers queue number ≡ true → ¬ IsHolder frames queue Push number
-  pub all : (number child : ℕ) → has pushers number queue child ≡ true → ¬ IsHolder frames queue Push number → has_pair makers queue number ≡ true
+-- The givers of a queue are exactly the frames that may not push to it and have a child that may.
+pub record HasGivers (frames : Frames) (queue : ℕ) (pushers : List ChildEntry) (givers : List NumberPair) : Type 0 where
+  pub gave : (number : ℕ) → has_pair givers queue number ≡ true → (child : ℕ) × (has pushers number queue child ≡ true)
+  pub apart : (number : ℕ) → has_pair givers queue number ≡ true → ¬ IsHolder frames queue Push number
+  pub all : (number child : ℕ) → has pushers number queue child ≡ true → ¬ IsHolder frames queue Push number → has_pair givers queue number ≡ true
 
 -- what the sets have for a queue
-pub record IsKeptFor (frames : Frames) (poppers pushers : List ChildEntry) (makers : List NumberPair) (queue : ℕ) : Type 0 where
+pub record IsKeptFor (frames : Frames) (poppers pushers : List ChildEntry) (givers : List NumberPair) (queue : ℕ) : Type 0 where
   pub pops : HasHolders frames Pop queue poppers
   pub pushes : HasHolders frames Push queue pushers
-  pub makes : HasMakers frames queue pushers makers
+  pub gives : HasGivers frames queue pushers givers
 
-pub record IsKept (frames : Frames) (poppers pushers : List ChildEntry) (makers : List NumberPair) : Type 0 where
+pub record IsKept (frames : Frames) (poppers pushers : List ChildEntry) (givers : List NumberPair) : Type 0 where
   pub sorted : IsStrictlySortedBy nat_cmp (keys_of frames)
   pub below : AreBelowParents frames
-  pub sets : (queue : ℕ) → IsKeptFor frames poppers pushers makers queue
+  pub sets : (queue : ℕ) → IsKeptFor frames poppers pushers givers queue

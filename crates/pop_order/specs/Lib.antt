@@ -7,13 +7,13 @@ pub mod Turns
 -- What a set of pairs has, and what a call changes of what is known by numbers; the crates above cite both too.
 pub mod NumberPairs
 pub mod OneChange
--- By these the code's own functions are stated, and no public clause. Two sets stand beside the frames, of children and of makers
--- (`Children` and `Makers`), and `Kept` says what they have.
+-- By these the code's own functions are stated, and no public clause. Two sets stand beside the frames, of children and of givers
+-- (`Children` and `Givers`), and `Kept` says what they have.
 pub mod Children
-pub mod Makers
+pub mod Givers
 pub mod Kept
 -- What is found on the way to the first earlier pusher, and among older siblings.
 pub mod Walk
 pub mod Poppers
--- How the frames, and the makers, differ after a child was given a queue, and how the frames do after it was given back.
+-- How the frames, and the givers, differ after a child was given a queue, and how the frames do after it was given back.
 pub mod Steps

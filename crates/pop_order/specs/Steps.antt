@@ -37,9 +37,9 @@ is_given holdings queue = list_any (λ h. h.number == queue) holdings
 abbrev pub HoldsNoOther : Frames → ℕ → List Holding → Type 0
 HoldsNoOther frames number holdings = (queue : ℕ) (mode : Mode) → IsHolder frames queue mode number → is_given holdings queue ≡ true
 
--- The makers after a child was given a queue: its parent comes in where the child may push and the parent may not.
-pub data IsMakerNoted (frames : Frames) (parent : ℕ) (holding : Holding) (before after : List NumberPair) : Type 0 where
+-- The givers after a child was given a queue: its parent comes in where the child may push and the parent may not.
+pub data IsGiverNoted (frames : Frames) (parent : ℕ) (holding : Holding) (before after : List NumberPair) : Type 0 where
   needless : (allows holding.mode Push ≡ true → IsHolder frames holding.number Push parent) → after ≡ before
-      → IsMakerNoted frames parent holding before after
+      → IsGiverNoted frames parent holding before after
   noted : allows holding.mode Push ≡ true → ¬ IsHolder frames holding.number Push parent → IsWithPair before holding.number parent after
-      → IsMakerNoted frames parent holding before after
+      → IsGiverNoted frames parent holding before after

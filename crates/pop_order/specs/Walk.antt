@@ -1,4 +1,4 @@
--- What is known on the way to the first earlier pusher: down from each maker, and up from two frames to where
+-- What is known on the way to the first earlier pusher: down from each giver, and up from two frames to where
 -- their ways meet.
 use Rattle.std.specs.Prelude.{◌≡◌, ◌≢◌, ℕ, Bool, true, false, nat_lt, Option, None, Some, List}
 use Rattle.swan_model.specs.declared.rights.Mode.TheVariants.{Push}
@@ -12,10 +12,10 @@ pub data IsLed (set : List ChildEntry) (queue top : ℕ) : ℕ → Type 0 where
   here : IsLed set queue top top
   further : (parent number : ℕ) → has set parent queue number ≡ true → IsLed set queue top parent → IsLed set queue top number
 
--- the first, in serial order, of the pushers that a maker leads to
-pub record IsFirstUnder (frames : Frames) (set : List ChildEntry) (queue maker number : ℕ) : Type 0 where
+-- the first, in serial order, of the pushers that a giver leads to
+pub record IsFirstUnder (frames : Frames) (set : List ChildEntry) (queue giver number : ℕ) : Type 0 where
   pub pushes : IsHolder frames queue Push number
-  pub first : (other : ℕ) → IsLed set queue maker other → other ≢ maker → other ≢ number → ComesBefore frames number other
+  pub first : (other : ℕ) → IsLed set queue giver other → other ≢ giver → other ≢ number → ComesBefore frames number other
 
 -- What is found among some pushers: the first, in serial order, of those that come before a frame.
 abbrev pub IsFirstOf : Frames → ℕ → ℕ → (ℕ → Type 0) → Option ℕ → Type 0

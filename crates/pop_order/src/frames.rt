@@ -56,12 +56,12 @@ pub fn add(
     child: u64,
     holding: QueueHolding,
 ) -> Result<(), NoMemory>
-    requires kept { IsKept frames.old.entries sets.old.poppers sets.old.pushers sets.old.makers }
+    requires kept { IsKept frames.old.entries sets.old.poppers sets.old.pushers sets.old.givers }
     requires rising { parent < child }
     requires newest { AreUpTo frames.old.entries child }
     requires fits { MayBeEnlisted frames.old.entries parent child holding.number }
     ensures given { OnOk result (frames.new.entries ≡ frames_after_enlist frames.old.entries parent child holding) }
-    ensures kept { OnOk result (IsKept frames.new.entries sets.new.poppers sets.new.pushers sets.new.makers) }
+    ensures kept { OnOk result (IsKept frames.new.entries sets.new.poppers sets.new.pushers sets.new.givers) }
 {
     give(alloc, frames, parent, child, holding)?;
     sets.add(frames, parent, child, holding)?;
@@ -72,8 +72,8 @@ pub fn add(
 /// holdings.
 pub fn take_out(sets: &mut Sets, parent: u64, child: u64, holdings: &[QueueHolding])
     ensures { (before after : Frames) → IsShrunk before after parent child → HoldsNoOther before child holdings.now
-        → ((queue : ℕ) → IsKeptFor before sets.old.poppers sets.old.pushers sets.old.makers queue)
-        → (queue : ℕ) → IsKeptFor after sets.new.poppers sets.new.pushers sets.new.makers queue }
+        → ((queue : ℕ) → IsKeptFor before sets.old.poppers sets.old.pushers sets.old.givers queue)
+        → (queue : ℕ) → IsKeptFor after sets.new.poppers sets.new.pushers sets.new.givers queue }
 {
     for holding in holdings {
         sets.take_out(parent, child, holding.queue);

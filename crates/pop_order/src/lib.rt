@@ -20,9 +20,9 @@
 //! After want of memory nothing is said of the frames.
 //!
 //! Inside, three sets stand beside the frames: the children that pop, and those that push, each by parent
-//! and queue; and the makers, by queue: the frames that may not push to it themselves and have a child that
-//! may. All pushers of a queue are below its makers, and a run's queue has one. So no call looks at all
-//! siblings, and none but `certain` goes up or down a tree. The makers are a set of pairs of numbers (`NumberPairs`), which is public
+//! and queue; and the givers, by queue: the frames that may not push to it themselves and have a child that
+//! may. All pushers of a queue are below its givers, and a run's queue has one. So no call looks at all
+//! siblings, and none but `certain` goes up or down a tree. The givers are a set of pairs of numbers (`NumberPairs`), which is public
 //! for those who keep such a set of their own; after want of memory it is as it was.
 #![tactic(auto)]
 

@@ -5,8 +5,8 @@ ghost use Rattle.swan_model.specs.declared.rights.Mode.TheVariants.{Push};
 ghost use Rattle.pop_order.specs.Children.{IsWith};
 ghost use Rattle.pop_order.specs.Frames.{Frames};
 ghost use Rattle.pop_order.specs.Kept.{HasHolders, IsKeptFor};
-ghost use Rattle.pop_order.specs.Makers.{IsMakerSettled};
-ghost use Rattle.pop_order.specs.Steps.{IsGrown, IsShrunk, IsMakerNoted};
+ghost use Rattle.pop_order.specs.Givers.{IsGiverSettled};
+ghost use Rattle.pop_order.specs.Steps.{IsGrown, IsShrunk, IsGiverNoted};
 ghost use Rattle.pop_order.specs.Turns.{IsHolder};
 
 use crate::{Children, NumberPairs, QueueHolding, TurnFrame};
@@ -23,7 +23,7 @@ pub struct Sets {
     pub pushers: Children,
     /// The frames that have a pushing child and don't push themselves, each behind the queue. In a run that
     /// is the frame that made the queue.
-    pub makers: NumberPairs,
+    pub givers: NumberPairs,
 }
 
 impl Sets {
@@ -31,12 +31,12 @@ impl Sets {
     pub fn new(alloc: Global) -> Sets
         ensures poppers { result.poppers ≡ [] }
         ensures pushers { result.pushers ≡ [] }
-        ensures makers { result.makers ≡ [] }
+        ensures givers { result.givers ≡ [] }
     {
         Sets {
             poppers: Children::new(alloc),
             pushers: Children::new(alloc),
-            makers: NumberPairs::new(alloc),
+            givers: NumberPairs::new(alloc),
         }
     }
 
@@ -44,11 +44,11 @@ impl Sets {
     pub fn clear(&mut self)
         ensures poppers { self.new.poppers ≡ [] }
         ensures pushers { self.new.pushers ≡ [] }
-        ensures makers { self.new.makers ≡ [] }
+        ensures givers { self.new.givers ≡ [] }
     {
         self.poppers.clear();
         self.pushers.clear();
-        self.makers.clear();
+        self.givers.clear();
     }
 
     /// Notes that a child was given a queue, where the frames already say so. `O(log n)`.
@@ -60,12 +60,12 @@ impl Sets {
         holding: QueueHolding,
     ) -> Result<(), NoMemory>
         ensures { OnOk result ((before : Frames) → IsGrown before frames.now.entries parent child holding
-            → ((queue : ℕ) → IsKeptFor before self.old.poppers self.old.pushers self.old.makers queue)
-            → (queue : ℕ) → IsKeptFor frames.now.entries self.new.poppers self.new.pushers self.new.makers queue) }
+            → ((queue : ℕ) → IsKeptFor before self.old.poppers self.old.pushers self.old.givers queue)
+            → (queue : ℕ) → IsKeptFor frames.now.entries self.new.poppers self.new.pushers self.new.givers queue) }
     {
         note(&mut self.poppers, Mode::Pop, parent, child, holding)?;
         note(&mut self.pushers, Mode::Push, parent, child, holding)?;
-        note_maker(frames, &self.pushers, &mut self.makers, parent, holding)?;
+        note_giver(frames, &self.pushers, &mut self.givers, parent, holding)?;
         Ok(())
     }
 
@@ -73,16 +73,16 @@ impl Sets {
     /// memory.
     pub fn take_out(&mut self, parent: u64, child: u64, queue: u32)
         ensures this { (before after : Frames) → IsShrunk before after parent child
-            → IsKeptFor before self.old.poppers self.old.pushers self.old.makers queue
-            ⊎ IsKeptFor after self.old.poppers self.old.pushers self.old.makers queue
-            → IsKeptFor after self.new.poppers self.new.pushers self.new.makers queue }
+            → IsKeptFor before self.old.poppers self.old.pushers self.old.givers queue
+            ⊎ IsKeptFor after self.old.poppers self.old.pushers self.old.givers queue
+            → IsKeptFor after self.new.poppers self.new.pushers self.new.givers queue }
         ensures others { (any : Frames) (other : ℕ) → other ≢ queue
-            → IsKeptFor any self.old.poppers self.old.pushers self.old.makers other
-            → IsKeptFor any self.new.poppers self.new.pushers self.new.makers other }
+            → IsKeptFor any self.old.poppers self.old.pushers self.old.givers other
+            → IsKeptFor any self.new.poppers self.new.pushers self.new.givers other }
     {
         self.poppers.remove(parent, queue, child);
         self.pushers.remove(parent, queue, child);
-        settle(&self.pushers, &mut self.makers, parent, queue);
+        settle(&self.pushers, &mut self.givers, parent, queue);
     }
 }
 
@@ -106,15 +106,15 @@ fn note(
 
 /// Notes the parent of a child that may push, where it may not push itself, as it may not where it made
 /// the queue. `O(log n)`.
-fn note_maker(
+fn note_giver(
     frames: &BTreeMap<u64, TurnFrame>,
     pushers: &Children,
-    makers: &mut NumberPairs,
+    givers: &mut NumberPairs,
     parent: u64,
     holding: QueueHolding,
 ) -> Result<(), NoMemory>
     ensures { OnOk result (HasHolders frames.now.entries Push holding.number pushers.now
-        → IsMakerNoted frames.now.entries parent holding makers.old makers.new) }
+        → IsGiverNoted frames.now.entries parent holding givers.old givers.new) }
 {
     if !holding.mode.allows(Mode::Push) {
         return Ok(());
@@ -122,7 +122,7 @@ fn note_maker(
     if pushes(frames, pushers, holding.queue, parent) {
         return Ok(());
     }
-    makers.insert(holding.queue as u64, parent)?;
+    givers.insert(holding.queue as u64, parent)?;
     Ok(())
 }
 
@@ -139,12 +139,12 @@ fn pushes(frames: &BTreeMap<u64, TurnFrame>, pushers: &Children, queue: u32, num
     }
 }
 
-/// Takes a frame out of the makers of a queue where it has no pushing child any more. `O(log n)`.
-fn settle(pushers: &Children, makers: &mut NumberPairs, parent: u64, queue: u32)
-    ensures { IsMakerSettled pushers.now parent queue makers.old makers.new }
+/// Takes a frame out of the givers of a queue where it has no pushing child any more. `O(log n)`.
+fn settle(pushers: &Children, givers: &mut NumberPairs, parent: u64, queue: u32)
+    ensures { IsGiverSettled pushers.now parent queue givers.old givers.new }
 {
     match pushers.oldest(parent, queue) {
         Some(_child) => {}
-        None => makers.remove(queue as u64, parent),
+        None => givers.remove(queue as u64, parent),
     }
 }

@@ -31,7 +31,7 @@ impl Model for PopTurns {
     ghost view = { λ turns. turns.frames.entries };
 
     ghost invariant = { λ turns.
-        IsKept turns.frames.entries turns.sets.poppers turns.sets.pushers turns.sets.makers };
+        IsKept turns.frames.entries turns.sets.poppers turns.sets.pushers turns.sets.givers };
 }
 
 impl PopTurns {
@@ -143,7 +143,7 @@ impl PopTurns {
         match first_earlier(
             &self.frames,
             &self.sets.pushers,
-            &self.sets.makers,
+            &self.sets.givers,
             frame,
             queue,
         ) {

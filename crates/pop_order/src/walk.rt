@@ -3,48 +3,48 @@ ghost use Rattle.std.specs.Prelude.{◌≡◌, ℕ, ◌<◌, true};
 ghost use Rattle.swan_model.specs.declared.rights.Mode.TheVariants.{Push};
 ghost use Rattle.pop_order.specs.Children.{has};
 ghost use Rattle.pop_order.specs.Frames.{Frames};
-ghost use Rattle.pop_order.specs.Kept.{AreBelowParents, HasHolders, HasMakers};
+ghost use Rattle.pop_order.specs.Kept.{AreBelowParents, HasHolders, HasGivers};
 ghost use Rattle.pop_order.specs.Walk.{IsFirstUnder, IsFirstEarlier, IsSooner};
 
 use crate::order::comes_before;
 use crate::{Children, NumberPairs, TurnFrame};
 use std::collections::BTreeMap;
 
-/// The first, in serial order, of the pushers of a queue that come before a frame. Below each maker of
-/// the queue it is looked for by itself. `O(m d log n)` for m makers and a tree of depth d; in a run a
-/// queue has one maker.
+/// The first, in serial order, of the pushers of a queue that come before a frame. Below each giver of
+/// the queue it is looked for by itself. `O(g d log n)` for g givers and a tree of depth d; in a run a
+/// queue has one giver.
 pub fn first_earlier(
     frames: &BTreeMap<u64, TurnFrame>,
     pushers: &Children,
-    makers: &NumberPairs,
+    givers: &NumberPairs,
     frame: u64,
     queue: u32,
 ) -> Option<u64>
     requires rising { AreBelowParents frames.now.entries }
     requires pushes { HasHolders frames.now.entries Push queue pushers.now }
-    requires makes { HasMakers frames.now.entries queue pushers.now makers.now }
+    requires gives { HasGivers frames.now.entries queue pushers.now givers.now }
     ensures { IsFirstEarlier frames.now.entries queue frame result }
 {
     let mut found = None;
     let mut from = 0;
-    while let Some(maker) = makers.next(queue as u64, from) {
-        let pusher = first_under(pushers, maker, queue);
+    while let Some(giver) = givers.next(queue as u64, from) {
+        let pusher = first_under(pushers, giver, queue);
         found = sooner(frames, found, pusher, frame);
-        from = maker + 1;
+        from = giver + 1;
     }
     found
 }
 
-/// The first pusher below a maker of a queue, in serial order: down by the oldest pushing child, as long
+/// The first pusher below a giver of a queue, in serial order: down by the oldest pushing child, as long
 /// as there is one. `O(d log n)` for a tree of depth d.
-fn first_under(pushers: &Children, maker: u64, queue: u32) -> u64
+fn first_under(pushers: &Children, giver: u64, queue: u32) -> u64
     requires rising { (parent child : ℕ) → has pushers.now parent queue child ≡ true → parent < child }
-    requires made { (child : ℕ) × (has pushers.now maker queue child ≡ true) }
-    ensures younger { maker < result }
+    requires gave { (child : ℕ) × (has pushers.now giver queue child ≡ true) }
+    ensures younger { giver < result }
     ensures first { (frames : Frames) → AreBelowParents frames → HasHolders frames Push queue pushers.now
-        → IsFirstUnder frames pushers.now queue maker result }
+        → IsFirstUnder frames pushers.now queue giver result }
 {
-    let mut node = maker;
+    let mut node = giver;
     while let Some(oldest) = pushers.oldest(node, queue) {
         node = oldest;
     }

@@ -13,8 +13,8 @@ loop-holding-preserved c = λ before after shrunk kept queue.
     let i = c.loop-holding.holding-index in
     let this = c.holding.inside.queue in
     let sets = c.take_out.new.self in
-    let P : ℕ → Type 0 = λ q. (IsKeptFor before sets.poppers sets.pushers sets.makers q ⊎ IsKeptFor after sets.poppers sets.pushers sets.makers q)
-    × (is_given (take (i + 1) hs) q ≡ true → IsKeptFor after sets.poppers sets.pushers sets.makers q) in
+    let P : ℕ → Type 0 = λ q. (IsKeptFor before sets.poppers sets.pushers sets.givers q ⊎ IsKeptFor after sets.poppers sets.pushers sets.givers q)
+    × (is_given (take (i + 1) hs) q ≡ true → IsKeptFor after sets.poppers sets.pushers sets.givers q) in
     elim (cases_eq queue this) [
       | inl same ↦
           let now = c.take_out.ensures.this before after shrunk (c.loop-holding.invariant before after shrunk kept this).0 in
@@ -35,6 +35,6 @@ pub returns : goal.returns
 returns c = λ before after shrunk other kept queue.
     let sets = c.loop-holding.sets in
     let last = c.loop-holding.invariant before after shrunk kept queue in
-    let P : List Holding → Type 0 = λ hs. is_given hs queue ≡ true → IsKeptFor after sets.poppers sets.pushers sets.makers queue in
-    settled_all before after c.args.parent c.args.child shrunk sets.poppers sets.pushers sets.makers queue c.args.holdings.now other last.0
+    let P : List Holding → Type 0 = λ hs. is_given hs queue ≡ true → IsKeptFor after sets.poppers sets.pushers sets.givers queue in
+    settled_all before after c.args.parent c.args.child shrunk sets.poppers sets.pushers sets.givers queue c.args.holdings.now other last.0
     (subst P (take_all c.loop-holding.holding-index c.args.holdings.now (omega arith)) last.1)

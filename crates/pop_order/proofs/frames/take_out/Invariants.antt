@@ -6,7 +6,7 @@ use Rattle.pop_order.proofs.frames.take_out.Given as goal
 
 abbrev pub invariant-loop-holding : goal.invariant-loop-holding
 invariant-loop-holding l = (before after : Frames) → IsShrunk before after l.parent l.child
-    → ((queue : ℕ) → IsKeptFor before l.initial.sets.poppers l.initial.sets.pushers l.initial.sets.makers queue)
+    → ((queue : ℕ) → IsKeptFor before l.initial.sets.poppers l.initial.sets.pushers l.initial.sets.givers queue)
     → (queue : ℕ)
-    → (IsKeptFor before l.sets.poppers l.sets.pushers l.sets.makers queue ⊎ IsKeptFor after l.sets.poppers l.sets.pushers l.sets.makers queue)
-    × (is_given (take l.holding-index l.holdings) queue ≡ true → IsKeptFor after l.sets.poppers l.sets.pushers l.sets.makers queue)
+    → (IsKeptFor before l.sets.poppers l.sets.pushers l.sets.givers queue ⊎ IsKeptFor after l.sets.poppers l.sets.pushers l.sets.givers queue)
+    × (is_given (take l.holding-index l.holdings) queue ≡ true → IsKeptFor after l.sets.poppers l.sets.pushers l.sets.givers queue)

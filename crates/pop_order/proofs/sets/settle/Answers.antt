@@ -1,5 +1,5 @@
 use Rattle.std.proofs.Common.{refl}
-use Rattle.pop_order.specs.Makers.{stays}
+use Rattle.pop_order.specs.Givers.{stays}
 use Rattle.pop_order.proofs.sets.settle.Goals as goal
 
 pub returns-in-Some : goal.returns-in-Some

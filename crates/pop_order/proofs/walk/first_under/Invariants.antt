@@ -7,8 +7,8 @@ use Rattle.pop_order.proofs.walk.first_under.Given as goal
 
 abbrev pub invariant-loop-oldest : goal.invariant-loop-oldest
 invariant-loop-oldest l = record {
-  at_least : l.maker ≤ l.node;
-  down : (frames : Frames) → AreBelowParents frames → HasHolders frames Push l.queue l.pushers → IsDown frames l.pushers l.queue l.maker l.node;
+  at_least : l.giver ≤ l.node;
+  down : (frames : Frames) → AreBelowParents frames → HasHolders frames Push l.queue l.pushers → IsDown frames l.pushers l.queue l.giver l.node;
 }
 
 abbrev pub decreases-loop-oldest : goal.decreases-loop-oldest
