@@ -2,7 +2,7 @@
 use Rattle.std.proofs.Common.{◌≡◌, ℕ, ◌≤◌, Bool, true, false, ◌&&◌, ◌||◌, not, cond, ap, arith}
 use Rattle.std.specs.Ordering.{is_gt, is_eq}
 use Rattle.std.proofs.lemmas.Bool.Decides.{nat_tests}
-use Rattle.pop_order.specs.Children.{ChildEntry, entry_cmp, IsUpTo, is_entry}
+use Rattle.pop_order.specs.Children.{ChildEntry, entry_cmp, IsNotAfter, is_entry}
 
 -- which entries are equal in the order
 pub is_eq-entry_cmp : (parent queue child p q c : ℕ) → is_eq (entry_cmp (parent, queue, child) (p, q, c)) ≡ is_entry parent queue child p q c
@@ -27,8 +27,8 @@ pub removed : (parent queue child p q c : ℕ) (was now : Bool) → now ≡ cond
 removed parent queue child p q c was now h = without_one _ _ was now (is_eq-entry_cmp parent queue child p q c) h
 
 -- an entry that stands between two of one parent and one queue is of both, and its child is no younger
-pub between : (e : ChildEntry) (parent queue child : ℕ) → IsUpTo (parent, queue, 0) e → IsUpTo e (parent, queue, child) → (e.0 ≡ parent) × (e.1 ≡ queue) × (e.2 ≤ child)
-unfolding IsUpTo
+pub between : (e : ChildEntry) (parent queue child : ℕ) → IsNotAfter (parent, queue, 0) e → IsNotAfter e (parent, queue, child) → (e.0 ≡ parent) × (e.1 ≡ queue) × (e.2 ≤ child)
+unfolding IsNotAfter
 between e parent queue child from upto = (grind (arith, nat_tests), grind (arith, nat_tests), grind (arith, nat_tests))
 
 -- no child of a parent and a queue stands before the number 0

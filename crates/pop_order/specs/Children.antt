@@ -14,8 +14,8 @@ abbrev pub entry_cmp : ChildEntry → ChildEntry → Ordering
 entry_cmp a b = ordering_then (ordering_then (nat_cmp a.0 b.0) (nat_cmp a.1 b.1)) (nat_cmp a.2 b.2)
 
 -- an entry isn't after another in that order
-unfoldable pub IsUpTo : ChildEntry → ChildEntry → Type 0
-IsUpTo a b = is_gt (entry_cmp a b) ≡ false
+unfoldable pub IsNotAfter : ChildEntry → ChildEntry → Type 0
+IsNotAfter a b = is_gt (entry_cmp a b) ≡ false
 
 -- whether a child of a parent is in the set for a queue
 unfoldable pub has : List ChildEntry → ℕ → ℕ → ℕ → Bool

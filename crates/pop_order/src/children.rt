@@ -1,6 +1,6 @@
 // Children by parent and queue.
 ghost use Rattle.std.specs.Prelude.{◌≡◌, ℕ, true, false, [], IfSome, IfNone, OnOk};
-ghost use Rattle.pop_order.specs.Children.{has, IsUpTo, IsOldest, IsWith, IsWithout};
+ghost use Rattle.pop_order.specs.Children.{has, IsNotAfter, IsOldest, IsWith, IsWithout};
 
 use std::alloc::Global;
 use std::collections::BTreeSet;
@@ -78,11 +78,11 @@ impl Children {
     }
 
     /// The first entry from those of the parent and the queue on.
-    #[tactic(auto, unfolding(crate::specs::Children::has, crate::specs::Children::IsUpTo))]
+    #[tactic(auto, unfolding(crate::specs::Children::has, crate::specs::Children::IsNotAfter))]
     fn first_from(&self, parent: u64, queue: u32) -> Option<&(u64, u32, u64)>
         ensures found { IfSome result (λ e. has self.now e.now.0 e.now.1 e.now.2 ≡ true) }
-        ensures from { IfSome result (λ e. IsUpTo (parent, queue, 0) e.now) }
-        ensures first { IfSome result (λ e. (child : ℕ) → has self.now parent queue child ≡ true → IsUpTo e.now (parent, queue, child)) }
+        ensures from { IfSome result (λ e. IsNotAfter (parent, queue, 0) e.now) }
+        ensures first { IfSome result (λ e. (child : ℕ) → has self.now parent queue child ≡ true → IsNotAfter e.now (parent, queue, child)) }
         ensures none { IfNone result ((child : ℕ) → has self.now parent queue child ≡ false) }
     {
         match self.entries.range((parent, queue, 0)..).next() {
