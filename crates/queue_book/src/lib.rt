@@ -26,5 +26,4 @@ pub use book::BookQueues;
 use live_frame::{OwnChunk, QueueFrame};
 pub use no_ends::NoEnds;
 use node::ChunkNode;
-pub use queues::Queues;
-use queues::{LocalEnds, Popped, QueueGive, Tested, WaitFor};
+use queues::{LocalEnds, Popped, QueueGive, Queues, Tested, WaitFor};
