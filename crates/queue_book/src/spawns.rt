@@ -70,7 +70,7 @@ impl QueueStore {
         let given = OwnChunk {
             key: place.key,
             is_maker: false,
-            pushes: can_push(one.mode),
+            pushes: one.mode.allows(Mode::Push),
         };
         places.insert(one.queue, given)?;
         let kept = OwnChunk {
@@ -82,11 +82,4 @@ impl QueueStore {
         self.turns.enlist(parent, child, one.queue, one.mode)?;
         Ok(())
     }
-}
-
-/// Whether a mode allows to push. `O(1)`.
-fn can_push(mode: Mode) -> bool
-    ensures { result ≡ allows mode Push }
-{
-    matches!(mode, Mode::Push | Mode::PushPop)
 }

@@ -25,7 +25,7 @@ returns-clause-given c =
       place = c.in-Some.place;
       was = sym c.in-Some.ensures;
       parent_now = c.in_ok-put.ensures;
-      child_now = subst Given c.can_push.ensures c.in_ok-insert.ensures.entries;
+      child_now = subst Given c.allows.ensures c.in_ok-insert.ensures.entries;
       chained = λ at lines is mine free.
           let P : List (Option ℕ) → Type 0 = λ hs.
           AreChained (put_at parent q (Some c.in_ok-new.new) (put_at child q (Some c.in-Some.place.key) at)) hs c.hand_on.new.self.nodes (in_line q (after_hand_on parent child) lines) in
