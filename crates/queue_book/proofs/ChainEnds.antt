@@ -6,7 +6,7 @@ use Rattle.std.specs.Prelude.{if◌then◌else◌}
 use Rattle.slab.specs.Slab.{Slab}
 use Rattle.queues.specs.Chunks.{Chunks, after_close}
 use Rattle.queue_book.specs.Chains.{Link, AreChained, in_line, put_at}
-use Rattle.queue_book.specs.Ended.{line_after_end, lines_after_end, own_keys, IsAlone}
+use Rattle.queue_book.specs.Ended.{line_after_end, lines_after_end, own_keys, IsAlone, IsAloneIn}
 use Rattle.queue_book.specs.KeptFrames.{OwnChunks, own_chunk_in}
 use Rattle.queue_book.specs.declared.live_frame.OwnChunk.{OwnChunk}
 use Rattle.queue_book.proofs.ChainChanges.{chained_same, put_other, put_same}
@@ -71,7 +71,7 @@ module _ (number queue : ℕ) (place : OwnChunk) (all places after : OwnChunks) 
   pub own_key : own_keys number places at number queue ≡ Some place.key
   own_key = own_placed number places at queue ∙ ap (option_map (λ (p : OwnChunk). p.key)) here
 
-  pub alone_still : IsAlone number all at → place.is_maker ≡ true → number ≢ 0 → (other : ℕ) → other ≢ number → own_keys number places at other queue ≡ None
+  pub alone_still : IsAlone number all at → IsAloneIn queue number place (own_keys number places at)
   alone_still alone made top other apart = other_placed number places at other queue apart ∙ alone queue place first made top other apart
 
   keys : (m q : ℕ) → own_keys number after at m q ≡ put_at number queue None (own_keys number places at) m q

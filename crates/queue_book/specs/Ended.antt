@@ -20,9 +20,12 @@ abbrev pub own_keys : ℕ → OwnChunks → (ℕ → ℕ → Option ℕ) → ℕ
 own_keys number places at other queue = if other == number then option_map (λ (place : OwnChunk). place.key) (own_chunk_in places queue) else at other queue
 
 -- Where a frame that isn't the root made a queue, no other frame has a chunk of it.
-abbrev pub IsAlone : ℕ → OwnChunks → (ℕ → ℕ → Option ℕ) → Type 0
-IsAlone number places at = (queue : ℕ) (place : OwnChunk) → own_chunk_in places queue ≡ Some place → place.is_maker ≡ true → number ≢ 0
-    → (other : ℕ) → other ≢ number → at other queue ≡ None
+abbrev pub IsAloneIn : (queue number : ℕ) → OwnChunk → (ℕ → ℕ → Option ℕ) → Type 0
+IsAloneIn queue number place at = place.is_maker ≡ true → number ≢ 0 → (other : ℕ) → other ≢ number → at other queue ≡ None
+
+-- That is so of each queue that a frame with these places has.
+abbrev pub IsAlone : (number : ℕ) → OwnChunks → (ℕ → ℕ → Option ℕ) → Type 0
+IsAlone number places at = (queue : ℕ) (place : OwnChunk) → own_chunk_in places queue ≡ Some place → IsAloneIn queue number place at
 
 -- A frame with these places has its own chunks there, and is alone in the queues that it made.
 abbrev pub HaveOwn : (heads : List (Option ℕ)) (nodes : Slab Link) (number : ℕ) → OwnChunks → Type 0

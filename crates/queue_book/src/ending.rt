@@ -1,9 +1,9 @@
 // The end of a frame.
-ghost use Rattle.std.specs.Prelude.{◌≡◌, ◌≢◌, ℕ, ◌<◌, true, [], Option, Some, None, IsSome, length};
+ghost use Rattle.std.specs.Prelude.{◌≡◌, ℕ, ◌<◌, [], Option, Some, None, IsSome, length};
 ghost use Rattle.pop_order.specs.Frames.{without, HasNoChild};
 ghost use Rattle.queues.specs.Chunks.{Chunks};
 ghost use Rattle.queue_book.specs.Chains.{in_line, put_at, AreChained};
-ghost use Rattle.queue_book.specs.Ended.{line_after_end, lines_after_end, own_keys, HaveOwn, IsAlone};
+ghost use Rattle.queue_book.specs.Ended.{line_after_end, lines_after_end, own_keys, HaveOwn, IsAlone, IsAloneIn};
 ghost use Rattle.queue_book.specs.KeptFrames.{own_chunk_in};
 ghost use Rattle.queue_book.specs.Lines.{HaveLines};
 ghost use Rattle.queue_book.specs.Live.{kept_of, OnKept};
@@ -67,10 +67,10 @@ fn end_chunks(chains: &mut Chains, number: u64, mut places: BTreeMap<u32, OwnChu
 fn end_chunk(chains: &mut Chains, number: u64, queue: u32, place: OwnChunk)
     requires known { queue < length chains.old.heads.items }
     requires owned { (at : ℕ → ℕ → Option ℕ) × (lines : ℕ → Chunks) × AreChained at chains.old.heads.items chains.old.nodes lines × (at number queue ≡ Some place.key)
-        × (place.is_maker ≡ true → number ≢ 0 → (other : ℕ) → other ≢ number → at other queue ≡ None) }
+        × IsAloneIn queue number place at }
     ensures same { length chains.new.heads.items ≡ length chains.old.heads.items }
     ensures ended { (at : ℕ → ℕ → Option ℕ) (lines : ℕ → Chunks) → AreChained at chains.old.heads.items chains.old.nodes lines → at number queue ≡ Some place.key
-        → (place.is_maker ≡ true → number ≢ 0 → (other : ℕ) → other ≢ number → at other queue ≡ None)
+        → IsAloneIn queue number place at
         → AreChained (put_at number queue None at) chains.new.heads.items chains.new.nodes (in_line queue (line_after_end number (Some place)) lines) }
 {
     chains.close(place.key);
