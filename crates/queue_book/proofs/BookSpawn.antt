@@ -7,7 +7,7 @@ use Rattle.slab.specs.Slab.{Slab}
 use Rattle.pop_order.specs.Frames.{Frames}
 use Rattle.swan_model.specs.declared.script.Script.{Script}
 use Rattle.swan_model.specs.QueueFollows.{NextSpawnGivesQueues}
-use Rattle.swan_model.specs.QueueState.{ActiveFrame, QueueMaker, QueueRight, QueueState, active, after_spawn, child_of, with_deed}
+use Rattle.swan_model.specs.QueueState.{ActiveFrame, QueueMaker, QueueRight, QueueState, active, after_spawn, child_of}
 use Rattle.queues.specs.Asks.{MaySpawn, IsOnTurn, OnNext}
 use Rattle.queue_book.specs.Chains.{Link, AreChained}
 use Rattle.queue_book.specs.Ended.{own_keys}
@@ -19,7 +19,7 @@ use Rattle.queues.specs.Tree.{has_queue, maker_path, IsInUse}
 use Rattle.queue_book.specs.Whole.{IsBook}
 use Rattle.queue_book.specs.declared.live_frames.LiveFrames.{LiveFrames}
 use Rattle.queues.proofs.Above.{under_maker}
-use Rattle.queues.proofs.ActiveAfter.{child_spawned, others_spawned, parent_spawned}
+use Rattle.queues.proofs.ActiveAfter.{one_child_more}
 use Rattle.queue_book.proofs.BookDeeds.{counted, lent_none, not_lent}
 use Rattle.queue_book.proofs.ChainChanges.{chained_same}
 use Rattle.queue_book.proofs.ChainEnds.{other_placed, own_placed}
@@ -27,7 +27,7 @@ use Rattle.queues.proofs.Gives.{gives_had}
 use Rattle.queue_book.proofs.LiveKept.{agrees_on, kept_live, key_none}
 use Rattle.queues.proofs.Match.{not_active}
 use Rattle.queue_book.proofs.PlainSpawned.{plain_spawn}
-use Rattle.queues.proofs.TurnsSpawned.{turns_older, turns_spawned}
+use Rattle.queues.proofs.TurnsSpawned.{child_live, other_live, parent_live, turns_older, turns_spawned}
 use Rattle.swan_model.proofs.Elements.{one_answer}
 
 module _ (name : Option Script) (state : QueueState) (frames : LiveFrames) (heads : List (Option ℕ)) (nodes : Slab Link) (turns : Frames) (is : IsBook name state frames heads nodes turns)
@@ -63,16 +63,7 @@ module _ (name : Option Script) (state : QueueState) (frames : LiveFrames) (head
   after = after_spawn state may.act.frame child gives
 
   abbrev parent_now : ActiveFrame
-  parent_now = with_deed (record may.act.frame { children = may.act.frame.children + 1 })
-
-  child_live : active after child ≡ Some (child_of may.act.frame child gives)
-  child_live = child_spawned state p child may.act.frame gives may.act.may.live free
-
-  parent_live : active after p ≡ Some parent_now
-  parent_live = parent_spawned state p child may.act.frame gives may.act.may.live free
-
-  other_live : (m : ℕ) → m ≢ p → m ≢ child → active after m ≡ active state m
-  other_live m a b = others_spawned state p child may.act.frame gives may.act.may.live free m a b
+  parent_now = one_child_more may.act.frame
 
   in_use_before : (q : ℕ) (maker : QueueMaker) → IsInUse after q maker → IsInUse state q maker
   in_use_before q maker (inl of_root) = inl of_root
@@ -81,14 +72,14 @@ module _ (name : Option Script) (state : QueueState) (frames : LiveFrames) (head
     by (inl is_child) c =
         let same : frame ≡ child_of may.act.frame child gives =
         one_answer (active after child) frame (child_of may.act.frame child gives)
-        (ap (active after) (sym is_child) ∙ live) child_live in
+        (ap (active after) (sym is_child) ∙ live) (child_live state is.plain.tree p child gives may) in
         inr (p, may.act.frame, may.act.may.live, gives_had may.act.frame gives may.lawful q (ap (λ (g : ActiveFrame). has_queue g q) (sym same) ∙ has))
     by (inr apart) (inl is_parent) =
         let same : frame ≡ parent_now =
         one_answer (active after p) frame parent_now
-        (ap (active after) (sym is_parent) ∙ live) parent_live in
+        (ap (active after) (sym is_parent) ∙ live) (parent_live state is.plain.tree p child gives may) in
         inr (p, may.act.frame, may.act.may.live, ap (λ (g : ActiveFrame). has_queue g q) (sym same) ∙ has)
-    by (inr apart) (inr other) = inr (m, frame, sym (other_live m other apart) ∙ live, has)
+    by (inr apart) (inr other) = inr (m, frame, sym (other_live state is.plain.tree p child gives may m other apart) ∙ live, has)
 
   module _ (after_frames : LiveFrames) (then_nodes : Slab Link) (then_turns : Frames)
       (done : IsSpawnedIn frames after_frames p child gives heads nodes then_nodes turns then_turns) where
@@ -146,16 +137,16 @@ module _ (name : Option Script) (state : QueueState) (frames : LiveFrames) (head
       by : (m ≡ child) ⊎ (m ≢ child) → (m ≡ p) ⊎ (m ≢ p) → Agrees after (kept_of after_frames m) (active after m)
       by (inl is_child) c =
           agrees_at (kept_of after_frames m) (active after m) child_kept (child_of may.act.frame child gives)
-          (ap (kept_of after_frames) is_child ∙ kept_child) (ap (active after) is_child ∙ child_live) child_frame
+          (ap (kept_of after_frames) is_child ∙ kept_child) (ap (active after) is_child ∙ child_live state is.plain.tree p child gives may) child_frame
       by (inr apart) (inl is_parent) =
           let was = kept_live state frames is.live p may.act.frame may.act.may.live in
           let now = kept_parent was.0 was.1 in
           agrees_at (kept_of after_frames m) (active after m) (counted now.0) parent_now
-          (ap (kept_of after_frames) is_parent ∙ now.2) (ap (active after) is_parent ∙ parent_live) (parent_frame was.0 now.0 was.2 now.3)
+          (ap (kept_of after_frames) is_parent ∙ now.2) (ap (active after) is_parent ∙ parent_live state is.plain.tree p child gives may) (parent_frame was.0 now.0 was.2 now.3)
       by (inr apart) (inr other) =
           let Q : Option KeptFrame → Type 0 = λ o. Agrees after o (active after m) in
           let R : Option ActiveFrame → Type 0 = λ o. Agrees after (kept_of frames m) o in
-          subst Q (sym (kept_other m other apart ∙ done.given.others m other)) (subst R (sym (other_live m other apart))
+          subst Q (sym (kept_other m other apart ∙ done.given.others m other)) (subst R (sym (other_live state is.plain.tree p child gives may m other apart))
           (agrees_on state after (kept_of frames m) (active state m) (λ q maker less made. made)
           (λ frame found q has. (is.plain.tree.held m q frame found has).0) (is.live m)))
 
