@@ -19,7 +19,8 @@ use Rattle.queue_book.specs.declared.live_frame.OwnChunk.{OwnChunk}
 use Rattle.queue_book.specs.declared.live_frames.LiveFrames.{LiveFrames}
 use Rattle.queue_book.proofs.ChainChanges.{chained_same}
 use Rattle.queue_book.proofs.ChainEnds.{other_placed, own_placed}
-use Rattle.queue_book.proofs.LiveKept.{key_of, some_of}
+use Rattle.queue_book.proofs.LiveKept.{key_of}
+use Rattle.swan_model.proofs.Elements.{some_of}
 use Rattle.queue_book.proofs.Giving.{step_chained, step_fresh, step_given, step_moved, step_others, step_pushers}
 use Rattle.queues.proofs.GivingTurns.{fresh_at, given_at, turns_given_more, turns_given_none, turns_may_get, turns_newest}
 

@@ -1,10 +1,10 @@
 -- What is kept of the active frames agrees with the state after each call.
 use Rattle.std.proofs.Common.{◌≡◌, ◌≢◌, ℕ, ◌<◌, Bool, true, false, ◌==◌, Option, Some, None, [], length, refl, sym, ap, subst, ◌∙◌, inl, inr, rules}
-use Rattle.std.proofs.lemmas.Bool.{cases_eq, false≢true}
+use Rattle.std.proofs.lemmas.Bool.{cases_eq}
 use Rattle.std.specs.Option.{option_map}
 use Rattle.std.specs.Prelude.{slice_get, is_some, IsSome, if◌then◌else◌}
 use Rattle.swan_model.specs.QueueState.{ActiveFrame, QueueMaker, QueueState, active, root_frame, new_state}
-use Rattle.swan_model.proofs.Elements.{some_is}
+use Rattle.swan_model.proofs.Elements.{some_is, some_of}
 use Rattle.queues.specs.Tree.{IsTree, has_queue}
 use Rattle.queue_book.specs.declared.live_frame.OwnChunk.{OwnChunk}
 use Rattle.queue_book.specs.declared.live_frames.LiveFrames.{LiveFrames}
@@ -15,11 +15,6 @@ use Rattle.pop_order.specs.OneChange.{IsOnlyChange}
 -- the makers of older queues are the same
 abbrev pub SameMakers : QueueState → QueueState → Type 0
 SameMakers state after = (queue : ℕ) (maker : QueueMaker) → queue < length state.makers → slice_get after.makers queue ≡ Some maker → slice_get state.makers queue ≡ Some maker
-
--- there is one
-pub some_of : {X : Type 0} (o : Option X) → is_some o ≡ true → (x : X) × (o ≡ Some x)
-some_of None none = absurd (false≢true none)
-some_of (Some x) some = (x, refl)
 
 pub kept_active : (state : QueueState) (kept : Option KeptFrame) (found : Option ActiveFrame) (frame : ActiveFrame) → Agrees state kept found → found ≡ Some frame
     → (one : KeptFrame) × (kept ≡ Some one) × IsFrameKept state one frame

@@ -5,7 +5,7 @@ use Rattle.std.specs.Prelude.{is_some, slice_get}
 use Rattle.swan_model.specs.declared.body.Body.{Ghosts}
 use Rattle.swan_model.specs.declared.path.TheConstants.{PATH_MOST}
 use Rattle.swan_model.specs.declared.script.Script.{Script}
-use Rattle.swan_model.proofs.Elements.{before_more, last_more}
+use Rattle.swan_model.proofs.Elements.{before_more, last_more, some_of}
 use Rattle.swan_model.proofs.Lists.{some_within}
 use Rattle.task_frames.specs.declared.resumed.Resumed.{Resumed}
 use Rattle.task_frames.specs.declared.resumed.Resumed.TheVariants as resumed
@@ -19,7 +19,6 @@ use Rattle.swan_runtime.proofs.Depth.{few-parts}
 use Rattle.swan_runtime.proofs.Spending.{HasFuel, fuel-is, left-more}
 use Rattle.swan_runtime.proofs.Stacking.{top-given}
 use Rattle.swan_runtime.proofs.Turning.{fewer-runs, fewer-spawns, never-strange, never-waits, opened-stack, stack-ends, stack-runs, stack-spawns}
-use Rattle.task_frames.proofs.Amid.{some-of}
 
 -- ---- what a turn leaves
 
@@ -56,7 +55,7 @@ module _ {B L E : Type 0} (Q : Type 0) (G : Ghosts B L) (name : E → Option Scr
     by-answer (resumed.Waits same waited) answered lasts then =
         absurd (never-waits G name of.run of.ends counts before below top moved is own after plan run answered.3 same waited.wait answered.0 answered.1 answered.2)
     by-answer (resumed.Ended counted) answered lasts then =
-        let now = some-of after.kept answered.1 in
+        let now = some_of after.kept answered.1 in
         record {
           stands = stack-ends G name of.run of.ends counts before below top moved is own after plan run now.0 now.1 answered.4 answered.5;
           fewer = let more = left-more below top in omega (arith, more);
@@ -119,7 +118,7 @@ module _ {B L E : Type 0} (Q : Type 0) (G : Ghosts B L) (name : E → Option Scr
   few-frames core (first ∷ rest) is frames =
       let last = some_within (first ∷ rest) (length rest) (omega arith) in
       let given = is.stacked.given (length rest) last.0 last.1 in
-      let stage = some-of last.0.stage given.whole in
+      let stage = some_of last.0.stage given.whole in
       let frame = frames (length rest) last.0 last.1 stage.0 stage.1 in
       let parts = few-parts G last.0.task.plan last.0.task.path last.0.task.done frame.alone.top frame.alone.stands in
       let far = deep core (first ∷ rest) is.stacked (length rest) last.0 last.1 in

@@ -1,5 +1,5 @@
 -- A frame in the middle of its next step, and after steps of its own.
-use Rattle.std.proofs.Common.{◌≡◌, inl, inr, ℕ, zero, suc, ◌+◌, ◌*◌, ◌-◌, ◌<◌, ◌≤◌, true, Option, Some, None, is_some, refl, sym, ap, subst, ◌∙◌, arith, rules}
+use Rattle.std.proofs.Common.{◌≡◌, inl, inr, ℕ, zero, suc, ◌+◌, ◌*◌, ◌-◌, ◌<◌, ◌≤◌, true, Option, Some, refl, sym, ap, subst, ◌∙◌, arith, rules}
 use Rattle.std.proofs.lemmas.Bool.{cases_lt}
 use Rattle.std.proofs.lemmas.Option.{same_Some, slice_get-get_or}
 use Rattle.std.specs.Prelude.{slice_get}
@@ -31,11 +31,6 @@ use Rattle.task_frames.specs.declared.stage.Stage.{Stage}
 use Rattle.queues.specs.Reads.{deeds_among}
 use Rattle.task_frames.specs.Frames.{AreEndsOf, AreLocal, IsFrame, Task, is_local}
 use Rattle.task_frames.specs.Going.{IsRow, IsRowTo, is_still}
-
--- what there is
-pub some-of : {X : Type 0} (o : Option X) → is_some o ≡ true → (x : X) × (o ≡ Some x)
-some-of None is = absurd (cc)
-some-of (Some x) is = (x, refl)
 
 -- what holds of one stage holds of whatever the option has
 pub for-one : {X : Type 0} (P : X → Type 0) (one : X) → P one → (x : X) → Some one ≡ Some x → P x

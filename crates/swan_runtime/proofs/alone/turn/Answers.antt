@@ -1,8 +1,9 @@
 use Rattle.std.proofs.Common.{◌∷◌, ◌++◌, [], arith, sym, ap, ◌∙◌}
 use Rattle.swan_model.specs.declared.plan.Plan.{Plan}
+use Rattle.swan_model.proofs.Elements.{some_of}
 use Rattle.task_frames.specs.Resumes.{ends_of}
 use Rattle.swan_runtime.specs.Stacks.{turns_left}
-use Rattle.task_frames.proofs.Amid.{few, some-of}
+use Rattle.task_frames.proofs.Amid.{few}
 use Rattle.swan_runtime.proofs.Spending.{fuel-is, left-more}
 use Rattle.swan_runtime.proofs.Stacking.{top-given}
 use Rattle.swan_runtime.proofs.Turning.{fewer-runs, fewer-spawns, moved-named, never-strange, never-waits, stack-ends, stack-runs, stack-spawns}
@@ -20,7 +21,7 @@ resume-requires-clause-name g c κs within =
 
 pub unreachable-requires : goal.unreachable-requires
 unreachable-requires g c =
-    let whole = some-of c.run_local.new.self.stage c.in-Budget.ensures.whole in
+    let whole = some_of c.run_local.new.self.stage c.in-Budget.ensures.whole in
     let less = few g.B.Body _ _ _ whole.0 (c.number-in-Budget.ensures.frame whole.0 whole.1) in
     omega (arith, less, c.in-Budget.ensures.done, c.in-Budget.ensures.budget)
 
@@ -81,7 +82,7 @@ returns-in_ok-push-in-Spawned-clause-fewer g c =
 pub returns-in-Ended-clause-stack : goal.returns-in-Ended-clause-stack
 returns-in-Ended-clause-stack g c =
     let said = c.in-Ended.ensures in
-    let now = some-of c.resume.new.self.kept said.resumed.1 in
+    let now = some_of c.resume.new.self.kept said.resumed.1 in
     let stack = stack-ends g.B.Body g.Q.Ends.LocalEnds.name g.Q.Ends.LocalEnds.run g.Q.Ends.LocalEnds.ends g.Q.Ends.LocalEnds.counts
     c.args.core.now c.args.below.now.items c.args.frame c.run_local.new.self c.requires.stack c.run_local.ensures.same
     c.resume.new.self said.plan said.run now.0 now.1 said.resumed.4 said.resumed.5 in

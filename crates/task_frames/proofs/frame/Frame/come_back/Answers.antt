@@ -8,13 +8,13 @@ use Rattle.std.specs.Option.{unwrap_or}
 use Rattle.swan_model.specs.declared.body.Answer.TheVariants.{Start}
 use Rattle.task_frames.specs.declared.stage.Stage.TheVariants.{Ready}
 use Rattle.task_frames.specs.declared.at_core.StagedTask.{StagedTask}
-use Rattle.task_frames.proofs.Amid.{some-of}
+use Rattle.swan_model.proofs.Elements.{some_of}
 use Rattle.task_frames.proofs.frame.Frame.come_back.Goals as goal
 
 pub back-requires-clause-path : goal.back-requires-clause-path
 back-requires-clause-path g c = λ s named own live.
     let View : Type 0 = FrameView g.row.B.Denot g.row.B-Local.Denot g.row.Q-Ends.Denot in
-    let whole = some-of c.self.inside.staged.value.stage (c.self.invariant.1 (ap (λ (f : View). f.mark) c.self.view_is ∙ c.requires.mark)) in
+    let whole = some_of c.self.inside.staged.value.stage (c.self.invariant.1 (ap (λ (f : View). f.mark) c.self.view_is ∙ c.requires.mark)) in
     let path = subst (λ (f : View). OnNext (g.Q.Queues.name c.args.queues.now) (g.Q.Queues.state c.args.queues.now) f.task.number (λ z x. f.task.path ≡ x.path)) (sym c.self.view_is) c.requires.path in
     let number = c.number-number.ensures.number ∙ ap (λ (st : StagedTask g.row.B.Denot g.row.B-Local.Denot). st.task.number) c.deref.ensures in
     (c.self.invariant.0 whole.0 whole.1).lent.path ∙ path s named own (subst (λ n. active (g.Q.Queues.state c.args.queues.now) n ≡ Some own) number live)
@@ -32,7 +32,7 @@ invariant_of-result g c = c.self.invariant.1 (ap (λ (f : FrameView g.row.B.Deno
 pub returns-in-Ok-clause-is : goal.returns-in-Ok-clause-is
 returns-in-Ok-clause-is g c =
     let View : Type 0 = FrameView g.row.B.Denot g.row.B-Local.Denot g.row.Q-Ends.Denot in
-    let whole = some-of c.self.inside.staged.value.stage (c.self.invariant.1 (ap (λ (f : View). f.mark) c.self.view_is ∙ c.requires.mark)) in
+    let whole = some_of c.self.inside.staged.value.stage (c.self.invariant.1 (ap (λ (f : View). f.mark) c.self.view_is ∙ c.requires.mark)) in
     let first = Ready c.self.inside.staged.value.task.plan.root_local Start in
     let stage = ap (λ o. unwrap_or o first) whole.1 in
     subst (λ (f : View). IsFrame g.B.Body f.task (g.Q.Ends.LocalEnds.name f.ends) (g.Q.Ends.LocalEnds.ends f.ends) (unwrap_or c.self.inside.staged.value.stage first))

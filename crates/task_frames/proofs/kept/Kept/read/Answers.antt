@@ -11,7 +11,7 @@ use Rattle.swan_model.specs.QueueState.{COUNT_MOST}
 use Rattle.task_frames.specs.Cores.{AtCore, one_on}
 use Rattle.task_frames.specs.Records.{live_at}
 use Rattle.task_frames.proofs.Goings.{live-here}
-use Rattle.task_frames.proofs.Amid.{some-of}
+use Rattle.swan_model.proofs.Elements.{some_of}
 use Rattle.task_frames.proofs.Asked.{noted-so, steps-few}
 use Rattle.task_frames.proofs.Given.{over}
 use Rattle.task_frames.proofs.ObjectSteps.{object-there, read-runs, read-waits}
@@ -19,7 +19,7 @@ use Rattle.task_frames.proofs.kept.Kept.read.Goals as goal
 
 pub value-requires : goal.value-requires
 value-requires g c =
-    let at = some-of _ c.if-is_none.ensures in
+    let at = some_of _ c.if-is_none.ensures in
     record {
       placed = over (λ k n. (x : Placed) × (placed_at k.versions n c.args.place ≡ Some x)) _ _ _ _ c.self.view_is c.number-number.ensures
           (object-there g.B.Body _ _ _ c.requires.has c.args.place at.0 In refl (sym c.number_at.ensures ∙ at.1));
@@ -37,7 +37,7 @@ is_told-frame-requires-after_bounds g c κs within = steps-few g.B.Body _ _ _ c.
 
 pub returns-in_ok-item-in-Ok-clause-step : goal.returns-in_ok-item-in-Ok-clause-step
 returns-in_ok-item-in-Ok-clause-step g c =
-    let at = some-of _ c.if-is_none.ensures in
+    let at = some_of _ c.if-is_none.ensures in
     let noted = noted-so c.args.self.now _ _ _ _ _ _ refl c.number-number.ensures c.done.ensures c.note_step.ensures.same c.note_step.ensures.live in
     let told = ap (λ (v : Value). let a : AtCore g.row.B.Denot g.row.B-Local.Denot = record { task = one_on c.args.mid.task; stage = Ready c.args.mid.local (answer.Item v) } in a) c.in_ok-item-in-Ok.ensures in
     read-runs g.B.Body _ _ c.args.place at.0 c.requires.has (sym c.number_at.ensures ∙ at.1) c.requires.begun c.in-Ok.value.now
@@ -47,7 +47,7 @@ returns-in_ok-item-in-Ok-clause-step g c =
 
 pub returns-in-Err-clause-step : goal.returns-in-Err-clause-step
 returns-in-Err-clause-step g c =
-    let at = some-of _ c.if-is_none.ensures in
+    let at = some_of _ c.if-is_none.ensures in
     read-waits g.B.Body _ _ c.args.place at.0 c.requires.has (sym c.number_at.ensures ∙ at.1) c.in-Err.owing
     (over (λ k n. (object : Placed) → placed_at k.versions n c.args.place ≡ Some object → object.present ≡ owed c.in-Err.owing) _ _ _ _ (sym c.self.view_is) (sym c.number-number.ensures) c.in-Err.ensures.err)
     c.args.self.now c.asks.result refl c.asks.ensures

@@ -2,18 +2,17 @@ use Rattle.std.proofs.Common.{◌≡◌, ◌-◌, Some, refl, sym, subst, ap, �
 use Rattle.std.proofs.lemmas.Option.{same_Some}
 use Rattle.std.specs.Option.{option_map}
 use Rattle.swan_model.specs.Readings.{gone_on_by}
-use Rattle.swan_model.proofs.Elements.{some_is}
+use Rattle.swan_model.proofs.Elements.{some_is, some_of}
 use Rattle.task_frames.specs.Cores.{IsCore, KeptView}
 use Rattle.task_frames.specs.Records.{IsOnlyLive, LiveFrame, come_to, live_at}
 use Rattle.task_frames.specs.Frames.{Task}
-use Rattle.task_frames.proofs.Amid.{some-of}
 use Rattle.task_frames.proofs.Taking.{come-so, has-taken, path-so, stands-so, stay-from, taken-stay}
 use Rattle.task_frames.proofs.kept.Kept.take_in.Goals as goal
 
 pub come_back-requires-clause-own : goal.come_back-requires-clause-own
 come_back-requires-clause-own g c κs within =
     let core = subst (λ k. IsCore g.B.Body c.args.frame.task.plan k) (sym c.self.view_is) c.requires.core in
-    let whole = some-of c.args.frame.stage (c.number-number.ensures.marked c.requires.mark) in
+    let whole = some_of c.args.frame.stage (c.number-number.ensures.marked c.requires.mark) in
     let frame = c.number-number.ensures.frame whole.0 whole.1 in
     (frame.lent.named ∙ sym core.name, c.requires.run ∙ ap (λ (k : KeptView). k.run) (sym c.self.view_is))
 
