@@ -56,10 +56,15 @@ pub fn add(
     child: u64,
     holding: QueueHolding,
 ) -> Result<(), NoMemory>
+    // the frames, and what the sets have of them
     requires kept { IsKept frames.old.entries sets.old.poppers sets.old.pushers sets.old.givers }
+
+    // who gets it
     requires rising { parent < child }
     requires newest { AreUpTo frames.old.entries child }
     requires fits { MayBeEnlisted frames.old.entries parent child holding.number }
+
+    // what it leaves
     ensures given { OnOk result (frames.new.entries ≡ frames_after_enlist frames.old.entries parent child holding) }
     ensures kept { OnOk result (IsKept frames.new.entries sets.new.poppers sets.new.pushers sets.new.givers) }
 {

@@ -205,10 +205,15 @@ impl Chains {
     /// Takes all items of a queue, and gives up its chunks, of which none is owned. `O(n)` for n items and chunks. Err
     /// is want of memory.
     pub fn take_all(&mut self, alloc: Global, queue: u32) -> Result<Values, NoMemory>
+        // the queue
         requires known { queue < length self.old.heads.items }
         requires unowned { HaveSomeUnowned self.old queue }
-        ensures same { OnOk result (length self.new.heads.items ≡ length self.old.heads.items) }
+
+        // the items that it answers
         ensures items { IfOk result (λ items. OnUnowned self.old queue (λ at lines. items ≡ items_in (lines queue))) }
+
+        // what it leaves
+        ensures same { OnOk result (length self.new.heads.items ≡ length self.old.heads.items) }
         ensures taken { OnOk result (OnUnowned self.old queue (λ at lines. HaveLines self.new at (in_line queue (λ chunks. []) lines))) }
         ensures fewer { OnOk result (OnUnowned self.old queue (λ at lines. slab_len self.new.nodes + length (lines queue) ≡ slab_len self.old.nodes)) }
     {

@@ -27,11 +27,16 @@ impl QueueStore {
     /// walk over the chunks before the frame's own, with a look-up for each that is owned, up to the first frame that
     /// may push. It takes no memory.
     pub fn front(&mut self, frame: u64, queue: u32) -> Tested
+        // the queue, and where chunks stand
         requires known { queue < length self.old.chains.heads.items }
         requires kept { HaveSomeLines self.old.chains }
+
+        // what stays as it is
         ensures frames { self.new.frames ≡ self.old.frames }
         ensures turns { self.new.turns ≡ self.old.turns }
         ensures same { length self.new.chains.heads.items ≡ length self.old.chains.heads.items }
+
+        // what it answers, by the turns and then by the chunks
         ensures turn { IsTurnTold self.old.turns frame queue result }
         ensures told { (at : ℕ → ℕ → Option ℕ) (lines : ℕ → Chunks) → AreChained at self.old.chains.heads.items self.old.chains.nodes lines
             → IsFrontTold self.old.frames at self.new.chains.heads.items self.new.chains.nodes lines frame queue result }

@@ -56,11 +56,16 @@ impl QueueStore {
     /// Makes a queue that an active frame owns, with these first items, and answers its number. `O(log n)` amortised.
     /// Err is want of memory.
     pub fn make(&mut self, frame: u64, first: Values) -> Result<u32, NoMemory>
+        // the frame, and room for one more queue
         requires active { IsSome (kept_of self.old.frames frame) }
         requires room { length self.old.chains.heads.items < QUEUES_MOST }
+
+        // the queue that is made
         ensures number { IfOk result (λ queue. queue ≡ length self.old.chains.heads.items) }
         ensures more { OnOk result (length self.new.chains.heads.items ≡ length self.old.chains.heads.items + 1) }
         ensures made { IfOk result (λ queue. IsMadeIn self.old.frames self.new.frames frame queue first self.old.chains.heads.items self.old.chains.nodes self.new.chains.heads.items self.new.chains.nodes) }
+
+        // the turns, which stay as they are
         ensures turns { self.new.turns ≡ self.old.turns }
     {
         let queue = self.chains.heads.len() as u32;
