@@ -34,21 +34,16 @@ impl At {
 
 /// The kind with this name, if it is one of the text's.
 pub fn kind_named(name: &str) -> Option<JobKind> {
-    let kinds = [
-        ("BadByte", JobKind::BadByte),
-        ("BadHeader", JobKind::BadHeader),
-        ("BadLine", JobKind::BadLine),
-        ("BadName", JobKind::BadName),
-        ("BadNumber", JobKind::BadNumber),
-        ("Unbalanced", JobKind::Unbalanced),
-        ("Limit", JobKind::Limit),
-    ];
-    for (word, kind) in kinds {
-        if word == name {
-            return Some(kind);
-        }
+    match name {
+        "BadByte" => Some(JobKind::BadByte),
+        "BadHeader" => Some(JobKind::BadHeader),
+        "BadLine" => Some(JobKind::BadLine),
+        "BadName" => Some(JobKind::BadName),
+        "BadNumber" => Some(JobKind::BadNumber),
+        "Unbalanced" => Some(JobKind::Unbalanced),
+        "Limit" => Some(JobKind::Limit),
+        _ => None,
     }
-    None
 }
 
 /// A text with @ at a place.

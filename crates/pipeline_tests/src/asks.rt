@@ -4,19 +4,14 @@ use swan_model::{Answer, Ask, Body, NoMemory, Plan, Value};
 
 /// An answer, by its word.
 fn answer_of(word: &str) -> Answer {
-    let answers = [
-        ("start", Answer::Start),
-        ("item", Answer::Item(Value::Int(7))),
-        ("true", Answer::Flag(true)),
-        ("false", Answer::Flag(false)),
-        ("place", Answer::Place(2)),
-    ];
-    for (name, answer) in answers {
-        if name == word {
-            return answer;
-        }
+    match word {
+        "start" => Answer::Start,
+        "item" => Answer::Item(Value::Int(7)),
+        "true" => Answer::Flag(true),
+        "false" => Answer::Flag(false),
+        "place" => Answer::Place(2),
+        _ => Answer::Nothing,
     }
-    Answer::Nothing
 }
 
 /// The word of an ask, with a space after it.
@@ -68,6 +63,23 @@ fn goes<B: Body>(
     Ok(child)
 }
 
+/// What a task that begins with this local asks for that is told these words, and then the child that it asks for last,
+/// told those.
+fn asks_of<B: Body>(
+    alloc: Global,
+    body: &B,
+    local: B::Local,
+    told: &str,
+    child_told: &str,
+    other: &str,
+) -> Result<String, NoMemory> {
+    let mut asks = String::new(alloc);
+    if let Some(child) = goes(alloc, body, local, told, other, &mut asks)? {
+        goes(alloc, body, child, child_told, other, &mut asks)?;
+    }
+    Ok(asks)
+}
+
 /// What the root of a plan asks for that is told these words, and then the child that it asks for last, told those. In
 /// both a star stands for the other word.
 pub fn asks<B: Body>(
@@ -83,9 +95,5 @@ pub fn asks<B: Body>(
         roots: _,
         fuel: _,
     } = plan;
-    let mut asks = String::new(alloc);
-    if let Some(child) = goes(alloc, &body, root_local, told, other, &mut asks)? {
-        goes(alloc, &body, child, child_told, other, &mut asks)?;
-    }
-    Ok(asks)
+    asks_of(alloc, &body, root_local, told, child_told, other)
 }

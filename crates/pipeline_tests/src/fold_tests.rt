@@ -4,11 +4,23 @@ use std::alloc::{AllocError, Global};
 use std::marker::{Send, Sync};
 use std::process::Abort;
 use std::test::Fail;
-use swan_model::{NoMemory, RECORD_MOST, Record};
+use swan_model::{NoMemory, Plan, RECORD_MOST, Record};
 use swan_reducers::{
-    BlockFold, EndAnswer, JOIN_MOST, JoinReducer, LineAnswer, Reducer, SumReducer, fold_names,
-    fold_plan,
+    BlockFold, EndAnswer, FoldBody, JOIN_MOST, JoinReducer, LineAnswer, Reducer, SumReducer,
+    fold_names, fold_plan,
 };
+
+/// The plan of the fold of a text.
+fn plan_of<R: Reducer + Send + Sync>(
+    alloc: Global,
+    reducer: R,
+    text: &[u8],
+) -> Result<Plan<FoldBody<R>>, Fail> {
+    match fold_plan(alloc, reducer, text) {
+        Ok(plan) => Ok(plan),
+        Err(_) => Err("refused".into()),
+    }
+}
 
 /// Whether the fold of a text leaves this output, and this report of its faults.
 fn leaves<R: Reducer + Send + Sync>(
@@ -19,9 +31,24 @@ fn leaves<R: Reducer + Send + Sync>(
     out: &[u8],
     faults: &str,
 ) -> Result<bool, Fail> {
-    let plan = fold_plan(alloc, reducer, text).ok().ok_or("refused")?;
-    let names = fold_names(alloc)?;
-    plan_leaves(rt, alloc, plan, &names, out, faults)
+    let plan = plan_of(alloc, reducer, text)?;
+    plan_leaves(rt, alloc, plan, &fold_names(alloc)?, out, faults)
+}
+
+/// Asserts what the fold of so many equal lines and a bad one leaves.
+fn hold_bad_line<R: Reducer + Send + Sync>(
+    rt: &impl Abort,
+    alloc: Global,
+    reducer: R,
+    line: &[u8],
+    count: usize,
+    sum: &str,
+    faults: &str,
+) -> Result<(), Fail> {
+    let text = in_turn(alloc, line, count, b"x\n", 1)?;
+    let holds = leaves(rt, alloc, reducer, &text, sum.as_bytes(), faults)?;
+    assert!(rt; holds, "at {count}");
+    Ok(())
 }
 
 #[test]
@@ -91,11 +118,7 @@ fn blocks_have_64_lines(rt: HostRuntime) -> Result<(), Fail> {
         (64, "64\n", "faults 1\nfault /1 65 BadNumber\n"),
         (128, "128\n", "faults 1\nfault /2 129 BadNumber\n"),
     ] {
-        let text = in_turn(alloc, b"1\n", good, b"x\n", 1)?;
-        assert!(rt;
-            leaves(&rt, alloc, SumReducer, &text, sum.as_bytes(), faults)?,
-            "at {good}"
-        );
+        hold_bad_line(&rt, alloc, SumReducer, b"1\n", good, sum, faults)?;
     }
     Ok(())
 }
@@ -237,6 +260,32 @@ fn line_of(alloc: Global, letter: u8, length: usize) -> Result<Vec<u8>, AllocErr
     followed(repeated(alloc, &[letter], length)?, b"\n")
 }
 
+/// A text of 64 lines of so many `a`, and a last one of so many `b`.
+fn text_of_lines(alloc: Global, length: usize, last: usize) -> Result<Vec<u8>, AllocError> {
+    let first = line_of(alloc, b'a', length)?;
+    in_turn(alloc, &first, 64, &line_of(alloc, b'b', last)?, 1)
+}
+
+/// The join of these lines, with its line feed.
+fn join_of_lines(alloc: Global, length: usize, last: usize) -> Result<Vec<u8>, AllocError> {
+    let first = repeated(alloc, b"a", length)?;
+    followed(in_turn(alloc, &first, 64, b"b", last)?, b"\n")
+}
+
+/// Whether the fold of these lines leaves their join, and whether it leaves nothing, as it is too long.
+fn joins_of_lines(
+    rt: &impl Abort,
+    alloc: Global,
+    length: usize,
+    last: usize,
+) -> Result<(bool, bool), Fail> {
+    let text = text_of_lines(alloc, length, last)?;
+    let out = join_of_lines(alloc, length, last)?;
+    let whole = leaves(rt, alloc, JoinReducer, &text, &out, "faults 0\n")?;
+    let faults = "faults 1\nfault /2 0 TooLong\n";
+    Ok((whole, leaves(rt, alloc, JoinReducer, &text, b"", faults)?))
+}
+
 #[test]
 fn joins_of_blocks_end_past_the_bound(rt: HostRuntime) -> Result<(), Fail> {
     let alloc = rt.alloc();
@@ -249,15 +298,8 @@ fn joins_of_blocks_end_past_the_bound(rt: HostRuntime) -> Result<(), Fail> {
         (1_024, 0, false),
         (1_024, 1, false),
     ] {
-        let first = line_of(alloc, b'a', length)?;
-        let text = in_turn(alloc, &first, 64, &line_of(alloc, b'b', last)?, 1)?;
-        let first = repeated(alloc, b"a", length)?;
-        let out = followed(in_turn(alloc, &first, 64, b"b", last)?, b"\n")?;
-        let whole = leaves(&rt, alloc, JoinReducer, &text, &out, "faults 0\n")?;
-        let faults = "faults 1\nfault /2 0 TooLong\n";
-        let too_long = leaves(&rt, alloc, JoinReducer, &text, b"", faults)?;
         assert_eq!(rt;
-            (whole, too_long),
+            joins_of_lines(&rt, alloc, length, last)?,
             (is_whole, !is_whole),
             "at {length} and {last}"
         );
@@ -283,14 +325,26 @@ fn parts_are_told_from_other_records(rt: HostRuntime) -> Result<(), Fail> {
     Ok(())
 }
 
-/// The bytes of a line's part, and None for a bad line.
-fn part_of<R: Reducer>(alloc: Global, reducer: &R, line: &[u8]) -> Result<Option<Vec<u8>>, Fail> {
-    let line = Record::of(alloc, line).ok().ok_or("too long")?;
-    match reducer.of_line(alloc, &line) {
-        Ok(part) => Ok(Some(part.as_slice().to_vec(alloc)?)),
-        Err(LineAnswer::BadNumber) => Ok(None),
-        Err(LineAnswer::NoMemory) => Err("no memory".into()),
+/// Whether this is the part of a line, which a bad line doesn't have.
+fn is_part(found: &Result<Record, LineAnswer>, part: Option<&[u8]>) -> bool {
+    match (found, part) {
+        (Ok(found), Some(part)) => found.as_slice() == part,
+        (Err(LineAnswer::BadNumber), None) => true,
+        _ => false,
     }
+}
+
+/// Asserts the part of a line.
+fn hold_part<R: Reducer>(
+    rt: &impl Abort,
+    alloc: Global,
+    reducer: &R,
+    line: &[u8],
+    part: Option<&[u8]>,
+) -> Result<(), Fail> {
+    let line = Record::of(alloc, line).ok().ok_or("too long")?;
+    assert!(rt; is_part(&reducer.of_line(alloc, &line), part));
+    Ok(())
 }
 
 #[test]
@@ -324,12 +378,32 @@ fn a_lines_part_is_its_number_in_16_bytes_or_its_bytes(rt: HostRuntime) -> Resul
         (b"\n", None),
         (&longest, None),
     ] {
-        let part = part_of(alloc, &SumReducer, line)?;
-        assert!(rt; part.as_deref() == sum);
-        let part = part_of(alloc, &JoinReducer, line)?;
-        assert!(rt; part.as_deref() == Some(line));
+        hold_part(&rt, alloc, &SumReducer, line, sum)?;
+        hold_part(&rt, alloc, &JoinReducer, line, Some(line))?;
     }
     Ok(())
+}
+
+/// What a reducer makes of no line.
+fn without_lines<R: Reducer>(alloc: Global, reducer: &R) -> Result<BlockFold, NoMemory> {
+    Ok(BlockFold {
+        part: reducer.zero(alloc)?,
+        bad: None,
+    })
+}
+
+/// What a reducer makes of one more line.
+fn with_line<R: Reducer>(
+    rt: &impl Abort,
+    alloc: Global,
+    reducer: &R,
+    fold: BlockFold,
+    number: u64,
+    line: &[u8],
+) -> Result<BlockFold, Fail> {
+    assert!(rt; reducer.is_part(&fold.part));
+    let line = Record::of(alloc, line).ok().ok_or("too long")?;
+    Ok(reducer.with_line(alloc, fold, number, &line)?)
 }
 
 /// What a reducer makes of lines one by one, the first of which has the number 1.
@@ -339,15 +413,10 @@ fn with_lines<R: Reducer>(
     reducer: &R,
     lines: &[&[u8]],
 ) -> Result<BlockFold, Fail> {
-    let mut fold = BlockFold {
-        part: reducer.zero(alloc)?,
-        bad: None,
-    };
+    let mut fold = without_lines(alloc, reducer)?;
     let mut number: u64 = 1;
     for line in lines {
-        assert!(rt; reducer.is_part(&fold.part));
-        let line = Record::of(alloc, *line).ok().ok_or("too long")?;
-        fold = reducer.with_line(alloc, fold, number, &line)?;
+        fold = with_line(rt, alloc, reducer, fold, number, *line)?;
         number = number.saturating_add(1);
     }
     Ok(fold)
@@ -456,12 +525,8 @@ fn a_reducer_without_a_fold_of_blocks_goes_line_by_line(rt: HostRuntime) -> Resu
         (63, "441\n", "faults 1\nfault /0 64 BadNumber\n"),
         (64, "448\n", "faults 1\nfault /1 65 BadNumber\n"),
     ] {
-        let text = in_turn(alloc, b"7\n", good, b"x\n", 1)?;
         let reducer = LineByLine { sums: SumReducer };
-        assert!(rt;
-            leaves(&rt, alloc, reducer, &text, sum.as_bytes(), faults)?,
-            "at {good}"
-        );
+        hold_bad_line(&rt, alloc, reducer, b"7\n", good, sum, faults)?;
     }
     Ok(())
 }

@@ -63,8 +63,8 @@ fn texts_of<B: Body>(
     names: &Names,
 ) -> Result<Printed, Fail> {
     let outcome = elide(alloc, plan)?;
-    assert_eq!(rt; names.queues.len(), outcome.queues.len());
-    assert_eq!(rt; names.objects.len(), outcome.objects.len());
+    assert!(rt; names.queues.len() == outcome.queues.len());
+    assert!(rt; names.objects.len() == outcome.objects.len());
     Ok(print(alloc, names, &outcome)?)
 }
 
