@@ -1,5 +1,5 @@
--- The reducer of sums. A part is the 16 bytes of a number of 128 bits in two's complement, the highest first, and
--- parts are joined by their sum, which wraps there.
+-- The reducer of sums. A part is the PART_BYTES bytes of a number of 128 bits in two's complement, the highest first,
+-- and parts are joined by their sum, which wraps there.
 use Rattle.std.specs.Prelude.{ℕ, ◌==◌, nat_lt, Bool, ◌&&◌, ℤ, pos, ◌+ℤ◌, Option, Some, None, option_map, Result, Ok, Err, if◌then◌else◌, List, [], ◌∷◌, length}
 use Rattle.std.specs.Fmt.{signed_decimal}
 use Rattle.std.specs.Int.{w128, cast_signed, cast_unsigned, from_be_bytes, int_wrap, to_be_bytes}
@@ -8,6 +8,7 @@ use Rattle.swan_model.specs.Values.{fits_64}
 use Rattle.swan_model.specs.declared.fault.Trouble.{Trouble}
 use Rattle.swan_model.specs.declared.fault.Trouble.TheVariants.{Overflow}
 use Rattle.job_reader.specs.Atoms.{number}
+use Rattle.swan_reducers.specs.declared.sum_reducer.TheConstants.{PART_BYTES}
 
 abbrev pub is_byte : ℕ → Bool
 is_byte byte = nat_lt byte 256
@@ -20,7 +21,7 @@ abbrev pub sum_part : ℤ → List ℕ
 sum_part sum = to_be_bytes w128 (cast_unsigned w128 sum)
 
 abbrev pub is_sum_part : List ℕ → Bool
-is_sum_part bytes = (length bytes == 16) && list_all is_byte bytes
+is_sum_part bytes = (length bytes == PART_BYTES) && list_all is_byte bytes
 
 abbrev pub number_part : List ℕ → Option (List ℕ)
 number_part line = option_map sum_part (number line)

@@ -6,6 +6,7 @@ ghost use Rattle.std.specs.Option.{option_or};
 ghost use Rattle.swan_model.specs.Values.{bytes_of};
 ghost use Rattle.swan_reducers.specs.LineFolds.{bad_number, unless_part};
 ghost use Rattle.swan_reducers.specs.Sums.{added_number, is_sum_part, lines_summed, narrowed, number_part, sum_of, sum_part};
+ghost use Rattle.swan_reducers.specs.declared.sum_reducer.TheConstants.{PART_BYTES};
 
 use crate::{BlockFold, EndAnswer, LineAnswer, Reducer};
 use job_reader::read_number;
@@ -34,7 +35,7 @@ fn is_sum_part(bytes: &[u8]) -> bool
 
 /// The sum that a part stands for.
 fn sum_of(part: &[u8]) -> i128
-    requires { length part.now ≡ 16 }
+    requires { length part.now ≡ PART_BYTES }
     ensures { result ≡ sum_of part.now }
 {
     match <[u8; PART_BYTES]>::try_from(part) {
@@ -43,9 +44,9 @@ fn sum_of(part: &[u8]) -> i128
     }
 }
 
-/// A record of so few bytes.
+/// A record of no more bytes than a part has.
 fn record_of(alloc: Global, bytes: &[u8]) -> Result<Record, NoMemory>
-    requires { length bytes.now ≤ 64 }
+    requires { length bytes.now ≤ PART_BYTES }
     ensures { IfOk result (λ it. it ≡ bytes.now) }
 {
     match Record::of(alloc, bytes) {
