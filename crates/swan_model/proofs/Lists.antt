@@ -2,7 +2,7 @@
 use Rattle.std.proofs.Common.{◌≡◌, ℕ, zero, suc, ◌<◌, List, [], ◌∷◌, ◌++◌, length, Some, refl, ap, arith, ◌∙◌, ◌+◌, take, drop, None, ◌≤◌}
 use Rattle.std.proofs.lemmas.List.{drop_more, take_more}
 use Rattle.std.proofs.lemmas.Option.{get_or_from_slice_get, slice_get_within}
-use Rattle.std.specs.Prelude.{slice_get}
+use Rattle.std.specs.Prelude.{slice_get, slice_set}
 
 -- a list is empty, or it has a last element
 pub record HasLast (xs : List ℕ) : Type 0 where
@@ -21,6 +21,12 @@ pub some_within : {X : Type 0} (xs : List X) (n : ℕ) → n < length xs → (x 
 some_within [] n less = absurd (omega arith)
 some_within (x ∷ xs) zero less = (x, refl)
 some_within (x ∷ xs) (suc n) less = some_within xs n (omega arith)
+
+-- what stands in a list at the index at which it was set
+pub get-set_same : {X : Type 0} (xs : List X) (n : ℕ) (x : X) → n < length xs → slice_get (slice_set xs n x) n ≡ Some x
+get-set_same [] n x within = absurd (omega arith)
+get-set_same (y ∷ xs) zero x within = refl
+get-set_same (y ∷ xs) (suc n) x within = get-set_same xs n x (omega arith)
 
 -- what stands after the first of two lists
 pub get-after : {X : Type 0} (xs ys : List X) (n : ℕ) → slice_get (xs ++ ys) (length xs + n) ≡ slice_get ys n

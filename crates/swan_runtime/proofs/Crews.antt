@@ -1,13 +1,13 @@
 -- All workers of an opening, as they take turns.
-use Rattle.std.proofs.Common.{◌≡◌, ℕ, ◌<◌, Bool, true, false, true≢false, IsTrue, IfOk, Result, Ok, Err, Some, List, [], ◌∷◌, ◌++◌, All, arith, ap, drop, length, refl, set, slice_get, slice_index_or, subst, sym, take, ◌∙◌}
+use Rattle.std.proofs.Common.{◌≡◌, ℕ, ◌<◌, Bool, true, false, true≢false, IsTrue, IfOk, Result, Ok, Err, List, [], ◌∷◌, ◌++◌, All, arith, ap, drop, length, refl, set, slice_get, slice_index_or, subst, sym, take, ◌∙◌}
 use Rattle.std.specs.Arc.{arc_value}
 use Rattle.std.proofs.Math.Seq.{take-append_seam}
-use Rattle.std.proofs.lemmas.List.{get_or-set_same, length-set}
-use Rattle.std.proofs.lemmas.Option.{slice_get-get_or}
+use Rattle.std.proofs.lemmas.List.{length-set}
 use Rattle.std.proofs.lemmas.List.Elements.{All-same, All-set}
 use Rattle.named_lock.specs.Seats.{IsSeatOf, knows, lock_name, lock_seats}
 use Rattle.named_lock.specs.declared.seat.LockSeat.{LockSeat}
 use Rattle.named_lock.specs.declared.lock.NamedLock.{NamedLock}
+use Rattle.swan_model.proofs.Lists.{get-set_same}
 use Rattle.swan_model.specs.declared.plan.Plan.{Plan}
 use Rattle.task_frames.specs.declared.run.PlanRun.{PlanRun}
 use Rattle.task_frames.specs.Resumes.{EndsOf}
@@ -19,10 +19,6 @@ use Rattle.swan_runtime.specs.Workers.{AreDriven, AreWorkersOfPlan, AreWorkers, 
 pub written : {X : Type 0} (xs ys : List X) (n : ℕ) → n ≡ length xs → length ys ≡ length xs → take n (ys ++ drop (length ys) xs) ≡ ys
 written xs ys n whole same =
     ap (λ (k : ℕ). take k (ys ++ drop (length ys) xs)) (whole ∙ sym same) ∙ take-append_seam ys (drop (length ys) xs)
-
-found_there : {X : Type 0} (xs : List X) (i : ℕ) (x : X) → i < length xs → slice_get (set xs i x) i ≡ Some x
-found_there xs i x within =
-    slice_get-get_or (set xs i x) i x (subst (λ (n : ℕ). i < n) (sym (length-set xs i x)) within) ∙ ap Some (get_or-set_same xs i x x within)
 
 none_here : (n : ℕ) → 0 < n → 0 ≡ n → ⊥
 none_here n some same = omega (arith, some, same)
@@ -82,7 +78,7 @@ module _ {B Q L E : Type 0} (of : EndsOf E) where
       }
 
   pub this_has_met : (before after : List (Worker B Q L E)) (i : ℕ) (now : Worker B Q L E) → i < length before → after ≡ set before i now → has_met now ≡ true → OneHasMet after
-  this_has_met before after i now within is met = record { index = i; worker = now; stands = ap (λ (ws : List (Worker B Q L E)). slice_get ws i) is ∙ found_there before i now within; met = met }
+  this_has_met before after i now within is met = record { index = i; worker = now; stands = ap (λ (ws : List (Worker B Q L E)). slice_get ws i) is ∙ get-set_same before i now within; met = met }
 
   -- as many as the lock has seats
   pub opened_workers : {V F : Type 0} (items : V → List (Worker B Q L E)) (lock : NamedLock (SharedView B L E) (PlanRun B L)) (n : ℕ) (result : Result V F)

@@ -1,7 +1,9 @@
 -- Tasks that push the items of a list and end, run whole over any contents.
-use Rattle.std.proofs.Common.{◌≡◌, ℕ, zero, suc, ◌+◌, ◌-◌, ◌≤◌, List, [], ◌∷◌, ◌++◌, Some, refl, sym, ap, subst, ◌∙◌, append_assoc, arith, length, set-set}
+use Rattle.std.proofs.Common.{◌≡◌, ℕ, ◌+◌, ◌-◌, ◌≤◌, List, [], ◌∷◌, ◌++◌, Some, refl, sym, ap, subst, ◌∙◌, append_assoc, arith, length, set-set}
 use Rattle.std.proofs.lemmas.List.{append-nil}
-use Rattle.std.specs.Prelude.{slice_get, slice_set}
+use Rattle.std.proofs.lemmas.Option.{slice_get_within}
+use Rattle.std.specs.Prelude.{slice_get}
+use Rattle.swan_model.proofs.Lists.{get-set_same}
 use Rattle.swan_model.specs.declared.body.Answer.{Answer}
 use Rattle.swan_model.specs.declared.body.Answer.TheVariants as answer
 use Rattle.swan_model.specs.declared.body.Ask.TheVariants as ask
@@ -13,12 +15,6 @@ use Rattle.swan_model.specs.SerialStep.{number_at}
 use Rattle.whole_runs.specs.Whole.{Contents, with_queue, RunsWhole}
 use Rattle.whole_runs.proofs.WholeSteps.{pushes, finishes}
 use Rattle.serial_elision.proofs.Pops.{set-found}
-
--- what stands in a list at the index at which it was set
-pub get-set_same : {X : Type 0} (xs : List X) (n : ℕ) (x y : X) → slice_get xs n ≡ Some x → slice_get (slice_set xs n y) n ≡ Some y
-get-set_same [] n x y is = absurd (cc)
-get-set_same (z ∷ zs) zero x y is = refl
-get-set_same (z ∷ zs) (suc n) x y is = get-set_same zs n x y is
 
 pub with_queue-same : (c : Contents) (n : ℕ) (items : List Value) → slice_get c.queues n ≡ Some items → with_queue c n items ≡ c
 with_queue-same c n items is = ap {B = Contents} (λ qs. record c { queues = qs }) (set-found c.queues n items is)
@@ -50,4 +46,4 @@ module _ {B L : Type 0} {G : Ghosts B L} {body : B} (p : Pusher G body) where
       with_queue-twice c number (before ++ x ∷ []) _ ∙ ap (with_queue c number) (append_assoc before (x ∷ []) xs) in
       subst (λ after. RunsWhole G body a c after []) same
       (pushes G (omega arith) (is ∙ p.more x xs (fuel - 1)) held there
-      (pushes_all xs (before ++ x ∷ []) path (p.left xs) answer.Nothing (fuel - 1) children number holdings mid refl (omega arith) held (get-set_same c.queues number before _ there)))
+      (pushes_all xs (before ++ x ∷ []) path (p.left xs) answer.Nothing (fuel - 1) children number holdings mid refl (omega arith) held (get-set_same c.queues number _ (slice_get_within c.queues number before there))))
