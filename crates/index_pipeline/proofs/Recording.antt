@@ -1,10 +1,11 @@
 -- The records of the words of lines.
-use Rattle.std.proofs.Common.{◌≡◌, ℕ, suc, ◌+◌, ◌-◌, ◌^◌, ◌≤◌, ◌<◌, List, [], ◌∷◌, ◌++◌, length, map, refl, sym, ap, ◌∙◌, arith, append_assoc, length-append}
+use Rattle.std.proofs.Common.{◌≡◌, ℕ, suc, ◌+◌, ◌^◌, ◌≤◌, ◌<◌, List, [], ◌∷◌, ◌++◌, length, map, refl, sym, ap, ◌∙◌, arith, append_assoc, length-append}
 use Rattle.std.proofs.lemmas.List.{length-map, map-append}
 use Rattle.std.proofs.lemmas.Simd.{map-map}
 use Rattle.std.specs.List.{AllByRecursion}
 use Rattle.swan_model.specs.declared.value.Value.{Value}
 use Rattle.swan_model.specs.declared.value.Value.TheVariants.{Bytes}
+use Rattle.swan_model.specs.QueueState.{COUNT_MOST}
 use Rattle.swan_model.specs.Values.{bytes_of}
 use Rattle.line_blocks.specs.LineBlocks.{byte_count, later}
 use Rattle.index_pipeline.specs.Index.{pairs_from}
@@ -17,7 +18,7 @@ use Rattle.index_pipeline.proofs.Wording.{HasNoSpace, few_words, words_have_no_s
 
 -- ---- of two pieces
 
-pub records-append : (n : ℕ) (xs ys : List Value) → n ≤ 2 ^ 64 - 1 → records_from n (xs ++ ys) ≡ records_from n xs ++ records_from (later n (length xs)) ys
+pub records-append : (n : ℕ) (xs ys : List Value) → n ≤ COUNT_MOST → records_from n (xs ++ ys) ≡ records_from n xs ++ records_from (later n (length xs)) ys
 records-append n [] ys fits = ap (λ m. records_from m ys) (let e : n ≡ later n 0 = omega arith in e)
 records-append n (x ∷ xs) ys fits =
     let line = line_records n (bytes_of x) in

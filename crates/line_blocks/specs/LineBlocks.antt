@@ -1,6 +1,7 @@
 -- Lines in a row.
-use Rattle.std.specs.Prelude.{ℕ, ◌+◌, ◌-◌, ◌^◌, min, Option, Some, None, List, [], ◌∷◌, ◌++◌, length}
+use Rattle.std.specs.Prelude.{ℕ, ◌+◌, min, Option, Some, None, List, [], ◌∷◌, ◌++◌, length}
 use Rattle.swan_model.specs.declared.value.Value.{Value}
+use Rattle.swan_model.specs.QueueState.{COUNT_MOST}
 use Rattle.swan_model.specs.Values.{bytes_of}
 
 -- lines in a row, and the number of the first of them
@@ -12,9 +13,9 @@ pub record Lines : Type 0 where
 abbrev pub no_lines : Lines
 no_lines = record { number = 1; lines = [] }
 
--- The number of the line that comes so many lines later. No number passes the largest of 64 bits.
+-- The number of the line that comes so many lines later. No number passes COUNT_MOST, the largest of 64 bits.
 abbrev pub later : ℕ → ℕ → ℕ
-later number count = min (number + count) (2 ^ 64 - 1)
+later number count = min (number + count) COUNT_MOST
 
 -- these lines and one more
 abbrev pub with_line : Lines → Value → Lines

@@ -1,11 +1,12 @@
 -- What lines push, and which faults they book.
-use Rattle.std.proofs.Common.{◌≡◌, ℕ, suc, ◌+◌, ◌-◌, ◌*◌, ◌/◌, ◌%◌, ◌^◌, ◌≤◌, ◌<◌, Option, Some, None, List, [], ◌∷◌, ◌++◌, length, map, refl, sym, ap, ◌∙◌, arith, append_assoc}
+use Rattle.std.proofs.Common.{◌≡◌, ℕ, suc, ◌+◌, ◌*◌, ◌/◌, ◌%◌, ◌^◌, ◌≤◌, ◌<◌, Option, Some, None, List, [], ◌∷◌, ◌++◌, length, map, refl, sym, ap, ◌∙◌, arith, append_assoc}
 use Rattle.std.proofs.lemmas.List.{map-append}
 use Rattle.swan_model.specs.declared.fault.Fault.{Fault}
 use Rattle.swan_model.specs.declared.fault.FaultKind.TheVariants as kind
 use Rattle.swan_model.specs.declared.fault.Trouble.{Trouble}
 use Rattle.swan_model.specs.declared.value.Value.{Value}
 use Rattle.swan_model.specs.declared.value.Value.TheVariants.{Bytes}
+use Rattle.swan_model.specs.QueueState.{COUNT_MOST}
 use Rattle.swan_model.specs.Values.{bytes_of}
 use Rattle.line_blocks.specs.LineBlocks.{later}
 use Rattle.record_pipeline.specs.Conversion.{fault_of, faults_from, records_of, trouble_of, unless_trouble}
@@ -82,7 +83,7 @@ module _ (width : ℕ) where
   one_fault before (Some t) fits =
       ap {B = List Fault} (λ n. (record { path = (before / 64) ∷ (before % 64) ∷ []; place = n; kind = kind.Trouble t }) ∷ []) (let e : later 1 before ≡ before + 1 = omega arith in e)
 
-  pub faults_are : (before : ℕ) (ls : List (List ℕ)) → before + length ls < 2 ^ 64 - 1 → line_faults before (map Bytes ls) ≡ faults_from before width ls
+  pub faults_are : (before : ℕ) (ls : List (List ℕ)) → before + length ls < COUNT_MOST → line_faults before (map Bytes ls) ≡ faults_from before width ls
   faults_are before [] fits = refl
   faults_are before (line ∷ ls) fits =
       ap (λ v. v ++ line_faults (before + 1) (map Bytes ls)) (one_fault before (trouble_of width line) (omega arith))

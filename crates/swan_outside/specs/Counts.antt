@@ -1,12 +1,13 @@
--- Counts of what went wrong. A count never falls, and stops at the last value of 64 bits.
-use Rattle.std.specs.Prelude.{ℕ, ◌+◌, ◌-◌, ◌^◌, ◌≤◌, min, Result, Ok, Err}
+-- Counts of what went wrong. A count never falls, and stops at COUNT_MOST, the last value of 64 bits.
+use Rattle.std.specs.Prelude.{ℕ, ◌+◌, ◌≤◌, min, Result, Ok, Err}
+use Rattle.swan_model.specs.QueueState.{COUNT_MOST}
 use Rattle.swan_outside.specs.declared.answer.ReadAnswer.{ReadAnswer}
 use Rattle.swan_outside.specs.declared.answer.ReadAnswer.TheVariants as answer
 use Rattle.swan_outside.specs.declared.counts.ReadCounts.{ReadCounts}
 
 -- the count after one more
 abbrev pub next_count : ℕ → ℕ
-next_count count = min (count + 1) (2 ^ 64 - 1)
+next_count count = min (count + 1) COUNT_MOST
 
 -- the count rose, or stands at its last value
 abbrev pub Rose : ℕ → ℕ → Type 0
