@@ -2,7 +2,7 @@
 use Rattle.std.specs.Prelude.{◌≡◌, ℕ, ◌≤◌, true, false, ◌&&◌, Option, Some, None, Result, Ok, Err, List, [], ◌∷◌}
 use Rattle.std.specs.List.{list_all}
 use Rattle.std.specs.Borrow.{Bor}
-use Rattle.swan_top.specs.Command.{Command, asked, fueled, is_file, manned, one_input, over_input, run, IsWithinLimits}
+use Rattle.swan_top.specs.Command.{Command, asked, elide, fueled, is_file, manned, one_input, over_input, run, IsWithinLimits}
 use Rattle.swan_top.specs.declared.command.Command.{Command as Asked}
 use Rattle.swan_top.specs.declared.command.JobWords.{JobWords}
 use Rattle.swan_top.specs.declared.command.TheConstants.{FUEL_WORD_MOST}
@@ -23,6 +23,11 @@ FilesOf None (job ∷ inputs) = (is_file job && list_all is_file inputs) ≡ fal
 abbrev pub JobOf : Option JobWords → List (List ℕ) → Type 0
 JobOf (Some given) words = (given.fuel ≤ FUEL_WORD_MOST) × ((command : ℕ → List ℕ → List (List ℕ) → Command) → fueled command words ≡ Some (command given.fuel given.job.now given.inputs.now))
 JobOf None words = (command : ℕ → List ℕ → List (List ℕ) → Command) → fueled command words ≡ None
+
+-- the elision where no workers are named, and else a run by so many
+abbrev pub elide_or_run : Option ℕ → ℕ → List ℕ → List (List ℕ) → Command
+elide_or_run None = elide
+elide_or_run (Some workers) = run workers
 
 -- WORKERS, and the words after it, whatever they are for
 abbrev pub WorkersOf : Option (ℕ × Bor (List (List ℕ))) → List (List ℕ) → Type 0

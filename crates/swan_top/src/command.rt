@@ -2,7 +2,7 @@
 ghost use Rattle.std.specs.Prelude.{◌≡◌, ◌^◌, ◌<◌, ◌∷◌, [], bytes_eq, IfOk, OnErr, Some, None};
 ghost use Rattle.swan_runtime.specs.declared.shape.TheConstants.{WORKERS_MOST};
 ghost use Rattle.swan_top.specs.Command.{command, number_within, is_file, alone, asked, job_alone, fueled, manned, over_input, elide, run, index, convert, three_numbers, IsWithinLimits};
-ghost use Rattle.swan_top.specs.Forms.{ReadsWords, FilesOf, JobOf, WorkersOf, InputOf};
+ghost use Rattle.swan_top.specs.Forms.{ReadsWords, elide_or_run, FilesOf, JobOf, WorkersOf, InputOf};
 ghost use Rattle.std.specs.List.{list_all};
 
 use bulk_workload::BULK_MOST;
@@ -167,13 +167,21 @@ fn fueled(words: &[Word]) -> Option<JobWords<'_>>
     }
 }
 
-// FUEL JOB INPUT*, for the elision.
-fn elide_command(words: &[Word]) -> Result<Command<'_>, Usage>
-    ensures { ReadsWords (fueled elide words.now) result }
+// FUEL JOB INPUT*, for the elision where no workers are named, and else for a run by so many.
+fn job_command(workers: Option<u32>, words: &[Word]) -> Result<Command<'_>, Usage>
+    ensures { ReadsWords (fueled (elide_or_run workers) words.now) result }
 {
-    match fueled(words) {
-        Some(JobWords { fuel, job, inputs }) => Ok(Command::Elide { fuel, job, inputs }),
-        None => Err(Usage),
+    let Some(JobWords { fuel, job, inputs }) = fueled(words) else {
+        return Err(Usage);
+    };
+    match workers {
+        Some(workers) => Ok(Command::Run {
+            workers,
+            fuel,
+            job,
+            inputs,
+        }),
+        None => Ok(Command::Elide { fuel, job, inputs }),
     }
 }
 
@@ -188,7 +196,7 @@ fn workers_of(word: &Word) -> Option<u32>
 }
 
 // WORKERS, and the words after it.
-fn manned(words: &[Word]) -> Option<(u32, &[Word])>
+fn split_workers(words: &[Word]) -> Option<(u32, &[Word])>
     ensures { WorkersOf result words.now }
 {
     let Some((workers, words)) = words.split_first() else {
@@ -204,16 +212,8 @@ fn manned(words: &[Word]) -> Option<(u32, &[Word])>
 fn run_command(words: &[Word]) -> Result<Command<'_>, Usage>
     ensures { ReadsWords (manned words.now) result }
 {
-    let Some((workers, words)) = manned(words) else {
-        return Err(Usage);
-    };
-    match fueled(words) {
-        Some(JobWords { fuel, job, inputs }) => Ok(Command::Run {
-            workers,
-            fuel,
-            job,
-            inputs,
-        }),
+    match split_workers(words) {
+        Some((workers, words)) => job_command(Some(workers), words),
         None => Err(Usage),
     }
 }
@@ -222,7 +222,7 @@ fn run_command(words: &[Word]) -> Result<Command<'_>, Usage>
 fn over_input(words: &[Word]) -> Option<(u32, &Word)>
     ensures { InputOf result words.now }
 {
-    let Some((workers, words)) = manned(words) else {
+    let Some((workers, words)) = split_workers(words) else {
         return None;
     };
     match words {
@@ -296,7 +296,7 @@ pub fn read_words(words: &[Word]) -> Result<Command<'_>, Usage>
     if is_word(word, "check") {
         job_alone(words)
     } else if is_word(word, "elide") {
-        elide_command(words)
+        job_command(None, words)
     } else if is_word(word, "run") {
         run_command(words)
     } else if is_word(word, "index") {
