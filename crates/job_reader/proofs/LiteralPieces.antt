@@ -12,7 +12,8 @@ use Rattle.job_reader.specs.Pieces.StandsFor.{closed, piece}
 use Rattle.job_reader.specs.declared.literal.Inside.{Inside}
 use Rattle.job_reader.specs.declared.literal.Inside.TheVariants.{Plain, Escape, HighDigit, LowDigit, Closed}
 use Rattle.job_reader.proofs.CanonTokens.{read_inside}
-use Rattle.job_reader.proofs.Literals.{after_byte, by_step, mapped_some, plain_byte, step, then_some}
+use Rattle.swan_model.proofs.Elements.{mapped_is}
+use Rattle.job_reader.proofs.Literals.{after_byte, by_step, plain_byte, step, then_some}
 
 digits_decoded : (high low : ℕ) (rest : List ℕ) → is_digit high 16 ≡ true → is_digit low 16 ≡ true → decoded Plain (92 ∷ 120 ∷ high ∷ low ∷ rest) ≡ after_byte (16 * digit_value high + digit_value low) (decoded Plain rest)
 digits_decoded high low rest is_high is_low =
@@ -96,7 +97,7 @@ all_stand : (inside : Inside) (rest bytes : List ℕ) → decoded inside rest �
 all_stand inside [] bytes is = none_left inside bytes is
 all_stand inside (byte ∷ rest) bytes is =
     let found = then_some (decode inside byte) (λ s. option_map (λ more. option_to_list s.1 ++ more) (decoded s.0 rest)) bytes (sym (step inside byte rest) ∙ is) in
-    let more = mapped_some (option_to_list found.0.1) (decoded found.0.0 rest) bytes found.2 in
+    let more = mapped_is (λ more. option_to_list found.0.1 ++ more) (decoded found.0.0 rest) bytes found.2 in
     let one : Stands inside byte (Some found.0) = subst (Stands inside byte) found.1 (stands inside byte) in
     subst (Standing inside (byte ∷ rest)) more.2 (one rest more.0 (all_stand found.0.0 rest more.0 more.1))
 

@@ -10,6 +10,7 @@ use Rattle.std.proofs.lemmas.List.{append-nil}
 use Rattle.std.proofs.lemmas.Str.{digit_value-digit_char}
 use Rattle.std.proofs.lemmas.Bool.{cond-true, cond-false, cond_both, and_parts, lt-ltb, ltb-true, leb-true, eqb-true, eq-eqb, both_ways, or_cases}
 use Rattle.std.proofs.lemmas.Iterator.Adapters.{option_map_id}
+use Rattle.swan_model.proofs.Elements.{mapped_is}
 use Rattle.job_reader.specs.Atoms.{and_then, decode, decoded, IsDecoding}
 use Rattle.job_reader.specs.CanonicalText.{escaped}
 use Rattle.job_reader.specs.Characters.{is_allowed}
@@ -177,10 +178,6 @@ pub then_some : {A B : Type 0} (o : Option A) (f : A → Option B) (y : B) → a
 then_some (Some x) f y is = (x, refl, is)
 then_some None f y is = cc
 
-pub mapped_some : (front : List ℕ) (o : Option (List ℕ)) (y : List ℕ) → option_map (λ more. front ++ more) o ≡ Some y → (x : List ℕ) × (o ≡ Some x) × (front ++ x ≡ y)
-mapped_some front (Some x) y is = let same : front ++ x ≡ y = cc in (x, refl, same)
-mapped_some front None y is = cc
-
 are_joined : (xs ys : List ℕ) → AreBytes xs → AreBytes ys → AreBytes (xs ++ ys)
 are_joined [] ys a b = b
 are_joined (x ∷ xs) ys a b = (a.0, are_joined xs ys a.1 b)
@@ -204,7 +201,7 @@ some_bytes inside (byte ∷ rest) bytes fits allowed is =
     let found = then_some (decode inside byte) (λ s. option_map (λ more. option_to_list s.1 ++ more) (decoded s.0 rest)) bytes (sym (step inside byte rest) ∙ is) in
     let next = found.0.0 in
     let out = found.0.1 in
-    let more = mapped_some (option_to_list out) (decoded next rest) bytes found.2 in
+    let more = mapped_is (λ more. option_to_list out ++ more) (decoded next rest) bytes found.2 in
     let cost : Costs inside next out = subst (CostsStep inside) found.1 (costs inside byte fits parts.0) in
     let others = some_bytes next rest more.0 cost.fits parts.1 more.1 in
     subst (Decoded inside (byte ∷ rest)) more.2 (record {
