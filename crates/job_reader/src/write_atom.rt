@@ -30,7 +30,7 @@ fn digit_char(value: u8) -> u8
     requires { value < 16 }
     ensures { result ≡ digit_char value }
 {
-    if value < 10 { b'0' + value } else { 87 + value }
+    char::from_digit(u32::from(value), 16).unwrap() as u8
 }
 
 /// Adds a byte of a literal. `O(1)`.
