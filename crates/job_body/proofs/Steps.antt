@@ -40,7 +40,7 @@ use Rattle.job_body.proofs.Values.{value-slot, set-slot, place-name, value-opera
 -- ---- assignments
 
 assigned-is : (lines : List Line) (s : Standing) (v : List ℕ) (result : Result Value Trouble) → runs.run_of_assignment s (executed_from lines (s.at + 1)) (compiled.slot_in (seen_at lines s.at) v) result ≡ steps.step_of_assignment lines s v result
-assigned-is lines s v (Ok value) = ap (λ values. (runs.gone_with s (executed_from lines (s.at + 1)) values, ask.Work)) (sym (set-slot (steps.names_at lines s.at) s.values v value))
+assigned-is lines s v (Ok value) = ap (λ values. (runs.after_go_with s (executed_from lines (s.at + 1)) values, ask.Work)) (sym (set-slot (steps.names_at lines s.at) s.values v value))
 assigned-is lines s v (Err why) = refl
 
 argument-is : (lines : List Line) (s : Standing) (a : Option Atom) → steps.value_of_argument lines s a ≡ runs.value_of s.values (compiled.or_zero (seen_at lines s.at) a)
@@ -85,7 +85,7 @@ end-is lines s fuel (opened.While i ∷ blocks) = refl
 
 -- ---- branches
 
-branch-is : (lines : List Line) (s : Standing) (b : Bool) (to other : ℕ) → ◌≡◌ {A = Standing × Ask Standing} (runs.gone s (if b then to else executed_from lines other), ask.Work) ((if b then runs.gone s to else steps.after_move_to lines s other), ask.Work)
+branch-is : (lines : List Line) (s : Standing) (b : Bool) (to other : ℕ) → ◌≡◌ {A = Standing × Ask Standing} (runs.after_go s (if b then to else executed_from lines other), ask.Work) ((if b then runs.after_go s to else steps.after_move_to lines s other), ask.Work)
 branch-is lines s true to other = refl
 branch-is lines s false to other = refl
 
@@ -155,15 +155,15 @@ done-line lines s fuel (line.Empty v q) = ap (λ place. (steps.after_move_on lin
 done-line lines s fuel (line.Spawn a task args) =
     spawn-found lines s fuel a (task_index lines task) (task_named (tasks_of lines) task) args (begun-named lines task) (task-found lines task)
     ∙ ap (λ value. steps.step_of_spawn lines s (number_of value) (task_index lines task) (zip (takes (lines_of_task lines (task_index lines task))) args)) (sym (value-operand lines s.at s.values a))
-done-line lines s fuel (line.Fuel v) = ap (λ values. (runs.gone_with s (executed_from lines (s.at + 1)) values, ask.Work)) (sym (set-slot (steps.names_at lines s.at) s.values v (Int (pos (min fuel (2 ^ 63 - 1))))))
+done-line lines s fuel (line.Fuel v) = ap (λ values. (runs.after_go_with s (executed_from lines (s.at + 1)) values, ask.Work)) (sym (set-slot (steps.names_at lines s.at) s.values v (Int (pos (min fuel (2 ^ 63 - 1))))))
 done-line lines s fuel (line.Fail a) = ap (λ value. (s, ask.Fail (trouble.User (number_of value)))) (sym (value-operand lines s.at s.values a))
 done-line lines s fuel (line.If a) =
-    ap (λ n. (runs.gone s (if is_true (Int n) then executed_from lines (s.at + 1) else executed_from lines (exit_at lines s.at).otherwise), ask.Work)) (number-is s.values (compiled.operand_of (seen_at lines s.at) a))
-    ∙ ap (λ value. (runs.gone s (if is_true value then executed_from lines (s.at + 1) else executed_from lines (exit_at lines s.at).otherwise), ask.Work)) (sym (value-operand lines s.at s.values a))
+    ap (λ n. (runs.after_go s (if is_true (Int n) then executed_from lines (s.at + 1) else executed_from lines (exit_at lines s.at).otherwise), ask.Work)) (number-is s.values (compiled.operand_of (seen_at lines s.at) a))
+    ∙ ap (λ value. (runs.after_go s (if is_true value then executed_from lines (s.at + 1) else executed_from lines (exit_at lines s.at).otherwise), ask.Work)) (sym (value-operand lines s.at s.values a))
     ∙ branch-is lines s (is_true (steps.value_at lines s.at s.values a)) (executed_from lines (s.at + 1)) (exit_at lines s.at).otherwise
 done-line lines s fuel (line.While a) =
-    ap (λ n. (runs.gone s (if is_true (Int n) then executed_from lines (s.at + 1) else executed_from lines (exit_at lines s.at).after), ask.Work)) (number-is s.values (compiled.operand_of (seen_at lines s.at) a))
-    ∙ ap (λ value. (runs.gone s (if is_true value then executed_from lines (s.at + 1) else executed_from lines (exit_at lines s.at).after), ask.Work)) (sym (value-operand lines s.at s.values a))
+    ap (λ n. (runs.after_go s (if is_true (Int n) then executed_from lines (s.at + 1) else executed_from lines (exit_at lines s.at).after), ask.Work)) (number-is s.values (compiled.operand_of (seen_at lines s.at) a))
+    ∙ ap (λ value. (runs.after_go s (if is_true value then executed_from lines (s.at + 1) else executed_from lines (exit_at lines s.at).after), ask.Work)) (sym (value-operand lines s.at s.values a))
     ∙ branch-is lines s (is_true (steps.value_at lines s.at s.values a)) (executed_from lines (s.at + 1)) (exit_at lines s.at).after
 done-line lines s fuel line.End = end-is lines s fuel (blocks_at lines s.at)
 done-line lines s fuel line = refl

@@ -92,14 +92,14 @@ values_after_answer_by values None answer = values
 values_after_answer_by values (Some instruction) answer = values_after_answer values instruction.action answer
 
 -- the activation at another line
-abbrev pub gone : Standing → ℕ → Standing
-gone s to = record { before = s.at; at = to; values = s.values }
+abbrev pub after_go : Standing → ℕ → Standing
+after_go s to = record { before = s.at; at = to; values = s.values }
 
-abbrev pub gone_with : Standing → ℕ → List Value → Standing
-gone_with s to values = record { before = s.at; at = to; values = values }
+abbrev pub after_go_with : Standing → ℕ → List Value → Standing
+after_go_with s to values = record { before = s.at; at = to; values = values }
 
 abbrev pub run_of_assignment : Standing → ℕ → Option ℕ → Result Value Trouble → Standing × Ask Standing
-run_of_assignment s to slot (Ok value) = (gone_with s to (with_slot s.values slot value), ask.Work)
+run_of_assignment s to slot (Ok value) = (after_go_with s to (with_slot s.values slot value), ask.Work)
 run_of_assignment s to slot (Err why) = (s, ask.Fail why)
 
 -- an activation of the task at an index before its first step
@@ -117,7 +117,7 @@ begun_in program index values = begun_by index values (slice_get program index)
 abbrev pub run_of_spawn : List Instruction → Standing → ℕ → ℤ → ℕ → List Operand → List Give → Standing × Ask Standing
 run_of_spawn program s to (negsuc n) index params gives = (s, ask.Fail trouble.Range)
 run_of_spawn program s to (pos fuel) index params gives =
-    (gone s to, ask.Spawn (record { local = begun_in program index (map (value_of s.values) params); gives = gives; fuel = fuel }))
+    (after_go s to, ask.Spawn (record { local = begun_in program index (map (value_of s.values) params); gives = gives; fuel = fuel }))
 
 -- what a line asks for that is the task's own work, by the trouble that it meets, if any
 abbrev pub ask_by : Option Trouble → Ask Standing
@@ -126,28 +126,28 @@ ask_by (Some why) = ask.Fail why
 
 -- what work does that goes on at a line
 abbrev pub worked : Standing → ℕ → ℕ → Work → Standing × Ask Standing
-worked s to fuel work.Go = (gone s to, ask.Work)
+worked s to fuel work.Go = (after_go s to, ask.Work)
 worked s to fuel (work.Assign slot op a b c) =
     run_of_assignment s to slot (operation op (value_of s.values a) (value_of s.values b) (value_of s.values c))
 worked s to fuel (work.Ints o slot a b) = run_of_assignment s to (Some slot) (int_operation o (number_in s.values a) (number_in s.values b))
 worked s to fuel (work.Branch a otherwise) =
-    (gone s (if is_true (Int (number_in s.values a)) then to else otherwise), ask.Work)
+    (after_go s (if is_true (Int (number_in s.values a)) then to else otherwise), ask.Work)
 worked s to fuel (work.Fuel slot) =
-    (gone_with s to (with_slot s.values slot (Int (pos (min fuel (2 ^ 63 - 1))))), ask.Work)
+    (after_go_with s to (with_slot s.values slot (Int (pos (min fuel (2 ^ 63 - 1))))), ask.Work)
 
 -- what a demand does that goes on at a line
 abbrev pub demanded : List Instruction → Standing → ℕ → Demand → Standing × Ask Standing
 demanded program s to (demand.Begin kinds) = (s, ask.Finish)
-demanded program s to demand.NewQueue = (gone s to, ask.NewQueue)
-demanded program s to (demand.NewObject kind) = (gone s to, ask.NewObject (zero_of kind))
-demanded program s to (demand.Read slot place) = (gone s to, ask.Read place)
-demanded program s to (demand.Write place a) = (gone s to, ask.Write place (value_of s.values a))
-demanded program s to (demand.Push place a) = (gone s to, ask.Push place (value_of s.values a))
-demanded program s to (demand.Pop slot place) = (gone s to, ask.Pop place)
-demanded program s to (demand.Empty slot place) = (gone s to, ask.Empty place)
+demanded program s to demand.NewQueue = (after_go s to, ask.NewQueue)
+demanded program s to (demand.NewObject kind) = (after_go s to, ask.NewObject (zero_of kind))
+demanded program s to (demand.Read slot place) = (after_go s to, ask.Read place)
+demanded program s to (demand.Write place a) = (after_go s to, ask.Write place (value_of s.values a))
+demanded program s to (demand.Push place a) = (after_go s to, ask.Push place (value_of s.values a))
+demanded program s to (demand.Pop slot place) = (after_go s to, ask.Pop place)
+demanded program s to (demand.Empty slot place) = (after_go s to, ask.Empty place)
 demanded program s to (demand.Spawn a index params gives) =
     run_of_spawn program s to (number_of (value_of s.values a)) index params gives
-demanded program s to demand.Sync = (gone s to, ask.Sync)
+demanded program s to demand.Sync = (after_go s to, ask.Sync)
 demanded program s to (demand.Fail a) = (s, ask.Fail (trouble.User (number_of (value_of s.values a))))
 demanded program s to demand.Finish = (s, ask.Finish)
 

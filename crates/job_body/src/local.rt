@@ -26,7 +26,7 @@ impl JobLocal {
     ghost use Rattle.std.specs.Option.{option_copied};
     ghost use Rattle.job_body.specs.Operations.{number_of};
     ghost use Rattle.swan_model.specs.Values.{bytes_of, kind_of};
-    ghost use Rattle.job_body.specs.Runs.{values_after_answer, gone, number_in, record_of, set_by, value_in, value_of, with_slot};
+    ghost use Rattle.job_body.specs.Runs.{after_go, number_in, record_of, set_by, value_in, value_of, values_after_answer, with_slot};
     ghost use Rattle.swan_model.specs.declared.record.TheConstants.{RECORD_MOST};
     ghost use Rattle.swan_model.specs.declared.value.Value.TheVariants.{Int};
 
@@ -191,7 +191,7 @@ impl JobLocal {
 
     /// Goes on to a line. `O(1)`.
     pub(crate) fn go(&mut self, to: u32)
-        ensures { self.new ≡ gone self.old to }
+        ensures { self.new ≡ after_go self.old to }
     {
         self.before = self.at;
         self.at = to;

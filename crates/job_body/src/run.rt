@@ -1,6 +1,6 @@
 // Running instructions.
 ghost use Rattle.std.specs.Prelude.{◌≡◌, ◌++◌, ◌+◌, ◌-◌, ◌^◌, ◌<◌, ◌≤◌, suc, min, map, pos, Some, None, IfOk, IfSome, IfNone};
-ghost use Rattle.job_body.specs.Runs.{ask_by, begun_in, demanded, gone, last_of, next_by, run_of_spawn, after_answer_by, value_of, worked};
+ghost use Rattle.job_body.specs.Runs.{after_answer_by, after_go, ask_by, begun_in, demanded, last_of, next_by, run_of_spawn, value_of, worked};
 ghost use Rattle.swan_model.specs.Work.{ask_after, AreWork, local_after};
 ghost use Rattle.swan_model.specs.declared.body.Ask.TheVariants as ask;
 ghost use Rattle.swan_model.specs.declared.value.Value.TheVariants as value;
@@ -84,8 +84,8 @@ fn spawn(
 }
 
 /// The local at another line, with what is asked for there.
-fn gone(local: &mut JobLocal, to: u32, ask: Ask<JobLocal>) -> Ask<JobLocal>
-    ensures local { local.new ≡ gone local.old to }
+fn go_and_ask(local: &mut JobLocal, to: u32, ask: Ask<JobLocal>) -> Ask<JobLocal>
+    ensures local { local.new ≡ after_go local.old to }
     ensures ask { result ≡ ask }
 {
     local.go(to);
@@ -106,24 +106,28 @@ fn do_demand(
 {
     match demand {
         Demand::Begin(_) | Demand::Finish => Ok(Ask::Finish),
-        Demand::NewQueue => Ok(gone(local, to, Ask::NewQueue)),
-        Demand::NewObject(kind) => Ok(gone(local, to, Ask::NewObject(Value::zero(alloc, *kind)?))),
-        Demand::Read(_, place) => Ok(gone(local, to, Ask::Read(*place))),
+        Demand::NewQueue => Ok(go_and_ask(local, to, Ask::NewQueue)),
+        Demand::NewObject(kind) => Ok(go_and_ask(
+            local,
+            to,
+            Ask::NewObject(Value::zero(alloc, *kind)?),
+        )),
+        Demand::Read(_, place) => Ok(go_and_ask(local, to, Ask::Read(*place))),
         Demand::Write(place, a) => {
             let value = local.value(a)?;
-            Ok(gone(local, to, Ask::Write(*place, value)))
+            Ok(go_and_ask(local, to, Ask::Write(*place, value)))
         }
         Demand::Push(place, a) => {
             let value = local.value(a)?;
-            Ok(gone(local, to, Ask::Push(*place, value)))
+            Ok(go_and_ask(local, to, Ask::Push(*place, value)))
         }
-        Demand::Pop(_, place) => Ok(gone(local, to, Ask::Pop(*place))),
-        Demand::Empty(_, place) => Ok(gone(local, to, Ask::Empty(*place))),
+        Demand::Pop(_, place) => Ok(go_and_ask(local, to, Ask::Pop(*place))),
+        Demand::Empty(_, place) => Ok(go_and_ask(local, to, Ask::Empty(*place))),
         Demand::Spawn(a, task, params, gives) => {
             let fuel = local.number(a);
             spawn(alloc, program, local, to, fuel, task, params, gives)
         }
-        Demand::Sync => Ok(gone(local, to, Ask::Sync)),
+        Demand::Sync => Ok(go_and_ask(local, to, Ask::Sync)),
         Demand::Fail(a) => Ok(Ask::Fail(Trouble::User(local.number(a)))),
     }
 }
