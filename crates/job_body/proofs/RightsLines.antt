@@ -194,8 +194,8 @@ unaliased-once gifts e = go (is_lent_twice gifts) e where
 
 pub spawn-passes : (before : Before) (fuel : Atom) (task : List ℕ) (args : List Atom) → spawns.spawn before fuel task args ≡ Ok tt → SpawnPasses before task args
 spawn-passes before fuel task args e =
-    let rest = (bind-parts (value (known before) (Some kind.Int) fuel) (as_child task (before.tasks task) >>= spawns.given (known before) args) e).1 in
-    let child = child-parts task (before.tasks task) (spawns.given (known before) args) rest in
+    let rest = (bind-parts (value (known before) (Some kind.Int) fuel) (as_child task (before.tasks task) >>= spawns.spawn_arguments (known before) args) e).1 in
+    let child = child-parts task (before.tasks task) (spawns.spawn_arguments (known before) args) rest in
     go child.0 child.1 child.2 (nat_eq (length args) (length child.0)) refl child.3 where
       go : (taken : List Declaration) → before.tasks task ≡ Some taken → is_main task ≡ false → (b : Bool) → nat_eq (length args) (length taken) ≡ b → (if b then (arguments (known before) taken args >>= λ _. spawns.unaliased (lent taken args)) else Err fault.Arity) ≡ Ok tt → SpawnPasses before task args
       go taken is other false count e = absurd (cc)

@@ -174,7 +174,7 @@ same-place entries a b own other is_a is_b = sym (same_from_decides (bytes_eq a 
   to_place : a ≡ b → nat_eq (position entries a) (position entries b) ≡ true
   to_place e = eq-eqb (position entries a) (position entries b) (ap (position entries) e)
 
-any-clash : (job : List Line) (i : ℕ) (entries : List Entry) → ((name : List ℕ) → place_at job i name ≡ position entries name) → (gift : List ℕ × Mode) → MayUse entries gift.0 gift.1 → (gifts : List (List ℕ × Mode)) → AllMayUse entries gifts → list_any (rights.clash (to_give job i gift)) (map (to_give job i) gifts) ≡ list_any (spawns.clash gift) gifts
+any-clash : (job : List Line) (i : ℕ) (entries : List Entry) → ((name : List ℕ) → place_at job i name ≡ position entries name) → (gift : List ℕ × Mode) → MayUse entries gift.0 gift.1 → (gifts : List (List ℕ × Mode)) → AllMayUse entries gifts → list_any (rights.clash (to_give job i gift)) (map (to_give job i) gifts) ≡ list_any (spawns.lends_clash gift) gifts
 any-clash job i entries place gift one [] may = refl
 any-clash job i entries place gift one (other ∷ gifts) may =
     let same : nat_eq (place_at job i gift.0) (place_at job i other.0) ≡ bytes_eq gift.0 other.0 =
@@ -184,5 +184,5 @@ any-clash job i entries place gift one (other ∷ gifts) may =
 pub gives-apart : (job : List Line) (i : ℕ) (entries : List Entry) → ((name : List ℕ) → place_at job i name ≡ position entries name) → (gifts : List (List ℕ × Mode)) → AllMayUse entries gifts → is_lent_twice gifts ≡ false → is_aliased (map (to_give job i) gifts) ≡ false
 gives-apart job i entries place [] may once = refl
 gives-apart job i entries place (gift ∷ gifts) may once =
-    let parts = or_parts (list_any (spawns.clash gift) gifts) (is_lent_twice gifts) once in
+    let parts = or_parts (list_any (spawns.lends_clash gift) gifts) (is_lent_twice gifts) once in
     ap₂ (λ b c. b || c) (any-clash job i entries place gift may.0 gifts may.1 ∙ parts.0) (gives-apart job i entries place gifts may.1 parts.1)

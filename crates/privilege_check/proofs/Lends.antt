@@ -13,7 +13,7 @@ use Rattle.swan_model.specs.declared.value.Kind.{Kind}
 use Rattle.job_reader.specs.declared.atom.Atom.{Atom}
 use Rattle.job_reader.specs.declared.atom.Atom.TheVariants as atom
 use Rattle.privilege_check.specs.Lending.{clashes}
-use Rattle.privilege_check.specs.Spawns.{clash, with_gift, is_lent_twice, lent}
+use Rattle.privilege_check.specs.Spawns.{lends_clash, with_gift, is_lent_twice, lent}
 use Rattle.privilege_check.specs.declared.declaration.Declaration.{Declaration}
 use Rattle.privilege_check.specs.declared.declaration.Declaration.TheVariants.{Variable, Held}
 
@@ -45,21 +45,21 @@ head_of true true rest h = h refl refl
 head_of true false rest h = refl
 head_of false s rest h = refl
 
-same_reader : (name : List ℕ) (a b : Mode) (gifts : List (List ℕ × Mode)) → is_in a ≡ true → is_in b ≡ true → list_any (clash (name, a)) gifts ≡ list_any (clash (name, b)) gifts
+same_reader : (name : List ℕ) (a b : Mode) (gifts : List (List ℕ × Mode)) → is_in a ≡ true → is_in b ≡ true → list_any (lends_clash (name, a)) gifts ≡ list_any (lends_clash (name, b)) gifts
 same_reader name a b gifts ha hb =
     ap (λ (r : Bool). list_any (λ (gift : List ℕ × Mode). bytes_eq name gift.0 && not (r && is_in gift.1)) gifts) (ha ∙ sym hb)
 
 -- among names of which none is lent twice, the look-up of one says whether it clashes
-pub clash_later : (name : List ℕ) (mode : Mode) (gifts : List (List ℕ × Mode)) → is_lent_twice gifts ≡ false → list_any (clash (name, mode)) gifts ≡ clashes mode (lookup (bytes_eq name) gifts)
+pub clash_later : (name : List ℕ) (mode : Mode) (gifts : List (List ℕ × Mode)) → is_lent_twice gifts ≡ false → list_any (lends_clash (name, mode)) gifts ≡ clashes mode (lookup (bytes_eq name) gifts)
 clash_later name mode [] once = refl
 clash_later name mode ((other, held) ∷ more) once =
-    let parts = or_parts (list_any (clash (other, held)) more) (is_lent_twice more) once in
+    let parts = or_parts (list_any (lends_clash (other, held)) more) (is_lent_twice more) once in
     elim (cases_Bool (bytes_eq name other)) [
       | inl same ↦
           let is : name ≡ other = (bytes_eq-Decides name other).0 same in
-          let later : is_in mode ≡ true → is_in held ≡ true → list_any (clash (name, mode)) more ≡ false =
-          λ r s. same_reader name mode held more r s ∙ ap (λ n. list_any (clash (n, held)) more) is ∙ parts.0 in
-          rw same (head_of (is_in mode) (is_in held) (list_any (clash (name, mode)) more) later)
+          let later : is_in mode ≡ true → is_in held ≡ true → list_any (lends_clash (name, mode)) more ≡ false =
+          λ r s. same_reader name mode held more r s ∙ ap (λ n. list_any (lends_clash (n, held)) more) is ∙ parts.0 in
+          rw same (head_of (is_in mode) (is_in held) (list_any (lends_clash (name, mode)) more) later)
       | inr apart ↦ rw apart (clash_later name mode more parts.1)
     ]
 
@@ -71,7 +71,7 @@ front_twice : (t : Declaration) (a : Atom) (gifts : List (List ℕ × Mode)) →
 front_twice (Variable k) a gifts twice = twice
 front_twice (Held mode k) (atom.Int n) gifts twice = twice
 front_twice (Held mode k) (atom.Bytes bytes) gifts twice = twice
-front_twice (Held mode k) (atom.Name name) gifts twice = or_right (list_any (clash (name, mode)) gifts) (is_lent_twice gifts) twice
+front_twice (Held mode k) (atom.Name name) gifts twice = or_right (list_any (lends_clash (name, mode)) gifts) (is_lent_twice gifts) twice
 
 -- what is lent twice from a place on is lent twice
 pub lent_twice_from : (n : ℕ) (takes : List Declaration) (args : List Atom) → is_lent_twice (lent (drop n takes) (drop n args)) ≡ true → is_lent_twice (lent takes args) ≡ true

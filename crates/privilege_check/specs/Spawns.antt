@@ -41,19 +41,19 @@ lent (takes ∷ more) (a ∷ others) = with_gift takes a (lent more others)
 lent _ _ = []
 
 -- whether some object or queue stands twice among them, and not only to read
-abbrev pub clash : List ℕ × Mode → List ℕ × Mode → Bool
-clash a b = bytes_eq a.0 b.0 && not (is_in a.1 && is_in b.1)
+abbrev pub lends_clash : List ℕ × Mode → List ℕ × Mode → Bool
+lends_clash a b = bytes_eq a.0 b.0 && not (is_in a.1 && is_in b.1)
 
 abbrev pub is_lent_twice : List (List ℕ × Mode) → Bool
 is_lent_twice [] = false
-is_lent_twice (one ∷ others) = list_any (clash one) others || is_lent_twice others
+is_lent_twice (one ∷ others) = list_any (lends_clash one) others || is_lent_twice others
 
 abbrev pub unaliased : List (List ℕ × Mode) → Result (Unit {0}) JobKind
 unaliased gifts = if is_lent_twice gifts then Err fault.Alias else Ok tt
 
 -- what a task is given: as many arguments as it takes, each as it takes it, and nothing twice
-abbrev pub given : KnownNames → List Atom → List Declaration → Result (Unit {0}) JobKind
-given names args takes =
+abbrev pub spawn_arguments : KnownNames → List Atom → List Declaration → Result (Unit {0}) JobKind
+spawn_arguments names args takes =
     if length args == length takes
     then (arguments names takes args >>= λ _. unaliased (lent takes args))
     else Err fault.Arity
@@ -62,4 +62,4 @@ given names args takes =
 abbrev pub spawn : Before → Atom → List ℕ → List Atom → Result (Unit {0}) JobKind
 spawn before fuel task args =
     value (known before) (Some kind.Int) fuel >>= λ _.
-    as_child task (before.tasks task) >>= given (known before) args
+    as_child task (before.tasks task) >>= spawn_arguments (known before) args

@@ -2,7 +2,7 @@
 ghost use Rattle.std.specs.Prelude.{◌≡◌, IfOk, length};
 ghost use Rattle.privilege_check.specs.Checking.{IsCheckedAs, state_of};
 ghost use Rattle.privilege_check.specs.Names.{known};
-ghost use Rattle.privilege_check.specs.Spawns.{argument, arguments, given, is_lent_twice, lent, spawn};
+ghost use Rattle.privilege_check.specs.Spawns.{argument, arguments, is_lent_twice, lent, spawn, spawn_arguments};
 
 use crate::checker::{Checker, is_main};
 use crate::declaration::Declaration;
@@ -36,8 +36,8 @@ impl Checker<'_> {
 
     /// What a task is given: as many arguments as it takes, each as it takes it, and nothing twice.
     /// `O(arguments · log names)`.
-    fn given(&self, takes: &[Declaration], args: &[Atom]) -> Result<(), CheckLine>
-        ensures { IsCheckedAs result (given (known (state_of self.now)) args.now takes.now) }
+    fn spawn_arguments(&self, takes: &[Declaration], args: &[Atom]) -> Result<(), CheckLine>
+        ensures { IsCheckedAs result (spawn_arguments (known (state_of self.now)) args.now takes.now) }
     {
         if args.len() != takes.len() {
             return Err(CheckLine::Refused(JobKind::Arity));
@@ -61,6 +61,6 @@ impl Checker<'_> {
         if is_main(task) {
             return Err(CheckLine::Refused(JobKind::MainParams));
         }
-        self.given(takes.as_slice(), args)
+        self.spawn_arguments(takes.as_slice(), args)
     }
 }
