@@ -111,7 +111,7 @@ fn first_push(alloc: Global, body: &JobBody, root: JobLocal) -> Result<String, N
 
 /// What `main` pushes first with these statements, one a line from line 12 on, and `push out v` after them; or its
 /// trouble. It has a number `v`, bytes `b` and a queue `q`.
-pub fn told(alloc: Global, statements: &str) -> Result<String, NoMemory> {
+pub fn told_one_by_one(alloc: Global, statements: &str) -> Result<String, NoMemory> {
     let text = text_of(
         alloc,
         "swan 1\nobject x int\noutput out int\ntask idle\ndo\nend\ntask main\nvar v int\nvar b bytes\nqueue q bytes\ndo\n",
@@ -128,23 +128,23 @@ pub fn told(alloc: Global, statements: &str) -> Result<String, NoMemory> {
 }
 
 /// Whether a row of a table is so. It has statements, which come after `prefix`, ` => `, and what is told of them.
-fn is_so(alloc: Global, row: &str, prefix: &str) -> Result<bool, NoMemory> {
+fn is_so_one_by_one(alloc: Global, row: &str, prefix: &str) -> Result<bool, NoMemory> {
     let Some((statements, want)) = row.split_once(" => ") else {
         return Ok(false);
     };
     let statements = format!(in alloc; "{prefix}{statements}")?;
-    let told = told(alloc, statements.as_str())?;
+    let told = told_one_by_one(alloc, statements.as_str())?;
     Ok(are_same(told.as_str(), want))
 }
 
 /// The first row of a table that isn't so, if there is one.
-fn first_wrong<'a>(
+fn first_wrong_one_by_one<'a>(
     alloc: Global,
     table: &'a str,
     prefix: &str,
 ) -> Result<Option<&'a str>, NoMemory> {
     for row in table.lines() {
-        if !is_so(alloc, row, prefix)? {
+        if !is_so_one_by_one(alloc, row, prefix)? {
             return Ok(Some(row));
         }
     }
@@ -152,7 +152,12 @@ fn first_wrong<'a>(
 }
 
 /// Asserts the rows of such a table.
-pub fn hold(rt: &impl Abort, alloc: Global, table: &str, prefix: &str) -> Result<(), Fail> {
-    assert_none(rt, first_wrong(alloc, table, prefix)?);
+pub fn hold_one_by_one(
+    rt: &impl Abort,
+    alloc: Global,
+    table: &str,
+    prefix: &str,
+) -> Result<(), Fail> {
+    assert_none(rt, first_wrong_one_by_one(alloc, table, prefix)?);
     Ok(())
 }

@@ -1,6 +1,6 @@
 // Each line, in one task and in a child.
 use crate::asserts::are_same;
-use crate::jobs::{hold, plan_of_text, step, text_of_number, told};
+use crate::jobs::{hold_one_by_one, plan_of_text, step, text_of_number, told_one_by_one};
 use job_body::{JobBody, JobLocal};
 use std::alloc::Global;
 use std::test::Fail;
@@ -42,12 +42,12 @@ fail 1; # a note => User(1) at 12
 
 #[test]
 fn lines_do_what_they_say(rt: HostRuntime) -> Result<(), Fail> {
-    hold(&rt, rt.alloc(), STATEMENTS, "")
+    hold_one_by_one(&rt, rt.alloc(), STATEMENTS, "")
 }
 
 #[test]
 fn blocks_go_on_where_they_should(rt: HostRuntime) -> Result<(), Fail> {
-    hold(&rt, rt.alloc(), BLOCKS, "")
+    hold_one_by_one(&rt, rt.alloc(), BLOCKS, "")
 }
 
 /// A statement so many times, with a separator before each.
@@ -82,7 +82,7 @@ fn is_told_32_deep(
 ) -> Result<bool, NoMemory> {
     let heads = heads_32_deep(alloc, outermost, others)?;
     let statements = in_blocks(alloc, heads.as_str(), statement)?;
-    let told = told(alloc, statements.as_str())?;
+    let told = told_one_by_one(alloc, statements.as_str())?;
     Ok(are_same(told.as_str(), want))
 }
 
@@ -184,7 +184,7 @@ fn word_of(ask: &Ask<JobLocal>) -> &'static str {
 }
 
 /// What an ask is, in words.
-fn words_of(alloc: Global, ask: &Ask<JobLocal>) -> Result<String, NoMemory> {
+fn words_of_ask(alloc: Global, ask: &Ask<JobLocal>) -> Result<String, NoMemory> {
     match ask {
         Ask::Push(place, value) => words_of_push(alloc, *place, value),
         Ask::NewObject(Value::Int(number)) => words_of_object(alloc, *number),
@@ -214,7 +214,7 @@ fn descend(alloc: Global, body: &JobBody, root: JobLocal, steps: u32) -> Result<
     for _ in 0..steps {
         let line = body.place(&local);
         let (moved, ask) = step(alloc, body, local, Answer::Nothing, 9)?;
-        let words = words_of(alloc, &ask)?;
+        let words = words_of_ask(alloc, &ask)?;
         let words = format!(in alloc; "{line} {words}; ")?;
         asks.push_str(words.as_str())?;
         local = below(moved, ask);

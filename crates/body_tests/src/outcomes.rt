@@ -45,7 +45,7 @@ impl Body for OneByOne {
 }
 
 /// A number, and a space after it.
-fn text_of_number(alloc: Global, number: i64) -> Result<String, NoMemory> {
+fn spaced_number(alloc: Global, number: i64) -> Result<String, NoMemory> {
     Ok(format!(in alloc; "{number} ")?)
 }
 
@@ -58,7 +58,7 @@ fn text_of_bytes(alloc: Global, record: &Record) -> Result<String, NoMemory> {
 /// A value's text.
 fn text_of_value(alloc: Global, value: &Value) -> Result<String, NoMemory> {
     match value {
-        Value::Int(number) => text_of_number(alloc, *number),
+        Value::Int(number) => spaced_number(alloc, *number),
         Value::Bytes(record) => text_of_bytes(alloc, record),
     }
 }
@@ -80,7 +80,7 @@ fn push_values(alloc: Global, all: &mut String, values: &[Value]) -> Result<(), 
 }
 
 /// What an outcome tells: the objects, what is left of the queues, and each fault with its line.
-fn told(alloc: Global, outcome: &Outcome) -> Result<String, NoMemory> {
+fn text_of_outcome(alloc: Global, outcome: &Outcome) -> Result<String, NoMemory> {
     let mut all = String::new(alloc);
     push_values(alloc, &mut all, outcome.objects.as_slice())?;
     for queue in outcome.queues.as_slice() {
@@ -97,7 +97,7 @@ fn told(alloc: Global, outcome: &Outcome) -> Result<String, NoMemory> {
 /// What a run of a plan leaves.
 fn left<B: Body>(alloc: Global, plan: Plan<B>) -> Result<String, NoMemory> {
     let outcome = elide(alloc, plan)?;
-    told(alloc, &outcome)
+    text_of_outcome(alloc, &outcome)
 }
 
 /// What `main` leaves with these statements and this fuel, where it takes its steps in rows.

@@ -74,7 +74,7 @@ fn bodies_and_locals_go_to_threads(rt: HostRuntime) -> Result<(), Fail> {
 }
 
 /// How a queue is shown.
-fn words_of(shown: Shown) -> &'static str {
+fn words_of_shown(shown: Shown) -> &'static str {
     match shown {
         Shown::Left => " Left; ",
         Shown::Out => " Out; ",
@@ -86,7 +86,7 @@ fn listed(alloc: Global, names: &Names) -> Result<String, NoMemory> {
     let mut all = String::new(alloc);
     for queue in names.queues.as_slice() {
         all.push_str(queue.name.as_str())?;
-        all.push_str(words_of(queue.shown))?;
+        all.push_str(words_of_shown(queue.shown))?;
     }
     for name in names.objects.as_slice() {
         all.push_str(name.as_str())?;

@@ -167,7 +167,7 @@ fn told_of(
 }
 
 /// What `main` tells with these statements.
-fn told(alloc: Global, statements: &str, fuel: u64, budget: u64) -> Result<Run, NoMemory>
+fn told_in_rows(alloc: Global, statements: &str, fuel: u64, budget: u64) -> Result<Run, NoMemory>
     requires { 0 < budget }
 {
     let text = text_of(alloc, HEAD, statements)?;
@@ -181,22 +181,22 @@ fn told(alloc: Global, statements: &str, fuel: u64, budget: u64) -> Result<Run, 
 }
 
 /// Whether a row of the table is so by this budget.
-fn is_so(alloc: Global, row: &str, budget: u64) -> Result<bool, NoMemory>
+fn is_so_in_rows(alloc: Global, row: &str, budget: u64) -> Result<bool, NoMemory>
     requires { 0 < budget }
 {
     let Some((statements, want)) = row.split_once(" => ") else {
         return Ok(false);
     };
-    let told = told(alloc, statements, 200, budget)?;
+    let told = told_in_rows(alloc, statements, 200, budget)?;
     Ok(are_same(told.what.as_str(), want))
 }
 
 /// The first loop of the table that tells something else by this budget, if there is one.
-fn first_wrong(alloc: Global, budget: u64) -> Result<Option<&'static str>, NoMemory>
+fn first_wrong_in_rows(alloc: Global, budget: u64) -> Result<Option<&'static str>, NoMemory>
     requires { 0 < budget }
 {
     for row in LOOPS.lines() {
-        if !is_so(alloc, row, budget)? {
+        if !is_so_in_rows(alloc, row, budget)? {
             return Ok(Some(row));
         }
     }
@@ -208,8 +208,8 @@ fn is_so_past_its_steps(alloc: Global, row: &str) -> Result<bool, NoMemory> {
     let Some((statements, want)) = row.split_once(" => ") else {
         return Ok(false);
     };
-    let one = told(alloc, statements, 200, 1)?;
-    let all = told(alloc, statements, 200, one.steps.saturating_add(1))?;
+    let one = told_in_rows(alloc, statements, 200, 1)?;
+    let all = told_in_rows(alloc, statements, 200, one.steps.saturating_add(1))?;
     Ok(are_same(all.what.as_str(), want) && all.steps == one.steps)
 }
 
@@ -225,18 +225,18 @@ fn first_wrong_past_its_steps(alloc: Global) -> Result<Option<&'static str>, NoM
 }
 
 /// Asserts the loops of the table by this budget.
-fn hold(rt: &impl Abort, alloc: Global, budget: u64) -> Result<(), Fail>
+fn hold_in_rows(rt: &impl Abort, alloc: Global, budget: u64) -> Result<(), Fail>
     requires { 0 < budget }
 {
-    assert_none(rt, first_wrong(alloc, budget)?);
+    assert_none(rt, first_wrong_in_rows(alloc, budget)?);
     Ok(())
 }
 
 #[test]
 fn rows_of_one_two_and_a_million_steps_tell_the_same(rt: HostRuntime) -> Result<(), Fail> {
-    hold(&rt, rt.alloc(), 1)?;
-    hold(&rt, rt.alloc(), 2)?;
-    hold(&rt, rt.alloc(), 1_000_000)
+    hold_in_rows(&rt, rt.alloc(), 1)?;
+    hold_in_rows(&rt, rt.alloc(), 2)?;
+    hold_in_rows(&rt, rt.alloc(), 1_000_000)
 }
 
 #[test]
@@ -251,7 +251,7 @@ fn ends(alloc: Global, statements: &str, budget: u64) -> Result<String, NoMemory
 {
     let mut all = String::new(alloc);
     for fuel in 0..16u64 {
-        let told = told(alloc, statements, fuel, budget)?;
+        let told = told_in_rows(alloc, statements, fuel, budget)?;
         all.push_str(told.what.as_str())?;
         all.push_str("; ")?;
     }
