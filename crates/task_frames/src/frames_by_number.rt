@@ -1,5 +1,5 @@
 // The live frames by their numbers.
-ghost use Rattle.std.specs.Prelude.{◌≡◌, ◌≢◌, ℕ, None, Some, [], IsSome, OnOk, OnErr};
+ghost use Rattle.std.specs.Prelude.{◌≡◌, None, Some, [], IsSome, OnOk, OnErr};
 ghost use Rattle.std.specs.Option.{option_copied, option_map};
 ghost use Rattle.task_frames.specs.Records.{IsOnlyLive, come_at, holding_too, live_at};
 
@@ -129,8 +129,7 @@ impl FramesByNumber {
 /// Notes in the older frames that one is given with so many steps done. `O(log n)`.
 fn come_to(older: &mut BTreeMap<u64, LiveFrame>, number: u64, done: u64)
     requires live { IsSome (live_at older.old.entries number) }
-    ensures come { older.new.entries ≡ come_at older.old.entries number done (live_at older.old.entries number) }
-    ensures others { (other : ℕ) → other ≢ number → live_at older.new.entries other ≡ live_at older.old.entries other }
+    ensures { older.new.entries ≡ come_at older.old.entries number done (live_at older.old.entries number) }
 {
     let Some(frame) = older.get_mut(&number) else {
         unreachable!()
@@ -143,7 +142,6 @@ fn hold(older: &mut BTreeMap<u64, LiveFrame>, number: u64, holding: Holding) -> 
     requires live { IsSome (live_at older.old.entries number) }
     ensures ok { OnOk result (IsOnlyLive older.old.entries older.new.entries number (option_map (holding_too holding) (live_at older.old.entries number))) }
     ensures err { OnErr result (IsOnlyLive older.old.entries older.new.entries number (live_at older.old.entries number)) }
-    ensures others { (other : ℕ) → other ≢ number → live_at older.new.entries other ≡ live_at older.old.entries other }
 {
     match older.get_mut(&number) {
         Some(frame) => frame.hold(holding),
