@@ -14,6 +14,7 @@ use Rattle.std.specs.Map.{lookup}
 use Rattle.std.specs.Option.{option_or, option_to_list}
 use Rattle.std.specs.Ordering.{nat_cmp}
 use Rattle.pop_order.specs.Frames.{lets_use}
+use Rattle.pop_order.specs.OneChange.{IsOnlyChange}
 use Rattle.pop_order.proofs.Holders.{holds_more as holds_one_more}
 use Rattle.swan_model.specs.Rights.{allows}
 use Rattle.swan_model.specs.SerialState.{Holding}
@@ -26,7 +27,7 @@ use Rattle.task_frames.specs.Frames.{FrameView}
 use Rattle.swan_runtime.specs.declared.asleep.Asleep.{Asleep}
 use Rattle.swan_runtime.specs.declared.row.Popper.{Popper}
 use Rattle.swan_runtime.specs.declared.row.Row.{Row}
-use Rattle.swan_runtime.specs.Beds.{HasEntered, HasGoneToBed, HasNoted, HasNotedAt, HasSameNotes, HasSameNotesAt, IsNewRow, IsNoted, NoneAwaits, OnlyWoke, OtherRowsStay, SleepsUnder, before_child, popper_at, poppers_of}
+use Rattle.swan_runtime.specs.Beds.{HasEntered, HasGoneToBed, HasNoted, HasNotedAt, HasSameNotes, HasSameNotesAt, IsNewRow, IsNoted, IsOnlyRow, NoneAwaits, OnlyWoke, OtherRowsStay, SleepsUnder, before_child, popper_at, poppers_of}
 use Rattle.swan_runtime.specs.Shared.{HasTakenIn, row_at}
 
 -- ---- one place more
@@ -102,29 +103,33 @@ module _ {B Q L E : Type 0} where
       (λ row. SleepsUnder bed row before after frame wait_for × (left ≡ ready))
 
   pub put_to_bed : {X F : Type 0} (result : Result X F) (found bed : ℕ) (before after : Asleep B Q L E) (ready : List (FrameView B L E)) (frame : FrameView B L E) (wait_for : WaitFor) (asked : Option ℕ)
-      (row within : Row B Q L E) → found ≡ bed → asked ≡ asked_queue frame → Some row ≡ row_at before found → row_at after found ≡ Some within → OtherRowsStay before after found
+      (row within : Row B Q L E) → found ≡ bed → asked ≡ asked_queue frame → Some row ≡ row_at before found → IsOnlyRow before after found (Some within)
       → HasSameNotes row within → OnOk result (HasTakenIn row within frame wait_for asked) → OnOk result (HasGoneToBed bed before after ready ready frame wait_for)
-  put_to_bed result found bed before after ready frame wait_for asked row within same about was is others notes taken = on_ok_weaker result
+  put_to_bed result found bed before after ready frame wait_for asked row within same about was only notes taken = on_ok_weaker result
       (λ (in_row : HasTakenIn row within frame wait_for asked).
       subst (λ (b : ℕ). HasGoneToBed b before after ready ready frame wait_for) same
       (subst (IsPut found before after ready ready frame wait_for) was
-      (record { within = within; stands = is; taken_in = subst (HasTakenIn row within frame wait_for) about in_row; notes = notes; others = others }, refl))) taken
+      (record { within = within; only = only; taken_in = subst (HasTakenIn row within frame wait_for) about in_row; notes = notes }, refl))) taken
 
   pub left_ready : (found bed : ℕ) (before after : Asleep B Q L E) (ready left : List (FrameView B L E)) (frame : FrameView B L E) (wait_for : WaitFor) → found ≡ bed → None ≡ row_at before found
       → after.rows.entries ≡ before.rows.entries → left ≡ ready ++ frame ∷ [] → HasGoneToBed bed before after ready left frame wait_for
   left_ready found bed before after ready left frame wait_for equal none same is =
       subst (λ (b : ℕ). HasGoneToBed b before after ready left frame wait_for) equal (subst (IsPut found before after ready left frame wait_for) none (same, is))
 
-  -- a row was written
-  pub others_stay : (before after : Asleep B Q L E) (number : ℕ) (row : Row B Q L E) → UpdatesBy nat_cmp (nat_cmp number) before.rows after.rows (Some row) → OtherRowsStay before after number
-  others_stay before after number row updates = record { same = λ other ne. updates.2 other (untied number other ne) }
+  abbrev found_in : List (ℕ × Row B Q L E) → ℕ → Option (Row B Q L E)
+  found_in entries number = lookup (is_at (nat_cmp number)) entries
 
-  -- a row was taken out
-  pub row_removed_alone : (before after : Asleep B Q L E) (number : ℕ) → UpdatesBy nat_cmp (nat_cmp number) before.rows after.rows None → OtherRowsStay before after number
-  row_removed_alone before after number updates = record { same = λ other ne. updates.2 other (untied number other ne) }
+  -- a row was written or taken out
+  pub only_row : (before after : List (ℕ × Row B Q L E)) (number : ℕ) (row : Option (Row B Q L E)) → found_in after number ≡ row
+      → ((other : ℕ) → is_at (nat_cmp number) other ≡ false → found_in after other ≡ found_in before other) → IsOnlyChange (found_in before) (found_in after) number row
+  only_row before after number row own others = record { changed = own; others = λ other ne. others other (untied number other ne) }
+
+  pub others_stay : (before after : List (ℕ × Row B Q L E)) (number : ℕ) (row : Option (Row B Q L E)) → IsOnlyChange (found_in before) (found_in after) number row
+      → IsOnlyChange (found_in before) (found_in after) number (found_in after number)
+  others_stay before after number row only = record { changed = refl; others = only.others }
 
   pub none_moved : (before after : Asleep B Q L E) (number : ℕ) → after.rows.entries ≡ before.rows.entries → OtherRowsStay before after number
-  none_moved before after number same = record { same = λ other ne. ap (lookup (is_at (nat_cmp other))) same }
+  none_moved before after number same = record { changed = refl; others = λ other ne. ap (lookup (is_at (nat_cmp other))) same }
 
   -- ---- wakes
 
@@ -162,16 +167,16 @@ module _ {B Q L E : Type 0} where
   woke_on number a b c first second = record {
     notes = notes_on (row_at a number) (row_at b number) (row_at c number) first.notes second.notes;
     none_more = λ queue none. second.none_more queue (first.none_more queue none);
-    others = record { same = λ other ne. second.others.same other ne ∙ first.others.same other ne };
+    others = record { changed = refl; others = λ other ne. second.others.others other ne ∙ first.others.others other ne };
   }
 
   -- in one row
-  pub row_woke : (number : ℕ) (before after : Asleep B Q L E) (was now : Row B Q L E) → Some was ≡ row_at before number → row_at after number ≡ Some now → HasSameNotes was now
-      → ((queue : ℕ) → NoneAwaits queue (Some was) → NoneAwaits queue (Some now)) → OtherRowsStay before after number → OnlyWoke number before after
-  row_woke number before after was now stood is notes none_more others = record {
-    notes = subst (λ (row : Option (Row B Q L E)). HasSameNotesAt row (row_at after number)) stood (subst (HasSameNotesAt (Some was)) (sym is) notes);
-    none_more = λ queue none. subst (NoneAwaits queue) (sym is) (none_more queue (subst (NoneAwaits queue) (sym stood) none));
-    others = others;
+  pub row_woke : (number : ℕ) (before after : Asleep B Q L E) (was now : Row B Q L E) → Some was ≡ row_at before number → IsOnlyRow before after number (Some now) → HasSameNotes was now
+      → ((queue : ℕ) → NoneAwaits queue (Some was) → NoneAwaits queue (Some now)) → OnlyWoke number before after
+  row_woke number before after was now stood only notes none_more = record {
+    notes = subst (λ (row : Option (Row B Q L E)). HasSameNotesAt row (row_at after number)) stood (subst (HasSameNotesAt (Some was)) (sym only.changed) notes);
+    none_more = λ queue none. subst (NoneAwaits queue) (sym only.changed) (none_more queue (subst (NoneAwaits queue) (sym stood) none));
+    others = others_stay before.rows.entries after.rows.entries number (Some now) only;
   }
 
   pub woken_there : {X F : Type 0} (result : Result X F) (queue : ℕ) (at : Option (Row B Q L E)) (now : Row B Q L E) → at ≡ Some now → OnOk result (NoneAwaits queue (Some now))
@@ -226,5 +231,5 @@ module _ {B Q L E : Type 0} where
         noted = λ ne. subst (λ (at : Option (Row B Q L E)). IfSome (row_at a parent) (λ was. IsSomeAnd at (λ now. IsNoted was now child hs))) (sym (stays parent ne))
             (noted_on (row_at a parent) (row_at b parent) (row_at c parent) child hs woke.notes noted);
         woken = λ ne queue held. subst (NoneAwaits queue) (sym (stays parent ne)) (awaits_on queue (row_at b parent) (row_at c parent) child hs noted (woken queue held));
-        others = λ other not_parent not_child. stays other not_child ∙ others.same other not_parent ∙ woke.others.same other not_parent;
+        others = λ other not_parent not_child. stays other not_child ∙ others.others other not_parent ∙ woke.others.others other not_parent;
       }

@@ -8,6 +8,7 @@ use Rattle.swan_model.specs.Rights.{allows}
 use Rattle.swan_model.specs.SerialState.{Holding}
 use Rattle.swan_model.specs.declared.rights.Mode.TheVariants.{Pop, Push}
 use Rattle.pop_order.specs.Frames.{lets_use}
+use Rattle.pop_order.specs.OneChange.{IsOnlyChange}
 use Rattle.queues.specs.declared.answers.WaitFor.{WaitFor}
 use Rattle.queues.specs.declared.answers.WaitFor.TheVariants as wait
 use Rattle.task_frames.specs.Asked.{asked_queue}
@@ -87,17 +88,20 @@ module _ {B Q L E : Type 0} where
 
   -- ---- what is changed
 
-  -- no row has changed but this one
-  pub record OtherRowsStay (before after : Asleep B Q L E) (number : ℕ) : Type 0 where
-    pub same : (other : ℕ) → other ≢ number → row_at after other ≡ row_at before other
+  -- under this frame it is that then, or the frame isn't live, and under all others it is as before
+  abbrev pub IsOnlyRow : (before after : Asleep B Q L E) (number : ℕ) → Option (Row B Q L E) → Type 0
+  IsOnlyRow before after number row = IsOnlyChange (row_at before) (row_at after) number row
+
+  -- under all frames but this one it is as before
+  abbrev pub OtherRowsStay : (before after : Asleep B Q L E) → (number : ℕ) → Type 0
+  OtherRowsStay before after number = IsOnlyRow before after number (row_at after number)
 
   -- A frame sleeps under this one, in its row.
   pub record SleepsUnder (bed : ℕ) (row : Row B Q L E) (before after : Asleep B Q L E) (frame : FrameView B L E) (wait_for : WaitFor) : Type 0 where
     pub within : Row B Q L E
-    pub stands : row_at after bed ≡ Some within
+    pub only : IsOnlyRow before after bed (Some within)
     pub taken_in : HasTakenIn row within frame wait_for (asked_queue frame)
     pub notes : HasSameNotes row within
-    pub others : OtherRowsStay before after bed
 
   -- A frame that has to wait for this sleeps under that one, or is ready where that one isn't live.
   abbrev pub HasGoneToBed : (bed : ℕ) (before after : Asleep B Q L E) (were_ready are_ready : List (FrameView B L E)) → FrameView B L E → WaitFor → Type 0

@@ -6,7 +6,7 @@ ghost use Rattle.swan_model.specs.Rights.{allows};
 ghost use Rattle.swan_model.specs.declared.plan.Plan.{Plan};
 ghost use Rattle.swan_model.specs.declared.rights.Mode.TheVariants.{Push};
 ghost use Rattle.task_frames.specs.Resumes.{ends_of};
-ghost use Rattle.swan_runtime.specs.Beds.{HasEntered, HasGoneToBed, HasNotedAt, IsNewRow, NoneAwaits, OnlyWoke, OtherRowsStay, bed_of, before_child, is_live, newest_child, popper_before};
+ghost use Rattle.swan_runtime.specs.Beds.{HasEntered, HasGoneToBed, HasNotedAt, IsNewRow, IsOnlyRow, NoneAwaits, OnlyWoke, OtherRowsStay, bed_of, before_child, is_live, newest_child, popper_before};
 ghost use Rattle.swan_runtime.specs.Shared.{KeepsOfRun, SleepersAreOfRun, row_at, sleepers};
 
 use crate::row::Row;
@@ -41,8 +41,7 @@ impl<B: Body, Q: Queues> Asleep<B, Q> {
     pub fn wake_all(&mut self, ready: &mut Vec<Frame<B, Q>>, number: u64) -> Result<(), NoMemory>
         ensures kept { KeepsOfRun (ends_of Q.Ends.LocalEnds) [] self.old self.new ready.old.items ready.new.items }
         ensures none_lost { OnOk result (vec_len ready.new ≡ vec_len ready.old + sleepers (row_at self.old number)) }
-        ensures gone { row_at self.new number ≡ None }
-        ensures others { OtherRowsStay self.old self.new number }
+        ensures gone { IsOnlyRow self.old self.new number None }
     {
         match self.rows.remove(&number) {
             Some(row) => row.wakes_all(ready),

@@ -2,7 +2,7 @@
 ghost use Rattle.std.specs.Prelude.{◌≡◌, ◌≢◌, ◌+◌, ◌++◌, ◌∷◌, [], ℕ, List, Some, None, IfOk, IfSome, OnOk, length, option_to_list, false, true};
 ghost use Rattle.swan_model.specs.declared.plan.Plan.{Plan};
 ghost use Rattle.task_frames.specs.Resumes.{ends_of};
-ghost use Rattle.swan_runtime.specs.Beds.{HasEntered, HasGoneToBed, NoneAwaits, OnlyWoke, OtherRowsStay, bed_of};
+ghost use Rattle.swan_runtime.specs.Beds.{HasEntered, HasGoneToBed, IsOnlyRow, NoneAwaits, OnlyWoke, bed_of};
 ghost use Rattle.swan_runtime.specs.Shared.{AreOfRun, IsOfRun, IsOnTop, KeepsOfRun, SleepersAreOfRun, row_at, sleepers};
 ghost use Rattle.swan_runtime.specs.Turned.{IsOneTry};
 
@@ -102,8 +102,7 @@ fn has_ended<B: Body, Q: Queues>(
 
     // whom the end wakes, and what stays
     ensures none_lost { IfOk result (λ tried. length (ready.new.items ++ option_to_list tried.frame) ≡ length ready.old.items + sleepers (row_at asleep.old number)) }
-    ensures gone { row_at asleep.new number ≡ None }
-    ensures others { OtherRowsStay asleep.old asleep.new number }
+    ensures gone { IsOnlyRow asleep.old asleep.new number None }
 {
     asleep.wake_all(ready, number)?;
     let frame = ready.pop();

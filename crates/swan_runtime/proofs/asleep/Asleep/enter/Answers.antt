@@ -30,5 +30,5 @@ returns-clause-kept g c =
 
 pub returns-clause-entered : goal.returns-clause-entered
 returns-clause-entered g c =
-    has_entered _ _ _ _ c.args.parent c.args.child c.args.holdings.now _ c.new.result c.wake_given.ensures.rows c.in_ok-wake_given.ensures.woken c.in_ok-before.ensures.noted c.spawns.ensures.others
+    has_entered _ _ c.spawns.new.self _ c.args.parent c.args.child c.args.holdings.now _ c.new.result c.wake_given.ensures.rows c.in_ok-wake_given.ensures.woken c.in_ok-before.ensures.noted c.spawns.ensures.others
     c.in_ok-before.ensures.before c.new.ensures c.in_ok-insert.ensures.updates

@@ -1,7 +1,7 @@
-use Rattle.std.proofs.Common.{rules, ap, subst, sym}
+use Rattle.std.proofs.Common.{rules, Some, ap, subst, sym}
 use Rattle.task_frames.specs.Resumes.{ends_of}
 use Rattle.swan_runtime.specs.Shared.{AreOfRun}
-use Rattle.swan_runtime.proofs.Bedding.{left_ready, others_stay, put_to_bed}
+use Rattle.swan_runtime.proofs.Bedding.{left_ready, only_row, put_to_bed}
 use Rattle.swan_runtime.proofs.Waking.{pushed, row_found, row_set, rows_same, that_one, tried_to_sleep}
 use Rattle.swan_runtime.proofs.asleep.Asleep.sleep.Goals as goal
 
@@ -39,7 +39,7 @@ pub returns-in-Some-clause-bed : goal.returns-in-Some-clause-bed
 returns-in-Some-clause-bed g c =
     let updates = (c.get_mut.follows.holds c.takes_in.new.self).3 (search rules) in
     put_to_bed c.takes_in.result c.bed-bed.result _ c.args.self.now _ c.args.ready.now.items c.args.frame c.args.wait c.asked_queue-queue.result c.in-Some.row.now c.takes_in.new.self (search rules)
-    c.asked_queue-queue.ensures c.in-Some.ensures.value updates.1 (others_stay _ _ _ c.takes_in.new.self updates) c.takes_in.ensures.notes c.takes_in.ensures.ok
+    c.asked_queue-queue.ensures c.in-Some.ensures.value (only_row _ _ _ (Some c.takes_in.new.self) updates.1 updates.2) c.takes_in.ensures.notes c.takes_in.ensures.ok
 
 pub returns-in_ok-push-in-None-clause-bed : goal.returns-in_ok-push-in-None-clause-bed
 returns-in_ok-push-in-None-clause-bed g c =

@@ -1,6 +1,6 @@
-use Rattle.std.proofs.Common.{rules, ap}
+use Rattle.std.proofs.Common.{rules, Some, ap}
 use Rattle.task_frames.specs.Resumes.{ends_of}
-use Rattle.swan_runtime.proofs.Bedding.{noted_at, others_stay}
+use Rattle.swan_runtime.proofs.Bedding.{noted_at, only_row, others_stay}
 use Rattle.swan_runtime.proofs.Waking.{row_found, row_same, row_set}
 use Rattle.swan_runtime.proofs.asleep.Asleep.spawns.Goals as goal
 
@@ -19,4 +19,6 @@ returns-in-Some-clause-noted g c =
     noted_at c.spawns.result _ _ c.in-Some.row.now c.spawns.new.self c.args.child c.args.holdings.now c.in-Some.ensures.value updates.1 c.spawns.ensures.noted
 
 pub returns-in-Some-clause-others : goal.returns-in-Some-clause-others
-returns-in-Some-clause-others g c = others_stay _ _ c.args.parent c.spawns.new.self ((c.get_mut.follows.holds c.spawns.new.self).3 (search rules))
+returns-in-Some-clause-others g c =
+    let updates = (c.get_mut.follows.holds c.spawns.new.self).3 (search rules) in
+    others_stay _ _ c.args.parent (Some c.spawns.new.self) (only_row _ _ c.args.parent (Some c.spawns.new.self) updates.1 updates.2)

@@ -1,5 +1,6 @@
+use Rattle.std.proofs.Common.{None}
 use Rattle.task_frames.specs.Resumes.{ends_of}
-use Rattle.swan_runtime.proofs.Bedding.{row_removed_alone}
+use Rattle.swan_runtime.proofs.Bedding.{only_row}
 use Rattle.swan_runtime.proofs.Waking.{row_found, row_removed}
 use Rattle.swan_runtime.proofs.asleep.Asleep.wake_all.Goals as goal
 
@@ -18,8 +19,8 @@ returns-in-None-clause-kept g c = record {
   ready = λ plan run new are ready. ready;
 }
 
-pub returns-in-Some-clause-others : goal.returns-in-Some-clause-others
-returns-in-Some-clause-others g c = row_removed_alone _ _ c.args.number c.remove.ensures.updates
+pub returns-in-Some-clause-gone : goal.returns-in-Some-clause-gone
+returns-in-Some-clause-gone g c = let updates = c.remove.ensures.updates in only_row _ _ c.args.number None updates.1 updates.2
 
-pub returns-in-None-clause-others : goal.returns-in-None-clause-others
-returns-in-None-clause-others g c = row_removed_alone _ _ c.args.number c.remove.ensures.updates
+pub returns-in-None-clause-gone : goal.returns-in-None-clause-gone
+returns-in-None-clause-gone g c = let updates = c.remove.ensures.updates in only_row _ _ c.args.number None updates.1 updates.2

@@ -1,7 +1,7 @@
-use Rattle.std.proofs.Common.{rules, ap, subst, sym}
+use Rattle.std.proofs.Common.{rules, Some, ap, subst, sym}
 use Rattle.std.proofs.lemmas.Result.{on_ok_weaker}
 use Rattle.task_frames.specs.Resumes.{ends_of}
-use Rattle.swan_runtime.proofs.Bedding.{none_woke, others_stay, row_woke}
+use Rattle.swan_runtime.proofs.Bedding.{none_woke, only_row, row_woke}
 use Rattle.swan_runtime.specs.Beds.{NoneAwaits}
 use Rattle.swan_runtime.proofs.Waking.{row_found, row_set}
 use Rattle.swan_runtime.proofs.asleep.Asleep.wake_all_poppers.Goals as goal
@@ -25,7 +25,7 @@ returns-in-Some-clause-woken g c =
 pub returns-in-Some-clause-rows : goal.returns-in-Some-clause-rows
 returns-in-Some-clause-rows g c =
     let updates = (c.get_mut.follows.holds c.wakes_poppers.new.self).3 (search rules) in
-    row_woke c.args.number _ _ c.in-Some.row.now c.wakes_poppers.new.self c.in-Some.ensures.value updates.1 c.wakes_poppers.ensures.notes c.wakes_poppers.ensures.none_more (others_stay _ _ c.args.number c.wakes_poppers.new.self updates)
+    row_woke c.args.number _ _ c.in-Some.row.now c.wakes_poppers.new.self c.in-Some.ensures.value (only_row _ _ c.args.number (Some c.wakes_poppers.new.self) updates.1 updates.2) c.wakes_poppers.ensures.notes c.wakes_poppers.ensures.none_more
 
 pub returns-in-None-clause-rows : goal.returns-in-None-clause-rows
 returns-in-None-clause-rows g c = none_woke c.args.number _ _ (ap (λ m. m.entries) c.get_mut.follows.holds-at-none)

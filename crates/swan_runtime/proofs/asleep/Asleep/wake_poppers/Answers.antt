@@ -1,6 +1,6 @@
-use Rattle.std.proofs.Common.{rules, ap}
+use Rattle.std.proofs.Common.{rules, Some, ap}
 use Rattle.task_frames.specs.Resumes.{ends_of}
-use Rattle.swan_runtime.proofs.Bedding.{none_woke, others_stay, row_woke, woken_there}
+use Rattle.swan_runtime.proofs.Bedding.{none_woke, only_row, row_woke, woken_there}
 use Rattle.swan_runtime.proofs.Waking.{row_found, row_set}
 use Rattle.swan_runtime.proofs.asleep.Asleep.wake_poppers.Goals as goal
 
@@ -23,7 +23,7 @@ returns-in-Some-clause-woken g c =
 pub returns-in-Some-clause-rows : goal.returns-in-Some-clause-rows
 returns-in-Some-clause-rows g c =
     let updates = (c.get_mut.follows.holds c.wakes.new.self).3 (search rules) in
-    row_woke c.args.number _ _ c.in-Some.row.now c.wakes.new.self c.in-Some.ensures.value updates.1 c.wakes.ensures.notes c.wakes.ensures.none_more (others_stay _ _ c.args.number c.wakes.new.self updates)
+    row_woke c.args.number _ _ c.in-Some.row.now c.wakes.new.self c.in-Some.ensures.value (only_row _ _ c.args.number (Some c.wakes.new.self) updates.1 updates.2) c.wakes.ensures.notes c.wakes.ensures.none_more
 
 pub returns-in-None-clause-rows : goal.returns-in-None-clause-rows
 returns-in-None-clause-rows g c = none_woke c.args.number _ _ (ap (λ m. m.entries) c.get_mut.follows.holds-at-none)
