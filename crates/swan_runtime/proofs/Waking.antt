@@ -15,9 +15,9 @@ use Rattle.task_frames.specs.Cores.{CoreView}
 use Rattle.task_frames.specs.Frames.{FrameView}
 use Rattle.task_frames.specs.Resumes.{EndsOf}
 use Rattle.swan_runtime.specs.declared.asleep.Asleep.{Asleep}
-use Rattle.swan_runtime.specs.declared.row.Popper.{Popper}
-use Rattle.swan_runtime.specs.declared.row.Row.{Row}
-use Rattle.swan_runtime.specs.Shared.{AreOfRun, ArePoppersOfRun, HasTakenIn, IsOfRun, IsShared, KeepsOfRun, RowIsOfRun, SleepersAreOfRun}
+use Rattle.swan_runtime.specs.declared.sleepers.Popper.{Popper}
+use Rattle.swan_runtime.specs.declared.sleepers.Sleepers.{Sleepers}
+use Rattle.swan_runtime.specs.Shared.{AreOfRun, ArePoppersOfRun, AreSleepersOfRun, AsleepIsOfRun, HasTakenIn, IsOfRun, IsShared, KeepsOfRun}
 
 module _ {B L E : Type 0} (of : EndsOf E) (plan : Plan B L) (run : List ℕ) where
   pub none : AreOfRun of plan run []
@@ -65,31 +65,31 @@ module _ {B L E : Type 0} (of : EndsOf E) (plan : Plan B L) (run : List ℕ) whe
         → ArePoppersOfRun of plan run left × IsOfRun of plan run popper.frame
     popper_popped poppers left popper is are = let both = All-pop Sleeps poppers left (Some popper) is are.each in (record { each = both.0 }, both.1)
 
-    -- ---- rows
+    -- ---- who sleeps under one frame
 
-    abbrev OfRun : Row B Q L E → Type 0
-    OfRun row = RowIsOfRun of plan run row
+    abbrev OfRun : Sleepers B Q L E → Type 0
+    OfRun sleepers = AreSleepersOfRun of plan run sleepers
 
-    pub row_same : (before after : Row B Q L E) → after.at_end.items ≡ before.at_end.items → after.at_push.items ≡ before.at_push.items → OfRun before → OfRun after
-    row_same before after end push is = record {
+    pub sleepers_same : (before after : Sleepers B Q L E) → after.at_end.items ≡ before.at_end.items → after.at_push.items ≡ before.at_push.items → OfRun before → OfRun after
+    sleepers_same before after end push is = record {
       at_end = subst (AreOfRun of plan run) (sym end) is.at_end;
       at_push = subst (ArePoppersOfRun of plan run) (sym push) is.at_push;
     }
 
-    pub empty_row : (row : Row B Q L E) → row.at_end.items ≡ [] → row.at_push.items ≡ [] → OfRun row
-    empty_row row end push = record {
+    pub no_sleepers : (sleepers : Sleepers B Q L E) → sleepers.at_end.items ≡ [] → sleepers.at_push.items ≡ [] → OfRun sleepers
+    no_sleepers sleepers end push = record {
       at_end = subst (AreOfRun of plan run) (sym end) none;
       at_push = subst (ArePoppersOfRun of plan run) (sym push) (record { each = All-nil Sleeps });
     }
 
-    at_end_too : (before after : Row B Q L E) (frame : FrameView B L E) → after.at_end.items ≡ before.at_end.items ++ frame ∷ [] → after.at_push.items ≡ before.at_push.items
+    at_end_too : (before after : Sleepers B Q L E) (frame : FrameView B L E) → after.at_end.items ≡ before.at_end.items ++ frame ∷ [] → after.at_push.items ≡ before.at_push.items
         → OfRun before → IsOfRun of plan run frame → OfRun after
     at_end_too before after frame end push is own = record {
       at_end = subst (AreOfRun of plan run) (sym end) (pushed before.at_end.items frame is.at_end own);
       at_push = subst (ArePoppersOfRun of plan run) (sym push) is.at_push;
     }
 
-    taken_in : (before after : Row B Q L E) (frame : FrameView B L E) (wait_for : WaitFor) (asked : Option ℕ) → HasTakenIn before after frame wait_for asked
+    taken_in : (before after : Sleepers B Q L E) (frame : FrameView B L E) (wait_for : WaitFor) (asked : Option ℕ) → HasTakenIn before after frame wait_for asked
         → OfRun before → IsOfRun of plan run frame → OfRun after
     taken_in before after frame (wait.Pusher n) (Some queue) takes is own = record {
       at_end = subst (AreOfRun of plan run) (sym takes.0) is.at_end;
@@ -101,33 +101,33 @@ module _ {B L E : Type 0} (of : EndsOf E) (plan : Plan B L) (run : List ℕ) whe
     taken_in before after frame (wait.PopTurn n) asked takes is own = at_end_too before after frame takes.0 takes.1 is own
 
     -- whether memory was found or not
-    pub tried_to_sleep : {X F : Type 0} (before after : Row B Q L E) (frame : FrameView B L E) (wait_for : WaitFor) (asked : Option ℕ) (result : Result X F)
+    pub tried_to_sleep : {X F : Type 0} (before after : Sleepers B Q L E) (frame : FrameView B L E) (wait_for : WaitFor) (asked : Option ℕ) (result : Result X F)
         → OnOk result (HasTakenIn before after frame wait_for asked)
         → OnErr result ((after.at_end.items ≡ before.at_end.items) × (after.at_push.items ≡ before.at_push.items))
         → OfRun before → IsOfRun of plan run frame → OfRun after
     tried_to_sleep before after frame wait_for asked (Ok x) ok err is own = taken_in before after frame wait_for asked ok is own
-    tried_to_sleep before after frame wait_for asked (Err f) ok err is own = row_same before after err.0 err.1 is
+    tried_to_sleep before after frame wait_for asked (Err f) ok err is own = sleepers_same before after err.0 err.1 is
 
-    -- ---- all rows
+    -- ---- who sleeps at all
 
-    pub row_found : (entries : List (ℕ × Row B Q L E)) (test : ℕ → Bool) (row : Row B Q L E) → Some row ≡ lookup test entries → All OfRun (values_of entries) → OfRun row
-    row_found entries test row found are = subst (λ (r : Option (Row B Q L E)). IfSome r OfRun) (sym found) (IfSome-lookup_from_All OfRun test entries are)
+    pub sleepers_found : (entries : List (ℕ × Sleepers B Q L E)) (test : ℕ → Bool) (sleepers : Sleepers B Q L E) → Some sleepers ≡ lookup test entries → All OfRun (values_of entries) → OfRun sleepers
+    sleepers_found entries test sleepers found are = subst (λ (r : Option (Sleepers B Q L E)). IfSome r OfRun) (sym found) (IfSome-lookup_from_All OfRun test entries are)
 
-    pub row_set : (entries after : List (ℕ × Row B Q L E)) (test : ℕ → Bool) (row : Row B Q L E) → after ≡ set_value test entries row → All OfRun (values_of entries) → OfRun row
+    pub sleepers_set : (entries after : List (ℕ × Sleepers B Q L E)) (test : ℕ → Bool) (sleepers : Sleepers B Q L E) → after ≡ set_value test entries sleepers → All OfRun (values_of entries) → OfRun sleepers
         → All OfRun (values_of after)
-    row_set entries after test row set are own = subst (λ (es : List (ℕ × Row B Q L E)). All OfRun (values_of es)) (sym set) (All-values-set_value test OfRun entries row are own)
+    sleepers_set entries after test sleepers set are own = subst (λ (es : List (ℕ × Sleepers B Q L E)). All OfRun (values_of es)) (sym set) (All-values-set_value test OfRun entries sleepers are own)
 
-    pub row_removed : (entries after : List (ℕ × Row B Q L E)) (test : ℕ → Bool) → after ≡ remove_entry test entries → All OfRun (values_of entries) → All OfRun (values_of after)
-    row_removed entries after test removed are =
-        subst (λ (es : List (ℕ × Row B Q L E)). All OfRun (values_of es)) (sym removed) (All-map-remove_entry test (λ (e : ℕ × Row B Q L E). e.1) OfRun entries are)
+    pub sleepers_removed : (entries after : List (ℕ × Sleepers B Q L E)) (test : ℕ → Bool) → after ≡ remove_entry test entries → All OfRun (values_of entries) → All OfRun (values_of after)
+    sleepers_removed entries after test removed are =
+        subst (λ (es : List (ℕ × Sleepers B Q L E)). All OfRun (values_of es)) (sym removed) (All-map-remove_entry test (λ (e : ℕ × Sleepers B Q L E). e.1) OfRun entries are)
 
-    pub row_inserted : (entries after : List (ℕ × Row B Q L E)) (number : ℕ) (row : Row B Q L E) → after ≡ insert_entry nat_cmp entries number row → All OfRun (values_of entries) → OfRun row
+    pub sleepers_inserted : (entries after : List (ℕ × Sleepers B Q L E)) (number : ℕ) (sleepers : Sleepers B Q L E) → after ≡ insert_entry nat_cmp entries number sleepers → All OfRun (values_of entries) → OfRun sleepers
         → All OfRun (values_of after)
-    row_inserted entries after number row inserted are own =
-        subst (λ (es : List (ℕ × Row B Q L E)). All OfRun (values_of es)) (sym inserted) (All-values-insert_entry nat_cmp number row OfRun entries are own)
+    sleepers_inserted entries after number sleepers inserted are own =
+        subst (λ (es : List (ℕ × Sleepers B Q L E)). All OfRun (values_of es)) (sym inserted) (All-values-insert_entry nat_cmp number sleepers OfRun entries are own)
 
-    pub rows_same : (entries after : List (ℕ × Row B Q L E)) → after ≡ entries → All OfRun (values_of entries) → All OfRun (values_of after)
-    rows_same entries after same are = subst (λ (es : List (ℕ × Row B Q L E)). All OfRun (values_of es)) (sym same) are
+    pub all_same : (entries after : List (ℕ × Sleepers B Q L E)) → after ≡ entries → All OfRun (values_of entries) → All OfRun (values_of after)
+    all_same entries after same are = subst (λ (es : List (ℕ × Sleepers B Q L E)). All OfRun (values_of es)) (sym same) are
 
   -- ---- what is shared
 
@@ -157,8 +157,8 @@ none_left Z W xs n (Some x) same is = tt
 
 -- The same run, with other frames.
 pub still_shared : {B Q L E : Type 0} (of : EndsOf E) (core after : CoreView B L) (ready : List (FrameView B L E)) (asleep : Asleep B Q L E) → after.plan ≡ core.plan → after.run ≡ core.run
-    → AreOfRun of core.plan core.run ready → SleepersAreOfRun of core.plan core.run asleep → IsShared of (record { core = after; ready = ready }) asleep
+    → AreOfRun of core.plan core.run ready → AsleepIsOfRun of core.plan core.run asleep → IsShared of (record { core = after; ready = ready }) asleep
 still_shared of core after ready asleep plan run are sleep = record {
   ready = subst (λ (r : List ℕ). AreOfRun of after.plan r ready) (sym run) (subst (λ (p : Plan _ _). AreOfRun of p core.run ready) (sym plan) are);
-  asleep = subst (λ (r : List ℕ). SleepersAreOfRun of after.plan r asleep) (sym run) (subst (λ (p : Plan _ _). SleepersAreOfRun of p core.run asleep) (sym plan) sleep);
+  asleep = subst (λ (r : List ℕ). AsleepIsOfRun of after.plan r asleep) (sym run) (subst (λ (p : Plan _ _). AsleepIsOfRun of p core.run asleep) (sym plan) sleep);
 }

@@ -6,10 +6,10 @@ ghost use Rattle.swan_model.specs.Rights.{allows};
 ghost use Rattle.swan_model.specs.declared.plan.Plan.{Plan};
 ghost use Rattle.swan_model.specs.declared.rights.Mode.TheVariants.{Push};
 ghost use Rattle.task_frames.specs.Resumes.{ends_of};
-ghost use Rattle.swan_runtime.specs.Beds.{HasEntered, HasGoneToBed, HasNotedAt, IsNewRow, IsOnlyRow, NoneAwaits, OnlyWoke, OtherRowsStay, bed_of, before_child, is_live, newest_child, popper_before};
-ghost use Rattle.swan_runtime.specs.Shared.{KeepsOfRun, SleepersAreOfRun, row_at, sleepers};
+ghost use Rattle.swan_runtime.specs.Beds.{AreNewSleepers, AreOnlySleepers, HasEntered, HasGoneToBed, HasNotedAt, NoneAwaits, OnlyWoke, OtherSleepersStay, bed_of, before_child, is_live, newest_child, popper_before};
+ghost use Rattle.swan_runtime.specs.Shared.{AsleepIsOfRun, KeepsOfRun, sleeper_count, sleepers_at};
 
-use crate::row::Row;
+use crate::sleepers::Sleepers;
 use queues::{Queues, WaitFor};
 use std::alloc::Global;
 use std::collections::BTreeMap;
@@ -22,29 +22,29 @@ use task_frames::{Frame, Holding};
 /// about. In costs, n counts the live frames.
 #[derive(Drop)]
 pub(crate) struct Asleep<B: Body, Q: Queues> {
-    pub rows: BTreeMap<u64, Row<B, Q>>,
+    pub sleepers: BTreeMap<u64, Sleepers<B, Q>>,
 }
 
 impl<B: Body, Q: Queues> Asleep<B, Q> {
     /// Nobody, under a root of this number. Err is want of memory. It allocates once.
     pub fn new(alloc: Global, root: u64) -> Result<Asleep<B, Q>, NoMemory>
-        ensures own { (plan : Plan B B.Local) (run : List ℕ) → IfOk result (SleepersAreOfRun (ends_of Q.Ends.LocalEnds) plan run) }
-        ensures root { IfOk result (λ asleep. IsSomeAnd (row_at asleep root) (λ row. IsNewRow row [])) }
-        ensures others { IfOk result (λ asleep. (other : ℕ) → other ≢ root → row_at asleep other ≡ None) }
+        ensures own { (plan : Plan B B.Local) (run : List ℕ) → IfOk result (AsleepIsOfRun (ends_of Q.Ends.LocalEnds) plan run) }
+        ensures root { IfOk result (λ asleep. IsSomeAnd (sleepers_at asleep root) (λ sleepers. AreNewSleepers sleepers [])) }
+        ensures others { IfOk result (λ asleep. (other : ℕ) → other ≢ root → sleepers_at asleep other ≡ None) }
     {
-        let mut rows = BTreeMap::new(alloc);
-        rows.insert(root, Row::new(alloc, Vec::new(alloc)))?;
-        Ok(Asleep { rows })
+        let mut sleepers = BTreeMap::new(alloc);
+        sleepers.insert(root, Sleepers::new(alloc, Vec::new(alloc)))?;
+        Ok(Asleep { sleepers })
     }
 
     /// Lets all that sleep under a frame be ready, which has ended. Err is want of memory. `O(log n)`, and `O(1)` amortised for each of them.
     pub fn wake_all(&mut self, ready: &mut Vec<Frame<B, Q>>, number: u64) -> Result<(), NoMemory>
         ensures kept { KeepsOfRun (ends_of Q.Ends.LocalEnds) [] self.old self.new ready.old.items ready.new.items }
-        ensures none_lost { OnOk result (vec_len ready.new ≡ vec_len ready.old + sleepers (row_at self.old number)) }
-        ensures gone { IsOnlyRow self.old self.new number None }
+        ensures none_lost { OnOk result (vec_len ready.new ≡ vec_len ready.old + sleeper_count (sleepers_at self.old number)) }
+        ensures gone { AreOnlySleepers self.old self.new number None }
     {
-        match self.rows.remove(&number) {
-            Some(row) => row.wakes_all(ready),
+        match self.sleepers.remove(&number) {
+            Some(sleepers) => sleepers.wakes_all(ready),
             None => Ok(()),
         }
     }
@@ -58,12 +58,12 @@ impl<B: Body, Q: Queues> Asleep<B, Q> {
         queue: u32,
     ) -> Result<(), NoMemory>
         ensures kept { KeepsOfRun (ends_of Q.Ends.LocalEnds) [] self.old self.new ready.old.items ready.new.items }
-        ensures none_lost { OnOk result (vec_len ready.new + sleepers (row_at self.new number) ≡ vec_len ready.old + sleepers (row_at self.old number)) }
-        ensures woken { OnOk result (NoneAwaits queue (row_at self.new number)) }
-        ensures rows { OnlyWoke number self.old self.new }
+        ensures none_lost { OnOk result (vec_len ready.new + sleeper_count (sleepers_at self.new number) ≡ vec_len ready.old + sleeper_count (sleepers_at self.old number)) }
+        ensures woken { OnOk result (NoneAwaits queue (sleepers_at self.new number)) }
+        ensures sleepers { OnlyWoke number self.old self.new }
     {
-        match self.rows.get_mut(&number) {
-            Some(row) => row.wakes(ready, queue),
+        match self.sleepers.get_mut(&number) {
+            Some(sleepers) => sleepers.wakes(ready, queue),
             None => Ok(()),
         }
     }
@@ -75,11 +75,11 @@ impl<B: Body, Q: Queues> Asleep<B, Q> {
         number: u64,
     ) -> Result<(), NoMemory>
         ensures kept { KeepsOfRun (ends_of Q.Ends.LocalEnds) [] self.old self.new ready.old.items ready.new.items }
-        ensures woken { OnOk result ((queue : ℕ) → NoneAwaits queue (row_at self.new number)) }
-        ensures rows { OnlyWoke number self.old self.new }
+        ensures woken { OnOk result ((queue : ℕ) → NoneAwaits queue (sleepers_at self.new number)) }
+        ensures sleepers { OnlyWoke number self.old self.new }
     {
-        match self.rows.get_mut(&number) {
-            Some(row) => row.wakes_poppers(ready),
+        match self.sleepers.get_mut(&number) {
+            Some(sleepers) => sleepers.wakes_poppers(ready),
             None => Ok(()),
         }
     }
@@ -93,8 +93,8 @@ impl<B: Body, Q: Queues> Asleep<B, Q> {
         asked: Option<u32>,
     ) -> Result<(), NoMemory>
         ensures kept { KeepsOfRun (ends_of Q.Ends.LocalEnds) [] self.old self.new ready.old.items ready.new.items }
-        ensures woken { OnOk result (IfSome asked (λ queue. NoneAwaits queue (row_at self.new number))) }
-        ensures rows { OnlyWoke number self.old self.new }
+        ensures woken { OnOk result (IfSome asked (λ queue. NoneAwaits queue (sleepers_at self.new number))) }
+        ensures sleepers { OnlyWoke number self.old self.new }
     {
         match asked {
             Some(queue) => self.wake_poppers(ready, number, queue),
@@ -113,9 +113,9 @@ impl<B: Body, Q: Queues> Asleep<B, Q> {
         asked: Option<u32>,
     ) -> Result<(), NoMemory>
         ensures kept { KeepsOfRun (ends_of Q.Ends.LocalEnds) [] self.old self.new ready.old.items ready.new.items }
-        ensures woken { OnOk result (IfSome asked (λ queue. NoneAwaits queue (row_at self.new number))) }
-        ensures first { OnOk result (had_begun ≡ false → (queue : ℕ) → NoneAwaits queue (row_at self.new number)) }
-        ensures rows { OnlyWoke number self.old self.new }
+        ensures woken { OnOk result (IfSome asked (λ queue. NoneAwaits queue (sleepers_at self.new number))) }
+        ensures first { OnOk result (had_begun ≡ false → (queue : ℕ) → NoneAwaits queue (sleepers_at self.new number)) }
+        ensures sleepers { OnlyWoke number self.old self.new }
     {
         if had_begun {
             self.wake_asked(ready, number, asked)
@@ -133,13 +133,13 @@ impl<B: Body, Q: Queues> Asleep<B, Q> {
         child: u64,
         holdings: &[Holding],
     ) -> Result<Vec<u64>, NoMemory>
-        ensures own { (plan : Plan B B.Local) (run : List ℕ) → SleepersAreOfRun (ends_of Q.Ends.LocalEnds) plan run self.old → SleepersAreOfRun (ends_of Q.Ends.LocalEnds) plan run self.new }
-        ensures before { IfOk result (λ before. before.items ≡ before_child (row_at self.old parent) holdings.now) }
-        ensures noted { OnOk result (HasNotedAt (row_at self.old parent) (row_at self.new parent) child holdings.now) }
-        ensures others { OtherRowsStay self.old self.new parent }
+        ensures own { (plan : Plan B B.Local) (run : List ℕ) → AsleepIsOfRun (ends_of Q.Ends.LocalEnds) plan run self.old → AsleepIsOfRun (ends_of Q.Ends.LocalEnds) plan run self.new }
+        ensures before { IfOk result (λ before. before.items ≡ before_child (sleepers_at self.old parent) holdings.now) }
+        ensures noted { OnOk result (HasNotedAt (sleepers_at self.old parent) (sleepers_at self.new parent) child holdings.now) }
+        ensures others { OtherSleepersStay self.old self.new parent }
     {
-        match self.rows.get_mut(&parent) {
-            Some(row) => row.spawns(alloc, child, holdings),
+        match self.sleepers.get_mut(&parent) {
+            Some(sleepers) => sleepers.spawns(alloc, child, holdings),
             None => Ok(Vec::new(alloc)),
         }
     }
@@ -153,8 +153,8 @@ impl<B: Body, Q: Queues> Asleep<B, Q> {
         holding: Holding,
     ) -> Result<(), NoMemory>
         ensures kept { KeepsOfRun (ends_of Q.Ends.LocalEnds) [] self.old self.new ready.old.items ready.new.items }
-        ensures woken { OnOk result (allows holding.mode Push ≡ true → NoneAwaits holding.number (row_at self.new number)) }
-        ensures rows { OnlyWoke number self.old self.new }
+        ensures woken { OnOk result (allows holding.mode Push ≡ true → NoneAwaits holding.number (sleepers_at self.new number)) }
+        ensures sleepers { OnlyWoke number self.old self.new }
     {
         if holding.mode.allows(Mode::Push) {
             self.wake_poppers(ready, number, holding.number)
@@ -172,8 +172,8 @@ impl<B: Body, Q: Queues> Asleep<B, Q> {
         holdings: &[Holding],
     ) -> Result<(), NoMemory>
         ensures kept { KeepsOfRun (ends_of Q.Ends.LocalEnds) [] self.old self.new ready.old.items ready.new.items }
-        ensures woken { OnOk result ((queue : ℕ) → lets_use holdings.now queue Push ≡ true → NoneAwaits queue (row_at self.new number)) }
-        ensures rows { OnlyWoke number self.old self.new }
+        ensures woken { OnOk result ((queue : ℕ) → lets_use holdings.now queue Push ≡ true → NoneAwaits queue (sleepers_at self.new number)) }
+        ensures sleepers { OnlyWoke number self.old self.new }
     {
         for holding in holdings {
             self.wake_at(ready, number, *holding)?;
@@ -197,7 +197,7 @@ impl<B: Body, Q: Queues> Asleep<B, Q> {
     {
         self.wake_given(ready, parent, holdings)?;
         let before = self.spawns(alloc, parent, child, holdings)?;
-        self.rows.insert(child, Row::new(alloc, before))?;
+        self.sleepers.insert(child, Sleepers::new(alloc, before))?;
         Ok(())
     }
 
@@ -221,8 +221,8 @@ impl<B: Body, Q: Queues> Asleep<B, Q> {
     fn newest_child(&self, number: u64) -> Option<u64>
         ensures { result ≡ newest_child self.now number }
     {
-        let newest = self.rows.get(&number)?.newest?;
-        if self.rows.contains_key(&newest) {
+        let newest = self.sleepers.get(&number)?.newest?;
+        if self.sleepers.contains_key(&newest) {
             Some(newest)
         } else {
             None
@@ -234,8 +234,8 @@ impl<B: Body, Q: Queues> Asleep<B, Q> {
     fn popper_before(&self, number: u64) -> Option<u64>
         ensures { result ≡ popper_before self.now number }
     {
-        let row = self.rows.get(&number)?;
-        self.first_live(&row.before)
+        let sleepers = self.sleepers.get(&number)?;
+        self.first_live(&sleepers.before)
     }
 
     /// The first of these that is live; None where none is. `O(k log n)` for k of them; it takes no memory.
@@ -243,7 +243,7 @@ impl<B: Body, Q: Queues> Asleep<B, Q> {
         ensures { result ≡ find (is_live self.now) numbers.now }
     {
         for number in numbers {
-            if self.rows.contains_key(number) {
+            if self.sleepers.contains_key(number) {
                 return Some(*number);
             }
         }
@@ -263,8 +263,8 @@ impl<B: Body, Q: Queues> Asleep<B, Q> {
     {
         let queue = frame.asked_queue();
         let bed = self.bed(frame.number(), wait);
-        match self.rows.get_mut(&bed) {
-            Some(row) => row.takes_in(frame, wait, queue),
+        match self.sleepers.get_mut(&bed) {
+            Some(sleepers) => sleepers.takes_in(frame, wait, queue),
             None => Ok(ready.push(frame)?),
         }
     }

@@ -2,8 +2,8 @@
 ghost use Rattle.std.specs.Prelude.{◌≡◌, ◌≢◌, ◌+◌, ◌++◌, ◌∷◌, [], ℕ, List, Some, None, IfOk, IfSome, OnOk, length, option_to_list, false, true};
 ghost use Rattle.swan_model.specs.declared.plan.Plan.{Plan};
 ghost use Rattle.task_frames.specs.Resumes.{ends_of};
-ghost use Rattle.swan_runtime.specs.Beds.{HasEntered, HasGoneToBed, IsOnlyRow, NoneAwaits, OnlyWoke, bed_of};
-ghost use Rattle.swan_runtime.specs.Shared.{AreOfRun, IsOfRun, IsOnTop, KeepsOfRun, SleepersAreOfRun, row_at, sleepers};
+ghost use Rattle.swan_runtime.specs.Beds.{AreOnlySleepers, HasEntered, HasGoneToBed, NoneAwaits, OnlyWoke, bed_of};
+ghost use Rattle.swan_runtime.specs.Shared.{AreOfRun, AsleepIsOfRun, IsOfRun, IsOnTop, KeepsOfRun, sleeper_count, sleepers_at};
 ghost use Rattle.swan_runtime.specs.Turned.{IsOneTry};
 
 use crate::Turn;
@@ -40,9 +40,9 @@ fn has_run<B: Body, Q: Queues>(
     ensures kept { KeepsOfRun (ends_of Q.Ends.LocalEnds) [] asleep.old asleep.new ready.old.items ready.new.items }
 
     // whom the step wakes
-    ensures woken { OnOk result (IfSome asked (λ queue. NoneAwaits queue (row_at asleep.new frame.task.number))) }
-    ensures first { OnOk result (had_begun ≡ false → (queue : ℕ) → NoneAwaits queue (row_at asleep.new frame.task.number)) }
-    ensures rows { OnlyWoke frame.task.number asleep.old asleep.new }
+    ensures woken { OnOk result (IfSome asked (λ queue. NoneAwaits queue (sleepers_at asleep.new frame.task.number))) }
+    ensures first { OnOk result (had_begun ≡ false → (queue : ℕ) → NoneAwaits queue (sleepers_at asleep.new frame.task.number)) }
+    ensures sleepers { OnlyWoke frame.task.number asleep.old asleep.new }
 {
     asleep.wake_by_step(ready, frame.number(), had_begun, asked)?;
     Ok(Tried {
@@ -96,13 +96,13 @@ fn has_ended<B: Body, Q: Queues>(
 
     // what is answered, and that all frames stay of their run
     ensures tried { IfOk result (λ tried. IsOneTry tried.turn) }
-    ensures frame { (plan : Plan B B.Local) (run : List ℕ) → SleepersAreOfRun (ends_of Q.Ends.LocalEnds) plan run asleep.old
+    ensures frame { (plan : Plan B B.Local) (run : List ℕ) → AsleepIsOfRun (ends_of Q.Ends.LocalEnds) plan run asleep.old
         → AreOfRun (ends_of Q.Ends.LocalEnds) plan run ready.old.items → IfOk result (λ tried. IfSome tried.frame (IsOfRun (ends_of Q.Ends.LocalEnds) plan run)) }
     ensures kept { KeepsOfRun (ends_of Q.Ends.LocalEnds) [] asleep.old asleep.new ready.old.items ready.new.items }
 
     // whom the end wakes, and what stays
-    ensures none_lost { IfOk result (λ tried. length (ready.new.items ++ option_to_list tried.frame) ≡ length ready.old.items + sleepers (row_at asleep.old number)) }
-    ensures gone { IsOnlyRow asleep.old asleep.new number None }
+    ensures none_lost { IfOk result (λ tried. length (ready.new.items ++ option_to_list tried.frame) ≡ length ready.old.items + sleeper_count (sleepers_at asleep.old number)) }
+    ensures gone { AreOnlySleepers asleep.old asleep.new number None }
 {
     asleep.wake_all(ready, number)?;
     let frame = ready.pop();
@@ -121,7 +121,7 @@ fn has_to_wait<B: Body, Q: Queues>(
 ) -> Result<Tried<B, Q>, NoMemory>
     // what is answered, and that all frames stay of their run
     ensures tried { IfOk result (λ tried. IsOneTry tried.turn) }
-    ensures frame { (plan : Plan B B.Local) (run : List ℕ) → IsOfRun (ends_of Q.Ends.LocalEnds) plan run frame → SleepersAreOfRun (ends_of Q.Ends.LocalEnds) plan run asleep.old
+    ensures frame { (plan : Plan B B.Local) (run : List ℕ) → IsOfRun (ends_of Q.Ends.LocalEnds) plan run frame → AsleepIsOfRun (ends_of Q.Ends.LocalEnds) plan run asleep.old
         → AreOfRun (ends_of Q.Ends.LocalEnds) plan run ready.old.items → IfOk result (λ tried. IfSome tried.frame (IsOfRun (ends_of Q.Ends.LocalEnds) plan run)) }
     ensures kept { KeepsOfRun (ends_of Q.Ends.LocalEnds) (frame ∷ []) asleep.old asleep.new ready.old.items ready.new.items }
 
@@ -155,7 +155,7 @@ pub(crate) fn try_by_core<B: Body, Q: Queues>(
     requires frame { IsOfRun (ends_of Q.Ends.LocalEnds) core.old.plan core.old.run frame }
     requires mark { frame.mark ≡ true }
     requires body { body.now ≡ core.old.plan.body }
-    requires asleep { SleepersAreOfRun (ends_of Q.Ends.LocalEnds) core.old.plan core.old.run asleep.old }
+    requires asleep { AsleepIsOfRun (ends_of Q.Ends.LocalEnds) core.old.plan core.old.run asleep.old }
     requires ready { AreOfRun (ends_of Q.Ends.LocalEnds) core.old.plan core.old.run ready.old.items }
 
     // what is answered
@@ -163,7 +163,7 @@ pub(crate) fn try_by_core<B: Body, Q: Queues>(
     ensures frame { IfOk result (λ tried. IfSome tried.frame (IsOfRun (ends_of Q.Ends.LocalEnds) core.old.plan core.old.run)) }
 
     // what it leaves
-    ensures asleep { SleepersAreOfRun (ends_of Q.Ends.LocalEnds) core.old.plan core.old.run asleep.new }
+    ensures asleep { AsleepIsOfRun (ends_of Q.Ends.LocalEnds) core.old.plan core.old.run asleep.new }
     ensures ready { AreOfRun (ends_of Q.Ends.LocalEnds) core.old.plan core.old.run ready.new.items }
     ensures plan { core.new.plan ≡ core.old.plan }
     ensures run { core.new.run ≡ core.old.run }

@@ -1,6 +1,6 @@
 use Rattle.task_frames.specs.Resumes.{ends_of}
 use Rattle.swan_runtime.proofs.Bedding.{has_entered}
-use Rattle.swan_runtime.proofs.Waking.{empty_row, row_inserted, rows_same}
+use Rattle.swan_runtime.proofs.Waking.{all_same, no_sleepers, sleepers_inserted}
 use Rattle.swan_runtime.proofs.asleep.Asleep.enter.Goals as goal
 
 pub returns-in_err-before-clause-kept : goal.returns-in_err-before-clause-kept
@@ -12,7 +12,7 @@ returns-in_err-before-clause-kept g c = record {
 pub returns-in_err-insert-clause-kept : goal.returns-in_err-insert-clause-kept
 returns-in_err-insert-clause-kept g c = record {
   asleep = λ plan run new are.
-      record { each = rows_same (ends_of g.Q.Ends.LocalEnds) plan run _ _ c.in_err-insert.ensures.err (c.spawns.ensures.own plan run (c.wake_given.ensures.kept.asleep plan run new are)).each };
+      record { each = all_same (ends_of g.Q.Ends.LocalEnds) plan run _ _ c.in_err-insert.ensures.err (c.spawns.ensures.own plan run (c.wake_given.ensures.kept.asleep plan run new are)).each };
   ready = λ plan run new are too. c.wake_given.ensures.kept.ready plan run new are too;
 }
 
@@ -22,13 +22,13 @@ returns-clause-kept g c =
     record {
       asleep = λ plan run new are.
           record {
-            each = row_inserted of plan run _ _ c.args.child c.new.result c.in_ok-insert.ensures.entries (c.spawns.ensures.own plan run (c.wake_given.ensures.kept.asleep plan run new are)).each
-                (empty_row of plan run c.new.result c.new.ensures.at_end c.new.ensures.at_push);
+            each = sleepers_inserted of plan run _ _ c.args.child c.new.result c.in_ok-insert.ensures.entries (c.spawns.ensures.own plan run (c.wake_given.ensures.kept.asleep plan run new are)).each
+                (no_sleepers of plan run c.new.result c.new.ensures.at_end c.new.ensures.at_push);
           };
       ready = λ plan run new are too. c.wake_given.ensures.kept.ready plan run new are too;
     }
 
 pub returns-clause-entered : goal.returns-clause-entered
 returns-clause-entered g c =
-    has_entered _ _ c.spawns.new.self _ c.args.parent c.args.child c.args.holdings.now _ c.new.result c.wake_given.ensures.rows c.in_ok-wake_given.ensures.woken c.in_ok-before.ensures.noted c.spawns.ensures.others
+    has_entered _ _ c.spawns.new.self _ c.args.parent c.args.child c.args.holdings.now _ c.new.result c.wake_given.ensures.sleepers c.in_ok-wake_given.ensures.woken c.in_ok-before.ensures.noted c.spawns.ensures.others
     c.in_ok-before.ensures.before c.new.ensures c.in_ok-insert.ensures.updates

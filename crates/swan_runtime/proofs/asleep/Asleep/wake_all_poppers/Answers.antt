@@ -1,9 +1,9 @@
 use Rattle.std.proofs.Common.{rules, Some, ap, subst, sym}
 use Rattle.std.proofs.lemmas.Result.{on_ok_weaker}
 use Rattle.task_frames.specs.Resumes.{ends_of}
-use Rattle.swan_runtime.proofs.Bedding.{none_woke, only_row, row_woke}
+use Rattle.swan_runtime.proofs.Bedding.{none_woke, only_sleepers, sleepers_woke}
 use Rattle.swan_runtime.specs.Beds.{NoneAwaits}
-use Rattle.swan_runtime.proofs.Waking.{row_found, row_set}
+use Rattle.swan_runtime.proofs.Waking.{sleepers_found, sleepers_set}
 use Rattle.swan_runtime.proofs.asleep.Asleep.wake_all_poppers.Goals as goal
 
 pub returns-in-Some-clause-kept : goal.returns-in-Some-clause-kept
@@ -11,10 +11,10 @@ returns-in-Some-clause-kept g c =
     let of = ends_of g.Q.Ends.LocalEnds in
     record {
       asleep = λ plan run new are.
-          let was = row_found of plan run c.args.self.now.rows.entries _ c.in-Some.row.now c.in-Some.ensures.value are.each in
-          record { each = row_set of plan run c.args.self.now.rows.entries _ _ c.wakes_poppers.new.self (c.get_mut.follows.holds c.wakes_poppers.new.self).0 are.each (c.wakes_poppers.ensures.own plan run was) };
+          let was = sleepers_found of plan run c.args.self.now.sleepers.entries _ c.in-Some.sleepers.now c.in-Some.ensures.value are.each in
+          record { each = sleepers_set of plan run c.args.self.now.sleepers.entries _ _ c.wakes_poppers.new.self (c.get_mut.follows.holds c.wakes_poppers.new.self).0 are.each (c.wakes_poppers.ensures.own plan run was) };
       ready = λ plan run new are ready.
-          c.wakes_poppers.ensures.ready plan run (row_found of plan run c.args.self.now.rows.entries _ c.in-Some.row.now c.in-Some.ensures.value are.each) ready;
+          c.wakes_poppers.ensures.ready plan run (sleepers_found of plan run c.args.self.now.sleepers.entries _ c.in-Some.sleepers.now c.in-Some.ensures.value are.each) ready;
     }
 
 pub returns-in-Some-clause-woken : goal.returns-in-Some-clause-woken
@@ -22,10 +22,10 @@ returns-in-Some-clause-woken g c =
     let updates = (c.get_mut.follows.holds c.wakes_poppers.new.self).3 (search rules) in
     on_ok_weaker c.wakes_poppers.result (λ none queue. subst (NoneAwaits queue) (sym updates.1) (none queue)) c.wakes_poppers.ensures.woken
 
-pub returns-in-Some-clause-rows : goal.returns-in-Some-clause-rows
-returns-in-Some-clause-rows g c =
+pub returns-in-Some-clause-sleepers : goal.returns-in-Some-clause-sleepers
+returns-in-Some-clause-sleepers g c =
     let updates = (c.get_mut.follows.holds c.wakes_poppers.new.self).3 (search rules) in
-    row_woke c.args.number _ _ c.in-Some.row.now c.wakes_poppers.new.self c.in-Some.ensures.value (only_row _ _ c.args.number (Some c.wakes_poppers.new.self) updates.1 updates.2) c.wakes_poppers.ensures.notes c.wakes_poppers.ensures.none_more
+    sleepers_woke c.args.number _ _ c.in-Some.sleepers.now c.wakes_poppers.new.self c.in-Some.ensures.value (only_sleepers _ _ c.args.number (Some c.wakes_poppers.new.self) updates.1 updates.2) c.wakes_poppers.ensures.notes c.wakes_poppers.ensures.none_more
 
-pub returns-in-None-clause-rows : goal.returns-in-None-clause-rows
-returns-in-None-clause-rows g c = none_woke c.args.number _ _ (ap (λ m. m.entries) c.get_mut.follows.holds-at-none)
+pub returns-in-None-clause-sleepers : goal.returns-in-None-clause-sleepers
+returns-in-None-clause-sleepers g c = none_woke c.args.number _ _ (ap (λ m. m.entries) c.get_mut.follows.holds-at-none)

@@ -7,5 +7,5 @@ use Rattle.swan_runtime.proofs.asleep.Asleep.wake_asked.Goals as goal
 pub returns-in-None-clause-kept : goal.returns-in-None-clause-kept
 returns-in-None-clause-kept g c = still_kept (ends_of g.Q.Ends.LocalEnds) [] _ _
 
-pub returns-in-None-clause-rows : goal.returns-in-None-clause-rows
-returns-in-None-clause-rows g c = none_woke c.args.number _ _ refl
+pub returns-in-None-clause-sleepers : goal.returns-in-None-clause-sleepers
+returns-in-None-clause-sleepers g c = none_woke c.args.number _ _ refl

@@ -7,5 +7,5 @@ use Rattle.swan_runtime.proofs.asleep.Asleep.wake_at.Goals as goal
 pub returns-else-allows-clause-kept : goal.returns-else-allows-clause-kept
 returns-else-allows-clause-kept g c = still_kept (ends_of g.Q.Ends.LocalEnds) [] _ _
 
-pub returns-else-allows-clause-rows : goal.returns-else-allows-clause-rows
-returns-else-allows-clause-rows g c = none_woke c.args.number _ _ refl
+pub returns-else-allows-clause-sleepers : goal.returns-else-allows-clause-sleepers
+returns-else-allows-clause-sleepers g c = none_woke c.args.number _ _ refl

@@ -7,19 +7,19 @@ use Rattle.swan_runtime.proofs.asleep.Asleep.wake_given.Goals as goal
 pub loop-holding-init : goal.loop-holding-init
 loop-holding-init g c = record {
   kept = still_kept (ends_of g.Q.Ends.LocalEnds) [] _ _;
-  rows = none_woke c.args.number _ _ refl;
+  sleepers = none_woke c.args.number _ _ refl;
   woken = λ queue held. absurd (cc);
 }
 
 pub loop-holding-preserved : goal.loop-holding-preserved
 loop-holding-preserved g c = record {
   kept = kept_on (ends_of g.Q.Ends.LocalEnds) [] _ _ _ _ _ _ c.loop-holding.invariant.kept c.wake_at.ensures.kept;
-  rows = woke_on c.args.number _ _ _ c.loop-holding.invariant.rows c.wake_at.ensures.rows;
-  woken = woken_more c.args.holdings.now c.loop-holding.holding-index _ _ _ (search rules) (search rules) c.wake_at.ensures.rows.none_more c.loop-holding.invariant.woken c.in_ok-wake_at.ensures.woken;
+  sleepers = woke_on c.args.number _ _ _ c.loop-holding.invariant.sleepers c.wake_at.ensures.sleepers;
+  woken = woken_more c.args.holdings.now c.loop-holding.holding-index _ _ _ (search rules) (search rules) c.wake_at.ensures.sleepers.none_more c.loop-holding.invariant.woken c.in_ok-wake_at.ensures.woken;
 }
 
 pub returns-in_err-wake_at-clause-kept : goal.returns-in_err-wake_at-clause-kept
 returns-in_err-wake_at-clause-kept g c = kept_on (ends_of g.Q.Ends.LocalEnds) [] _ _ _ _ _ _ c.loop-holding.invariant.kept c.wake_at.ensures.kept
 
-pub returns-in_err-wake_at-clause-rows : goal.returns-in_err-wake_at-clause-rows
-returns-in_err-wake_at-clause-rows g c = woke_on c.args.number _ _ _ c.loop-holding.invariant.rows c.wake_at.ensures.rows
+pub returns-in_err-wake_at-clause-sleepers : goal.returns-in_err-wake_at-clause-sleepers
+returns-in_err-wake_at-clause-sleepers g c = woke_on c.args.number _ _ _ c.loop-holding.invariant.sleepers c.wake_at.ensures.sleepers

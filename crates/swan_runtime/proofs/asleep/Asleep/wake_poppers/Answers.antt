@@ -1,7 +1,7 @@
 use Rattle.std.proofs.Common.{rules, Some, ap}
 use Rattle.task_frames.specs.Resumes.{ends_of}
-use Rattle.swan_runtime.proofs.Bedding.{none_woke, only_row, row_woke, woken_there}
-use Rattle.swan_runtime.proofs.Waking.{row_found, row_set}
+use Rattle.swan_runtime.proofs.Bedding.{none_woke, only_sleepers, sleepers_woke, woken_there}
+use Rattle.swan_runtime.proofs.Waking.{sleepers_found, sleepers_set}
 use Rattle.swan_runtime.proofs.asleep.Asleep.wake_poppers.Goals as goal
 
 pub returns-in-Some-clause-kept : goal.returns-in-Some-clause-kept
@@ -9,10 +9,10 @@ returns-in-Some-clause-kept g c =
     let of = ends_of g.Q.Ends.LocalEnds in
     record {
       asleep = λ plan run new are.
-          let was = row_found of plan run c.args.self.now.rows.entries _ c.in-Some.row.now c.in-Some.ensures.value are.each in
-          record { each = row_set of plan run c.args.self.now.rows.entries _ _ c.wakes.new.self (c.get_mut.follows.holds c.wakes.new.self).0 are.each (c.wakes.ensures.own plan run was) };
+          let was = sleepers_found of plan run c.args.self.now.sleepers.entries _ c.in-Some.sleepers.now c.in-Some.ensures.value are.each in
+          record { each = sleepers_set of plan run c.args.self.now.sleepers.entries _ _ c.wakes.new.self (c.get_mut.follows.holds c.wakes.new.self).0 are.each (c.wakes.ensures.own plan run was) };
       ready = λ plan run new are ready.
-          c.wakes.ensures.ready plan run (row_found of plan run c.args.self.now.rows.entries _ c.in-Some.row.now c.in-Some.ensures.value are.each) ready;
+          c.wakes.ensures.ready plan run (sleepers_found of plan run c.args.self.now.sleepers.entries _ c.in-Some.sleepers.now c.in-Some.ensures.value are.each) ready;
     }
 
 pub returns-in-Some-clause-woken : goal.returns-in-Some-clause-woken
@@ -20,10 +20,10 @@ returns-in-Some-clause-woken g c =
     let updates = (c.get_mut.follows.holds c.wakes.new.self).3 (search rules) in
     woken_there c.wakes.result c.args.queue _ c.wakes.new.self updates.1 c.wakes.ensures.woken
 
-pub returns-in-Some-clause-rows : goal.returns-in-Some-clause-rows
-returns-in-Some-clause-rows g c =
+pub returns-in-Some-clause-sleepers : goal.returns-in-Some-clause-sleepers
+returns-in-Some-clause-sleepers g c =
     let updates = (c.get_mut.follows.holds c.wakes.new.self).3 (search rules) in
-    row_woke c.args.number _ _ c.in-Some.row.now c.wakes.new.self c.in-Some.ensures.value (only_row _ _ c.args.number (Some c.wakes.new.self) updates.1 updates.2) c.wakes.ensures.notes c.wakes.ensures.none_more
+    sleepers_woke c.args.number _ _ c.in-Some.sleepers.now c.wakes.new.self c.in-Some.ensures.value (only_sleepers _ _ c.args.number (Some c.wakes.new.self) updates.1 updates.2) c.wakes.ensures.notes c.wakes.ensures.none_more
 
-pub returns-in-None-clause-rows : goal.returns-in-None-clause-rows
-returns-in-None-clause-rows g c = none_woke c.args.number _ _ (ap (λ m. m.entries) c.get_mut.follows.holds-at-none)
+pub returns-in-None-clause-sleepers : goal.returns-in-None-clause-sleepers
+returns-in-None-clause-sleepers g c = none_woke c.args.number _ _ (ap (λ m. m.entries) c.get_mut.follows.holds-at-none)

@@ -2,8 +2,8 @@
 ghost use Rattle.std.specs.Prelude.{◌≡◌, ◌+◌, ℕ, List, Some, IfOk, OnOk, OnErr, vec_len};
 ghost use Rattle.swan_model.specs.declared.plan.Plan.{Plan};
 ghost use Rattle.task_frames.specs.Resumes.{ends_of};
-ghost use Rattle.swan_runtime.specs.Beds.{HasNoted, HasSameNotes, HasSameSleepers, IsNewRow, NoneAwaits, popper_at, poppers_of};
-ghost use Rattle.swan_runtime.specs.Shared.{AreOfRun, HasTakenIn, RowIsOfRun, sleepers};
+ghost use Rattle.swan_runtime.specs.Beds.{AreNewSleepers, HasNoted, HasSameNotes, HasSameSleepers, NoneAwaits, popper_at, poppers_of};
+ghost use Rattle.swan_runtime.specs.Shared.{AreOfRun, AreSleepersOfRun, HasTakenIn, sleeper_count};
 
 use queues::{Queues, WaitFor};
 use std::alloc::Global;
@@ -22,7 +22,7 @@ pub struct Popper<B: Body, Q: Queues> {
 
 /// What sleeps under one live frame, and what tells under whom others may sleep.
 #[derive(Drop)]
-pub struct Row<B: Body, Q: Queues> {
+pub struct Sleepers<B: Body, Q: Queues> {
     /// Who sleeps until it ends.
     pub at_end: Vec<Frame<B, Q>>,
     /// Who sleeps until it pushes, or ends.
@@ -35,12 +35,12 @@ pub struct Row<B: Body, Q: Queues> {
     pub before: Vec<u64>,
 }
 
-impl<B: Body, Q: Queues> Row<B, Q> {
+impl<B: Body, Q: Queues> Sleepers<B, Q> {
     /// Nothing, for a frame before which these were given what it pops. It takes no memory. `O(1)`.
-    pub fn new(alloc: Global, before: Vec<u64>) -> Row<B, Q>
-        ensures { IsNewRow result before.items }
+    pub fn new(alloc: Global, before: Vec<u64>) -> Sleepers<B, Q>
+        ensures { AreNewSleepers result before.items }
     {
-        Row {
+        Sleepers {
             at_end: Vec::new(alloc),
             at_push: Vec::new(alloc),
             newest: None,
@@ -128,9 +128,9 @@ impl<B: Body, Q: Queues> Row<B, Q> {
     /// a queue is pushed to.
     pub fn wakes(&mut self, ready: &mut Vec<Frame<B, Q>>, queue: u32) -> Result<(), NoMemory>
         // that all frames stay of their run
-        ensures own { (plan : Plan B B.Local) (run : List ℕ) → RowIsOfRun (ends_of Q.Ends.LocalEnds) plan run self.old
-            → RowIsOfRun (ends_of Q.Ends.LocalEnds) plan run self.new }
-        ensures ready { (plan : Plan B B.Local) (run : List ℕ) → RowIsOfRun (ends_of Q.Ends.LocalEnds) plan run self.old
+        ensures own { (plan : Plan B B.Local) (run : List ℕ) → AreSleepersOfRun (ends_of Q.Ends.LocalEnds) plan run self.old
+            → AreSleepersOfRun (ends_of Q.Ends.LocalEnds) plan run self.new }
+        ensures ready { (plan : Plan B B.Local) (run : List ℕ) → AreSleepersOfRun (ends_of Q.Ends.LocalEnds) plan run self.old
             → AreOfRun (ends_of Q.Ends.LocalEnds) plan run ready.old.items → AreOfRun (ends_of Q.Ends.LocalEnds) plan run ready.new.items }
 
         // who wakes, and that none is lost
@@ -157,9 +157,9 @@ impl<B: Body, Q: Queues> Row<B, Q> {
     /// Lets all be ready that sleep here until a queue is pushed to. Err is want of memory. `O(1)`, amortised, for each of them.
     pub fn wakes_poppers(&mut self, ready: &mut Vec<Frame<B, Q>>) -> Result<(), NoMemory>
         // that all frames stay of their run
-        ensures own { (plan : Plan B B.Local) (run : List ℕ) → RowIsOfRun (ends_of Q.Ends.LocalEnds) plan run self.old
-            → RowIsOfRun (ends_of Q.Ends.LocalEnds) plan run self.new }
-        ensures ready { (plan : Plan B B.Local) (run : List ℕ) → RowIsOfRun (ends_of Q.Ends.LocalEnds) plan run self.old
+        ensures own { (plan : Plan B B.Local) (run : List ℕ) → AreSleepersOfRun (ends_of Q.Ends.LocalEnds) plan run self.old
+            → AreSleepersOfRun (ends_of Q.Ends.LocalEnds) plan run self.new }
+        ensures ready { (plan : Plan B B.Local) (run : List ℕ) → AreSleepersOfRun (ends_of Q.Ends.LocalEnds) plan run self.old
             → AreOfRun (ends_of Q.Ends.LocalEnds) plan run ready.old.items → AreOfRun (ends_of Q.Ends.LocalEnds) plan run ready.new.items }
 
         // who wakes, and that none is lost
@@ -179,13 +179,13 @@ impl<B: Body, Q: Queues> Row<B, Q> {
 
     /// Lets all that sleep here be ready. Err is want of memory. `O(1)`, amortised, for each of them.
     pub fn wakes_all(self, ready: &mut Vec<Frame<B, Q>>) -> Result<(), NoMemory>
-        ensures ready { (plan : Plan B B.Local) (run : List ℕ) → RowIsOfRun (ends_of Q.Ends.LocalEnds) plan run self
+        ensures ready { (plan : Plan B B.Local) (run : List ℕ) → AreSleepersOfRun (ends_of Q.Ends.LocalEnds) plan run self
             → AreOfRun (ends_of Q.Ends.LocalEnds) plan run ready.old.items → AreOfRun (ends_of Q.Ends.LocalEnds) plan run ready.new.items }
-        ensures none_lost { OnOk result (vec_len ready.new ≡ vec_len ready.old + sleepers (Some self)) }
+        ensures none_lost { OnOk result (vec_len ready.new ≡ vec_len ready.old + sleeper_count (Some self)) }
     {
-        let mut row = self;
-        row.wakes_poppers(ready)?;
-        ready.append(&mut row.at_end)?;
+        let mut sleepers = self;
+        sleepers.wakes_poppers(ready)?;
+        ready.append(&mut sleepers.at_end)?;
         Ok(())
     }
 }

@@ -3,8 +3,8 @@ use Rattle.std.proofs.lemmas.List.{append-nil}
 use Rattle.std.specs.Option.{option_to_list}
 use Rattle.swan_runtime.specs.Beds.{poppers_of}
 use Rattle.swan_runtime.proofs.Bedding.{poppers_more}
-use Rattle.swan_runtime.proofs.row.Row.poppers_of.Goals as goal
-use Rattle.swan_runtime.proofs.row.Row.poppers_of.Goals.{in-Some+in_ok-push, in_default}
+use Rattle.swan_runtime.proofs.sleepers.Sleepers.poppers_of.Goals as goal
+use Rattle.swan_runtime.proofs.sleepers.Sleepers.poppers_of.Goals.{in-Some+in_ok-push, in_default}
 
 pub loop-holding-preserved : goal.loop-holding-preserved
 loop-holding-preserved g c =

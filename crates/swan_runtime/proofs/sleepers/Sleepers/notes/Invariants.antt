@@ -1,6 +1,6 @@
 use Rattle.std.proofs.Common.{take}
 use Rattle.swan_runtime.specs.Beds.{HasSameSleepers, IsNoted}
-use Rattle.swan_runtime.proofs.row.Row.notes.Given as goal
+use Rattle.swan_runtime.proofs.sleepers.Sleepers.notes.Given as goal
 
 abbrev pub invariant-loop-holding : goal.invariant-loop-holding
 invariant-loop-holding g l = record {

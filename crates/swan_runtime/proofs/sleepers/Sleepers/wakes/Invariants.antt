@@ -2,14 +2,14 @@ use Rattle.std.proofs.Common.{◌≡◌, ◌≢◌, ℕ, ◌+◌, ◌-◌, ◌<�
 use Rattle.swan_model.specs.declared.plan.Plan.{Plan}
 use Rattle.task_frames.specs.Resumes.{ends_of}
 use Rattle.swan_runtime.specs.Beds.{HasSameNotes, NoneAwaits}
-use Rattle.swan_runtime.specs.Shared.{AreOfRun, RowIsOfRun}
-use Rattle.swan_runtime.proofs.row.Row.wakes.Given as goal
+use Rattle.swan_runtime.specs.Shared.{AreOfRun, AreSleepersOfRun}
+use Rattle.swan_runtime.proofs.sleepers.Sleepers.wakes.Given as goal
 
 abbrev pub invariant-loop-place : goal.invariant-loop-place
 invariant-loop-place g l =
     (l.place ≤ vec_len l.self.at_push)
-    × ((plan : Plan g.row.B.Denot g.row.B-Local.Denot) (run : List ℕ) → RowIsOfRun (ends_of g.Q.Ends.LocalEnds) plan run l.fn.self → RowIsOfRun (ends_of g.Q.Ends.LocalEnds) plan run l.self)
-    × ((plan : Plan g.row.B.Denot g.row.B-Local.Denot) (run : List ℕ) → RowIsOfRun (ends_of g.Q.Ends.LocalEnds) plan run l.fn.self
+    × ((plan : Plan g.row.B.Denot g.row.B-Local.Denot) (run : List ℕ) → AreSleepersOfRun (ends_of g.Q.Ends.LocalEnds) plan run l.fn.self → AreSleepersOfRun (ends_of g.Q.Ends.LocalEnds) plan run l.self)
+    × ((plan : Plan g.row.B.Denot g.row.B-Local.Denot) (run : List ℕ) → AreSleepersOfRun (ends_of g.Q.Ends.LocalEnds) plan run l.fn.self
     → AreOfRun (ends_of g.Q.Ends.LocalEnds) plan run l.fn.ready.items → AreOfRun (ends_of g.Q.Ends.LocalEnds) plan run l.ready.items)
     × ((other : ℕ) → NoneAwaits other (Some l.fn.self) → NoneAwaits other (Some l.self)) × HasSameNotes l.fn.self l.self
     × ((k : ℕ) (d : _) → k < l.place → (slice_index_or l.self.at_push.items k d).queue ≢ l.queue)
