@@ -10,7 +10,7 @@ use Rattle.object_versions.specs.declared.node.Node.{Node}
 use Rattle.object_versions.specs.declared.node.NodeState.{NodeState}
 use Rattle.object_versions.specs.declared.node.NodeState.TheVariants.{Settled, Owed}
 use Rattle.object_versions.specs.declared.placed_object.PlacedObject.{PlacedObject}
-use Rattle.object_versions.specs.Store.{Entries, place_at, told_of, version_of, version_at, object_at, versions_of, uses, uses_in, state_settled}
+use Rattle.object_versions.specs.Store.{Entries, place_at, told_of, version_of, version_at, object_at, versions_of, uses, uses_in, state_after_settle}
 use Rattle.object_versions.specs.Whole.{IsFit, IsWhole}
 use Rattle.object_versions.specs.Ending.{IsSettling, OwesNoMore, IsPaid}
 use Rattle.object_versions.proofs.Counts.{counted_after, told_here, told_elsewhere, HasNode, used, uses_at, present_used, owes_used}
@@ -25,16 +25,16 @@ reads_no_owing nodes key value frame reads owes = settled_not-owed value frame (
 
 -- ---- a state and the value that it gets
 
-never_owes : (s : NodeState) (v : Value) (m : ℕ) → version_of (state_settled s v) ≡ owed m → ⊥
+never_owes : (s : NodeState) (v : Value) (m : ℕ) → version_of (state_after_settle s v) ≡ owed m → ⊥
 never_owes (Settled w) v m e = settled_not-owed w m e
 never_owes (Owed f) v m e = settled_not-owed v m e
 
-stays_settled : (s : NodeState) (v w : Value) → version_of s ≡ settled w → version_of (state_settled s v) ≡ settled w
+stays_settled : (s : NodeState) (v w : Value) → version_of s ≡ settled w → version_of (state_after_settle s v) ≡ settled w
 stays_settled (Settled u) v w e = e
 stays_settled (Owed f) v w e = absurd (settled_not-owed w f (sym e))
 
 settles_so : (s : NodeState) (v : Value) (state : VersionState) (n o : ℕ) → left_by state n o ≡ Some (settled v) → ((m : ℕ) → version_of s ≡ owed m → m ≡ n)
-    → settle state n o (version_of (state_settled s v)) ≡ settle state n o (version_of s)
+    → settle state n o (version_of (state_after_settle s v)) ≡ settle state n o (version_of s)
 settles_so (Settled u) v state n o left by = refl
 settles_so (Owed f) v state n o left by =
     let test : (f == n) ≡ true = eq-eqb f n (by f refl) in
@@ -56,7 +56,7 @@ module _ (entries : Entries) (start now : Slab Node) (made n : ℕ) (begun : IsS
 
 module _ (entries : Entries) (start now next : Slab Node) (made n q : ℕ) (has : PlacedObject) (key : ℕ) (value : Value) (begun : IsSettling entries start now made n)
     (stands : place_at entries n q ≡ Some has) (owes : has.owes ≡ Some key) (reads : version_at now has.present ≡ settled value)
-    (change : (node : Node) → get now key ≡ Some node → Updates now next key (Some (record node { state = state_settled node.state value }))) where
+    (change : (node : Node) → get now key ≡ Some node → Updates now next key (Some (record node { state = state_after_settle node.state value }))) where
   owes_use : 0 < uses key entries
   owes_use = let most = uses_at entries key n q has stands in let here = owes_used has key owes in omega arith
 
@@ -67,15 +67,15 @@ module _ (entries : Entries) (start now next : Slab Node) (made n q : ℕ) (has 
   node = found.node
 
   after : Node
-  after = record found.node { state = state_settled found.node.state value }
+  after = record found.node { state = state_after_settle found.node.state value }
 
-  update : Updates now next key (Some (record found.node { state = state_settled found.node.state value }))
+  update : Updates now next key (Some (record found.node { state = state_after_settle found.node.state value }))
   update = change found.node found.is
 
   version_now : version_at now key ≡ version_of found.node.state
   version_now = ap (λ o. (told_of o).1) found.is
 
-  version_next : version_at next key ≡ version_of (state_settled found.node.state value)
+  version_next : version_at next key ≡ version_of (state_after_settle found.node.state value)
   version_next = ap (λ t. t.1) (told_here now next key _ update)
 
   same_object : (k : ℕ) → object_at next k ≡ object_at now k
@@ -136,7 +136,7 @@ module _ (entries : Entries) (start now next : Slab Node) (made n q : ℕ) (has 
     counted = counted_after now next key _ update (λ k. uses k entries + 0) (λ k. uses k entries + 0) begun.whole.counted (λ k apart. refl)
         (sym (ap uses_in found.is) ∙ begun.whole.counted.exact key)
         (λ other is. let P : Node → Type 0 = λ o. 0 < o.uses in
-        subst P (same_Some (record found.node { state = state_settled found.node.state value }) other is) (begun.whole.counted.live key found.node found.is));
+        subst P (same_Some (record found.node { state = state_after_settle found.node.state value }) other is) (begun.whole.counted.live key found.node found.is));
     fits = fit_next;
     owing = λ k m h is. begun.whole.owing k m h (owed_before k m is);
     alone = begun.whole.alone;

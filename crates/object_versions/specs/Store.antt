@@ -90,6 +90,6 @@ abbrev pub after_release : Node → Option Node
 after_release node = if nat_lt 1 node.uses then Some (record node { uses = node.uses - 1 }) else None
 
 -- an owed version gets its value, and a settled one keeps it
-abbrev pub state_settled : NodeState → Value → NodeState
-state_settled (Settled kept) value = Settled kept
-state_settled (Owed frame) value = Settled value
+abbrev pub state_after_settle : NodeState → Value → NodeState
+state_after_settle (Settled kept) value = Settled kept
+state_after_settle (Owed frame) value = Settled value

@@ -2,7 +2,7 @@
 ghost use Rattle.std.specs.Prelude.{◌≡◌, ◌↔◌, ◌+◌, ◌<◌, ◌^◌, IsTrue, IfOk, IfErr, IsSome, Some, None};
 ghost use Rattle.slab.specs.Slab.{get, Updates};
 ghost use Rattle.swan_model.specs.Versions.{settled, owed};
-ghost use Rattle.object_versions.specs.Store.{version_at, uses_in, after_release, state_settled};
+ghost use Rattle.object_versions.specs.Store.{version_at, uses_in, after_release, state_after_settle};
 ghost use Rattle.object_versions.specs.declared.node.Node.{Node as TheNode};
 ghost use Rattle.object_versions.specs.declared.node.NodeState.TheVariants.{Settled};
 
@@ -62,7 +62,7 @@ pub fn release(nodes: &mut Slab<Node>, key: usize)
 /// Gives a version its value where a frame owes it. `O(1)`; it takes no memory.
 pub fn settle(nodes: &mut Slab<Node>, key: usize, value: Value)
     requires { IsSome (get nodes.old key) }
-    ensures { (node : TheNode) → get nodes.old key ≡ Some node → Updates nodes.old nodes.new key (Some (record node { state = state_settled node.state value })) }
+    ensures { (node : TheNode) → get nodes.old key ≡ Some node → Updates nodes.old nodes.new key (Some (record node { state = state_after_settle node.state value })) }
 {
     let Some(node) = nodes.get_mut(key) else {
         unreachable!()
