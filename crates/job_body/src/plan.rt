@@ -76,8 +76,12 @@ fn items_of(alloc: Global, number: u64, input: &Blob) -> Result<Values, PlanAnsw
 fn fill(alloc: Global, lines: &[Line], inputs: &[Blob]) -> Result<Roots, PlanAnswer>
     requires inputs { length inputs.now ≡ input_count lines.now }
     requires few { length lines.now ≤ ROOTS_MOST }
+
+    // what the roots are
     ensures queues { IfOk result (λ roots. roots.queues ≡ root_queues (top_lines lines.now) inputs.now) }
     ensures objects { IfOk result (λ roots. roots.objects ≡ root_objects (top_lines lines.now)) }
+
+    // and when there are none
     ensures accepted { IfOk result (λ _. first_refused 1 inputs.now ≡ None) }
     ensures refused { IfErr result (λ why. (why ≡ answer.NoMemory) ⊎ (first_refused 1 inputs.now ≡ Some why)) }
 {
@@ -114,8 +118,12 @@ pub fn plan_of(
     fuel: u64,
 ) -> Result<Plan<JobBody>, PlanAnswer>
     requires { fuel ≤ FUEL_MOST }
+
+    // what the plan is
     ensures plan { IfOk result (λ plan. plan ≡ plan_of_job job inputs.items fuel) }
     ensures rights { IfOk result (λ plan. KeepsRights ⟦<JobBody as Body>⟧ plan) }
+
+    // and when there is none
     ensures accepted { IfOk result (λ _. refusal_of_plan job inputs.items ≡ None) }
     ensures refused { IfErr result (λ why. (why ≡ answer.NoMemory) ⊎ (refusal_of_plan job inputs.items ≡ Some why)) }
 {

@@ -131,9 +131,12 @@ impl<S: Named> NamedLock<S> {
     /// Gives the state back, by the seat that took it. It has the name of the lock, and is done where it was done
     /// when it was taken or when `finish` was called on it. It takes no memory. `O(1)`: one store, and a move of the state.
     pub fn give(&self, seat: &mut LockSeat<S>, held: Held<S>)
+        // what goes back, and by whose seat
         requires seat { IsSeatOf self.now true seat.old × IsHeldBy seat.old held }
         requires name { S.name held.state ≡ lock_name self.now }
         requires done { (knows seat.old).owes_done ≡ true → S.done held.state ≡ true }
+
+        // the seat holds nothing then
         ensures same { IsSameSeat seat.old seat.new }
         ensures free { IsSeatOf self.now false seat.new }
         ensures knows { knows seat.new ≡ record (knows seat.old) { holding = false; owes_done = false } }
@@ -168,9 +171,12 @@ impl<S: Named> NamedLock<S> {
     /// Whether the sign is Done, by one load. Once it is, each state that this seat takes, and the one that `close`
     /// gives, is done. It takes no memory. `O(1)`.
     pub fn is_done(&self, seat: &mut LockSeat<S>) -> bool
+        // whose seat it is
         requires { IsSeatOf self.now (knows seat.old).holding seat.old }
         ensures same { IsSameSeat seat.old seat.new }
         ensures seat { IsSeatOf self.now (knows seat.old).holding seat.new }
+
+        // what the seat knows then
         ensures knows { knows seat.new ≡ view_after_sign (knows seat.old) (knows seat.new).sign }
         ensures sign { IsTrue result ↔ ((knows seat.new).sign ≡ Done) }
         ensures again { FindsAgain seat.old seat.new }
@@ -180,9 +186,12 @@ impl<S: Named> NamedLock<S> {
 
     /// Whether the sign is Stopped, by one load. Once it is, it stays so. It takes no memory. `O(1)`.
     pub fn is_stopped(&self, seat: &mut LockSeat<S>) -> bool
+        // whose seat it is
         requires { IsSeatOf self.now (knows seat.old).holding seat.old }
         ensures same { IsSameSeat seat.old seat.new }
         ensures seat { IsSeatOf self.now (knows seat.old).holding seat.new }
+
+        // what the seat knows then
         ensures knows { knows seat.new ≡ view_after_sign (knows seat.old) (knows seat.new).sign }
         ensures sign { IsTrue result ↔ ((knows seat.new).sign ≡ Stopped) }
         ensures again { FindsAgain seat.old seat.new }

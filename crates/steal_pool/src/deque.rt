@@ -63,11 +63,16 @@ pub(crate) fn push_frame<T: Named>(own: &mut Own<T>, frame: T) -> Result<(), T>
 pub(crate) fn pop_frame<T: Named, M: Outcome<T, PoolView<T::Name>>>(
     own: &mut Own<T>,
 ) -> Result<T, Empty>
+    // how the deque stands, and what stays
     requires stage { (worker_flavor own.old ≡ 0) × ((worker_view own.old).stage ≡ 2) }
     requires empty { Finds (Pooled T.name) (worker_port own.old) (worker_view own.old) (M.empty (worker_view own.old)) }
     ensures same { (worker_flavor own.new ≡ worker_flavor own.old) × (worker_port own.new ≡ worker_port own.old) × (worker_index own.new ≤ worker_index own.old) }
+
+    // a frame
     ensures ok { IfOk result (λ frame. (worker_view own.old).name ≡ Some (T.name frame)) }
     ensures taken { OnOk result (worker_view own.new ≡ one_more (worker_view own.old)) }
+
+    // and none
     ensures empty { OnErr result ((worker_view own.new ≡ worker_view own.old) × M.empty (worker_view own.old)) }
 {
     match own.pop_as::<Takes<M>>() {

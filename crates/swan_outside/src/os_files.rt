@@ -145,10 +145,14 @@ fn append_some<R: Read>(
     into: &mut Vec<u8>,
 ) -> Result<usize, ReadAnswer>
     requires { 0 < length chunk.old }
+
+    // what a read gives
     ensures gave { IfOk result (λ n. Gave (R.remaining reader.old) (R.remaining reader.new)
         into.old.items into.new.items n) }
     ensures end { IfOk result (λ n. n ≡ 0 → IsAtEnd (R.remaining reader.new)) }
     ensures most { IfOk result (λ n. n ≤ length chunk.old) }
+
+    // and what a refusal leaves
     ensures kept { OnErr result (into.new.items ≡ into.old.items) }
     ensures not_long { result ≢ Err answer.TooLong }
 {

@@ -19,8 +19,11 @@ fn turn<B: Body, Q: Queues>(
     below: &mut Vec<Frame<B, Q>>,
     mut frame: Frame<B, Q>,
 ) -> Result<Option<Frame<B, Q>>, NoMemory>
+    // how the stack stands
     requires stack { IsStack (ends_of Q.Ends.LocalEnds) core.old (below.old.items ++ frame ∷ []) }
     requires body { body.now ≡ core.old.plan.body }
+
+    // how it stands then, and that less is left to do
     ensures stack { IfOk result (λ top. IsStack (ends_of Q.Ends.LocalEnds) core.new (below.new.items ++ option_to_list top)) }
     ensures empty { IfOk result (λ top. top ≡ None → below.new.items ≡ []) }
     ensures fewer { IfOk result (λ top. turns_left (below.new.items ++ option_to_list top) < turns_left (below.old.items ++ frame ∷ [])) }
@@ -65,8 +68,11 @@ pub fn run_alone<B: Body, Q: Queues>(
     alloc: Global,
     opened: Opened<B, Q>,
 ) -> Result<RunOutcome, NoMemory>
+    // what is opened
     requires opened { IsOpened (ends_of Q.Ends.LocalEnds) opened.core opened.root }
     requires body { opened.body.value ≡ opened.core.plan.body }
+
+    // what the run leaves
     ensures outcome { IfOk result (λ ran. ran.outcome ≡ outcome B.Body opened.core.plan) }
     ensures queues { IfOk result (λ ran. length ran.outcome.queues ≡ length opened.core.plan.roots.queues) }
     ensures objects { IfOk result (λ ran. length ran.outcome.objects ≡ length opened.core.plan.roots.objects) }

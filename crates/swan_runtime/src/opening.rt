@@ -95,9 +95,12 @@ fn workers_of<B: Body, Q: Queues>(
     opened: Opened<B, Q>,
     count: u32,
 ) -> Result<Vec<Worker<B, Q>>, NoMemory>
+    // what is opened, and how many they are to be
     requires opened { IsOpened (ends_of Q.Ends.LocalEnds) opened.core opened.root }
     requires body { opened.body.value ≡ opened.core.plan.body }
     requires some { 0 < count }
+
+    // how many there are, and that they are of one run
     ensures count { IfOk result (λ workers. vec_len workers ≡ count) }
     ensures workers { IfOk result (λ workers. AreWorkers (ends_of Q.Ends.LocalEnds) workers.items) }
     ensures plan { IfOk result (λ workers. AreWorkersOfPlan opened.core.plan workers.items) }

@@ -27,8 +27,11 @@ fn find<B: Body, Q: Queues>(
     seat: &mut LockSeat<SharedRun<B, Q>>,
     slot: &mut Option<Frame<B, Q>>,
 ) -> Option<Turn>
+    // whose seat it is
     requires seat { IsSeatOf lock.now false seat.old }
     ensures seat { IsSeatOf lock.now false seat.new × IsSameSeat seat.old seat.new }
+
+    // what is in the slot, and what is answered
     ensures frame { IfSome slot.new (IsOfRun (ends_of Q.Ends.LocalEnds) (lock_name lock.now).plan (lock_name lock.now).run) }
     ensures turn { IfSome result (λ turn. IsShownBySeat (knows seat.old) (knows seat.new) turn × (is_last turn ≡ false)) }
     ensures found { IfNone result (slot.new ≢ None) }
@@ -210,9 +213,12 @@ pub(crate) fn take_turn<B: Body, Q: Queues, G: Gate>(
     number: u32,
     gate: &G,
 ) -> Turn
+    // whose seat it is, and how the frame stands
     requires seat { IsSeatOf lock.now false seat.old }
     requires frame { IfSome slot.old (IsOfRun (ends_of Q.Ends.LocalEnds) (lock_name lock.now).plan (lock_name lock.now).run) }
     requires body { body.now ≡ (lock_name lock.now).plan.body }
+
+    // what is answered, and what it leaves
     ensures seat { IsSeatOf lock.now false seat.new × IsSameSeat seat.old seat.new }
     ensures frame { IfSome slot.new (IsOfRun (ends_of Q.Ends.LocalEnds) (lock_name lock.now).plan (lock_name lock.now).run) }
     ensures turn { IsWorkersTurn (knows seat.old) (knows seat.new) result }
