@@ -14,7 +14,7 @@ use Rattle.job_body.specs.Tasks.{Scope, before_task, executed_from, is_executed,
 use Rattle.job_body.proofs.RightsEntries.{access_entry, made_entry, roots_held, held_at, held_with, flat-more}
 use Rattle.job_body.proofs.RightsNames.{Entry, modes}
 use Rattle.job_body.proofs.RightsPlaces.{place_at, place-next, placed-from, scope-next}
-use Rattle.swan_model.proofs.Lists.{drop_next, get-drop}
+use Rattle.swan_model.proofs.Lists.{drop_next, get-drop, same_parts}
 
 -- an activation that holds by these modes may stand at a line: in a task, with what is held there
 pub record Stands (job : List Line) (i : ℕ) (held : List Mode) : Type 0 where
@@ -87,12 +87,9 @@ stands-made job i line held name mode is plain made within at =
 pub item_of_drop : {A : Type 0} (xs : List A) (i : ℕ) (x : A) (rest : List A) → drop i xs ≡ x ∷ rest → slice_get xs i ≡ Some x
 item_of_drop xs i x rest e = sym (get-drop i xs) ∙ ap (λ ys. slice_get ys 0) e
 
-tail_same : {A : Type 0} (x y : A) (xs ys : List A) → x ∷ xs ≡ y ∷ ys → xs ≡ ys
-tail_same x y xs ys e = cc
-
 pub rest_of_drop : {A : Type 0} (xs : List A) (i : ℕ) (x : A) (rest : List A) → drop i xs ≡ x ∷ rest → drop (i + 1) xs ≡ rest
 rest_of_drop xs i x rest e =
-    tail_same x x (drop (i + 1) xs) rest (sym (drop_next xs i x (item_of_drop xs i x rest e)) ∙ e)
+    (same_parts x x (drop (i + 1) xs) rest (sym (drop_next xs i x (item_of_drop xs i x rest e)) ∙ e)).1
 
 pub stands_here : (job : List Line) (i : ℕ) (line : Line) → IsPlaced First job → slice_get job i ≡ Some line → may_stand (place_at job i) line ≡ true
 stands_here job i line placed is =

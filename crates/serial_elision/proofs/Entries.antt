@@ -10,8 +10,8 @@ use Rattle.swan_model.specs.Elision.{serial, final, most_steps}
 use Rattle.swan_model.specs.Script.{entry_of, entry_on, next_entry, with_entry, entries, script}
 use Rattle.swan_model.specs.SerialState.{Activation, State}
 use Rattle.swan_model.specs.SerialStep.{step_on, effect_of}
-use Rattle.serial_elision.proofs.At.{get-append-before}
 use Rattle.swan_model.proofs.Elements.{last_more}
+use Rattle.swan_model.proofs.Lists.{get-before}
 use Rattle.serial_elision.proofs.Ends.{serial_ends}
 use Rattle.serial_elision.proofs.Runs.{steps-after, serial-over}
 use Rattle.serial_elision.proofs.Scripts.{none-over}
@@ -20,7 +20,7 @@ use Rattle.swan_model.proofs.ScriptLength.{le-entries, le_script}
 -- what stood among the entries stands there still; and one more stands at the end
 get-with-before : (es : List Entry) (more : Option Entry) (n : ℕ) → (n < length es) ⊎ (more ≡ None) → slice_get (with_entry es more) n ≡ slice_get es n
 get-with-before es None n either = refl
-get-with-before es (Some entry) n (inl within) = get-append-before es (entry ∷ []) n within
+get-with-before es (Some entry) n (inl within) = get-before es (entry ∷ []) n within
 get-with-before es (Some entry) n (inr none) = absurd (cc)
 
 get-with-at : (es : List Entry) (more : Option Entry) (n : ℕ) → length es ≤ n → (length es ≡ n) ⊎ (more ≡ None) → slice_get (with_entry es more) n ≡ more

@@ -15,8 +15,7 @@ use Rattle.swan_model.specs.SerialTime.{time}
 use Rattle.swan_model.specs.TrueFrames.{effect_at}
 use Rattle.serial_elision.specs.Laws.{AreInOrder}
 use Rattle.serial_elision.specs.TaskSteps.{IsFaultOf}
-use Rattle.swan_model.proofs.Elements.{last_more, more_cases}
-use Rattle.serial_elision.proofs.At.{get-append-before}
+use Rattle.swan_model.proofs.Elements.{before_more, last_more, more_cases}
 use Rattle.serial_elision.proofs.FaultOrder.{serial-in_order}
 use Rattle.serial_elision.proofs.Finals.{final-past}
 use Rattle.serial_elision.proofs.TaskSteps.{ends_last, next-state, stands-now, top_path}
@@ -123,7 +122,7 @@ module _ {B L : Type 0} (G : Ghosts B L) (plan : Plan B L) where
     by (goes_on a store) = at
     by (spawns parent child store) = at
     by ends = at
-    by (faults kind) = get-append-before s.faults (record { path = top.path; place = G.place_of plan.body top.local; kind = kind } ∷ []) j (slice_get_within s.faults j fault at) ∙ at
+    by (faults kind) = before_more s.faults (record { path = top.path; place = G.place_of plan.body top.local; kind = kind }) j fault at
 
   kept-more : (n k j : ℕ) (fault : Fault) → slice_get (serial G plan n).faults j ≡ Some fault → slice_get (serial G plan (n + k)).faults j ≡ Some fault
   kept-more n zero j fault at = let e : n ≡ n + 0 = omega arith in subst (λ m. slice_get (serial G plan m).faults j ≡ Some fault) e at

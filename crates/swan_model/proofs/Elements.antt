@@ -1,12 +1,13 @@
 -- What stands in a list: what is found there, and what holds of all of it.
 use Rattle.std.proofs.Common.{◌≡◌, ◌⊎◌, inl, inr, ℕ, zero, suc, ◌+◌, Bool, true, false, cond, List, [], ◌∷◌, ◌++◌, length, map, take, Option, Some, None, refl, sym, ap, ◌∙◌, arith, eqb, IsSome, is_none, is_some, subst, map-id, ◌||◌, ◌<◌, All}
-use Rattle.std.proofs.lemmas.Option.{same_Some, none-some}
+use Rattle.std.proofs.lemmas.Option.{same_Some, none-some, slice_get_within}
 use Rattle.std.proofs.lemmas.Bool.{and_from, and_parts, false_from_ne_true, or_left, or_right, eqb-true, or_cases, both_ways, cond-false}
 use Rattle.std.proofs.lemmas.List.Elements.{All-pop, All-push, All-same}
 use Rattle.std.proofs.lemmas.List.Folds.{list_any-append, find-append}
 use Rattle.std.specs.List.{find, list_all, list_any}
 use Rattle.std.specs.Option.{option_map, option_or}
 use Rattle.std.specs.Prelude.{slice_get, slice_set, filter}
+use Rattle.swan_model.proofs.Lists.{get-before}
 
 -- two answers are the same where each is true as the other is
 pub answers_same : (a b : Bool) → (a ≡ true → b ≡ true) → (b ≡ true → a ≡ true) → a ≡ b
@@ -142,15 +143,25 @@ taken_stands (suc n) [] i x is = absurd (cc)
 taken_stands (suc n) (y ∷ xs) zero x is = (omega arith, is)
 taken_stands (suc n) (y ∷ xs) (suc i) x is = let rest = taken_stands n xs i x is in (omega (arith, rest.0), rest.1)
 
+-- what stands in one list after another stands in the first of them or in the second
+pub append_cases : {X : Type 0} (xs ys : List X) (i : ℕ) (x : X) → slice_get (xs ++ ys) i ≡ Some x → (slice_get xs i ≡ Some x) ⊎ ((j : ℕ) × (i ≡ length xs + j) × (slice_get ys j ≡ Some x))
+append_cases [] ys i x is = let none : i ≡ 0 + i = omega arith in inr (i, none, is)
+append_cases (y ∷ xs) ys zero x is = inl is
+append_cases (y ∷ xs) ys (suc i) x is = elim (append_cases xs ys i x is) [
+  | inl first ↦ inl first
+  | inr rest ↦ let more : suc i ≡ suc (length xs) + rest.0 = omega (arith, rest.1) in inr (rest.0, more, rest.2)
+]
+
 -- an element more
 pub more_cases : {X : Type 0} (xs : List X) (x : X) (i : ℕ) (y : X) → slice_get (xs ++ x ∷ []) i ≡ Some y → (slice_get xs i ≡ Some y) ⊎ ((i ≡ length xs) × (y ≡ x))
-more_cases [] x zero y is = inr (refl, sym (same_Some x y is))
-more_cases [] x (suc i) y is = absurd (cc)
-more_cases (z ∷ xs) x zero y is = inl is
-more_cases (z ∷ xs) x (suc i) y is = elim (more_cases xs x i y is) [
+more_cases xs x i y is = elim (append_cases xs (x ∷ []) i y is) [
   | inl before ↦ inl before
-  | inr last ↦ inr (ap suc last.0, last.1)
+  | inr last ↦ inr (by last.0 last.1 last.2)
 ]
+  where
+    by : (j : ℕ) → i ≡ length xs + j → slice_get (x ∷ []) j ≡ Some y → (i ≡ length xs) × (y ≡ x)
+    by zero at is = (omega (arith, at), sym (same_Some x y is))
+    by (suc j) at is = absurd (cc)
 
 -- what stands in a list in which one element was replaced is the new element, or stands elsewhere
 pub set_cases : {X : Type 0} (xs : List X) (n : ℕ) (x y : X) (i : ℕ) (z : X) → slice_get xs n ≡ Some x → slice_get (slice_set xs n y) i ≡ Some z → ((i ≡ n) × (z ≡ y)) ⊎ ((i ≡ n → ⊥) × (slice_get xs i ≡ Some z))
@@ -164,9 +175,7 @@ set_cases (w ∷ xs) (suc n) x y (suc i) z found is = elim (set_cases xs n x y i
 ]
 
 pub before_more : {X : Type 0} (xs : List X) (x : X) (i : ℕ) (y : X) → slice_get xs i ≡ Some y → slice_get (xs ++ x ∷ []) i ≡ Some y
-before_more [] x i y is = absurd (cc)
-before_more (z ∷ xs) x zero y is = is
-before_more (z ∷ xs) x (suc i) y is = before_more xs x i y is
+before_more xs x i y is = get-before xs (x ∷ []) i (slice_get_within xs i y is) ∙ is
 
 pub last_more : {X : Type 0} (xs : List X) (x : X) → slice_get (xs ++ x ∷ []) (length xs) ≡ Some x
 last_more [] x = refl

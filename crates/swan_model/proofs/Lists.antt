@@ -28,7 +28,16 @@ get-set_same [] n x within = absurd (omega arith)
 get-set_same (y ∷ xs) zero x within = refl
 get-set_same (y ∷ xs) (suc n) x within = get-set_same xs n x (omega arith)
 
--- what stands after the first of two lists
+-- the parts of two lists that are the same
+pub same_parts : {X : Type 0} (x y : X) (xs ys : List X) → x ∷ xs ≡ y ∷ ys → (x ≡ y) × (xs ≡ ys)
+same_parts x y xs ys same = (cc, cc)
+
+-- what stands in the first of two lists, and after it
+pub get-before : {X : Type 0} (xs ys : List X) (n : ℕ) → n < length xs → slice_get (xs ++ ys) n ≡ slice_get xs n
+get-before [] ys n within = absurd (omega arith)
+get-before (x ∷ xs) ys zero within = refl
+get-before (x ∷ xs) ys (suc n) within = get-before xs ys n (omega arith)
+
 pub get-after : {X : Type 0} (xs ys : List X) (n : ℕ) → slice_get (xs ++ ys) (length xs + n) ≡ slice_get ys n
 get-after [] ys n = let e : 0 + n ≡ n = omega arith in ap (slice_get ys) e
 get-after (x ∷ xs) ys n =

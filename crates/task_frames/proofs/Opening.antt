@@ -1,5 +1,5 @@
 -- A run that opens: its root queues and root objects are made one after the other, and then the core has the root.
-use Rattle.std.proofs.Common.{◌≡◌, ◌≢◌, ◌⊎◌, inl, inr, ℕ, zero, suc, ◌+◌, ◌<◌, true, false, cond, List, [], ◌∷◌, ◌++◌, Option, None, Some, length, map, refl, sym, ap, subst, ◌∙◌, arith, length-append}
+use Rattle.std.proofs.Common.{◌≡◌, ◌≢◌, inl, inr, ℕ, zero, suc, ◌+◌, ◌<◌, true, false, cond, List, [], ◌∷◌, ◌++◌, Option, None, Some, length, map, refl, sym, ap, subst, ◌∙◌, arith, length-append}
 use Rattle.std.proofs.lemmas.Bool.{cases_eq, cases_lt, ne_eqb}
 use Rattle.std.proofs.lemmas.List.{length-map}
 use Rattle.std.proofs.lemmas.Option.{get_or_from_slice_get, none-some, same_Some, slice_get-map, slice_get_within}
@@ -28,7 +28,7 @@ use Rattle.swan_model.specs.TrueFrames.{give_in, gives_at}
 use Rattle.swan_model.specs.Values.{kind_of}
 use Rattle.swan_model.specs.Versions.{Placed, VersionState, objects_after_create, new_versions, placed_at, settled}
 use Rattle.swan_model.specs.VersionsFollow.{ObjectsFollow}
-use Rattle.swan_model.proofs.Elements.{before_more, last_more, option_cases}
+use Rattle.swan_model.proofs.Elements.{append_cases, before_more, last_more, option_cases}
 use Rattle.swan_model.proofs.Lists.{some_within}
 use Rattle.object_versions.proofs.CallsFollow.{create_root, new_follows}
 use Rattle.object_versions.proofs.PlacesAfter.{at_placed}
@@ -221,16 +221,8 @@ held-objects k (v ∷ values) (suc i) h at =
     let later : k + 1 + i ≡ k + suc i = omega arith in
     (rest.0, rest.1, rest.2 ∙ ap {B = Holding} (λ n. record { mode = InOut; number = n }) later)
 
-append-cases : {X : Type 0} (xs ys : List X) (i : ℕ) (x : X) → slice_get (xs ++ ys) i ≡ Some x → (slice_get xs i ≡ Some x) ⊎ ((j : ℕ) × (i ≡ length xs + j) × (slice_get ys j ≡ Some x))
-append-cases [] ys i x at = let none : i ≡ 0 + i = omega arith in inr (i, none, at)
-append-cases (y ∷ xs) ys zero x at = inl at
-append-cases (y ∷ xs) ys (suc i) x at = elim (append-cases xs ys i x at) [
-  | inl first ↦ inl first
-  | inr rest ↦ let more : suc i ≡ suc (length xs) + rest.0 = omega (arith, rest.1) in inr (rest.0, more, rest.2)
-]
-
 root-holding : (queues : List RootQueue) (objects : List Value) (place : ℕ) (h : Holding) → slice_get (queue_holdings 0 queues ++ object_holdings 0 objects) place ≡ Some h → IsRootHolding queues objects place h
-root-holding queues objects place h at = elim (append-cases (queue_holdings 0 queues) (object_holdings 0 objects) place h at) [
+root-holding queues objects place h at = elim (append_cases (queue_holdings 0 queues) (object_holdings 0 objects) place h at) [
   | inl first ↦
       let it = held-queues 0 queues place h first in
       let none : 0 + place ≡ place = omega arith in

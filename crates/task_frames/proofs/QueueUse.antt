@@ -25,6 +25,7 @@ use Rattle.swan_model.specs.SerialStep.{given, number_at}
 use Rattle.swan_model.specs.SerialTime.{Reading}
 use Rattle.swan_model.specs.TrueFrames.{give_in}
 use Rattle.swan_model.proofs.Elements.{all_each}
+use Rattle.swan_model.proofs.Lists.{same_parts}
 use Rattle.swan_model.proofs.ScriptSteps.{deed_is}
 use Rattle.queues.proofs.QueuePoints.{at_own, next_is}
 use Rattle.serial_elision.proofs.Held.{IsUsed, used-at}
@@ -53,9 +54,6 @@ module _ (s : Script) (lawful : IsLawful s) (state : QueueState) (follows : Queu
 
 -- ---- the queues that a child is given
 
-two-heads : {X : Type 0} (x y : X) (xs ys : List X) → x ∷ xs ≡ y ∷ ys → (x ≡ y) × (xs ≡ ys)
-two-heads x y xs ys same = (cc, cc)
-
 module _ (s : Script) (state : QueueState) (r : Reading) (fit : (queue : ℕ) → slice_get r.queues queue ≡ queue_origin s state queue) where
   right-named : (h : Holding) → is_queue_mode h.mode ≡ true → queue_give s state (right_of h) ≡ give_in r h
   right-named h queue =
@@ -67,7 +65,7 @@ module _ (s : Script) (state : QueueState) (r : Reading) (fit : (queue : ℕ) �
   queues-named [] (g ∷ all) is = absurd (cc)
   queues-named (h ∷ hs) [] is = absurd (cc)
   queues-named (h ∷ hs) (g ∷ all) is =
-      let parts = two-heads (give_in r h) (Some g) (map (give_in r) hs) (map Some all) is in
+      let parts = same_parts (give_in r h) (Some g) (map (give_in r) hs) (map Some all) is in
       let mode = name-mode h.mode (origin_in r h.mode h.number) g parts.0 in
       by (is_queue_mode h.mode) refl (sym (ap is_queue_mode mode)) parts.0 (queues-named hs all parts.1)
     where
