@@ -1,7 +1,9 @@
--- Lemmas on the generated workload; what a file is for stands at its head. `BulkLines`, `Digits`, `Parts` and `Inputs` are about its
--- texts, each by itself. `Orders` is read after the first two: the job is read, checked and planned without a refusal.
+-- Lemmas on the generated workload, in the order to read them: no file stands on a later one. What a file is for stands at its head.
+
+-- its texts, each by itself
 pub mod BulkLines
 pub mod Digits
-pub mod Inputs
-pub mod Orders
 pub mod Parts
+pub mod Inputs
+-- the job is read, checked and planned without a refusal
+pub mod Orders

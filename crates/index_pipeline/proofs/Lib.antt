@@ -1,18 +1,19 @@
--- Lemmas on the index of a text; what a file is for stands at its head. Three groups, in the order to read them:
--- what words, pairs and records are: `Runs`, `Wording`, `Telling`, `Collecting`, `Recording`, `SortedLists`, `Rising`;
--- the run that leaves the index: `Indexing`;
--- how the code keeps words, pairs and records: `Lowering`, `Taking`, `KeyOrder`, `KeptOrder`, `Dropping`, `Batching`.
-mod Batching
-mod Collecting
-mod Dropping
-mod Indexing
-mod KeptOrder
-mod KeyOrder
-mod Lowering
-mod Recording
-mod Rising
+-- Lemmas on the index of a text, in the order to read them: no file stands on a later one. What a file is for stands at its head.
+
+-- what words, pairs and records are
 mod Runs
-mod SortedLists
-mod Taking
-mod Telling
 mod Wording
+mod Telling
+mod Collecting
+mod Recording
+mod SortedLists
+mod Rising
+-- the run that leaves the index
+mod Indexing
+-- how the code keeps words, pairs and records
+mod Lowering
+mod Taking
+mod KeyOrder
+mod KeptOrder
+mod Dropping
+mod Batching

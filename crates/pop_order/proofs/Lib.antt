@@ -1,4 +1,4 @@
--- Lemmas on the turns of poppers. Each group stands on those before it; what a file is for stands at its head.
+-- Lemmas on the turns of poppers, in the order to read them: no file stands on a later one. What a file is for stands at its head.
 
 -- no frames, and the sets of children and of pairs
 pub mod Blocking

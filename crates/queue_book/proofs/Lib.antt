@@ -1,4 +1,5 @@
--- Lemmas on hyperqueues in the plainest form. Each group stands on those before it; what a file is for stands at its head.
+-- Lemmas on hyperqueues in the plainest form, in the order to read them: no file stands on a later one. What a file is for stands at its
+-- head.
 
 -- chunks in chains of nodes
 pub mod ChainKept

@@ -1,6 +1,8 @@
--- Lemmas on the conversion of a text; what a file is for stands at its head. `FieldByField` and `Widths` are about the fields of lines, and
--- `Recording` says what lines push and which faults they book. `Converting` is read after it: the run that leaves the conversion.
-mod Converting
+-- Lemmas on the conversion of a text, in the order to read them: no file stands on a later one. What a file is for stands at its head.
+
+-- the fields of lines
 pub mod FieldByField
-mod Recording
 pub mod Widths
+-- what lines push and which faults they book, and the run that leaves the conversion
+mod Recording
+mod Converting

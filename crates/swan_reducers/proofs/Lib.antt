@@ -1,10 +1,12 @@
--- Lemmas on folds of lines; what a file is for stands at its head. `Joining` and then `Folding` are about every reducer: how parts are
--- joined, and the run of a fold. `Narrowing`, `SumBlocks` and `SumTotals` are about the reducer of sums, `JoinBlocks` and `JoinTotals` about
--- that of joins.
-pub mod Folding
-pub mod JoinBlocks
-pub mod JoinTotals
+-- Lemmas on folds of lines, in the order to read them: no file stands on a later one. What a file is for stands at its head.
+
+-- every reducer: how parts are joined, and the run of a fold
 pub mod Joining
+pub mod Folding
+-- the reducer of sums
 pub mod Narrowing
 pub mod SumBlocks
 pub mod SumTotals
+-- the reducer of joins
+pub mod JoinBlocks
+pub mod JoinTotals

@@ -1,43 +1,35 @@
--- Lemmas on frames and the core; what a file is for stands at its head. The first groups are about one frame, those from `GoneOn` on
--- about what the core keeps, and those from `Given` on about its steps. `Names` and `QueueUse` are read before `Live` and `Rights`, and
--- `LeftOver` before `Opening`.
+-- Lemmas on frames and the core, in the order to read them: no file stands on a later one. What a file is for stands at its head. The
+-- first group is about one frame, those from `GoneOn` on are about what the core keeps, and those from `Given` on about its steps.
 
--- what a frame's ends serve, and what they show of it
-pub mod Shown
--- a frame in the middle of a step, and after steps of its own
+-- a frame in the middle of a step, and after steps of its own; what its ends serve, and what they show of it
 pub mod Amid
 pub mod Served
--- a frame over several steps
+pub mod Shown
 pub mod Same
 -- a reading that goes on
 pub mod GoneOn
 pub mod CatchUp
+-- names of what is held, and what a frame may ask its queues for by them
+pub mod Names
+pub mod LocalNames
+pub mod QueueUse
 -- what the core keeps: of its queues, of its objects, of its frames, of its faults
 pub mod Queues
 pub mod Objects
-pub mod LocalNames
 pub mod Live
 pub mod Booked
--- what may be asked for a step
+-- what may be asked for a step, whom a frame waits for, and which frames may end
 pub mod Rights
--- whom a frame waits for
 pub mod Waiting
--- names of what is held
-pub mod Names
-pub mod QueueUse
--- ends that are lent, frames that may end, and what a child is given
-pub mod EndsLent
 pub mod MayEnd
+-- ends that are lent, and what a child is given
+pub mod EndsLent
 pub mod Giving
 pub mod Spawning
--- how many frames there are, and a run that opens
 pub mod FewFrames
-pub mod Opening
--- the order of faults
-pub mod FaultsSorted
-pub mod LeftOver
--- the record of live frames
+-- the record of live frames, and the earliest one
 pub mod Lives
+pub mod Earliest
 -- frames at the core, and those that stay as they are meanwhile
 pub mod Given
 pub mod Goings
@@ -53,8 +45,10 @@ pub mod AtQueues
 pub mod ChildGiven
 pub mod SpawnStep
 pub mod AtPlaces
--- a core that begins, and what is left at the end
-pub mod Beginning
+-- the order of faults, and what is left at the end
+pub mod FaultsSorted
+pub mod LeftOver
 pub mod Leaving
--- the earliest live frame
-pub mod Earliest
+-- a run that opens, and a core that begins
+pub mod Opening
+pub mod Beginning
