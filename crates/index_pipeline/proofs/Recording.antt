@@ -5,8 +5,7 @@ use Rattle.std.proofs.lemmas.Simd.{map-map}
 use Rattle.std.specs.List.{AllByRecursion}
 use Rattle.swan_model.specs.declared.value.Value.{Value}
 use Rattle.swan_model.specs.declared.value.Value.TheVariants.{Bytes}
-use Rattle.swan_model.specs.QueueState.{COUNT_MOST}
-use Rattle.swan_model.specs.Values.{bytes_of}
+use Rattle.swan_model.specs.Values.{bytes_of, COUNT_MOST}
 use Rattle.line_blocks.specs.LineBlocks.{byte_count, later}
 use Rattle.index_pipeline.specs.Index.{pairs_from}
 use Rattle.index_pipeline.specs.Pairs.{Pair}

@@ -1,8 +1,7 @@
 -- Lines in a row.
 use Rattle.std.specs.Prelude.{ℕ, ◌+◌, min, Option, Some, None, List, [], ◌∷◌, ◌++◌, length}
 use Rattle.swan_model.specs.declared.value.Value.{Value}
-use Rattle.swan_model.specs.QueueState.{COUNT_MOST}
-use Rattle.swan_model.specs.Values.{bytes_of}
+use Rattle.swan_model.specs.Values.{bytes_of, COUNT_MOST}
 
 -- lines in a row, and the number of the first of them
 pub record Lines : Type 0 where

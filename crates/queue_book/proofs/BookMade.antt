@@ -11,7 +11,8 @@ use Rattle.swan_model.specs.declared.script.Deed.TheVariants as deed
 use Rattle.swan_model.specs.declared.script.Script.{Script}
 use Rattle.swan_model.specs.declared.value.Value.{Value}
 use Rattle.swan_model.specs.QueueFollows.{next_queue_deed}
-use Rattle.swan_model.specs.QueueState.{ActiveFrame, QueueMaker, planned, made_by, QueueState, active, after_create, after_create_root, holds_queue, with_deed, with_made, IsUntouched, COUNT_MOST}
+use Rattle.swan_model.specs.QueueState.{ActiveFrame, QueueMaker, planned, made_by, QueueState, active, after_create, after_create_root, holds_queue, with_deed, with_made, IsUntouched}
+use Rattle.swan_model.specs.Values.{COUNT_MOST}
 use Rattle.queues.specs.Asks.{MayDo, OnNext}
 use Rattle.queues.specs.Chunks.{own}
 use Rattle.queue_book.specs.Chains.{Link, AreChained, in_line, put_at}

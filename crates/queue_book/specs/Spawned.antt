@@ -3,7 +3,8 @@ use Rattle.std.specs.Prelude.{◌≡◌, ℕ, ◌+◌, ◌<◌, true, false, Opt
 use Rattle.std.specs.Option.{option_map}
 use Rattle.slab.specs.Slab.{Slab}
 use Rattle.pop_order.specs.Frames.{TurnFrame, Frames, frame_at}
-use Rattle.swan_model.specs.QueueState.{ActiveFrame, QueueRight, MayGive, COUNT_MOST}
+use Rattle.swan_model.specs.QueueState.{ActiveFrame, QueueRight, MayGive}
+use Rattle.swan_model.specs.Values.{COUNT_MOST}
 use Rattle.queue_book.specs.Chains.{Link}
 use Rattle.queue_book.specs.Handed.{AreGiven}
 use Rattle.queues.specs.Turned.{gives_queue, AreApart}

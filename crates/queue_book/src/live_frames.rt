@@ -1,7 +1,7 @@
 // The active frames by number.
 ghost use Rattle.std.specs.Prelude.{◌≡◌, ◌≢◌, ℕ, ◌+◌, ◌<◌, Some, None, IsSome, [], OnOk, true, false};
 ghost use Rattle.std.specs.Option.{option_copied, option_map};
-ghost use Rattle.swan_model.specs.QueueState.{COUNT_MOST};
+ghost use Rattle.swan_model.specs.Values.{COUNT_MOST};
 ghost use Rattle.queue_book.specs.Live.{is_lent_with, kept_of, own_chunk_at, with_own_chunk};
 ghost use Rattle.pop_order.specs.OneChange.{IsOnlyChange};
 ghost use Rattle.queue_book.specs.KeptFrames.{KeptFrame};

@@ -6,7 +6,8 @@ use Rattle.std.proofs.lemmas.Map.Keys.{any_passes_from_place}
 use Rattle.swan_model.specs.declared.path.TheConstants.{PATH_MOST}
 use Rattle.swan_model.specs.declared.rights.Mode.{Mode}
 use Rattle.swan_model.specs.declared.rights.Mode.TheVariants.{Pop}
-use Rattle.swan_model.specs.QueueState.{ActiveFrame, IsActiveChild, IsOfRoot, IsUntouched, QueueMaker, MayGive, planned, made_by, QueueRight, QueueState, active, holds_queue, CHILDREN_MOST, COUNT_MOST, QUEUES_MOST}
+use Rattle.swan_model.specs.QueueState.{ActiveFrame, IsActiveChild, IsOfRoot, IsUntouched, QueueMaker, MayGive, planned, made_by, QueueRight, QueueState, active, holds_queue, CHILDREN_MOST, QUEUES_MOST}
+use Rattle.swan_model.specs.Values.{COUNT_MOST}
 use Rattle.swan_model.specs.Rights.{is_queue_mode}
 use Rattle.queues.specs.Asks.{HasRoom, IsRestLeft, MayDo, MayJoin, MayLook, MaySpawn, MayUse}
 use Rattle.swan_model.proofs.Elements.{found_is, none_is}

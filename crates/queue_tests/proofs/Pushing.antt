@@ -1,7 +1,8 @@
 -- A root that pushes many items to one queue.
 use Rattle.std.proofs.Common.{◌≡◌, ℕ, ◌+◌, ◌<◌, true, Some, None, refl, ap, subst, sym, ◌∙◌, [], ◌∷◌}
 use Rattle.swan_model.specs.declared.rights.Mode.TheVariants.{Push, PushPop}
-use Rattle.swan_model.specs.QueueState.{ActiveFrame, QueueState, active, after_create, after_deed, holds_queue, new_state, root_frame, with_deed, COUNT_MOST}
+use Rattle.swan_model.specs.QueueState.{ActiveFrame, QueueState, active, after_create, after_deed, holds_queue, new_state, root_frame, with_deed}
+use Rattle.swan_model.specs.Values.{COUNT_MOST}
 use Rattle.queues.specs.Asks.{MayUse}
 use Rattle.queues.specs.Tells.{with_active}
 use Rattle.queues.proofs.ActiveAfter.{one_changed}

@@ -3,7 +3,8 @@ use Rattle.std.specs.Prelude.{ℕ, Bool, true, false, ◌&&◌, ◌==◌, not, l
 use Rattle.std.specs.List.{list_any}
 use Rattle.swan_model.specs.declared.path.TheConstants.{PATH_MOST}
 use Rattle.swan_model.specs.declared.rights.Mode.{Mode}
-use Rattle.swan_model.specs.QueueState.{ActiveFrame, QueueMaker, planned, made_by, QueueRight, QueueState, active, holds_queue, CHILDREN_MOST, COUNT_MOST, QUEUES_MOST}
+use Rattle.swan_model.specs.QueueState.{ActiveFrame, QueueMaker, planned, made_by, QueueRight, QueueState, active, holds_queue, CHILDREN_MOST, QUEUES_MOST}
+use Rattle.swan_model.specs.Values.{COUNT_MOST}
 use Rattle.swan_model.specs.Rights.{is_queue_mode}
 
 -- an active frame with its ends back, of which a condition holds

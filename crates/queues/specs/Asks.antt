@@ -7,7 +7,8 @@ use Rattle.std.specs.List.{list_any}
 use Rattle.std.specs.Option.{ForSome}
 use Rattle.swan_model.specs.declared.rights.Mode.{Mode}
 use Rattle.swan_model.specs.declared.script.Script.{Script}
-use Rattle.swan_model.specs.QueueState.{ActiveFrame, LentEnd, Lent, QueueRight, QueueState, active, holds_queue, HasTurn, IsActiveChild, IsOfRoot, MayAct, MayGive, CHILDREN_MOST, COUNT_MOST, QUEUES_MOST}
+use Rattle.swan_model.specs.QueueState.{ActiveFrame, LentEnd, Lent, QueueRight, QueueState, active, holds_queue, HasTurn, IsActiveChild, IsOfRoot, MayAct, MayGive, CHILDREN_MOST, QUEUES_MOST}
+use Rattle.swan_model.specs.Values.{COUNT_MOST}
 
 -- a frame that may act, with room for one more queue deed
 pub record MayDo (state : QueueState) (number : ℕ) : Type 0 where

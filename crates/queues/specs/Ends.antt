@@ -5,7 +5,8 @@ use Rattle.swan_model.specs.declared.script.Deed.TheVariants as deed
 use Rattle.swan_model.specs.declared.script.Script.{Script}
 use Rattle.swan_model.specs.declared.value.Value.{Value}
 use Rattle.swan_model.specs.QueueFollows.{next_queue_deed, queue_time}
-use Rattle.swan_model.specs.QueueState.{LentEnd, COUNT_MOST}
+use Rattle.swan_model.specs.QueueState.{LentEnd}
+use Rattle.swan_model.specs.Values.{COUNT_MOST}
 use Rattle.swan_model.specs.Segments.{segment_queue}
 use Rattle.swan_model.specs.Told.{count, pushes, taken}
 use Rattle.queues.specs.Asks.{LentEnds, is_end_of}

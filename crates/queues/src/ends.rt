@@ -3,7 +3,7 @@ ghost use Rattle.std.specs.Prelude.{◌≡◌, ℕ, ◌+◌, ◌<◌, Bool, true
 ghost use Rattle.std.specs.Option.{ForSome};
 ghost use Rattle.swan_model.specs.declared.script.Script.{Script};
 ghost use Rattle.swan_model.specs.Lawful.{IsLawful};
-ghost use Rattle.swan_model.specs.QueueState.{COUNT_MOST};
+ghost use Rattle.swan_model.specs.Values.{COUNT_MOST};
 ghost use Rattle.queues.specs.Asks.{IsSameRun, LentEnds, has_end, with_deeds};
 ghost use Rattle.queues.specs.Ends.{AreOtherCounts, EndCounts, HasPopped, HasPushed, IsNextPush, IsNextPop, IsItemNext, WasEmpty, WasRefused};
 

@@ -6,8 +6,7 @@ use Rattle.swan_model.specs.declared.fault.FaultKind.TheVariants as kind
 use Rattle.swan_model.specs.declared.fault.Trouble.{Trouble}
 use Rattle.swan_model.specs.declared.value.Value.{Value}
 use Rattle.swan_model.specs.declared.value.Value.TheVariants.{Bytes}
-use Rattle.swan_model.specs.QueueState.{COUNT_MOST}
-use Rattle.swan_model.specs.Values.{bytes_of}
+use Rattle.swan_model.specs.Values.{bytes_of, COUNT_MOST}
 use Rattle.line_blocks.specs.LineBlocks.{later}
 use Rattle.record_pipeline.specs.Conversion.{fault_of, faults_from, records_of, trouble_of, unless_trouble}
 use Rattle.record_pipeline.specs.Netstrings.{netstrings}

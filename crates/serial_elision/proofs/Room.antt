@@ -14,7 +14,8 @@ use Rattle.swan_model.specs.declared.script.Entry.{Entry}
 use Rattle.swan_model.specs.declared.script.Script.{Script}
 use Rattle.swan_model.specs.Granted.{children_before, is_spawn}
 use Rattle.swan_model.specs.QueueFollows.{IsMade, QueuesFollow, origin_in, queue_times}
-use Rattle.swan_model.specs.QueueState.{ActiveFrame, QueueMaker, planned, made_by, QueueState, active, CHILDREN_MOST, COUNT_MOST, PLACES_MOST, QUEUES_MOST}
+use Rattle.swan_model.specs.QueueState.{ActiveFrame, QueueMaker, planned, made_by, QueueState, active, CHILDREN_MOST, PLACES_MOST, QUEUES_MOST}
+use Rattle.swan_model.specs.Values.{COUNT_MOST}
 use Rattle.swan_model.specs.Roots.{IsWithinBounds}
 use Rattle.swan_model.specs.Script.{script}
 use Rattle.swan_model.specs.SerialState.{Activation, Holding}

@@ -5,7 +5,8 @@ ghost use Rattle.swan_model.specs.declared.plan.TheConstants.{FUEL_MOST, ROOTS_M
 ghost use Rattle.swan_model.specs.declared.rights.TheConstants.{GIVES_MOST};
 ghost use Rattle.swan_model.specs.Granted.{children_before};
 ghost use Rattle.swan_model.specs.QueueFollows.{QueuesFollow, origin_in};
-ghost use Rattle.swan_model.specs.QueueState.{ActiveFrame, QueueState, active, CHILDREN_MOST, COUNT_MOST, PLACES_MOST, QUEUES_MOST};
+ghost use Rattle.swan_model.specs.QueueState.{ActiveFrame, QueueState, active, CHILDREN_MOST, PLACES_MOST, QUEUES_MOST};
+ghost use Rattle.swan_model.specs.Values.{COUNT_MOST};
 ghost use Rattle.swan_model.specs.Script.{script};
 ghost use Rattle.swan_model.specs.SerialState.{Activation};
 ghost use Rattle.swan_model.specs.SerialTime.{time};

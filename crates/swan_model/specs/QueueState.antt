@@ -9,10 +9,6 @@ use Rattle.swan_model.specs.declared.rights.Mode.TheVariants.{Push, Pop, PushPop
 use Rattle.swan_model.specs.PathOrder.{comes_before}
 use Rattle.swan_model.specs.Rights.{allows, is_queue_mode}
 
--- The most that is counted, of deeds, steps, frames and items: counts have 64 bits.
-abbrev pub COUNT_MOST : ℕ
-COUNT_MOST = 18446744073709551615
-
 -- How many queues and objects a run may make, how many children a frame may spawn, and how many places it may have: their
 -- numbers have 32 bits.
 abbrev pub QUEUES_MOST : ℕ

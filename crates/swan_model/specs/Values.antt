@@ -24,3 +24,7 @@ bytes_of (Int n) = []
 abbrev pub fits_64 : ℤ → Bool
 fits_64 (pos n) = nat_lt n (2 ^ 63)
 fits_64 (negsuc n) = nat_lt n (2 ^ 63)
+
+-- the most that is counted, of lines, faults, deeds, steps, frames and items: counts have 64 bits
+abbrev pub COUNT_MOST : ℕ
+COUNT_MOST = 18446744073709551615

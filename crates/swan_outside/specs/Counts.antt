@@ -1,6 +1,6 @@
 -- Counts of what went wrong. A count never falls, and stops at COUNT_MOST, the last value of 64 bits.
 use Rattle.std.specs.Prelude.{ℕ, ◌+◌, ◌≤◌, min, Result, Ok, Err}
-use Rattle.swan_model.specs.QueueState.{COUNT_MOST}
+use Rattle.swan_model.specs.Values.{COUNT_MOST}
 use Rattle.swan_outside.specs.declared.answer.ReadAnswer.{ReadAnswer}
 use Rattle.swan_outside.specs.declared.answer.ReadAnswer.TheVariants as answer
 use Rattle.swan_outside.specs.declared.counts.ReadCounts.{ReadCounts}

@@ -19,7 +19,7 @@ use Rattle.swan_model.specs.SerialTime.{Progress, Reading}
 use Rattle.swan_model.proofs.Lists.{last_of, some_within}
 use Rattle.swan_model.proofs.Points.{spawns_rise}
 use Rattle.swan_model.proofs.TaskEntries.{spawn_own}
-use Rattle.swan_model.specs.QueueState.{COUNT_MOST}
+use Rattle.swan_model.specs.Values.{COUNT_MOST}
 use Rattle.swan_model.proofs.Elements.{any_number}
 use Rattle.swan_model.proofs.ScriptLength.{le_script}
 

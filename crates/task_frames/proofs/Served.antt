@@ -19,7 +19,8 @@ use Rattle.swan_model.specs.declared.script.Script.{Script}
 use Rattle.swan_model.specs.declared.value.Value.{Value}
 use Rattle.swan_model.specs.Lawful.{IsLawful}
 use Rattle.swan_model.specs.QueueFollows.{FitsFrame, next_queue_deed, queue_time}
-use Rattle.swan_model.specs.QueueState.{ActiveFrame, LentEnd, COUNT_MOST}
+use Rattle.swan_model.specs.QueueState.{ActiveFrame, LentEnd}
+use Rattle.swan_model.specs.Values.{COUNT_MOST}
 use Rattle.swan_model.specs.Readings.{next_deed}
 use Rattle.swan_model.specs.Rights.{allows, is_queue_mode}
 use Rattle.swan_model.specs.Script.{script}

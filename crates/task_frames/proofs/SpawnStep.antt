@@ -19,7 +19,8 @@ use Rattle.swan_model.specs.declared.script.Script.{Script}
 use Rattle.swan_model.specs.Granted.{is_spawn}
 use Rattle.swan_model.specs.Lawful.{IsLawful}
 use Rattle.swan_model.specs.QueueFollows.{NextSpawnGivesQueues}
-use Rattle.swan_model.specs.QueueState.{ActiveFrame, QueueState, active, after_spawn, child_of, with_deed, COUNT_MOST}
+use Rattle.swan_model.specs.QueueState.{ActiveFrame, QueueState, active, after_spawn, child_of, with_deed}
+use Rattle.swan_model.specs.Values.{COUNT_MOST}
 use Rattle.swan_model.specs.Rights.{allows, is_aliased}
 use Rattle.swan_model.specs.Script.{script}
 use Rattle.swan_model.specs.SerialState.{Activation, Holding}

@@ -13,7 +13,7 @@ use Rattle.swan_model.specs.Lawful.{IsLawful}
 use Rattle.swan_model.specs.SerialState.{Holding}
 use Rattle.swan_model.specs.SerialStep.{number_at}
 use Rattle.swan_model.specs.Work.{ask_after, AreWork, local_after}
-use Rattle.swan_model.specs.QueueState.{COUNT_MOST}
+use Rattle.swan_model.specs.Values.{COUNT_MOST}
 use Rattle.queues.specs.Asks.{LentEnds, has_end, with_deeds}
 use Rattle.queues.specs.Ends.{EndCounts, IsItemNext, IsNextPop, IsNextPush}
 use Rattle.task_frames.specs.declared.paused.Paused.{Paused}

@@ -2,7 +2,7 @@
 ghost use Rattle.std.specs.Prelude.{◌≡◌, ℕ, ◌+◌, ◌-◌, ◌<◌, ◌≤◌, Some, IfOk};
 ghost use Rattle.swan_model.specs.SerialStep.{number_at};
 ghost use Rattle.swan_model.specs.declared.body.Ask.{Ask as Asked};
-ghost use Rattle.swan_model.specs.QueueState.{COUNT_MOST};
+ghost use Rattle.swan_model.specs.Values.{COUNT_MOST};
 ghost use Rattle.task_frames.specs.declared.stage.Stage.TheVariants.{Asking, Ready};
 ghost use Rattle.task_frames.specs.Cores.{asking, one_on};
 

@@ -2,7 +2,7 @@
 ghost use Rattle.std.specs.Prelude.{◌≡◌, ◌+◌, ◌<◌, IsSome};
 ghost use Rattle.std.specs.Option.{option_map};
 ghost use Rattle.swan_model.specs.Readings.{gone_on_by};
-ghost use Rattle.swan_model.specs.QueueState.{COUNT_MOST};
+ghost use Rattle.swan_model.specs.Values.{COUNT_MOST};
 ghost use Rattle.task_frames.specs.Records.{IsOnlyLive, come_to, live_at};
 
 use crate::Kept;

@@ -1,6 +1,6 @@
 // What a frame's ends serve.
 ghost use Rattle.std.specs.Prelude.{◌≡◌, ◌+◌, ◌<◌, IfSome, IfNone, OnSome};
-ghost use Rattle.swan_model.specs.QueueState.{COUNT_MOST};
+ghost use Rattle.swan_model.specs.Values.{COUNT_MOST};
 ghost use Rattle.queues.specs.Asks.{IsSameRun, with_deeds};
 ghost use Rattle.task_frames.specs.Going.{AreLater, IsServedAnswer, IsNextDeed, IsNotServed, deeds_of};
 

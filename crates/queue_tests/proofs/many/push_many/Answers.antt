@@ -1,5 +1,5 @@
 use Rattle.std.proofs.Common.{◌+◌, ◌<◌, arith}
-use Rattle.swan_model.specs.QueueState.{COUNT_MOST}
+use Rattle.swan_model.specs.Values.{COUNT_MOST}
 use Rattle.queue_tests.proofs.Pushing.{may_push}
 use Rattle.queue_tests.proofs.many.push_many.Goals as goal
 

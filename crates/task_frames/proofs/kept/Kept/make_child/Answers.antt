@@ -5,7 +5,7 @@ use Rattle.task_frames.proofs.Given.{over}
 use Rattle.task_frames.proofs.Goings.{live-here}
 use Rattle.task_frames.proofs.SpawnStep.{free-then, next-asked, objects-asked, older-asked, rising-asked, rising-then, room-then, spawn-asked, step-so, turn-asked}
 use Rattle.std.proofs.Common.{◌<◌, IsSome, sym, subst}
-use Rattle.swan_model.specs.QueueState.{COUNT_MOST}
+use Rattle.swan_model.specs.Values.{COUNT_MOST}
 use Rattle.task_frames.proofs.kept.Kept.make_child.Goals as goal
 
 pub hand_over-requires-clause-objects : goal.hand_over-requires-clause-objects

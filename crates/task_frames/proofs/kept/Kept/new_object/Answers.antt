@@ -2,7 +2,8 @@ use Rattle.std.proofs.Common.{◌≡◌, ◌<◌, ◌+◌, None, sym, subst, ap,
 use Rattle.swan_model.specs.declared.rights.Mode.TheVariants.{InOut}
 use Rattle.swan_model.specs.SerialState.{Holding}
 use Rattle.swan_model.specs.Versions.{placed_at}
-use Rattle.swan_model.specs.QueueState.{COUNT_MOST, OBJECTS_MOST}
+use Rattle.swan_model.specs.QueueState.{OBJECTS_MOST}
+use Rattle.swan_model.specs.Values.{COUNT_MOST}
 use Rattle.task_frames.specs.Cores.{KeptView, Mid}
 use Rattle.task_frames.specs.Records.{live_at}
 use Rattle.task_frames.proofs.Goings.{live-here}

@@ -1,7 +1,8 @@
 use Rattle.std.proofs.Common.{◌≡◌, ◌<◌, Some, length, refl, sym, subst, ap, ◌∙◌, IsSome}
 use Rattle.swan_model.specs.declared.script.Deed.TheVariants as deed
 use Rattle.swan_model.specs.QueueFollows.{next_queue_deed}
-use Rattle.swan_model.specs.QueueState.{after_create, COUNT_MOST}
+use Rattle.swan_model.specs.QueueState.{after_create}
+use Rattle.swan_model.specs.Values.{COUNT_MOST}
 use Rattle.queues.specs.Asks.{HasRoom, IsOnTurn, MayDo, OnActive, OnNext}
 use Rattle.task_frames.specs.Cores.{KeptView, Mid}
 use Rattle.task_frames.specs.Records.{live_at}

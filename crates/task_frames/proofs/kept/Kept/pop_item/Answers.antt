@@ -2,7 +2,7 @@ use Rattle.std.proofs.Common.{refl, sym, subst, ◌<◌, ◌≡◌, Some, IsSome
 use Rattle.swan_model.specs.declared.rights.Mode.TheVariants.{Pop}
 use Rattle.swan_model.specs.declared.script.Deed.TheVariants as deed
 use Rattle.swan_model.specs.QueueFollows.{IsNextAbout, next_item}
-use Rattle.swan_model.specs.QueueState.{COUNT_MOST}
+use Rattle.swan_model.specs.Values.{COUNT_MOST}
 use Rattle.queues.specs.Asks.{IsOnTurn, MayUse, OnActive, OnNext}
 use Rattle.queues.specs.Tells.{FindsItem, FindsNone, IsCause, OnQueue}
 use Rattle.task_frames.specs.Records.{live_at}

@@ -2,7 +2,7 @@ use Rattle.std.proofs.Common.{sym, subst, ◌∙◌, ◌<◌, IsSome}
 use Rattle.swan_model.specs.declared.rights.Mode.TheVariants.{Push}
 use Rattle.swan_model.specs.declared.script.Deed.TheVariants as deed
 use Rattle.swan_model.specs.QueueFollows.{IsNextAbout}
-use Rattle.swan_model.specs.QueueState.{COUNT_MOST}
+use Rattle.swan_model.specs.Values.{COUNT_MOST}
 use Rattle.queues.specs.Asks.{IsOnTurn, MayUse, OnNext}
 use Rattle.task_frames.specs.Records.{live_at}
 use Rattle.task_frames.proofs.Goings.{live-here}

@@ -7,7 +7,7 @@ use Rattle.swan_model.specs.VersionsFollow.{ObjectsFollow}
 use Rattle.task_frames.specs.declared.stage.Stage.TheVariants.{Ready}
 use Rattle.swan_model.specs.declared.rights.Mode.TheVariants.{In}
 use Rattle.swan_model.specs.Versions.{Placed, owed, placed_at}
-use Rattle.swan_model.specs.QueueState.{COUNT_MOST}
+use Rattle.swan_model.specs.Values.{COUNT_MOST}
 use Rattle.task_frames.specs.Cores.{AtCore, one_on}
 use Rattle.task_frames.specs.Records.{live_at}
 use Rattle.task_frames.proofs.Goings.{live-here}

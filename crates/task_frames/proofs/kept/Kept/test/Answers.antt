@@ -4,7 +4,8 @@ use Rattle.swan_model.specs.declared.script.Deed.TheVariants as deed
 use Rattle.swan_model.specs.QueueFollows.{IsNextAbout}
 use Rattle.queues.specs.Asks.{IsOnTurn, MayUse, OnActive, OnNext}
 use Rattle.queues.specs.Tells.{FindsItem, FindsNone, IsCause, OnQueue}
-use Rattle.swan_model.specs.QueueState.{COUNT_MOST, after_deed}
+use Rattle.swan_model.specs.QueueState.{after_deed}
+use Rattle.swan_model.specs.Values.{COUNT_MOST}
 use Rattle.task_frames.specs.Records.{live_at}
 use Rattle.task_frames.proofs.Goings.{live-here}
 use Rattle.task_frames.proofs.Asked.{noted-so, steps-few}

@@ -1,7 +1,7 @@
 use Rattle.std.proofs.Common.{◌<◌, refl, sym, subst, IsSome}
 use Rattle.swan_model.specs.declared.body.Answer.TheVariants as answer
 use Rattle.swan_model.specs.declared.script.Deed.TheVariants as deed
-use Rattle.swan_model.specs.QueueState.{COUNT_MOST}
+use Rattle.swan_model.specs.Values.{COUNT_MOST}
 use Rattle.serial_elision.proofs.AskSteps.{works}
 use Rattle.task_frames.specs.Records.{live_at}
 use Rattle.task_frames.proofs.Asked.{noted-so, quiet-so, steps-few}
