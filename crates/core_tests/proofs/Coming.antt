@@ -17,6 +17,13 @@ alone-comes of core root frames opened is =
     let may = MayCome of.run core in
     All-same may frames (root ∷ []) is (All-cons may root [] (given-comes of core root opened.given) (All-nil may))
 
+-- a frame that may come to a core may do so alone
+pub one-comes : {B L E : Type 0} (run : E → List ℕ) (core : CoreView B L) (frame : FrameView B L E) (frames : List (FrameView B L E))
+    → MayCome run core frame → frames ≡ frame ∷ [] → MayAllCome run core frames
+one-comes run core frame frames comes is =
+    let may = MayCome run core in
+    All-same may frames (frame ∷ []) is (All-cons may frame [] comes (All-nil may))
+
 -- what may come to a core may come to another one of the same plan and the same run
 module _ {B L E : Type 0} (run : E → List ℕ) (core after : CoreView B L) (plan : after.plan ≡ core.plan) (run-is : after.run ≡ core.run) where
   pub still-comes : (frame : FrameView B L E) → MayCome run core frame → MayCome run after frame

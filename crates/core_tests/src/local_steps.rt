@@ -1,15 +1,15 @@
 // Frames that take steps by themselves: what a frame answers, call by call, over queues whose ends serve nothing.
 ghost use Rattle.std.specs.Prelude.{◌≡◌, IfOk};
 ghost use Rattle.task_frames.specs.Resumes.{IsOpened, ends_of};
+ghost use Rattle.core_tests.specs.Pools.{MayCome};
 
 use crate::plans::asks;
-use crate::stale::frames_after;
+use crate::runs::frames_from;
 use crate::turn::FrameTurn;
 use elision_tests::AskList;
-use queue_book::BookQueues;
-use queues::Queues;
+use queue_book::{BookQueues, NoEnds};
+use queues::{LocalEnds, Queues};
 use std::alloc::Global;
-use std::sync::Arc;
 use std::test::Fail;
 use swan_model::{Body, FUEL_MOST, Mode, Plan, PlanFuel, RootQueue, Roots, RunName, Values};
 use task_frames::{Core, Frame, Opened, Paused};
@@ -102,17 +102,19 @@ fn answers<B: Body, Q: Queues>(
     Ok(())
 }
 
-/// The only frame of an opened run, after these turns.
+/// The only frame of a core that began with this one, after these turns.
 fn frame_after<B: Body, Q: Queues>(
     alloc: Global,
-    opened: Opened<B, Q>,
+    core: &mut Core<B, Q>,
+    body: &B,
+    begun: Frame<B, Q>,
     turns: &[FrameTurn],
 ) -> Result<Frame<B, Q>, Fail>
-    requires opened { IsOpened (ends_of Q.Ends.LocalEnds) opened.core opened.root }
-    requires body { opened.body.value ≡ opened.core.plan.body }
-    ensures { IfOk result (λ frame. frame.task.plan ≡ opened.core.plan) }
+    requires body { body.now ≡ core.old.plan.body }
+    requires begun { MayCome Q.Ends.run core.old begun }
+    ensures { IfOk result (λ frame. frame.task.plan ≡ core.old.plan) }
 {
-    let mut frames = frames_after(alloc, opened, turns)?;
+    let mut frames = frames_from(alloc, core, body, begun, turns)?;
     if frames.len() != 1 {
         return Err("no frame, or several".into());
     }
@@ -131,9 +133,23 @@ fn answers_after<B: Body, Q: Queues>(
     requires opened { IsOpened (ends_of Q.Ends.LocalEnds) opened.core opened.root }
     requires body { opened.body.value ≡ opened.core.plan.body }
 {
-    let body = Arc::try_clone(&opened.body)?;
-    let frame = frame_after(alloc, opened, turns)?;
+    let Opened {
+        mut core,
+        body,
+        root: begun,
+    } = opened;
+    let frame = frame_after(alloc, &mut core, &body, begun, turns)?;
     answers(alloc, root, frame, &body, calls)
+}
+
+/// An opened run of this root.
+fn opened(alloc: Global, root: &Root<'_>) -> Result<Opened<AskList, BookQueues>, Fail>
+    ensures opened { IfOk result (λ it. IsOpened (ends_of ⟦<NoEnds as LocalEnds>⟧) it.core it.root) }
+    ensures body { IfOk result (λ it. it.body.value ≡ it.core.plan.body) }
+{
+    let plan = plan(alloc, root)?;
+    let queues = BookQueues::new(alloc, RunName::of(&plan));
+    Ok(Core::open(alloc, plan, queues)?)
 }
 
 /// The frame of this root, after these turns, answers these calls so.
@@ -143,9 +159,7 @@ fn stops_so(
     turns: &[FrameTurn],
     calls: &[Call],
 ) -> Result<(), Fail> {
-    let plan = plan(alloc, root)?;
-    let queues = BookQueues::new(alloc, RunName::of(&plan));
-    answers_after(alloc, root, Core::open(alloc, plan, queues)?, turns, calls)
+    answers_after(alloc, root, opened(alloc, root)?, turns, calls)
 }
 
 /// After three steps of work, of which the core takes the first one, comes each ask that isn't work. At place 7 the root has nothing.

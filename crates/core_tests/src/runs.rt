@@ -1,13 +1,14 @@
 // Runs of plans, and what they leave.
 ghost use Rattle.std.specs.Prelude.{◌≡◌, ◌∷◌, [], IfOk};
 ghost use Rattle.task_frames.specs.Resumes.{IsOpened, ends_of};
+ghost use Rattle.core_tests.specs.Pools.{MayAllCome, MayCome};
 
 use crate::orders::take_turns_by_chance;
 use crate::plans::{asks, failing_plan, plan};
 use crate::tables::Tasks;
 use crate::turn::FrameTurn;
 use crate::turns::take_turns;
-use elision_tests::printed;
+use elision_tests::{AskList, printed};
 use queue_book::BookQueues;
 use queues::Queues;
 use serial_elision::{Printed, elide};
@@ -44,8 +45,42 @@ pub fn alone<B: Body, Q: Queues>(
     Ok(frames)
 }
 
+/// Takes these turns, with this frame at first. What is answered are the frames that come of it.
+pub fn frames_from<B: Body, Q: Queues>(
+    alloc: Global,
+    core: &mut Core<B, Q>,
+    body: &B,
+    root: Frame<B, Q>,
+    turns: &[FrameTurn],
+) -> Result<Vec<Frame<B, Q>>, Fail>
+    requires body { body.now ≡ core.old.plan.body }
+    requires root { MayCome Q.Ends.run core.old root }
+    ensures frames { IfOk result (λ frames. MayAllCome Q.Ends.run core.new frames.items) }
+    ensures plan { core.new.plan ≡ core.old.plan }
+    ensures run { core.new.run ≡ core.old.run }
+{
+    let mut frames = alone(alloc, root)?;
+    take_turns(alloc, core, body, &mut frames, turns)?;
+    Ok(frames)
+}
+
+/// Takes turns by chance, with this frame at first.
+fn take_by_chance<B: Body, Q: Queues>(
+    alloc: Global,
+    core: &mut Core<B, Q>,
+    body: &B,
+    root: Frame<B, Q>,
+    seed: u64,
+) -> Result<(), Fail>
+    requires body { body.now ≡ core.old.plan.body }
+    requires root { MayCome Q.Ends.run core.old root }
+{
+    let mut frames = alone(alloc, root)?;
+    take_turns_by_chance(alloc, core, body, &mut frames, seed)
+}
+
 /// What a run leaves, and None where its root hasn't ended.
-fn left<B: Body, Q: Queues>(alloc: Global, core: Core<B, Q>) -> Result<Option<Outcome>, NoMemory> {
+fn left<B: Body, Q: Queues>(alloc: Global, core: Core<B, Q>) -> Result<Option<Outcome>, Fail> {
     if !core.is_done() {
         return Ok(None);
     }
@@ -67,9 +102,8 @@ fn left_by_turns<B: Body, Q: Queues>(
         body,
         root,
     } = opened;
-    let mut frames = alone(alloc, root)?;
-    take_turns(alloc, &mut core, &body, &mut frames, turns)?;
-    Ok(left(alloc, core)?)
+    frames_from(alloc, &mut core, &body, root, turns)?;
+    left(alloc, core)
 }
 
 /// What an opened run leaves in an order by chance.
@@ -86,9 +120,8 @@ fn left_by_chance<B: Body, Q: Queues>(
         body,
         root,
     } = opened;
-    let mut frames = alone(alloc, root)?;
-    take_turns_by_chance(alloc, &mut core, &body, &mut frames, seed)?;
-    Ok(left(alloc, core)?)
+    take_by_chance(alloc, &mut core, &body, root, seed)?;
+    left(alloc, core)
 }
 
 /// What an opened run leaves on a stack, and None where it has met want of memory.
@@ -186,29 +219,37 @@ fn leaves_past(alloc: Global, row: &Row<'_>, fails: usize, order: Order<'_>) -> 
     is_said_and_elided(alloc, row, &left)
 }
 
+/// Whether two texts are the same as two others.
+fn are_same(left: &Printed, other: &Printed) -> bool {
+    left.out.as_slice() == other.out.as_slice() && left.report.as_slice() == other.report.as_slice()
+}
+
+/// The elision leaves something else of the tasks of this name.
+fn another(name: &str) -> Fail {
+    Fail::new(format_args!("the elision leaves something else of {name}"))
+}
+
 /// These two texts are what the elision of these tasks leaves.
 pub fn is_elided(alloc: Global, tasks: &Tasks<'_>, left: &Printed) -> Result<(), Fail> {
     let elided = elided(alloc, tasks.tasks, tasks.fuel)?;
-    if left.out.as_slice() != elided.out.as_slice()
-        || left.report.as_slice() != elided.report.as_slice()
-    {
-        let name = tasks.name;
-        return Err(Fail::new(format_args!("the elision leaves something else of {name}")));
+    if are_same(left, &elided) {
+        Ok(())
+    } else {
+        Err(another(tasks.name))
     }
-    Ok(())
+}
+
+/// A run of these tasks in this order leaves what the elision leaves.
+fn leaves_the_same(alloc: Global, tasks: &Tasks<'_>, order: Order<'_>) -> Result<(), Fail> {
+    let left = texts(alloc, plan(alloc, tasks.tasks, tasks.fuel)?, order)?;
+    is_elided(alloc, tasks, &left)
 }
 
 /// Runs of these tasks leave what the elision leaves, from a stack and in ten orders.
 pub fn leave_the_same(alloc: Global, tasks: &Tasks<'_>) -> Result<(), Fail> {
-    let left = texts(alloc, plan(alloc, tasks.tasks, tasks.fuel)?, Order::Stack)?;
-    is_elided(alloc, tasks, &left)?;
+    leaves_the_same(alloc, tasks, Order::Stack)?;
     for seed in 0..10 {
-        let left = texts(
-            alloc,
-            plan(alloc, tasks.tasks, tasks.fuel)?,
-            Order::Chance(seed),
-        )?;
-        is_elided(alloc, tasks, &left)?;
+        leaves_the_same(alloc, tasks, Order::Chance(seed))?;
     }
     Ok(())
 }
@@ -231,7 +272,7 @@ pub fn stops(
 /// Runs of the row's plan leave nothing where no memory is found at one of the asks, whichever it is. Where that is behind them all, the run
 /// leaves what the row says.
 pub fn stops_at_each_ask(alloc: Global, row: &Row<'_>, order: Order<'_>) -> Result<(), Fail> {
-    let count = asks(alloc, row.tasks, usize::MAX)?.asks.len();
+    let count = asks_count(alloc, row.tasks)?;
     for fails in 0..count {
         stops(alloc, row.tasks, row.fuel, fails, order)?;
     }
@@ -254,15 +295,38 @@ fn stops_where_the_elision_stops(
     is_elided(alloc, tasks, &texts(alloc, plan, order)?)
 }
 
-/// So do runs of these tasks from a stack and in ten orders, for each index of the list of all asks.
-pub fn stop_where_the_elision_stops(alloc: Global, tasks: &Tasks<'_>) -> Result<(), Fail> {
-    for fails in 0..asks(alloc, tasks.tasks, usize::MAX)?.asks.len() {
-        stops_where_the_elision_stops(alloc, tasks, fails, Order::Stack)?;
-        for seed in 0..10 {
-            stops_where_the_elision_stops(alloc, tasks, fails, Order::Chance(seed))?;
-        }
+/// So do runs of these tasks from a stack and in ten orders.
+fn stop_at(alloc: Global, tasks: &Tasks<'_>, fails: usize) -> Result<(), Fail> {
+    stops_where_the_elision_stops(alloc, tasks, fails, Order::Stack)?;
+    for seed in 0..10 {
+        stops_where_the_elision_stops(alloc, tasks, fails, Order::Chance(seed))?;
     }
     Ok(())
+}
+
+/// How long the list of all asks of these tasks is.
+fn asks_count(alloc: Global, tasks: &[&str]) -> Result<usize, Fail> {
+    Ok(asks(alloc, tasks, usize::MAX)?.asks.len())
+}
+
+/// So do they for each index of the list of all asks.
+pub fn stop_where_the_elision_stops(alloc: Global, tasks: &Tasks<'_>) -> Result<(), Fail> {
+    for fails in 0..asks_count(alloc, tasks.tasks)? {
+        stop_at(alloc, tasks, fails)?;
+    }
+    Ok(())
+}
+
+/// The two texts of what a run of this plan by so many workers leaves.
+fn texts_by_workers<T: Threads + Wait + Clock + Sync>(
+    rt: &T,
+    alloc: Global,
+    plan: Plan<AskList>,
+    workers: u32,
+) -> Result<Printed, Fail> {
+    let shape = Shape::new(workers, 16).ok_or("no shape")?;
+    let (outcome, _ran) = run(rt, alloc, plan, &shape, &OpenGate)?.outcome();
+    printed(alloc, &outcome)
 }
 
 /// Runs of these tasks by several workers leave what the elision leaves.
@@ -272,10 +336,8 @@ pub fn workers_leave_the_same<T: Threads + Wait + Clock + Sync>(
     tasks: &Tasks<'_>,
 ) -> Result<(), Fail> {
     for workers in [1, 2, 3, 4, 64] {
-        let shape = Shape::new(workers, 16).ok_or("no shape")?;
         let plan = plan(alloc, tasks.tasks, tasks.fuel)?;
-        let (outcome, _ran) = run(rt, alloc, plan, &shape, &OpenGate)?.outcome();
-        is_elided(alloc, tasks, &printed(alloc, &outcome)?)?;
+        is_elided(alloc, tasks, &texts_by_workers(rt, alloc, plan, workers)?)?;
     }
     Ok(())
 }

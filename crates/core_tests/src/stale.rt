@@ -1,10 +1,10 @@
 // Frames that come to a core that hasn't given them last.
 ghost use Rattle.std.specs.Prelude.{◌≡◌, [], IfOk, OnOk};
 ghost use Rattle.task_frames.specs.Resumes.{IsOpened, ends_of};
-ghost use Rattle.core_tests.specs.Pools.{MayAllCome};
+ghost use Rattle.core_tests.specs.Pools.{MayAllCome, MayCome};
 
 use crate::plans::asks;
-use crate::runs::alone;
+use crate::runs::{alone, frames_from};
 use crate::turn::FrameTurn;
 use crate::turns::take_turns;
 use elision_tests::AskList;
@@ -93,9 +93,7 @@ pub fn frames_after<B: Body, Q: Queues>(
         body,
         root,
     } = opened;
-    let mut frames = alone(alloc, root)?;
-    take_turns(alloc, &mut core, &body, &mut frames, turns)?;
-    Ok(frames)
+    frames_from(alloc, &mut core, &body, root, turns)
 }
 
 /// Takes these turns of some frames. What else may come to the core may still come to it.
@@ -151,6 +149,23 @@ fn take_all<B: Body, Q: Queues>(
     take_rest(alloc, core, body, own, stale, turns)
 }
 
+/// The same with this frame as the core's own at first.
+fn take_from<B: Body, Q: Queues>(
+    alloc: Global,
+    core: &mut Core<B, Q>,
+    body: &B,
+    root: Frame<B, Q>,
+    stale: &mut Vec<Frame<B, Q>>,
+    turns: &Turns<'_>,
+) -> Result<(), Fail>
+    requires body { body.now ≡ core.old.plan.body }
+    requires root { MayCome Q.Ends.run core.old root }
+    requires stale { MayAllCome Q.Ends.run core.old stale.old.items }
+{
+    let mut own = alone(alloc, root)?;
+    take_all(alloc, core, body, &mut own, stale, turns)
+}
+
 /// The turns of an opened run, to whose core stale frames come, come to what is said.
 fn come_so<B: Body, Q: Queues>(
     alloc: Global,
@@ -167,9 +182,8 @@ fn come_so<B: Body, Q: Queues>(
         body,
         root,
     } = opened;
-    let mut own = alone(alloc, root)?;
     let mut stale = stale;
-    take_all(alloc, &mut core, &body, &mut own, &mut stale, turns)
+    take_from(alloc, &mut core, &body, root, &mut stale, turns)
 }
 
 /// An opened run of the plan that goes through these asks.

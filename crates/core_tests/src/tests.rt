@@ -547,30 +547,47 @@ fn turns_of_chain(alloc: Global, are_tried: bool) -> Result<Vec<FrameTurn>, Fail
     Ok(turns)
 }
 
-#[test]
-fn a_frame_at_depth_64_spawns_nothing(rt: HostRuntime) -> Result<(), Fail> {
-    let alloc = rt.alloc();
-    let texts = chain(alloc)?;
-    let mut tasks = Vec::new(alloc);
-    for text in texts.as_slice() {
-        tasks.push(text.as_str())?;
-    }
-    let mut report = format!(in alloc; "left jobs 2\nfaults 1\nfault ")?;
+/// The end of the report of a chain.
+fn report_of_chain(alloc: Global) -> Result<String, Fail> {
+    let mut report = String::new(alloc);
+    report.push_str("left jobs 2\nfaults 1\nfault ")?;
     for _ in 0..64 {
         report.push_str("/0")?;
     }
     report.push_str(" 128 Depth\n")?;
+    Ok(report)
+}
+
+/// The tasks of a chain, whose texts are these.
+fn tasks_of_chain(alloc: Global, texts: &[String]) -> Result<Vec<&str>, Fail> {
+    let mut tasks = Vec::new(alloc);
+    for text in texts {
+        tasks.push(text.as_str())?;
+    }
+    Ok(tasks)
+}
+
+/// Runs of a chain of these tasks leave this, by turns and from a stack.
+fn chain_leaves(alloc: Global, tasks: &[&str], report: &str) -> Result<(), Fail> {
     let row = Row {
-        tasks: tasks.as_slice(),
+        tasks,
         fuel: 1_000,
         out: "",
-        report: report.as_str(),
+        report,
     };
     for are_tried in [false, true] {
         let turns = turns_of_chain(alloc, are_tried)?;
         leaves(alloc, &row, Order::Turns(turns.as_slice()))?;
     }
     leaves(alloc, &row, Order::Stack)
+}
+
+#[test]
+fn a_frame_at_depth_64_spawns_nothing(rt: HostRuntime) -> Result<(), Fail> {
+    let texts = chain(rt.alloc())?;
+    let tasks = tasks_of_chain(rt.alloc(), texts.as_slice())?;
+    let report = report_of_chain(rt.alloc())?;
+    chain_leaves(rt.alloc(), tasks.as_slice(), report.as_str())
 }
 
 #[test]
