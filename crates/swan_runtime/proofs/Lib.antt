@@ -1,4 +1,4 @@
--- Lemmas on runs out of order. Each group stands by itself; what a file is for stands at its head.
+-- Lemmas on runs out of order. Each group stands by itself, and in it no file stands on a later one. What a file is for stands at its head.
 
 -- a run on a stack: how its frames stand, what a turn costs them, and how many turns and frames there are
 pub mod Fuel
