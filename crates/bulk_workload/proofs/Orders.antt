@@ -1,10 +1,10 @@
 -- The generated job is read, checked and planned without a refusal.
 use Rattle.std.proofs.Common.{◌≡◌, ℕ, zero, suc, ◌+◌, ◌<◌, ◌≤◌, ◌%◌, ◌^◌, Bool, true, false, cond, List, [], ◌∷◌, ◌++◌, length, take, None, Result, Ok, Err, refl, ap, ◌∙◌, append_assoc, arith, length-append}
-use Rattle.std.specs.Prelude.{◌==◌, ◌||◌, not, nat_lt, nat_le, pos, codes, bytes_eq, flat_map}
+use Rattle.std.specs.Prelude.{◌||◌, not, nat_lt, nat_le, pos, codes, bytes_eq, flat_map}
 use Rattle.std.specs.Char.{is_ascii_digit}
 use Rattle.std.specs.Fmt.{decimal}
 use Rattle.std.specs.List.{list_all, join_with_byte}
-use Rattle.std.proofs.lemmas.Bool.{and_parts, cond-false, le-ltb, leb-true, lt-leb, ne_eqb}
+use Rattle.std.proofs.lemmas.Bool.{and_parts, cond-false, le-ltb, lt-leb, ne_eqb}
 use Rattle.std.proofs.lemmas.Fmt.{length-decimal-le}
 use Rattle.swan_model.specs.declared.lines.TheConstants.{LINES_MOST}
 use Rattle.swan_model.specs.declared.record.TheConstants.{RECORD_MOST}

@@ -13,7 +13,7 @@ use Rattle.swan_model.specs.Granted.{is_spawn}
 use Rattle.swan_model.specs.Nested.{spawn_time, IsEntryUnder, IsEntryOf, IsEndOf, IsNested}
 use Rattle.swan_model.specs.Script.{entry_of, entry_on, script}
 use Rattle.swan_model.specs.SerialState.{Activation}
-use Rattle.swan_model.specs.SerialStep.{step_on, effect_of, state_after}
+use Rattle.swan_model.specs.SerialStep.{step_on, effect_of}
 use Rattle.serial_elision.proofs.Entries.{get_script, over-after}
 use Rattle.serial_elision.proofs.Nesting.{next_stack, end_is_last, not_yet, spawn_at}
 use Rattle.serial_elision.proofs.Passing.{IsNotYetEach, IsRunning, after-running, after-spawn}

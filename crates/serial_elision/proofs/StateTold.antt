@@ -10,7 +10,6 @@ use Rattle.swan_model.specs.declared.script.Script.{Script}
 use Rattle.swan_model.specs.declared.value.Value.{Value}
 use Rattle.swan_model.specs.Elision.{first_queues, first_cells}
 use Rattle.swan_model.specs.SerialState.{Cell, Queue, Store}
-use Rattle.swan_model.specs.SerialStep.{state_after}
 use Rattle.swan_model.specs.Told.{is_same, deed_at, items, first_value, cell_from, changed_by, made}
 use Rattle.swan_model.specs.Values.{kind_of}
 use Rattle.serial_elision.proofs.Becomes.{Becomes, HasOrigins, QueueAfter, stayed, is_new, CellAfter, kept, is_made}

@@ -1,5 +1,5 @@
 -- Files and sinks that never fail.
-use Rattle.std.specs.Prelude.{◌≡◌, ℕ, ◌+◌, List, [], ◌++◌, length, nat_le, if◌then◌else◌, Option, Some, None, Result, Ok, Err}
+use Rattle.std.specs.Prelude.{ℕ, ◌+◌, List, [], ◌++◌, length, nat_le, if◌then◌else◌, Option, Some, None, Result, Ok, Err}
 use Rattle.swan_outside.specs.Counts.{next_count}
 use Rattle.swan_outside.specs.FilesState.{content_of}
 use Rattle.swan_outside.specs.declared.answer.ReadAnswer.{ReadAnswer}

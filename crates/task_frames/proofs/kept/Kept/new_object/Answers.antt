@@ -1,4 +1,4 @@
-use Rattle.std.proofs.Common.{◌≡◌, ◌<◌, ◌+◌, None, sym, subst, ap, arith, IsSome}
+use Rattle.std.proofs.Common.{◌≡◌, ◌<◌, None, sym, subst, ap, arith, IsSome}
 use Rattle.swan_model.specs.declared.rights.Mode.TheVariants.{InOut}
 use Rattle.swan_model.specs.SerialState.{Holding}
 use Rattle.swan_model.specs.Versions.{placed_at}

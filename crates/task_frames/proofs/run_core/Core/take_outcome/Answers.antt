@@ -1,4 +1,4 @@
-use Rattle.std.proofs.Common.{None, sym, ap, ◌∙◌}
+use Rattle.std.proofs.Common.{sym, ap, ◌∙◌}
 use Rattle.task_frames.specs.Cores.{CoreView}
 use Rattle.task_frames.specs.Records.{live_at}
 use Rattle.swan_model.proofs.Elements.{none_is}
