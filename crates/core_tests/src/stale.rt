@@ -93,7 +93,8 @@ pub fn frames_after<B: Body, Q: Queues>(
         body,
         root,
     } = opened;
-    frames_from(alloc, &mut core, &body, root, turns)
+    let frames = frames_from(alloc, &mut core, &body, root, turns)?;
+    Ok(frames)
 }
 
 /// Takes these turns of some frames. What else may come to the core may still come to it.
