@@ -269,6 +269,11 @@ pub fn stops(
     }
 }
 
+/// How long the list of all asks of these tasks is.
+fn asks_count(alloc: Global, tasks: &[&str]) -> Result<usize, Fail> {
+    Ok(asks(alloc, tasks, usize::MAX)?.asks.len())
+}
+
 /// Runs of the row's plan leave nothing where no memory is found at one of the asks, whichever it is. Where that is behind them all, the run
 /// leaves what the row says.
 pub fn stops_at_each_ask(alloc: Global, row: &Row<'_>, order: Order<'_>) -> Result<(), Fail> {
@@ -302,11 +307,6 @@ fn stop_at(alloc: Global, tasks: &Tasks<'_>, fails: usize) -> Result<(), Fail> {
         stops_where_the_elision_stops(alloc, tasks, fails, Order::Chance(seed))?;
     }
     Ok(())
-}
-
-/// How long the list of all asks of these tasks is.
-fn asks_count(alloc: Global, tasks: &[&str]) -> Result<usize, Fail> {
-    Ok(asks(alloc, tasks, usize::MAX)?.asks.len())
 }
 
 /// So do they for each index of the list of all asks.

@@ -1,5 +1,5 @@
 -- The text of a job, in the order to read it. First bytes, and what lines, tokens and literals are, by their pieces and as they are
--- found byte by byte.
+-- found byte by byte; `Texts` is cited by private contracts alone.
 pub mod Characters
 pub mod Texts
 pub mod Pieces

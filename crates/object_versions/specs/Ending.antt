@@ -19,7 +19,7 @@ pub record IsSettling (entries : Entries) (start now : Slab Node) (made frame : 
       ≡ settle (versions_of entries start made) frame (object_at start key) (version_at start key)
   pub stay : (key : ℕ) (value : Value) → 0 < uses key entries → version_at start key ≡ settled value → version_at now key ≡ settled value
 
--- what holds where versions are being settled so, at a place of the frame and what stands there
+-- what holds while a frame's versions are being settled, of what stands at one of its places
 abbrev pub OnSettling : (now : Slab Node) → PlacedObject → ((entries : Entries) → (start : Slab Node) → (made frame : ℕ) → Type 0) → Type 0
 OnSettling now place Holds =
     (entries : Entries) (start : Slab Node) (made frame at : ℕ) → IsSettling entries start now made frame → place_at entries frame at ≡ Some place

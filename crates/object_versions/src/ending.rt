@@ -24,7 +24,7 @@ fn settle_owed(nodes: &mut Slab<Node>, place: &PlacedObject) -> Result<(), NoMem
     ensures settling { OnSettling nodes.old place.now (λ entries start made frame. IsSettling entries start nodes.new made frame) }
     ensures no_more { OnSettling nodes.old place.now (λ entries start made frame. OwesNoMore entries nodes.old nodes.new) }
 
-    // and with memory
+    // and with memory alone
     ensures paid { OnOk result (OnSettling nodes.old place.now (λ entries start made frame. IsPaid nodes.new place.now)) }
 {
     let Some(owed) = place.owes else {

@@ -63,8 +63,8 @@ fn goes<B: Body>(
     Ok(child)
 }
 
-/// What a task that begins with this local asks for that is told these words, and then the child that it asks for last,
-/// told those.
+/// What a task asks for that begins with this local and is told these words; and then, told those, the child that it asks
+/// for last.
 fn asks_of<B: Body>(
     alloc: Global,
     body: &B,

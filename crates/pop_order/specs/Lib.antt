@@ -7,8 +7,8 @@ pub mod Turns
 -- What a set of pairs has, and what a call changes of what is known by numbers; the crates above cite both too.
 pub mod NumberPairs
 pub mod OneChange
--- By these the code's own functions are stated, and no public clause. Two sets stand beside the frames, of children and of givers
--- (`Children` and `Givers`), and `Kept` says what they have.
+-- By these the code's own functions are stated, and no public clause. Three sets stand beside the frames, two of children and one of
+-- givers (`Children` and `Givers`), and `Kept` says what they have.
 pub mod Children
 pub mod Givers
 pub mod Kept

@@ -24,7 +24,7 @@ has_pair pairs first second = list_any (is_at (pair_cmp (first, second))) pairs
 abbrev pub is_pair : (first second f s : ℕ) → Bool
 is_pair first second f s = (first == f) && (second == s)
 
--- the least number, from one on, that a set has behind a first number
+-- the least number, from a given one on, that a set has behind a first number
 pub record IsNext (pairs : List NumberPair) (first from number : ℕ) : Type 0 where
   pub known : has_pair pairs first number ≡ true
   pub from_there : from ≤ number

@@ -57,7 +57,7 @@ impl NumberPairs {
         self.entries.clear();
     }
 
-    /// The least number, from one on, that stands behind a first number; None exactly where there is none. `O(log n)`; it takes no
+    /// The least number, from a given one on, that stands behind a first number; None exactly where there is none. `O(log n)`; it takes no
     /// memory.
     #[tactic(auto, using(crate::proofs::PairOrder::of_one_first))]
     pub fn next(&self, first: u64, from: u64) -> Option<u64>

@@ -1,5 +1,5 @@
 -- What the contracts of this crate cite, in the order to read it. First what is said of the plain form: its ends, what
--- contracts see of it, and what makes of a state what a call leaves.
+-- contracts see of it, and what the calls make of a state (`Calls`, which private contracts alone cite).
 pub mod NoEnds
 pub mod BookView
 pub mod Calls

@@ -6,8 +6,9 @@ pub mod TaskSteps
 pub mod OnSteps
 -- Why the numbers of an activation fit, and of whatever goes on as one does.
 pub mod Bounds
--- By these the code's own functions are stated, and no public clause: the state some steps later, what stands at a place and
--- what an ask makes of it, and what an ask did as the code has it.
+-- The state some steps later, by which the crate above says what a whole run is too.
 pub mod Working
+-- By these the code's own functions are stated, and no public clause: what stands at a place and what an ask makes of it, and what
+-- an ask did as the code has it.
 pub mod Places
 pub mod Effects

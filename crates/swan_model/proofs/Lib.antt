@@ -2,8 +2,8 @@
 -- at its head.
 
 -- lists, entries and places
-pub mod Elements
 pub mod Lists
+pub mod Elements
 pub mod RootLists
 pub mod Lookups
 pub mod Places

@@ -1,4 +1,4 @@
--- The reducer of sums. A part is the PART_BYTES bytes of a number of 128 bits in two's complement, the highest first,
+-- The reducer of sums. A part is the 16 bytes (PART_BYTES) of a number of 128 bits in two's complement, the highest first,
 -- and parts are joined by their sum, which wraps there.
 use Rattle.std.specs.Prelude.{ℕ, ◌==◌, nat_lt, Bool, ◌&&◌, ℤ, pos, ◌+ℤ◌, Option, Some, None, option_map, Result, Ok, Err, if◌then◌else◌, List, [], ◌∷◌, length}
 use Rattle.std.specs.Fmt.{signed_decimal}

@@ -88,11 +88,11 @@ module _ {B Q L E : Type 0} where
 
   -- ---- what is changed
 
-  -- under this frame it is that then, or the frame isn't live, and under all others it is as before
+  -- What sleeps under this frame is this afterwards, or none where the frame isn't live then, and under all others it is as before.
   abbrev pub AreOnlySleepers : (before after : Asleep B Q L E) (number : ℕ) → Option (Sleepers B Q L E) → Type 0
   AreOnlySleepers before after number sleepers = IsOnlyChange (sleepers_at before) (sleepers_at after) number sleepers
 
-  -- under all frames but this one it is as before
+  -- what sleeps under all frames but this one is as before
   abbrev pub OtherSleepersStay : (before after : Asleep B Q L E) → (number : ℕ) → Type 0
   OtherSleepersStay before after number = AreOnlySleepers before after number (sleepers_at after number)
 

@@ -1,7 +1,8 @@
 -- What the contracts of this crate cite, in the order to read it. First a run on a stack: how its frames stand, and how long it is.
 pub mod Stacks
 pub mod Turns
--- Then a run by several workers: what they share, under whom a frame sleeps, what a turn answers, and which workers are of one opening.
+-- Then a run by several workers: what they share, under whom a frame sleeps (`Beds`, which private contracts alone cite), what a turn
+-- answers, and which workers are of one opening.
 pub mod Shared
 pub mod Beds
 pub mod Turned

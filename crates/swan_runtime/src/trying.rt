@@ -125,7 +125,7 @@ fn has_to_wait<B: Body, Q: Queues>(
         → AreOfRun (ends_of Q.Ends.LocalEnds) plan run ready.old.items → IfOk result (λ tried. IfSome tried.frame (IsOfRun (ends_of Q.Ends.LocalEnds) plan run)) }
     ensures kept { KeepsOfRun (ends_of Q.Ends.LocalEnds) (frame ∷ []) asleep.old asleep.new ready.old.items ready.new.items }
 
-    // where the frame sleeps
+    // where the frame sleeps, or that it is ready
     ensures bed { IfOk result (λ tried. HasGoneToBed (bed_of asleep.old frame.task.number waited.wait) asleep.old asleep.new ready.old.items
         (ready.new.items ++ option_to_list tried.frame) frame waited.wait) }
 {

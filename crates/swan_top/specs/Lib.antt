@@ -1,5 +1,4 @@
--- What the top call does. The first eight files are what a reader of its clauses needs, in this order. The
--- others are what the code's own functions answer.
+-- What the top call does. The first eight files are what a reader of its clauses needs, in this order.
 pub mod Command
 pub mod Elisions
 pub mod Refusals
@@ -8,6 +7,8 @@ pub mod Headline
 pub mod Completeness
 pub mod Pipelines
 pub mod Generated
+-- The code of a status.
 pub mod Codes
+-- By these the code's own functions are stated, and no public clause.
 pub mod Settled
 pub mod Forms

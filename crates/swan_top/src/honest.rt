@@ -35,7 +35,7 @@ pub fn honest_calls_end_well()
         let seen = call_over F S S (files, out, report) (files', out', report') in
         Answers elisions seen asked ends → EndsWell seen asked ends }
 
-    // and a command that is in order writes what it comes to, or memory ran out; words that are none are refused
+    // and a command that is in order writes what it comes to, or memory ran out; words that are no command end as Usage
     ensures completes { (files files' : HonestFilesState) (out out' report report' : HonestSinkState)
         (asked : Option Command) (ends : Status) →
         let F = ⟦<HonestFiles as Files>⟧ in let S = ⟦<HonestSink as Sink>⟧ in
@@ -62,7 +62,7 @@ pub fn honest_call<T: Threads + Wait + Clock + Sync, G: Gate>(
         let seen = call_over F S S (files.old, out.old, report.old) (files.new, out.new, report.new) in
         EndsWell seen (command words.now) result }
 
-    // a command that is in order writes what it comes to, or memory ran out; words that are none are refused
+    // a command that is in order writes what it comes to, or memory ran out; words that are no command end as Usage
     ensures completes { let F = ⟦<HonestFiles as Files>⟧ in let S = ⟦<HonestSink as Sink>⟧ in
         let seen = call_over F S S (files.old, out.old, report.old) (files.new, out.new, report.new) in
         CompletesWell elisions seen (command words.now) result }

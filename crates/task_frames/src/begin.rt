@@ -94,7 +94,7 @@ fn held(alloc: Global, queues: &RootQueues, objects: &Values) -> Result<Vec<Hold
 }
 
 /// Makes the root queues of the plan, one after the other. The answer is the reading that has them. Err is want of memory.
-/// The plan itself is there for what contracts say alone.
+/// The plan itself is there for contracts alone.
 fn make_queues<B: Body, Q: Queues>(
     plan: &Meaning<Plan<B>>,
     queues: &mut Q,
@@ -131,7 +131,7 @@ struct FirstObjects {
 }
 
 /// Makes the root objects of the plan, one after the other, at the places behind those of the queues. Err is want of memory.
-/// The plan itself is there for what contracts say alone.
+/// The plan itself is there for contracts alone.
 fn make_objects<B: Body>(
     alloc: Global,
     plan: &Meaning<Plan<B>>,

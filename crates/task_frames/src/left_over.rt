@@ -76,7 +76,7 @@ fn values_left<B: Body, Q: Queues>(
 }
 
 /// What is left in each root queue. Err is want of memory. It costs what `Queues::take_rest` costs for each. The plan is
-/// there for what contracts say alone.
+/// there for contracts alone.
 fn rests_left<B: Body, Q: Queues>(
     alloc: Global,
     plan: &Meaning<Plan<B>>,
@@ -117,7 +117,7 @@ fn in_serial_order<B: Body>(plan: &Meaning<Plan<B>>, faults: Vec<Fault>) -> Faul
 }
 
 /// Takes the outcome of the plan out of what its core keeps, once the root has ended. Err is want of memory. `O(f log f)` for f faults,
-/// and what taking the values and the items costs. The plan is there for what contracts say alone.
+/// and what taking the values and the items costs. The plan is there for contracts alone.
 fn outcome_left<B: Body, Q: Queues>(
     alloc: Global,
     plan: &Meaning<Plan<B>>,
