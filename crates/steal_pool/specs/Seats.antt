@@ -1,9 +1,11 @@
 -- What clauses say of the seats of a pool.
 use Rattle.std.specs.Prelude.{◌≡◌, ℕ, List, [], ◌∷◌, Some, ◌+◌}
-use Rattle.crossbeam_deque.specs.Handles.{worker_index, worker_port, worker_view}
+use Rattle.std.specs.declared.alloc.Global.{Global}
+use Rattle.crossbeam_deque.specs.Handles.{worker_capacity, worker_deque, worker_index, worker_port, worker_view}
 use Rattle.crossbeam_utils.specs.Padded.{padded_value}
 use Rattle.named_lock.specs.declared.named.Named.{Ghosts}
 use Rattle.steal_pool.specs.declared.rule.PoolView.{PoolView}
+use Rattle.steal_pool.specs.declared.rule.Stage.TheVariants.{Open}
 use Rattle.steal_pool.specs.declared.seat.PoolSeat.{PoolSeat}
 use Rattle.steal_pool.specs.Rule.{IsAtStage, one_more}
 use Rattle.steal_pool.specs.Kept.{frames}
@@ -14,7 +16,16 @@ module _ {T N : Type 0} {G : Ghosts T N} where
   abbrev pub pool_name : PoolSeat T N G → N
   pool_name seat = seat.name
 
-  -- the number of the next frame that the seat puts into its deque: it counts up with each put
+  -- which deque is the seat's own
+  abbrev pub own_deque : PoolSeat T N G → (ℕ × ℕ) × Global
+  own_deque seat = worker_deque (padded_value seat.own)
+
+  -- how many frames the seat's deque has room for, before it grows
+  abbrev pub own_room : PoolSeat T N G → ℕ
+  own_room seat = worker_capacity (padded_value seat.own)
+
+  -- how far the seat's deque is filled: each put there counts it up by one, and a take leaves it or, as far as clauses say,
+  -- takes it down
   abbrev pub next_put : PoolSeat T N G → ℕ
   next_put seat = worker_index (padded_value seat.own)
 
@@ -36,11 +47,11 @@ module _ {T N : Type 0} {G : Ghosts T N} where
 
   -- a seat of the pool with this name, which knows the name, and whose own list is empty
   abbrev pub IsNewSeat : N → PoolSeat T N G → Type 0
-  IsNewSeat name seat = (pool_name seat ≡ name) × IsAtStage 2 (Some name) (own_view seat) × (listed seat ≡ [])
+  IsNewSeat name seat = (pool_name seat ≡ name) × IsAtStage Open (Some name) (own_view seat) × (listed seat ≡ [])
 
-  -- it is the same seat of the same pool
+  -- it is the same seat of the same pool: the pool's name, the seat's own deque and its place there are the same
   abbrev pub SameSeat : PoolSeat T N G → PoolSeat T N G → Type 0
-  SameSeat old new = (pool_name new ≡ pool_name old) × (own_port new ≡ own_port old)
+  SameSeat old new = (pool_name new ≡ pool_name old) × (own_deque new ≡ own_deque old) × (own_port new ≡ own_port old)
 
   -- no frame left the seat's deque or was stolen by its steps
   abbrev pub SameView : PoolSeat T N G → PoolSeat T N G → Type 0

@@ -1,12 +1,13 @@
 // One deque of a pool, and the ways to it.
 ghost use Rattle.std.specs.Prelude.{◌≡◌, ◌+◌, ◌≤◌, Some, IfOk, IfErr, IfSome, IfNone, OnOk, OnErr};
 ghost use Rattle.crossbeam_deque.specs.Tasks.{Finds};
-ghost use Rattle.crossbeam_deque.specs.Handles.{view, IsPassOf, worker_deque, worker_view, worker_port, worker_flavor, worker_index, stealer_deque, stealer_flavor};
+ghost use Rattle.crossbeam_deque.specs.Handles.{view, IsPassOf, worker_deque, worker_view, worker_port, worker_flavor, worker_index, worker_capacity, stealer_deque, stealer_flavor};
 ghost use Rattle.steal_pool.specs.Rule.{IsAtStage, new_pass, Pooled, one_more};
+ghost use Rattle.steal_pool.specs.declared.rule.Stage.TheVariants.{Open};
 
 use crate::parcel::Parcel;
-use crate::rule::{Labels, Nothing, Opens, PoolRule, PoolView, Puts, Takes, Twins};
-use crossbeam_deque::protocol::Outcome;
+use crate::rule::{Labels, Opens, PoolRule, PoolView, Puts, Takes, Twins};
+use crossbeam_deque::protocol::{Free, Outcome};
 use crossbeam_deque::{Pass, Steal, Stealer, Worker};
 use named_lock::{NameOf, Named};
 use std::alloc::Global;
@@ -32,7 +33,7 @@ pub(crate) struct Empty {
 
 /// A deque that has the name of `like`. It allocates the deque with its first ring.
 pub(crate) fn own_like<T: Named>(alloc: Global, like: &T) -> Result<Own<T>, NoMemory>
-    ensures { IfOk result (λ own. (worker_flavor own ≡ 0) × IsAtStage 2 (Some (T.name like.now)) (worker_view own)) }
+    ensures { IfOk result (λ own. (worker_flavor own ≡ 0) × IsAtStage Open (Some (T.name like.now)) (worker_view own)) }
 {
     let mut own = Own::<T>::fifo_as(alloc, FIRST_ROOM)?;
     let label = Parcel::Label(NameOf::of(like));
@@ -47,10 +48,11 @@ pub(crate) fn own_like<T: Named>(alloc: Global, like: &T) -> Result<Own<T>, NoMe
 
 /// Puts a frame that has the name, or hands it back where the deque can't grow. `O(1)` amortised.
 pub(crate) fn push_frame<T: Named>(own: &mut Own<T>, frame: T) -> Result<(), T>
-    requires { IsAtStage 2 (Some (T.name frame)) (worker_view own.old) }
-    ensures same { (worker_view own.new ≡ worker_view own.old) × (worker_flavor own.new ≡ worker_flavor own.old) × (worker_port own.new ≡ worker_port own.old) }
+    requires { IsAtStage Open (Some (T.name frame)) (worker_view own.old) }
+    ensures same { (worker_deque own.new ≡ worker_deque own.old) × (worker_view own.new ≡ worker_view own.old) × (worker_flavor own.new ≡ worker_flavor own.old) × (worker_port own.new ≡ worker_port own.old) }
     ensures ok { OnOk result (worker_index own.new ≡ worker_index own.old + 1) }
     ensures err { IfErr result (λ given. (given ≡ frame) × (worker_index own.new ≡ worker_index own.old)) }
+    ensures full { OnErr result (worker_capacity own.old ≤ worker_index own.old) }
 {
     match own.push_as::<Puts>(Parcel::Item(frame)) {
         Ok(()) => Ok(()),
@@ -64,9 +66,9 @@ pub(crate) fn pop_frame<T: Named, M: Outcome<T, PoolView<T::Name>>>(
     own: &mut Own<T>,
 ) -> Result<T, Empty>
     // how the deque stands, and what stays
-    requires stage { (worker_flavor own.old ≡ 0) × ((worker_view own.old).stage ≡ 2) }
+    requires stage { (worker_flavor own.old ≡ 0) × ((worker_view own.old).stage ≡ Open) }
     requires empty { Finds (Pooled T.name) (worker_port own.old) (worker_view own.old) (M.empty (worker_view own.old)) }
-    ensures same { (worker_flavor own.new ≡ worker_flavor own.old) × (worker_port own.new ≡ worker_port own.old) × (worker_index own.new ≤ worker_index own.old) }
+    ensures same { (worker_deque own.new ≡ worker_deque own.old) × (worker_flavor own.new ≡ worker_flavor own.old) × (worker_port own.new ≡ worker_port own.old) × (worker_index own.new ≤ worker_index own.old) }
 
     // a frame
     ensures ok { IfOk result (λ frame. (worker_view own.old).name ≡ Some (T.name frame)) }
@@ -84,7 +86,7 @@ pub(crate) fn pop_frame<T: Named, M: Outcome<T, PoolView<T::Name>>>(
 
 /// A thief's way to a deque. It allocates nothing, and fails where the deque has all the stealers that it may have.
 pub(crate) fn new_thief<T: Named>(own: &mut Own<T>) -> Result<(Other<T>, Thief<T>), NoMemory>
-    requires { (worker_flavor own.old ≡ 0) × ((worker_view own.old).stage ≡ 2) }
+    requires { (worker_flavor own.old ≡ 0) × ((worker_view own.old).stage ≡ Open) }
     ensures own { (worker_view own.new ≡ worker_view own.old) × (worker_flavor own.new ≡ 0) }
     ensures thief { IfOk result (λ r. IsPassOf (stealer_deque r.0) r.1 × (view r.1 ≡ new_pass (worker_view own.old)) × (stealer_flavor r.0 ≡ 0)) }
 {
@@ -95,13 +97,13 @@ pub(crate) fn new_thief<T: Named>(own: &mut Own<T>) -> Result<(Other<T>, Thief<T
 
 /// Tries once to steal a frame, which has the name. `O(1)`.
 pub(crate) fn steal_frame<T: Named>(other: &Other<T>, pass: &mut Thief<T>) -> Option<T>
-    requires { IsPassOf (stealer_deque other.now) pass.old × ((view pass.old).stage ≡ 2) }
+    requires { IsPassOf (stealer_deque other.now) pass.old × ((view pass.old).stage ≡ Open) }
     ensures same { IsPassOf (stealer_deque other.now) pass.new }
     ensures some { IfSome result (λ frame. (view pass.old).name ≡ Some (T.name frame)) }
     ensures taken { IfSome result (λ frame. view pass.new ≡ one_more (view pass.old)) }
     ensures none { IfNone result (view pass.new ≡ view pass.old) }
 {
-    match other.steal_as::<Takes<Nothing>>(pass) {
+    match other.steal_as::<Takes<Free>>(pass) {
         Steal::Success(Parcel::Item(frame)) => Some(frame),
         Steal::Success(Parcel::Label(_)) => unreachable!(),
         Steal::Empty | Steal::Retry => None,

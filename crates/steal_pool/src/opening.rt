@@ -14,7 +14,8 @@ pub const SEATS_MOST: u32 = 256;
 /// The seats of a new pool, one for each worker, of which there are 1 to 256. The pool's name is that of `like`, each
 /// seat knows it, and its own list is empty.
 ///
-/// It allocates the list of the seats, and for each its deque with a first ring and a list of the others. `O(workers * workers)`.
+/// It allocates the list of the seats, and for each its deque with a first ring and a list of the others. `NoMemory` comes
+/// where one of these isn't found, and no seat is left then. `O(workers * workers)`.
 pub fn pool<T: Named>(alloc: Global, like: &T, workers: u32) -> Result<Vec<PoolSeat<T>>, NoMemory>
     requires { (1 ≤ workers) × (workers ≤ SEATS_MOST) }
     ensures count { IfOk result (λ seats. vec_len seats ≡ workers) }
@@ -39,7 +40,7 @@ fn seats_alone<T: Named>(
 {
     let mut seats = Vec::with_capacity(alloc, count)?;
     for _turn in 0..count {
-        seats.push(PoolSeat::alone(alloc, like, count)?)?;
+        seats.push_reserved(PoolSeat::alone(alloc, like, count - 1)?);
     }
     Ok(seats)
 }

@@ -3,6 +3,7 @@ ghost use Rattle.std.specs.Prelude.{◌≡◌, ◌+◌, Some, IfNone, IfSome, If
 ghost use Rattle.crossbeam_deque.specs.Handles.{view, IsPassOf, worker_view, worker_flavor, stealer_deque};
 ghost use Rattle.std.specs.Coded.{Coded-set, coded_option};
 ghost use Rattle.steal_pool.specs.Rule.{IsAtStage};
+ghost use Rattle.steal_pool.specs.declared.rule.Stage.TheVariants.{Open};
 
 use crate::deque::{Other, Own, Thief, new_thief, steal_frame};
 use named_lock::{NameOf, Named};
@@ -15,7 +16,7 @@ pub(crate) struct Peer<T: Named> {
     pass: Thief<T>,
     pub(crate) name: NameOf<T>,
     ghost of: { IsPassOf (stealer_deque stealer) pass },
-    ghost stage: { (view pass).stage ≡ 2 },
+    ghost stage: { (view pass).stage ≡ Open },
     ghost named: { (view pass).name ≡ Some name } by { Coded-set (coded_option T.Name.code) (view pass).name (Some name) },
 }
 
@@ -24,7 +25,7 @@ impl<T: Named> Peer<T> {
 
     /// A way to this deque, which has the name of `like`. It allocates nothing.
     pub(crate) fn new(own: &mut Own<T>, like: &T) -> Result<Peer<T>, NoMemory>
-        requires { (worker_flavor own.old ≡ 0) × IsAtStage 2 (Some (T.name like.now)) (worker_view own.old) }
+        requires { (worker_flavor own.old ≡ 0) × IsAtStage Open (Some (T.name like.now)) (worker_view own.old) }
         ensures own { (worker_flavor own.new ≡ 0) × (worker_view own.new ≡ worker_view own.old) }
         ensures peer { IfOk result (λ peer. peer.name ≡ T.name like.now) }
     {

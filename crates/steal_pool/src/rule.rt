@@ -4,11 +4,21 @@ use crossbeam_deque::protocol::{Outcome, Protocol, Split};
 use named_lock::Named;
 use std::marker::PhantomData;
 
+/// How far a deque is with its name. It is there for contracts: no value of it is made.
+pub enum Stage {
+    /// The label isn't put yet.
+    Unnamed,
+    /// The label is there.
+    Labelled,
+    /// The label has left, for good.
+    Open,
+}
+
 /// What a seat knows of a deque. It is there for contracts: no value of it is made.
 pub struct PoolView<N> {
-    /// 0 before the label is put, 1 while it is there, and 2 once it has left, for good.
-    pub stage: u64,
-    /// The name of the pool, from stage 1 on.
+    /// How far the deque is with its name.
+    pub stage: Stage,
+    /// The name of the pool, once the label is put.
     pub name: Option<N>,
     /// How many frames left the deque by the steps of this pass.
     pub taken: u64,
@@ -19,13 +29,14 @@ pub struct PoolRule;
 
 impl<T: Named> Protocol<Parcel<T>, PoolView<T::Name>> for PoolRule {
     ghost use Rattle.std.specs.Prelude.{None};
+    ghost use Rattle.steal_pool.specs.declared.rule.Stage.TheVariants.{Unnamed};
     ghost use Rattle.steal_pool.specs.Rule.{Pooled, at_stage};
 
     ghost holds = { Pooled T.name };
 
-    ghost first = { at_stage 0 None 0 };
+    ghost first = { at_stage Unnamed None 0 };
 
-    ghost guest = { at_stage 0 None 0 };
+    ghost guest = { at_stage Unnamed None 0 };
 }
 
 /// The label is put.
@@ -80,11 +91,4 @@ impl<N> Split<PoolView<N>> for Twins {
     ghost left = { λ v. v };
 
     ghost right = { new_pass };
-}
-
-/// Nothing is learnt.
-pub(crate) struct Nothing;
-
-impl<T, V> Outcome<T, V> for Nothing {
-    ghost then = { λ _ _ _. Unit {0} };
 }

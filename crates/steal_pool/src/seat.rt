@@ -5,6 +5,7 @@ ghost use Rattle.crossbeam_deque.specs.Handles.{worker_view, worker_flavor};
 ghost use Rattle.crossbeam_utils.specs.Padded.{padded_value};
 ghost use Rattle.std.specs.Coded.{Coded-set, coded_option};
 ghost use Rattle.steal_pool.specs.Rule.{Pooled};
+ghost use Rattle.steal_pool.specs.declared.rule.Stage.TheVariants.{Open};
 
 use crate::Dry;
 use crate::deque::{Own, own_like, pop_frame, push_frame};
@@ -26,14 +27,14 @@ pub struct PoolSeat<T: Named> {
     peers: Peers<T>,
     name: NameOf<T>,
     ghost fifo: { worker_flavor (padded_value own) ≡ 0 },
-    ghost stage: { (worker_view (padded_value own)).stage ≡ 2 },
+    ghost stage: { (worker_view (padded_value own)).stage ≡ Open },
     ghost named: { (worker_view (padded_value own)).name ≡ Some name } by { Coded-set (coded_option T.Name.code) (worker_view (padded_value own)).name (Some name) },
     ghost lists: { list.name ≡ name } by { Coded-set T.Name.code list.name name },
     ghost peered: { peers.name ≡ name } by { Coded-set T.Name.code peers.name name },
 }
 
 impl<T: Named> PoolSeat<T> {
-    ghost use Rattle.steal_pool.specs.Seats.{GivesFirst, GivesListed, GivesStolen, IsNewSeat, SameSeat, SameView, listed, next_put, own_port, own_view, pool_name, stolen};
+    ghost use Rattle.steal_pool.specs.Seats.{GivesFirst, GivesListed, GivesStolen, IsNewSeat, SameSeat, SameView, listed, next_put, own_port, own_room, own_view, pool_name, stolen};
 
     /// A seat of the pool that has the name of `like`, which knows no other seat yet, and has room for so many. It
     /// allocates the deque with its first ring, and the list of the others.
@@ -67,12 +68,14 @@ impl<T: Named> PoolSeat<T> {
     }
 
     /// Puts a frame, which has the pool's name: into the seat's deque, or where that can't grow at the end of the seat's own list.
+    /// The clauses say of the list that the number of the deque's next frame had come to its room. A deque that grows takes
+    /// memory, which it keeps until all seats that know it are gone.
     ///
     /// Err is want of memory for that list: it hands the frame back, and nothing was put. `O(1)` amortised.
     pub fn put(&mut self, frame: T) -> Result<(), T>
         requires { T.name frame ≡ pool_name self.old }
         ensures same { SameSeat self.old self.new × SameView self.old self.new }
-        ensures ok { OnOk result (((next_put self.new ≡ next_put self.old + 1) × (listed self.new ≡ listed self.old)) ⊎ ((next_put self.new ≡ next_put self.old) × (listed self.new ≡ listed self.old ++ frame ∷ []))) }
+        ensures ok { OnOk result (((next_put self.new ≡ next_put self.old + 1) × (listed self.new ≡ listed self.old)) ⊎ ((own_room self.old ≤ next_put self.old) × (next_put self.new ≡ next_put self.old) × (listed self.new ≡ listed self.old ++ frame ∷ []))) }
         ensures err { IfErr result (λ given. (given ≡ frame) × (next_put self.new ≡ next_put self.old) × (listed self.new ≡ listed self.old)) }
     {
         let Err(frame) = push_frame(&mut self.own, frame) else {
@@ -92,7 +95,8 @@ impl<T: Named> PoolSeat<T> {
     }
 
     /// Takes a frame, which has the pool's name: from the seat's deque, or else from its own list, or else by one steal from each
-    /// other seat, the next one first. It is one of the three, and no other frame leaves.
+    /// other seat, the next one first. It is one of the three, and no other frame leaves. That the deque is popped before the list
+    /// is looked at, and before a steal, is by the code, and no clause says it where a frame is given.
     ///
     /// `Dry` comes only where the deque was empty at one moment of this call, of which the caller learns what `M` says of an empty
     /// deque, the list is empty, and no steal gave a frame. It takes no memory. `O(1)`, or `O(seats)` where it steals.

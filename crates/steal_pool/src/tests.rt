@@ -1,6 +1,6 @@
 // Tests of pools: numbered balls of one pool, in one thread and in four.
-use crate::rule::Nothing;
 use crate::{PoolSeat, pool};
+use crossbeam_deque::protocol::Free;
 use named_lock::Named;
 use std::alloc::Global;
 use std::test::Fail;
@@ -25,7 +25,7 @@ impl Named for Ball {
 
 /// A seat takes a ball, and tells its number.
 fn take(seat: &mut PoolSeat<Ball>) -> Option<u64> {
-    match seat.take::<Nothing>() {
+    match seat.take::<Free>() {
         Ok(ball) => Some(ball.number),
         Err(_) => None,
     }

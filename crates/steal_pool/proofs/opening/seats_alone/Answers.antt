@@ -5,4 +5,4 @@ use Rattle.steal_pool.proofs.opening.seats_alone.Goals as goal
 
 pub loop-turn-preserved : goal.loop-turn-preserved
 loop-turn-preserved g c = let are = IsNewSeat (g.T.Named.name c.args.like.now) in
-    (search rules, subst (All are) (sym c.in_ok-push.ensures.items) (All-push are _ _ c.loop-turn.invariant.1 c.in_ok-alone.ensures))
+    (search rules, search rules, subst (All are) (sym c.push_reserved.ensures.items) (All-push are _ _ c.loop-turn.invariant.2 c.in_ok-alone.ensures))
