@@ -30,16 +30,16 @@ abbrev pub IsTokenOf : List ℕ → Type 0
 IsTokenOf [] = ⊥
 IsTokenOf (byte ∷ bytes) = ((byte == 32) ≡ false) × ((byte == 34) ≡ false → list_all (λ b. not (b == 32)) bytes ≡ true)
 
-abbrev pub AreTokens : List (List ℕ) → Type 0
-AreTokens [] = Unit {0}
-AreTokens (token ∷ tokens) = IsTokenOf token × AreTokens tokens
+abbrev pub AreWholeTokens : List (List ℕ) → Type 0
+AreWholeTokens [] = Unit {0}
+AreWholeTokens (token ∷ tokens) = IsTokenOf token × AreWholeTokens tokens
 
 -- what is found from a state on
 abbrev Pieces : Scan → List (List ℕ) → Type 0
-Pieces Between tokens = AreTokens tokens
+Pieces Between tokens = AreWholeTokens tokens
 Pieces _ [] = ⊥
-Pieces Token (piece ∷ tokens) = (list_all (λ b. not (b == 32)) piece ≡ true) × AreTokens tokens
-Pieces _ (piece ∷ tokens) = AreTokens tokens
+Pieces Token (piece ∷ tokens) = (list_all (λ b. not (b == 32)) piece ≡ true) × AreWholeTokens tokens
+Pieces _ (piece ∷ tokens) = AreWholeTokens tokens
 
 in_quotes : (byte : ℕ) (scan : Scan) (tokens : List (List ℕ)) → (scan ≡ Between → ⊥) → Pieces scan tokens → Pieces Quoted (in_front byte tokens)
 in_quotes byte Between tokens isnt pieces = absurd (isnt refl)
@@ -50,11 +50,11 @@ in_quotes byte Quoted (piece ∷ tokens) isnt pieces = pieces
 in_quotes byte Escaped [] isnt pieces = absurd pieces
 in_quotes byte Escaped (piece ∷ tokens) isnt pieces = pieces
 
-quote_begins : (byte : ℕ) (tokens : List (List ℕ)) → (byte == 32) ≡ false → (byte == 34) ≡ true → Pieces Quoted tokens → AreTokens (in_front byte tokens)
+quote_begins : (byte : ℕ) (tokens : List (List ℕ)) → (byte == 32) ≡ false → (byte == 34) ≡ true → Pieces Quoted tokens → AreWholeTokens (in_front byte tokens)
 quote_begins byte [] space quote pieces = absurd pieces
 quote_begins byte (piece ∷ tokens) space quote pieces = ((space, λ isnt. absurd (both_ways _ isnt quote)), pieces)
 
-token_begins : (byte : ℕ) (tokens : List (List ℕ)) → (byte == 32) ≡ false → Pieces Token tokens → AreTokens (in_front byte tokens)
+token_begins : (byte : ℕ) (tokens : List (List ℕ)) → (byte == 32) ≡ false → Pieces Token tokens → AreWholeTokens (in_front byte tokens)
 token_begins byte [] space pieces = absurd pieces
 token_begins byte (piece ∷ tokens) space pieces = ((space, λ isnt. pieces.0), pieces.1)
 
@@ -68,9 +68,9 @@ pieces_of Token [] = (refl, tt)
 pieces_of Quoted [] = tt
 pieces_of Escaped [] = tt
 pieces_of Between (byte ∷ bytes) =
-    cond_both (byte == 32) Between (cond (byte == 34) Quoted Token) (λ n. AreTokens (with_byte Between byte n (tokens_from n bytes)))
+    cond_both (byte == 32) Between (cond (byte == 34) Quoted Token) (λ n. AreWholeTokens (with_byte Between byte n (tokens_from n bytes)))
     (λ space. pieces_of Between bytes)
-    (λ space. cond_both (byte == 34) Quoted Token (λ n. AreTokens (with_byte Between byte n (tokens_from n bytes)))
+    (λ space. cond_both (byte == 34) Quoted Token (λ n. AreWholeTokens (with_byte Between byte n (tokens_from n bytes)))
     (λ quote. quote_begins byte (tokens_from Quoted bytes) space quote (pieces_of Quoted bytes))
     (λ other. token_begins byte (tokens_from Token bytes) space (pieces_of Token bytes)))
 pieces_of Token (byte ∷ bytes) =
@@ -89,7 +89,7 @@ pieces_of Escaped (byte ∷ bytes) = after_escape byte (tokens_from Quoted bytes
     after_escape byte [] pieces = absurd pieces
     after_escape byte (piece ∷ tokens) pieces = pieces
 
-pub are_tokens : (line : List ℕ) → AreTokens (tokens line)
+pub are_tokens : (line : List ℕ) → AreWholeTokens (tokens line)
 are_tokens line = pieces_of Between line
 
 -- a text that is one token wherever a space or the line's end follows
@@ -216,7 +216,7 @@ abbrev pub AllAlone : List (List ℕ) → Type 0
 AllAlone [] = Unit {0}
 AllAlone (token ∷ tokens) = StandsAlone token × AllAlone tokens
 
-pub all_alone : (line_tokens : List (List ℕ)) → AreTokens line_tokens → list_all is_fine line_tokens ≡ true → list_all (list_all is_allowed) line_tokens ≡ true → AllAlone (map canon line_tokens)
+pub all_alone : (line_tokens : List (List ℕ)) → AreWholeTokens line_tokens → list_all is_fine line_tokens ≡ true → list_all (list_all is_allowed) line_tokens ≡ true → AllAlone (map canon line_tokens)
 all_alone [] are fine allowed = tt
 all_alone (token ∷ more) are fine allowed =
     let good = and_parts (is_fine token) (list_all is_fine more) fine in

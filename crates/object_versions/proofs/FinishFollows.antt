@@ -1,16 +1,17 @@
 -- A frame that ends: all its entries are done, so what it has is what its task leaves, and that is what it owes.
 use Rattle.std.proofs.Common.{◌≡◌, ◌≢◌, inl, inr, ℕ, ◌<◌, nat_eq, Bool, true, false, cond, Option, None, Some, length, refl, sym, ap, subst, ◌∙◌, arith}
-use Rattle.std.proofs.lemmas.Bool.{eq-eqb, eqb-true, eqb-false, le-ltb, ne_eqb}
+use Rattle.std.proofs.lemmas.Bool.{eq-eqb, eqb-true, eqb-false, ne_eqb}
 use Rattle.std.specs.Prelude.{slice_get, unwrap_or}
 use Rattle.swan_model.specs.declared.origin.Origin.{Origin}
 use Rattle.swan_model.specs.declared.origin.Origin.TheVariants.{Root}
 use Rattle.swan_model.specs.declared.script.Script.{Script}
 use Rattle.swan_model.specs.declared.value.Value.{Value}
 use Rattle.swan_model.specs.Readings.{end_time}
-use Rattle.swan_model.specs.SerialTime.{Progress, Reading, frame_of, point, time, times}
+use Rattle.swan_model.specs.SerialTime.{Progress, Reading, frame_of, point, times}
 use Rattle.swan_model.specs.Told.{cell}
 use Rattle.swan_model.specs.Versions.{Version, settled, owed, Placed, VersionState, IsSettled, placed_at, objects_after_finish, left_by, settle, settle_placed, still_owing}
 use Rattle.swan_model.specs.VersionsFollow.{ObjectsFollow, FollowsAt, IsVersionAt}
+use Rattle.swan_model.proofs.TaskEntries.{point_over}
 use Rattle.object_versions.specs.Following.{MayWrite}
 use Rattle.object_versions.proofs.FinishPlaces.{after_kept, leaves_from, sorted_kept, still_kept}
 use Rattle.object_versions.proofs.Moves.{Owes}
@@ -26,9 +27,6 @@ still_given n frame (Some other) is = by (nat_eq other n) refl is where
 
 pub owing_other : (n other : ℕ) → other ≢ n → still_owing n (Some other) ≡ Some other
 owing_other n other apart = ap (λ b. cond b None (Some other)) (ne_eqb other n apart)
-
-at_end : (s : Script) (frame : Progress) → frame.done ≡ length (times s frame.path) → point s frame ≡ end_time s frame.path
-at_end s frame all = ap (λ b. cond b (time s frame.path frame.done) (end_time s frame.path)) (le-ltb frame.done (length (times s frame.path)) (omega arith))
 
 module _ (s : Script) (r : Reading) (state : VersionState) (n : ℕ) (ended : Progress) (all_settled : IsSettled state n) (follows : ObjectsFollow s r state)
     (known : frame_of r n ≡ Some ended) (all : ended.done ≡ length (times s ended.path)) where
@@ -49,7 +47,7 @@ module _ (s : Script) (r : Reading) (state : VersionState) (n : ℕ) (ended : Pr
         right = λ made.
             let has = follows.follows n from.place ended from.has origin known from.stands (ap (slice_get r.objects) from.same ∙ made) in
             let present : IsVersionAt s r origin (point s ended) (settled value.0) = subst (IsVersionAt s r origin (point s ended)) value.1 has.present in
-            ap (cell s origin) (sym (at_end s ended all)) ∙ present;
+            ap (cell s origin) (sym (point_over s ended (omega (arith, all)))) ∙ present;
       }
 
   -- how a version is settled

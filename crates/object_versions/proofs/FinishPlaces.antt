@@ -29,14 +29,14 @@ found_kept state n f p =
     ∙ ap (option_map (settle_placed state n)) (lookup-filter-keys (is_at (place_cmp (f, p))) (keeps n) (keeps n (f, p)) (λ k is. keeps_same n k (f, p) is) state.places)
 
 -- what a frame has at a place is what it had, settled
-pub record IsKept (state : VersionState) (n f p : ℕ) (has : Placed) : Type 0 where
+pub record IsStillPlaced (state : VersionState) (n f p : ℕ) (has : Placed) : Type 0 where
   pub was : Placed
   pub stood : placed_at state f p ≡ Some was
   pub now : has ≡ settle_placed state n was
 
-pub after_kept : (state : VersionState) (n f p : ℕ) (has : Placed) → placed_at (objects_after_finish state n) f p ≡ Some has → IsKept state n f p has
+pub after_kept : (state : VersionState) (n f p : ℕ) (has : Placed) → placed_at (objects_after_finish state n) f p ≡ Some has → IsStillPlaced state n f p has
 after_kept state n f p has is = by (keeps n (f, p)) (placed_at state f p) refl (sym (found_kept state n f p) ∙ is) where
-  by : (b : Bool) (o : Option Placed) → placed_at state f p ≡ o → option_map (settle_placed state n) (cond b o None) ≡ Some has → IsKept state n f p has
+  by : (b : Bool) (o : Option Placed) → placed_at state f p ≡ o → option_map (settle_placed state n) (cond b o None) ≡ Some has → IsStillPlaced state n f p has
   by true None stood e = absurd (cc)
   by true (Some was) stood e = record { was = was; stood = stood; now = let s : has ≡ settle_placed state n was = cc in s }
   by false o stood e = absurd (cc)

@@ -1,7 +1,6 @@
 -- A frame of a reading that does its next entry: how many queue deeds it has done then.
-use Rattle.std.proofs.Common.{◌≡◌, inl, inr, ℕ, ◌+◌, ◌-◌, ◌<◌, List, length, take, Some, sym, ap, ◌∙◌, arith}
+use Rattle.std.proofs.Common.{◌≡◌, inl, inr, ◌+◌, ◌-◌, ◌<◌, length, Some, sym, ap, ◌∙◌, arith}
 use Rattle.std.proofs.lemmas.Bool.{cases_lt}
-use Rattle.std.specs.Prelude.{filter}
 use Rattle.swan_model.specs.declared.origin.Origin.{Origin}
 use Rattle.swan_model.specs.declared.script.Deed.{Deed}
 use Rattle.swan_model.specs.declared.script.Deed.TheVariants as deed
@@ -14,16 +13,13 @@ use Rattle.swan_model.specs.Readings.{next_deed}
 use Rattle.swan_model.specs.SerialTime.{Progress, is_queue_deed, point, time, times}
 use Rattle.swan_model.specs.Told.{deed_at}
 use Rattle.swan_model.proofs.ScriptSteps.{at_next, deed_is, next_stands}
+use Rattle.queues.specs.Reads.{deeds_among}
 use Rattle.queues.proofs.Between.{own_last}
 use Rattle.swan_model.proofs.Elements.{filtered_more, one_if}
 use Rattle.queues.proofs.Fitting.{is_queue_time}
 use Rattle.queues.proofs.QueuePoints.{last-ends}
 
 module _ (s : Script) where
-  -- the queue deeds among a task's first entries
-  abbrev pub deeds_among : List ℕ → ℕ → ℕ
-  deeds_among path done = length (filter (is_queue_time s) (take done (times s path)))
-
   -- what a frame does at its point
   pub does_now : (p : Progress) (d : Deed) → next_deed s p ≡ Some d → deed_at s (point s p) ≡ d
   does_now p d next =
@@ -36,11 +32,11 @@ module _ (s : Script) where
       record { entry = step.entry; stands = step.stands; own = step.own }
 
   -- its next entry counts if it is a queue deed
-  pub deeds_more : (p : Progress) (d : Deed) → next_deed s p ≡ Some d → deeds_among p.path (p.done + 1) ≡ deeds_among p.path p.done + one_if (is_queue_deed d)
+  pub deeds_more : (p : Progress) (d : Deed) → next_deed s p ≡ Some d → deeds_among s p.path (p.done + 1) ≡ deeds_among s p.path p.done + one_if (is_queue_deed d)
   deeds_more p d next =
       let step = at_next s p d next in
       filtered_more (is_queue_time s) (times s p.path) p.done (point s p) (next_stands s p step.left)
-      ∙ ap (λ x. deeds_among p.path p.done + one_if (is_queue_deed x)) (does_now p d next)
+      ∙ ap (λ x. deeds_among s p.path p.done + one_if (is_queue_deed x)) (does_now p d next)
 
   -- a frame fits that differs in nothing that counts
   pub fits_same : (frame after : ActiveFrame) (p : Progress) → FitsFrame s frame p → after.path ≡ frame.path → after.deeds ≡ frame.deeds → FitsFrame s after p
@@ -50,7 +46,7 @@ module _ (s : Script) where
       record {
         path = fit.path ∙ sym path;
         left = omega (arith, left, many);
-        deeds = ap (λ q. deeds_among q p.done) path ∙ fit.deeds ∙ sym deeds;
+        deeds = ap (λ q. deeds_among s q p.done) path ∙ fit.deeds ∙ sym deeds;
       }
 
   -- So it fits with one entry more, where one is left then.
@@ -59,12 +55,12 @@ module _ (s : Script) where
   fits_next frame after p d fit next path deeds left =
       let task : after.path ≡ p.path = path ∙ sym fit.path in
       let many : length (times s after.path) ≡ length (times s p.path) = ap (λ q. length (times s q)) task in
-      let here : deeds_among p.path p.done ≡ frame.deeds = ap (λ q. deeds_among q p.done) fit.path ∙ fit.deeds in
+      let here : deeds_among s p.path p.done ≡ frame.deeds = ap (λ q. deeds_among s q p.done) fit.path ∙ fit.deeds in
       let more = deeds_more p d next in
       record {
         path = sym task;
         left = omega (arith, left, many);
-        deeds = ap (λ q. deeds_among q (p.done + 1)) task ∙ omega (arith, more, here, deeds);
+        deeds = ap (λ q. deeds_among s q (p.done + 1)) task ∙ omega (arith, more, here, deeds);
       }
 
 module _ (s : Script) (lawful : IsLawful s) where

@@ -1,5 +1,5 @@
 -- One frame acts, and only its own chunk of a queue is altered: all the others match as before.
-use Rattle.std.proofs.Common.{◌≡◌, inl, inr, ℕ, suc, true, false, cond, nat_eq, nat_lt, List, [], ◌∷◌, Option, Some, None, refl, sym, ap, subst, ◌∙◌, arith}
+use Rattle.std.proofs.Common.{◌≡◌, inl, inr, ℕ, suc, true, false, nat_eq, [], ◌∷◌, Option, Some, None, refl, sym, ap, subst, ◌∙◌, append-nil, arith}
 use Rattle.std.proofs.lemmas.Bool.{both_ways, cases_Bool, cases_order, eq-eqb, eqb-true}
 use Rattle.std.specs.Option.{option_and_then, option_map_or}
 use Rattle.std.specs.Prelude.{slice_get}
@@ -11,6 +11,7 @@ use Rattle.queues.specs.Chunks.{Chunk, Chunks, HasItems, HasOwners, HasTaken, Is
 use Rattle.queues.specs.Chunks.HasItems.{over as items_over, chunk as items_chunk}
 use Rattle.queues.specs.Chunks.HasTaken.{over as taken_over, chunk as taken_chunk}
 use Rattle.pop_order.specs.OneChange.{IsOnlyChange}
+use Rattle.swan_model.proofs.PathOrder.{not_before-under}
 use Rattle.queues.proofs.MatchParts.{ItemsFrom, TakenFrom, owner_at}
 use Rattle.queues.proofs.MatchSame.{AreSame, Tell, counts_itself, items_same, pops_itself, taken_same, tell_equal}
 
@@ -40,17 +41,14 @@ other_owners state after n now chunks one index chunk stands not = by chunk.owne
   by None differ = refl
   by (Some m) differ = one.others m (differ m refl)
 
-not_itself : (path : List ℕ) → comes_before path path ≡ false
-not_itself [] = refl
-not_itself (part ∷ parts) = ap (λ b. cond b (comes_before parts parts) (nat_lt part part)) (eq-eqb part part refl) ∙ not_itself parts
-
 -- an active frame owns one chunk of a queue at most
 pub owns_once : (state : QueueState) (queue : ℕ) (chunks : Chunks) (n : ℕ) → HasOwners state queue chunks → IsOnce n chunks
 owns_once state queue chunks n has i j a b first second owns too =
     let one : IsOwner state chunks i n = record { chunk = a; stands = first; owns = owns } in
     let two : IsOwner state chunks j n = record { chunk = b; stands = second; owns = too } in
     let frame = has.owners i n one in
-    let never : comes_before frame.0.path frame.0.path ≡ true → ⊥ = both_ways (comes_before frame.0.path frame.0.path) (not_itself frame.0.path) in
+    let never : comes_before frame.0.path frame.0.path ≡ true → ⊥ =
+    λ is. not_before-under frame.0.path [] (ap (comes_before frame.0.path) (append-nil frame.0.path) ∙ is) in
     elim (cases_order i j) [
       | inl same ↦ same
       | inr apart ↦ elim apart [

@@ -37,17 +37,8 @@ use Rattle.serial_elision.proofs.Held.{origin-kind}
 use Rattle.serial_elision.proofs.NamesStay.{held-named, names-stay}
 use Rattle.serial_elision.proofs.SerialTold.{cells_told, items_told}
 use Rattle.serial_elision.proofs.TaskSteps.{goes_on_next}
+use Rattle.swan_model.proofs.Elements.{mapped_is}
 use Rattle.swan_model.proofs.Uses.{same_kind}
-
--- what stands at an index has this origin
-record HasOrigin {X : Type 0} (of : X → Origin) (found : Option X) (origin : Origin) : Type 0 where
-  pub thing : X
-  pub stands : found ≡ Some thing
-  pub is : of thing ≡ origin
-
-has-origin : {X : Type 0} (of : X → Origin) (found : Option X) (origin : Origin) → option_map of found ≡ Some origin → HasOrigin of found origin
-has-origin of None origin is = absurd (cc)
-has-origin of (Some thing) origin is = record { thing = thing; stands = refl; is = same_Some (of thing) origin is }
 
 -- what is left of a list from an item on begins with it
 begins-at : {X : Type 0} (xs : List X) (i n : ℕ) (x : X) → slice_get xs i ≡ Some x → i < n → (rest : List X) × (drop i (take n xs) ≡ x ∷ rest)
@@ -97,13 +88,13 @@ module _ {B L : Type 0} (G : Ghosts B L) (plan : Plan B L) (path : List ℕ) (k 
   -- ---- what stands at a place
 
   -- the number of what the task may use, which stands in the store by the origin that names it
-  pub record IsUsed (place : ℕ) (mode : Mode) (origin : Origin) : Type 0 where
+  pub record UsesPlace (place : ℕ) (mode : Mode) (origin : Origin) : Type 0 where
     pub number : ℕ
     pub at : number_at top.holdings place mode ≡ Some number
     pub origin_is : origin_of store mode number ≡ Some origin
     pub named : origin_at store top.holdings place mode ≡ Some origin
 
-  pub used : (place : ℕ) (mode : Mode) (origin : Origin) → MayUseAt G plan path k top place mode origin → IsUsed place mode origin
+  pub used : (place : ℕ) (mode : Mode) (origin : Origin) → MayUseAt G plan path k top place mode origin → UsesPlace place mode origin
   used place mode origin has =
       let h = has.holding in
       let give : OriginGive = record { origin = origin; mode = h.mode } in
@@ -190,10 +181,10 @@ module _ {B L : Type 0} (G : Ghosts B L) (plan : Plan B L) (path : List ℕ) (k 
       -- ---- an object
 
       object-found : (place : ℕ) (mode : Mode) (origin : Origin) (has : MayUseAt G plan path k top place mode origin) → is_queue_mode mode ≡ false
-          → HasOrigin (λ (c : Cell). c.origin) (slice_get store.cells (used place mode origin has).number) origin
+          → (c : Cell) × (slice_get store.cells (used place mode origin has).number ≡ Some c) × (c.origin ≡ origin)
       object-found place mode origin has of_objects =
           let use_is = used place mode origin has in
-          has-origin (λ (c : Cell). c.origin) (slice_get store.cells use_is.number) origin
+          mapped_is (λ (c : Cell). c.origin) (slice_get store.cells use_is.number) origin
           (sym (ap (λ b. cond b (option_map (λ (q : Queue). q.origin) (slice_get store.queues use_is.number)) (option_map (λ (c : Cell). c.origin) (slice_get store.cells use_is.number))) of_objects) ∙ use_is.origin_is)
 
       pub reads : (place : ℕ) (origin : Origin) → IsAsking G plan path k top local (ask.Read place) → MayUseAt G plan path k top place In origin
@@ -202,12 +193,12 @@ module _ {B L : Type 0} (G : Ghosts B L) (plan : Plan B L) (path : List ℕ) (k 
           let use_is = used place In origin has in
           let found = object-found place In origin has refl in
           let does : ℕ → Cell → Effect L = λ number c. goes_on (with_answer (after_next top local) (answer.Item c.value)) store in
-          let told_is : cell (script G plan) found.thing.origin now ≡ Some found.thing.value =
-          subst (λ o. IfSome o (λ (c : Cell). cell (script G plan) c.origin now ≡ Some c.value)) found.stands (cells_told G plan now use_is.number) in
-          let is_value : cell (script G plan) origin now ≡ Some found.thing.value = ap (λ o. cell (script G plan) o now) (sym found.is) ∙ told_is in
+          let told_is : cell (script G plan) found.0.origin now ≡ Some found.0.value =
+          subst (λ o. IfSome o (λ (c : Cell). cell (script G plan) c.origin now ≡ Some c.value)) found.1 (cells_told G plan now use_is.number) in
+          let is_value : cell (script G plan) origin now ≡ Some found.0.value = ap (λ o. cell (script G plan) o now) (sym found.2) ∙ told_is in
           subst (λ o. IsSomeAnd o (λ value. GoesOn G plan path k top local (answer.Item value) (deed.Read origin))) (sym is_value)
-          (goes-by (ask.Read place) (answer.Item found.thing.value) store (deed.Read origin) is
-          (ap (λ n. on_object store n does) use_is.at ∙ ap (λ c. on_cell c (does use_is.number)) found.stands)
+          (goes-by (ask.Read place) (answer.Item found.0.value) store (deed.Read origin) is
+          (ap (λ n. on_object store n does) use_is.at ∙ ap (λ c. on_cell c (does use_is.number)) found.1)
           (ap (λ o. about o deed.Read) use_is.named))
 
       pub writes : (place : ℕ) (value : Value) (origin : Origin) → IsAsking G plan path k top local (ask.Write place value) → MayUseAt G plan path k top place Out origin
@@ -216,17 +207,17 @@ module _ {B L : Type 0} (G : Ghosts B L) (plan : Plan B L) (path : List ℕ) (k 
           let use_is = used place Out origin has in
           let found = object-found place Out origin has refl in
           let does : ℕ → Cell → Effect L = λ number c. goes_on (with_answer (after_next top local) answer.Nothing) (with_value store number c value) in
-          goes-by (ask.Write place value) answer.Nothing (with_value store use_is.number found.thing value) (deed.Write origin value) is
-          (ap (λ n. on_object store n does) use_is.at ∙ ap (λ c. on_cell c (does use_is.number)) found.stands)
+          goes-by (ask.Write place value) answer.Nothing (with_value store use_is.number found.0 value) (deed.Write origin value) is
+          (ap (λ n. on_object store n does) use_is.at ∙ ap (λ c. on_cell c (does use_is.number)) found.1)
           (ap (λ o. about o (λ (x : Origin). deed.Write x value)) use_is.named)
 
       -- ---- a queue
 
       queue-found : (place : ℕ) (mode : Mode) (origin : Origin) (has : MayUseAt G plan path k top place mode origin) → is_queue_mode mode ≡ true
-          → HasOrigin (λ (q : Queue). q.origin) (slice_get store.queues (used place mode origin has).number) origin
+          → (q : Queue) × (slice_get store.queues (used place mode origin has).number ≡ Some q) × (q.origin ≡ origin)
       queue-found place mode origin has of_queues =
           let use_is = used place mode origin has in
-          has-origin (λ (q : Queue). q.origin) (slice_get store.queues use_is.number) origin
+          mapped_is (λ (q : Queue). q.origin) (slice_get store.queues use_is.number) origin
           (sym (ap (λ b. cond b (option_map (λ (q : Queue). q.origin) (slice_get store.queues use_is.number)) (option_map (λ (c : Cell). c.origin) (slice_get store.cells use_is.number))) of_queues) ∙ use_is.origin_is)
 
       items-here : (number : ℕ) (queue : Queue) (origin : Origin) → slice_get store.queues number ≡ Some queue → queue.origin ≡ origin → queue.items ≡ items (script G plan) origin now
@@ -240,8 +231,8 @@ module _ {B L : Type 0} (G : Ghosts B L) (plan : Plan B L) (path : List ℕ) (k 
           let use_is = used place Push origin has in
           let found = queue-found place Push origin has refl in
           let does : ℕ → Queue → Effect L = λ number q. goes_on (with_answer (after_next top local) answer.Nothing) (with_items store number q (q.items ++ value ∷ [])) in
-          goes-by (ask.Push place value) answer.Nothing (with_items store use_is.number found.thing (found.thing.items ++ value ∷ [])) (deed.Push origin value) is
-          (ap (λ n. on_queue store n does) use_is.at ∙ ap (λ q. on_list q (does use_is.number)) found.stands)
+          goes-by (ask.Push place value) answer.Nothing (with_items store use_is.number found.0 (found.0.items ++ value ∷ [])) (deed.Push origin value) is
+          (ap (λ n. on_queue store n does) use_is.at ∙ ap (λ q. on_list q (does use_is.number)) found.1)
           (ap (λ o. about o (λ (x : Origin). deed.Push x value)) use_is.named)
 
       module _ (place : ℕ) (origin : Origin) (has : MayUseAt G plan path k top place Pop origin) where
@@ -253,7 +244,7 @@ module _ {B L : Type 0} (G : Ghosts B L) (plan : Plan B L) (path : List ℕ) (k 
           pub value : Value
           pub item : slice_get (pushes s origin) (taken s origin now) ≡ Some value
           pub rest : List Value
-          pub all : (queue-found place Pop origin has refl).thing.items ≡ value ∷ rest
+          pub all : (queue-found place Pop origin has refl).0.items ≡ value ∷ rest
 
         has-item : taken s origin now < count s origin now → HasItem
         has-item some =
@@ -261,13 +252,13 @@ module _ {B L : Type 0} (G : Ghosts B L) (plan : Plan B L) (path : List ℕ) (k 
             let found = queue-found place Pop origin has refl in
             let item = some_within (pushes s origin) (taken s origin now) (omega (arith, some, count_le s origin now)) in
             let begins = begins-at (pushes s origin) (taken s origin now) (count s origin now) item.0 item.1 some in
-            record { value = item.0; item = item.1; rest = begins.0; all = items-here use_is.number found.thing origin found.stands found.is ∙ begins.1 }
+            record { value = item.0; item = item.1; rest = begins.0; all = items-here use_is.number found.0 origin found.1 found.2 ∙ begins.1 }
 
-        none-is : count s origin now ≤ taken s origin now → (queue-found place Pop origin has refl).thing.items ≡ []
+        none-is : count s origin now ≤ taken s origin now → (queue-found place Pop origin has refl).0.items ≡ []
         none-is none =
             let use_is = used place Pop origin has in
             let found = queue-found place Pop origin has refl in
-            items-here use_is.number found.thing origin found.stands found.is ∙ none-left (pushes s origin) (taken s origin now) (count s origin now) none
+            items-here use_is.number found.0 origin found.1 found.2 ∙ none-left (pushes s origin) (taken s origin now) (count s origin now) none
 
         pub pops-on : IsAsking G plan path k top local (ask.Pop place) → taken s origin now < count s origin now
             → IsSomeAnd (slice_get (pushes s origin) (taken s origin now)) (λ value. GoesOn G plan path k top local (answer.Item value) (deed.Pop origin))
@@ -276,10 +267,10 @@ module _ {B L : Type 0} (G : Ghosts B L) (plan : Plan B L) (path : List ℕ) (k 
             let found = queue-found place Pop origin has refl in
             let item = has-item some in
             subst (λ o. IsSomeAnd o (λ value. GoesOn G plan path k top local (answer.Item value) (deed.Pop origin))) (sym item.item)
-            (goes-by (ask.Pop place) (answer.Item item.value) (with_items store use_is.number found.thing item.rest) (deed.Pop origin) is
+            (goes-by (ask.Pop place) (answer.Item item.value) (with_items store use_is.number found.0 item.rest) (deed.Pop origin) is
             (ap (λ n. on_queue store n (λ number q. popped store (after_next top local) number q q.items)) use_is.at
-            ∙ ap (λ q. on_list q (λ q. popped store (after_next top local) use_is.number q q.items)) found.stands
-            ∙ ap (popped store (after_next top local) use_is.number found.thing) item.all)
+            ∙ ap (λ q. on_list q (λ q. popped store (after_next top local) use_is.number q q.items)) found.1
+            ∙ ap (popped store (after_next top local) use_is.number found.0) item.all)
             (ap (λ o. about o deed.Pop) use_is.named))
 
         pub pops-none : IsAsking G plan path k top local (ask.Pop place) → count s origin now ≤ taken s origin now → MeetsFault G plan path k top kind.PopEmpty (deed.Pop origin)
@@ -289,17 +280,17 @@ module _ {B L : Type 0} (G : Ghosts B L) (plan : Plan B L) (path : List ℕ) (k 
             subst (MeetsFault G plan path k top kind.PopEmpty) (ap (λ o. about o deed.Pop) use_is.named)
             (faults-by (ask.Pop place) kind.PopEmpty is
             (ap (λ n. on_queue store n (λ number q. popped store (after_next top local) number q q.items)) use_is.at
-            ∙ ap (λ q. on_list q (λ q. popped store (after_next top local) use_is.number q q.items)) found.stands
-            ∙ ap (popped store (after_next top local) use_is.number found.thing) (none-is none)))
+            ∙ ap (λ q. on_list q (λ q. popped store (after_next top local) use_is.number q q.items)) found.1
+            ∙ ap (popped store (after_next top local) use_is.number found.0) (none-is none)))
 
-        tests-by : IsAsking G plan path k top local (ask.Empty place) → (items : List Value) → (queue-found place Pop origin has refl).thing.items ≡ items
+        tests-by : IsAsking G plan path k top local (ask.Empty place) → (items : List Value) → (queue-found place Pop origin has refl).0.items ≡ items
             → GoesOn G plan path k top local (answer.Flag (is_nothing_left items)) (deed.Test origin)
         tests-by is items items_are =
             let use_is = used place Pop origin has in
             let found = queue-found place Pop origin has refl in
             let does : ℕ → Queue → Effect L = λ number q. goes_on (with_answer (after_next top local) (answer.Flag (is_nothing_left q.items))) store in
             goes-by (ask.Empty place) (answer.Flag (is_nothing_left items)) store (deed.Test origin) is
-            (ap (λ n. on_queue store n does) use_is.at ∙ ap (λ q. on_list q (does use_is.number)) found.stands
+            (ap (λ n. on_queue store n does) use_is.at ∙ ap (λ q. on_list q (does use_is.number)) found.1
             ∙ ap (λ is. goes_on (with_answer (after_next top local) (answer.Flag (is_nothing_left is))) store) items_are)
             (ap (λ o. about o deed.Test) use_is.named)
 

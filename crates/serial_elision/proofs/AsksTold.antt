@@ -23,11 +23,11 @@ use Rattle.serial_elision.proofs.Pops.{set-found}
 use Rattle.serial_elision.proofs.Zeroed.{spawn-becomes}
 
 -- the store that an effect leaves is what the deed makes of the one before
-abbrev pub Does : {L : Type 0} → ℕ → Store → Deed → Effect L → Type 0
-Does n store does (goes_on a after) = Becomes n does store after
-Does n store does (spawns parent child after) = Becomes n does store after
-Does n store does ends = Becomes n does store store
-Does {L} n store does (faults kind) = Becomes n (deed_of {L = L} does (faults kind)) store store
+abbrev pub IsDeedOf : {L : Type 0} → ℕ → Store → Deed → Effect L → Type 0
+IsDeedOf n store does (goes_on a after) = Becomes n does store after
+IsDeedOf n store does (spawns parent child after) = Becomes n does store after
+IsDeedOf n store does ends = Becomes n does store store
+IsDeedOf {L} n store does (faults kind) = Becomes n (deed_of {L = L} does (faults kind)) store store
 
 still : (n : ℕ) (store : Store) → Becomes n deed.Quiet store store
 still n store = becomes-still n deed.Quiet store quiet-still
@@ -37,47 +37,47 @@ pub named : (store : Store) (held : List Holding) (place : ℕ) (mode : Mode) (n
 named store held place mode number origin at is does =
     sym (ap (λ n. about (option_and_then (origin_of store mode) n) does) at ∙ ap (λ o. about o does) is)
 
-popped-does : {L : Type 0} (n : ℕ) (store : Store) (a : Activation L) (number : ℕ) (q : Queue) (items : List Value) → HasOrigins n store → slice_get store.queues number ≡ Some q → q.items ≡ items → Does n store (deed.Pop q.origin) (popped store a number q items)
+popped-does : {L : Type 0} (n : ℕ) (store : Store) (a : Activation L) (number : ℕ) (q : Queue) (items : List Value) → HasOrigins n store → slice_get store.queues number ≡ Some q → q.items ≡ items → IsDeedOf n store (deed.Pop q.origin) (popped store a number q items)
 popped-does n store a number q (item ∷ items) has found is =
     pop-becomes n store number q items has found (ap without_first (sym is))
 popped-does n store a number q [] has found is =
     subst (λ queues. Becomes n (deed.Pop q.origin) store (record store { queues = queues })) (set-found store.queues number q found)
     (subst (λ items. Becomes n (deed.Pop q.origin) store (record store { queues = slice_set store.queues number (record q { items = items }) })) (sym is) (pop-becomes n store number q [] has found (ap without_first (sym is))))
 
-spawned-does : {L : Type 0} (n : ℕ) (store : Store) (a : Activation L) (child : Child L) (holdings : Option (List Holding)) → HasOrigins n store → Does n store (spawn_of store holdings) (spawn_effect store a child holdings)
+spawned-does : {L : Type 0} (n : ℕ) (store : Store) (a : Activation L) (child : Child L) (holdings : Option (List Holding)) → HasOrigins n store → IsDeedOf n store (spawn_of store holdings) (spawn_effect store a child holdings)
 spawned-does n store a child None has = still n store
 spawned-does n store a child (Some holdings) has =
     let does = spawn_of store (Some holdings) in
-    if-either (Does n store does) (is_aliased child.gives) _ _ (still n store)
-    (if-either (Does n store does) (nat_le PATH_MOST (length a.path)) _ _ (still n store)
-    (if-either (Does n store does) (nat_lt a.fuel child.fuel) _ _ (still n store) (spawn-becomes store n holdings has)))
+    if-either (IsDeedOf n store does) (is_aliased child.gives) _ _ (still n store)
+    (if-either (IsDeedOf n store does) (nat_le PATH_MOST (length a.path)) _ _ (still n store)
+    (if-either (IsDeedOf n store does) (nat_lt a.fuel child.fuel) _ _ (still n store) (spawn-becomes store n holdings has)))
 
-pub effect-does : {L : Type 0} (n : ℕ) (store : Store) (a : Activation L) (asking : Ask L) → HasOrigins n store → Does n store (asked store a.holdings asking) (effect n store a asking)
+pub effect-does : {L : Type 0} (n : ℕ) (store : Store) (a : Activation L) (asking : Ask L) → HasOrigins n store → IsDeedOf n store (asked store a.holdings asking) (effect n store a asking)
 effect-does n store a ask.Work has = still n store
 effect-does n store a (ask.Read place) has =
     let does = about (origin_at store a.holdings place In) deed.Read in
-    on_object-either (Does n store does) (still n store) store (number_at a.holdings place In) _ (λ number c at found.
+    on_object-either (IsDeedOf n store does) (still n store) store (number_at a.holdings place In) _ (λ number c at found.
     becomes-still n does store (about-still (origin_at store a.holdings place In) deed.Read (λ o. record { items = λ p xs. refl; value = λ p k v. refl })))
 effect-does n store a (ask.Write place value) has =
     let name : Origin → Deed = λ o. deed.Write o value in
     let does = about (origin_at store a.holdings place Out) name in
-    on_object-either (Does n store does) (still n store) store (number_at a.holdings place Out) _ (λ number c at found.
+    on_object-either (IsDeedOf n store does) (still n store) store (number_at a.holdings place Out) _ (λ number c at found.
     subst (λ d. Becomes n d store (with_value store number c value)) (named store a.holdings place Out number c.origin at (ap (option_map (λ (x : Cell). x.origin)) found) name)
     (write-becomes n store number c value has found))
 effect-does n store a (ask.Push place value) has =
     let name : Origin → Deed = λ o. deed.Push o value in
     let does = about (origin_at store a.holdings place Push) name in
-    on_queue-either (Does n store does) (still n store) store (number_at a.holdings place Push) _ (λ number q at found.
+    on_queue-either (IsDeedOf n store does) (still n store) store (number_at a.holdings place Push) _ (λ number q at found.
     subst (λ d. Becomes n d store (with_items store number q (q.items ++ value ∷ []))) (named store a.holdings place Push number q.origin at (ap (option_map (λ (x : Queue). x.origin)) found) name)
     (push-becomes n store number q value has found))
 effect-does n store a (ask.Pop place) has =
     let does = about (origin_at store a.holdings place Pop) deed.Pop in
-    on_queue-either (Does n store does) (still n store) store (number_at a.holdings place Pop) _ (λ number q at found.
-    subst (λ d. Does n store d (popped store a number q q.items)) (named store a.holdings place Pop number q.origin at (ap (option_map (λ (x : Queue). x.origin)) found) deed.Pop)
+    on_queue-either (IsDeedOf n store does) (still n store) store (number_at a.holdings place Pop) _ (λ number q at found.
+    subst (λ d. IsDeedOf n store d (popped store a number q q.items)) (named store a.holdings place Pop number q.origin at (ap (option_map (λ (x : Queue). x.origin)) found) deed.Pop)
     (popped-does n store a number q q.items has found refl))
 effect-does n store a (ask.Empty place) has =
     let does = about (origin_at store a.holdings place Pop) deed.Test in
-    on_queue-either (Does n store does) (still n store) store (number_at a.holdings place Pop) _ (λ number q at found.
+    on_queue-either (IsDeedOf n store does) (still n store) store (number_at a.holdings place Pop) _ (λ number q at found.
     becomes-still n does store (about-still (origin_at store a.holdings place Pop) deed.Test (λ o. record { items = λ p xs. refl; value = λ p k v. refl })))
 effect-does n store a ask.NewQueue has = queue-becomes n store
 effect-does n store a (ask.NewObject value) has = object-becomes n store value

@@ -1,6 +1,6 @@
 -- Each fault of the elision is that of a task's last step, and each such step books one; so faults in serial order that are
 -- those of the last steps are the elision's.
-use Rattle.std.proofs.Common.{◌≡◌, ◌⊎◌, inl, inr, ℕ, zero, suc, ◌+◌, true, List, [], ◌∷◌, ◌++◌, Some, length, refl, sym, ap, subst, ◌∙◌, arith}
+use Rattle.std.proofs.Common.{◌≡◌, ◌⊎◌, inl, inr, ℕ, zero, suc, ◌+◌, true, List, [], ◌∷◌, ◌++◌, Some, length, refl, sym, ap, subst, ◌∙◌, append-nil, arith}
 use Rattle.std.proofs.lemmas.Option.{get_or_from_slice_get, slice_get_within}
 use Rattle.std.specs.Prelude.{slice_get}
 use Rattle.swan_model.specs.declared.body.Body.{Ghosts}
@@ -19,13 +19,9 @@ use Rattle.swan_model.proofs.Elements.{before_more, last_more, more_cases}
 use Rattle.serial_elision.proofs.FaultOrder.{serial-in_order}
 use Rattle.serial_elision.proofs.Finals.{final-past}
 use Rattle.serial_elision.proofs.TaskSteps.{ends_last, next-state, stands-now, top_path}
-use Rattle.swan_model.proofs.PathOrder.{never_before-both}
+use Rattle.swan_model.proofs.PathOrder.{never_before-both, not_before-under}
 
 -- ---- lists in serial order
-
-pub not_before-itself : (path : List ℕ) → comes_before path path ≡ true → ⊥
-not_before-itself [] is = absurd (cc)
-not_before-itself (part ∷ parts) is = grind (arith, not_before-itself parts)
 
 -- a list has this somewhere
 abbrev HasFault : List Fault → Fault → Type 0
@@ -54,7 +50,7 @@ tail-among : (x y : Fault) (xs ys : List Fault) → x ≡ y → AreInOrder (x �
 tail-among x y xs ys same one two among j fault at = elim (first-or-later y ys fault two (among (suc j) fault at)) [
   | inl is ↦
       let before = later-one x xs j fault one at in
-      absurd (not_before-itself x.path (ap (λ (f : Fault). comes_before x.path f.path) (same ∙ sym is) ∙ before))
+      absurd (not_before-under x.path [] (ap (comes_before x.path) (append-nil x.path) ∙ ap (λ (f : Fault). comes_before x.path f.path) (same ∙ sym is) ∙ before))
   | inr later ↦ later.1
 ]
 

@@ -54,10 +54,10 @@ module _ {B L : Type 0} (G : Ghosts B L) where
       top_on plan.body (serial G plan n) (serial G plan n).stack entry refl (sym (get_script G plan n) ∙ is)
 
   -- the stack after the step of the top activation
-  abbrev pub stepped : B → State L → Activation L → List (Activation L) → List (Activation L)
-  stepped body s top below = (state_after s below top.path (G.place_of body top.local) (effect_of G body s.steps s.store top)).stack
+  abbrev pub stack_after_step : B → State L → Activation L → List (Activation L) → List (Activation L)
+  stack_after_step body s top below = (state_after s below top.path (G.place_of body top.local) (effect_of G body s.steps s.store top)).stack
 
-  pub next_stack : (plan : Plan B L) (n : ℕ) (top : Activation L) (below : List (Activation L)) → (serial G plan n).stack ≡ top ∷ below → (serial G plan (suc n)).stack ≡ stepped plan.body (serial G plan n) top below
+  pub next_stack : (plan : Plan B L) (n : ℕ) (top : Activation L) (below : List (Activation L)) → (serial G plan n).stack ≡ top ∷ below → (serial G plan (suc n)).stack ≡ stack_after_step plan.body (serial G plan n) top below
   next_stack plan n top below stack =
       ap (λ k. (step_on G plan.body (serial G plan n) k).stack) stack
 

@@ -20,7 +20,7 @@ use Rattle.swan_model.specs.SerialState.{Activation, Cell, Queue, State, Store}
 use Rattle.swan_model.specs.SerialStep.{Effect, goes_on, spawns, ends, faults, state_after, effect, effect_of, after_next, step_on}
 use Rattle.swan_model.specs.Told.{is_same, deed_at, items, first_value, cell, cell_from, changed_by}
 use Rattle.swan_model.specs.Values.{kind_of}
-use Rattle.serial_elision.proofs.AsksTold.{Does, effect-does}
+use Rattle.serial_elision.proofs.AsksTold.{IsDeedOf, effect-does}
 use Rattle.serial_elision.proofs.Asks.{if-either}
 use Rattle.serial_elision.proofs.At.{get-take-map}
 use Rattle.serial_elision.proofs.Becomes.{Becomes, HasOrigins, QueueAfter, stayed, is_new, CellAfter, kept, is_made, becomes-still, quiet-still}
@@ -72,7 +72,7 @@ one-root : (i j : ℕ) (o p : Origin) → o ≡ Root i → p ≡ Root j → is_s
 one-root i j o p is is' same = let e = is_same-equal o p same in let roots : Root i ≡ Root j = sym is ∙ e ∙ is' in cc
 
 -- what was done leaves the store that its deed tells
-does-after : {L : Type 0} (n : ℕ) (s : State L) (below : List (Activation L)) (path : List ℕ) (place : ℕ) (does : Deed) (done : Effect L) → Does n s.store does done → Becomes n (deed_of does done) s.store (state_after s below path place done).store
+does-after : {L : Type 0} (n : ℕ) (s : State L) (below : List (Activation L)) (path : List ℕ) (place : ℕ) (does : Deed) (done : Effect L) → IsDeedOf n s.store does done → Becomes n (deed_of does done) s.store (state_after s below path place done).store
 does-after n s below path place does (goes_on a store) becomes = becomes
 does-after n s below path place does (spawns parent child store) becomes = becomes
 does-after n s below path place does ends becomes = becomes
@@ -134,7 +134,7 @@ module _ {B L : Type 0} (G : Ghosts B L) where
       let steps = steps-are plan n top below is in
       let has_origins = subst (λ m. HasOrigins m s.store) (sym steps) has in
       let paid = effect-does s.steps s.store (after_next top stepped.0) stepped.1 has_origins in
-      let all = if-either (Does s.steps s.store asks) (nat_eq top.fuel 0) (faults Fuel) (effect s.steps s.store (after_next top stepped.0) stepped.1) (becomes-still s.steps deed.Quiet s.store quiet-still) paid in
+      let all = if-either (IsDeedOf s.steps s.store asks) (nat_eq top.fuel 0) (faults Fuel) (effect s.steps s.store (after_next top stepped.0) stepped.1) (becomes-still s.steps deed.Quiet s.store quiet-still) paid in
       let done = effect_of G body s.steps s.store top in
       record {
         does = deed_of asks done;
