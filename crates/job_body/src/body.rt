@@ -9,7 +9,7 @@ use crate::lines::lines;
 use crate::run::{begin, step, work};
 use crate::task_index::TaskIndex;
 use job_reader::Line;
-use privilege_check::CheckedJob;
+use privilege_check::{CheckedJob, is_main};
 use std::alloc::Global;
 use std::marker::Model;
 use swan_model::{Answer, Ask, Body, Listed, NoMemory, Worked};
@@ -42,7 +42,7 @@ fn main_index(lines: &[Line]) -> usize
     let mut index = 0;
     for line in lines {
         if let Line::Task(name) = line {
-            if name.as_str() == "main" {
+            if is_main(name) {
                 break;
             }
         }
@@ -56,7 +56,7 @@ impl JobBody {
     ghost use Rattle.job_body.specs.Steps.{begun};
     ghost use Rattle.job_body.specs.Tasks.{task_index};
 
-    /// The program of a job. `O(lines log names)`.
+    /// The program of a job. `O(n log n)` for n lines, names and values of it.
     pub(crate) fn new(alloc: Global, job: CheckedJob) -> Result<JobBody, NoMemory>
         ensures { IfOk result (λ body. body ≡ job) }
     {

@@ -106,7 +106,7 @@ fn spawn_of(
             Gives::new(alloc),
         )));
     };
-    let index = TaskIndex::new(task.index.line());
+    let index = TaskIndex::new(task.index.index());
     let params = params_of(alloc, scope, task.takes.as_slice(), args.as_slice())?;
     let gives = gives_of(alloc, scope, task.takes.as_slice(), args.as_slice())?;
     Ok(Action::Demand(Demand::Spawn(fuel, index, params, gives)))
@@ -278,7 +278,7 @@ fn instruction_of(
 }
 
 /// The instructions of a job, one for each line. A job has fewer lines than a spawn may have gives.
-/// `O(lines log names)`.
+/// `O(n log n)` for n lines, names and values of the job.
 pub fn program_of(alloc: Global, lines: &[Line]) -> Result<Listed<Instruction>, NoMemory>
     requires few { length lines.now ≤ GIVES_MOST }
     ensures { IfOk result (λ program. program ≡ program_of lines.now) }

@@ -33,7 +33,7 @@ pub fn begin(
 ) -> Result<JobLocal, NoMemory>
     ensures { IfOk result (λ local. local ≡ begun_in program.now task.now values.items) }
 {
-    let index = task.line();
+    let index = task.index();
     if let Some(instruction) = program.get(index as usize) {
         if let Action::Demand(Demand::Begin(kinds)) = &instruction.action {
             let values = with_zeros(alloc, values, kinds.as_slice())?;

@@ -6,6 +6,7 @@ use crate::block::{BlockWithLine, BlocksWithLines};
 use crate::instruction::Operand;
 use crate::name_table::{NAMES_MOST, NameTable};
 use job_reader::{Atom, Line};
+use privilege_check::is_main;
 use std::alloc::Global;
 use swan_model::{NoMemory, Word};
 
@@ -68,7 +69,7 @@ impl Scope {
         ensures { result ≡ scope_past_task self.roots name.now }
     {
         let mut scope = Scope::new(alloc, self.roots);
-        scope.is_main = name.as_str() == "main";
+        scope.is_main = is_main(name);
         scope
     }
 

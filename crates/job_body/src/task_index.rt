@@ -29,9 +29,9 @@ impl TaskIndex {
         TaskIndex { index }
     }
 
-    /// The number. `O(1)`.
-    pub fn line(&self) -> u32
-        ensures line { result ≡ self.now }
+    /// The index of the task's line, from 0 on. `O(1)`.
+    pub fn index(&self) -> u32
+        ensures index { result ≡ self.now }
         ensures few { result < u32.MAX }
     {
         self.index

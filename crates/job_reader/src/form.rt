@@ -20,13 +20,7 @@ fn header(first: &[u8], rest: &[&[u8]]) -> Result<Line, ReadLine>
     ensures { IsReadAs result (header (first.now ∷ texts rest.now)) }
 {
     match rest {
-        [second] => {
-            if is_text(first, "swan") && is_text(second, "1") {
-                Ok(Line::Header)
-            } else {
-                Err(ReadLine::Refused(JobKind::BadHeader))
-            }
-        }
+        [second] if is_text(first, "swan") && is_text(second, "1") => Ok(Line::Header),
         _ => Err(ReadLine::Refused(JobKind::BadHeader)),
     }
 }
@@ -121,7 +115,7 @@ pub fn shape(
     found: &[&[u8]],
 ) -> Result<Line, ReadLine>
     requires tokens { texts found.now ≡ tokens text.now }
-    requires ascii { IsUtf8 text.now }
+    requires utf8 { IsUtf8 text.now }
     ensures { IsReadAs result (shape position.now text.now) }
 {
     if is_note(text) && !position.is_first() {

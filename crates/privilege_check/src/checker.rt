@@ -26,7 +26,7 @@ pub struct Checker<'a> {
     tasks: BTreeMap<&'a str, Listed<Declaration>>,
 }
 
-/// Whether a task is `main`.
+/// Whether a task of this name is `main`. It takes no memory. `O(1)`.
 pub fn is_main(task: &Word) -> bool
     ensures { result ≡ is_main task.now }
 {

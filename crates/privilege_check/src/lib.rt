@@ -1,7 +1,7 @@
 //! The check of a job's names, kinds and rights.
 //!
 //! A job's text says line by line what it declares and what it does. This crate refuses a job in which
-//! a name isn't known or declared twice, stands in a place for another sort or kind, or is used without
+//! a name isn't known, is declared twice, stands in a place for another sort or kind, or is used without
 //! the right to it, and a spawn that gives a task other things than it takes. So what passes can't meet
 //! a fault of rights when it runs, and who wrote a job that doesn't pass is told the line and what is
 //! wrong with it before anything runs.
@@ -27,3 +27,4 @@ mod refusal;
 mod spawn;
 
 pub use checked::{CheckJob, CheckedJob, check};
+pub use checker::is_main;

@@ -6,6 +6,7 @@ ghost use Rattle.swan_model.specs.Lines.{lines, refusal_of};
 ghost use Rattle.swan_reducers.specs.declared.join_reducer.JoinReducer.{JoinReducer};
 ghost use Rattle.swan_reducers.specs.declared.join_reducer.TheConstants.{JOIN_MOST};
 ghost use Rattle.swan_reducers.specs.declared.sum_reducer.SumReducer.{SumReducer};
+ghost use Rattle.swan_reducers.specs.declared.sum_reducer.TheConstants.{PART_BYTES};
 ghost use Rattle.swan_reducers.specs.Fold.{fold_of};
 ghost use Rattle.swan_reducers.specs.Folded.{IsFolded};
 ghost use Rattle.swan_reducers.specs.Joins.{all_bytes, join_end, whole_text};
@@ -26,9 +27,11 @@ pub fn the_outcome_is_the_fold<R: Reducer + Send + Sync>()
 {}
 
 /// The law that the fold of lines by the reducer of sums ends with the decimal text of the sum of those that are
-/// numbers, and by Overflow exactly where this sum doesn't fit 64 bits with its sign: what is kept on the way is exact.
+/// numbers, and by Overflow exactly where this sum doesn't fit 64 bits with its sign: what is kept on the way is exact. A part
+/// of such a fold has `PART_BYTES` bytes, which is 16.
 pub fn sums_are_exact()
-    ensures { (reducer : SumReducer) (ls : List (List ℕ)) → length ls ≤ LINES_MOST → sum_end (fold_of ⟦<SumReducer as Reducer>⟧ reducer ls) ≡ decimal_text (total ls) }
+    ensures exact { (reducer : SumReducer) (ls : List (List ℕ)) → length ls ≤ LINES_MOST → sum_end (fold_of ⟦<SumReducer as Reducer>⟧ reducer ls) ≡ decimal_text (total ls) }
+    ensures part { PART_BYTES ≡ 16 }
 {}
 
 /// The law that the fold of a text by the reducer of joins ends with the bytes of its lines, and by TooLong exactly where

@@ -2,5 +2,5 @@
 use Rattle.swan_reducers.proofs.SumTotals.{sums_are_exact}
 use Rattle.swan_reducers.proofs.laws.sums_are_exact.Goals as goal
 
-pub returns : goal.returns
-returns c = sums_are_exact
+pub returns-clause-exact : goal.returns-clause-exact
+returns-clause-exact c = sums_are_exact
