@@ -92,7 +92,7 @@ task main\n\
 // The job from there on.
 const AFTER_FUEL: &str = " fold nums total count summary\nend\n";
 
-/// The job for an input of so many lines: it sums the numbers of the input, which it reads in blocks of 100 lines.
+/// The job for an input of so many lines, at most `BULK_MOST`: it sums the numbers of the input, which it reads in blocks of 100 lines.
 /// `O(1)`.
 pub fn bulk_job(alloc: Global, size: u64) -> Result<Vec<u8>, NoMemory>
     requires { size ≤ BULK_MOST }
@@ -111,7 +111,8 @@ pub fn bulk_fuel(size: u64) -> u64
     30 * size + 2_000
 }
 
-/// The input of so many lines: a number below 1000 on each, from `number` mod 1000 on. `O(size)`.
+/// The input of so many lines, at most `BULK_MOST`: a number below 1000 on each, from `number` mod 1000 on. `O(size)`, an
+/// allocation for each line, and those by which the text grows.
 pub fn bulk_input(alloc: Global, number: u64, size: u64) -> Result<Vec<u8>, NoMemory>
     requires { size ≤ BULK_MOST }
     ensures { IfOk result (λ text. text.items ≡ bulk_input number size) }

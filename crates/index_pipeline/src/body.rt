@@ -146,6 +146,8 @@ impl Body for IndexBody {
 
     ghost place_of = { λ body local. 0 };
 
+    /// Takes one step. Over all steps of a task it costs `O(1)` for each byte of its lines, but for the collector, which looks up
+    /// each word in `O(length + log words)`.
     fn advance(
         &self,
         alloc: Global,

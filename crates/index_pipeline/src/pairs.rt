@@ -73,7 +73,8 @@ impl Pairs {
     }
 
     /// Adds the pair that this text tells, unless it is there. Memory is taken for a word or a number that is new.
-    /// `O(length + log pairs)` where the number is above all others of its word, as it is in a run.
+    /// `O(length + log words)`, and linear in the numbers of the word where this one is new and not above all others, which is
+    /// so in no run.
     pub fn add(&mut self, alloc: Global, text: &[u8]) -> Result<(), NoMemory>
         ensures { OnOk result (self.new ≡ insert_key pair_order self.old (pair_of text.now)) }
     {

@@ -10,7 +10,7 @@ use line_blocks::{TEXT_MOST, line_roots, text_lines, text_names};
 use std::alloc::Global;
 use swan_model::{LinesAnswer, Names, NoMemory, Plan, PlanFuel};
 
-/// The plan of the index of a text. It is refused as `lines_of` refuses the text. `O(length)`.
+/// The plan of the index of a text, of at most `TEXT_MOST` bytes. It is refused as `lines_of` refuses the text. `O(length)`.
 pub fn index_plan(alloc: Global, text: &[u8]) -> Result<Plan<IndexBody>, LinesAnswer>
     requires { length text.now ≤ TEXT_MOST }
     ensures plan { IfOk result (λ plan. plan ≡ index_plan text.now) }

@@ -101,7 +101,8 @@ impl Open {
     }
 }
 
-/// How the block goes on that each line opens. `O(lines)`.
+/// For each line, how the block goes on that the lines from it on close first: so for `if` and `while` the one that the
+/// line opens, and for `else` its own; past all lines where there is none. `O(lines)`.
 pub fn exits_of(alloc: Global, lines: &[Line]) -> Result<Vec<Exit>, NoMemory>
     requires few { length lines.now ≤ GIVES_MOST }
     ensures { IfOk result (λ all. all.items ≡ exits_of lines.now) }

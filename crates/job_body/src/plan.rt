@@ -103,14 +103,14 @@ fn fill(alloc: Global, lines: &[Line], inputs: &[Blob]) -> Result<Roots, PlanAns
     Ok(roots)
 }
 
-/// The plan of a job over its inputs, with this fuel. The root queues are the job's inputs, to pop
+/// The plan of a job over its inputs, with this fuel, at most `FUEL_MOST`. The root queues are the job's inputs, to pop
 /// from and each with its lines, and its outputs, to push to, in the order of their lines. The objects
 /// start at the zero of their kinds. In the elision of the plan no fault is Privilege and none is Alias,
 /// since the check has refused each line that could meet one.
 ///
 /// Inputs comes exactly where the number of inputs isn't the job's. Otherwise the first input, counted
-/// from 1, that `lines_of` refuses is named, by RecordTooLong or by TooManyRecords. `O(lines log names)`
-/// of the job, and linear in the inputs.
+/// from 1, that `lines_of` refuses is named, by RecordTooLong or by TooManyRecords. `O(n log n)` for n
+/// lines, names and values of the job, and linear in the inputs: each is copied once, and its records share the copy.
 pub fn plan_of(
     alloc: Global,
     job: CheckedJob,

@@ -56,7 +56,7 @@ fn is_name(token: &[u8]) -> bool
     }
 }
 
-/// A word with a copy of this text, which is one of ASCII. `O(length)`, one allocation.
+/// A word with a copy of this text, which is one of UTF-8. `O(length)`, one allocation.
 pub fn word(alloc: Global, text: &[u8]) -> Result<Word, NoMemory>
     requires { IsUtf8 text.now }
     ensures { IfOk result (λ it. it ≡ text.now) }

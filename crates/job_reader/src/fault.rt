@@ -15,15 +15,17 @@ pub enum JobKind {
     BadByte,
     /// The first line isn't `swan 1`.
     BadHeader,
-    /// Not a line that may stand there.
+    /// Not a line that may stand there, by its first token, how many it has, a kind, an operation or a literal.
     BadLine,
-    /// A token that isn't a name stands in a name's position.
+    /// A token that isn't a name stands in a name's position, or one that is no number, literal or name in a value's.
+    /// A name has at most 32 bytes.
     BadName,
     /// A token that begins as a number isn't one.
     BadNumber,
     /// An `else` that belongs to no `if`, or a task that is still open at the end.
     Unbalanced,
-    /// Too many lines, inputs or nested blocks, or too long a line.
+    /// More than 20,000 lines, 16 inputs or 32 blocks that are open at once, or a line of more than 4,096 bytes without its
+    /// outer spaces.
     Limit,
     /// The name is taken.
     Duplicate,

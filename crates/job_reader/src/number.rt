@@ -26,7 +26,7 @@ fn is_natural(digits: &[u8]) -> bool
     }
 }
 
-/// What std reads of a text of ASCII. `O(length)`.
+/// What std reads of a text of UTF-8. `O(length)`.
 fn parse(text: &[u8]) -> Result<i64, ParseIntError>
     requires { IsUtf8 text.now }
     ensures { ParsesSigned w64 10 text.now result }

@@ -104,7 +104,7 @@ fn read_line(
 
 /// Reads the text of a job. Refused comes exactly where the text has a fault, and names the first faulty
 /// line and the first kind of fault that it has. It goes from line to line and looks at nothing after
-/// that one. `O(length)`, and a few allocations a line.
+/// that one. `O(length)`, an allocation or two for each name, note and literal, and a few more a line.
 pub fn read_job(alloc: Global, bytes: &[u8]) -> Result<Job, ReadJob>
     ensures ok { IfOk result (λ job. job_of bytes.now ≡ Ok job) }
     ensures refused { (fault : JobFault) → result ≡ Err (ReadJob.Refused fault) → first_fault bytes.now ≡ Some fault }

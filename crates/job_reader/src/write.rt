@@ -188,8 +188,8 @@ fn push_whole_line(
     push(out, b"\n")
 }
 
-/// The canonical text of a job, which reads back as the same job. `O(length)`, and an allocation for
-/// each number.
+/// The canonical text of a job, which reads back as the same job. `O(length)`, an allocation for each
+/// number, one for each task that has blocks, and those by which the text grows.
 pub fn write_job(alloc: Global, job: &Job) -> Result<Vec<u8>, NoMemory>
     ensures text { IfOk result (λ text. text.items ≡ text_of job.now) }
     ensures reads_back { IfOk result (λ text. job_of text.items ≡ Ok job.now) }

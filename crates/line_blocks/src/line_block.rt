@@ -96,7 +96,8 @@ impl LineBlock {
         bytes
     }
 
-    /// Takes the first line off, and None exactly where there is none. `O(1)`.
+    /// Takes the first line off, and None exactly where there is none. The block's number is that of the next line then; it
+    /// stops at the largest one of 64 bits. `O(1)`.
     pub fn take(&mut self) -> Option<Value>
         ensures line { MatchOption result (self.old.lines ≡ []) (λ line. self.old ≡ record { number = self.old.number; lines = line ∷ self.new.lines }) }
         ensures number { MatchOption result (self.new ≡ self.old) (λ line. self.new.number ≡ later self.old.number 1) }

@@ -41,7 +41,8 @@ impl<S: Named> NamedLock<S> {
     ghost use Rattle.named_lock.specs.Seats.{view_after_sign, lock_id, lock_name, lock_seats, knows, any_saw_done, Sits, IsSeatOf, IsNewSeatOf, IsSameSeat, IsHeldBy, FindsAgain};
 
     /// A lock with that many seats, of which there is at least one. The state's name is the lock's for good, and the sign
-    /// is Runs. It allocates four times, whatever the number of seats, and keeps three of the blocks. `O(seats)`.
+    /// is Runs. It allocates four times, whatever the number of seats, and keeps three of the blocks. `O(seats)`. NoMemory comes
+    /// where one of the four isn't found; the state is dropped then.
     pub fn open(
         alloc: Global,
         state: S,
@@ -150,8 +151,8 @@ impl<S: Named> NamedLock<S> {
     }
 
     /// Sets the sign to Done where it is Runs, by the seat that holds the state, which has the name of the lock and is
-    /// done. False comes exactly where the sign was Stopped, of which the seat has made no stop in this call. The state
-    /// has to be done when it goes back, in either case. It takes no memory. `O(1)`.
+    /// done. True comes where it was Runs or Done, and it is Done then; false exactly where it was Stopped, and it stays so. No
+    /// stop is counted. The state has to be done when it goes back, in either case. It takes no memory. `O(1)`.
     pub fn finish(&self, seat: &mut LockSeat<S>, held: &Held<S>) -> bool
         requires seat { IsSeatOf self.now true seat.old × IsHeldBy seat.old held.now }
         requires name { S.name held.now.state ≡ lock_name self.now }

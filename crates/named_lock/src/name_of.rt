@@ -20,7 +20,7 @@ impl<S: Named> Model for NameOf<S> {
 impl<S: Named> NameOf<S> {
     ghost use Rattle.std.specs.Prelude.{◌≡◌};
 
-    /// The name that a value has.
+    /// The name that a value has. It takes no memory. `O(1)`.
     pub fn of(state: &S) -> NameOf<S>
         ensures { result ≡ S.name state.now }
     {

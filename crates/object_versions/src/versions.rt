@@ -23,7 +23,7 @@ use std::alloc::Global;
 use std::marker::Model;
 use swan_model::{Mode, NoMemory, Value};
 
-/// The renamed objects of a run.
+/// The renamed objects of a run. After want of memory nothing is said of them.
 ///
 /// In costs, n counts the places of all frames.
 #[derive(Drop)]
@@ -91,7 +91,8 @@ impl Versions {
     /// Gives a child the object at a parent's place, by this mode. To read it the child has the parent's
     /// version. To write it the child has one of its own, with the zero of the object's kind, and the parent
     /// has one that the child owes. To read and write it the child has what was the parent's version, and the
-    /// parent has one that the child owes. Err is want of memory. `O(log n)`, amortised.
+    /// parent has one that the child owes. A child that has the object already may be given it once more only to
+    /// read, and only where it has it to read alone. Err is want of memory. `O(log n)`, amortised.
     pub fn access(
         &mut self,
         parent: u64,

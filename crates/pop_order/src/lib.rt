@@ -16,7 +16,7 @@
 //!
 //! Promised, and proved of each call: what it answers and what it leaves, with the oldest child, and the
 //! first frame in the order of the tree. By the law `order_is_serial` that is the order of points in a plan's
-//! script, as long as each frame has an entry left. Of the calls of `PopTurns` only `new` and `enlist` take memory.
+//! script, as long as each frame has an entry left. Of the calls of `PopTurns` only `enlist` takes memory.
 //! After want of memory nothing is said of the frames.
 //!
 //! Inside, three sets stand beside the frames: the children that pop, and those that push, each by parent

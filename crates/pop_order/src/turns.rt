@@ -47,8 +47,8 @@ impl PopTurns {
     }
 
     /// Gives a child one more queue, which it may use by this mode, and makes it active where it wasn't.
-    /// Err is want of memory, and nothing is said of the frames after it. `O(log n)`, and it makes the room
-    /// that the other calls need.
+    /// Err is want of memory, and nothing is said of the frames after it. `O(log n)` amortised, and it makes the
+    /// room that the other calls need; an Err lets all frames go, `O(n)`.
     pub fn enlist(
         &mut self,
         parent: u64,
@@ -80,8 +80,8 @@ impl PopTurns {
         }
     }
 
-    /// Moves the queue views of a child's popped queues from its parent to it. It changes nothing for a
-    /// frame that was not enlisted, or was given back. `O(log n)`; it takes no memory.
+    /// Moves the queue views of a child's popped queues from its parent to it, where `may_start` answers Ok. It
+    /// changes nothing for a frame that was not enlisted, or was given back. `O(log n)`; it takes no memory.
     pub fn lend(&mut self, child: u64)
         requires { (number : ℕ) → ¬ Blocks self.old child number }
         ensures { self.new ≡ frames_after_lend self.old child }

@@ -66,9 +66,10 @@ fn first_fault(alloc: Global, lines: &[Line]) -> Result<Option<JobFault>, NoMemo
 }
 
 /// The same job, checked. Refused comes exactly where a line has a fault of names, kinds or rights,
-/// or where there is no task `main`, and names the first faulty line with the first fault that it has.
-/// `O(n log n)` for all names and values of the job, and an allocation now and then for what is
-/// declared and for what spawns give. Names aren't copied.
+/// or where there is no task `main`, and names the first faulty line with the first fault that it has;
+/// NoMain is named at the last line, where no line has a fault. `O(n log n)` for n lines, names and values
+/// of the job, and an allocation now and then for what is declared and for what spawns give. Names aren't
+/// copied.
 pub fn check(alloc: Global, job: Job) -> Result<CheckedJob, CheckJob>
     ensures job { IfOk result (λ checked. checked ≡ job) }
     ensures accepted { OnOk result (first_fault job ≡ None) }

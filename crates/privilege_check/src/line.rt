@@ -103,7 +103,7 @@ impl Checker<'_> {
     }
 
     /// A line, by what the lines before it say. Refused comes exactly with its first fault.
-    /// `O(log names)` for each of its names, and for a spawn an allocation for each object and queue.
+    /// `O(log names)` for each of its names, and for a spawn an allocation now and then for its objects and queues.
     pub fn check(&self, line: &Line) -> Result<(), CheckLine>
         ensures { IsCheckedAs result (check_line (state_of self.now) line.now) }
     {

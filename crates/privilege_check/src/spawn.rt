@@ -49,8 +49,8 @@ impl Checker<'_> {
         Ok(())
     }
 
-    /// A spawn: the child's fuel, its task, and what it is given. `O(arguments · log names)`, and an
-    /// allocation for each object and queue.
+    /// A spawn: the child's fuel, its task, and what it is given. `O(n log names)` for n arguments, and an
+    /// allocation now and then for its objects and queues.
     pub fn spawn(&self, fuel: &Atom, task: &Word, args: &[Atom]) -> Result<(), CheckLine>
         ensures { IsCheckedAs result (spawn (state_of self.now) fuel.now task.now args.now) }
     {

@@ -64,7 +64,8 @@ impl Queues for BookQueues {
 
     ghost state = { λ queues. queues.state };
 
-    /// Makes a root queue of one chunk, which takes over the items. `O(log n)` amortised, however many they are.
+    /// Makes a root queue of one chunk, which takes over the items. One entry for the queue stays to the end of the run. `O(log n)`
+    /// amortised, however many items they are.
     fn create_root(&mut self, first: Values) -> Result<u32, NoMemory> {
         match self.store.make(0, first) {
             Ok(queue) => {
@@ -78,7 +79,7 @@ impl Queues for BookQueues {
         }
     }
 
-    /// Makes a queue of one empty chunk. `O(log n)` amortised.
+    /// Makes a queue of one empty chunk. One entry for the queue stays to the end of the run. `O(log n)` amortised.
     fn create(&mut self, frame: u64) -> Result<u32, NoMemory> {
         let none = Values::new(self.store.alloc);
         match self.store.make(frame, none) {

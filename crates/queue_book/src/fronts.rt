@@ -63,6 +63,7 @@ fn first_pusher(frames: &LiveFrames, chains: &Chains, frame: u64, queue: u32) ->
         → result ≡ first_open frames.now frame queue (lines queue) }
 {
     let mut next = chains.heads[queue as usize];
+    // A chain has each node once, so it ends within this many.
     for _turn in 0..chains.nodes.len() {
         let Some(key) = next else {
             return None;

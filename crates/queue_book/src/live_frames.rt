@@ -178,7 +178,7 @@ impl LiveFrames {
             Some(before) => {
                 self.others.insert(self.newest_number, before)?;
             }
-            // It is gone, so that none of the others may show in its place.
+            // The newest frame is gone, which hid an entry of its number among the others. It must not show once another one is newest.
             None => {
                 self.others.remove(&self.newest_number);
             }

@@ -31,10 +31,10 @@ pub record AreTurns (state : QueueState) (turns : Frames) : Type 0 where
 abbrev pub gives_queue : List QueueRight → ℕ → Bool
 gives_queue gives queue = list_any (λ right. right.queue == queue) gives
 
--- the turn of a child that was given these
 abbrev pub holding_of : QueueRight → Holding
 holding_of right = record { mode = right.mode; number = right.queue }
 
+-- the turn of a child that was given these
 abbrev pub turn_of : ℕ → List QueueRight → Option TurnFrame
 turn_of parent [] = None
 turn_of parent (give ∷ gives) = Some (record { parent = parent; holdings = map holding_of (give ∷ gives); lent = false })

@@ -23,7 +23,8 @@ use swan_model::{NoMemory, Value, Values};
 /// are said for every script that is lawful, as that of each plan is. Contracts see a value as its state: the
 /// frames, and how many deeds of queues each has done.
 ///
-/// After want of memory a value may only be let go.
+/// A frame acts while it is active and its ends are back, and does at most 2^64 - 1 deeds of queues. After want of memory a value may
+/// only be let go.
 pub trait Queues: Send + Drop {
     /// The ends that a running frame has with it.
     type Ends: LocalEnds;
@@ -38,8 +39,9 @@ pub trait Queues: Send + Drop {
     /// Its frames and queues.
     ghost state: { Self → QueueState };
 
-    /// Makes a root queue with these first items, which counts as made by frame 0. The answer is the number
-    /// of queues made before. Err is want of memory.
+    /// Makes a root queue with these first items, at most `FIRST_ITEMS_MOST`, which counts as made by frame 0: before the root's
+    /// first deed and spawn, and while fewer than 4,294,967,295 queues were made. The answer is the number of queues made before.
+    /// Err is want of memory.
     fn create_root(&mut self, first: Values) -> Result<u32, NoMemory>
         // what the state allows
         requires untouched { IsUntouched (state self.old) }
@@ -54,7 +56,8 @@ pub trait Queues: Send + Drop {
         ensures ok { OnOk result (state self.new ≡ after_create_root (state self.old)) }
         ensures same { IsSameRun name run self.old self.new };
 
-    /// Makes an empty queue. The answer is the number of queues made before. Err is want of memory.
+    /// Makes an empty queue, while fewer than 4,294,967,295 were made. The answer is the number of queues made before. Err is
+    /// want of memory.
     fn create(&mut self, frame: u64) -> Result<u32, NoMemory>
         // what the state allows
         requires may { MayDo (state self.old) frame }
@@ -70,7 +73,9 @@ pub trait Queues: Send + Drop {
         ensures same { IsSameRun name run self.old self.new };
 
     /// Makes a child of the parent, which may use these queues. It is called at each spawn, with no gives
-    /// where the child gets no queue. Err is want of memory.
+    /// where the child gets no queue. The child's number is above all before; the parent holds each queue by the mode by which it
+    /// gives it, and gives none twice; its path has fewer than `PATH_MOST` parts, and it has spawned fewer than 4,294,967,295
+    /// children. Err is want of memory.
     fn spawn(&mut self, parent: u64, child: u64, gives: &[QueueGive]) -> Result<(), NoMemory>
         // what the state allows
         requires may { MaySpawn (state self.old) parent child gives.now }
@@ -140,8 +145,10 @@ pub trait Queues: Send + Drop {
         ensures ok { OnOk result (state self.new ≡ after_deed (state self.old) frame) }
         ensures same { IsSameRun name run self.old self.new };
 
-    /// The first item of a queue in serial order, which leaves it; or Empty exactly where in serial order none is
-    /// left at this step; or what to wait for. It takes no memory.
+    /// The first item of a queue in serial order, which leaves it; or Empty, only where in serial order none is left at this
+    /// step; or NotYet with whom to wait for: the frame's oldest active child that may pop the queue, or where there is none, the
+    /// first active frame earlier in serial order that may push to it, while the next item isn't ripe. NotYet is no deed and
+    /// changes nothing. It takes no memory.
     fn pop(&mut self, frame: u64, queue: u32) -> Popped
         // what the state allows
         requires may { MayUse (state self.old) frame queue Pop }
@@ -157,7 +164,8 @@ pub trait Queues: Send + Drop {
         ensures after { state self.new ≡ after_pop (state self.old) frame result }
         ensures same { IsSameRun name run self.old self.new };
 
-    /// Whether a queue has an item at this step in serial order; nothing is taken. It takes no memory.
+    /// Whether a queue has an item at this step in serial order, or NotYet as at `pop`. No item is taken; Holds and Empty count
+    /// as a deed, and NotYet changes nothing. It takes no memory.
     fn test(&mut self, frame: u64, queue: u32) -> Tested
         // what the state allows
         requires may { MayUse (state self.old) frame queue Pop }

@@ -118,6 +118,8 @@ impl Body for RecordBody {
 
     ghost place_of = { place_of };
 
+    /// Takes one step. `O(1)`, but for the step that makes the netstrings of a line, which is linear in it, and for lists that
+    /// grow now and then.
     fn advance(
         &self,
         alloc: Global,

@@ -51,8 +51,8 @@ fn after(line: &[u8], len: usize) -> &[u8]
     &line[len..]
 }
 
-/// The netstrings of a line's fields, of which there are so many, joined. There is room for all of them at once, and little
-/// more. `O(length)`.
+/// The netstrings of a line's fields, of which there are so many, joined. There is room for all of them at once; what is left
+/// of it is at most a byte a field where the line has fewer than 100 bytes, and else four. `O(length)`.
 pub fn netstrings(alloc: Global, line: &[u8], count: u64) -> Result<Vec<u8>, NoMemory>
     requires line { length line.now ≤ RECORD_MOST }
     requires count { count ≡ length (fields line.now) }

@@ -24,7 +24,7 @@ fn first_width(lines: &Values) -> u64
     }
 }
 
-/// The plan of the conversion of a text. It is refused as `lines_of` refuses the text. `O(length)`.
+/// The plan of the conversion of a text, of at most `TEXT_MOST` bytes. It is refused as `lines_of` refuses the text. `O(length)`.
 #[tactic(auto, using(crate::proofs::Widths::width_is))]
 pub fn record_plan(alloc: Global, text: &[u8]) -> Result<Plan<RecordBody>, LinesAnswer>
     requires { length text.now ≤ TEXT_MOST }

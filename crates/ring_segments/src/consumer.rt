@@ -51,8 +51,8 @@ impl Consumer {
 
     /// Pops the next item: the one at `popped` of the list that the segment owes.
     ///
-    /// `None` comes where the ring was empty when this call looked, once, and no learnt note tells of more items than were
-    /// popped. It takes no memory. `O(1)`: one load, and one store where it pops.
+    /// `None` comes where the ring was empty when this call looked, once, and neither a learnt note nor an earlier look told of
+    /// more items than were popped. It takes no memory. `O(1)`: one load, and one store where it pops.
     pub fn pop(&mut self) -> Option<Value>
         ensures some { IfSome result (λ item. IsItem self.old.of.id self.old.popped item × (self.new ≡ after_pop self.old self.new.known)) }
         ensures known { IfSome result (λ item. (self.old.popped < self.new.known) × (self.old.known ≤ self.new.known)) }
@@ -66,8 +66,8 @@ impl Consumer {
 
     /// Whether an item is there, so that the next `pop` gives one. Nothing is taken.
     ///
-    /// `false` comes where the ring was empty when this call looked, once, and no learnt note tells of more items than were
-    /// popped. It takes no memory. `O(1)`: one load.
+    /// `false` comes where the ring was empty when this call looked, once, and neither a learnt note nor an earlier look told of
+    /// more items than were popped. It takes no memory. `O(1)`: one load.
     pub fn holds(&mut self) -> bool
         ensures answer { MatchBool result ((self.new ≡ after_look self.old self.new.known) × (self.old.popped < self.new.known) × IsInside self.old.of.id self.old.popped) (WasEmpty self.old self.new) }
         ensures known { self.old.known ≤ self.new.known }
@@ -94,7 +94,8 @@ impl Consumer {
         }
     }
 
-    /// Learns what a note keeps. It takes no memory. `O(1)`.
+    /// Learns how many items were pushed when a note of this segment was made, and where a link made it, that no more are: then
+    /// no more than these were popped. It counts as a look. It takes no memory. `O(1)`: two loads.
     pub fn learn(&mut self, note: Note)
         requires { note.table ≡ self.old.of.table }
         ensures state { self.new ≡ after_learn self.old note }

@@ -35,7 +35,8 @@ pub(crate) struct Ring {
 /// A new segment of that many places, 1 to 16,777,216: the end that pushes to it and the end that pops from it.
 ///
 /// The name is that of its run, the tag says what made it, and the key is the caller's own number for it, which all its
-/// ends show. Where the name has a script, the segment owes a list by it.
+/// ends show. Where the name has a script, the segment owes a list by it. NoMemory leaves nothing, and the tag is gone.
+/// `O(size)`: it allocates four times and keeps three of the blocks, the table's words, its slots, and what both ends share.
 pub fn segment(
     alloc: Global,
     name: RunName,

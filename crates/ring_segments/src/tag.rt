@@ -1,8 +1,8 @@
 // Tags of segments.
 use swan_model::Path;
 
-/// What made a segment: what made its queue, where it is the queue's first one, or else a push. A step is a queue deed of
-/// the task with this path, by how many earlier ones the task has.
+/// What made a segment. A queue's first one is made with the queue, by the plan or by a step of a task; any other one is made at
+/// a push. A step is named by the task's path and by how many queue deeds the task did before.
 #[derive(Drop)]
 pub enum Tag {
     /// The first segment of the plan's queue of this index.

@@ -14,7 +14,7 @@ use swan_model::{Give, Mode, NoMemory};
 const FEW_GIVES: usize = 8;
 
 /// Whether some place stands twice among the gives, and not only to read. `O(gives log gives)`; it
-/// takes no memory for `FEW_GIVES` or fewer.
+/// takes no memory for 8 gives or fewer.
 pub fn is_aliased(alloc: Global, gives: &[Give]) -> Result<bool, NoMemory>
     ensures { IfOk result (λ aliased. aliased ≡ is_aliased gives.now) }
 {

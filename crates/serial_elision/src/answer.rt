@@ -9,7 +9,7 @@ use swan_model::{Answer, Ask, FaultKind, NoMemory};
 
 impl Store {
     /// Answers an ask of one who holds this, where it is about objects and queues at places, or about
-    /// nothing. `O(1)` amortised; a record shares its bytes.
+    /// nothing. Any other ask comes back as Own, and has had no effect. `O(1)` amortised; a record shares its bytes.
     #[inline(always)]
     pub fn answer<L>(&mut self, holdings: &[Holding], ask: Ask<L>) -> Result<Reply<L>, NoMemory>
         ensures { (n : ℕ) (a : Activation L) → a.holdings ≡ holdings.now → IfOk result (λ reply.

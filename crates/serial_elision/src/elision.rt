@@ -15,7 +15,8 @@ use swan_model::{Body, NoMemory, Outcome, Plan, ValueLists, Values};
 /// fuel and two steps. A spawn of `g` gives from a path of `d` parts costs `O(g log g + d)`, and
 /// each other step `O(1)` amortised beside the body's. What a task holds is given up when it ends,
 /// and half of a queue's room once less than a quarter of it is used, down to room for 32 items;
-/// objects and queues stay until the end.
+/// objects and queues stay until the end. Beside its steps it costs `O(roots)` at the start, and at the end
+/// what it takes to let go of the objects, the queues and the items that tasks made.
 pub fn elide<B: Body>(alloc: Global, plan: Plan<B>) -> Result<Outcome, NoMemory>
     ensures outcome { IfOk result (λ left. left ≡ outcome B.Body plan) }
     ensures queues { IfOk result (λ left. length left.queues ≡ length plan.roots.queues) }
@@ -53,7 +54,7 @@ fn first_values(alloc: Global, mut cells: Vec<Cell>, count: usize) -> Result<Val
     Ok(Values::from_vec(values))
 }
 
-/// The items of the first queues. `O(queues)`.
+/// The items of the first queues. `O(queues)`, and what it costs to let the items of the others go.
 fn first_items(alloc: Global, mut queues: Vec<Queue>, count: usize) -> Result<ValueLists, NoMemory>
     ensures { IfOk result (λ lists. lists ≡ map (λ queue. queue.items) (take count queues.items)) }
 {

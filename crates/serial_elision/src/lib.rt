@@ -11,13 +11,14 @@
 //! - The elision of each plan ends, by the law `elision_ends`.
 //! - A fault ends its task and nothing else, the faults are in serial order, and a step changes only
 //!   what its task holds so, by the laws `a_fault_ends_its_task`, `faults_are_in_order` and
-//!   `rights_bind`. What is left of faults is that of tasks' last steps, by the law
+//!   `rights_bind`. The faults that are left are those of tasks' last steps, by the law
 //!   `faults_are_those_of_last_steps`.
 //! - A task goes on by its own steps, whatever the tasks beside it do, and what it holds keeps its name, by the laws
 //!   `tasks_go_on` and `names_stay`. What each step makes of its task, and which deed of the script it is, is said by
 //!   the ask, by the laws `asks_are_answered`, `some_steps_end_their_task` and `a_spawn_makes_its_child`. Nothing is
-//!   made that the plan's fuel doesn't pay for, by the law `a_plan_makes_what_its_fuel_pays`; so whatever follows the
-//!   plan's script has room for what it makes next, by the law `runs_have_room`.
+//!   made that the plan's fuel doesn't pay for, by the law `a_plan_makes_what_its_fuel_pays`; so where hyperqueues follow
+//!   the plan's script one queue more may be made, and each active frame may spawn one child more and do one deed of queues
+//!   more, by the law `runs_have_room`.
 //! - `script_of` answers the script of a plan, which says what each step does without the body. A script has
 //!   one entry for each step, tells what stood in each queue and object, and the times of a task rise in it, by
 //!   the laws `each_step_has_its_entry`, `a_script_tells_queues_and_objects` and `times_of_a_task_rise`.

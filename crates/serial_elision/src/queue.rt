@@ -26,8 +26,8 @@ impl Model for Queue {
 }
 
 impl Queue {
-    /// Takes the first item off, and None exactly where there is none. Once less than a quarter of the
-    /// queue's room is used it gives half of that back, but keeps room for 32 items. `O(1)` amortised.
+    /// Takes the first item off, and None exactly where there is none. Once less than a quarter of its room is used the
+    /// queue gives half of the room back, down to room for `SHRUNK_LEAST` items. `O(1)` amortised.
     #[inline]
     pub fn pop(&mut self) -> Option<Value>
         ensures first { MatchOption result (self.old.items ≡ [])

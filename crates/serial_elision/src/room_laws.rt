@@ -21,8 +21,8 @@ use swan_model::Body;
 /// 4,294,967,295 children and done fewer than 18,446,744,073,709,551,615 deeds of queues. So one queue more may be made,
 /// and each frame may spawn one child more and do one deed more. A task has as many children as the script has spawns of
 /// it by then. A true frame has fewer than 4,294,967,295 children, and fewer than 4,294,967,295 places where it began
-/// with as many as a plan or a spawn may give. The plan's lists and its fuel are within their bounds, as those of each
-/// plan that is made are.
+/// with as many as a plan or a spawn may give. Where a clause asks it, the plan's lists and its fuel are within their bounds,
+/// as those of each plan that is made are.
 pub fn runs_have_room<B: Body>()
     // hyperqueues
     ensures makers { (plan : Plan B B.Local) (state : QueueState) → let s = script B.Body plan in QueuesFollow s state

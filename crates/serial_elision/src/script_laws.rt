@@ -125,8 +125,9 @@ pub fn points_stand_in_serial_order()
 {}
 
 /// The law that rights, counted from the script alone, bind: each deed, and each give of a spawn, is
-/// within what its task holds before it. The plan's lists are within their bounds, as those of each plan
-/// that is made are.
+/// within what its task holds before it, where the root is counted as holding push and pop on each of the plan's queues (a
+/// script doesn't tell their modes). Asked is that the plan's lists are within their bounds, as those of each plan that is made
+/// are.
 pub fn deeds_are_within_rights<B: Body>()
     ensures within { (plan : Plan B B.Local) → IsWithinBounds plan.roots.queues plan.roots.objects
         → (n : ℕ) → let s = script B.Body plan in
@@ -135,7 +136,7 @@ pub fn deeds_are_within_rights<B: Body>()
 
 /// The law that a spawn names each give. An entry that is a spawn is the entry of a step that asks for a
 /// child. It has as many gives as the ask, in the same order and by the same modes, each named by what made
-/// the object or queue that the parent gives. The plan's lists are within their bounds, as those of each plan
+/// the object or queue that the parent gives. Asked is that the plan's lists are within their bounds, as those of each plan
 /// that is made are.
 pub fn a_spawn_names_each_give<B: Body>()
     ensures gives { (plan : Plan B B.Local) → IsWithinBounds plan.roots.queues plan.roots.objects
@@ -144,7 +145,7 @@ pub fn a_spawn_names_each_give<B: Body>()
         → AsksToGive B.Body plan.body (serial B.Body plan n) gives }
 {}
 
-/// The law that the scripts of plans are lawful. The plan's lists are within their bounds, as those of each
+/// The law that the scripts of plans are lawful. Asked is that the plan's lists are within their bounds, as those of each
 /// plan that is made are.
 pub fn scripts_are_lawful<B: Body>()
     ensures lawful { (plan : Plan B B.Local) → IsWithinBounds plan.roots.queues plan.roots.objects

@@ -65,8 +65,8 @@ pub fn tasks_go_on<B: Body>()
 
 /// The law that what is held keeps its name. Whatever a task holds at a step has a name, by what made it, and
 /// has it at each later time of the elision; so a task that holds the same at its next step has the same names
-/// for it. The root begins with the plan's queues and then its objects, by their names. The plan's lists are
-/// within their bounds, as those of each plan that is made are.
+/// for it. What it may use by a mode it holds by a name. The root begins with the plan's queues and then its objects, by
+/// their names. Asked is that the plan's lists are within their bounds, as those of each plan that is made are.
 pub fn names_stay<B: Body>()
     // at a step, at each later time, and at the next step
     ensures named { OnBoundedStep B.Body (λ at. (place : ℕ) (holding : Holding) → slice_get at.top.holdings place ≡ Some holding
@@ -91,8 +91,8 @@ pub fn names_stay<B: Body>()
 /// children are answered with nothing; a read with the value that the script tells of the object at this time; a
 /// write and a push with nothing; a pop with the queue's next item, where one is left; the test of a queue with
 /// whether none is left; and who makes a queue or an object is told its new place. Whoever is answered holds the
-/// same as before, by the same names, and a maker one place more, which has the name of this step. The plan's
-/// lists are within their bounds, as those of each plan that is made are.
+/// same as before, by the same names, and a maker one place more, which has the name of this step. Asked is that the
+/// plan's lists are within their bounds, as those of each plan that is made are.
 pub fn asks_are_answered<B: Body>()
     // what changes nothing for others
     ensures work { OnBoundedAsk B.Body ask.Work (λ at. AnswersWith B.Body at answer.Nothing deed.Quiet) }
@@ -121,9 +121,9 @@ pub fn asks_are_answered<B: Body>()
 
 /// The law of the steps that end their task. A task without fuel ends by the fault Fuel, one that may not use a
 /// place so, or not give what it is to give, by Privilege, one that pops a queue in which nothing is left by
-/// PopEmpty, and one that gives up by its own trouble. A child that it may give all is refused where a
-/// place is given twice, else where the path is too deep, else where the fuel doesn't last, by Alias, Depth and
-/// Fuel. In the script none of these steps does anything, but the pop of an empty queue is a pop.
+/// PopEmpty, and one that gives up by its own trouble. One that asks to finish ends without a fault. Where a task holds all
+/// that a child is to get, the spawn is refused by Alias where a place is given twice and not only to read, else by Depth where
+/// the path has `PATH_MOST` parts, else by Fuel where the child is to get more than is left. In the script none of these steps does anything, but the pop of an empty queue is a pop.
 pub fn some_steps_end_their_task<B: Body>()
     // whatever is asked for
     ensures dry { OnStep B.Body (λ at. at.top.fuel ≡ 0 → EndsBy B.Body at kind.Fuel deed.Quiet) }
@@ -149,8 +149,8 @@ pub fn some_steps_end_their_task<B: Body>()
 
 /// The law that a spawn which is no fault makes the child that was asked for. The child holds the gives, each by
 /// the name of what its parent holds at the give's place, and those are the gives of the script's entry; the
-/// parent holds the same as before, by the same names. The plan's lists are within their bounds, as those of each
-/// plan that is made are.
+/// parent holds the same as before, by the same names. Asked is that the plan's lists are within their bounds, as those of
+/// each plan that is made are.
 pub fn a_spawn_makes_its_child<B: Body>()
     ensures spawns { (child : Child B.Local) → OnSpawn B.Body child (λ at holdings. IsBounded at.of.plan
         → is_aliased child.gives ≡ false → length at.of.top.path < PATH_MOST → child.fuel ≤ at.of.top.fuel - 1
@@ -180,8 +180,8 @@ pub fn faults_are_those_of_last_steps<B: Body>()
 /// together at most the plan's fuel; its places and the fuel that it has left are at most those with which it
 /// began, which for a child are as many places as its gives. So there are fewer than 4,294,967,295 queues and
 /// objects, children of a task, and places of one that begins with as many as a plan or a spawn may give. No task
-/// has more steps than the elision takes, nor more of them that queues are told of. The plan's lists and its
-/// fuel are within their bounds, as those of each plan that is made are.
+/// has more steps than twice the fuel and two, nor, in all or before any of its steps, more of them that queues are told of.
+/// Where a clause asks it, the plan's lists and its fuel are within their bounds, as those of each plan that is made are.
 pub fn a_plan_makes_what_its_fuel_pays<B: Body>()
     // what the whole run makes, and a task
     ensures queues { (plan : Plan B B.Local) (queues : List Origin) → AreEachOnce (IsQueueOf (script B.Body plan)) queues

@@ -25,7 +25,7 @@ fn words_of(rt: &HostRuntime) -> io::Result<Words> {
     Ok(words)
 }
 
-// The words, where one that isn't UTF-8 makes them one empty word, which is no command.
+// The words; where one of them, or the program's own name, isn't UTF-8, one empty word, which is no command.
 fn words_or_empty(rt: &HostRuntime) -> io::Result<Words> {
     match words_of(rt) {
         Err(error) if error.kind() == ErrorKind::InvalidData => {

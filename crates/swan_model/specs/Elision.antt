@@ -45,8 +45,8 @@ root plan = record { path = []; local = plan.root_local; answer = answer.Start; 
 abbrev pub start : {B L : Type 0} → Plan B L → State L
 start plan = record { steps = 0; stack = root plan ∷ []; store = first_store plan.roots; faults = [] }
 
--- Each step takes one unit of fuel, or is the one step without fuel of its activation. So the stack is
--- empty after this many steps, which the law `elision_ends` of serial_elision says.
+-- Each step takes one unit of fuel, or is the one step without fuel of its activation; and each activation but the root's was
+-- made by a step that took one. So the stack is empty after this many steps, which the law `elision_ends` of serial_elision says.
 abbrev pub most_steps : {B L : Type 0} → Plan B L → ℕ
 most_steps plan = 2 * plan.fuel + 2
 

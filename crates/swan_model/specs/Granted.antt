@@ -21,7 +21,8 @@ abbrev pub roots_from : Mode → ℕ → ℕ → List OriginGive
 roots_from mode i zero = []
 roots_from mode i (suc many) = (record { origin = Root i; mode = mode }) ∷ roots_from mode (i + 1) many
 
--- the root holds push and pop on each root queue, and read and write on each root object
+-- What the root holds, as far as a script tells: the modes of the plan's queues aren't in it, so push and pop are counted on each,
+-- also where the plan gives the root only one of them; and read and write on each root object.
 abbrev pub root_holds : Script → List OriginGive
 root_holds s = roots_from PushPop 0 (length s.queues) ++ roots_from InOut 0 (length s.objects)
 
@@ -49,7 +50,7 @@ abbrev pub granted_by : Script → List ℕ → ℕ → Entry → List OriginGiv
 granted_by s path n entry =
     granted (is_of path entry) (pointwise nat_eq (child_path s entry.path n) path) n entry.deed
 
--- what the task with this path holds before the entry n
+-- what the task with this path holds before the entry n, counted so
 abbrev pub holds : Script → List ℕ → ℕ → List OriginGive
 holds s path zero = if pointwise nat_eq path [] then root_holds s else []
 holds s path (suc n) = holds s path n ++ option_map_or (granted_by s path n) (slice_get s.entries n) []

@@ -178,7 +178,7 @@ pub record AreActive (state : QueueState) (r : Reading) (actives : List Progress
 
 -- ---- what is told
 
--- how many items left a queue before the frame's point, and how many were pushed
+-- how many items left a queue before the frame's point, and how many had come into it
 abbrev pub taken_at : Script → ActiveFrame → Origin → ℕ
 taken_at s frame queue = taken s queue (queue_point s frame.path frame.deeds)
 

@@ -43,7 +43,9 @@ pub data SegmentTag : Type 0 where
 -- An end that is lent to a running frame, to push to a segment of a queue or to pop from it.
 pub record LentEnd : Type 0 where
   pub queue : ℕ
+  -- the number that the hyperqueues have for the segment
   pub key : ℕ
+  -- which segment it is, in the words of a script
   pub tag : SegmentTag
   pub is_producer : Bool
 

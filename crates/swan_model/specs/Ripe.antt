@@ -15,8 +15,8 @@ abbrev pub is_push_to : Origin → Deed → Bool
 is_push_to queue (deed.Push origin value) = is_same origin queue
 is_push_to queue _ = false
 
--- the time of the push of an item that has this index among all that ever stand in a queue, and none for
--- its first items
+-- The time of the push of the item that has this index among all that ever stand in a queue. (For the index of a first item it
+-- is the time of the first push, where there is one; no contract speaks of it there.)
 abbrev pub push_time : Script → Origin → ℕ → Option ℕ
 push_time s queue index =
     slice_get (places_from (λ entry. is_push_to queue entry.deed) 0 s.entries) (index - length (first_items s queue))

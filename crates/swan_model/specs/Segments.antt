@@ -1,4 +1,4 @@
--- Segments of hyperqueues, as a script tells of them. A segment passes on a run of the items that are ever pushed to its
+-- Segments of hyperqueues, as a script tells of them. A segment passes on a run of the items that ever stand in its
 -- queue. Where the run begins, and where it ends at the latest, follows from what made the segment, which is its tag.
 use Rattle.std.specs.Prelude.{◌≡◌, ℕ, ◌+◌, ◌<◌, ◌&&◌, ◌==◌, nat_le, Bool, false, Option, Some, None, List, [], length, drop, find}
 use Rattle.std.specs.Option.{option_map_or}
@@ -31,19 +31,19 @@ IsSegmentOf s (pushed_by path deeds) =
 
 -- ---- what a segment owes
 
--- How many of its queue's items come before those of a segment: none where it is the first one, or else those that were
--- pushed before the push that made it.
+-- How many of its queue's items come before those of a segment: none where it is the first one, or else the queue's first
+-- items and those that were pushed before the push that made it.
 abbrev pub base : Script → SegmentTag → ℕ
 base s (first_of maker) = 0
 base s (pushed_by path deeds) =
     option_map_or (λ queue. count s queue (queue_time s path deeds)) (segment_queue s (pushed_by path deeds)) 0
 
--- The list that a segment owes: all that is ever pushed to its queue, from its base on.
+-- The list that a segment owes: all that ever stands in its queue, from its base on.
 abbrev pub owed : Script → SegmentTag → List Value
 owed s tag = option_map_or (λ queue. drop (base s tag) (pushes s queue)) (segment_queue s tag) []
 
 -- The index of an end of a segment, a producer that has pushed so many items or a consumer that has popped so many, among
--- all that is ever pushed to the queue.
+-- all that ever stands in the queue.
 abbrev pub index_of_end : Script → SegmentTag → (moved : ℕ) → ℕ
 index_of_end s tag moved = base s tag + moved
 
@@ -58,7 +58,7 @@ is_look_at queue _ = false
 abbrev pub look_times : Script → Origin → List ℕ
 look_times s queue = places_from (λ entry. is_look_at queue entry.deed) 0 s.entries
 
--- whether nothing is left at a time of what was pushed to a queue
+-- whether a queue is empty at a time
 abbrev pub is_empty_at : Script → Origin → ℕ → Bool
 is_empty_at s queue t = taken s queue t == count s queue t
 
@@ -73,11 +73,11 @@ looks_from s (first_of (planned index)) = 0
 looks_from s (first_of (made_by path deeds)) = queue_time s path deeds + 1
 looks_from s (pushed_by path deeds) = queue_time s path deeds + 1
 
--- how many items are pushed to a queue before the first empty look at it from a time on: all, where there is no such look
+-- how many items have stood in a queue by the first empty look at it from a time on: all, where there is no such look
 abbrev pub count_until_empty : Script → Origin → (from : ℕ) → ℕ
 count_until_empty s queue from = option_map_or (count s queue) (empty_look s queue from) (length (pushes s queue))
 
--- The end of a segment, as an index among all that is ever pushed to its queue. No item of the segment stands at or past it:
+-- The end of a segment, as an index among all that ever stands in its queue. No item of the segment stands at or past it:
 -- what is pushed after an empty look goes to another segment.
 abbrev pub segment_end : Script → SegmentTag → ℕ
 segment_end s tag = option_map_or (λ queue. count_until_empty s queue (looks_from s tag)) (segment_queue s tag) 0

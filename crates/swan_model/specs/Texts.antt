@@ -76,7 +76,7 @@ report_bytes names outcome =
     ++ line (codes "faults " ++ decimal (length outcome.faults))
     ++ flat_map fault_line outcome.faults
 
--- Whether a run ended with a fault, which decides its status: Faulted where it did, and else Done.
+-- Whether some task of a run ended by a fault, which decides the run's status: Faulted where one did, and else Done.
 abbrev pub is_some_fault : List Fault → Bool
 is_some_fault [] = false
 is_some_fault (fault ∷ faults) = true

@@ -45,7 +45,7 @@ pushed queue entries = filter_map (λ entry. pushed_by queue entry.deed) entries
 abbrev pub pushes : Script → Origin → List Value
 pushes s queue = first_items s queue ++ pushed queue s.entries
 
--- how many of them stand before the entry n
+-- how many of them were in the queue before the entry n, or were pushed to it by then, those that have left it too
 abbrev pub count : Script → Origin → ℕ → ℕ
 count s queue n = length (first_items s queue) + length (pushed queue (take n s.entries))
 

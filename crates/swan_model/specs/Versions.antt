@@ -140,7 +140,7 @@ pub record Holds (state : VersionState) (frame place : ℕ) (mode : Mode) : Type
   pub stands : placed_at state frame place ≡ Some object
   pub may : allows object.mode mode ≡ true
 
--- A frame may be given an object that it has already only to read, and only where it reads it there too.
+-- A frame that has an object already may be given it once more only to read, and only where it has it to read alone.
 pub record MayGet (state : VersionState) (child object : ℕ) (mode : Mode) : Type 0 where
   pub alone : (place : ℕ) (has : Placed) → placed_at state child place ≡ Some has → has.object ≡ object → (has.mode ≡ In) × (mode ≡ In)
 

@@ -22,8 +22,9 @@ use Rattle.swan_model.specs.Told.{cell, first_value}
 use Rattle.swan_model.specs.Values.{kind_of, zero_of}
 use Rattle.swan_model.specs.Versions.{Version, settled, owed, Placed, VersionState, place_cmp, owing, placed_at}
 
--- A version of an object is what the object has at this time: its value is; or the frame that owes it ends by then, and
--- the object has at this time what it has at that end. (Of a frame that the reading doesn't have yet nothing is said.)
+-- A version is right for an object at a time where it is settled by the value that the object has then; or where it is owed,
+-- the frame that owes it ends by then, and the object has then what it had at that end. (Of a frame that the reading doesn't
+-- have yet nothing is said.)
 abbrev pub IsVersionAt : Script → Reading → Origin → ℕ → Version → Type 0
 IsVersionAt s r origin t (settled value) = cell s origin t ≡ Some value
 IsVersionAt s r origin t (owed frame) =
@@ -138,7 +139,7 @@ pub record IsGiving (s : Script) (r : Reading) (state : VersionState) (parent : 
   -- and nobody was given to read what it owes
   pub ungiven : (number place : ℕ) (object : Placed) → placed_at state number place ≡ Some object → object.given ≢ Some child
 
--- whether a deed is one of which the objects are told
+-- whether a deed changes what the objects keep by itself; a spawn is told to them by its accesses, and isn't one of these
 abbrev pub is_object_deed : Deed → Bool
 is_object_deed (deed.MakeObject value) = true
 is_object_deed (deed.Write origin value) = true

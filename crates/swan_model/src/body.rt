@@ -122,7 +122,8 @@ pub trait Body: Drop + Send + Sync {
     /// Where in the program the step that comes next stands.
     ghost place_of: { Self → Self.Local → ℕ };
 
-    /// Takes one step of a task.
+    /// Takes one step of a task. Err is want of memory, and then the local and the answer are let go. What it costs is the
+    /// body's to say.
     fn advance(
         &self,
         alloc: Global,
@@ -136,7 +137,7 @@ pub trait Body: Drop + Send + Sync {
     /// first one is told this answer. Where a step asks for something else, its unit of fuel is taken too,
     /// that step isn't counted among those of work, and its ask has had no effect. Once as many steps of work
     /// as the budget are taken, no further step is asked; with fuel 0 none is, and then the local comes back as it
-    /// was and the answer is let go. It costs what its steps cost.
+    /// was and the answer is let go. Err is want of memory, and then the local is let go. It costs what its steps cost.
     ///
     /// A body may have a loop of its own, which is owed the same clauses. This one takes a step by `advance`
     /// for each step.

@@ -46,6 +46,6 @@ pub struct Fault {
     pub kind: FaultKind,
 }
 
-/// Faults in serial order: those of a child before that of its parent, and those of children of one
-/// parent in the order of their spawns.
+/// Faults. In an outcome they stand in serial order: that of a task after those of the tasks below it, and before those of its
+/// younger siblings and of the tasks below them.
 pub type Faults = Listed<Fault>;

@@ -3,9 +3,11 @@
 //! A program is a tree of tasks over objects and hyperqueues. Its meaning is its serial elision, in
 //! which each spawn is an ordinary call. This crate has the types that every other crate speaks of,
 //! and in `specs/` the definitions that a reader must believe, on two shelves. The first has what the
-//! headline speaks of: values and plans, rights, the serial state, the serial step, the elision, and the
-//! texts that are printed of its outcome. The second is for runs out of order: scripts, what they tell,
-//! serial time, readings and ripe items, and what renamed objects and hyperqueues keep of such a run.
+//! headline speaks of: values, rights, what a plan begins with, the serial state, the serial step, the
+//! elision, the texts that are printed of its outcome, and the lines of a text. The second is for runs out
+//! of order: scripts and what they tell, serial time, rights counted from a script, how tasks lie in each
+//! other, ripe items, lawful scripts, readings, what renamed objects and hyperqueues keep of such a run,
+//! what a segment owes, and true frames.
 //! They are meant to be read in the order of `specs/Lib.antt`, without any code beside them. `RunName`
 //! is a name that means a script.
 //!

@@ -7,8 +7,9 @@ ghost use Rattle.swan_model.specs.declared.record.TheConstants.{RECORD_MOST};
 ghost use Rattle.swan_model.specs.declared.rights.TheConstants.{GIVES_MOST};
 ghost use Rattle.swan_model.specs.declared.run_name.TheConstants.{ENTRIES_MOST};
 
-/// The law that says of each limit of this crate which number it is. The definitions name the limits,
-/// so without it another number would change what they mean.
+/// The law that says of each limit that the code has as a constant which number it is. The definitions name these limits, so
+/// without it another number would change what they mean. (Those that definitions alone have stand as numbers in `Values` and
+/// `QueueState`.)
 pub fn limits_of_values_and_plans()
     ensures record { RECORD_MOST ≡ 65535 }
     ensures lines { LINES_MOST ≡ 1000000 }

@@ -42,8 +42,8 @@ fn feed_position(text: &[u8]) -> usize
     text.iter().take_while(|byte| **byte != b'\n').count()
 }
 
-/// How many bytes the first line of a text has that isn't empty, without its line feed. What follows the line begins after
-/// that feed, where there is one. `O(length of the line)`.
+/// How many bytes the first line has of a text that isn't empty, without its line feed; the line itself may be empty. What
+/// follows the line begins after that feed, where there is one. `O(length of the line)`.
 #[tactic(auto, using(crate::proofs::FirstLine::lines_front))]
 pub fn first_line_len(text: &[u8]) -> usize
     requires { 0 < length text.now }
@@ -53,7 +53,7 @@ pub fn first_line_len(text: &[u8]) -> usize
     feed_position(text)
 }
 
-// The first line of a text, which loses it and its line feed.
+// The first len bytes of a text as a record. The text loses them, and the byte after them where there is one.
 fn take_line(text: &mut Bytes, len: usize) -> Result<Record, AllocError>
     requires most { len ≤ length text.old }
     requires fits { len ≤ RECORD_MOST }
@@ -66,8 +66,8 @@ fn take_line(text: &mut Bytes, len: usize) -> Result<Record, AllocError>
     Ok(Record::of_bytes(line))
 }
 
-/// The lines of a text as records, which share one copy of it. A line is what stands between two line
-/// feeds; what follows the last one is a line only where it isn't empty.
+/// The lines of a text as records, which share one copy of it. Each line feed ends a line; what follows the last one, or the
+/// whole text where there is none, is a line only where it isn't empty.
 ///
 /// TooLong names the first line that has more than `RECORD_MOST` bytes, among the first `LINES_MOST`.
 /// TooMany comes where there is no such line, and more than `LINES_MOST` lines. `O(length)`.

@@ -50,6 +50,8 @@ impl<N> Drop for Meaning<N> {
     }
 }
 
+// A Meaning has no bytes, so nothing is shared or moved between threads.
 unsafe impl<N> Send for Meaning<N> {}
 
+// For the same reason.
 unsafe impl<N> Sync for Meaning<N> {}

@@ -1,11 +1,11 @@
 // What made an object or a queue.
 
-/// What made an object or a queue: the plan, where it is the root's of this index among the objects
-/// or the queues, or the step of the elision that has this number, from 0 on.
+/// What made an object or a queue: the plan, of whose objects or queues it is the one of this index; or the step of the
+/// elision that has this number. Both count from 0 on.
 #[derive(Clone, Copy, Debug, PartialEq, Eq)]
 pub enum Origin {
-    /// The plan.
+    /// The plan, by the index among its objects or its queues.
     Root(u32),
-    /// A step.
+    /// The step of this number.
     Step(u64),
 }

@@ -119,6 +119,8 @@ impl Roots {
         requires room { length self.old.queues + length self.old.objects < ROOTS_MOST }
         requires mode { IsTrue (is_queue_mode queue.mode) }
         requires items { length queue.items ≤ FIRST_ITEMS_MOST }
+
+        // what it leaves
         ensures ok { OnOk result (self.new ≡ record self.old { queues = self.old.queues ++ queue ∷ [] }) }
         ensures err { OnErr result (self.new ≡ self.old) }
         ensures handed_back { IfErr result (λ back. back ≡ queue) }

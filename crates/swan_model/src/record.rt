@@ -60,7 +60,8 @@ impl Record {
     }
 
     /// A record of these bytes, without a copy. TooLong comes exactly where there are more than `RECORD_MOST` of them. The
-    /// room of the vector stays in memory as long as the record does, what it has to spare too. `O(1)`, and one allocation.
+    /// room of the vector stays in memory as long as the record does, what it has to spare too; a refusal lets it go. `O(1)`, and one
+    /// allocation.
     pub fn from_vec(bytes: Vec<u8>) -> Result<Record, RecordAnswer>
         ensures ok { IfOk result (λ it. it ≡ bytes.items) }
         ensures fits { IfOk result (λ _. length bytes.items ≤ RECORD_MOST) }

@@ -6,7 +6,7 @@ ghost use Rattle.swan_model.specs.Script.{script};
 use crate::{Body, Meaning, Means, Plan, Script};
 use std::marker::Model;
 
-/// The largest number of entries of a script.
+/// The largest number of entries of a script: twice the largest fuel and two.
 pub const ENTRIES_MOST: u64 = 8_000_000_002;
 
 /// The name of a run. It has no bytes. It means a script, which has at most 8,000,000,002 entries, or
@@ -37,6 +37,7 @@ impl RunName {
     pub fn of<B: Body>(plan: &Plan<B>) -> RunName
         ensures { result ≡ Some (script B.Body plan.now) }
     {
+        // Brings in the bound of the fuel, from which that of the script follows.
         let _most = plan.fuel.units();
         RunName {
             meaning: Meaning::of(&ScriptOf { plan }),

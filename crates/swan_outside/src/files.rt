@@ -35,8 +35,8 @@ pub trait Files {
     /// Failed comes exactly where the count of faults rose in this call, and TooLong exactly where
     /// the count of long reads did: a read that answers otherwise leaves that count as it was.
     /// Where contents are told, TooLong comes exactly where the told content passes 67,108,864
-    /// bytes, but for a call that is Failed. After any refusal the buffer is as it was. A read
-    /// leaves all told contents as they are.
+    /// bytes, but for a call that is Failed or NoMemory. After any refusal the buffer is as it was. A
+    /// read leaves all told contents as they are.
     fn read(&mut self, name: &Word, into: &mut Vec<u8>) -> Result<(), ReadAnswer>
         // what is read
         ensures whole { OnOk result

@@ -11,10 +11,10 @@
 //! Promised of every implementation of files and sinks:
 //!
 //! - A read adds the whole content to the buffer, of at most 67,108,864 bytes (`FILE_MOST`), or
-//!   leaves the buffer as it was. Where contents are told, the bytes are the told ones, and a file is
-//!   too long exactly where the told content passes the limit.
-//! - A put takes a front of its piece, at least one byte, or nothing. `put_all` leaves all bytes in
-//!   the sink, or a front of them.
+//!   leaves the buffer as it was. Where contents are told, the bytes are the told ones; a file is too
+//!   long only where the told content passes the limit, and such a file is never read.
+//! - A put takes a front of its piece, at least one byte; one that fails took nothing, as far as bytes
+//!   are told. `put_all` leaves all bytes in the sink, or a front of them.
 //! - A fault of reading comes exactly where the count of faults of the files rose in that call, and a
 //!   file that is too long exactly where their count of long reads did. A fault of writing comes
 //!   only where the sink's count of faults rose. No count ever falls. A count stops at the last

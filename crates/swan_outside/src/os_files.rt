@@ -57,9 +57,11 @@ impl<T: Runtime> Files for OsFiles<T> {
     ghost long_reads = { λ it. it.long_reads };
 
     /// Adds the whole content of a file to the end of the buffer. The name is its path, as it is. A
-    /// pipe or another special file is read to its end, or to one byte past 67,108,864 bytes. Failed
-    /// comes where the system can't open or read the file: it is missing, or a directory, or its
-    /// name is empty or has a NUL byte. TooLong comes where the file has more than 67,108,864
+    /// pipe or another special file is read to its end, or to one byte past 67,108,864 bytes, and the
+    /// call waits until it gives bytes or ends. Failed comes where the system can't open or read the
+    /// file, as where it is missing, a directory, may not be read, or its name is empty or has a NUL
+    /// byte; where it lacks memory to open it; and where signals interrupt one read 1,000,000 times.
+    /// TooLong comes where the file has more than 67,108,864
     /// bytes, of which no more than one past that is read. NoMemory comes where the buffer can't grow
     /// or the system has no memory to read, and only where the runtime has a file. That a missing
     /// file is Failed is so by the body, which asks for no memory before it has opened the file: no

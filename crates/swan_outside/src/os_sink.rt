@@ -70,8 +70,9 @@ impl<T: Print + Eprint + Drop> Sink for OsSink<T> {
     /// Writes bytes from the front of a piece. Standard output takes as many as the system does at
     /// once. Standard error takes the longest front of at most 1,024 bytes that is whole
     /// characters of UTF-8, and a piece that begins with none is a fault. Failed comes else where
-    /// the system can't write, or takes nothing; where it fails in the middle of a front for
-    /// standard error, a part of that may have been written. It takes no memory. `O(bytes taken)`.
+    /// the system can't write or takes nothing, and where signals interrupt one write to standard
+    /// output 1,000,000 times; where it fails in the middle of a front for standard error, a part of
+    /// that may have been written. It takes no memory. `O(bytes taken)`.
     fn put(&mut self, piece: &[u8]) -> Result<usize, Failed>
         // what is given
         requires { 0 < length piece.now }

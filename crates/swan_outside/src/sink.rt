@@ -18,8 +18,8 @@ pub trait Sink {
     ghost faults: { Self → ℕ };
 
     /// Takes some bytes from the front of a piece, and answers how many, from 1 to all of them.
-    /// Failed comes only where the count of faults rose in this call, and then nothing was taken. A
-    /// put that took nothing is a fault.
+    /// Failed comes only where the count of faults rose in this call, and then, where bytes are told,
+    /// nothing was taken. A put that took nothing is a fault.
     fn put(&mut self, piece: &[u8]) -> Result<usize, Failed>
         // what is given
         requires { 0 < length piece.now }

@@ -15,7 +15,7 @@ use swan_model::{NoMemory, Record, Trouble, Value};
 /// Why a line gives no part.
 #[derive(Clone, Copy, Debug, PartialEq, Eq)]
 pub enum LineAnswer {
-    /// The line has none: it isn't the text of a number, or whatever the reducer asks of lines.
+    /// The line has none: it isn't what the reducer asks of lines, as the text of a number.
     BadNumber,
     /// Memory ran out.
     NoMemory,
@@ -145,8 +145,8 @@ pub trait Reducer: Drop {
 
     /// The fold of a block's lines, and its first bad line. Err is want of memory.
     ///
-    /// Where a reducer has none of its own, this is one call of `of_line` and one of `join` for each line, in order. A
-    /// reducer whose join copies what is joined already has a cheaper one.
+    /// Where a reducer has none of its own, this is one call of `zero`, one of `of_line` for each line, and one of `join` for
+    /// each that has a part, in order. A reducer whose join copies what is joined already has a cheaper one.
     fn fold_block(&self, alloc: Global, mut block: LineBlock) -> Result<BlockFold, NoMemory>
         ensures part { IfOk result (λ fold. fold.part ≡ joined_lines (part_of self.now) (joined self.now) (zero_part self.now) (map bytes_of block.lines)) }
         ensures bad { IfOk result (λ fold. fold.bad ≡ bad_number (part_of self.now) block.number (map bytes_of block.lines)) }

@@ -18,8 +18,9 @@ use task_frames::{Frame, Holding};
 
 /// What sleeps under each live frame, by its number.
 ///
-/// A frame that has to wait sleeps under a live one, and is ready again once that one has ended, or has pushed to the queue that the frame asks
-/// about. In costs, n counts the live frames.
+/// A frame that has to wait sleeps under a live one, and is ready again once that one has ended; or, where it waits for a push, once that one
+/// has taken a step about the queue, has taken its first step, or has spawned a child that may push to the queue. In costs, n counts the live
+/// frames.
 #[derive(Drop)]
 pub(crate) struct Asleep<B: Body, Q: Queues> {
     pub sleepers: BTreeMap<u64, Sleepers<B, Q>>,
@@ -125,7 +126,7 @@ impl<B: Body, Q: Queues> Asleep<B, Q> {
     }
 
     /// Notes a child of this parent that was given this. The answer is who was given to pop before what it pops, in the order of places. Err is
-    /// want of memory. `O(log n + k log k)` for k places of the child.
+    /// want of memory. `O(log n + k log q)` for k places of the child and q queues that children of the parent were given to pop.
     fn spawns(
         &mut self,
         alloc: Global,
@@ -182,8 +183,9 @@ impl<B: Body, Q: Queues> Asleep<B, Q> {
     }
 
     /// Enters a child of this parent that was given this. Who sleeps until the parent pushes to a queue that the child may push to is ready,
-    /// since the child may be whom it has to wait for. Err is want of memory. `O((k + 1) log n)` for k places of the child, and for each place to
-    /// push to `O(1)` for each frame that sleeps under the parent until it pushes.
+    /// since the child may be whom it has to wait for. Err is want of memory. `O(log n + k (log n + log q))` for k places of the child and q
+    /// queues that children of the parent were given to pop, and for each place to push to `O(1)` for each frame that sleeps under the parent
+    /// until it pushes.
     pub fn enter(
         &mut self,
         alloc: Global,

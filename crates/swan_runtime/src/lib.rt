@@ -7,7 +7,8 @@
 //! `run` runs a plan by several workers, each in a thread of its own, and answers the outcome of the serial elision for every number of
 //! them and every interleaving. `open`, `Worker::turn` and `close` are its parts. The core stands behind one lock, with the frames that
 //! are ready and those that sleep. A worker takes steps of a frame outside the lock, and then one in a hold. A frame that has to wait
-//! sleeps under a live one until that has ended, or has pushed to the queue that it asks about.
+//! sleeps under a live one until that has ended; or, where it waits for a push, until that has taken a step about the queue, has taken
+//! its first step, or has spawned a child that may push to the queue.
 //!
 //! Not promised: that `run` returns, that its work is shared, and that a frame is woken as soon as it may go on.
 #![tactic(auto)]
@@ -30,7 +31,7 @@ pub use alone::run_alone;
 pub use laws::turns_are_few;
 pub use limits::limit_of_rings;
 pub use opening::{close, open};
-pub use shape::{Shape, WORKERS_MOST};
+pub use shape::{RING_MOST, Shape, WORKERS_MOST};
 pub use threads::run;
 pub use turn::Turn;
 pub use worker::Worker;

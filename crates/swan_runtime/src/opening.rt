@@ -158,8 +158,12 @@ pub fn close<B: Body, Q: Queues>(
 ) -> Result<RunOutcome, NoMemory>
     requires workers { AreWorkers (ends_of Q.Ends.LocalEnds) workers.items }
     requires met { OneHasMet workers.items }
+
+    // the outcome of the plan that the workers ran
     ensures outcome { (plan : ThePlan B B.Local) → AreWorkersOfPlan plan workers.items → IfOk result (λ ran. ran.outcome ≡ outcome B.Body plan) }
     ensures script { (plan : ThePlan B B.Local) → AreWorkersOfPlan plan workers.items → IfOk result (λ ran. ran.script.means ≡ script B.Body plan) }
+
+    // and of none that was stopped
     ensures stopped { OnOk result (All (λ worker. saw_stopped worker ≡ false) workers.items) }
 {
     let lock = lock_of(&workers)?;

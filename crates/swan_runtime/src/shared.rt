@@ -101,8 +101,8 @@ impl<B: Body, Q: Queues> SharedRun<B, Q> {
 
     /// Tries a frame by the core, where the run isn't done.
     ///
-    /// Done comes exactly where the run was done, and the frame comes back. Else it is what `try_by_core` answers. Err is want of memory, and the
-    /// run has to be stopped then. It costs what `try_by_core` costs.
+    /// Done comes only where the run is done: by the code, exactly where it was so before, and then the frame comes back. Else it is what
+    /// `try_by_core` answers. Err is want of memory, and the run has to be stopped then. It costs what `try_by_core` costs.
     pub fn try_frame(
         &mut self,
         alloc: Global,

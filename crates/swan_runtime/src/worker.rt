@@ -63,21 +63,24 @@ pub struct Worker<B: Body, Q: Queues> {
 impl<B: Body, Q: Queues> Worker<B, Q> {
     /// Takes a turn: some steps of one frame that it can take by itself, and then at most one that needs the core, where the lock is free.
     ///
-    /// - Stepped counts the steps that it took, one at least.
+    /// - Stepped counts the steps that it took, one at least. The next four come only where it took none.
     /// - NotYet comes where the frame has to wait, with what shows that; another one will be taken.
-    /// - Busy comes where the lock was taken at this call's try. The worker keeps its frame.
+    /// - Busy comes where the lock was taken at this call's try.
     /// - Idle comes where it had no frame, took the lock, and no frame was ready.
-    /// - Strange comes where the core doesn't know the frame as one that it gave. The worker keeps it.
+    /// - Strange comes where the core doesn't know the frame as one that it gave.
     /// - Done comes where the run is done, even if memory ran out in this turn.
     /// - NoMemory comes where memory ran out, of this worker or of another one: the run is stopped for good, and each later turn of this worker
     ///   answers so too.
     ///
-    /// The gate is asked before the frame goes on, while nothing is locked. It never waits for another worker. It costs what its steps cost,
-    /// of which there are at most 256.
+    /// The gate is asked before the frame goes on, while nothing is locked. It never waits for another worker. By its code a worker keeps its
+    /// frame after Busy and Strange, and takes at most 256 steps (`STEPS_A_TURN`), which is what a turn costs.
     pub fn turn<G: Gate>(&mut self, alloc: Global, gate: &G) -> Turn
+        // the worker before and after
         requires worker { IsWorker (ends_of Q.Ends.LocalEnds) self.old }
         ensures worker { IsWorker (ends_of Q.Ends.LocalEnds) self.new }
         ensures same { IsSameWorker self.old self.new }
+
+        // what the answer shows
         ensures turn { IsWorkersTurn (seat_of self.old) (seat_of self.new) result }
         ensures met { has_met self.new ≡ (has_met self.old || is_last result) }
     {

@@ -13,7 +13,7 @@ use swan_runtime::WORKERS_MOST;
 /// The largest fuel that words can ask for.
 pub const FUEL_WORD_MOST: u64 = 10_000_000;
 
-/// The largest number that words can begin a generated input with.
+/// The largest NUMBER of `bulk`, from which a generated input begins.
 pub const NUMBER_WORD_MOST: u64 = 1_000_000_000;
 
 /// What the program is asked to do.
@@ -64,7 +64,7 @@ pub enum Command<'a> {
     },
     /// Run a generated job over a generated input.
     Bulk {
-        /// The number that the input begins with.
+        /// The input begins with this number mod 1,000.
         number: u64,
         /// How many lines the input has.
         size: u64,
@@ -283,8 +283,8 @@ fn bulk_command(words: &[Word]) -> Result<Command<'_>, Usage>
     }
 }
 
-/// The command that words are. Usage comes exactly where they are none. It takes no memory, and goes
-/// over the words once.
+/// The command that words are. Usage comes exactly where they are none. FUEL is 1 to 10,000,000, WORKERS 1
+/// to 64, NUMBER 0 to 1,000,000,000 and SIZE 0 to 300,000. It takes no memory, and goes over the words once.
 pub fn read_words(words: &[Word]) -> Result<Command<'_>, Usage>
     ensures command { IfOk result (λ command'. command words.now ≡ Some (asked command')) }
     ensures usage { OnErr result (command words.now ≡ None) }

@@ -20,7 +20,7 @@ use swan_outside::{Files, Gate, HonestFiles, HonestSink, Sink};
 /// (`nothing_fails`). So by the clause `answered` of `swan` no call ends as WriteFailed, and one ends as ReadFailed
 /// only where a file of the command has more than 67,108,864 bytes, with the line `too long NAME` and nothing in the
 /// output (`ends_well`); and where words, job and inputs are in order, the call writes what they come to and ends as Done or Faulted by the elision's
-/// outcome, or memory ran out (`completes`).
+/// outcome, or memory ran out (`completes`). What a sink took is told as long as it fits the sink's room.
 #[tactic(auto, using(crate::proofs::Completeness::ends_well, crate::proofs::Completeness::completes_well))]
 pub fn honest_calls_end_well()
     // no count of faults rises
@@ -46,8 +46,8 @@ pub fn honest_calls_end_well()
 /// A call of `swan` over files and sinks that never fail, for a caller that has all in memory. It never ends as
 /// WriteFailed, and as ReadFailed only where a file of the command has more than 67,108,864 bytes, with the line
 /// `too long NAME` in the report and nothing in the output. Where words, job and inputs are in order it writes what they
-/// come to and ends as Done or Faulted, or it ends as NoMemory. Words that are no command end as Usage. It costs what
-/// `swan` does, and returns where that does.
+/// come to and ends as Done or Faulted, or it ends as NoMemory. Words that are no command end as Usage. What a sink took is told
+/// as long as it fits the sink's room. It costs what `swan` does, and returns where that does.
 pub fn honest_call<T: Threads + Wait + Clock + Sync, G: Gate>(
     rt: &T,
     alloc: Global,

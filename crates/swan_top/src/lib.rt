@@ -6,8 +6,8 @@
 //! headline of the project: it says of every status what was read, what was decided of it, and what is then in the
 //! sinks. The definitions that it cites stand in `specs/Headline.antt`, which is meant to be read from top to
 //! bottom, with `specs/Command.antt` and `specs/Decision.antt` before it. Its clause `complete` says when a call
-//! ends as its command says (`specs/Completeness.antt`), and the law `honest_calls_end_well` says both of files and
-//! sinks that never fail, and `honest_call` is a call over them that has it as its clauses.
+//! ends as its command says (`specs/Completeness.antt`). The law `honest_calls_end_well` says how calls end over files and
+//! sinks that never fail, and `honest_call` is such a call, with the same as its clauses.
 //!
 //! `run` runs its plan by the runtime, with 1 to 64 workers, and `elide` by the elision; `index`, `convert` and `bulk` go by the
 //! elision with one worker and by the runtime with several. Reading, refusals, texts and writes are one road for all

@@ -33,7 +33,7 @@ use swan_outside::Gate;
 use swan_runtime::{Shape, run, run_alone};
 use task_frames::{Core, RunOutcome};
 
-/// How long the rings of hyperqueues are.
+/// The length of rings that a shape is asked for. The hyperqueues of a run have no rings as yet, so it changes nothing.
 const RING: u32 = 16;
 
 // The line of a refusal of inputs.
@@ -51,7 +51,7 @@ fn input_line(alloc: Global, why: PlanAnswer) -> Result<Blob, AllocError>
     Ok(Blob::new(text.into_bytes()))
 }
 
-// The shape of a run by several workers. None comes exactly where there is one, since it runs alone, or more than a run may have.
+// The shape of a run by several workers. None comes exactly where there is at most one, which runs alone, or more than a run may have.
 fn shape_of(workers: u32) -> Option<Shape>
     ensures some { IfSome result (λ shape. (1 < workers) × (shape.workers ≡ workers) × (shape.ring ≡ RING)) }
     ensures none { IfNone result (1 < workers → ¬ IsShape workers RING) }

@@ -7,9 +7,9 @@ use crate::How;
 /// How a call ends.
 #[derive(Drop)]
 pub enum Status {
-    /// Both texts were written, and the run has no fault.
+    /// Both texts were written, and there is no fault.
     Done(How),
-    /// Both texts were written, and the run has a fault.
+    /// Both texts were written, and the run had a fault.
     Faulted(How),
     /// The words are no command.
     Usage,

@@ -32,8 +32,9 @@ use swan_outside::{Files, Gate, Sink};
 /// written.
 ///
 /// Done and Faulted come only where both texts were written whole. Usage, JobRefused, ReadFailed and
-/// InputRefused write one line to `report` and nothing to `out`. ReadFailed comes exactly where a read was
-/// refused, for which a count of `files` rose. WriteFailed comes only where a sink's count of faults rose,
+/// InputRefused write one line to `report` and nothing to `out`. ReadFailed comes only where a read was
+/// refused, for which a count of `files` rose; a call whose read was refused ends so, or as WriteFailed where its line
+/// couldn't be written whole. WriteFailed comes only where a sink's count of faults rose,
 /// and leaves in that sink a front of its text; where that was `out`, nothing was written to `report`.
 ///
 /// For an index and a conversion the order is: the words (Usage), the read of the text (ReadFailed), its lines
@@ -53,9 +54,9 @@ use swan_outside::{Files, Gate, Sink};
 /// the plan that was run: a core ran that plan to its end. Those of all other calls are Plain.
 ///
 /// The contents are those that `files` tells, and what is said of written bytes holds where the sinks
-/// tell them. With one worker it starts no thread, asks no gate and returns. With several, they run in
-/// threads of `rt`, each asks `gate` before it goes on with a task, and no clause says that it returns. It costs what the
-/// reads, the run and the writes cost. Each file is read whole, and each text is made whole before any of it is written.
+/// tell them. With one worker it starts no thread, asks no gate, and returns once each of its reads and puts has; those of the
+/// system may wait, as a read of a pipe that nobody writes to does. With several, they run in threads of `rt`, each asks `gate`
+/// before it goes on with a task, and no clause says that it returns. It costs what the reads, the run and the writes cost. Each file is read whole, and each text is made whole before any of it is written.
 #[tactic(auto, using(crate::proofs::Completeness::completes))]
 pub fn swan<T: Threads + Wait + Clock + Sync, F: Files, O: Sink, R: Sink, G: Gate>(
     rt: &T,

@@ -12,7 +12,7 @@ use std::alloc::Global;
 use std::marker::Model;
 use swan_model::{Answer, Ask, Body, Meaning, Mode, NoMemory, Path, Plan};
 
-/// A task that is at the core, as far as it has come.
+/// A task as far as it has come, as it is at the core: by itself it counts as given with the steps that it has done.
 #[derive(Drop)]
 pub struct TaskAtCore<B: Body> {
     /// The plan.
@@ -155,7 +155,7 @@ impl<B: Body> Model for FrameAtCore<B> {
 
     ghost Value = { AtCore B B.Local };
 
-    // It has a stage, so the root's first one is never seen.
+    // The invariant says that it has a stage, so the other value of unwrap_or is never seen.
     ghost view = { λ frame. record {
       task = frame.staged.value.task;
       stage = unwrap_or frame.staged.value.stage (Ready frame.staged.value.task.plan.root_local Start);

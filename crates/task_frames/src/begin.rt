@@ -247,8 +247,11 @@ impl<B: Body, Q: Queues> Core<B, Q> {
     /// Opens a run of a plan over new queues, whose name means the plan's script. The core has the root alone then, which has
     /// taken no step, and the run of the queues. Err is want of memory. `O(r log r)` for r queues and objects that the plan begins with.
     pub fn open(alloc: Global, plan: Plan<B>, queues: Q) -> Result<Opened<B, Q>, NoMemory>
+        // what the queues have to be
         requires new { Q.state queues ≡ new_state }
         requires name { Q.name queues ≡ Some (script B.Body plan) }
+
+        // the core and its root, and whose run it is
         ensures opened { IfOk result (λ it. IsOpened (ends_of Q.Ends.LocalEnds) it.core it.root) }
         ensures plan { IfOk result (λ it. it.core.plan ≡ plan) }
         ensures run { IfOk result (λ it. it.core.run ≡ Q.run queues) }

@@ -64,6 +64,7 @@ pub fn give_objects(
     ensures made { OnOk result ((may : GivesObjects versions.old parent child gives.now)
         → AreMade may.s may.r versions.old versions.new may.giver child gives.now (length gives.now)) }
 {
+    // By the clause of `len` there are at most `GIVES_MOST` gives, so the count has room.
     let _most = gives.len();
     let mut place = 0;
     for give in gives.as_slice() {

@@ -21,7 +21,7 @@ pub struct Kept<Q: Queues> {
     pub reading: KeptReading,
     /// Its live frames, each as it was last given.
     pub live: LiveRecord,
-    /// The turns of those that pop.
+    /// The turns of those that pop, beside those that a form of queues may keep for itself.
     pub turns: PopTurns,
     /// How many frames there were so far.
     pub frames: u64,

@@ -18,7 +18,7 @@
 //! - Where its mark stands, no want of memory was met.
 //!
 //! Promised of `run_local`: it stops before the budget only where the next step needs the core, by one of the causes that
-//! it names; and it counts its steps in a `Steps`, which it and the core alone make. A frame has as its name the plan and the
+//! it names, or where memory runs out; and it counts its steps in a `Steps`, which it and the core alone make. A frame has as its name the plan and the
 //! run of its queues (`PlanRun`), which no call changes; it is never done, and may move to another thread.
 //!
 //! Promised by the type of the core between any two calls, up to want of memory (definition `IsCore`): its queues and its

@@ -101,7 +101,7 @@ impl LiveRecord {
         self.children.next(parent, 0)
     }
 
-    /// Enters the root, where there is no frame yet. Err is want of memory. It allocates once.
+    /// Enters the root, where there is no frame yet. It takes no memory, so no Err comes. `O(1)`.
     pub fn enter_root(&mut self, number: u64, frame: LiveFrame) -> Result<(), NoMemory>
         requires empty { self.old ≡ [] }
         requires root { frame.parent ≡ None }

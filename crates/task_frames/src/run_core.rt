@@ -58,13 +58,14 @@ impl<B: Body, Q: Queues> Core<B, Q> {
     ///   any other fault, which is booked then. Such a step isn't taken while a child is active.
     /// - Waits comes where what the core keeps shows that the step has to wait, and gives the frame back. No step is taken. The
     ///   frame that it names is live, and earlier in serial order.
-    /// - Strange comes exactly where this isn't the frame that this core gave last under its number. Nothing is changed, and
-    ///   the frame comes back as it was, with its mark.
+    /// - Strange comes only where this isn't the frame that this core gave last under its number, and of such a frame nothing but
+    ///   Strange and NoMemory. Nothing is changed, and the frame comes back as it was, with its mark.
     /// - NoMemory is want of memory. The frame is torn, and each later call answers so too.
     ///
     /// The mark stands in no frame that is given but that of Strange. The frame and the body are those of the plan that the core's
     /// name has, and the frame's mark stands: its last `run_local` answered AtCore. It costs `O(k log n)` for k places that the step is about,
-    /// all of them at its first step, a comparison of the frame's path and places, and what the queues and the body take.
+    /// which at the frame's first and last step are all of its own; `O(d + p)` at each call for a path of d parts and all p places of the
+    /// frame, which are compared with the record; and what the queues and the body take.
     pub fn resume(&mut self, alloc: Global, body: &B, frame: Frame<B, Q>) -> Resumed<B, Q>
         // which frames
         requires name { (frame.task.plan ≡ self.old.plan) × (Q.Ends.run frame.ends ≡ self.old.run) }

@@ -11,8 +11,8 @@ use std::mem;
 use swan_model::{Answer, Ask, Mode, Value};
 
 /// Serves an ask of a frame that holds this: work, and a push or a pop where the ends have an end for it
-/// that takes or gives an item now. None leaves what needs the core as it was, and nothing is done. Where it is served, the
-/// ask is done with. It takes no memory. `O(1)`.
+/// that takes or gives an item now. None comes where the ask needs the core: the ask is as it was, though an end may have looked
+/// at its ring. Where it is served, the value of a push has been taken out of the ask. It takes no memory. `O(1)`.
 #[inline(always)]
 pub fn serve<E: LocalEnds, L>(
     ends: &mut E,

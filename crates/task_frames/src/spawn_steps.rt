@@ -187,6 +187,7 @@ impl<Q: Queues> Kept<Q> {
     {
         let parent = mid.number();
         let number = self.next_number();
+        // By the clause of `len` there are at most `GIVES_MOST` gives.
         let _most = child.gives.len();
         self.hand_over(alloc, parent, number, &child.gives, held.as_slice())?;
         let path = mid.child_path()?;

@@ -33,8 +33,8 @@ impl<Q: Queues> Kept<Q> {
     }
 
     /// Asks the body for the next step of a task that stands so, and takes it. A task without fuel ends by that. Err is want of
-    /// memory. It costs what the step costs. It is apart, so that no room is cleared for what the body says where a frame has
-    /// asked already.
+    /// memory. It costs what the step costs. It is never inlined: its stack has room for what the body says, which a frame that has
+    /// asked already doesn't need.
     #[inline(never)]
     fn ask<B: Body>(
         &mut self,

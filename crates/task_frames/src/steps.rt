@@ -22,7 +22,7 @@ impl Steps {
         self.count
     }
 
-    /// Both together. It takes no memory. `O(1)`.
+    /// Both together, of which there are fewer than 2^64. It takes no memory. `O(1)`.
     pub fn add(self, other: Steps) -> Steps
         requires { self.count + other.count < 2 ^ 64 }
         ensures { result.count ≡ self.count + other.count }
