@@ -1,5 +1,5 @@
 // Turns of workers by hand.
-ghost use Rattle.std.specs.Prelude.{◌≡◌, ◌<◌, OnOk, length, true};
+ghost use Rattle.std.specs.Prelude.{◌≡◌, ◌<◌, IfOk, OnOk, length, true};
 ghost use Rattle.task_frames.specs.Resumes.{ends_of};
 ghost use Rattle.swan_runtime.specs.Turned.{is_last};
 ghost use Rattle.swan_runtime.specs.Workers.{AreWorkers, OneHasMet};
@@ -8,7 +8,8 @@ use crate::plans::{failing_plan, plan};
 use crate::runs::{Row, is_elided, is_said_and_elided};
 use crate::tables::Tasks;
 use elision_tests::{AskList, printed};
-use queues::{Queues, WaitFor};
+use queue_book::{BookQueues, NoEnds};
+use queues::{LocalEnds, Queues, WaitFor};
 use serial_elision::Printed;
 use std::alloc::Global;
 use std::test::Fail;
@@ -108,6 +109,35 @@ fn left_by<B: Body, Q: Queues>(alloc: Global, workers: Vec<Worker<B, Q>>) -> Res
     Ok(outcome)
 }
 
+/// Asserts that a run, of which the first worker meets the end in its next turn, has no outcome.
+fn is_stopped<B: Body, Q: Queues>(alloc: Global, workers: Vec<Worker<B, Q>>) -> Result<(), Fail>
+    requires workers { AreWorkers (ends_of Q.Ends.LocalEnds) workers.items }
+{
+    let mut workers = workers;
+    if !turn_of(alloc, &mut workers, 0).is_last() {
+        return Err("the run goes on".into());
+    }
+    match close(alloc, workers) {
+        Ok(_) => Err("the run has an outcome".into()),
+        Err(NoMemory) => Ok(()),
+    }
+}
+
+/// The workers of a run of this plan, so many, after these turns.
+fn workers_after<B: Body>(
+    alloc: Global,
+    plan: Plan<B>,
+    workers: u32,
+    turns: &[Hand],
+) -> Result<Vec<Worker<B, BookQueues>>, Fail>
+    ensures { IfOk result (λ workers. AreWorkers (ends_of ⟦<NoEnds as LocalEnds>⟧) workers.items) }
+{
+    let shape = Shape::new(workers, 16).ok_or("no shape")?;
+    let mut workers = open(alloc, plan, &shape)?;
+    take_turns(alloc, &mut workers, turns)?;
+    Ok(workers)
+}
+
 /// The two texts of what a run of this plan leaves, by so many workers in these turns.
 fn texts_by_hands(
     alloc: Global,
@@ -115,11 +145,8 @@ fn texts_by_hands(
     workers: u32,
     turns: &[Hand],
 ) -> Result<Printed, Fail> {
-    let shape = Shape::new(workers, 16).ok_or("no shape")?;
-    let mut workers = open(alloc, plan, &shape)?;
-    take_turns(alloc, &mut workers, turns)?;
-    let outcome = left_by(alloc, workers)?;
-    Ok(printed(alloc, &outcome)?)
+    let workers = workers_after(alloc, plan, workers, turns)?;
+    Ok(printed(alloc, &left_by(alloc, workers)?)?)
 }
 
 /// A run of these tasks by so many workers, in these turns, leaves what the elision leaves.
@@ -153,15 +180,6 @@ pub fn stop_by_hands(
     workers: u32,
     turns: &[Hand],
 ) -> Result<(), Fail> {
-    let shape = Shape::new(workers, 16).ok_or("no shape")?;
     let plan = failing_plan(alloc, tasks.tasks, tasks.fuel, fails)?;
-    let mut workers = open(alloc, plan, &shape)?;
-    take_turns(alloc, &mut workers, turns)?;
-    if !turn_of(alloc, &mut workers, 0).is_last() {
-        return Err("the run goes on".into());
-    }
-    match close(alloc, workers) {
-        Ok(_) => Err("the run has an outcome".into()),
-        Err(NoMemory) => Ok(()),
-    }
+    is_stopped(alloc, workers_after(alloc, plan, workers, turns)?)
 }

@@ -2,14 +2,14 @@
 use std::alloc::Global;
 use swan_model::{Answer, Ask, Body, NoMemory, Plan, Value};
 
-/// An answer, by its word.
+/// An answer, by the first letter of its word: start, item, true, false, place or nothing.
 fn answer_of(word: &str) -> Answer {
-    match word {
-        "start" => Answer::Start,
-        "item" => Answer::Item(Value::Int(7)),
-        "true" => Answer::Flag(true),
-        "false" => Answer::Flag(false),
-        "place" => Answer::Place(2),
+    match word.as_bytes().first() {
+        Some(b's') => Answer::Start,
+        Some(b'i') => Answer::Item(Value::Int(7)),
+        Some(b't') => Answer::Flag(true),
+        Some(b'f') => Answer::Flag(false),
+        Some(b'p') => Answer::Place(2),
         _ => Answer::Nothing,
     }
 }
@@ -38,8 +38,10 @@ fn child_of<L: Drop>(ask: Ask<L>) -> Option<L> {
 
 /// An answer, by its word in a row: a star stands for another word.
 fn told_by(word: &str, other: &str) -> Answer {
-    let is_star = word == "*";
-    answer_of(if is_star { other } else { word })
+    match word.as_bytes().first() {
+        Some(b'*') => answer_of(other),
+        _ => answer_of(word),
+    }
 }
 
 /// Adds what a task asks for that is told these words one by one. It answers the local of the child that it asks for

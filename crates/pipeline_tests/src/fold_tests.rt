@@ -1,26 +1,14 @@
 // Folds of texts, against answers worked out by hand.
+use crate::plans::plan_of_fold;
 use crate::texts::{counted, followed, in_turn, plan_leaves, repeated};
 use std::alloc::{AllocError, Global};
 use std::marker::{Send, Sync};
 use std::process::Abort;
 use std::test::Fail;
-use swan_model::{NoMemory, Plan, RECORD_MOST, Record};
+use swan_model::{NoMemory, RECORD_MOST, Record};
 use swan_reducers::{
-    BlockFold, EndAnswer, FoldBody, JOIN_MOST, JoinReducer, LineAnswer, Reducer, SumReducer,
-    fold_names, fold_plan,
+    BlockFold, EndAnswer, JOIN_MOST, JoinReducer, LineAnswer, Reducer, SumReducer, fold_names,
 };
-
-/// The plan of the fold of a text.
-fn plan_of<R: Reducer + Send + Sync>(
-    alloc: Global,
-    reducer: R,
-    text: &[u8],
-) -> Result<Plan<FoldBody<R>>, Fail> {
-    match fold_plan(alloc, reducer, text) {
-        Ok(plan) => Ok(plan),
-        Err(_) => Err("refused".into()),
-    }
-}
 
 /// Whether the fold of a text leaves this output, and this report of its faults.
 fn leaves<R: Reducer + Send + Sync>(
@@ -31,7 +19,7 @@ fn leaves<R: Reducer + Send + Sync>(
     out: &[u8],
     faults: &str,
 ) -> Result<bool, Fail> {
-    let plan = plan_of(alloc, reducer, text)?;
+    let plan = plan_of_fold(alloc, reducer, text)?;
     plan_leaves(rt, alloc, plan, &fold_names(alloc)?, out, faults)
 }
 
@@ -257,7 +245,9 @@ fn joins_go_on_over_blocks(rt: HostRuntime) -> Result<(), Fail> {
 
 /// The line of so many letters, with its line feed.
 fn line_of(alloc: Global, letter: u8, length: usize) -> Result<Vec<u8>, AllocError> {
-    followed(repeated(alloc, &[letter], length)?, b"\n")
+    let mut line = vec![in alloc; letter; length]?;
+    line.push(b'\n')?;
+    Ok(line)
 }
 
 /// A text of 64 lines of so many `a`, and a last one of so many `b`.
@@ -327,10 +317,13 @@ fn parts_are_told_from_other_records(rt: HostRuntime) -> Result<(), Fail> {
 
 /// Whether this is the part of a line, which a bad line doesn't have.
 fn is_part(found: &Result<Record, LineAnswer>, part: Option<&[u8]>) -> bool {
-    match (found, part) {
-        (Ok(found), Some(part)) => found.as_slice() == part,
-        (Err(LineAnswer::BadNumber), None) => true,
-        _ => false,
+    match found {
+        Ok(found) => match part {
+            Some(part) => found.as_slice() == part,
+            None => false,
+        },
+        Err(LineAnswer::BadNumber) => part.is_none(),
+        Err(_) => false,
     }
 }
 
@@ -450,25 +443,42 @@ fn hold_parts(
     Ok(())
 }
 
+/// Parts of sums: 0, 12 and -1.
+const ZERO: &[u8] = b"\0\0\0\0\0\0\0\0\0\0\0\0\0\0\0\0";
+
+const TWELVE: &[u8] = b"\0\0\0\0\0\0\0\0\0\0\0\0\0\0\0\x0c";
+
+const MINUS_ONE: &[u8] = b"\xff\xff\xff\xff\xff\xff\xff\xff\xff\xff\xff\xff\xff\xff\xff\xff";
+
 #[test]
 fn lines_one_by_one_keep_the_first_bad_line(rt: HostRuntime) -> Result<(), Fail> {
-    let alloc = rt.alloc();
-    let longest = repeated(alloc, b"a", JOIN_MOST)?;
-    let zero = b"\0\0\0\0\0\0\0\0\0\0\0\0\0\0\0\0".as_slice();
-    let twelve = b"\0\0\0\0\0\0\0\0\0\0\0\0\0\0\0\x0c".as_slice();
-    let minus_one = b"\xff\xff\xff\xff\xff\xff\xff\xff\xff\xff\xff\xff\xff\xff\xff\xff".as_slice();
     for (lines, sum, bad, join) in [
-        ([b"".as_slice(), b"", b""], zero, Some(1), b"".as_slice()),
-        ([b"5", b"x", b"7"], twelve, Some(2), b"5x7"),
-        ([b"x", b"12", b"y"], twelve, Some(1), b"x12y"),
-        ([b"0", b"12", b"12 "], twelve, Some(3), b"01212 "),
-        ([b"-12", b"0", b"11"], minus_one, None, b"-12011"),
-        ([b"", &longest, b""], zero, Some(1), &longest),
-        ([&longest, b"b", b"-1"], minus_one, Some(1), b"\n"),
-        ([b"0", b"-1", &longest], minus_one, Some(3), b"\n"),
-        ([b"-1", b"\n", b"0"], minus_one, Some(2), b"\n"),
+        ([b"".as_slice(), b"", b""], ZERO, Some(1), b"".as_slice()),
+        ([b"5", b"x", b"7"], TWELVE, Some(2), b"5x7"),
+        ([b"x", b"12", b"y"], TWELVE, Some(1), b"x12y"),
+        ([b"0", b"12", b"12 "], TWELVE, Some(3), b"01212 "),
+        ([b"-12", b"0", b"11"], MINUS_ONE, None, b"-12011"),
     ] {
-        hold_parts(&rt, alloc, &lines, sum, bad, join)?;
+        hold_parts(&rt, rt.alloc(), &lines, sum, bad, join)?;
+    }
+    Ok(())
+}
+
+#[test]
+fn joins_of_lines_one_by_one_end_past_their_bound(rt: HostRuntime) -> Result<(), Fail> {
+    let longest = repeated(rt.alloc(), b"a", JOIN_MOST)?;
+    for (lines, sum, bad, join) in [
+        (
+            [b"".as_slice(), &longest, b""],
+            ZERO,
+            Some(1),
+            longest.as_slice(),
+        ),
+        ([&longest, b"b", b"-1"], MINUS_ONE, Some(1), b"\n"),
+        ([b"0", b"-1", &longest], MINUS_ONE, Some(3), b"\n"),
+        ([b"-1", b"\n", b"0"], MINUS_ONE, Some(2), b"\n"),
+    ] {
+        hold_parts(&rt, rt.alloc(), &lines, sum, bad, join)?;
     }
     Ok(())
 }

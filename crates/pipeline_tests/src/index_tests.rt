@@ -1,8 +1,8 @@
 // The index of texts, against answers worked out by hand and by a scan of the text. Some are hard on what the tasks keep:
 // words close to each other, and records that fill the buffers that they share.
+use crate::plans::plan_of_index;
 use crate::texts::{counted, followed, in_turn, plan_leaves, repeated};
-use index_pipeline::{index_names, index_plan};
-use line_blocks::TEXT_MOST;
+use index_pipeline::index_names;
 use std::alloc::{AllocError, Global};
 use std::mem;
 use std::process::Abort;
@@ -10,10 +10,8 @@ use std::test::Fail;
 
 /// Whether this is the index of a text, with no line left and no fault.
 fn is_index(rt: &impl Abort, alloc: Global, text: &[u8], index: &[u8]) -> Result<bool, Fail> {
-    assert!(rt; text.len() <= TEXT_MOST);
-    let plan = index_plan(alloc, text).ok().ok_or("refused")?;
-    let names = index_names(alloc)?;
-    plan_leaves(rt, alloc, plan, &names, index, "faults 0\n")
+    let plan = plan_of_index(rt, alloc, text)?;
+    plan_leaves(rt, alloc, plan, &index_names(alloc)?, index, "faults 0\n")
 }
 
 #[test]

@@ -15,6 +15,8 @@ mod fold_tests;
 #[cfg(test)]
 mod index_tests;
 #[cfg(test)]
+mod plans;
+#[cfg(test)]
 mod record_tests;
 #[cfg(test)]
 mod refusal_tests;

@@ -1,7 +1,7 @@
 // The conversion of texts, against answers worked out by hand.
-use crate::texts::{in_turn, plan_leaves, repeated};
-use line_blocks::TEXT_MOST;
-use record_pipeline::{record_names, record_plan};
+use crate::plans::plan_of_records;
+use crate::texts::{followed, in_turn, plan_leaves, repeated};
+use record_pipeline::record_names;
 use std::alloc::Global;
 use std::process::Abort;
 use std::test::Fail;
@@ -14,10 +14,8 @@ fn leaves(
     out: &[u8],
     faults: &str,
 ) -> Result<bool, Fail> {
-    assert!(rt; text.len() <= TEXT_MOST);
-    let plan = record_plan(alloc, text).ok().ok_or("refused")?;
-    let names = record_names(alloc)?;
-    plan_leaves(rt, alloc, plan, &names, out, faults)
+    let plan = plan_of_records(rt, alloc, text)?;
+    plan_leaves(rt, alloc, plan, &record_names(alloc)?, out, faults)
 }
 
 #[test]
@@ -61,18 +59,10 @@ fn blocks_have_64_lines(rt: HostRuntime) -> Result<(), Fail> {
 #[test]
 fn long_records_are_left_out(rt: HostRuntime) -> Result<(), Fail> {
     let alloc = rt.alloc();
-    for (bytes, faults) in [
-        (65_528, "faults 0\n"),
-        (65_529, "faults 1\nfault /0/0 1 TooLong\n"),
-    ] {
-        let text = repeated(alloc, b"a", bytes)?;
-        let mut out = Vec::new(alloc);
-        if faults == "faults 0\n" {
-            out.extend_from_slice(b"65528:")?;
-            out.extend_from_slice(&text)?;
-            out.extend_from_slice(b",\n")?;
-        }
-        assert!(rt; leaves(&rt, alloc, &text, &out, faults)?, "at {bytes}");
-    }
+    let text = repeated(alloc, b"a", 65_528)?;
+    let out = followed(in_turn(alloc, b"65528:", 1, b"a", 65_528)?, b",\n")?;
+    assert!(rt; leaves(&rt, alloc, &text, &out, "faults 0\n")?);
+    let faults = "faults 1\nfault /0/0 1 TooLong\n";
+    assert!(rt; leaves(&rt, alloc, &followed(text, b"a")?, b"", faults)?);
     Ok(())
 }

@@ -1,12 +1,11 @@
 // Answers that no task has asked for are as none.
 use crate::asks::asks;
+use crate::plans::{plan_of_fold, plan_of_index, plan_of_records};
 use crate::texts::Of;
-use index_pipeline::index_plan;
-use record_pipeline::record_plan;
 use std::alloc::Global;
 use std::process::Abort;
 use std::test::Fail;
-use swan_reducers::{SumReducer, fold_plan};
+use swan_reducers::SumReducer;
 
 /// What the root is told of a pipeline's plan of the text of no line, and then the child that it asks for last, and what the
 /// two ask for. A star stands for each of some answers.
@@ -19,28 +18,33 @@ struct Row {
 }
 
 /// What the two tasks of a row ask for in the plan of the index, where the star stands for this word.
-fn asked_in_index(alloc: Global, row: &Row, other: &str) -> Result<String, Fail> {
-    let plan = index_plan(alloc, b"").ok().ok_or("refused")?;
+fn asked_in_index(rt: &impl Abort, alloc: Global, row: &Row, other: &str) -> Result<String, Fail> {
+    let plan = plan_of_index(rt, alloc, b"")?;
     Ok(asks(alloc, plan, row.told, row.child_told, other)?)
 }
 
 /// The same in the plan of the conversion.
-fn asked_in_conversion(alloc: Global, row: &Row, other: &str) -> Result<String, Fail> {
-    let plan = record_plan(alloc, b"").ok().ok_or("refused")?;
+fn asked_in_conversion(
+    rt: &impl Abort,
+    alloc: Global,
+    row: &Row,
+    other: &str,
+) -> Result<String, Fail> {
+    let plan = plan_of_records(rt, alloc, b"")?;
     Ok(asks(alloc, plan, row.told, row.child_told, other)?)
 }
 
 /// The same in the plan of the fold.
 fn asked_in_fold(alloc: Global, row: &Row, other: &str) -> Result<String, Fail> {
-    let plan = fold_plan(alloc, SumReducer, b"").ok().ok_or("refused")?;
+    let plan = plan_of_fold(alloc, SumReducer, b"")?;
     Ok(asks(alloc, plan, row.told, row.child_told, other)?)
 }
 
 /// The same in the plan that the row is of.
-fn asked(alloc: Global, row: &Row, other: &str) -> Result<String, Fail> {
+fn asked(rt: &impl Abort, alloc: Global, row: &Row, other: &str) -> Result<String, Fail> {
     match row.of {
-        Of::Index => asked_in_index(alloc, row, other),
-        Of::Conversion => asked_in_conversion(alloc, row, other),
+        Of::Index => asked_in_index(rt, alloc, row, other),
+        Of::Conversion => asked_in_conversion(rt, alloc, row, other),
         Of::Fold => asked_in_fold(alloc, row, other),
     }
 }
@@ -49,7 +53,7 @@ fn asked(alloc: Global, row: &Row, other: &str) -> Result<String, Fail> {
 fn hold(rt: &impl Abort, alloc: Global, rows: &[Row], others: &[&str]) -> Result<(), Fail> {
     for row in rows {
         for other in others {
-            let asked = asked(alloc, row, *other)?;
+            let asked = asked(rt, alloc, row, *other)?;
             assert_eq!(rt; asked.as_str(), row.asks, "told {other}");
         }
     }
