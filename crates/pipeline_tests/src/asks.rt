@@ -2,7 +2,7 @@
 use std::alloc::Global;
 use swan_model::{Answer, Ask, Body, NoMemory, Plan, Value};
 
-/// An answer, by the first letter of its word: start, item, true, false, place or nothing.
+/// An answer, by the first letter of its word: start, item, true, false or place. Any other one is nothing.
 fn answer_of(word: &str) -> Answer {
     match word.as_bytes().first() {
         Some(b's') => Answer::Start,

@@ -443,11 +443,13 @@ fn hold_parts(
     Ok(())
 }
 
-/// Parts of sums: 0, 12 and -1.
+/// The part of the sum 0.
 const ZERO: &[u8] = b"\0\0\0\0\0\0\0\0\0\0\0\0\0\0\0\0";
 
+/// The part of the sum 12.
 const TWELVE: &[u8] = b"\0\0\0\0\0\0\0\0\0\0\0\0\0\0\0\x0c";
 
+/// The part of the sum -1.
 const MINUS_ONE: &[u8] = b"\xff\xff\xff\xff\xff\xff\xff\xff\xff\xff\xff\xff\xff\xff\xff\xff";
 
 #[test]
@@ -465,7 +467,7 @@ fn lines_one_by_one_keep_the_first_bad_line(rt: HostRuntime) -> Result<(), Fail>
 }
 
 #[test]
-fn joins_of_lines_one_by_one_end_past_their_bound(rt: HostRuntime) -> Result<(), Fail> {
+fn lines_one_by_one_are_joined_up_to_the_bound(rt: HostRuntime) -> Result<(), Fail> {
     let longest = repeated(rt.alloc(), b"a", JOIN_MOST)?;
     for (lines, sum, bad, join) in [
         (
@@ -476,6 +478,7 @@ fn joins_of_lines_one_by_one_end_past_their_bound(rt: HostRuntime) -> Result<(),
         ),
         ([&longest, b"b", b"-1"], MINUS_ONE, Some(1), b"\n"),
         ([b"0", b"-1", &longest], MINUS_ONE, Some(3), b"\n"),
+        // a line feed alone stands for too many bytes
         ([b"-1", b"\n", b"0"], MINUS_ONE, Some(2), b"\n"),
     ] {
         hold_parts(&rt, rt.alloc(), &lines, sum, bad, join)?;

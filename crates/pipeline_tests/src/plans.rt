@@ -6,29 +6,31 @@ use std::alloc::Global;
 use std::marker::{Send, Sync};
 use std::process::Abort;
 use std::test::Fail;
-use swan_model::Plan;
+use swan_model::{Body, LinesAnswer, Plan};
 use swan_reducers::{FoldBody, Reducer, fold_plan};
 
-/// The plan of the index of a text.
-pub fn plan_of_index(rt: &impl Abort, alloc: Global, text: &[u8]) -> Result<Plan<IndexBody>, Fail> {
-    assert!(rt; text.len() <= TEXT_MOST);
-    match index_plan(alloc, text) {
+/// A plan whose text isn't refused.
+fn not_refused<B: Body>(plan: Result<Plan<B>, LinesAnswer>) -> Result<Plan<B>, Fail> {
+    match plan {
         Ok(plan) => Ok(plan),
         Err(_) => Err("refused".into()),
     }
 }
 
+/// The plan of the index of a text.
+pub fn plan_of_index(rt: &impl Abort, alloc: Global, text: &[u8]) -> Result<Plan<IndexBody>, Fail> {
+    assert!(rt; text.len() <= TEXT_MOST);
+    not_refused(index_plan(alloc, text))
+}
+
 /// The plan of the conversion of a text.
-pub fn plan_of_records(
+pub fn plan_of_conversion(
     rt: &impl Abort,
     alloc: Global,
     text: &[u8],
 ) -> Result<Plan<RecordBody>, Fail> {
     assert!(rt; text.len() <= TEXT_MOST);
-    match record_plan(alloc, text) {
-        Ok(plan) => Ok(plan),
-        Err(_) => Err("refused".into()),
-    }
+    not_refused(record_plan(alloc, text))
 }
 
 /// The plan of the fold of a text.
@@ -37,8 +39,5 @@ pub fn plan_of_fold<R: Reducer + Send + Sync>(
     reducer: R,
     text: &[u8],
 ) -> Result<Plan<FoldBody<R>>, Fail> {
-    match fold_plan(alloc, reducer, text) {
-        Ok(plan) => Ok(plan),
-        Err(_) => Err("refused".into()),
-    }
+    not_refused(fold_plan(alloc, reducer, text))
 }

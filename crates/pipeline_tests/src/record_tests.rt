@@ -1,5 +1,5 @@
 // The conversion of texts, against answers worked out by hand.
-use crate::plans::plan_of_records;
+use crate::plans::plan_of_conversion;
 use crate::texts::{followed, in_turn, plan_leaves, repeated};
 use record_pipeline::record_names;
 use std::alloc::Global;
@@ -14,7 +14,7 @@ fn leaves(
     out: &[u8],
     faults: &str,
 ) -> Result<bool, Fail> {
-    let plan = plan_of_records(rt, alloc, text)?;
+    let plan = plan_of_conversion(rt, alloc, text)?;
     plan_leaves(rt, alloc, plan, &record_names(alloc)?, out, faults)
 }
 
@@ -60,9 +60,12 @@ fn blocks_have_64_lines(rt: HostRuntime) -> Result<(), Fail> {
 fn long_records_are_left_out(rt: HostRuntime) -> Result<(), Fail> {
     let alloc = rt.alloc();
     let text = repeated(alloc, b"a", 65_528)?;
-    let out = followed(in_turn(alloc, b"65528:", 1, b"a", 65_528)?, b",\n")?;
-    assert!(rt; leaves(&rt, alloc, &text, &out, "faults 0\n")?);
+    let out = followed(in_turn(alloc, b"65528:", 1, &text, 1)?, b",\n")?;
+    assert!(rt; leaves(&rt, alloc, &text, &out, "faults 0\n")?, "at 65528");
     let faults = "faults 1\nfault /0/0 1 TooLong\n";
-    assert!(rt; leaves(&rt, alloc, &followed(text, b"a")?, b"", faults)?);
+    assert!(rt;
+        leaves(&rt, alloc, &followed(text, b"a")?, b"", faults)?,
+        "at 65529"
+    );
     Ok(())
 }

@@ -1,6 +1,6 @@
 // Answers that no task has asked for are as none.
 use crate::asks::asks;
-use crate::plans::{plan_of_fold, plan_of_index, plan_of_records};
+use crate::plans::{plan_of_conversion, plan_of_fold, plan_of_index};
 use crate::texts::Of;
 use std::alloc::Global;
 use std::process::Abort;
@@ -30,7 +30,7 @@ fn asked_in_conversion(
     row: &Row,
     other: &str,
 ) -> Result<String, Fail> {
-    let plan = plan_of_records(rt, alloc, b"")?;
+    let plan = plan_of_conversion(rt, alloc, b"")?;
     Ok(asks(alloc, plan, row.told, row.child_told, other)?)
 }
 
