@@ -9,10 +9,10 @@ Prints the NUMBER longest, ten where none is said. Of functions and tests it tel
 next: they grow on a machine that does other work too, but less than those by the clock, which it tells of lines from a pipe. What an earlier
 check kept isn't checked again, also one in another checkout on this machine: where all is to be measured, no checkout may have an `out/` of the crate.
 
-Such a check goes over a crate some functions at a time, each time in a new process, which reads once more what these stand on. So the first
-functions of each process are told with 5 to 60 seconds too many, and the gate, which proves a crate in one process, takes less. What a function
-takes itself is told where a check has kept all of the crate, and the function and one that is checked before it are changed: what is read is
-counted with the first one.
+What a function stands on is read when the first function needs it, and counts with that one. A large crate is checked some functions at a time,
+each time in a new process, which reads again; so does the gate for what wrong bodies begin with, but it proves a crate in one process. To
+see what one function takes itself, let a check keep the whole crate, change that function and one that is checked before it, and
+check again: what is read counts with the first.
 
 Of wrong bodies it tells seconds of processors, and first those of a check in which nothing has changed: each wrong body costs that at least. The
 crate has to be proved before, since they begin with what its check kept.
