@@ -98,22 +98,28 @@ impl Sink for HonestSink {
 mod tests {
     use super::*;
     use crate::put_all;
+    use std::process::Abort;
     use std::test::Fail;
+
+    /// Asserts that a put of these bytes doesn't fail, and what is told then.
+    fn hold_told(rt: &impl Abort, sink: &mut HonestSink, bytes: &str, told: Option<&str>) {
+        assert!(rt; put_all(sink, bytes.as_bytes()).is_ok());
+        let wanted = told.map(|text| text.as_bytes());
+        assert!(rt; sink.written() == wanted, "at {bytes}");
+    }
 
     #[test]
     fn takes_all_and_tells_within_its_room(rt: HostRuntime) -> Result<(), Fail> {
         let mut sink = HonestSink::new(rt.alloc(), 5)?;
-        let rows = [
+        for (bytes, told) in [
             ("", Some("")),
             ("ab", Some("ab")),
             ("cde", Some("abcde")),
             ("", Some("abcde")),
             ("f", None),
             ("g", None),
-        ];
-        for (bytes, told) in rows {
-            assert_eq!(rt; put_all(&mut sink, bytes.as_bytes()), Ok(()));
-            assert_eq!(rt; sink.written(), told.map(|text| text.as_bytes()));
+        ] {
+            hold_told(&rt, &mut sink, bytes, told);
         }
         Ok(())
     }

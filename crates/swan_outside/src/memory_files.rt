@@ -143,57 +143,11 @@ pub(crate) fn append_whole(content: &[u8], into: &mut Vec<u8>) -> Result<(), Rea
 #[cfg(test)]
 mod tests {
     use super::*;
-    use crate::test_reads::{read_file, word};
+    use crate::test_reads::{hold_length, hold_read, long_file, word};
     use std::alloc::{AllocError, Global};
+    use std::process::Abort;
     use std::test::Fail;
     use swan_model::Blob;
-
-    #[test]
-    fn reads_the_first_of_a_name(rt: HostRuntime) -> Result<(), Fail> {
-        let mut files = Vec::new(rt.alloc());
-        files.push(file(rt.alloc(), "a", "one")?)?;
-        files.push(file(rt.alloc(), "b", "")?)?;
-        files.push(file(rt.alloc(), "a", "two")?)?;
-        let mut files = MemoryFiles::new(files, vec![in rt.alloc(); 3, 9]?);
-        let rows = [
-            ("a", Ok(()), ">one", 0),
-            ("c", Err(ReadAnswer::Failed), ">", 1),
-            ("a", Err(ReadAnswer::Failed), ">", 2),
-            ("b", Ok(()), ">", 2),
-            ("a", Ok(()), ">one", 2),
-        ];
-        for (name, answer, left, faults) in rows {
-            let mut into = vec![in rt.alloc(); b'>']?;
-            let name = word(rt.alloc(), name)?;
-            assert_eq!(rt; read_file(&mut files, &name, &mut into), answer);
-            assert_eq!(rt; into.as_slice(), left.as_bytes());
-            assert_eq!(rt; files.counts.faults, faults);
-            assert_eq!(rt; files.counts.long_reads, 0);
-        }
-        Ok(())
-    }
-
-    #[test]
-    fn refuses_a_long_content(rt: HostRuntime) -> Result<(), Fail> {
-        let rows = [
-            (FILE_MOST, Ok(()), FILE_MOST + 1, 0),
-            (FILE_MOST + 1, Err(ReadAnswer::TooLong), 1, 1),
-        ];
-        for (length, answer, left, long_reads) in rows {
-            let content = Blob::new(vec![in rt.alloc(); 0; length]?);
-            let name = word(rt.alloc(), "a")?;
-            let mut files = Vec::new(rt.alloc());
-            files.push(FileBlob { name, content })?;
-            let mut files = MemoryFiles::new(files, Vec::new(rt.alloc()));
-            let mut into = vec![in rt.alloc(); b'>']?;
-            let name = word(rt.alloc(), "a")?;
-            assert_eq!(rt; read_file(&mut files, &name, &mut into), answer);
-            assert_eq!(rt; into.len(), left);
-            assert_eq!(rt; files.counts.long_reads, long_reads);
-            assert_eq!(rt; files.counts.faults, 0);
-        }
-        Ok(())
-    }
 
     fn file(alloc: Global, name: &str, content: &str) -> Result<FileBlob, AllocError> {
         let mut bytes = Vec::new(alloc);
@@ -202,5 +156,62 @@ mod tests {
             name: word(alloc, name)?,
             content: Blob::new(bytes),
         })
+    }
+
+    /// Three files, two of one name.
+    fn three_files(alloc: Global) -> Result<Vec<FileBlob>, AllocError> {
+        let mut files = Vec::new(alloc);
+        for (name, content) in [("a", "one"), ("b", ""), ("a", "two")] {
+            files.push(file(alloc, name, content)?)?;
+        }
+        Ok(files)
+    }
+
+    /// Asserts how many reads have failed, and how many have found a file that is too long.
+    fn hold_counts(rt: &impl Abort, files: &MemoryFiles, faults: u64, long_reads: u64) {
+        assert!(rt; files.counts.faults == faults);
+        assert!(rt; files.counts.long_reads == long_reads);
+    }
+
+    #[test]
+    fn reads_the_first_of_a_name(rt: HostRuntime) -> Result<(), Fail> {
+        let alloc = rt.alloc();
+        let mut files = MemoryFiles::new(three_files(alloc)?, vec![in alloc; 3, 9]?);
+        for (name, answer, left, faults) in [
+            ("a", Ok(()), ">one", 0),
+            ("c", Err(ReadAnswer::Failed), ">", 1),
+            ("a", Err(ReadAnswer::Failed), ">", 2),
+            ("b", Ok(()), ">", 2),
+            ("a", Ok(()), ">one", 2),
+        ] {
+            hold_read(&rt, alloc, &mut files, name, answer, left)?;
+            hold_counts(&rt, &files, faults, 0);
+        }
+        Ok(())
+    }
+
+    /// Asserts what a read of a file of so many bytes answers, how many bytes stand in the buffer then, and whether the file was too long.
+    fn hold_long_file(
+        rt: &impl Abort,
+        alloc: Global,
+        length: usize,
+        answer: Result<(), ReadAnswer>,
+        left: usize,
+        long_reads: u64,
+    ) -> Result<(), AllocError> {
+        let files = vec![in alloc; long_file(alloc, "a", length)?]?;
+        let mut files = MemoryFiles::new(files, Vec::new(alloc));
+        hold_length(rt, alloc, &mut files, "a", answer, left)?;
+        hold_counts(rt, &files, 0, long_reads);
+        Ok(())
+    }
+
+    #[test]
+    fn refuses_a_long_content(rt: HostRuntime) -> Result<(), Fail> {
+        let alloc = rt.alloc();
+        hold_long_file(&rt, alloc, FILE_MOST, Ok(()), FILE_MOST + 1, 0)?;
+        let refused = Err(ReadAnswer::TooLong);
+        hold_long_file(&rt, alloc, FILE_MOST + 1, refused, 1, 1)?;
+        Ok(())
     }
 }

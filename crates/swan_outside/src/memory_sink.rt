@@ -114,26 +114,8 @@ impl Sink for MemorySink {
 #[cfg(test)]
 mod tests {
     use super::*;
+    use std::process::Abort;
     use std::test::Fail;
-
-    #[test]
-    fn takes_the_least_of_the_limits(rt: HostRuntime) -> Result<(), Fail> {
-        let fail = vec![in rt.alloc(); 2]?;
-        let mut sink = MemorySink::new(rt.alloc(), 3, 6, fail)?;
-        let rows = [
-            ("abcd", Ok(3), "abc", 0),
-            ("d", Err(Failed), "abc", 1),
-            ("d", Ok(1), "abcd", 1),
-            ("efg", Ok(2), "abcdef", 1),
-            ("g", Err(Failed), "abcdef", 2),
-        ];
-        for (piece, answer, written, faults) in rows {
-            assert_eq!(rt; put_piece(&mut sink, piece), answer, "at {piece}");
-            assert_eq!(rt; sink.written(), written.as_bytes());
-            assert_eq!(rt; sink.faults, faults);
-        }
-        Ok(())
-    }
 
     /// A put through the trait's bound, of a piece that isn't empty.
     fn put_piece<S: Sink>(sink: &mut S, piece: &str) -> Result<usize, Failed> {
@@ -141,5 +123,35 @@ mod tests {
             return Err(Failed);
         }
         sink.put(piece.as_bytes())
+    }
+
+    /// Asserts what a put of this piece answers, what the sink has taken then, and how many puts have failed.
+    fn hold_piece(
+        rt: &impl Abort,
+        sink: &mut MemorySink,
+        piece: &str,
+        answer: Result<usize, Failed>,
+        written: &str,
+        faults: u64,
+    ) {
+        assert!(rt; put_piece(sink, piece) == answer, "at {piece}");
+        assert!(rt; sink.written() == written.as_bytes(), "at {piece}");
+        assert!(rt; sink.faults == faults, "at {piece}");
+    }
+
+    #[test]
+    fn takes_the_least_of_the_limits(rt: HostRuntime) -> Result<(), Fail> {
+        let fail = vec![in rt.alloc(); 2]?;
+        let mut sink = MemorySink::new(rt.alloc(), 3, 6, fail)?;
+        for (piece, answer, written, faults) in [
+            ("abcd", Ok(3), "abc", 0),
+            ("d", Err(Failed), "abc", 1),
+            ("d", Ok(1), "abcd", 1),
+            ("efg", Ok(2), "abcdef", 1),
+            ("g", Err(Failed), "abcdef", 2),
+        ] {
+            hold_piece(&rt, &mut sink, piece, answer, written, faults);
+        }
+        Ok(())
     }
 }

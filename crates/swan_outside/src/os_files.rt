@@ -196,8 +196,10 @@ fn refusal_of(error: io::Error) -> ReadAnswer
 #[cfg(test)]
 mod tests {
     use super::*;
-    use crate::test_reads::word;
+    use crate::test_reads::{hold_length, hold_read};
+    use std::alloc::{AllocError, Global};
     use std::fs::File;
+    use std::process::Abort;
     use std::test::Fail;
 
     const SHORT: &str = "swan_outside_test_short";
@@ -207,11 +209,13 @@ mod tests {
 
     const LONG: &str = "swan_outside_test_long";
 
-    #[test]
-    fn reads_files_of_the_system(rt: HostRuntime) -> Result<(), Fail> {
-        fs::write(&rt, SHORT, "some bytes")?;
-        fs::write(&rt, SPACED, "others")?;
-        let rows = [
+    /// Asserts what reads of files, of other things and of nothing answer and leave.
+    fn hold_names<T: Runtime>(
+        rt: &impl Abort,
+        alloc: Global,
+        files: &mut OsFiles<T>,
+    ) -> Result<(), AllocError> {
+        for (name, answer, left) in [
             (SHORT, Ok(()), ">some bytes"),
             (SPACED, Ok(()), ">others"),
             ("swan_outside_test_short ", Err(ReadAnswer::Failed), ">"),
@@ -221,38 +225,45 @@ mod tests {
             ("nul\0byte", Err(ReadAnswer::Failed), ">"),
             ("/dev/null", Ok(()), ">"),
             ("/dev/zero", Err(ReadAnswer::TooLong), ">"),
-        ];
-        let mut files = OsFiles::new(rt);
-        for (name, answer, left) in rows {
-            let mut into = vec![in rt.alloc(); b'>']?;
-            let name = word(rt.alloc(), name)?;
-            assert_eq!(rt; files.read(&name, &mut into), answer);
-            assert_eq!(rt; into.as_slice(), left.as_bytes());
+        ] {
+            hold_read(rt, alloc, files, name, answer, left)?;
         }
-        assert_eq!(rt; files.counts.faults, 5);
-        assert_eq!(rt; files.counts.long_reads, 1);
+        assert!(rt; files.counts.faults == 5 && files.counts.long_reads == 1);
+        Ok(())
+    }
+
+    #[test]
+    fn reads_files_of_the_system(rt: HostRuntime) -> Result<(), Fail> {
+        fs::write(&rt, SHORT, "some bytes")?;
+        fs::write(&rt, SPACED, "others")?;
+        hold_names(&rt, rt.alloc(), &mut OsFiles::new(rt))?;
         fs::remove_file(&rt, SHORT)?;
         fs::remove_file(&rt, SPACED)?;
         Ok(())
     }
 
-    #[test]
-    fn reads_up_to_the_limit(rt: HostRuntime) -> Result<(), Fail> {
+    /// Asserts what a read of a file of the system of so many bytes answers, how many bytes stand in the buffer then, and whether it was too
+    /// long.
+    fn hold_long_file(
+        abort: &impl Abort,
+        rt: HostRuntime,
+        length: usize,
+        answer: Result<(), ReadAnswer>,
+        left: usize,
+        long_reads: u64,
+    ) -> Result<(), Fail> {
+        File::create(&rt, LONG)?.set_len(length as u64)?;
         let mut files = OsFiles::new(rt);
-        let name = word(rt.alloc(), LONG)?;
-        let rows = [
-            (FILE_MOST, Ok(()), FILE_MOST, 0),
-            (FILE_MOST + 1, Err(ReadAnswer::TooLong), 0, 1),
-        ];
-        for (length, answer, left, long_reads) in rows {
-            File::create(&rt, LONG)?.set_len(length as u64)?;
-            let mut into = Vec::new(rt.alloc());
-            assert_eq!(rt; files.read(&name, &mut into), answer);
-            assert_eq!(rt; into.len(), left);
-            assert_eq!(rt; files.counts.long_reads, long_reads);
-        }
+        hold_length(abort, rt.alloc(), &mut files, LONG, answer, left)?;
+        assert!(abort; files.counts.long_reads == long_reads);
         fs::remove_file(&rt, LONG)?;
         Ok(())
+    }
+
+    #[test]
+    fn reads_up_to_the_limit(rt: HostRuntime) -> Result<(), Fail> {
+        hold_long_file(&rt, rt, FILE_MOST, Ok(()), FILE_MOST + 1, 0)?;
+        hold_long_file(&rt, rt, FILE_MOST + 1, Err(ReadAnswer::TooLong), 1, 1)
     }
 
     /// Gives a byte, is interrupted, gives another byte, and then ends or fails.
@@ -279,24 +290,28 @@ mod tests {
         }
     }
 
+    /// Asserts what is answered of a file that ends so, of which two bytes are read by four reads: none is made again but the one that was
+    /// interrupted.
+    fn hold_rest(
+        rt: &impl Abort,
+        alloc: Global,
+        last: Option<ErrorKind>,
+        answer: Result<(), ReadAnswer>,
+    ) {
+        let mut into = Vec::new(alloc);
+        let mut reader = Stumbling { reads: 0, last };
+        assert!(rt; append_rest(&mut reader, &mut into) == answer);
+        assert!(rt; into.as_slice() == b"13".as_slice());
+        assert!(rt; reader.reads == 4);
+    }
+
     #[test]
-    fn reads_to_the_end_or_the_fault(rt: HostRuntime) -> Result<(), Fail> {
-        let rows = [
-            (None, Ok(())),
-            (Some(ErrorKind::Other), Err(ReadAnswer::Failed)),
-            (Some(ErrorKind::OutOfMemory), Err(ReadAnswer::NoMemory)),
-        ];
-        for (last, answer) in rows {
-            let mut into = Vec::new(rt.alloc());
-            let mut reader = Stumbling { reads: 0, last };
-            assert_eq!(rt; append_rest(&mut reader, &mut into), answer);
-            assert_eq!(rt; into.as_slice(), b"13".as_slice());
-            assert_eq!(rt;
-                reader.reads,
-                4,
-                "no read is made again but the interrupted one"
-            );
-        }
-        Ok(())
+    fn reads_to_the_end_or_the_fault(rt: HostRuntime) {
+        let alloc = rt.alloc();
+        let no_memory = Some(ErrorKind::OutOfMemory);
+        hold_rest(&rt, alloc, None, Ok(()));
+        hold_rest(&rt, alloc, no_memory, Err(ReadAnswer::NoMemory));
+        let other = Some(ErrorKind::Other);
+        hold_rest(&rt, alloc, other, Err(ReadAnswer::Failed));
     }
 }

@@ -232,31 +232,6 @@ mod tests {
         }
     }
 
-    /// What two streams make of a put of an e with an accent, a b and a line feed, which are 4 bytes: the
-    /// answer, and what they have then taken, by how many calls.
-    #[test]
-    fn the_bytes_of_a_piece_are_written_once(rt: HostRuntime) -> Result<(), Fail> {
-        let whole = "\u{e9}b\n";
-        let rows = [
-            (Stream::Output, 0, Some(9), Ok(4), whole, 1),
-            (Stream::Output, 2, Some(2), Ok(2), "\u{e9}", 3),
-            (Stream::Output, 0, Some(0), Err(Failed), "", 1),
-            (Stream::Output, 1, None, Err(Failed), "", 2),
-            (Stream::Error, 0, Some(9), Ok(4), whole, 1),
-            (Stream::Error, 0, None, Err(Failed), "", 1),
-        ];
-        for (stream, interrupts, takes, answer, written, calls) in rows {
-            let mut sink = OsSink {
-                rt: fake_streams(rt.alloc(), interrupts, takes),
-                stream,
-                faults: 0,
-            };
-            assert_eq!(rt; sink.put(whole.as_bytes()), answer);
-            hold_written(&rt, &sink.rt, written, calls);
-        }
-        Ok(())
-    }
-
     fn fake_streams(alloc: Global, interrupts: u32, takes: Option<usize>) -> Fake {
         Fake {
             alloc,
@@ -269,7 +244,7 @@ mod tests {
 
     /// Asserts what a stream took, and by how many calls.
     fn hold_written(rt: &impl Abort, fake: &Fake, written: &str, calls: u32) {
-        assert_eq!(rt; fake.calls.get(), calls);
+        assert!(rt; fake.calls.get() == calls, "{written}");
         let is_so = match fake.written.try_borrow() {
             Ok(bytes) => bytes.as_slice() == written.as_bytes(),
             Err(_) => false,
@@ -277,28 +252,79 @@ mod tests {
         assert!(rt; is_so, "{written}");
     }
 
+    /// An e with an accent, a b and a line feed, which are 4 bytes.
+    const PIECE: &str = "\u{e9}b\n";
+
+    /// Asserts what such a stream makes of a put of the piece: the answer, and what it has then taken, by how many calls.
+    fn hold_put(
+        rt: &impl Abort,
+        stream: Stream,
+        fake: Fake,
+        answer: Result<usize, Failed>,
+        written: &str,
+        calls: u32,
+    ) {
+        let mut sink = OsSink {
+            rt: fake,
+            stream,
+            faults: 0,
+        };
+        assert!(rt; sink.put(PIECE.as_bytes()) == answer);
+        hold_written(rt, &sink.rt, written, calls);
+    }
+
+    #[test]
+    fn the_bytes_of_a_piece_are_written_once(rt: HostRuntime) {
+        for (stream, interrupts, takes, answer, written, calls) in [
+            (Stream::Output, 0, Some(9), Ok(4), PIECE, 1),
+            (Stream::Output, 2, Some(2), Ok(2), "\u{e9}", 3),
+            (Stream::Output, 0, Some(0), Err(Failed), "", 1),
+            (Stream::Output, 1, None, Err(Failed), "", 2),
+            (Stream::Error, 0, Some(9), Ok(4), PIECE, 1),
+            (Stream::Error, 0, None, Err(Failed), "", 1),
+        ] {
+            let fake = fake_streams(rt.alloc(), interrupts, takes);
+            hold_put(&rt, stream, fake, answer, written, calls);
+        }
+    }
+
+    /// Asserts that a stream of this process takes a front of some bytes.
+    fn hold_takes<T: Print + Eprint + Drop>(rt: &impl Abort, mut sink: OsSink<T>) {
+        let piece = b"a put of a test\n";
+        let taken = sink.put(piece).unwrap_or(0);
+        assert!(rt; 1 <= taken && taken <= piece.len());
+        assert!(rt; sink.faults == 0);
+    }
+
     #[test]
     fn writes_to_each_stream(rt: HostRuntime) {
-        let piece = b"a put of a test\n";
-        for mut sink in [OsSink::out(rt), OsSink::err(rt)] {
-            let taken = sink.put(piece).unwrap_or(0);
-            assert!(rt; 1 <= taken && taken <= piece.len());
-            assert_eq!(rt; sink.faults, 0);
-        }
+        hold_takes(&rt, OsSink::out(rt));
+        hold_takes(&rt, OsSink::err(rt));
+    }
+
+    /// Asserts what a put of this piece answers, and how many puts have failed then.
+    fn hold_characters<T: Print + Eprint + Drop>(
+        rt: &impl Abort,
+        sink: &mut OsSink<T>,
+        piece: &[u8],
+        answer: Result<usize, Failed>,
+        faults: u64,
+    ) {
+        assert!(rt; !piece.is_empty());
+        assert!(rt; sink.put(piece) == answer);
+        assert!(rt; sink.faults == faults);
     }
 
     #[test]
     fn standard_error_takes_whole_characters(rt: HostRuntime) {
         let mut sink = OsSink::err(rt);
-        let rows = [
+        for (piece, answer, faults) in [
             (&b"\xc3\xa9\n"[..], Ok(3), 0),
             (&b"\n\xc3"[..], Ok(1), 0),
             (&b"\xc3"[..], Err(Failed), 1),
             (&b"\xff\n"[..], Err(Failed), 2),
-        ];
-        for (piece, answer, faults) in rows {
-            assert_eq!(rt; sink.put(piece), answer);
-            assert_eq!(rt; sink.faults, faults);
+        ] {
+            hold_characters(&rt, &mut sink, piece, answer, faults);
         }
     }
 }

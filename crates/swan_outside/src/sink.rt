@@ -67,35 +67,62 @@ fn piece_from(bytes: &[u8], done: usize) -> &[u8]
 mod tests {
     use super::*;
     use crate::MemorySink;
+    use std::alloc::Global;
+    use std::process::Abort;
     use std::test::Fail;
 
-    #[test]
-    fn puts_all_or_a_front(rt: HostRuntime) -> Result<(), Fail> {
-        let rows = [
-            (5, 0, Ok(()), "hello"),
-            (2, 0, Ok(()), "hello"),
-            (2, 2, Err(Failed), "he"),
-            (9, 1, Err(Failed), ""),
-        ];
-        for (most, failing, answer, written) in rows {
-            let fail = vec![in rt.alloc(); failing]?;
-            let mut sink = MemorySink::new(rt.alloc(), most, 16, fail)?;
-            assert_eq!(rt; put_all(&mut sink, b"hello"), answer);
-            assert_eq!(rt; sink.written(), written.as_bytes());
-        }
+    /// Asserts what a put of a word answers, and what was taken of it, by a sink that takes so many bytes at once, and of which the put of
+    /// this number fails.
+    fn hold_word(
+        rt: &impl Abort,
+        alloc: Global,
+        most: usize,
+        failing: u64,
+        answer: Result<(), Failed>,
+        written: &str,
+    ) -> Result<(), Fail> {
+        assert!(rt; 1 <= most);
+        let fail = vec![in alloc; failing]?;
+        let mut sink = MemorySink::new(alloc, most, 16, fail)?;
+        assert!(rt; put_all(&mut sink, b"hello") == answer);
+        assert!(rt; sink.written() == written.as_bytes(), "{written}");
         Ok(())
     }
 
     #[test]
+    fn puts_all_or_a_front(rt: HostRuntime) -> Result<(), Fail> {
+        for (most, failing, answer, written) in [
+            (5, 0, Ok(()), "hello"),
+            (2, 0, Ok(()), "hello"),
+            (2, 2, Err(Failed), "he"),
+            (9, 1, Err(Failed), ""),
+        ] {
+            hold_word(&rt, rt.alloc(), most, failing, answer, written)?;
+        }
+        Ok(())
+    }
+
+    /// Asserts what a put of these bytes answers, and what a sink has taken then.
+    fn hold_put(
+        rt: &impl Abort,
+        sink: &mut MemorySink,
+        bytes: &[u8],
+        answer: Result<(), Failed>,
+        written: &[u8],
+    ) {
+        assert!(rt; put_all(sink, bytes) == answer);
+        assert!(rt; sink.written() == written);
+    }
+
+    #[test]
     fn puts_more_than_one_piece(rt: HostRuntime) -> Result<(), Fail> {
+        let front = vec![in rt.alloc(); 7; PIECE_MOST]?;
         let bytes = vec![in rt.alloc(); 7; PIECE_MOST + 1]?;
         let fail = vec![in rt.alloc(); 2]?;
         let mut sink = MemorySink::new(rt.alloc(), usize::MAX, 2 * PIECE_MOST, fail)?;
-        assert_eq!(rt; put_all(&mut sink, &bytes), Err(Failed));
-        assert_eq!(rt; sink.written().len(), PIECE_MOST);
-        assert_eq!(rt; put_all(&mut sink, &bytes[..1]), Ok(()));
-        assert_eq!(rt; put_all(&mut sink, b""), Ok(()));
-        assert_eq!(rt; sink.written(), bytes.as_slice());
+        hold_put(&rt, &mut sink, &bytes, Err(Failed), &front);
+        hold_put(&rt, &mut sink, &[7], Ok(()), &bytes);
+        hold_put(&rt, &mut sink, b"", Ok(()), &bytes);
         Ok(())
     }
 }
