@@ -42,10 +42,32 @@ pub fn plan_of_text(alloc: Global, text: &str) -> Result<Plan<JobBody>, NoMemory
     plan_of_job(alloc, job_of(alloc, text)?)
 }
 
+/// The body of the job that a text is, and the local with which its `main` begins.
+pub fn main_of(alloc: Global, text: &str) -> Result<(JobBody, JobLocal), NoMemory> {
+    let Plan {
+        body,
+        root_local,
+        roots: _,
+        fuel: _,
+    } = plan_of_text(alloc, text)?;
+    Ok((body, root_local))
+}
+
 /// The text of a job with these lines first, then these statements, and `push out v` after them.
 pub fn text_of(alloc: Global, head: &str, statements: &str) -> Result<String, NoMemory> {
     let lines = statements.replace(alloc, "; ", "\n")?;
     Ok(format!(in alloc; "{head}{lines}\npush out v\nend\n")?)
+}
+
+/// The body of the job with these lines first, then these statements, and `push out v` after them, and the local with which its `main`
+/// begins.
+pub fn main_with(
+    alloc: Global,
+    head: &str,
+    statements: &str,
+) -> Result<(JobBody, JobLocal), NoMemory> {
+    let text = text_of(alloc, head, statements)?;
+    main_of(alloc, text.as_str())
 }
 
 /// What an ask is answered in tests: 7 to a read, the bytes `ab` to a pop, and to a test that the queue is
@@ -93,18 +115,50 @@ pub fn step(
     body.advance(alloc, local, answer, fuel)
 }
 
+/// What a step of a task comes to.
+#[derive(Drop)]
+enum Stepped {
+    /// This is told of it.
+    Told(String),
+    /// The task goes on here, and is answered this.
+    GoesOn(JobLocal, Answer),
+}
+
+/// What an ask after so many steps, that of this line, comes to.
+fn after_ask(
+    alloc: Global,
+    moved: JobLocal,
+    ask: &Ask<JobLocal>,
+    line: u64,
+    steps: u64,
+) -> Result<Stepped, NoMemory> {
+    match told_by(alloc, ask, line)? {
+        Some(told) => Ok(Stepped::Told(told)),
+        None => Ok(Stepped::GoesOn(moved, answer_to(alloc, ask, steps)?)),
+    }
+}
+
+/// Takes a step of a task after so many.
+fn next_step(
+    alloc: Global,
+    body: &JobBody,
+    local: JobLocal,
+    answer: Answer,
+    steps: u64,
+) -> Result<Stepped, NoMemory> {
+    let line = body.place(&local);
+    let (moved, ask) = step(alloc, body, local, answer, 199u64.saturating_sub(steps))?;
+    after_ask(alloc, moved, &ask, line, steps)
+}
+
 /// What number a task pushes first, or the trouble by which it ends and the line of that step, as text.
 fn first_push(alloc: Global, body: &JobBody, root: JobLocal) -> Result<String, NoMemory> {
-    let mut local = root;
-    let mut answer = Answer::Start;
+    let mut at = (root, Answer::Start);
     for steps in 0..200u64 {
-        let line = body.place(&local);
-        let (moved, ask) = step(alloc, body, local, answer, 199 - steps)?;
-        if let Some(told) = told_by(alloc, &ask, line)? {
-            return Ok(told);
+        match next_step(alloc, body, at.0, at.1, steps)? {
+            Stepped::Told(told) => return Ok(told),
+            Stepped::GoesOn(local, answer) => at = (local, answer),
         }
-        local = moved;
-        answer = answer_to(alloc, &ask, steps)?;
     }
     Err(NoMemory)
 }
@@ -112,19 +166,12 @@ fn first_push(alloc: Global, body: &JobBody, root: JobLocal) -> Result<String, N
 /// What `main` pushes first with these statements, one a line from line 12 on, and `push out v` after them; or its
 /// trouble. It has a number `v`, bytes `b` and a queue `q`.
 pub fn told_one_by_one(alloc: Global, statements: &str) -> Result<String, NoMemory> {
-    let text = text_of(
+    let (body, local) = main_with(
         alloc,
         "swan 1\nobject x int\noutput out int\ntask idle\ndo\nend\ntask main\nvar v int\nvar b bytes\nqueue q bytes\ndo\n",
         statements,
     )?;
-    let plan = plan_of_text(alloc, text.as_str())?;
-    let Plan {
-        body,
-        root_local,
-        roots: _,
-        fuel: _,
-    } = plan;
-    first_push(alloc, &body, root_local)
+    first_push(alloc, &body, local)
 }
 
 /// Whether a row of a table is so. It has statements, which come after `prefix`, ` => `, and what is told of them.

@@ -1,10 +1,10 @@
 // Each line, in one task and in a child.
 use crate::asserts::are_same;
-use crate::jobs::{hold_one_by_one, plan_of_text, step, text_of_number, told_one_by_one};
+use crate::jobs::{hold_one_by_one, main_of, step, text_of_number, told_one_by_one};
 use job_body::{JobBody, JobLocal};
 use std::alloc::Global;
 use std::test::Fail;
-use swan_model::{Answer, Ask, Body, Child, NoMemory, Plan, Record, Value};
+use swan_model::{Answer, Ask, Body, Child, NoMemory, Record, Value};
 
 /// Statements of a task that has a number `v`, bytes `b` and an object `x`, and what `v` is then. A read is
 /// answered by 7, a pop by `ab`, and a test in the first statement by yes and in a later one by no.
@@ -207,30 +207,44 @@ fn below(moved: JobLocal, ask: Ask<JobLocal>) -> JobLocal {
     }
 }
 
-/// The asks of a task and then of the child that it spawned last, and so on, each with its line.
-fn descend(alloc: Global, body: &JobBody, root: JobLocal, steps: u32) -> Result<String, NoMemory> {
+/// Adds an ask with its line.
+fn add_ask(
+    alloc: Global,
+    line: u64,
+    ask: &Ask<JobLocal>,
+    asks: &mut String,
+) -> Result<(), NoMemory> {
+    let words = words_of_ask(alloc, ask)?;
+    let words = format!(in alloc; "{line} {words}; ")?;
+    Ok(asks.push_str(words.as_str())?)
+}
+
+/// Takes a step of a task, and adds its ask. It answers the local of the child that is spawned, or else the task's own.
+fn step_down(
+    alloc: Global,
+    body: &JobBody,
+    local: JobLocal,
+    asks: &mut String,
+) -> Result<JobLocal, NoMemory> {
+    let line = body.place(&local);
+    let (moved, ask) = step(alloc, body, local, Answer::Nothing, 9)?;
+    add_ask(alloc, line, &ask, asks)?;
+    Ok(below(moved, ask))
+}
+
+/// The asks of a job's `main` and then of the child that it spawned last, and so on, each with its line.
+fn descend(alloc: Global, text: &str, steps: u32) -> Result<String, NoMemory> {
+    let (body, mut local) = main_of(alloc, text)?;
     let mut asks = String::new(alloc);
-    let mut local = root;
     for _ in 0..steps {
-        let line = body.place(&local);
-        let (moved, ask) = step(alloc, body, local, Answer::Nothing, 9)?;
-        let words = words_of_ask(alloc, &ask)?;
-        let words = format!(in alloc; "{line} {words}; ")?;
-        asks.push_str(words.as_str())?;
-        local = below(moved, ask);
+        local = step_down(alloc, &body, local, &mut asks)?;
     }
     Ok(asks)
 }
 
 #[test]
 fn a_task_spawns_itself_with_what_it_gives(rt: HostRuntime) -> Result<(), Fail> {
-    let Plan {
-        body,
-        root_local,
-        roots: _,
-        fuel: _,
-    } = plan_of_text(rt.alloc(), RECURSION)?;
-    let asks = descend(rt.alloc(), &body, root_local, 9)?;
+    let asks = descend(rt.alloc(), RECURSION, 9)?;
     let want =
         "13 queue; 15 spawn 20 1; 8 work; 9 push 0 3; 10 spawn 5 1; 8 work; 9 push 0 2; 10 spawn 5 1; 8 work; ";
     assert!(rt; are_same(asks.as_str(), want));
@@ -239,13 +253,7 @@ fn a_task_spawns_itself_with_what_it_gives(rt: HostRuntime) -> Result<(), Fail> 
 
 #[test]
 fn a_task_makes_objects_and_pushes_bytes(rt: HostRuntime) -> Result<(), Fail> {
-    let Plan {
-        body,
-        root_local,
-        roots: _,
-        fuel: _,
-    } = plan_of_text(rt.alloc(), MAKER)?;
-    let asks = descend(rt.alloc(), &body, root_local, 5)?;
+    let asks = descend(rt.alloc(), MAKER, 5)?;
     let want = "4 object 0; 5 queue; 7 push 0 of 2 bytes; 8 push 2 of 0 bytes; 9 finish; ";
     assert!(rt; are_same(asks.as_str(), want));
     Ok(())

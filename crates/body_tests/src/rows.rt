@@ -2,12 +2,12 @@
 ghost use Rattle.std.specs.Prelude.{◌<◌};
 
 use crate::asserts::{are_same, assert_none, assert_text};
-use crate::jobs::{answer_to, plan_of_text, step, text_of, told_by};
+use crate::jobs::{answer_to, main_with, step, told_by};
 use job_body::{JobBody, JobLocal};
 use std::alloc::Global;
 use std::process::Abort;
 use std::test::Fail;
-use swan_model::{Answer, Ask, Body, NoMemory, Plan, Stop, Worked};
+use swan_model::{Answer, Ask, Body, NoMemory, Stop, Worked};
 
 /// What stands before the statements, which begin at line 13. The first step makes the queue.
 pub const HEAD: &str = "\
@@ -98,6 +98,23 @@ struct Taken {
     what: Option<String>,
 }
 
+/// What is left of a row that ended with an ask, and of this fuel after it.
+fn ended_row(
+    alloc: Global,
+    local: JobLocal,
+    stop: &Stop<JobLocal>,
+    fuel: u64,
+    left: u64,
+) -> Result<Taken, NoMemory> {
+    let (answer, what) = told_at(alloc, &stop.ask, stop.place, fuel.saturating_sub(left))?;
+    Ok(Taken {
+        local,
+        answer,
+        left,
+        what,
+    })
+}
+
 /// Takes a row of steps by this budget, with what is left of the fuel.
 fn take_row(
     alloc: Global,
@@ -112,22 +129,15 @@ fn take_row(
 {
     let Worked { local, works, stop } = work(alloc, body, local, answer, left, budget)?;
     let left = left.saturating_sub(works);
-    let Some(Stop { ask, place }) = stop else {
-        return Ok(Taken {
+    match &stop {
+        Some(stop) => ended_row(alloc, local, stop, fuel, left.saturating_sub(1)),
+        None => Ok(Taken {
             local,
             answer: Answer::Nothing,
             left,
             what: None,
-        });
-    };
-    let left = left.saturating_sub(1);
-    let (answer, what) = told_at(alloc, &ask, place, fuel.saturating_sub(left))?;
-    Ok(Taken {
-        local,
-        answer,
-        left,
-        what,
-    })
+        }),
+    }
 }
 
 /// What a task pushes first that takes its steps in rows by this budget; or the trouble by which it ends; or
@@ -170,14 +180,8 @@ fn told_of(
 fn told_in_rows(alloc: Global, statements: &str, fuel: u64, budget: u64) -> Result<Run, NoMemory>
     requires { 0 < budget }
 {
-    let text = text_of(alloc, HEAD, statements)?;
-    let Plan {
-        body,
-        root_local,
-        roots: _,
-        fuel: _,
-    } = plan_of_text(alloc, text.as_str())?;
-    told_of(alloc, &body, root_local, fuel, budget)
+    let (body, local) = main_with(alloc, HEAD, statements)?;
+    told_of(alloc, &body, local, fuel, budget)
 }
 
 /// Whether a row of the table is so by this budget.
@@ -292,27 +296,47 @@ fn text_of_ended_row(alloc: Global, works: u64, place: u64) -> Result<String, No
     Ok(format!(in alloc; "{works}, and an ask at {place}")?)
 }
 
-/// How many steps of work a row has by this budget once the queue is made, and the line of the ask that ends it, if one does.
-fn row(alloc: Global, budget: u64) -> Result<String, NoMemory>
-    requires { 0 < budget }
-{
-    let text = text_of(alloc, HEAD, COUNT)?;
-    let Plan {
-        body,
-        root_local,
-        roots: _,
-        fuel: _,
-    } = plan_of_text(alloc, text.as_str())?;
-    let (local, _ask) = step(alloc, &body, root_local, Answer::Start, 199)?;
+/// How many steps of work a row has, and the line of the ask that ends it, if one does.
+fn counted(worked: Worked<JobLocal>) -> (u64, Option<u64>) {
     let Worked {
         local: _,
         works,
         stop,
-    } = work(alloc, &body, local, Answer::Nothing, 199, budget)?;
+    } = worked;
     match stop {
-        Some(Stop { ask: _, place }) => text_of_ended_row(alloc, works, place),
+        Some(Stop { ask: _, place }) => (works, Some(place)),
+        None => (works, None),
+    }
+}
+
+/// The same, as text.
+fn text_of_counted(alloc: Global, works: u64, place: Option<u64>) -> Result<String, NoMemory> {
+    match place {
+        Some(place) => text_of_ended_row(alloc, works, place),
         None => text_of_row(alloc, works),
     }
+}
+
+/// Takes the first step of a task, and then a row of steps by this budget.
+fn work_after_first(
+    alloc: Global,
+    body: &JobBody,
+    root: JobLocal,
+    budget: u64,
+) -> Result<Worked<JobLocal>, NoMemory>
+    requires { 0 < budget }
+{
+    let (local, _ask) = step(alloc, body, root, Answer::Start, 199)?;
+    work(alloc, body, local, Answer::Nothing, 199, budget)
+}
+
+/// How many steps of work a row has by this budget once the queue is made, and the line of the ask that ends it, if one does.
+fn row(alloc: Global, budget: u64) -> Result<String, NoMemory>
+    requires { 0 < budget }
+{
+    let (body, local) = main_with(alloc, HEAD, COUNT)?;
+    let (works, place) = counted(work_after_first(alloc, &body, local, budget)?);
+    text_of_counted(alloc, works, place)
 }
 
 /// Asserts this of the row by this budget.

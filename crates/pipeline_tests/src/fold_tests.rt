@@ -19,8 +19,9 @@ fn leaves<R: Reducer + Send + Sync>(
     out: &[u8],
     faults: &str,
 ) -> Result<bool, Fail> {
+    let names = fold_names(alloc)?;
     let plan = plan_of_fold(alloc, reducer, text)?;
-    plan_leaves(rt, alloc, plan, &fold_names(alloc)?, out, faults)
+    plan_leaves(rt, alloc, plan, &names, out, faults)
 }
 
 /// Asserts what the fold of so many equal lines and a bad one leaves.
@@ -162,9 +163,23 @@ fn sums_pass_64_bits_and_come_back(rt: HostRuntime) -> Result<(), Fail> {
     Ok(())
 }
 
+/// Asserts the sum of a line so many times and of another so many times, or the report of its fault.
+fn hold_sum_of_two(
+    rt: &impl Abort,
+    alloc: Global,
+    lines: (&[u8], usize, &[u8], usize),
+    out: &[u8],
+    faults: &str,
+) -> Result<(), Fail> {
+    let (first, first_count, second, second_count) = lines;
+    let text = in_turn(alloc, first, first_count, second, second_count)?;
+    let holds = leaves(rt, alloc, SumReducer, &text, out, faults)?;
+    assert!(rt; holds, "at {first_count} and {second_count}");
+    Ok(())
+}
+
 #[test]
 fn sums_of_blocks_meet_at_the_edges(rt: HostRuntime) -> Result<(), Fail> {
-    let alloc = rt.alloc();
     for (first, first_count, second, second_count, out, faults) in [
         (
             b"9223372036854775807\n".as_slice(),
@@ -223,8 +238,8 @@ fn sums_of_blocks_meet_at_the_edges(rt: HostRuntime) -> Result<(), Fail> {
             "faults 1\nfault /2 0 Overflow\n",
         ),
     ] {
-        let text = in_turn(alloc, first, first_count, second, second_count)?;
-        assert!(rt; leaves(&rt, alloc, SumReducer, &text, out, faults)?);
+        let lines = (first, first_count, second, second_count);
+        hold_sum_of_two(&rt, rt.alloc(), lines, out, faults)?;
     }
     Ok(())
 }
@@ -297,9 +312,17 @@ fn joins_of_blocks_end_past_the_bound(rt: HostRuntime) -> Result<(), Fail> {
     Ok(())
 }
 
+/// Asserts whether a record of so many bytes is the part of a sum. Each is that of a join.
+fn hold_is_part(rt: &impl Abort, alloc: Global, bytes: usize, is_sum: bool) -> Result<(), Fail> {
+    let text = repeated(alloc, b"a", bytes)?;
+    let item = Record::of(alloc, &text).ok().ok_or("too long")?;
+    assert!(rt; SumReducer.is_part(&item) == is_sum, "at {bytes}");
+    assert!(rt; JoinReducer.is_part(&item), "at {bytes}");
+    Ok(())
+}
+
 #[test]
 fn parts_are_told_from_other_records(rt: HostRuntime) -> Result<(), Fail> {
-    let alloc = rt.alloc();
     for (bytes, is_sum) in [
         (0, false),
         (15, false),
@@ -307,10 +330,7 @@ fn parts_are_told_from_other_records(rt: HostRuntime) -> Result<(), Fail> {
         (17, false),
         (RECORD_MOST, false),
     ] {
-        let text = repeated(alloc, b"a", bytes)?;
-        let item = Record::of(alloc, &text).ok().ok_or("too long")?;
-        assert_eq!(rt; SumReducer.is_part(&item), is_sum);
-        assert!(rt; JoinReducer.is_part(&item));
+        hold_is_part(&rt, rt.alloc(), bytes, is_sum)?;
     }
     Ok(())
 }
@@ -340,10 +360,8 @@ fn hold_part<R: Reducer>(
     Ok(())
 }
 
-#[test]
-fn a_lines_part_is_its_number_in_16_bytes_or_its_bytes(rt: HostRuntime) -> Result<(), Fail> {
-    let alloc = rt.alloc();
-    let longest = repeated(alloc, b"a", JOIN_MOST)?;
+/// Asserts the part of the sum, and that of the join, of lines and of the longest one.
+fn hold_lines(rt: &impl Abort, alloc: Global, longest: &[u8]) -> Result<(), Fail> {
     for (line, sum) in [
         (
             b"5".as_slice(),
@@ -369,12 +387,18 @@ fn a_lines_part_is_its_number_in_16_bytes_or_its_bytes(rt: HostRuntime) -> Resul
         (b"", None),
         (b"a\xff", None),
         (b"\n", None),
-        (&longest, None),
+        (longest, None),
     ] {
-        hold_part(&rt, alloc, &SumReducer, line, sum)?;
-        hold_part(&rt, alloc, &JoinReducer, line, Some(line))?;
+        hold_part(rt, alloc, &SumReducer, line, sum)?;
+        hold_part(rt, alloc, &JoinReducer, line, Some(line))?;
     }
     Ok(())
+}
+
+#[test]
+fn a_lines_part_is_its_number_in_16_bytes_or_its_bytes(rt: HostRuntime) -> Result<(), Fail> {
+    let longest = repeated(rt.alloc(), b"a", JOIN_MOST)?;
+    hold_lines(&rt, rt.alloc(), &longest)
 }
 
 /// What a reducer makes of no line.
@@ -466,24 +490,24 @@ fn lines_one_by_one_keep_the_first_bad_line(rt: HostRuntime) -> Result<(), Fail>
     Ok(())
 }
 
-#[test]
-fn lines_one_by_one_are_joined_up_to_the_bound(rt: HostRuntime) -> Result<(), Fail> {
-    let longest = repeated(rt.alloc(), b"a", JOIN_MOST)?;
+/// Asserts what lines one by one leave, of which one may be the longest.
+fn hold_long_parts(rt: &impl Abort, alloc: Global, longest: &[u8]) -> Result<(), Fail> {
     for (lines, sum, bad, join) in [
-        (
-            [b"".as_slice(), &longest, b""],
-            ZERO,
-            Some(1),
-            longest.as_slice(),
-        ),
-        ([&longest, b"b", b"-1"], MINUS_ONE, Some(1), b"\n"),
-        ([b"0", b"-1", &longest], MINUS_ONE, Some(3), b"\n"),
+        ([b"".as_slice(), longest, b""], ZERO, Some(1), longest),
+        ([longest, b"b", b"-1"], MINUS_ONE, Some(1), b"\n"),
+        ([b"0", b"-1", longest], MINUS_ONE, Some(3), b"\n"),
         // a line feed alone stands for too many bytes
         ([b"-1", b"\n", b"0"], MINUS_ONE, Some(2), b"\n"),
     ] {
-        hold_parts(&rt, rt.alloc(), &lines, sum, bad, join)?;
+        hold_parts(rt, alloc, &lines, sum, bad, join)?;
     }
     Ok(())
+}
+
+#[test]
+fn lines_one_by_one_are_joined_up_to_the_bound(rt: HostRuntime) -> Result<(), Fail> {
+    let longest = repeated(rt.alloc(), b"a", JOIN_MOST)?;
+    hold_long_parts(&rt, rt.alloc(), &longest)
 }
 
 /// Sums whose blocks are folded by the calls for one line, as the trait has it.

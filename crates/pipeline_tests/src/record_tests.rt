@@ -14,8 +14,9 @@ fn leaves(
     out: &[u8],
     faults: &str,
 ) -> Result<bool, Fail> {
+    let names = record_names(alloc)?;
     let plan = plan_of_conversion(rt, alloc, text)?;
-    plan_leaves(rt, alloc, plan, &record_names(alloc)?, out, faults)
+    plan_leaves(rt, alloc, plan, &names, out, faults)
 }
 
 #[test]
@@ -39,9 +40,17 @@ fn fields_become_netstrings(rt: HostRuntime) -> Result<(), Fail> {
     Ok(())
 }
 
+/// Asserts this report of the faults of so many lines of one field and one of two.
+fn hold_lines(rt: &impl Abort, alloc: Global, lines: usize, faults: &str) -> Result<(), Fail> {
+    let text = in_turn(alloc, b"w\n", lines, b"w\tw", 1)?;
+    let out = repeated(alloc, b"1:w,\n", lines)?;
+    let holds = leaves(rt, alloc, &text, &out, faults)?;
+    assert!(rt; holds, "at {lines}");
+    Ok(())
+}
+
 #[test]
 fn blocks_have_64_lines(rt: HostRuntime) -> Result<(), Fail> {
-    let alloc = rt.alloc();
     for (lines, faults) in [
         (63, "faults 1\nfault /0/63 64 User 1\n"),
         (64, "faults 1\nfault /1/0 65 User 1\n"),
@@ -49,23 +58,23 @@ fn blocks_have_64_lines(rt: HostRuntime) -> Result<(), Fail> {
         (127, "faults 1\nfault /1/63 128 User 1\n"),
         (128, "faults 1\nfault /2/0 129 User 1\n"),
     ] {
-        let text = in_turn(alloc, b"w\n", lines, b"w\tw", 1)?;
-        let out = repeated(alloc, b"1:w,\n", lines)?;
-        assert!(rt; leaves(&rt, alloc, &text, &out, faults)?, "at {lines}");
+        hold_lines(&rt, rt.alloc(), lines, faults)?;
     }
     Ok(())
 }
 
+/// Whether a text of 65528 bytes is converted to one field.
+fn is_one_field(rt: &impl Abort, alloc: Global, text: &[u8]) -> Result<bool, Fail> {
+    let out = followed(in_turn(alloc, b"65528:", 1, text, 1)?, b",\n")?;
+    leaves(rt, alloc, text, &out, "faults 0\n")
+}
+
 #[test]
 fn long_records_are_left_out(rt: HostRuntime) -> Result<(), Fail> {
-    let alloc = rt.alloc();
-    let text = repeated(alloc, b"a", 65_528)?;
-    let out = followed(in_turn(alloc, b"65528:", 1, &text, 1)?, b",\n")?;
-    assert!(rt; leaves(&rt, alloc, &text, &out, "faults 0\n")?, "at 65528");
+    let text = repeated(rt.alloc(), b"a", 65_528)?;
+    assert!(rt; is_one_field(&rt, rt.alloc(), &text)?, "at 65528");
+    let text = followed(text, b"a")?;
     let faults = "faults 1\nfault /0/0 1 TooLong\n";
-    assert!(rt;
-        leaves(&rt, alloc, &followed(text, b"a")?, b"", faults)?,
-        "at 65529"
-    );
+    assert!(rt; leaves(&rt, rt.alloc(), &text, b"", faults)?, "at 65529");
     Ok(())
 }

@@ -68,6 +68,12 @@ fn texts_of<B: Body>(
     Ok(print(alloc, names, &outcome)?)
 }
 
+/// Whether these are the output, no line in the input, and this report of the faults.
+fn are_so(alloc: Global, texts: &Printed, out: &[u8], faults: &str) -> Result<bool, AllocError> {
+    let report = format!(in alloc; "left input 0\n{faults}")?;
+    Ok(texts.out.as_slice() == out && texts.report.as_slice() == report.as_bytes())
+}
+
 /// Whether a plan leaves this output, no line in its input, and this report of its faults.
 pub fn plan_leaves<B: Body>(
     rt: &impl Abort,
@@ -78,6 +84,5 @@ pub fn plan_leaves<B: Body>(
     faults: &str,
 ) -> Result<bool, Fail> {
     let texts = texts_of(rt, alloc, plan, names)?;
-    let report = format!(in alloc; "left input 0\n{faults}")?;
-    Ok(texts.out.as_slice() == out && texts.report.as_slice() == report.as_bytes())
+    Ok(are_so(alloc, &texts, out, faults)?)
 }
