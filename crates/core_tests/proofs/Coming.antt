@@ -1,5 +1,5 @@
 -- Frames that may come to a core.
-use Rattle.std.proofs.Common.{◌≡◌, ℕ, ◌<◌, List, [], ◌∷◌, ◌∙◌, length, slice_index_or, subst, sym}
+use Rattle.std.proofs.Common.{◌≡◌, ℕ, ◌<◌, List, [], ◌∷◌, ◌∙◌, Result, Ok, Err, IfOk, length, slice_index_or, subst, sym}
 use Rattle.std.proofs.lemmas.List.Elements.{All-cons, All-nil, All-same, All-weaker}
 use Rattle.task_frames.specs.Cores.{CoreView}
 use Rattle.task_frames.specs.Frames.{FrameView}
@@ -31,6 +31,12 @@ module _ {B L E : Type 0} (run : E → List ℕ) (core after : CoreView B L) (pl
 
   pub all-still-come : (frames : List (FrameView B L E)) → MayAllCome run core frames → MayAllCome run after frames
   all-still-come frames may = All-weaker (MayCome run core) (MayCome run after) still-comes frames may
+
+  -- so may those that are answered
+  pub answered-still-come : {F X : Type 0} (of : F → List (FrameView B L E)) (result : Result F X) → IfOk result (λ frames. MayAllCome run core (of frames))
+      → IfOk result (λ frames. MayAllCome run after (of frames))
+  answered-still-come of (Ok frames) may = all-still-come (of frames) may
+  answered-still-come of (Err other) may = may
 
 -- one of those that may come
 pub taken-comes : {B L E : Type 0} (run : E → List ℕ) (core : CoreView B L) (frames : List (FrameView B L E)) (index : ℕ) (frame : FrameView B L E)

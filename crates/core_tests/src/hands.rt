@@ -1,5 +1,5 @@
 // Turns of workers by hand.
-ghost use Rattle.std.specs.Prelude.{◌≡◌, ◌<◌, IfOk, OnOk, length, true};
+ghost use Rattle.std.specs.Prelude.{◌≡◌, ◌<◌, IfOk, length, true};
 ghost use Rattle.task_frames.specs.Resumes.{ends_of};
 ghost use Rattle.swan_runtime.specs.Turned.{is_last};
 ghost use Rattle.swan_runtime.specs.Workers.{AreWorkers, OneHasMet};
@@ -13,9 +13,10 @@ use queues::{LocalEnds, Queues, WaitFor};
 use serial_elision::Printed;
 use std::alloc::Global;
 use std::test::Fail;
-use swan_model::{Body, NoMemory, Outcome, Plan};
+use swan_model::{Body, NoMemory, Plan};
 use swan_outside::OpenGate;
 use swan_runtime::{Shape, Turn, Worker, close, open};
+use task_frames::RunOutcome;
 
 /// What a worker's turn tells.
 #[derive(Clone, Copy, Debug, PartialEq, Eq)]
@@ -97,30 +98,18 @@ fn take_turns<B: Body, Q: Queues>(
     Ok(())
 }
 
-/// What a run leaves, of which the first worker meets the end in its next turn.
-fn left_by<B: Body, Q: Queues>(alloc: Global, workers: Vec<Worker<B, Q>>) -> Result<Outcome, Fail>
+/// What closing a run answers, of which the first worker meets the end in its next turn.
+fn closed<B: Body, Q: Queues>(
+    alloc: Global,
+    workers: Vec<Worker<B, Q>>,
+) -> Result<Result<RunOutcome, NoMemory>, Fail>
     requires workers { AreWorkers (ends_of Q.Ends.LocalEnds) workers.items }
 {
     let mut workers = workers;
     if !turn_of(alloc, &mut workers, 0).is_last() {
         return Err("the run goes on".into());
     }
-    let (outcome, _ran) = close(alloc, workers)?.outcome();
-    Ok(outcome)
-}
-
-/// Asserts that a run, of which the first worker meets the end in its next turn, has no outcome.
-fn is_stopped<B: Body, Q: Queues>(alloc: Global, workers: Vec<Worker<B, Q>>) -> Result<(), Fail>
-    requires workers { AreWorkers (ends_of Q.Ends.LocalEnds) workers.items }
-{
-    let mut workers = workers;
-    if !turn_of(alloc, &mut workers, 0).is_last() {
-        return Err("the run goes on".into());
-    }
-    match close(alloc, workers) {
-        Ok(_) => Err("the run has an outcome".into()),
-        Err(NoMemory) => Ok(()),
-    }
+    Ok(close(alloc, workers))
 }
 
 /// The workers of a run of this plan, so many, after these turns.
@@ -146,7 +135,8 @@ fn texts_by_hands(
     turns: &[Hand],
 ) -> Result<Printed, Fail> {
     let workers = workers_after(alloc, plan, workers, turns)?;
-    Ok(printed(alloc, &left_by(alloc, workers)?)?)
+    let (outcome, _ran) = closed(alloc, workers)??.outcome();
+    Ok(printed(alloc, &outcome)?)
 }
 
 /// A run of these tasks by so many workers, in these turns, leaves what the elision leaves.
@@ -181,5 +171,8 @@ pub fn stop_by_hands(
     turns: &[Hand],
 ) -> Result<(), Fail> {
     let plan = failing_plan(alloc, tasks.tasks, tasks.fuel, fails)?;
-    is_stopped(alloc, workers_after(alloc, plan, workers, turns)?)
+    match closed(alloc, workers_after(alloc, plan, workers, turns)?)? {
+        Ok(_) => Err("the run has an outcome".into()),
+        Err(NoMemory) => Ok(()),
+    }
 }

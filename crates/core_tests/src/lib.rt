@@ -5,6 +5,9 @@
 //! next, and what it comes to. Each turn goes through one function, so a table costs nothing to prove. So does each call of a frame that takes
 //! steps by itself. The same plans are run by 1, 2, 3, 4 and 64 workers in threads, and some by one or two workers whose turns a table says. What is
 //! left was worked out by hand from what each ask is to do, and is compared with the elision of the same plan too.
+//!
+//! A core that nobody needs any more is given up by `drop`, which is a call: where it would go with its block, each place where it may go is
+//! checked part by part, and that costs many times as much.
 #![tactic(auto)]
 
 #[cfg(test)]

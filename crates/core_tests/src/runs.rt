@@ -82,6 +82,7 @@ fn take_by_chance<B: Body, Q: Queues>(
 /// What a run leaves, and None where its root hasn't ended.
 fn left<B: Body, Q: Queues>(alloc: Global, core: Core<B, Q>) -> Result<Option<Outcome>, Fail> {
     if !core.is_done() {
+        drop(core);
         return Ok(None);
     }
     let (outcome, _ran) = core.take_outcome(alloc)?.outcome();
@@ -102,7 +103,10 @@ fn left_by_turns<B: Body, Q: Queues>(
         body,
         root,
     } = opened;
-    frames_from(alloc, &mut core, &body, root, turns)?;
+    if let Err(fail) = frames_from(alloc, &mut core, &body, root, turns) {
+        drop(core);
+        return Err(fail);
+    }
     left(alloc, core)
 }
 
@@ -120,7 +124,10 @@ fn left_by_chance<B: Body, Q: Queues>(
         body,
         root,
     } = opened;
-    take_by_chance(alloc, &mut core, &body, root, seed)?;
+    if let Err(fail) = take_by_chance(alloc, &mut core, &body, root, seed) {
+        drop(core);
+        return Err(fail);
+    }
     left(alloc, core)
 }
 

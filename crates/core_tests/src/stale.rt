@@ -93,8 +93,9 @@ pub fn frames_after<B: Body, Q: Queues>(
         body,
         root,
     } = opened;
-    let frames = frames_from(alloc, &mut core, &body, root, turns)?;
-    Ok(frames)
+    let frames = frames_from(alloc, &mut core, &body, root, turns);
+    drop(core);
+    frames
 }
 
 /// Takes these turns of some frames. What else may come to the core may still come to it.

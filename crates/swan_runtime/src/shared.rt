@@ -1,7 +1,8 @@
 // What the workers of a run share.
-ghost use Rattle.std.specs.Prelude.{◌≡◌, ◌++◌, ◌∷◌, [], IfOk, IfSome, IfNone, option_to_list, true};
+ghost use Rattle.std.specs.Prelude.{◌≡◌, ◌++◌, ◌∷◌, [], ℕ, List, IfOk, IfSome, IfNone, option_to_list, true};
 ghost use Rattle.task_frames.specs.Resumes.{ends_of};
-ghost use Rattle.swan_runtime.specs.Shared.{IsOfRun};
+ghost use Rattle.swan_model.specs.declared.plan.Plan.{Plan};
+ghost use Rattle.swan_runtime.specs.Shared.{AsleepIsOfRun, IsOfRun};
 ghost use Rattle.swan_runtime.specs.Turned.{MayBeAnswered};
 ghost use Rattle.swan_runtime.specs.declared.turn.Turn.TheVariants as turn;
 
@@ -28,6 +29,20 @@ pub(crate) struct Parts<B: Body, Q: Queues> {
 #[derive(Drop)]
 pub(crate) struct SharedRun<B: Body, Q: Queues> {
     parts: Box<Parts<B, Q>>,
+}
+
+/// The root as the frame that is ready, and nobody that sleeps. Err is want of memory. It allocates twice.
+fn at_first<B: Body, Q: Queues>(
+    alloc: Global,
+    root: Frame<B, Q>,
+) -> Result<(Vec<Frame<B, Q>>, Asleep<B, Q>), NoMemory>
+    ensures ready { IfOk result (λ both. both.0.items ≡ root ∷ []) }
+    ensures asleep { (plan : Plan B B.Local) (run : List ℕ) → IfOk result (λ both. AsleepIsOfRun (ends_of Q.Ends.LocalEnds) plan run both.1) }
+{
+    let asleep = Asleep::new(alloc, root.number())?;
+    let mut ready = Vec::new(alloc);
+    ready.push(root)?;
+    Ok((ready, asleep))
 }
 
 impl<B: Body, Q: Queues> Model for SharedRun<B, Q> {
@@ -60,9 +75,11 @@ impl<B: Body, Q: Queues> SharedRun<B, Q> {
         ensures core { IfOk result (λ shared. shared.core ≡ core) }
         ensures ready { IfOk result (λ shared. shared.ready ≡ root ∷ []) }
     {
-        let asleep = Asleep::new(alloc, root.number())?;
-        let mut ready = Vec::new(alloc);
-        ready.push(root)?;
+        let Ok((ready, asleep)) = at_first(alloc, root) else {
+            // by a call, since what goes with its block is checked part by part in each place where it may go
+            drop(core);
+            return Err(NoMemory);
+        };
         let parts = Box::new(
             alloc,
             Parts {
