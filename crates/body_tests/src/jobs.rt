@@ -124,7 +124,7 @@ enum Stepped {
     GoesOn(JobLocal, Answer),
 }
 
-/// What an ask after so many steps, that of this line, comes to.
+/// What an ask of this line comes to, after so many steps.
 fn after_ask(
     alloc: Global,
     moved: JobLocal,

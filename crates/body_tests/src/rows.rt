@@ -98,7 +98,7 @@ struct Taken {
     what: Option<String>,
 }
 
-/// What is left of a row that ended with an ask, and of this fuel after it.
+/// What a row leaves that ended with this ask, and with so much of the fuel.
 fn ended_row(
     alloc: Global,
     local: JobLocal,

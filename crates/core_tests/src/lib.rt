@@ -6,8 +6,8 @@
 //! steps by itself. The same plans are run by 1, 2, 3, 4 and 64 workers in threads, and some by one or two workers whose turns a table says. What is
 //! left was worked out by hand from what each ask is to do, and is compared with the elision of the same plan too.
 //!
-//! A core that nobody needs any more is given up by `drop`, which is a call: where it would go with its block, each place where it may go is
-//! checked part by part, and that costs many times as much.
+//! Where a core may end in several places, it is given up by `drop`, which is a call: what ends with its block is checked part by part in each
+//! place where it may end, and that costs many times as much.
 #![tactic(auto)]
 
 #[cfg(test)]

@@ -316,8 +316,8 @@ fn joins_of_blocks_end_past_the_bound(rt: HostRuntime) -> Result<(), Fail> {
 fn hold_is_part(rt: &impl Abort, alloc: Global, bytes: usize, is_sum: bool) -> Result<(), Fail> {
     let text = repeated(alloc, b"a", bytes)?;
     let item = Record::of(alloc, &text).ok().ok_or("too long")?;
-    assert!(rt; SumReducer.is_part(&item) == is_sum, "at {bytes}");
-    assert!(rt; JoinReducer.is_part(&item), "at {bytes}");
+    assert!(rt; SumReducer.is_part(&item) == is_sum, "a sum at {bytes}");
+    assert!(rt; JoinReducer.is_part(&item), "a join at {bytes}");
     Ok(())
 }
 
@@ -360,8 +360,8 @@ fn hold_part<R: Reducer>(
     Ok(())
 }
 
-/// Asserts the part of the sum, and that of the join, of lines and of the longest one.
-fn hold_lines(rt: &impl Abort, alloc: Global, longest: &[u8]) -> Result<(), Fail> {
+/// Asserts what part each line has of a sum and of a join, up to the longest that a join takes.
+fn hold_part_of_each(rt: &impl Abort, alloc: Global, longest: &[u8]) -> Result<(), Fail> {
     for (line, sum) in [
         (
             b"5".as_slice(),
@@ -398,7 +398,7 @@ fn hold_lines(rt: &impl Abort, alloc: Global, longest: &[u8]) -> Result<(), Fail
 #[test]
 fn a_lines_part_is_its_number_in_16_bytes_or_its_bytes(rt: HostRuntime) -> Result<(), Fail> {
     let longest = repeated(rt.alloc(), b"a", JOIN_MOST)?;
-    hold_lines(&rt, rt.alloc(), &longest)
+    hold_part_of_each(&rt, rt.alloc(), &longest)
 }
 
 /// What a reducer makes of no line.

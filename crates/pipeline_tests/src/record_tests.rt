@@ -40,7 +40,7 @@ fn fields_become_netstrings(rt: HostRuntime) -> Result<(), Fail> {
     Ok(())
 }
 
-/// Asserts this report of the faults of so many lines of one field and one of two.
+/// Asserts that so many lines of one field are converted, and this report of one of two fields after them.
 fn hold_lines(rt: &impl Abort, alloc: Global, lines: usize, faults: &str) -> Result<(), Fail> {
     let text = in_turn(alloc, b"w\n", lines, b"w\tw", 1)?;
     let out = repeated(alloc, b"1:w,\n", lines)?;

@@ -19,7 +19,7 @@ fn refusal(rt: &impl Abort, alloc: Global, of: Of, text: &[u8]) -> Option<LinesA
     }
 }
 
-/// Asserts how the plan of a text is refused in each pipeline.
+/// Asserts how the plan of a text is refused in each pipeline; None is that it isn't.
 fn hold_refusal(rt: &impl Abort, alloc: Global, text: &[u8], why: Option<LinesAnswer>) {
     let bytes = text.len();
     for of in [Of::Index, Of::Conversion, Of::Fold] {

@@ -97,7 +97,7 @@ struct Two {
     second: PoolSeat<Ball>,
 }
 
-/// The last two of these seats.
+/// Takes the last two of these seats out.
 fn two_of(seats: &mut Vec<PoolSeat<Ball>>) -> Result<Two, Fail> {
     let first = seats.pop().ok_or("no first seat")?;
     let second = seats.pop().ok_or("no second seat")?;

@@ -130,7 +130,8 @@ mod tests {
         Ok(files)
     }
 
-    /// Asserts what reads of these files answer, and how many bytes stand in the buffer then.
+    /// Asserts what reads of these files answer, how many bytes stand in the buffer then, with the one that stood there before, and how many
+    /// files were too long.
     fn hold_reads(
         rt: &impl Abort,
         alloc: Global,
@@ -145,7 +146,7 @@ mod tests {
             ("a", Ok(()), 4, 2),
         ] {
             hold_length(rt, alloc, files, name, answer, left)?;
-            assert!(rt; files.long_reads == long_reads, "at {name}");
+            assert!(rt; files.long_reads == long_reads, "long reads at {name}");
         }
         Ok(())
     }

@@ -103,9 +103,12 @@ mod tests {
 
     /// Asserts that a put of these bytes doesn't fail, and what is told then.
     fn hold_told(rt: &impl Abort, sink: &mut HonestSink, bytes: &str, told: Option<&str>) {
-        assert!(rt; put_all(sink, bytes.as_bytes()).is_ok());
+        assert!(rt;
+            put_all(sink, bytes.as_bytes()).is_ok(),
+            "the put of {bytes}"
+        );
         let wanted = told.map(|text| text.as_bytes());
-        assert!(rt; sink.written() == wanted, "at {bytes}");
+        assert!(rt; sink.written() == wanted, "what is told after {bytes}");
     }
 
     #[test]

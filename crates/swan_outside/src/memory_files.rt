@@ -169,8 +169,9 @@ mod tests {
 
     /// Asserts how many reads have failed, and how many have found a file that is too long.
     fn hold_counts(rt: &impl Abort, files: &MemoryFiles, faults: u64, long_reads: u64) {
-        assert!(rt; files.counts.faults == faults);
-        assert!(rt; files.counts.long_reads == long_reads);
+        assert!(rt; files.counts.faults == faults, "not {faults} faults");
+        let found = files.counts.long_reads;
+        assert!(rt; found == long_reads, "not {long_reads} long reads");
     }
 
     #[test]
@@ -190,8 +191,9 @@ mod tests {
         Ok(())
     }
 
-    /// Asserts what a read of a file of so many bytes answers, how many bytes stand in the buffer then, and whether the file was too long.
-    fn hold_long_file(
+    /// Asserts what a read of a file of so many bytes answers, how many bytes stand in the buffer then, with the one that stood there before, and
+    /// how many files were too long. No read fails.
+    fn hold_bytes(
         rt: &impl Abort,
         alloc: Global,
         length: usize,
@@ -209,9 +211,9 @@ mod tests {
     #[test]
     fn refuses_a_long_content(rt: HostRuntime) -> Result<(), Fail> {
         let alloc = rt.alloc();
-        hold_long_file(&rt, alloc, FILE_MOST, Ok(()), FILE_MOST + 1, 0)?;
+        hold_bytes(&rt, alloc, FILE_MOST, Ok(()), FILE_MOST + 1, 0)?;
         let refused = Err(ReadAnswer::TooLong);
-        hold_long_file(&rt, alloc, FILE_MOST + 1, refused, 1, 1)?;
+        hold_bytes(&rt, alloc, FILE_MOST + 1, refused, 1, 1)?;
         Ok(())
     }
 }

@@ -134,9 +134,12 @@ mod tests {
         written: &str,
         faults: u64,
     ) {
-        assert!(rt; put_piece(sink, piece) == answer, "at {piece}");
-        assert!(rt; sink.written() == written.as_bytes(), "at {piece}");
-        assert!(rt; sink.faults == faults, "at {piece}");
+        assert!(rt; put_piece(sink, piece) == answer, "the answer at {piece}");
+        assert!(rt;
+            sink.written() == written.as_bytes(),
+            "the bytes at {piece}"
+        );
+        assert!(rt; sink.faults == faults, "faults at {piece}");
     }
 
     #[test]

@@ -209,42 +209,63 @@ mod tests {
 
     const LONG: &str = "swan_outside_test_long";
 
-    /// Asserts what reads of files, of other things and of nothing answer and leave.
-    fn hold_names<T: Runtime>(
+    /// Asserts that the files of these names are read, and what stands in the buffer then.
+    fn hold_read_names<T: Runtime>(
         rt: &impl Abort,
         alloc: Global,
         files: &mut OsFiles<T>,
     ) -> Result<(), AllocError> {
-        for (name, answer, left) in [
-            (SHORT, Ok(()), ">some bytes"),
-            (SPACED, Ok(()), ">others"),
-            ("swan_outside_test_short ", Err(ReadAnswer::Failed), ">"),
-            ("swan_outside_test_missing", Err(ReadAnswer::Failed), ">"),
-            (".", Err(ReadAnswer::Failed), ">"),
-            ("", Err(ReadAnswer::Failed), ">"),
-            ("nul\0byte", Err(ReadAnswer::Failed), ">"),
-            ("/dev/null", Ok(()), ">"),
-            ("/dev/zero", Err(ReadAnswer::TooLong), ">"),
+        for (name, left) in [
+            (SHORT, ">some bytes"),
+            (SPACED, ">others"),
+            ("/dev/null", ">"),
         ] {
-            hold_read(rt, alloc, files, name, answer, left)?;
+            hold_read(rt, alloc, files, name, Ok(()), left)?;
         }
-        assert!(rt; files.counts.faults == 5 && files.counts.long_reads == 1);
         Ok(())
+    }
+
+    /// Asserts that what these names name isn't read, and that nothing is left of it.
+    fn hold_refused_names<T: Runtime>(
+        rt: &impl Abort,
+        alloc: Global,
+        files: &mut OsFiles<T>,
+    ) -> Result<(), AllocError> {
+        for name in [
+            "swan_outside_test_short ",
+            "swan_outside_test_missing",
+            ".",
+            "",
+            "nul\0byte",
+        ] {
+            hold_read(rt, alloc, files, name, Err(ReadAnswer::Failed), ">")?;
+        }
+        hold_read(rt, alloc, files, "/dev/zero", Err(ReadAnswer::TooLong), ">")
+    }
+
+    /// Asserts how many reads failed, and how many files were too long.
+    fn hold_counts<T: Runtime>(rt: &impl Abort, files: &OsFiles<T>, faults: u64, long_reads: u64) {
+        assert!(rt; files.counts.faults == faults, "not {faults} faults");
+        let found = files.counts.long_reads;
+        assert!(rt; found == long_reads, "not {long_reads} long reads");
     }
 
     #[test]
     fn reads_files_of_the_system(rt: HostRuntime) -> Result<(), Fail> {
         fs::write(&rt, SHORT, "some bytes")?;
         fs::write(&rt, SPACED, "others")?;
-        hold_names(&rt, rt.alloc(), &mut OsFiles::new(rt))?;
+        let mut files = OsFiles::new(rt);
+        hold_read_names(&rt, rt.alloc(), &mut files)?;
+        hold_refused_names(&rt, rt.alloc(), &mut files)?;
+        hold_counts(&rt, &files, 5, 1);
         fs::remove_file(&rt, SHORT)?;
         fs::remove_file(&rt, SPACED)?;
         Ok(())
     }
 
-    /// Asserts what a read of a file of the system of so many bytes answers, how many bytes stand in the buffer then, and whether it was too
-    /// long.
-    fn hold_long_file(
+    /// Asserts what a read of a file of the system of so many bytes answers, how many bytes stand in the buffer then, with the one that stood
+    /// there before, and how many files were too long. No read fails.
+    fn hold_bytes(
         abort: &impl Abort,
         rt: HostRuntime,
         length: usize,
@@ -255,15 +276,15 @@ mod tests {
         File::create(&rt, LONG)?.set_len(length as u64)?;
         let mut files = OsFiles::new(rt);
         hold_length(abort, rt.alloc(), &mut files, LONG, answer, left)?;
-        assert!(abort; files.counts.long_reads == long_reads);
+        hold_counts(abort, &files, 0, long_reads);
         fs::remove_file(&rt, LONG)?;
         Ok(())
     }
 
     #[test]
     fn reads_up_to_the_limit(rt: HostRuntime) -> Result<(), Fail> {
-        hold_long_file(&rt, rt, FILE_MOST, Ok(()), FILE_MOST + 1, 0)?;
-        hold_long_file(&rt, rt, FILE_MOST + 1, Err(ReadAnswer::TooLong), 1, 1)
+        hold_bytes(&rt, rt, FILE_MOST, Ok(()), FILE_MOST + 1, 0)?;
+        hold_bytes(&rt, rt, FILE_MOST + 1, Err(ReadAnswer::TooLong), 1, 1)
     }
 
     /// Gives a byte, is interrupted, gives another byte, and then ends or fails.
@@ -300,9 +321,13 @@ mod tests {
     ) {
         let mut into = Vec::new(alloc);
         let mut reader = Stumbling { reads: 0, last };
-        assert!(rt; append_rest(&mut reader, &mut into) == answer);
-        assert!(rt; into.as_slice() == b"13".as_slice());
-        assert!(rt; reader.reads == 4);
+        let found = append_rest(&mut reader, &mut into);
+        assert!(rt; found == answer, "the answer where {last:?} comes last");
+        assert!(rt; into.as_slice() == b"13".as_slice(), "other bytes");
+        assert!(rt;
+            reader.reads == 4,
+            "not four reads where {last:?} comes last"
+        );
     }
 
     #[test]

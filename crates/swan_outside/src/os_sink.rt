@@ -165,7 +165,6 @@ mod tests {
     use std::fmt::Display;
     use std::io;
     use std::process::Abort;
-    use std::test::Fail;
 
     /// A stream in memory, which keeps what it takes and counts its calls. The first calls are
     /// interrupted. Each later one takes so many bytes at most, or fails where no number is there.
@@ -244,18 +243,18 @@ mod tests {
 
     /// Asserts what a stream took, and by how many calls.
     fn hold_written(rt: &impl Abort, fake: &Fake, written: &str, calls: u32) {
-        assert!(rt; fake.calls.get() == calls, "{written}");
+        assert!(rt; fake.calls.get() == calls, "not {calls} calls");
         let is_so = match fake.written.try_borrow() {
             Ok(bytes) => bytes.as_slice() == written.as_bytes(),
             Err(_) => false,
         };
-        assert!(rt; is_so, "{written}");
+        assert!(rt; is_so, "not what was taken: {written}");
     }
 
     /// An e with an accent, a b and a line feed, which are 4 bytes.
     const PIECE: &str = "\u{e9}b\n";
 
-    /// Asserts what such a stream makes of a put of the piece: the answer, and what it has then taken, by how many calls.
+    /// Asserts what a put of the piece to this stream in memory answers, and what the stream has then taken, by how many calls.
     fn hold_put(
         rt: &impl Abort,
         stream: Stream,
@@ -269,7 +268,8 @@ mod tests {
             stream,
             faults: 0,
         };
-        assert!(rt; sink.put(PIECE.as_bytes()) == answer);
+        let found = sink.put(PIECE.as_bytes());
+        assert!(rt; found == answer, "not {answer:?} by {calls} calls");
         hold_written(rt, &sink.rt, written, calls);
     }
 
@@ -311,8 +311,8 @@ mod tests {
         faults: u64,
     ) {
         assert!(rt; !piece.is_empty());
-        assert!(rt; sink.put(piece) == answer);
-        assert!(rt; sink.faults == faults);
+        assert!(rt; sink.put(piece) == answer, "not {answer:?}");
+        assert!(rt; sink.faults == faults, "not {faults} faults");
     }
 
     #[test]

@@ -84,8 +84,13 @@ mod tests {
         assert!(rt; 1 <= most);
         let fail = vec![in alloc; failing]?;
         let mut sink = MemorySink::new(alloc, most, 16, fail)?;
-        assert!(rt; put_all(&mut sink, b"hello") == answer);
-        assert!(rt; sink.written() == written.as_bytes(), "{written}");
+        let found = put_all(&mut sink, b"hello");
+        assert!(rt; found == answer, "the answer at {most} and {failing}");
+        let taken = sink.written();
+        assert!(rt;
+            taken == written.as_bytes(),
+            "the bytes at {most} and {failing}"
+        );
         Ok(())
     }
 
@@ -103,15 +108,19 @@ mod tests {
     }
 
     /// Asserts what a put of these bytes answers, and what a sink has taken then.
-    fn hold_put(
+    fn hold_bytes(
         rt: &impl Abort,
         sink: &mut MemorySink,
         bytes: &[u8],
         answer: Result<(), Failed>,
         written: &[u8],
     ) {
-        assert!(rt; put_all(sink, bytes) == answer);
-        assert!(rt; sink.written() == written);
+        let count = bytes.len();
+        assert!(rt;
+            put_all(sink, bytes) == answer,
+            "the answer at {count} bytes"
+        );
+        assert!(rt; sink.written() == written, "what is taken at {count} bytes");
     }
 
     #[test]
@@ -120,9 +129,9 @@ mod tests {
         let bytes = vec![in rt.alloc(); 7; PIECE_MOST + 1]?;
         let fail = vec![in rt.alloc(); 2]?;
         let mut sink = MemorySink::new(rt.alloc(), usize::MAX, 2 * PIECE_MOST, fail)?;
-        hold_put(&rt, &mut sink, &bytes, Err(Failed), &front);
-        hold_put(&rt, &mut sink, &[7], Ok(()), &bytes);
-        hold_put(&rt, &mut sink, b"", Ok(()), &bytes);
+        hold_bytes(&rt, &mut sink, &bytes, Err(Failed), &front);
+        hold_bytes(&rt, &mut sink, &[7], Ok(()), &bytes);
+        hold_bytes(&rt, &mut sink, b"", Ok(()), &bytes);
         Ok(())
     }
 }

@@ -27,7 +27,7 @@ fn read_file<F: Files>(
     Ok((answer, into))
 }
 
-/// Asserts what a read of this name answers, and what stands in the buffer then.
+/// Asserts what a read of this name answers, and what stands in the buffer then, with the `>` that stood there before.
 pub(crate) fn hold_read<F: Files>(
     rt: &impl Abort,
     alloc: Global,
@@ -37,12 +37,12 @@ pub(crate) fn hold_read<F: Files>(
     left: &str,
 ) -> Result<(), AllocError> {
     let (found, into) = read_file(alloc, files, name)?;
-    assert!(rt; found == answer, "at {name}");
-    assert!(rt; into.as_slice() == left.as_bytes(), "at {name}");
+    assert!(rt; found == answer, "the answer at {name}");
+    assert!(rt; into.as_slice() == left.as_bytes(), "the bytes at {name}");
     Ok(())
 }
 
-/// Asserts what a read of this name answers, and how many bytes stand in the buffer then.
+/// Asserts what a read of this name answers, and how many bytes stand in the buffer then, with the one that stood there before.
 pub(crate) fn hold_length<F: Files>(
     rt: &impl Abort,
     alloc: Global,
@@ -52,7 +52,7 @@ pub(crate) fn hold_length<F: Files>(
     left: usize,
 ) -> Result<(), AllocError> {
     let (found, into) = read_file(alloc, files, name)?;
-    assert!(rt; found == answer, "at {name}");
-    assert!(rt; into.len() == left, "at {name}");
+    assert!(rt; found == answer, "the answer at {name}");
+    assert!(rt; into.len() == left, "the number of bytes at {name}");
     Ok(())
 }

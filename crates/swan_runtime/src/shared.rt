@@ -31,20 +31,6 @@ pub(crate) struct SharedRun<B: Body, Q: Queues> {
     parts: Box<Parts<B, Q>>,
 }
 
-/// The root as the frame that is ready, and nobody that sleeps. Err is want of memory. It allocates twice.
-fn at_first<B: Body, Q: Queues>(
-    alloc: Global,
-    root: Frame<B, Q>,
-) -> Result<(Vec<Frame<B, Q>>, Asleep<B, Q>), NoMemory>
-    ensures ready { IfOk result (λ both. both.0.items ≡ root ∷ []) }
-    ensures asleep { (plan : Plan B B.Local) (run : List ℕ) → IfOk result (λ both. AsleepIsOfRun (ends_of Q.Ends.LocalEnds) plan run both.1) }
-{
-    let asleep = Asleep::new(alloc, root.number())?;
-    let mut ready = Vec::new(alloc);
-    ready.push(root)?;
-    Ok((ready, asleep))
-}
-
 impl<B: Body, Q: Queues> Model for SharedRun<B, Q> {
     ghost use Rattle.task_frames.specs.Resumes.{ends_of};
     ghost use Rattle.swan_runtime.specs.Shared.{IsShared, SharedView};
@@ -64,6 +50,20 @@ impl<B: Body, Q: Queues> Named for SharedRun<B, Q> {
     ghost done = { λ shared. shared.core.is_done };
 }
 
+/// The root as the frame that is ready, and nobody that sleeps. Err is want of memory. It allocates twice.
+fn at_first<B: Body, Q: Queues>(
+    alloc: Global,
+    root: Frame<B, Q>,
+) -> Result<(Vec<Frame<B, Q>>, Asleep<B, Q>), NoMemory>
+    ensures ready { IfOk result (λ both. both.0.items ≡ root ∷ []) }
+    ensures asleep { (plan : Plan B B.Local) (run : List ℕ) → IfOk result (λ both. AsleepIsOfRun (ends_of Q.Ends.LocalEnds) plan run both.1) }
+{
+    let asleep = Asleep::new(alloc, root.number())?;
+    let mut ready = Vec::new(alloc);
+    ready.push(root)?;
+    Ok((ready, asleep))
+}
+
 impl<B: Body, Q: Queues> SharedRun<B, Q> {
     /// What is shared at first: the root is ready. Err is want of memory. It allocates three times.
     pub fn new(
@@ -76,7 +76,7 @@ impl<B: Body, Q: Queues> SharedRun<B, Q> {
         ensures ready { IfOk result (λ shared. shared.ready ≡ root ∷ []) }
     {
         let Ok((ready, asleep)) = at_first(alloc, root) else {
-            // by a call, since what goes with its block is checked part by part in each place where it may go
+            // a call: a value that ends with its block is checked part by part in each place where it may end
             drop(core);
             return Err(NoMemory);
         };
