@@ -2,6 +2,7 @@
 
     python3 bench/dearest.py CRATE [NUMBER]           runs the check of the crate with its tests, one job
     rt .. | python3 bench/dearest.py - [NUMBER]       reads what such a command writes
+    python3 bench/dearest.py --modules CRATE [NUMBER] reads when the last check of the crate wrote each of its modules
     python3 bench/dearest.py --edits CRATE [NUMBER]   tries each wrong body of the crate by a check of a copy, one job
     python3 bench/dearest.py LOG [NUMBER]             reads the log of a whole gate, as `bench/gate.py --whole LOG` writes it
 
@@ -10,9 +11,14 @@ next: they grow on a machine that does other work too, but less than those by th
 check kept isn't checked again, also one in another checkout on this machine: where all is to be measured, no checkout may have an `out/` of the crate.
 
 What a function stands on is read when the first function needs it, and counts with that one. A large crate is checked some functions at a time,
-each time in a new process, which reads again; so does the gate for what wrong bodies begin with, but it proves a crate in one process. To
-see what one function takes itself, let a check keep the whole crate, change that function and one that is checked before it, and
-check again: what is read counts with the first.
+each time in a new process, which reads again; so does the gate for what wrong bodies begin with, but it proves a crate in one process.
+
+What a function takes itself is told better by its modules, of which a check writes some fifteen for each function, and one for each file
+of `specs/` and `proofs/`. Of each that the last check wrote it tells the seconds by the clock since the one before: first by function, the
+NUMBER longest, and then by module. Let the check go by one job, and from nothing, without the crate's `out/`, where all is to be told. What a
+new process reads counts with the first module that it writes. The module `Lts` holds the ways through the code, and grows with each place in
+which an owned value may end; `Proof` and `Tie` grow with what is left to show. So the check of a function gets shorter where what ends
+in several places is given up by `drop`, and where what is asserted of one row is a function of its own.
 
 Of wrong bodies it tells seconds of processors, and first those of a check in which nothing has changed: each wrong body costs that at least. The
 crate has to be proved before, since they begin with what its check kept.
@@ -25,6 +31,7 @@ begin with, ended meanwhile, these are counted there too, and of wrong bodies th
 is what ended from there until the first of the next. Tests and programs run alone at the end, so theirs are exact. Of a log whose lines have
 the minutes from the start alone it tells seconds by the clock, which say little of checks side by side.
 """
+import collections
 import pathlib
 import re
 import resource
@@ -41,6 +48,10 @@ CHECKED = re.compile(r"checked (\S+), \d+ of \d+")
 STARTS = re.compile(r"(?:library|statements|crate|so far: 0 of) ")
 STAMPED = re.compile(r"((?: *\d+\.\d\d)+) (?:==|rt:) (.*)")
 TRIES = re.compile(r"(\S+): trying its must-fail edits ")
+PART = re.compile(
+    r"(?:\+run)?\.(?:Answers|Carried|Code|Given|Goals|Instances|Invariants|Key|Kinds|Layout|Lts|Met|Mir|Named|Proof|Reads|Statement|Symbol"
+    r"|The[A-Z]\w*|Tie|decls)\b.*|\+run$"
+)
 CHECK = ["rt", "check", "--jobs", "1"]
 
 
@@ -85,6 +96,25 @@ def of_gate(lines):
             if what:
                 yield (stamps[-1] - last) * 60, f"{what}, after {stamps[0]:.1f} minutes"
                 last = stamps[-1]
+
+
+def written_by(crate):
+    """The seconds between the modules that the last check of a crate wrote, by function, and then by module."""
+    own = ROOT / "crates" / crate
+    if not own.is_dir():
+        raise SystemExit(f"there is no crate {crate}")
+    kept = [path for path in (own / "out" / "incremental").glob("*/*") if path.suffix == ".oantt" or path.name == "rattle-last-used"]
+    times = {path: path.stat().st_mtime for path in kept}
+    begun = max((at for path, at in times.items() if path.name == "rattle-last-used"), default=None)
+    if begun is None:
+        raise SystemExit(f"no check of {crate} has kept anything")
+    functions, modules, last = collections.Counter(), collections.Counter(), begun
+    for at, name in sorted((at, path.stem) for path, at in times.items() if path.suffix == ".oantt" and at >= begun):
+        name = re.sub(rf"^Rattle-{crate}-(?:proofs|specs)\.(?:contracts\.)?", "", name)
+        functions[PART.sub("", name)] += at - last
+        modules[name] += at - last
+        last = at
+    return functions, modules
 
 
 def copied(here, crate):
@@ -146,11 +176,15 @@ def tried(crate):
 
 def main(words):
     """Prints the longest of what the words name."""
-    edits = words[:1] == ["--edits"]
-    words = words[1:] if edits else words
+    option = words.pop(0) if words[:1] in (["--edits"], ["--modules"]) else None
     if not words:
         raise SystemExit(__doc__)
-    if edits:
+    most = int(words[1]) if len(words) > 1 else 10
+    if option == "--modules":
+        lists = ["\n".join(f"{seconds:8.1f} s  {name}" for name, seconds in part.most_common(most)) for part in written_by(words[0])]
+        print("\n\n".join(lists))
+        return
+    if option == "--edits":
         found = tried(words[0])
     elif words[0] == "-":
         found = timed(sys.stdin, time.monotonic)
@@ -158,7 +192,6 @@ def main(words):
         found = of_gate(pathlib.Path(words[0]).read_text(errors="replace").splitlines())
     else:
         found = of_crate(words[0])
-    most = int(words[1]) if len(words) > 1 else 10
     for seconds, name in sorted(found, reverse=True)[:most]:
         print(f"{seconds:8.1f} s  {name}")
 
