@@ -47,26 +47,12 @@ fn note(seat: &mut PoolSeat<Ball>, numbers: &mut Vec<u64>) -> Result<(), NoMemor
     Ok(())
 }
 
-/// A seat puts balls with the numbers from 0 to below the count.
-fn put_all(seat: &mut PoolSeat<Ball>, count: u64) -> Result<(), NoMemory> {
-    for number in 0..count {
-        put(seat, number)?;
-    }
-    Ok(())
-}
-
-/// A seat tries so often to take a ball, and the numbers of those that it gets are noted.
-fn note_all(seat: &mut PoolSeat<Ball>, tries: u64, numbers: &mut Vec<u64>) -> Result<(), NoMemory> {
-    for _turn in 0..tries {
-        note(seat, numbers)?;
-    }
-    Ok(())
-}
-
 /// The numbers of the balls that a seat gets by so many tries.
 fn taken_by(alloc: Global, mut seat: PoolSeat<Ball>, tries: u64) -> Result<Vec<u64>, NoMemory> {
     let mut numbers = Vec::new(alloc);
-    note_all(&mut seat, tries, &mut numbers)?;
+    for _turn in 0..tries {
+        note(&mut seat, &mut numbers)?;
+    }
     Ok(numbers)
 }
 
@@ -76,80 +62,44 @@ fn put_and_taken(
     mut seat: PoolSeat<Ball>,
     count: u64,
 ) -> Result<Vec<u64>, NoMemory> {
-    put_all(&mut seat, count)?;
-    taken_by(alloc, seat, count)
-}
-
-/// All numbers that two seats got.
-fn both(
-    first: Result<Vec<u64>, NoMemory>,
-    second: Result<Vec<u64>, NoMemory>,
-) -> Result<Vec<u64>, NoMemory> {
-    let mut numbers = first?;
-    numbers.append(&mut second?)?;
+    for number in 0..count {
+        put(&mut seat, number)?;
+    }
+    let mut numbers = Vec::new(alloc);
+    for _turn in 0..count {
+        note(&mut seat, &mut numbers)?;
+    }
     Ok(numbers)
 }
 
-/// Two seats of a pool.
-#[derive(Drop)]
-struct Two {
-    first: PoolSeat<Ball>,
-    second: PoolSeat<Ball>,
-}
-
-/// Takes the last two of these seats out.
-fn two_of(seats: &mut Vec<PoolSeat<Ball>>) -> Result<Two, Fail> {
-    let first = seats.pop().ok_or("no first seat")?;
-    let second = seats.pop().ok_or("no second seat")?;
-    Ok(Two { first, second })
-}
-
-/// What two seats got, of which one puts and takes in one thread, and the other takes in another thread.
+/// What one seat got that puts and takes in one thread, and what another took in another thread.
 fn one_puts<R: Threads>(
     rt: &R,
     alloc: Global,
-    seats: Two,
+    first: PoolSeat<Ball>,
+    second: PoolSeat<Ball>,
     count: u64,
-) -> Result<Vec<u64>, NoMemory> {
-    let Two { first, second } = seats;
-    let (first, second) = std::thread::join(
+) -> (Result<Vec<u64>, NoMemory>, Result<Vec<u64>, NoMemory>) {
+    std::thread::join(
         rt,
         move || put_and_taken(alloc, first, count),
         move || taken_by(alloc, second, count),
-    );
-    both(first, second)
+    )
 }
 
 /// What two seats got by so many tries, in two threads.
 fn both_take<R: Threads>(
     rt: &R,
     alloc: Global,
-    seats: Two,
+    first: PoolSeat<Ball>,
+    second: PoolSeat<Ball>,
     count: u64,
-) -> Result<Vec<u64>, NoMemory> {
-    let Two { first, second } = seats;
-    let (first, second) = std::thread::join(
+) -> (Result<Vec<u64>, NoMemory>, Result<Vec<u64>, NoMemory>) {
+    std::thread::join(
         rt,
         move || taken_by(alloc, first, count),
         move || taken_by(alloc, second, count),
-    );
-    both(first, second)
-}
-
-/// What four seats got in four threads, of which one puts so many balls.
-fn all_taken<R: Threads + Sync>(
-    rt: &R,
-    alloc: Global,
-    putting: Two,
-    taking: Two,
-    count: u64,
-) -> Result<Vec<u64>, NoMemory> {
-    let (first, second) = std::thread::join(
-        rt,
-        move || one_puts(rt, alloc, putting, count),
-        move || both_take(rt, alloc, taking, count),
-    );
-    both(first, second)
+    )
 }
 
 /// Whether these are the numbers from 0 to below the count, each once.
@@ -188,10 +138,21 @@ fn a_seat_takes_what_is_on_its_own_list_and_nobody_else_does(rt: HostRuntime) ->
 
 #[test]
 fn each_ball_goes_out_once_in_four_threads(rt: HostRuntime) -> Result<(), Fail> {
-    let mut seats = pool(rt.alloc(), &Ball { number: 0 }, 4)?;
-    let putting = two_of(&mut seats)?;
-    let taking = two_of(&mut seats)?;
-    let numbers = all_taken(&rt, rt.alloc(), putting, taking, 100_000)?;
+    let alloc = rt.alloc();
+    let mut seats = pool(alloc, &Ball { number: 0 }, 4)?;
+    let (Some(d), Some(c), Some(b), Some(a)) = (seats.pop(), seats.pop(), seats.pop(), seats.pop())
+    else {
+        panic!(rt; "there are four seats")
+    };
+    let ((first, second), (third, fourth)) = std::thread::join(
+        &rt,
+        || one_puts(&rt, alloc, a, b, 100_000),
+        || both_take(&rt, alloc, c, d, 100_000),
+    );
+    let mut numbers = first?;
+    numbers.append(&mut second?)?;
+    numbers.append(&mut third?)?;
+    numbers.append(&mut fourth?)?;
     assert!(rt; numbers.len() == 100_000 && are_all(numbers, 100_000));
     Ok(())
 }
