@@ -7,7 +7,7 @@
 //! left was worked out by hand from what each ask is to do, and is compared with the elision of the same plan too.
 //!
 //! Where a core may end in several places, it is given up by `drop`, which is a call: what ends with its block is checked part by part in each
-//! place where it may end, and that costs many times as much.
+//! place where it may end, which costs the check more.
 #![tactic(auto)]
 
 #[cfg(test)]
