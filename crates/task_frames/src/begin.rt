@@ -270,6 +270,7 @@ impl<B: Body, Q: Queues> Core<B, Q> {
         let queue_count = root_queues.len() as u32;
         let object_count = root_objects.len() as u32;
         let holdings = held(alloc, &root_queues, &root_objects)?;
+        let body = Arc::new(alloc, body)?;
         let mut kept = kept_at_first(
             alloc,
             &means,
@@ -278,10 +279,13 @@ impl<B: Body, Q: Queues> Core<B, Q> {
             root_objects,
             holdings.as_slice(),
         )?;
-        let body = Arc::new(alloc, body)?;
         let task = root_task(alloc, &means, fuel, holdings);
         let stage = Stage::Ready(root_local, Answer::Start);
-        let begun = FrameAtCore::begun(alloc, task, stage)?;
+        let Ok(begun) = FrameAtCore::begun(alloc, task, stage) else {
+            // by a call, since what ends with its block is checked part by part
+            drop(kept);
+            return Err(NoMemory);
+        };
         let root = kept.give(begun);
         let core = Core {
             plan: means,

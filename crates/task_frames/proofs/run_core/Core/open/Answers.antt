@@ -34,5 +34,5 @@ give-root-requires-clause-has g c κs within =
     c.root_task-task.ensures
     ∙ ap {B = Task g.row.B.Denot g.row.B-Local.Denot} (λ (p : Plan g.row.B.Denot g.row.B-Local.Denot). record (root_task p c.in_ok-holdings.holdings.items) { fuel = c.units-fuel.result }) means
     ∙ ap {B = Task g.row.B.Denot g.row.B-Local.Denot} (λ (hs : List Holding). record (root_task plan hs) { fuel = c.units-fuel.result }) held in
-    subst (HasIt g.B.Body _) (sym c.in_ok-begun.ensures)
+    subst (HasIt g.B.Body _) (sym c.in-Ok.ensures)
     (opened-has g.B.Body plan sound _ first task plan.root_local c.units-fuel.result c.units-fuel.ensures.units task-is refl)
