@@ -72,7 +72,11 @@ fn balanced(
     ensures { IsReadAs result (with_position position (balanced is_last position line)) }
 {
     let is_stray = position.is_stray_else(&line);
-    let next = position.after(alloc, &line)?;
+    let Ok(next) = position.after(alloc, &line) else {
+        // by a call, since what ends with its block is checked variant by variant
+        drop(line);
+        return Err(ReadLine::NoMemory);
+    };
     let leaves_open = is_last && next.is_open();
     in_balance(is_stray || leaves_open, line, next)
 }
@@ -82,6 +86,9 @@ fn in_balance(is_out: bool, line: Line, next: Position) -> Result<(Line, Positio
     ensures { IsReadAs result (if is_out then Err JobKind.Unbalanced else Ok (line, next)) }
 {
     if is_out {
+        // by calls, as above
+        drop(line);
+        drop(next);
         Err(ReadLine::Refused(JobKind::Unbalanced))
     } else {
         Ok((line, next))

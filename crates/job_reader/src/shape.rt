@@ -19,7 +19,11 @@ fn bare(tokens: &[&[u8]], line: Line) -> Result<Line, ReadLine>
 {
     match tokens {
         [] => Ok(line),
-        _ => Err(ReadLine::Refused(JobKind::BadLine)),
+        _ => {
+            // by a call, since what ends with its block is checked variant by variant
+            drop(line);
+            Err(ReadLine::Refused(JobKind::BadLine))
+        }
     }
 }
 
