@@ -1,8 +1,8 @@
 // From lines to instructions.
 ghost use Rattle.std.specs.Prelude.{◌≡◌, ◌<◌, ◌≤◌, length, flat_map, slice_get, zip, IfOk};
-ghost use Rattle.job_body.specs.Compiled.{TakeFew, after_end_of, action_of, assign_of, branch_of, end_action, give_given, instruction_of, int_op, next_of, num_of, or_zero, param_given, program_of, spawn_of, task_named};
+ghost use Rattle.job_body.specs.Compiled.{TakeFew, after_end_of, action_of, assign_of, branch_of, end_action, exits_of, give_given, instruction_of, int_op, next_of, num_of, or_zero, param_given, program_of, scope_before, spawn_of, task_named, tasks_of};
 ghost use Rattle.job_body.specs.Blocks.{innermost};
-ghost use Rattle.job_body.specs.Tasks.{before_task, var_kinds};
+ghost use Rattle.job_body.specs.Tasks.{before_task, roots, top_lines, var_kinds};
 
 use crate::block::BlockWithLine;
 use crate::exit::Exit;
@@ -277,6 +277,35 @@ fn instruction_of(
     Ok(Instruction { action, next })
 }
 
+/// The instructions of a job, one for each line, by its tasks, by how the block of each line goes on, and by what is known before the
+/// first one. `O(n log n)` for n lines, names and values of the job.
+fn instructions_of(
+    alloc: Global,
+    job: &Source,
+    tasks: &Tasks,
+    exits: &Vec<Exit>,
+    mut scope: Scope,
+) -> Result<Listed<Instruction>, NoMemory>
+    requires few { length job.now ≤ GIVES_MOST }
+    requires tasks { tasks.now ≡ tasks_of job.now }
+    requires exits { exits.now.items ≡ exits_of job.now }
+    requires scope { scope ≡ scope_before (roots (top_lines job.now)) }
+    ensures { IfOk result (λ program. program ≡ program_of job.now) }
+{
+    let lines = job.lines();
+    let mut program = Listed::new(alloc);
+    for (index, line) in lines.iter().enumerate() {
+        let exit = exits[index];
+        let at = index as u32;
+        let instruction = instruction_of(alloc, job, tasks, &scope, exit, at, line)?;
+        if program.push(instruction).is_err() {
+            return Err(NoMemory);
+        }
+        scope = scope.enter(alloc, at, line)?;
+    }
+    Ok(program)
+}
+
 /// The instructions of a job, one for each line. A job has fewer lines than a spawn may have gives.
 /// `O(n log n)` for n lines, names and values of the job.
 pub fn program_of(alloc: Global, lines: &[Line]) -> Result<Listed<Instruction>, NoMemory>
@@ -285,17 +314,7 @@ pub fn program_of(alloc: Global, lines: &[Line]) -> Result<Listed<Instruction>, 
 {
     let tasks = Tasks::of(alloc, lines)?;
     let exits = exits_of(alloc, lines)?;
+    let scope = Scope::new(alloc, roots_of(alloc, lines)?);
     let job = Source::new(lines, firsts_of(alloc, lines)?);
-    let mut scope = Scope::new(alloc, roots_of(alloc, lines)?);
-    let mut program = Listed::new(alloc);
-    for (index, line) in lines.iter().enumerate() {
-        let exit = exits[index];
-        let at = index as u32;
-        let instruction = instruction_of(alloc, &job, &tasks, &scope, exit, at, line)?;
-        if program.push(instruction).is_err() {
-            return Err(NoMemory);
-        }
-        scope = scope.enter(alloc, at, line)?;
-    }
-    Ok(program)
+    instructions_of(alloc, &job, &tasks, &exits, scope)
 }

@@ -1,10 +1,10 @@
 use Rattle.std.proofs.Common.{◌≡◌, ◌++◌, drop}
 use Rattle.job_body.specs.Compiled.{KnowsFew, instructions_from, program_of, seen_at}
-use Rattle.job_body.proofs.compile.program_of.Given as goal
+use Rattle.job_body.proofs.compile.instructions_of.Given as goal
 
 abbrev pub invariant-loop-index : goal.invariant-loop-index
 invariant-loop-index l = record {
   few : KnowsFew l.scope l.index;
-  known : l.scope ≡ seen_at l.lines l.index;
-  made : l.program ++ instructions_from l.lines l.index (drop l.index l.lines) ≡ program_of l.lines;
+  known : l.scope ≡ seen_at l.job l.index;
+  made : l.program ++ instructions_from l.job l.index (drop l.index l.job) ≡ program_of l.job;
 }
