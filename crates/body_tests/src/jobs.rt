@@ -153,11 +153,15 @@ fn next_step(
 
 /// What number a task pushes first, or the trouble by which it ends and the line of that step, as text.
 fn first_push(alloc: Global, body: &JobBody, root: JobLocal) -> Result<String, NoMemory> {
-    let mut at = (root, Answer::Start);
+    let mut local = root;
+    let mut answer = Answer::Start;
     for steps in 0..200u64 {
-        match next_step(alloc, body, at.0, at.1, steps)? {
+        match next_step(alloc, body, local, answer, steps)? {
             Stepped::Told(told) => return Ok(told),
-            Stepped::GoesOn(local, answer) => at = (local, answer),
+            Stepped::GoesOn(after, next_answer) => {
+                local = after;
+                answer = next_answer;
+            }
         }
     }
     Err(NoMemory)
