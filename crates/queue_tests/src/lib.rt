@@ -7,21 +7,32 @@
 //! its table is.
 #![tactic(auto)]
 
+#[cfg(test)]
 mod calls;
+#[cfg(test)]
 mod ends;
+#[cfg(test)]
 mod harness;
+#[cfg(test)]
 mod many;
 mod step;
+#[cfg(test)]
 mod tables;
 #[cfg(test)]
 mod tests;
+#[cfg(test)]
 mod wrong;
 
+#[cfg(test)]
 pub use ends::lend_two;
+#[cfg(test)]
 pub use harness::run;
+#[cfg(test)]
 pub use many::push_many;
 pub use step::Step;
+#[cfg(test)]
 pub use tables::{
     CHILD_QUEUE_ENDS, FIRST_ITEMS, GRANDCHILD, PUSHER_BETWEEN_POPPERS, TWO_CHILDREN, TWO_PUSHERS,
 };
+#[cfg(test)]
 pub use wrong::{Wrong, WrongStep};

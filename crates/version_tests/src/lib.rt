@@ -6,10 +6,12 @@
 //! check, however long it is.
 #![tactic(auto)]
 
+#[cfg(test)]
 mod harness;
 mod step;
 #[cfg(test)]
 mod tests;
 
+#[cfg(test)]
 pub use harness::run;
 pub use step::Step;
