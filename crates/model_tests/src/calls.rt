@@ -1,37 +1,61 @@
 // Values, records, paths, lists and lines.
-use std::alloc::Global;
+use std::alloc::{AllocError, Global};
+use std::process::Abort;
 use std::test::Fail;
 use swan_model::{
     Give, Gives, Kind, LINES_MOST, LinesAnswer, Mode, Path, RECORD_MOST, Record, RecordAnswer,
     RootQueue, Roots, Value, Values, Word, lines_of,
 };
 
-/// Whether a record of these bytes is made, and its copy has them.
-fn record_is_copied(alloc: Global, bytes: &[u8]) -> Result<bool, Fail> {
-    let record = Record::of(alloc, bytes).ok().ok_or("no record")?;
-    let again = record.copy().ok().ok_or("no copy")?;
-    Ok(again.as_slice() == bytes)
+/// Whether the copy of a record is made, and has these bytes.
+fn copy_has(record: &Record, bytes: &[u8]) -> bool {
+    match record.copy() {
+        Ok(again) => again.as_slice() == bytes,
+        Err(_) => false,
+    }
+}
+
+/// Whether a record of these bytes is made, and copied.
+fn record_is_copied(alloc: Global, bytes: &[u8]) -> bool {
+    match Record::of(alloc, bytes) {
+        Ok(record) => copy_has(&record, bytes),
+        Err(_) => false,
+    }
 }
 
 /// Whether a word of this text is made, and has it.
-fn word_is_made(alloc: Global, text: &str) -> Result<bool, Fail> {
-    let word = Word::of(alloc, text).ok().ok_or("no word")?;
-    Ok(word.as_str() == text)
+fn word_is_made(alloc: Global, text: &str) -> bool {
+    match Word::of(alloc, text) {
+        Ok(word) => word.as_str() == text,
+        Err(_) => false,
+    }
 }
 
 #[test]
-fn texts_are_made_and_copied(rt: HostRuntime) -> Result<(), Fail> {
-    assert!(rt; record_is_copied(rt.alloc(), b"ab")?);
-    assert!(rt; word_is_made(rt.alloc(), "ab")?);
-    Ok(())
+fn texts_are_made_and_copied(rt: HostRuntime) {
+    assert!(rt; record_is_copied(rt.alloc(), b"ab"));
+    assert!(rt; word_is_made(rt.alloc(), "ab"));
+}
+
+/// Whether the copy of a path is made, and has this one part.
+fn copy_has_part(path: &Path, part: u32) -> bool {
+    match path.copy() {
+        Ok(again) => again.parts() == [part].as_slice(),
+        Err(_) => false,
+    }
+}
+
+/// Whether the path of a child of the root with this number is made, and copied.
+fn child_is_copied(alloc: Global, number: u32) -> bool {
+    match Path::root(alloc).child(number) {
+        Ok(path) => copy_has_part(&path, number),
+        Err(_) => false,
+    }
 }
 
 #[test]
-fn paths_are_made_and_copied(rt: HostRuntime) -> Result<(), Fail> {
-    let path = Path::root(rt.alloc()).child(3).ok().ok_or("no child")?;
-    let path = path.copy().ok().ok_or("no copy")?;
-    assert!(rt; path.parts() == [3].as_slice());
-    Ok(())
+fn paths_are_made_and_copied(rt: HostRuntime) {
+    assert!(rt; child_is_copied(rt.alloc(), 3));
 }
 
 // How long a value is, or one less than a number.
@@ -42,117 +66,171 @@ fn size_of(value: &Value) -> i64 {
     }
 }
 
-/// The copy of the zero of a kind.
-fn zero_of(alloc: Global, kind: Kind) -> Result<Value, Fail> {
-    let zero = Value::zero(alloc, kind).ok().ok_or("no zero")?;
-    Ok(zero.copy().ok().ok_or("no copy")?)
+/// Whether the copy of a value is made, and is of this kind and size.
+fn copy_is(value: &Value, kind: Kind, size: i64) -> bool {
+    match value.copy() {
+        Ok(again) => again.kind() == kind && size_of(&again) == size,
+        Err(_) => false,
+    }
+}
+
+/// Whether the zero of a kind is made, is of this size, and is copied.
+fn zero_is_copied(alloc: Global, kind: Kind, size: i64) -> bool {
+    match Value::zero(alloc, kind) {
+        Ok(zero) => copy_is(&zero, kind, size),
+        Err(_) => false,
+    }
 }
 
 #[test]
-fn zeros_are_made_and_copied(rt: HostRuntime) -> Result<(), Fail> {
-    for (kind, size) in [(Kind::Int, -1), (Kind::Bytes, 0)] {
-        let zero = zero_of(rt.alloc(), kind)?;
-        assert!(rt; zero.kind() == kind);
-        assert_eq!(rt; size_of(&zero), size);
-    }
-    Ok(())
+fn zeros_are_made_and_copied(rt: HostRuntime) {
+    assert!(rt; zero_is_copied(rt.alloc(), Kind::Int, -1));
+    assert!(rt; zero_is_copied(rt.alloc(), Kind::Bytes, 0));
+}
+
+/// Whether one value is listed.
+fn is_one(values: &Values) -> bool {
+    values.len() == 1 && values.get(0).is_some() && values.get(1).is_none()
 }
 
 #[test]
 fn values_are_listed(rt: HostRuntime) {
     let mut values = Values::new(rt.alloc());
-    assert!(rt; values.push(Value::Int(7)).is_ok());
-    assert_eq!(rt; values.len(), 1);
-    assert!(rt; values.get(0).is_some());
-    assert!(rt; values.get(1).is_none());
+    let is_pushed = values.push(Value::Int(7)).is_ok();
+    let is_listed = is_one(&values);
+    drop(values);
+    assert!(rt; is_pushed);
+    assert!(rt; is_listed);
 }
 
 #[test]
-fn gives_and_roots_are_listed(rt: HostRuntime) {
+fn gives_are_listed(rt: HostRuntime) {
     let mut gives = Gives::new(rt.alloc());
     let mode = Mode::In;
-    assert!(rt; gives.push(Give { place: 0, mode }).is_ok());
-    assert!(rt; gives.copy(rt.alloc()).is_ok());
+    let is_pushed = gives.push(Give { place: 0, mode }).is_ok();
+    let is_copied = gives.copy(rt.alloc()).is_ok();
+    drop(gives);
+    assert!(rt; is_pushed);
+    assert!(rt; is_copied);
+}
+
+#[test]
+fn roots_are_listed(rt: HostRuntime) {
     let mut roots = Roots::new(rt.alloc());
     let items = Values::new(rt.alloc());
     let mode = Mode::Pop;
-    assert!(rt; roots.push_queue(RootQueue { mode, items }).is_ok());
-    assert!(rt; roots.push_object(Value::Int(1)).is_ok());
+    let has_queue = roots.push_queue(RootQueue { mode, items }).is_ok();
+    let has_object = roots.push_object(Value::Int(1)).is_ok();
+    drop(roots);
+    assert!(rt; has_queue);
+    assert!(rt; has_object);
+}
+
+/// What a record that copies these bytes is refused with.
+fn refusal_of(alloc: Global, bytes: &[u8]) -> Option<RecordAnswer> {
+    Record::of(alloc, bytes).err()
+}
+
+/// What a record that takes these bytes over is refused with.
+fn refusal_from(bytes: Vec<u8>) -> Option<RecordAnswer> {
+    Record::from_vec(bytes).err()
+}
+
+/// Asserts what a record of so many bytes is refused with.
+fn hold_length(
+    rt: &impl Abort,
+    alloc: Global,
+    length: usize,
+    answer: Option<RecordAnswer>,
+) -> Result<(), AllocError> {
+    let bytes = vec![in alloc; 7u8; length]?;
+    let found = refusal_of(alloc, bytes.as_slice());
+    assert!(rt; found == answer, "at {length} bytes");
+    assert!(rt; refusal_from(bytes) == answer, "of {length} bytes");
+    Ok(())
 }
 
 #[test]
 fn a_record_has_a_largest_length(rt: HostRuntime) -> Result<(), Fail> {
-    for (len, answer) in [
-        (0usize, None),
-        (RECORD_MOST, None),
-        (RECORD_MOST + 1, Some(RecordAnswer::TooLong)),
-    ] {
-        let bytes = vec![in rt.alloc(); 7u8; len]?;
-        assert_eq!(rt;
-            Record::of(rt.alloc(), bytes.as_slice()).err(),
-            answer,
-            "at {len} bytes"
-        );
-        assert_eq!(rt; Record::from_vec(bytes).err(), answer, "of {len} bytes");
-    }
+    let too_long = Some(RecordAnswer::TooLong);
+    hold_length(&rt, rt.alloc(), 0, None)?;
+    hold_length(&rt, rt.alloc(), RECORD_MOST, None)?;
+    hold_length(&rt, rt.alloc(), RECORD_MOST + 1, too_long)?;
     Ok(())
 }
 
-// The lengths of the lines of a text, as digits.
-fn lengths_of(rt: &HostRuntime, text: &str) -> Result<String, Fail> {
-    let mut lengths = String::new(rt.alloc());
-    let lines = lines_of(rt.alloc(), text.as_bytes()).ok().ok_or("refused")?;
-    for line in lines.as_slice() {
-        write!(lengths, "{}", size_of(line))?;
+/// Whether these values have these sizes.
+fn have_sizes(values: &[Value], sizes: &[i64]) -> bool {
+    for (index, value) in values.iter().enumerate() {
+        match sizes.get(index) {
+            Some(size) if *size == size_of(value) => {}
+            _ => return false,
+        }
     }
-    Ok(lengths)
+    values.len() == sizes.len()
+}
+
+/// Whether a text has lines of these sizes.
+fn lines_have(alloc: Global, text: &str, sizes: &[i64]) -> bool {
+    match lines_of(alloc, text.as_bytes()) {
+        Ok(lines) => have_sizes(lines.as_slice(), sizes),
+        Err(_) => false,
+    }
 }
 
 #[test]
-fn lines_are_the_pieces_between_line_feeds(rt: HostRuntime) -> Result<(), Fail> {
-    for (text, want) in [
-        ("", ""),
-        ("\n", "0"),
-        ("a", "1"),
-        ("a\n", "1"),
-        ("ab\n\nc", "201"),
-        ("a\r\n", "2"),
-    ] {
-        let lengths = lengths_of(&rt, text)?;
-        assert_eq!(rt; lengths.as_str(), want, "of {text:?}");
-    }
-    Ok(())
+fn lines_are_the_pieces_between_line_feeds(rt: HostRuntime) {
+    assert!(rt; lines_have(rt.alloc(), "", &[]));
+    assert!(rt; lines_have(rt.alloc(), "\n", &[0]));
+    assert!(rt; lines_have(rt.alloc(), "a", &[1]));
+    assert!(rt; lines_have(rt.alloc(), "a\n", &[1]));
+    assert!(rt; lines_have(rt.alloc(), "ab\n\nc", &[2, 0, 1]));
+    assert!(rt; lines_have(rt.alloc(), "a\r\n", &[2]));
 }
 
 // So many empty lines, and then a line of this many bytes, if of any.
-fn text_of(rt: &HostRuntime, empty: usize, last: usize) -> Result<Vec<u8>, Fail> {
-    let mut text = vec![in rt.alloc(); b'\n'; empty]?;
-    let line = vec![in rt.alloc(); b'x'; last]?;
+fn text_of(alloc: Global, empty: usize, last: usize) -> Result<Vec<u8>, AllocError> {
+    let mut text = vec![in alloc; b'\n'; empty]?;
+    let line = vec![in alloc; b'x'; last]?;
     text.extend_from_slice(line.as_slice())?;
     Ok(text)
 }
 
+/// What a text is refused with.
+fn answer_of(alloc: Global, text: &[u8]) -> Option<LinesAnswer> {
+    lines_of(alloc, text).err()
+}
+
+/// Asserts what an input of so many empty lines and a line of this many bytes is refused with.
+fn hold_input(
+    rt: &impl Abort,
+    alloc: Global,
+    empty: usize,
+    last: usize,
+    answer: Option<LinesAnswer>,
+) -> Result<(), AllocError> {
+    let text = text_of(alloc, empty, last)?;
+    let found = answer_of(alloc, text.as_slice());
+    drop(text);
+    assert!(rt; found == answer, "of {empty} and {last}");
+    Ok(())
+}
+
 #[test]
-fn an_input_is_refused_at_its_limits(rt: HostRuntime) -> Result<(), Fail> {
-    let long = RECORD_MOST + 1;
-    for (empty, last, answer) in [
-        (1usize, RECORD_MOST, None),
-        (1, long, Some(LinesAnswer::TooLong { line: 2 })),
-        (LINES_MOST, 0, None),
-        (LINES_MOST + 1, 0, Some(LinesAnswer::TooMany)),
-        (
-            LINES_MOST - 1,
-            long,
-            Some(LinesAnswer::TooLong { line: 1_000_000 }),
-        ),
-        (LINES_MOST, long, Some(LinesAnswer::TooMany)),
-    ] {
-        let text = text_of(&rt, empty, last)?;
-        assert_eq!(rt;
-            lines_of(rt.alloc(), text.as_slice()).err(),
-            answer,
-            "of {empty} and {last}"
-        );
-    }
+fn an_input_is_refused_past_its_lines(rt: HostRuntime) -> Result<(), Fail> {
+    let too_many = Some(LinesAnswer::TooMany);
+    hold_input(&rt, rt.alloc(), LINES_MOST, 0, None)?;
+    hold_input(&rt, rt.alloc(), LINES_MOST + 1, 0, too_many)?;
+    hold_input(&rt, rt.alloc(), LINES_MOST, RECORD_MOST + 1, too_many)?;
+    Ok(())
+}
+
+#[test]
+fn an_input_is_refused_at_its_first_long_line(rt: HostRuntime) -> Result<(), Fail> {
+    let second = Some(LinesAnswer::TooLong { line: 2 });
+    let last = Some(LinesAnswer::TooLong { line: 1_000_000 });
+    hold_input(&rt, rt.alloc(), 1, RECORD_MOST, None)?;
+    hold_input(&rt, rt.alloc(), 1, RECORD_MOST + 1, second)?;
+    hold_input(&rt, rt.alloc(), LINES_MOST - 1, RECORD_MOST + 1, last)?;
     Ok(())
 }

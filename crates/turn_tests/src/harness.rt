@@ -45,16 +45,28 @@ fn does(turns: &mut PopTurns, step: Step) -> Result<bool, NoMemory>
     }
 }
 
+/// Takes these steps. Ok holds the first one that is answered otherwise, counted from 0. Err is want of memory.
+fn takes(turns: &mut PopTurns, steps: &[Step]) -> Result<Option<usize>, NoMemory>
+    requires { allows_steps turns.old steps.now ≡ true }
+{
+    for (index, step) in steps.iter().enumerate() {
+        if !does(turns, *step)? {
+            return Ok(Some(index));
+        }
+    }
+    Ok(None)
+}
+
 /// Takes these steps on turns with no frames. Err names the first step that is answered
 /// otherwise, counted from 0.
 pub fn run(alloc: Global, steps: &[Step]) -> Result<(), Fail>
     requires { allows_steps [] steps.now ≡ true }
 {
     let mut turns = PopTurns::new(alloc);
-    for (index, step) in steps.iter().enumerate() {
-        if !does(&mut turns, *step)? {
-            return Err(Fail::new(format_args!("another answer at step {index}")));
-        }
+    let taken = takes(&mut turns, steps);
+    drop(turns);
+    match taken? {
+        Some(index) => Err(Fail::new(format_args!("another answer at step {index}"))),
+        None => Ok(()),
     }
-    Ok(())
 }
