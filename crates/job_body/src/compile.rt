@@ -1,7 +1,8 @@
 // From lines to instructions.
-ghost use Rattle.std.specs.Prelude.{◌≡◌, ◌<◌, ◌≤◌, length, flat_map, slice_get, zip, IfOk};
+ghost use Rattle.std.specs.Prelude.{◌≡◌, ◌<◌, ◌≤◌, ◌++◌, ◌∷◌, [], length, flat_map, slice_get, zip, IfOk, OnOk};
 ghost use Rattle.job_body.specs.Compiled.{TakeFew, after_end_of, action_of, assign_of, branch_of, end_action, exits_of, give_given, instruction_of, int_op, next_of, num_of, or_zero, param_given, program_of, scope_before, spawn_of, task_named, tasks_of};
 ghost use Rattle.job_body.specs.Blocks.{innermost};
+ghost use Rattle.job_body.specs.declared.instruction.Action.TheVariants as action;
 ghost use Rattle.job_body.specs.Tasks.{before_task, roots, top_lines, var_kinds};
 
 use crate::block::BlockWithLine;
@@ -107,8 +108,16 @@ fn spawn_of(
         )));
     };
     let index = TaskIndex::new(task.index.index());
-    let params = params_of(alloc, scope, task.takes.as_slice(), args.as_slice())?;
-    let gives = gives_of(alloc, scope, task.takes.as_slice(), args.as_slice())?;
+    let takes = task.takes.as_slice();
+    let Ok(params) = params_of(alloc, scope, takes, args.as_slice()) else {
+        drop(fuel);
+        return Err(NoMemory);
+    };
+    let Ok(gives) = gives_of(alloc, scope, takes, args.as_slice()) else {
+        drop(fuel);
+        drop(params);
+        return Err(NoMemory);
+    };
     Ok(Action::Demand(Demand::Spawn(fuel, index, params, gives)))
 }
 
@@ -162,6 +171,23 @@ fn assign_of(op: Op, slot: Option<u32>, a: Operand, b: Operand, c: Operand) -> W
     }
 }
 
+/// An assignment to this slot of what an operation makes of its arguments.
+fn assignment(scope: &Scope, slot: Option<u32>, op: Op, args: &Atoms) -> Result<Action, NoMemory>
+    ensures { IfOk result (λ made. made ≡ action.Work (assign_of op slot (or_zero scope.now (slice_get args.now 0)) (or_zero scope.now (slice_get args.now 1)) (or_zero scope.now (slice_get args.now 2)))) }
+{
+    let first = argument(scope, args, 0)?;
+    let Ok(second) = argument(scope, args, 1) else {
+        drop(first);
+        return Err(NoMemory);
+    };
+    let Ok(third) = argument(scope, args, 2) else {
+        drop(first);
+        drop(second);
+        return Err(NoMemory);
+    };
+    Ok(Action::Work(assign_of(op, slot, first, second, third)))
+}
+
 /// A branch: where an atom is false, the task goes on from the line at an index.
 fn branch_of(job: &Source, scope: &Scope, a: &Atom, otherwise: u32) -> Result<Action, NoMemory>
     ensures { IfOk result (λ action. action ≡ branch_of job.now scope.now a.now otherwise) }
@@ -202,13 +228,7 @@ fn action_of(
         )?))),
         Line::Queue(_, _) => Ok(Action::Demand(Demand::NewQueue)),
         Line::Object(_, kind) => Ok(Action::Demand(Demand::NewObject(*kind))),
-        Line::Assign(v, op, args) => Ok(Action::Work(assign_of(
-            *op,
-            scope.slot(v),
-            argument(scope, args, 0)?,
-            argument(scope, args, 1)?,
-            argument(scope, args, 2)?,
-        ))),
+        Line::Assign(v, op, args) => assignment(scope, scope.slot(v), *op, args),
         Line::Read(v, o) => Ok(Action::Demand(Demand::Read(scope.slot(v), scope.place(o)))),
         Line::Write(o, a) => Ok(Action::Demand(Demand::Write(scope.place(o), scope.operand(a)?))),
         Line::Push(q, a) => Ok(Action::Demand(Demand::Push(scope.place(q), scope.operand(a)?))),
@@ -277,8 +297,61 @@ fn instruction_of(
     Ok(Instruction { action, next })
 }
 
+/// Adds the instruction of a line.
+fn add_instruction(
+    alloc: Global,
+    job: &Source,
+    tasks: &Tasks,
+    scope: &Scope,
+    exit: Exit,
+    index: u32,
+    line: &Line,
+    program: &mut Listed<Instruction>,
+) -> Result<(), NoMemory>
+    requires short { length job.now ≤ GIVES_MOST }
+    requires within { index < length job.now }
+    requires few { TakeFew tasks.now }
+    ensures { OnOk result (program.new ≡ program.old ++ instruction_of job.now tasks.now scope.now exit index line.now ∷ []) }
+{
+    let instruction = instruction_of(alloc, job, tasks, scope, exit, index, line)?;
+    match program.push(instruction) {
+        Ok(()) => Ok(()),
+        Err(back) => {
+            drop(back);
+            Err(NoMemory)
+        }
+    }
+}
+
+/// Adds the instructions of a job to none, one for each line, by its tasks, by how the block of each line goes on, and by what is
+/// known before the first one. `O(n log n)` for n lines, names and values of the job.
+fn add_instructions(
+    alloc: Global,
+    job: &Source,
+    tasks: &Tasks,
+    exits: &Vec<Exit>,
+    scope: &mut Scope,
+    program: &mut Listed<Instruction>,
+) -> Result<(), NoMemory>
+    requires few { length job.now ≤ GIVES_MOST }
+    requires tasks { tasks.now ≡ tasks_of job.now }
+    requires exits { exits.now.items ≡ exits_of job.now }
+    requires scope { scope.old ≡ scope_before (roots (top_lines job.now)) }
+    requires none { program.old ≡ [] }
+    ensures { OnOk result (program.new ≡ program_of job.now) }
+{
+    let lines = job.lines();
+    for (index, line) in lines.iter().enumerate() {
+        let exit = exits[index];
+        let at = index as u32;
+        add_instruction(alloc, job, tasks, scope, exit, at, line, program)?;
+        scope.enter(alloc, at, line)?;
+    }
+    Ok(())
+}
+
 /// The instructions of a job, one for each line, by its tasks, by how the block of each line goes on, and by what is known before the
-/// first one. `O(n log n)` for n lines, names and values of the job.
+/// first one.
 fn instructions_of(
     alloc: Global,
     job: &Source,
@@ -292,18 +365,37 @@ fn instructions_of(
     requires scope { scope ≡ scope_before (roots (top_lines job.now)) }
     ensures { IfOk result (λ program. program ≡ program_of job.now) }
 {
-    let lines = job.lines();
     let mut program = Listed::new(alloc);
-    for (index, line) in lines.iter().enumerate() {
-        let exit = exits[index];
-        let at = index as u32;
-        let instruction = instruction_of(alloc, job, tasks, &scope, exit, at, line)?;
-        if program.push(instruction).is_err() {
-            return Err(NoMemory);
+    let added = add_instructions(alloc, job, tasks, exits, &mut scope, &mut program);
+    drop(scope);
+    match added {
+        Ok(()) => Ok(program),
+        Err(refusal) => {
+            drop(program);
+            Err(refusal)
         }
-        scope = scope.enter(alloc, at, line)?;
     }
-    Ok(program)
+}
+
+/// The instructions of the job that has these lines, by its tasks, and by how the block of each line goes on.
+fn program_by(
+    alloc: Global,
+    lines: &[Line],
+    tasks: &Tasks,
+    exits: &Vec<Exit>,
+) -> Result<Listed<Instruction>, NoMemory>
+    requires few { length lines.now ≤ GIVES_MOST }
+    requires tasks { tasks.now ≡ tasks_of lines.now }
+    requires exits { exits.now.items ≡ exits_of lines.now }
+    ensures { IfOk result (λ program. program ≡ program_of lines.now) }
+{
+    let job = Source::new(lines, firsts_of(alloc, lines)?);
+    let program = match roots_of(alloc, lines) {
+        Ok(roots) => instructions_of(alloc, &job, tasks, exits, Scope::new(alloc, roots)),
+        Err(refusal) => Err(refusal),
+    };
+    drop(job);
+    program
 }
 
 /// The instructions of a job, one for each line. A job has fewer lines than a spawn may have gives.
@@ -313,8 +405,10 @@ pub fn program_of(alloc: Global, lines: &[Line]) -> Result<Listed<Instruction>, 
     ensures { IfOk result (λ program. program ≡ program_of lines.now) }
 {
     let tasks = Tasks::of(alloc, lines)?;
-    let exits = exits_of(alloc, lines)?;
-    let scope = Scope::new(alloc, roots_of(alloc, lines)?);
-    let job = Source::new(lines, firsts_of(alloc, lines)?);
-    instructions_of(alloc, &job, &tasks, &exits, scope)
+    let program = match exits_of(alloc, lines) {
+        Ok(exits) => program_by(alloc, lines, &tasks, &exits),
+        Err(refusal) => Err(refusal),
+    };
+    drop(tasks);
+    program
 }

@@ -1,11 +1,12 @@
 // Names in order.
-ghost use Rattle.std.specs.Prelude.{◌≡◌, ◌∷◌, ◌++◌, ◌<◌, ◌≤◌, [], length, ℕ, List, IfOk, IfSome};
+ghost use Rattle.std.specs.Prelude.{◌≡◌, ◌∷◌, ◌++◌, ◌<◌, ◌≤◌, [], length, ℕ, List, IfOk, IfSome, OnOk};
 ghost use Rattle.job_body.specs.Names.{slot, with_place};
 ghost use Rattle.std.specs.BTreeMap.{get_by_text};
 
 use std::alloc::Global;
 use std::collections::BTreeMap;
 use std::marker::Model;
+use std::mem;
 use swan_model::{NoMemory, Word, Words};
 
 /// The largest number of names of a table, far more than a job has lines. So no job reaches it, and three tables have
@@ -75,8 +76,8 @@ impl NameTable {
         self.places.get(name.as_str()).copied()
     }
 
-    /// The table with one more name after the others. `O(log names)`, and a few allocations.
-    pub fn with(self, alloc: Global, name: &Word) -> Result<NameTable, NoMemory>
+    /// The table with one more name after the others.
+    fn with(self, alloc: Global, name: &Word) -> Result<NameTable, NoMemory>
         requires { length self < NAMES_MOST }
         ensures { IfOk result (λ table. table ≡ self ++ name.now ∷ []) }
     {
@@ -88,5 +89,14 @@ impl NameTable {
             return Err(NoMemory);
         }
         Ok(NameTable { names, places })
+    }
+    /// Adds a name after the others. An Err is want of memory, and leaves no name. `O(log names)`, and a few allocations.
+    pub fn add(&mut self, alloc: Global, name: &Word) -> Result<(), NoMemory>
+        requires { length self.old < NAMES_MOST }
+        ensures { OnOk result (self.new ≡ self.old ++ name.now ∷ []) }
+    {
+        let before = mem::replace(self, NameTable::new(alloc));
+        *self = before.with(alloc, name)?;
+        Ok(())
     }
 }

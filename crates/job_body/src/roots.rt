@@ -16,7 +16,7 @@ fn with_queues(alloc: Global, mut names: NameTable, lines: &[Line]) -> Result<Na
     for line in lines {
         match line {
             Line::Task(_) => break,
-            Line::Input(name) | Line::Output(name, _) => names = names.with(alloc, name)?,
+            Line::Input(name) | Line::Output(name, _) => names.add(alloc, name)?,
             _ => {}
         }
     }
@@ -31,7 +31,7 @@ fn with_objects(alloc: Global, mut names: NameTable, lines: &[Line]) -> Result<N
     for line in lines {
         match line {
             Line::Task(_) => break,
-            Line::Object(name, _) => names = names.with(alloc, name)?,
+            Line::Object(name, _) => names.add(alloc, name)?,
             _ => {}
         }
     }

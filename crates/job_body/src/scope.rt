@@ -44,7 +44,7 @@ fn joined(first: Option<u32>, count: u32, second: Option<u32>) -> Option<u32>
 }
 
 impl Scope {
-    ghost use Rattle.std.specs.Prelude.{◌≡◌, ◌<◌, ◌≤◌, ◌+◌, ◌++◌, length, IfOk, IfSome};
+    ghost use Rattle.std.specs.Prelude.{◌≡◌, ◌<◌, ◌≤◌, ◌+◌, ◌++◌, length, IfOk, IfSome, OnOk};
     ghost use Rattle.job_body.specs.Compiled.{KnowsFew, scope_past, scope_past_task, operand_of, place_in, place_of_atom, places_in, roots_in, scope_before, slot_in};
     ghost use Rattle.job_body.specs.Names.{slot};
     ghost use Rattle.privilege_check.specs.Names.{is_main};
@@ -64,35 +64,36 @@ impl Scope {
         }
     }
 
-    /// What is known after the `task` line of a task.
-    fn enter_task(self, alloc: Global, name: &Word) -> Scope
-        ensures { result ≡ scope_past_task self.roots name.now }
+    /// Goes on past the `task` line of a task: of what was known, the roots stay.
+    fn enter_task(&mut self, alloc: Global, name: &Word)
+        ensures { self.new ≡ scope_past_task self.old.roots name.now }
     {
-        let mut scope = Scope::new(alloc, self.roots);
-        scope.is_main = is_main(name);
-        scope
+        self.is_main = is_main(name);
+        self.params = NameTable::new(alloc);
+        self.vars = NameTable::new(alloc);
+        self.accesses = NameTable::new(alloc);
+        self.made = NameTable::new(alloc);
+        self.blocks = BlocksWithLines::new(alloc);
     }
 
-    /// What is known after a line with this index. `O(log names)`.
-    pub fn enter(mut self, alloc: Global, index: u32, line: &Line) -> Result<Scope, NoMemory>
-        requires few { KnowsFew self index }
+    /// Goes on past a line with this index. An Err is want of memory, and what is known then tells nothing. `O(log names)`.
+    pub fn enter(&mut self, alloc: Global, index: u32, line: &Line) -> Result<(), NoMemory>
+        requires few { KnowsFew self.old index }
         requires within { index < NAMES_MOST }
-        ensures { IfOk result (λ scope. scope ≡ scope_past index self line.now) }
+        ensures { OnOk result (self.new ≡ scope_past index self.old line.now) }
     {
         match line {
-            Line::Task(name) => return Ok(self.enter_task(alloc, name)),
-            Line::Param(name, _) => self.params = self.params.with(alloc, name)?,
-            Line::Var(name, _) => self.vars = self.vars.with(alloc, name)?,
-            Line::Access(_, name, _) => self.accesses = self.accesses.with(alloc, name)?,
-            Line::Queue(name, _) | Line::Object(name, _) => {
-                self.made = self.made.with(alloc, name)?;
-            }
+            Line::Task(name) => self.enter_task(alloc, name),
+            Line::Param(name, _) => self.params.add(alloc, name)?,
+            Line::Var(name, _) => self.vars.add(alloc, name)?,
+            Line::Access(_, name, _) => self.accesses.add(alloc, name)?,
+            Line::Queue(name, _) | Line::Object(name, _) => self.made.add(alloc, name)?,
             Line::If(_) => self.blocks.open(BlockWithLine::If)?,
             Line::While(_) => self.blocks.open(BlockWithLine::While(index))?,
             Line::End => self.blocks.close(),
             _ => {}
         }
-        Ok(self)
+        Ok(())
     }
 
     /// The slot of a variable, and None where the name isn't known. `O(log names)`.

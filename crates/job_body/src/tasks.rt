@@ -1,5 +1,5 @@
 // The tasks of a job.
-use crate::name_table::NameTable;
+use crate::name_table::{NAMES_MOST, NameTable};
 use crate::take::Take;
 use crate::task_index::TaskIndex;
 use job_reader::Line;
@@ -49,31 +49,45 @@ impl Task {
 }
 
 impl Tasks {
-    ghost use Rattle.std.specs.Prelude.{◌≡◌, ◌≤◌, length, IfOk};
+    ghost use Rattle.std.specs.Prelude.{◌≡◌, ◌∷◌, ◌++◌, ◌<◌, ◌≤◌, [], length, IfOk, OnOk};
     ghost use Rattle.std.specs.Option.{option_copied};
     ghost use Rattle.job_body.specs.Compiled.{task_named, tasks_of};
+
+    /// Adds a task of this name after the others. An Err is want of memory, and the names tell nothing then.
+    fn add(&mut self, alloc: Global, name: &Word, task: Task) -> Result<(), NoMemory>
+        requires { length self.old.names < NAMES_MOST }
+        ensures { OnOk result (self.new ≡ record { names = self.old.names ++ name.now ∷ []; tasks = self.old.tasks ++ task ∷ [] }) }
+    {
+        if self.names.add(alloc, name).is_err() {
+            drop(task);
+            return Err(NoMemory);
+        }
+        match self.tasks.push(task) {
+            Ok(()) => Ok(()),
+            Err(back) => {
+                drop(back);
+                Err(NoMemory)
+            }
+        }
+    }
 
     /// The tasks of a job. `O(lines log tasks)`.
     pub fn of(alloc: Global, lines: &[Line]) -> Result<Tasks, NoMemory>
         requires few { length lines.now ≤ GIVES_MOST }
         ensures { IfOk result (λ tasks. tasks ≡ tasks_of lines.now) }
     {
-        let mut names = NameTable::new(alloc);
-        let mut tasks = Listed::new(alloc);
+        let mut all = Tasks {
+            names: NameTable::new(alloc),
+            tasks: Listed::new(alloc),
+        };
         for (index, line) in lines.iter().enumerate() {
             if let Line::Task(name) = line {
                 let takes = Task::takes_of(alloc, &lines[index + 1..])?;
-                names = names.with(alloc, name)?;
-                let task = Task {
-                    index: TaskIndex::new(index as u32),
-                    takes,
-                };
-                if tasks.push(task).is_err() {
-                    return Err(NoMemory);
-                }
+                let index = TaskIndex::new(index as u32);
+                all.add(alloc, name, Task { index, takes })?;
             }
         }
-        Ok(Tasks { names, tasks })
+        Ok(all)
     }
 
     /// The task of this name, and None where there is none. `O(log tasks)`.

@@ -4,7 +4,7 @@ use Rattle.job_body.proofs.tasks.Tasks.of.Given as goal
 
 abbrev pub invariant-loop-index : goal.invariant-loop-index
 invariant-loop-index l = record {
-  names : l.names ++ flat_map name_of_task (drop l.index l.lines) ≡ flat_map name_of_task l.lines;
-  few : length l.names ≤ l.index;
-  tasks : l.tasks ++ tasks_from l.index (drop l.index l.lines) ≡ tasks_from 0 l.lines;
+  names : l.all.names ++ flat_map name_of_task (drop l.index l.lines) ≡ flat_map name_of_task l.lines;
+  few : length l.all.names ≤ l.index;
+  tasks : l.all.tasks ++ tasks_from l.index (drop l.index l.lines) ≡ tasks_from 0 l.lines;
 }

@@ -1,6 +1,6 @@
 use Rattle.std.proofs.Common.{◌≡◌, ◌++◌, drop}
 use Rattle.job_body.specs.Compiled.{KnowsFew, instructions_from, program_of, seen_at}
-use Rattle.job_body.proofs.compile.instructions_of.Given as goal
+use Rattle.job_body.proofs.compile.add_instructions.Given as goal
 
 abbrev pub invariant-loop-index : goal.invariant-loop-index
 invariant-loop-index l = record {

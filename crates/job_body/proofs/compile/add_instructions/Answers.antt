@@ -7,7 +7,7 @@ use Rattle.job_body.proofs.FewTakes.{few_takes}
 use Rattle.job_body.proofs.Known.{seen-next}
 use Rattle.job_body.proofs.Suffixes.{exit_is, length_exits}
 use Rattle.swan_model.proofs.Lists.{drop_next}
-use Rattle.job_body.proofs.compile.instructions_of.Goals as goal
+use Rattle.job_body.proofs.compile.add_instructions.Goals as goal
 
 pub index-exit-requires : goal.index-exit-requires
 index-exit-requires c =
@@ -24,25 +24,23 @@ loop-index-preserved c =
     c.index-exit.ensures
     ∙ ap (λ exits. get_or exits c.loop-index.index c.index-exit.result.now) c.requires.exits
     ∙ exit_is c.args.job.now c.loop-index.index c.index-exit.result.now within in
-    let made : c.in_ok-instruction.instruction ≡ instruction_of c.args.job.now (tasks_of c.args.job.now) (seen_at c.args.job.now c.loop-index.index) (exit_at c.args.job.now c.loop-index.index) c.loop-index.index c.index-lines-index.result =
-    c.in_ok-instruction.ensures
-    ∙ ap (λ tasks. instruction_of c.args.job.now tasks c.loop-index.scope c.index-exit.result.now c.loop-index.index c.index-lines-index.result) c.requires.tasks
-    ∙ ap (λ scope. instruction_of c.args.job.now (tasks_of c.args.job.now) scope c.index-exit.result.now c.loop-index.index c.index-lines-index.result) c.loop-index.invariant.known
-    ∙ ap (λ exit. instruction_of c.args.job.now (tasks_of c.args.job.now) (seen_at c.args.job.now c.loop-index.index) exit c.loop-index.index c.index-lines-index.result) exit in
-    let pushed : c.push.new.self ≡ c.loop-index.program ++ c.in_ok-instruction.instruction ∷ [] = search rules in
+    let pushed : c.add_instruction.new.program ≡ c.loop-index.program ++ instruction_of c.args.job.now (tasks_of c.args.job.now) (seen_at c.args.job.now c.loop-index.index) (exit_at c.args.job.now c.loop-index.index) c.loop-index.index c.index-lines-index.result ∷ [] =
+    c.in_ok-add_instruction.ensures
+    ∙ ap (λ tasks. c.loop-index.program ++ instruction_of c.args.job.now tasks c.loop-index.scope c.index-exit.result.now c.loop-index.index c.index-lines-index.result ∷ []) c.requires.tasks
+    ∙ ap (λ scope. c.loop-index.program ++ instruction_of c.args.job.now (tasks_of c.args.job.now) scope c.index-exit.result.now c.loop-index.index c.index-lines-index.result ∷ []) c.loop-index.invariant.known
+    ∙ ap (λ exit. c.loop-index.program ++ instruction_of c.args.job.now (tasks_of c.args.job.now) (seen_at c.args.job.now c.loop-index.index) exit c.loop-index.index c.index-lines-index.result ∷ []) exit in
     record {
-      few = subst (λ scope. KnowsFew scope (c.loop-index.index + 1)) (sym c.in_ok-scope.ensures) (knows_more _ c.loop-index.scope c.index-lines-index.result c.loop-index.index c.loop-index.invariant.few);
+      few = subst (λ scope. KnowsFew scope (c.loop-index.index + 1)) (sym c.in_ok-enter.ensures) (knows_more _ c.loop-index.scope c.index-lines-index.result c.loop-index.index c.loop-index.invariant.few);
       known =
-          c.in_ok-scope.ensures
+          c.in_ok-enter.ensures
           ∙ ap (λ scope. scope_past c.loop-index.index scope c.index-lines-index.result) c.loop-index.invariant.known
           ∙ seen-next c.args.job.now c.loop-index.index c.index-lines-index.result line;
       made =
           ap (λ program. program ++ instructions_from c.args.job.now (c.loop-index.index + 1) (drop (c.loop-index.index + 1) c.args.job.now)) pushed
-          ∙ append_assoc c.loop-index.program (c.in_ok-instruction.instruction ∷ []) (instructions_from c.args.job.now (c.loop-index.index + 1) (drop (c.loop-index.index + 1) c.args.job.now))
-          ∙ ap (λ instruction. c.loop-index.program ++ instruction ∷ instructions_from c.args.job.now (c.loop-index.index + 1) (drop (c.loop-index.index + 1) c.args.job.now)) made
+          ∙ append_assoc c.loop-index.program (instruction_of c.args.job.now (tasks_of c.args.job.now) (seen_at c.args.job.now c.loop-index.index) (exit_at c.args.job.now c.loop-index.index) c.loop-index.index c.index-lines-index.result ∷ []) (instructions_from c.args.job.now (c.loop-index.index + 1) (drop (c.loop-index.index + 1) c.args.job.now))
           ∙ ap (λ rest. c.loop-index.program ++ instructions_from c.args.job.now c.loop-index.index rest) (sym (drop_next c.args.job.now c.loop-index.index c.index-lines-index.result line))
           ∙ c.loop-index.invariant.made;
     }
 
-pub instruction_of-requires-clause-few : goal.instruction_of-requires-clause-few
-instruction_of-requires-clause-few c = subst TakeFew (sym c.requires.tasks) (few_takes c.args.job.now c.requires.few)
+pub add_instruction-requires-clause-few : goal.add_instruction-requires-clause-few
+add_instruction-requires-clause-few c = subst TakeFew (sym c.requires.tasks) (few_takes c.args.job.now c.requires.few)
