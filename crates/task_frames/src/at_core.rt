@@ -126,15 +126,29 @@ pub struct StagedTask<B: Body> {
 }
 
 impl<B: Body> StagedTask<B> {
+    /// Stands so to its next step. `O(1)`.
+    pub fn stands(&mut self, stage: Stage<B::Local>)
+        ensures { self.new ≡ record self.old { stage = Some stage } }
+    {
+        self.stage = Some(stage);
+    }
+
     /// Takes the step in whose middle it is, and is told this. `O(1)`.
     pub fn is_told(&mut self, answer: Answer)
         requires few { self.old.task.done < COUNT_MOST }
         ensures { (local : B.Local) (ask : Asked B.Local) (at : ℕ) → self.old.stage ≡ Some (Asking local ask at)
             → self.new ≡ record self.old { task = one_on self.old.task; stage = Some (Ready local answer) } }
     {
-        if let Some(Stage::Asking(local, _, _)) = self.stage.take() {
-            self.task.takes_step();
-            self.stage = Some(Stage::Ready(local, answer));
+        match self.stage.take() {
+            Some(Stage::Asking(local, ask, _)) => {
+                drop(ask);
+                self.task.takes_step();
+                self.stands(Stage::Ready(local, answer));
+            }
+            other => {
+                drop(other);
+                drop(answer);
+            }
         }
     }
 }

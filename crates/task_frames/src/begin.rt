@@ -203,14 +203,26 @@ fn kept_at_first<B: Body, Q: Queues>(
     ensures kept { IfOk result (λ kept. IsKeptAtFirst (script B.Body plan.now.means) (length root_queues) (length root_objects) holdings.now kept) }
     ensures run { IfOk result (λ kept. kept.run ≡ Q.run queues) }
 {
-    let live = root_alone(alloc, holdings)?;
     let first_place = root_queues.len() as u32;
-    let reading = make_queues(plan, &mut queues, root_queues)?;
+    let Ok(reading) = make_queues(plan, &mut queues, root_queues) else {
+        drop(queues);
+        drop(root_objects);
+        return Err(NoMemory);
+    };
+    let Ok(first) = make_objects(alloc, plan, first_place, reading, root_objects) else {
+        drop(queues);
+        return Err(NoMemory);
+    };
+    let Ok(live) = root_alone(alloc, holdings) else {
+        drop(queues);
+        drop(first);
+        return Err(NoMemory);
+    };
     let FirstObjects {
         versions,
         reading,
         made,
-    } = make_objects(alloc, plan, first_place, reading, root_objects)?;
+    } = first;
     Ok(Kept {
         queues,
         versions,

@@ -196,18 +196,18 @@ impl<B: Body, Q: Queues> Frame<B, Q> {
         match staged.stage.take() {
             None => unreachable!(),
             Some(Stage::Asking(local, ask, place)) => {
-                staged.stage = Some(Stage::Asking(local, ask, place));
+                staged.stands(Stage::Asking(local, ask, place));
                 return Ok(0);
             }
             Some(Stage::Ready(local, answer)) => {
                 let fuel = staged.task.fuel();
                 if fuel == 0 {
-                    staged.stage = Some(Stage::Ready(local, answer));
+                    staged.stands(Stage::Ready(local, answer));
                     return Ok(0);
                 }
                 let row = take_row(alloc, body, local, answer, fuel, budget)?;
                 staged.task.goes_on(row.works, row.fuel);
-                staged.stage = Some(row.stage);
+                staged.stands(row.stage);
                 Ok(row.works)
             }
         }

@@ -65,6 +65,7 @@ impl FramesByNumber {
         if let Some(before) = self.newest.take() {
             if self.older.insert(self.newest_number, before).is_err() {
                 self.older.clear();
+                drop(frame);
                 return Err(NoMemory);
             }
         }

@@ -96,9 +96,10 @@ impl<B: Body> MidStep<B> {
     {
         let Child {
             local: begins,
-            gives: _,
+            gives,
             fuel,
         } = child;
+        drop(gives);
         let MidStep {
             staged,
             local,
@@ -120,8 +121,13 @@ impl<B: Body> MidStep<B> {
             children: 0,
         };
         let stage = Stage::Ready(begins, Answer::Start);
-        let spawned = FrameAtCore::begun(alloc, begun, stage)?;
-        Ok(Step::Spawned(parent, spawned))
+        match FrameAtCore::begun(alloc, begun, stage) {
+            Ok(spawned) => Ok(Step::Spawned(parent, spawned)),
+            Err(refusal) => {
+                drop(parent);
+                Err(refusal)
+            }
+        }
     }
 }
 
