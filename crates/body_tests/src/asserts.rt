@@ -6,6 +6,11 @@ pub fn are_same(one: &str, other: &str) -> bool {
     one == other
 }
 
+/// The statements of a row of a table, and what stands after ` => `.
+pub fn parts_of(row: &str) -> Option<(&str, &str)> {
+    row.split_once(" => ")
+}
+
 /// Asserts that no row is named.
 pub fn assert_none(rt: &impl Abort, row: Option<&str>) {
     assert_eq!(rt; row, None);

@@ -1,11 +1,10 @@
 // Jobs of tests, and what their first task does.
-use crate::asserts::{are_same, assert_none};
+use crate::asserts::{are_same, assert_none, parts_of};
 use job_body::{JobBody, JobLocal, plan_of};
 use job_reader::{Job, read_job};
 use privilege_check::{CheckedJob, check};
 use std::alloc::Global;
 use std::process::Abort;
-use std::test::Fail;
 use swan_model::{Answer, Ask, Blob, Body, NoMemory, Plan, Record, Trouble, Value};
 
 /// The job that a text is, which is not refused.
@@ -117,7 +116,7 @@ pub fn step(
 
 /// What a step of a task comes to.
 #[derive(Drop)]
-enum Stepped {
+pub enum Stepped {
     /// This is told of it.
     Told(String),
     /// The task goes on here, and is answered this.
@@ -125,7 +124,7 @@ enum Stepped {
 }
 
 /// What an ask of this line comes to, after so many steps.
-fn after_ask(
+pub fn after_ask(
     alloc: Global,
     moved: JobLocal,
     ask: &Ask<JobLocal>,
@@ -138,6 +137,17 @@ fn after_ask(
     }
 }
 
+/// What a step of this line comes to, after so many steps.
+fn after_step(
+    alloc: Global,
+    stepped: (JobLocal, Ask<JobLocal>),
+    line: u64,
+    steps: u64,
+) -> Result<Stepped, NoMemory> {
+    let (moved, ask) = stepped;
+    after_ask(alloc, moved, &ask, line, steps)
+}
+
 /// Takes a step of a task after so many.
 fn next_step(
     alloc: Global,
@@ -147,8 +157,8 @@ fn next_step(
     steps: u64,
 ) -> Result<Stepped, NoMemory> {
     let line = body.place(&local);
-    let (moved, ask) = step(alloc, body, local, answer, 199u64.saturating_sub(steps))?;
-    after_ask(alloc, moved, &ask, line, steps)
+    let stepped = step(alloc, body, local, answer, 199u64.saturating_sub(steps))?;
+    after_step(alloc, stepped, line, steps)
 }
 
 /// What number a task pushes first, or the trouble by which it ends and the line of that step, as text.
@@ -178,37 +188,39 @@ pub fn told_one_by_one(alloc: Global, statements: &str) -> Result<String, NoMemo
     first_push(alloc, &body, local)
 }
 
-/// Whether a row of a table is so. It has statements, which come after `prefix`, ` => `, and what is told of them.
-fn is_so_one_by_one(alloc: Global, row: &str, prefix: &str) -> Result<bool, NoMemory> {
-    let Some((statements, want)) = row.split_once(" => ") else {
-        return Ok(false);
-    };
+/// What is told of statements that come after `prefix`.
+fn told_with(alloc: Global, prefix: &str, statements: &str) -> Result<String, NoMemory> {
     let statements = format!(in alloc; "{prefix}{statements}")?;
-    let told = told_one_by_one(alloc, statements.as_str())?;
-    Ok(are_same(told.as_str(), want))
+    told_one_by_one(alloc, statements.as_str())
+}
+
+/// Whether this is told of statements that come after `prefix`.
+fn is_told(alloc: Global, prefix: &str, statements: &str, want: &str) -> bool {
+    match told_with(alloc, prefix, statements) {
+        Ok(told) => are_same(told.as_str(), want),
+        Err(_) => false,
+    }
+}
+
+/// Whether a row of a table is so. It has statements, which come after `prefix`, ` => `, and what is told of them.
+fn is_so_one_by_one(alloc: Global, row: &str, prefix: &str) -> bool {
+    match parts_of(row) {
+        Some((statements, want)) => is_told(alloc, prefix, statements, want),
+        None => false,
+    }
 }
 
 /// The first row of a table that isn't so, if there is one.
-fn first_wrong_one_by_one<'a>(
-    alloc: Global,
-    table: &'a str,
-    prefix: &str,
-) -> Result<Option<&'a str>, NoMemory> {
+fn first_wrong_one_by_one<'a>(alloc: Global, table: &'a str, prefix: &str) -> Option<&'a str> {
     for row in table.lines() {
-        if !is_so_one_by_one(alloc, row, prefix)? {
-            return Ok(Some(row));
+        if !is_so_one_by_one(alloc, row, prefix) {
+            return Some(row);
         }
     }
-    Ok(None)
+    None
 }
 
 /// Asserts the rows of such a table.
-pub fn hold_one_by_one(
-    rt: &impl Abort,
-    alloc: Global,
-    table: &str,
-    prefix: &str,
-) -> Result<(), Fail> {
-    assert_none(rt, first_wrong_one_by_one(alloc, table, prefix)?);
-    Ok(())
+pub fn hold_one_by_one(rt: &impl Abort, alloc: Global, table: &str, prefix: &str) {
+    assert_none(rt, first_wrong_one_by_one(alloc, table, prefix));
 }

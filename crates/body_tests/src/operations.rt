@@ -1,6 +1,5 @@
 // Each operation, at its edges too.
 use crate::jobs::hold_one_by_one;
-use std::test::Fail;
 
 /// Operations on numbers, and what each gives.
 const NUMBERS: &str = "\
@@ -107,31 +106,31 @@ v = set 16; while v; b = cat b b; b = cat b \"x\"; v = sub v 1; end; b = cat b \
 v = set 16; while v; b = cat b b; b = cat b \"x\"; v = sub v 1; end; b = cat b b => TooLong at 18";
 
 #[test]
-fn numbers_are_reckoned_with(rt: HostRuntime) -> Result<(), Fail> {
-    hold_one_by_one(&rt, rt.alloc(), NUMBERS, "v = ")
+fn numbers_are_reckoned_with(rt: HostRuntime) {
+    hold_one_by_one(&rt, rt.alloc(), NUMBERS, "v = ");
 }
 
 #[test]
-fn values_are_compared(rt: HostRuntime) -> Result<(), Fail> {
-    hold_one_by_one(&rt, rt.alloc(), COMPARISONS, "v = ")
+fn values_are_compared(rt: HostRuntime) {
+    hold_one_by_one(&rt, rt.alloc(), COMPARISONS, "v = ");
 }
 
 #[test]
-fn bytes_are_looked_at(rt: HostRuntime) -> Result<(), Fail> {
-    hold_one_by_one(&rt, rt.alloc(), BYTES, "v = ")
+fn bytes_are_looked_at(rt: HostRuntime) {
+    hold_one_by_one(&rt, rt.alloc(), BYTES, "v = ");
 }
 
 #[test]
-fn texts_of_numbers_are_read(rt: HostRuntime) -> Result<(), Fail> {
-    hold_one_by_one(&rt, rt.alloc(), TEXTS, "v = ")
+fn texts_of_numbers_are_read(rt: HostRuntime) {
+    hold_one_by_one(&rt, rt.alloc(), TEXTS, "v = ");
 }
 
 #[test]
-fn bytes_are_made(rt: HostRuntime) -> Result<(), Fail> {
-    hold_one_by_one(&rt, rt.alloc(), MADE, "")
+fn bytes_are_made(rt: HostRuntime) {
+    hold_one_by_one(&rt, rt.alloc(), MADE, "");
 }
 
 #[test]
-fn the_longest_record_takes_no_more(rt: HostRuntime) -> Result<(), Fail> {
-    hold_one_by_one(&rt, rt.alloc(), LONGEST, "")
+fn the_longest_record_takes_no_more(rt: HostRuntime) {
+    hold_one_by_one(&rt, rt.alloc(), LONGEST, "");
 }

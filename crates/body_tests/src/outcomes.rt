@@ -11,7 +11,7 @@ use std::alloc::Global;
 use std::process::Abort;
 use std::test::Fail;
 use swan_model::{
-    Answer, Ask, Body, FUEL_MOST, Fault, NoMemory, Outcome, Plan, PlanFuel, Record, Value,
+    Answer, Ask, Body, FUEL_MOST, Fault, NoMemory, Outcome, Plan, PlanFuel, Record, Value, Values,
 };
 
 /// The body of a job, of which each step is asked for alone.
@@ -79,18 +79,35 @@ fn push_values(alloc: Global, all: &mut String, values: &[Value]) -> Result<(), 
     Ok(())
 }
 
-/// What an outcome tells: the objects, what is left of the queues, and each fault with its line.
-fn text_of_outcome(alloc: Global, outcome: &Outcome) -> Result<String, NoMemory> {
-    let mut all = String::new(alloc);
-    push_values(alloc, &mut all, outcome.objects.as_slice())?;
-    for queue in outcome.queues.as_slice() {
+/// Adds the texts of what is left of queues.
+fn push_queues(alloc: Global, all: &mut String, queues: &[Values]) -> Result<(), NoMemory> {
+    for queue in queues {
         all.push_str("| ")?;
-        push_values(alloc, &mut all, queue.as_slice())?;
+        push_values(alloc, all, queue.as_slice())?;
     }
-    for fault in outcome.faults.as_slice() {
+    Ok(())
+}
+
+/// Adds the texts of faults.
+fn push_faults(alloc: Global, all: &mut String, faults: &[Fault]) -> Result<(), NoMemory> {
+    for fault in faults {
         let text = text_of_fault(alloc, fault)?;
         all.push_str(text.as_str())?;
     }
+    Ok(())
+}
+
+/// Adds what an outcome tells: the objects, what is left of the queues, and each fault with its line.
+fn push_outcome(alloc: Global, all: &mut String, outcome: &Outcome) -> Result<(), NoMemory> {
+    push_values(alloc, all, outcome.objects.as_slice())?;
+    push_queues(alloc, all, outcome.queues.as_slice())?;
+    push_faults(alloc, all, outcome.faults.as_slice())
+}
+
+/// What an outcome tells.
+fn text_of_outcome(alloc: Global, outcome: &Outcome) -> Result<String, NoMemory> {
+    let mut all = String::new(alloc);
+    push_outcome(alloc, &mut all, outcome)?;
     Ok(all)
 }
 

@@ -1,13 +1,13 @@
 // Steps of work in a row.
 ghost use Rattle.std.specs.Prelude.{◌<◌};
 
-use crate::asserts::{are_same, assert_none, assert_text};
-use crate::jobs::{answer_to, main_with, step, told_by};
+use crate::asserts::{are_same, assert_none, assert_text, parts_of};
+use crate::jobs::{Stepped, after_ask, main_with, step};
 use job_body::{JobBody, JobLocal};
 use std::alloc::Global;
 use std::process::Abort;
 use std::test::Fail;
-use swan_model::{Answer, Ask, Body, NoMemory, Stop, Worked};
+use swan_model::{Answer, Body, NoMemory, Stop, Worked};
 
 /// What stands before the statements, which begin at line 13. The first step makes the queue.
 pub const HEAD: &str = "\
@@ -58,9 +58,10 @@ struct Run {
     steps: u64,
 }
 
-/// What is told where the fuel ends before the step of this line.
-fn text_of_fuel(alloc: Global, line: u64) -> Result<String, NoMemory> {
-    Ok(format!(in alloc; "Fuel at {line}")?)
+/// What is told where so much fuel ends before the step of this line.
+fn out_of_fuel(alloc: Global, line: u64, fuel: u64) -> Result<Run, NoMemory> {
+    let what = format!(in alloc; "Fuel at {line}")?;
+    Ok(Run { what, steps: fuel })
 }
 
 /// Takes steps of work in a row.
@@ -77,42 +78,43 @@ fn work<B: Body>(
     body.work(alloc, local, answer, fuel, budget)
 }
 
-/// What an ask that ends a row at this line is answered after so many steps, and what is told of it.
-fn told_at(
-    alloc: Global,
-    ask: &Ask<JobLocal>,
-    place: u64,
-    steps: u64,
-) -> Result<(Answer, Option<String>), NoMemory> {
-    let what = told_by(alloc, ask, place)?;
-    let answer = answer_to(alloc, ask, steps)?;
-    Ok((answer, what))
-}
-
-/// What a row of steps leaves: what the task is answered next, the fuel, and what is told of its ask.
+/// What a row of steps comes to.
 #[derive(Drop)]
-struct Taken {
-    local: JobLocal,
-    answer: Answer,
-    left: u64,
-    what: Option<String>,
+enum Taken {
+    /// This is told of its ask.
+    Told(Run),
+    /// The task goes on here, is answered this, and has so much fuel.
+    GoesOn(JobLocal, Answer, u64),
 }
 
-/// What a row leaves that ended with this ask, and with so much of the fuel.
-fn ended_row(
+/// What a row comes to that ended with this ask, and with so much of the fuel.
+fn after_stop(
     alloc: Global,
     local: JobLocal,
     stop: &Stop<JobLocal>,
     fuel: u64,
     left: u64,
 ) -> Result<Taken, NoMemory> {
-    let (answer, what) = told_at(alloc, &stop.ask, stop.place, fuel.saturating_sub(left))?;
-    Ok(Taken {
-        local,
-        answer,
-        left,
-        what,
-    })
+    let steps = fuel.saturating_sub(left);
+    match after_ask(alloc, local, &stop.ask, stop.place, steps)? {
+        Stepped::Told(what) => Ok(Taken::Told(Run { what, steps })),
+        Stepped::GoesOn(local, answer) => Ok(Taken::GoesOn(local, answer, left)),
+    }
+}
+
+/// What a row comes to that began with so much of the fuel.
+fn after_row(
+    alloc: Global,
+    worked: Worked<JobLocal>,
+    fuel: u64,
+    left: u64,
+) -> Result<Taken, NoMemory> {
+    let Worked { local, works, stop } = worked;
+    let left = left.saturating_sub(works);
+    match stop {
+        Some(stop) => after_stop(alloc, local, &stop, fuel, left.saturating_sub(1)),
+        None => Ok(Taken::GoesOn(local, Answer::Nothing, left)),
+    }
 }
 
 /// Takes a row of steps by this budget, with what is left of the fuel.
@@ -127,17 +129,8 @@ fn take_row(
 ) -> Result<Taken, NoMemory>
     requires { 0 < budget }
 {
-    let Worked { local, works, stop } = work(alloc, body, local, answer, left, budget)?;
-    let left = left.saturating_sub(works);
-    match &stop {
-        Some(stop) => ended_row(alloc, local, stop, fuel, left.saturating_sub(1)),
-        None => Ok(Taken {
-            local,
-            answer: Answer::Nothing,
-            left,
-            what: None,
-        }),
-    }
+    let worked = work(alloc, body, local, answer, left, budget)?;
+    after_row(alloc, worked, fuel, left)
 }
 
 /// What a task pushes first that takes its steps in rows by this budget; or the trouble by which it ends; or
@@ -155,25 +148,19 @@ fn told_of(
     let mut answer = Answer::Start;
     let mut left = fuel;
     for _ in 0..fuel.saturating_add(1) {
-        let Taken {
-            local: moved,
-            answer: next,
-            left: rest,
-            what,
-        } = take_row(alloc, body, local, answer, fuel, left, budget)?;
-        if let Some(what) = what {
-            let steps = fuel.saturating_sub(rest);
-            return Ok(Run { what, steps });
+        match take_row(alloc, body, local, answer, fuel, left, budget)? {
+            Taken::Told(run) => return Ok(run),
+            Taken::GoesOn(moved, next, rest) => {
+                local = moved;
+                answer = next;
+                left = rest;
+            }
         }
-        local = moved;
-        answer = next;
-        left = rest;
         if left == 0 {
             break;
         }
     }
-    let what = text_of_fuel(alloc, body.place(&local))?;
-    Ok(Run { what, steps: fuel })
+    out_of_fuel(alloc, body.place(&local), fuel)
 }
 
 /// What `main` tells with these statements.
@@ -184,69 +171,96 @@ fn told_in_rows(alloc: Global, statements: &str, fuel: u64, budget: u64) -> Resu
     told_of(alloc, &body, local, fuel, budget)
 }
 
-/// Whether a row of the table is so by this budget.
-fn is_so_in_rows(alloc: Global, row: &str, budget: u64) -> Result<bool, NoMemory>
+/// Whether `main` tells this with these statements by this budget.
+fn is_told_in_rows(alloc: Global, statements: &str, want: &str, budget: u64) -> bool
     requires { 0 < budget }
 {
-    let Some((statements, want)) = row.split_once(" => ") else {
-        return Ok(false);
-    };
-    let told = told_in_rows(alloc, statements, 200, budget)?;
-    Ok(are_same(told.what.as_str(), want))
+    match told_in_rows(alloc, statements, 200, budget) {
+        Ok(told) => are_same(told.what.as_str(), want),
+        Err(_) => false,
+    }
+}
+
+/// Whether a row of the table is so by this budget.
+fn is_so_in_rows(alloc: Global, row: &str, budget: u64) -> bool
+    requires { 0 < budget }
+{
+    match parts_of(row) {
+        Some((statements, want)) => is_told_in_rows(alloc, statements, want, budget),
+        None => false,
+    }
 }
 
 /// The first loop of the table that tells something else by this budget, if there is one.
-fn first_wrong_in_rows(alloc: Global, budget: u64) -> Result<Option<&'static str>, NoMemory>
+fn first_wrong_in_rows(alloc: Global, budget: u64) -> Option<&'static str>
     requires { 0 < budget }
 {
     for row in LOOPS.lines() {
-        if !is_so_in_rows(alloc, row, budget)? {
-            return Ok(Some(row));
+        if !is_so_in_rows(alloc, row, budget) {
+            return Some(row);
         }
     }
-    Ok(None)
+    None
+}
+
+/// Whether `main` tells this by a budget of one more than so many steps, and after so many.
+fn is_told_past(alloc: Global, statements: &str, want: &str, steps: u64) -> bool {
+    match told_in_rows(alloc, statements, 200, steps.saturating_add(1)) {
+        Ok(told) => told.steps == steps && are_same(told.what.as_str(), want),
+        Err(_) => false,
+    }
+}
+
+/// How many steps `main` takes with these statements, by rows of one.
+fn steps_of(alloc: Global, statements: &str) -> Result<u64, NoMemory> {
+    let told = told_in_rows(alloc, statements, 200, 1)?;
+    Ok(told.steps)
+}
+
+/// Whether `main` tells this by a budget of one more than there are steps, and after as many steps.
+fn is_told_past_its_steps(alloc: Global, statements: &str, want: &str) -> bool {
+    match steps_of(alloc, statements) {
+        Ok(steps) => is_told_past(alloc, statements, want, steps),
+        Err(_) => false,
+    }
 }
 
 /// Whether a row of the table is so by a budget of one more than there are steps, and after as many steps.
-fn is_so_past_its_steps(alloc: Global, row: &str) -> Result<bool, NoMemory> {
-    let Some((statements, want)) = row.split_once(" => ") else {
-        return Ok(false);
-    };
-    let one = told_in_rows(alloc, statements, 200, 1)?;
-    let all = told_in_rows(alloc, statements, 200, one.steps.saturating_add(1))?;
-    Ok(are_same(all.what.as_str(), want) && all.steps == one.steps)
+fn is_so_past_its_steps(alloc: Global, row: &str) -> bool {
+    match parts_of(row) {
+        Some((statements, want)) => is_told_past_its_steps(alloc, statements, want),
+        None => false,
+    }
 }
 
 /// The first loop of the table that tells something else by a budget of one more than there are steps, or after
 /// another number of them, if there is one.
-fn first_wrong_past_its_steps(alloc: Global) -> Result<Option<&'static str>, NoMemory> {
+fn first_wrong_past_its_steps(alloc: Global) -> Option<&'static str> {
     for row in LOOPS.lines() {
-        if !is_so_past_its_steps(alloc, row)? {
-            return Ok(Some(row));
+        if !is_so_past_its_steps(alloc, row) {
+            return Some(row);
         }
     }
-    Ok(None)
+    None
 }
 
 /// Asserts the loops of the table by this budget.
-fn hold_in_rows(rt: &impl Abort, alloc: Global, budget: u64) -> Result<(), Fail>
+fn hold_in_rows(rt: &impl Abort, alloc: Global, budget: u64)
     requires { 0 < budget }
 {
-    assert_none(rt, first_wrong_in_rows(alloc, budget)?);
-    Ok(())
+    assert_none(rt, first_wrong_in_rows(alloc, budget));
 }
 
 #[test]
-fn rows_of_one_two_and_a_million_steps_tell_the_same(rt: HostRuntime) -> Result<(), Fail> {
-    hold_in_rows(&rt, rt.alloc(), 1)?;
-    hold_in_rows(&rt, rt.alloc(), 2)?;
-    hold_in_rows(&rt, rt.alloc(), 1_000_000)
+fn rows_of_one_two_and_a_million_steps_tell_the_same(rt: HostRuntime) {
+    hold_in_rows(&rt, rt.alloc(), 1);
+    hold_in_rows(&rt, rt.alloc(), 2);
+    hold_in_rows(&rt, rt.alloc(), 1_000_000);
 }
 
 #[test]
-fn a_row_of_one_more_than_there_are_steps_tells_the_same(rt: HostRuntime) -> Result<(), Fail> {
-    assert_none(&rt, first_wrong_past_its_steps(rt.alloc())?);
-    Ok(())
+fn a_row_of_one_more_than_there_are_steps_tells_the_same(rt: HostRuntime) {
+    assert_none(&rt, first_wrong_past_its_steps(rt.alloc()));
 }
 
 /// The lines at which a loop stands when its fuel ends, with 0 units and more.
@@ -276,14 +290,17 @@ fn hold_ends(rt: &impl Abort, alloc: Global, statements: &str, budget: u64) -> R
     Ok(())
 }
 
+/// Asserts these lines by budgets of one, two and a million steps.
+fn hold_ends_by_each(rt: &impl Abort, alloc: Global, statements: &str) -> Result<(), Fail> {
+    hold_ends(rt, alloc, statements, 1)?;
+    hold_ends(rt, alloc, statements, 2)?;
+    hold_ends(rt, alloc, statements, 1_000_000)
+}
+
 #[test]
 fn fuel_ends_at_each_line_of_a_loop(rt: HostRuntime) -> Result<(), Fail> {
-    for statements in [COUNT, PUSHES] {
-        hold_ends(&rt, rt.alloc(), statements, 1)?;
-        hold_ends(&rt, rt.alloc(), statements, 2)?;
-        hold_ends(&rt, rt.alloc(), statements, 1_000_000)?;
-    }
-    Ok(())
+    hold_ends_by_each(&rt, rt.alloc(), COUNT)?;
+    hold_ends_by_each(&rt, rt.alloc(), PUSHES)
 }
 
 /// How many steps of work a row has.
@@ -297,24 +314,25 @@ fn text_of_ended_row(alloc: Global, works: u64, place: u64) -> Result<String, No
 }
 
 /// How many steps of work a row has, and the line of the ask that ends it, if one does.
-fn counted(worked: Worked<JobLocal>) -> (u64, Option<u64>) {
-    let Worked {
-        local: _,
-        works,
-        stop,
-    } = worked;
-    match stop {
-        Some(Stop { ask: _, place }) => (works, Some(place)),
-        None => (works, None),
+fn counted(worked: &Worked<JobLocal>) -> (u64, Option<u64>) {
+    match &worked.stop {
+        Some(stop) => (worked.works, Some(stop.place)),
+        None => (worked.works, None),
     }
 }
 
-/// The same, as text.
+/// How many steps of work a row has, and the line of the ask that ends it, if one does, as text.
 fn text_of_counted(alloc: Global, works: u64, place: Option<u64>) -> Result<String, NoMemory> {
     match place {
         Some(place) => text_of_ended_row(alloc, works, place),
         None => text_of_row(alloc, works),
     }
+}
+
+/// Takes the first step of a task.
+fn after_first(alloc: Global, body: &JobBody, root: JobLocal) -> Result<JobLocal, NoMemory> {
+    let stepped = step(alloc, body, root, Answer::Start, 199)?;
+    Ok(stepped.0)
 }
 
 /// Takes the first step of a task, and then a row of steps by this budget.
@@ -326,16 +344,33 @@ fn work_after_first(
 ) -> Result<Worked<JobLocal>, NoMemory>
     requires { 0 < budget }
 {
-    let (local, _ask) = step(alloc, body, root, Answer::Start, 199)?;
+    let local = after_first(alloc, body, root)?;
     work(alloc, body, local, Answer::Nothing, 199, budget)
 }
 
-/// How many steps of work a row has by this budget once the queue is made, and the line of the ask that ends it, if one does.
-fn row(alloc: Global, budget: u64) -> Result<String, NoMemory>
+/// The row of steps that the loop takes by this budget once the queue is made.
+fn work_of_count(alloc: Global, budget: u64) -> Result<Worked<JobLocal>, NoMemory>
     requires { 0 < budget }
 {
     let (body, local) = main_with(alloc, HEAD, COUNT)?;
-    let (works, place) = counted(work_after_first(alloc, &body, local, budget)?);
+    work_after_first(alloc, &body, local, budget)
+}
+
+/// How many steps of work that row has, and the line of the ask that ends it, if one does.
+fn count_of_row(alloc: Global, budget: u64) -> Result<(u64, Option<u64>), NoMemory>
+    requires { 0 < budget }
+{
+    let worked = work_of_count(alloc, budget)?;
+    let count = counted(&worked);
+    drop(worked);
+    Ok(count)
+}
+
+/// The same, as text.
+fn row(alloc: Global, budget: u64) -> Result<String, NoMemory>
+    requires { 0 < budget }
+{
+    let (works, place) = count_of_row(alloc, budget)?;
     text_of_counted(alloc, works, place)
 }
 
