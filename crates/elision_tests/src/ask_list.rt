@@ -54,19 +54,41 @@ impl Body for AskList {
         _fuel: u64,
     ) -> Result<(usize, Ask<usize>), NoMemory> {
         if local == self.fails {
+            drop(answer);
             return Err(NoMemory);
         }
-        let Some(ask) = self.asks.get(local) else {
-            return Ok((local, Ask::Finish));
-        };
-        match ask {
-            Ask::Push(place, value) => Ok((local + 1, Ask::Push(*place, told(answer, value)?))),
-            ask => Ok((local + 1, ask.copy(alloc)?)),
-        }
+        step(alloc, self.asks.as_slice(), local, answer)
     }
 
     fn place(&self, local: &usize) -> u64 {
         *local as u64
+    }
+}
+
+/// A step at an index of these asks. It looks at no fuel.
+fn step(
+    alloc: Global,
+    asks: &[Ask<usize>],
+    at: usize,
+    answer: Answer,
+) -> Result<(usize, Ask<usize>), NoMemory>
+    ensures { IfOk result (λ r. (r.0, r.1) ≡ ⟦<AskList as Body>⟧.next asks.now at answer 0) }
+{
+    let Some(ask) = asks.get(at) else {
+        drop(answer);
+        return Ok((at, Ask::Finish));
+    };
+    let ask = asked(alloc, ask, answer)?;
+    Ok((at + 1, ask))
+}
+
+/// An ask of the list, as a step asks it that is told this.
+fn asked(alloc: Global, ask: &Ask<usize>, answer: Answer) -> Result<Ask<usize>, NoMemory>
+    ensures { IfOk result (λ asked. asked ≡ elim ask.now [ Push place value ↦ Push place (elim answer [ Item item ↦ item | Flag flag ↦ Int (pos (if flag then 1 else 0)) | Place made ↦ Int (pos made) | _ ↦ value ]) | other ↦ other ]) }
+{
+    match ask {
+        Ask::Push(place, value) => Ok(Ask::Push(*place, told(answer, value)?)),
+        ask => ask.copy(alloc),
     }
 }
 

@@ -2,15 +2,22 @@
 use crate::rows::{leaves, plan_of};
 use serial_elision::elide;
 use std::alloc::Global;
+use std::ops::Range;
 use std::process::Abort;
 use std::test::Fail;
 use std::thread::{Threads, join};
 use swan_model::{Body, NoMemory, Outcome, Plan, RunName};
 
+/// Asserts that asks in words leave no output with this much fuel, and a report that ends so.
+fn hold(rt: &impl Abort, alloc: Global, words: &str, fuel: u64, report: &str) -> Result<(), Fail> {
+    assert!(rt; leaves(alloc, words, fuel, b"", report)?, "{words}");
+    Ok(())
+}
+
 /// Tries rows of asks in words and of the fuel, with the end of the report; they leave no output.
 fn run(rt: &impl Abort, alloc: Global, rows: &[(&str, u64, &str)]) -> Result<(), Fail> {
     for (words, fuel, report) in rows {
-        assert!(rt; leaves(alloc, words, *fuel, b"", report)?, "{words}");
+        hold(rt, alloc, words, *fuel, report)?;
     }
     Ok(())
 }
@@ -131,44 +138,68 @@ fn report_of_fuel(alloc: Global, before: &str, step: u64) -> Result<String, Fail
     Ok(format!(in alloc; "{before}faults 1\nfault / {step} Fuel\n")?)
 }
 
-/// Fuel that ends inside a run of steps of work, or between asks, is a fault at the step that has none.
-#[test]
-fn fuel_ends_at_each_step(rt: HostRuntime) -> Result<(), Fail> {
-    for fuel in 0..7 {
-        let report = report_of_fuel(rt.alloc(), "", fuel)?;
-        let words = "work work empty:0 read:2 work write:2:1 work";
-        assert!(rt; leaves(rt.alloc(), words, fuel, b"", report.as_str())?);
-    }
-    Ok(())
-}
-
-/// Whether pushes and pops with this much fuel leave this output, and a report of that fuel with this line before it.
-fn pushes_and_pops_leave(alloc: Global, fuel: u64, out: &str, left: &str) -> Result<bool, Fail> {
-    let words = "work push:1:1 work work push:1:2 pop:0 work push:1:3 empty:0 pop:0";
-    let report = report_of_fuel(alloc, left, fuel)?;
+/// Whether asks in words with this much fuel leave this output, and a report of that fuel with this before it.
+fn leaves_of_fuel(
+    alloc: Global,
+    words: &str,
+    fuel: u64,
+    out: &str,
+    before: &str,
+) -> Result<bool, Fail> {
+    let report = report_of_fuel(alloc, before, fuel)?;
     leaves(alloc, words, fuel, out.as_bytes(), report.as_str())
 }
 
-/// What fuel leaves that ends between pushes and pops: of each row the fuels, the output, and how many jobs are left.
+/// Asserts that they do.
+fn hold_of_fuel(
+    rt: &impl Abort,
+    alloc: Global,
+    words: &str,
+    fuel: u64,
+    out: &str,
+    before: &str,
+) -> Result<(), Fail> {
+    assert!(rt; leaves_of_fuel(alloc, words, fuel, out, before)?, "{fuel}");
+    Ok(())
+}
+
+/// Fuel that ends inside a run of steps of work, or between asks, is a fault at the step that has none.
 #[test]
-fn fuel_ends_between_pushes_and_pops(rt: HostRuntime) -> Result<(), Fail> {
-    let rows = [
-        (0..2, "", "left jobs 2\n"),
-        (2..5, "1\n", "left jobs 2\n"),
-        (5..6, "1\n2\n", "left jobs 2\n"),
-        (6..8, "1\n2\n", "left jobs 1\n"),
-        (8..10, "1\n2\n3\n", "left jobs 1\n"),
-        (10..11, "1\n2\n3\n", "left jobs 0\n"),
-    ];
-    for (fuels, out, left) in rows {
-        for fuel in fuels {
-            assert!(rt;
-                pushes_and_pops_leave(rt.alloc(), fuel, out, left)?,
-                "{fuel}"
-            );
-        }
+fn fuel_ends_at_each_step(rt: HostRuntime) -> Result<(), Fail> {
+    let words = "work work empty:0 read:2 work write:2:1 work";
+    for fuel in 0..7 {
+        hold_of_fuel(&rt, rt.alloc(), words, fuel, "", "")?;
     }
     Ok(())
+}
+
+/// Asserts what pushes and pops leave with these fuels: the output, and how many jobs.
+fn hold_pushes_and_pops(
+    rt: &impl Abort,
+    alloc: Global,
+    fuels: Range<u64>,
+    out: &str,
+    left: &str,
+) -> Result<(), Fail> {
+    let words = "work push:1:1 work work push:1:2 pop:0 work push:1:3 empty:0 pop:0";
+    for fuel in fuels {
+        hold_of_fuel(rt, alloc, words, fuel, out, left)?;
+    }
+    Ok(())
+}
+
+#[test]
+fn fuel_ends_between_pushes(rt: HostRuntime) -> Result<(), Fail> {
+    hold_pushes_and_pops(&rt, rt.alloc(), 0..2, "", "left jobs 2\n")?;
+    hold_pushes_and_pops(&rt, rt.alloc(), 2..5, "1\n", "left jobs 2\n")?;
+    hold_pushes_and_pops(&rt, rt.alloc(), 5..6, "1\n2\n", "left jobs 2\n")
+}
+
+#[test]
+fn fuel_ends_between_pops_and_a_push(rt: HostRuntime) -> Result<(), Fail> {
+    hold_pushes_and_pops(&rt, rt.alloc(), 6..8, "1\n2\n", "left jobs 1\n")?;
+    hold_pushes_and_pops(&rt, rt.alloc(), 8..10, "1\n2\n3\n", "left jobs 1\n")?;
+    hold_pushes_and_pops(&rt, rt.alloc(), 10..11, "1\n2\n3\n", "left jobs 0\n")
 }
 
 /// The word of a spawn, up to its fuel: its child begins at this index of the list.
@@ -181,15 +212,30 @@ fn spawn_and_finish(alloc: Global, spawn: &str, fuel: u64) -> Result<String, Fai
     Ok(format!(in alloc; "{spawn}{fuel}: finish ")?)
 }
 
-/// The words of 64 tasks of which each spawns the next, and of a spawn by the last.
+/// The words of a task that spawns a child at this index with this much fuel, and finishes.
+fn task_of(alloc: Global, index: u64, fuel: u64) -> Result<String, Fail> {
+    let spawn = spawn_at(alloc, index)?;
+    spawn_and_finish(alloc, spawn.as_str(), fuel)
+}
+
+/// Adds the words of such a task.
+fn push_task(alloc: Global, words: &mut String, index: u64, fuel: u64) -> Result<(), Fail> {
+    let task = task_of(alloc, index, fuel)?;
+    Ok(words.push_str(task.as_str())?)
+}
+
+/// Adds the words of 64 tasks of which each spawns the next, and of a spawn by the last.
+fn push_65_spawns(alloc: Global, words: &mut String) -> Result<(), Fail> {
+    for depth in 0..64_u64 {
+        push_task(alloc, words, 2 * (depth + 1), 900 - 10 * depth)?;
+    }
+    Ok(words.push_str("spawn:0:1000:")?)
+}
+
+/// The words of them.
 fn words_of_65_spawns(alloc: Global) -> Result<String, Fail> {
     let mut words = String::new(alloc);
-    for depth in 0..64_u64 {
-        let spawn = spawn_at(alloc, 2 * (depth + 1))?;
-        let task = spawn_and_finish(alloc, spawn.as_str(), 900 - 10 * depth)?;
-        words.push_str(task.as_str())?;
-    }
-    words.push_str("spawn:0:1000:")?;
+    push_65_spawns(alloc, &mut words)?;
     Ok(words)
 }
 
@@ -203,11 +249,16 @@ fn report_of_depth(alloc: Global) -> Result<String, Fail> {
     Ok(report)
 }
 
+/// Whether the last of tasks in words has no child, for its path.
+fn leaves_of_depth(alloc: Global, words: &str) -> Result<bool, Fail> {
+    let report = report_of_depth(alloc)?;
+    leaves(alloc, words, 1_000, b"", report.as_str())
+}
+
 #[test]
 fn no_path_has_more_than_64_parts(rt: HostRuntime) -> Result<(), Fail> {
     let words = words_of_65_spawns(rt.alloc())?;
-    let report = report_of_depth(rt.alloc())?;
-    assert!(rt; leaves(rt.alloc(), words.as_str(), 1_000, b"", report.as_str())?);
+    assert!(rt; leaves_of_depth(rt.alloc(), words.as_str())?);
     Ok(())
 }
 
@@ -232,9 +283,27 @@ fn names_cross_threads(rt: HostRuntime) {
     drop(again_there(&rt, RunName::free()));
 }
 
+/// How many objects a plan leaves that is elided on another thread.
+fn objects_left_there<R: Threads + Sync, B: Body>(
+    rt: &R,
+    alloc: Global,
+    plan: Plan<B>,
+) -> Result<usize, NoMemory> {
+    let outcome = elide_there(rt, alloc, plan)?;
+    let count = outcome.objects.len();
+    drop(outcome);
+    Ok(count)
+}
+
+/// The like of the plan of no asks.
+fn objects_left_of_none<R: Threads + Sync>(rt: &R, alloc: Global) -> Result<usize, Fail> {
+    let plan = plan_of(alloc, "", 1)?;
+    Ok(objects_left_there(rt, alloc, plan)?)
+}
+
 #[test]
 fn plans_and_outcomes_cross_threads(rt: HostRuntime) -> Result<(), Fail> {
-    let outcome = elide_there(&rt, rt.alloc(), plan_of(rt.alloc(), "", 1)?)?;
-    assert_eq!(rt; outcome.objects.len(), 2);
+    let count = objects_left_of_none(&rt, rt.alloc())?;
+    assert_eq!(rt; count, 2);
     Ok(())
 }
