@@ -87,28 +87,66 @@ fn ends(versions: &mut Versions, frame: u64) -> Result<(), NoMemory>
     versions.finish(frame)
 }
 
+/// Whether the objects answer a step as it has to be. A step that only changes them has no answer.
+fn answers(versions: &Versions, step: Step) -> bool
+    requires { allows_step versions.now step ≡ true }
+{
+    match step {
+        Step::Ready(frame, answer) => versions.ready(frame) == answer,
+        Step::Reads(frame, place, answer) => reads(versions, frame, place, answer),
+        Step::ReadsRecord(frame, place, size) => reads_record(versions, frame, place, size),
+        _ => true,
+    }
+}
+
+/// Makes a step's change. A step that only asks for an answer has none.
+fn changes(versions: &mut Versions, alloc: Global, step: Step) -> Result<(), NoMemory>
+    requires { allows_step versions.old step ≡ true }
+    ensures { OnOk result (versions.new ≡ after_step versions.old step) }
+{
+    match step {
+        Step::Create(frame, place, first) => creates(versions, frame, place, first),
+        Step::CreateRecord(frame, place, bytes) => {
+            creates_record(versions, alloc, frame, place, bytes)
+        }
+        Step::Access(parent, place, child, child_place, mode) => {
+            gives(versions, parent, place, child, child_place, mode)
+        }
+        Step::Ready(_, _) => Ok(()),
+        Step::Reads(_, _, _) => Ok(()),
+        Step::ReadsRecord(_, _, _) => Ok(()),
+        Step::Write(frame, place, number) => writes(versions, frame, place, number),
+        Step::Finish(frame) => ends(versions, frame),
+    }
+}
+
 /// Makes a step's call, and answers whether that had the step's answer. Err is want of memory.
 fn does(versions: &mut Versions, alloc: Global, step: Step) -> Result<bool, NoMemory>
     requires { allows_step versions.old step ≡ true }
     ensures { IfOk result (λ right. right ≡ true → versions.new ≡ after_step versions.old step) }
 {
-    match step {
-        Step::Create(frame, place, first) => creates(versions, frame, place, first)?,
-        Step::CreateRecord(frame, place, bytes) => {
-            creates_record(versions, alloc, frame, place, bytes)?
-        }
-        Step::Access(parent, place, child, child_place, mode) => {
-            gives(versions, parent, place, child, child_place, mode)?
-        }
-        Step::Ready(frame, answer) => return Ok(versions.ready(frame) == answer),
-        Step::Reads(frame, place, answer) => return Ok(reads(versions, frame, place, answer)),
-        Step::ReadsRecord(frame, place, size) => {
-            return Ok(reads_record(versions, frame, place, size));
-        }
-        Step::Write(frame, place, number) => writes(versions, frame, place, number)?,
-        Step::Finish(frame) => ends(versions, frame)?,
+    if !answers(versions, step) {
+        return Ok(false);
     }
+    changes(versions, alloc, step)?;
     Ok(true)
+}
+
+/// That the step of this index is answered otherwise.
+fn another_answer(index: usize) -> Fail {
+    Fail::new(format_args!("another answer at step {index}"))
+}
+
+/// Takes these steps. Err names the first step that is answered otherwise, counted from 0.
+fn follow(versions: &mut Versions, alloc: Global, steps: &[Step]) -> Result<(), Fail>
+    requires { allows_steps versions.old steps.now ≡ true }
+{
+    for (index, step) in steps.iter().enumerate() {
+        if !does(versions, alloc, *step)? {
+            return Err(another_answer(index));
+        }
+    }
+    Ok(())
 }
 
 /// Takes these steps on no objects, and answers the objects that they leave. Err names the first step that
@@ -117,10 +155,6 @@ pub fn run(alloc: Global, steps: &[Step]) -> Result<Versions, Fail>
     requires { allows_steps new_versions steps.now ≡ true }
 {
     let mut versions = Versions::new(alloc);
-    for (index, step) in steps.iter().enumerate() {
-        if !does(&mut versions, alloc, *step)? {
-            return Err(Fail::new(format_args!("another answer at step {index}")));
-        }
-    }
+    follow(&mut versions, alloc, steps)?;
     Ok(versions)
 }
