@@ -1,5 +1,5 @@
 // What is said of jobs, from tables of which each row is a text and what is wrong with it.
-use crate::texts::with_line_feeds;
+use crate::texts::{joined, made, number_of_word, parts_of, three_parts_of, with_line_feeds};
 use job_reader::{Job, JobFault, JobKind, ReadJob, read_job};
 use privilege_check::{CheckJob, check};
 use std::alloc::Global;
@@ -47,47 +47,53 @@ fn said_of(alloc: Global, text: &str) -> Result<String, Fail> {
     }
 }
 
+/// Asserts that what is said is what is wanted.
+fn hold_said(rt: &impl Abort, said: &str, wanted: &str, row: &str) {
+    assert_eq!(rt; said, wanted, "at {row}");
+}
+
 /// Asserts what is said of a text.
-fn hold(rt: &impl Abort, alloc: Global, text: &str, wanted: &str, row: &str) -> Result<(), Fail> {
-    let said = said_of(alloc, text)?;
-    assert_eq!(rt; said.as_str(), wanted, "at {row}");
-    Ok(())
-}
-
-/// Texts one after another.
-fn joined(alloc: Global, texts: &[&str]) -> Result<String, Fail> {
-    Ok(texts.concat(alloc)?)
-}
-
-/// A row: what is said, and a text with / in the place of line feeds.
-fn parts_of<'a>(alloc: Global, row: &'a str) -> Result<(&'a str, String), Fail> {
-    let (said, text) = row.split_once(' ').ok_or("no text")?;
-    Ok((said, with_line_feeds(alloc, text)?))
-}
-
-/// What is said of a line.
-fn text_at(alloc: Global, line: &str, said: &str) -> Result<String, Fail> {
-    Ok(format!(in alloc; "{line} {said}")?)
+fn hold(rt: &impl Abort, alloc: Global, text: &str, wanted: &str, row: &str) {
+    match said_of(alloc, text) {
+        Ok(said) => hold_said(rt, said.as_str(), wanted, row),
+        Err(_) => panic!(rt; "no memory"),
+    }
 }
 
 /// What is wanted of a line with this number.
-fn wanted_of(alloc: Global, line: &str, said: &str) -> Result<String, Fail> {
+fn wanted_of(rt: &impl Abort, alloc: Global, line: &str, said: &str) -> String {
     match said {
-        "accepted" => Ok(String::from_str(alloc, said)?),
-        _ => text_at(alloc, line, said),
+        "accepted" => joined(rt, alloc, &[said]),
+        _ => joined(rt, alloc, &[line, " ", said]),
     }
+}
+
+/// Asserts that a text is `accepted`, or is refused at this line with what is said.
+fn hold_at(rt: &impl Abort, alloc: Global, text: &str, line: &str, said: &str, row: &str) {
+    let wanted = wanted_of(rt, alloc, line, said);
+    hold(rt, alloc, text, wanted.as_str(), row);
+}
+
+/// A whole text, from what stands after its first line, with / in the place of line feeds.
+fn text_after_first(rt: &impl Abort, alloc: Global, text: &str) -> String {
+    let lines = with_line_feeds(rt, alloc, text);
+    joined(rt, alloc, &["swan 1\n", lines.as_str()])
+}
+
+/// Asserts a row of what is said of a whole text after its first line.
+fn hold_text(rt: &impl Abort, alloc: Global, row: &str) {
+    let (said, text) = parts_of(rt, row);
+    let wanted = made(rt, said.replace(alloc, ".", " "));
+    let text = text_after_first(rt, alloc, text);
+    hold(rt, alloc, text.as_str(), wanted.as_str(), row);
 }
 
 /// Asserts rows of what is said of whole texts after their first line: `accepted`, or the line and the
 /// kind, with a dot between them.
-fn hold_texts(rt: &impl Abort, alloc: Global, table: &str) -> Result<(), Fail> {
+fn hold_texts(rt: &impl Abort, alloc: Global, table: &str) {
     for row in table.lines() {
-        let (said, text) = parts_of(alloc, row)?;
-        let wanted = said.replace(alloc, ".", " ")?;
-        let text = format!(in alloc; "swan 1\n{text}")?;
-        hold(rt, alloc, text.as_str(), wanted.as_str(), row)?;
+        hold_text(rt, alloc, row);
     }
-    Ok(())
 }
 
 /// Tasks that take one thing, or several. 51 lines.
@@ -173,19 +179,23 @@ task main
 end
 ";
 
-/// A job with a statement of the holder.
-fn text_of_statement(alloc: Global, statement: &str) -> Result<String, Fail> {
-    let texts = ["swan 1\n", CHILDREN, HOLDER, statement, "\n", MAIN];
-    joined(alloc, &texts)
+/// A job with a statement of the holder, with / in the place of line feeds.
+fn text_of_statement(rt: &impl Abort, alloc: Global, statement: &str) -> String {
+    let lines = with_line_feeds(rt, alloc, statement);
+    let texts = ["swan 1\n", CHILDREN, HOLDER, lines.as_str(), "\n", MAIN];
+    joined(rt, alloc, &texts)
+}
+
+/// Asserts a row of what is said of a statement.
+fn hold_statement(rt: &impl Abort, alloc: Global, row: &str) {
+    let (said, statement) = parts_of(rt, row);
+    let text = text_of_statement(rt, alloc, statement);
+    hold_at(rt, alloc, text.as_str(), "72", said, row);
 }
 
 /// Asserts rows of what is said of statements, and of the lines after them up to the end of their block.
-fn hold_statements(rt: &impl Abort, alloc: Global, table: &str) -> Result<(), Fail> {
+fn hold_statements(rt: &impl Abort, alloc: Global, table: &str) {
     for row in table.lines() {
-        let (said, statement) = parts_of(alloc, row)?;
-        let text = text_of_statement(alloc, statement.as_str())?;
-        let wanted = wanted_of(alloc, "72", said)?;
-        hold(rt, alloc, text.as_str(), wanted.as_str(), row)?;
+        hold_statement(rt, alloc, row);
     }
-    Ok(())
 }

@@ -2,14 +2,13 @@
 // written.
 use crate::FIRST_JOB;
 use crate::example_texts::{EVERY_LINE, JOBS};
-use crate::texts::with_line_feeds;
+use crate::texts::{joined, made, number_of_word, three_parts_of, with_line_feeds};
 use job_reader::{
     Job, JobFault, JobKind, Line, ReadJob, lines_are_pieces, literals_are_pieces, read_job,
     text_reads_back, tokens_are_pieces, write_job,
 };
 use std::alloc::{AllocError, Global};
 use std::process::Abort;
-use std::test::Fail;
 
 mod line_texts;
 
@@ -46,6 +45,11 @@ pub fn kind_named(name: &str) -> Option<JobKind> {
     }
 }
 
+/// What is refused, where a row names this line and this kind: nothing where the kind is none.
+pub fn refused_at(line: u64, kind: &str) -> Option<(u64, JobKind)> {
+    kind_named(kind).map(|kind| (line, kind))
+}
+
 /// A text with @ at a place.
 fn text_at(at: At) -> &'static str {
     match at {
@@ -56,8 +60,8 @@ fn text_at(at: At) -> &'static str {
 }
 
 /// A text with a line at a place.
-pub fn text_with(alloc: Global, at: At, line: &str) -> Result<String, AllocError> {
-    text_at(at).replace(alloc, "@", line)
+pub fn text_with(rt: &impl Abort, alloc: Global, at: At, line: &str) -> String {
+    made(rt, text_at(at).replace(alloc, "@", line))
 }
 
 /// The number of that line.
@@ -94,10 +98,15 @@ pub fn rewritten(rt: &impl Abort, alloc: Global, text: &str) -> Vec<u8> {
     }
 }
 
+/// Asserts that what is written of a text is what is wanted.
+fn hold_bytes(rt: &impl Abort, written: &[u8], wanted: &[u8], text: &str) {
+    assert_eq!(rt; written, wanted, "{text}");
+}
+
 /// Asserts what is written of a text.
 pub fn hold_written(rt: &impl Abort, alloc: Global, text: &str, wanted: &str) {
     let written = rewritten(rt, alloc, text);
-    assert_eq!(rt; written.as_slice(), wanted.as_bytes(), "{text}");
+    hold_bytes(rt, written.as_slice(), wanted.as_bytes(), text);
 }
 
 /// Asserts what is refused of a text, if anything.
@@ -114,18 +123,34 @@ pub fn hold_refused(
 
 #[test]
 fn example_jobs_are_written_back(rt: HostRuntime) {
-    for text in JOBS {
+    for text in JOBS.as_slice() {
         hold_written(&rt, rt.alloc(), text, text);
     }
+}
+
+/// Whether a line is there, and is the header.
+fn is_header(line: Option<&Line>) -> bool {
+    matches!(line, Some(Line::Header))
+}
+
+/// Whether a line is there, and is an end.
+fn is_end(line: Option<&Line>) -> bool {
+    matches!(line, Some(Line::End))
+}
+
+/// Asserts how many lines the first job has, and which are its first and its last.
+fn hold_first_job(rt: &impl Abort, job: &Job) {
+    assert!(rt; job.len() == 6);
+    assert!(rt; job.as_slice().len() == 6);
+    assert!(rt; is_header(job.line(0)));
+    assert!(rt; is_end(job.line(5)));
+    assert!(rt; job.line(6).is_none());
 }
 
 #[test]
 fn a_job_has_its_first_line_at_0_and_none_past_its_last(rt: HostRuntime) {
     let job = job_of(&rt, rt.alloc(), FIRST_JOB.as_bytes());
-    assert_eq!(rt; (job.len(), job.as_slice().len()), (6, 6));
-    assert!(rt; matches!(job.line(0), Some(Line::Header)));
-    assert!(rt; matches!(job.line(5), Some(Line::End)));
-    assert!(rt; matches!(job.line(6), None));
+    hold_first_job(&rt, &job);
 }
 
 #[test]
@@ -231,23 +256,25 @@ const PREFIXES: &str = r#"1 BadHeader
 0 Ok swan 1/output out bytes/task main/  do/  push out "hi"/end
 0 Ok swan 1/output out bytes/task main/  do/  push out "hi"/end/"#;
 
+/// Asserts a row of a table of texts.
+fn hold_row(rt: &impl Abort, alloc: Global, row: &str) {
+    let (line, kind, text) = three_parts_of(rt, row);
+    let expected = refused_at(number_of_word(rt, line), kind);
+    let text = with_line_feeds(rt, alloc, text);
+    hold_refused(rt, alloc, text.as_str(), expected, row);
+}
+
 /// Checks each row of a table of texts.
-fn check_texts(rt: &impl Abort, alloc: Global, table: &str) -> Result<(), Fail> {
+fn check_texts(rt: &impl Abort, alloc: Global, table: &str) {
     for row in table.lines() {
-        let (line, rest) = row.split_once(' ').ok_or("row")?;
-        let (kind, text) = rest.split_once(' ').ok_or("row")?;
-        let line = line.parse::<u64>().ok().ok_or("row")?;
-        let text = with_line_feeds(alloc, text)?;
-        let expected = kind_named(kind).map(|kind| (line, kind));
-        hold_refused(rt, alloc, text.as_str(), expected, row);
+        hold_row(rt, alloc, row);
     }
-    Ok(())
 }
 
 #[test]
-fn texts(rt: HostRuntime) -> Result<(), Fail> {
-    check_texts(&rt, rt.alloc(), TEXTS)?;
-    check_texts(&rt, rt.alloc(), PREFIXES)
+fn texts(rt: HostRuntime) {
+    check_texts(&rt, rt.alloc(), TEXTS);
+    check_texts(&rt, rt.alloc(), PREFIXES);
 }
 
 /// Bytes that may not stand in a line.
@@ -274,14 +301,15 @@ fn copies(alloc: Global, line: &str, count: usize) -> Result<String, AllocError>
 
 /// A text with this many copies of a line after its first lines, and then its last lines.
 fn repeated(
+    rt: &impl Abort,
     alloc: Global,
     first: &str,
     line: &str,
     count: usize,
     last: &str,
-) -> Result<String, Fail> {
-    let lines = copies(alloc, line, count)?;
-    Ok(format!(in alloc; "{first}{lines}{last}")?)
+) -> String {
+    let lines = made(rt, copies(alloc, line, count));
+    joined(rt, alloc, &[first, lines.as_str(), last])
 }
 
 /// Asserts what is refused of such a text, if anything.
@@ -293,10 +321,9 @@ fn hold_repeated(
     count: usize,
     last: &str,
     expected: Option<(u64, JobKind)>,
-) -> Result<(), Fail> {
-    let text = repeated(alloc, first, line, count, last)?;
+) {
+    let text = repeated(rt, alloc, first, line, count, last);
     hold_refused(rt, alloc, text.as_str(), expected, last);
-    Ok(())
 }
 
 /// A limit that is met at a line.
@@ -304,87 +331,98 @@ fn limit(line: u64) -> Option<(u64, JobKind)> {
     Some((line, JobKind::Limit))
 }
 
-#[test]
-fn a_job_has_at_most_20000_lines_of_at_most_4096_bytes(rt: HostRuntime) -> Result<(), Fail> {
-    let byte = Some((20_001, JobKind::BadByte));
-    for (first, line, count, last, expected) in [
-        (FIRST_JOB, "\n", 19_994, "", None),
-        (FIRST_JOB, "\n", 19_995, "", limit(20_001)),
-        (FIRST_JOB, "\n", 19_994, "\t", byte),
-        ("swan 1\n#", "x", 4_095, "   \n", None),
-        ("swan 1\n  #", "x", 4_096, "\n", limit(2)),
-        ("swan 1", " ", 5_000, "\n", None),
-        ("swan 1 ", "x", 4_096, "\n", limit(1)),
-    ] {
-        hold_repeated(&rt, rt.alloc(), first, line, count, last, expected)?;
-    }
-    Ok(())
+/// Asserts what is refused of the first job with this many empty lines after it, and then its last line.
+fn hold_empty(
+    rt: &impl Abort,
+    alloc: Global,
+    count: usize,
+    last: &str,
+    expected: Option<(u64, JobKind)>,
+) {
+    hold_repeated(rt, alloc, FIRST_JOB, "\n", count, last, expected);
 }
 
 #[test]
-fn a_job_has_at_most_16_inputs(rt: HostRuntime) -> Result<(), Fail> {
+fn a_job_has_at_most_20000_lines(rt: HostRuntime) {
+    hold_empty(&rt, rt.alloc(), 19_994, "", None);
+    hold_empty(&rt, rt.alloc(), 19_995, "", limit(20_001));
+    hold_empty(
+        &rt,
+        rt.alloc(),
+        19_994,
+        "\t",
+        Some((20_001, JobKind::BadByte)),
+    );
+}
+
+#[test]
+fn a_line_has_at_most_4096_bytes(rt: HostRuntime) {
+    hold_repeated(&rt, rt.alloc(), "swan 1\n#", "x", 4_095, "   \n", None);
+    hold_repeated(&rt, rt.alloc(), "swan 1\n  #", "x", 4_096, "\n", limit(2));
+    hold_repeated(&rt, rt.alloc(), "swan 1", " ", 5_000, "\n", None);
+    hold_repeated(&rt, rt.alloc(), "swan 1 ", "x", 4_096, "\n", limit(1));
+}
+
+/// Asserts what is refused of this many inputs, and of what stands after them.
+fn hold_inputs(
+    rt: &impl Abort,
+    alloc: Global,
+    count: usize,
+    last: &str,
+    expected: Option<(u64, JobKind)>,
+) {
+    hold_repeated(rt, alloc, "swan 1\n", "input a\n", count, last, expected);
+}
+
+#[test]
+fn a_job_has_at_most_16_inputs(rt: HostRuntime) {
     let main = "task main\ndo\nend\n";
     let byte = Some((18, JobKind::BadByte));
-    for (count, last, expected) in [
-        (16, main, None),
-        (17, main, limit(18)),
-        (16, "input 1 2 \"\n", limit(18)),
-        (16, "object a int\n#input", None),
-        (16, "input \t\n", byte),
-    ] {
-        hold_repeated(
-            &rt,
-            rt.alloc(),
-            "swan 1\n",
-            "input a\n",
-            count,
-            last,
-            expected,
-        )?;
-    }
-    Ok(())
+    hold_inputs(&rt, rt.alloc(), 16, main, None);
+    hold_inputs(&rt, rt.alloc(), 17, main, limit(18));
+    hold_inputs(&rt, rt.alloc(), 16, "input 1 2 \"\n", limit(18));
+    hold_inputs(&rt, rt.alloc(), 16, "object a int\n#input", None);
+    hold_inputs(&rt, rt.alloc(), 16, "input \t\n", byte);
 }
 
-/// Asserts what is refused of blocks, with this after those that are all closed.
-fn hold_blocks(rt: &impl Abort, alloc: Global, closed: &str) -> Result<(), Fail> {
-    let unbalanced = Some((36, JobKind::Unbalanced));
-    for (line, count, last, expected) in [
-        ("if 1\n", 32, closed, None),
-        ("if 1\n", 33, "", limit(36)),
-        ("while 1\n", 32, "if\n", limit(36)),
-        ("if 1\nelse\n", 32, "while \"\n", limit(68)),
-        ("while 1\n", 32, "if = set 1\n", unbalanced),
-    ] {
-        let first = "swan 1\ntask t\ndo\n";
-        hold_repeated(rt, alloc, first, line, count, last, expected)?;
-    }
-    Ok(())
+/// Asserts what is refused of this many blocks in a task, and of what stands in the innermost.
+fn hold_blocks(
+    rt: &impl Abort,
+    alloc: Global,
+    line: &str,
+    count: usize,
+    last: &str,
+    expected: Option<(u64, JobKind)>,
+) {
+    let first = "swan 1\ntask t\ndo\n";
+    hold_repeated(rt, alloc, first, line, count, last, expected);
+}
+
+/// Asserts that 32 blocks are accepted with their ends.
+fn hold_closed(rt: &impl Abort, alloc: Global) {
+    let closed = made(rt, copies(alloc, "end\n", 33));
+    hold_blocks(rt, alloc, "if 1\n", 32, closed.as_str(), None);
 }
 
 #[test]
-fn blocks_stand_at_most_32_deep(rt: HostRuntime) -> Result<(), Fail> {
-    let closed = copies(rt.alloc(), "end\n", 33)?;
-    hold_blocks(&rt, rt.alloc(), closed.as_str())
+fn blocks_stand_at_most_32_deep(rt: HostRuntime) {
+    let unbalanced = Some((36, JobKind::Unbalanced));
+    hold_closed(&rt, rt.alloc());
+    hold_blocks(&rt, rt.alloc(), "if 1\n", 33, "", limit(36));
+    hold_blocks(&rt, rt.alloc(), "while 1\n", 32, "if\n", limit(36));
+    hold_blocks(&rt, rt.alloc(), "if 1\nelse\n", 32, "while \"\n", limit(68));
+    hold_blocks(&rt, rt.alloc(), "while 1\n", 32, "if = set 1\n", unbalanced);
 }
 
 /// Past a limit only what would be one more is Limit: an input after a task stands where none may, and an
 /// `if` whose second token is a literal is no assignment.
 #[test]
-fn limits_go_by_what_would_be_one_more(rt: HostRuntime) -> Result<(), Fail> {
+fn limits_go_by_what_would_be_one_more(rt: HostRuntime) {
     let inputs = "task main\ndo\nend\ninput x\n";
     let line = Some((21, JobKind::BadLine));
-    hold_repeated(&rt, rt.alloc(), "swan 1\n", "input a\n", 16, inputs, line)?;
-    let blocks = "swan 1\ntask t\ndo\n";
+    hold_inputs(&rt, rt.alloc(), 16, inputs, line);
     let condition = "if \"=\" 1\n";
-    hold_repeated(
-        &rt,
-        rt.alloc(),
-        blocks,
-        "while 1\n",
-        32,
-        condition,
-        limit(36),
-    )
+    hold_blocks(&rt, rt.alloc(), "while 1\n", 32, condition, limit(36));
 }
 
 /// Notes, indentation and spaces, with a mistake or without one where @ stands.
@@ -401,17 +439,19 @@ const CANONICAL: &str =
     #between\ntask u\n  do\nend\n#end\n";
 
 /// Those with this at the end of a number.
-fn spaced(alloc: Global, end: &str) -> Result<String, Fail> {
-    Ok(SPACED.replace(alloc, "@", end)?)
+fn spaced(rt: &impl Abort, alloc: Global, end: &str) -> String {
+    made(rt, SPACED.replace(alloc, "@", end))
 }
 
-/// What is refused names its line, and what is accepted is written in one way.
 #[test]
-fn canonical_text(rt: HostRuntime) -> Result<(), Fail> {
-    let text = spaced(rt.alloc(), "0x")?;
+fn what_is_refused_of_a_spaced_text_names_its_line(rt: HostRuntime) {
+    let text = spaced(&rt, rt.alloc(), "0x");
     let expected = Some((23, JobKind::BadNumber));
     hold_refused(&rt, rt.alloc(), text.as_str(), expected, "0x");
-    let text = spaced(rt.alloc(), "10")?;
+}
+
+#[test]
+fn a_spaced_text_is_written_in_the_canonical_way(rt: HostRuntime) {
+    let text = spaced(&rt, rt.alloc(), "10");
     hold_written(&rt, rt.alloc(), text.as_str(), CANONICAL);
-    Ok(())
 }

@@ -33,7 +33,7 @@ fn end_of(task: &str) -> &str {
 }
 
 /// A job with a declaration at the top level and one in a task.
-fn text_of_both(alloc: Global, top: &str, task: &str, own: &str) -> Result<String, Fail> {
+fn text_of_both(rt: &impl Abort, alloc: Global, top: &str, task: &str, own: &str) -> String {
     let end = end_of(task);
     let texts = [
         "swan 1\n",
@@ -45,57 +45,69 @@ fn text_of_both(alloc: Global, top: &str, task: &str, own: &str) -> Result<Strin
         "\ndo\nend\n",
         end,
     ];
-    joined(alloc, &texts)
+    joined(rt, alloc, &texts)
+}
+
+/// Asserts what is said of a declaration in a task, after one of the top level.
+fn hold_both(rt: &impl Abort, alloc: Global, top: &str, task: &str, own: &str, wanted: &str) {
+    let text = text_of_both(rt, alloc, top, task, own);
+    hold(rt, alloc, text.as_str(), wanted, text.as_str());
+}
+
+/// Asserts what is said of each declaration of a table in a task, after one of the top level.
+fn hold_below(rt: &impl Abort, alloc: Global, top: &str, task: &str, table: &str, wanted: &str) {
+    for own in table.lines() {
+        hold_both(rt, alloc, top, task, own, wanted);
+    }
 }
 
 /// Asserts what is said of each declaration of a table in a task, after each of the top level.
-fn hold_below_top(
-    rt: &impl Abort,
-    alloc: Global,
-    task: &str,
-    table: &str,
-    wanted: &str,
-) -> Result<(), Fail> {
+fn hold_below_top(rt: &impl Abort, alloc: Global, task: &str, table: &str, wanted: &str) {
     for top in OF_TOP.lines() {
-        for own in table.lines() {
-            let text = text_of_both(alloc, top, task, own)?;
-            hold(rt, alloc, text.as_str(), wanted, text.as_str())?;
-        }
+        hold_below(rt, alloc, top, task, table, wanted);
     }
-    Ok(())
 }
 
 /// A job with two declarations at the top level.
-fn text_of_top(alloc: Global, first: &str, second: &str) -> Result<String, Fail> {
+fn text_of_top(rt: &impl Abort, alloc: Global, first: &str, second: &str) -> String {
     let texts = ["swan 1\n", first, "\n", second, "\ntask main\ndo\nend\n"];
-    joined(alloc, &texts)
+    joined(rt, alloc, &texts)
 }
 
-#[test]
-fn a_name_of_the_top_level_is_declared_once_there(rt: HostRuntime) -> Result<(), Fail> {
-    for first in OF_TOP.lines() {
-        for second in OF_TOP.lines() {
-            let text = text_of_top(rt.alloc(), first, second)?;
-            hold(&rt, rt.alloc(), text.as_str(), "3 Duplicate", text.as_str())?;
-        }
+/// Asserts that the top level has no second declaration after a first one.
+fn hold_top(rt: &impl Abort, alloc: Global, first: &str, second: &str) {
+    let text = text_of_top(rt, alloc, first, second);
+    hold(rt, alloc, text.as_str(), "3 Duplicate", text.as_str());
+}
+
+/// Asserts that the top level has none of its declarations after a first one.
+fn hold_top_after(rt: &impl Abort, alloc: Global, first: &str) {
+    for second in OF_TOP.lines() {
+        hold_top(rt, alloc, first, second);
     }
-    Ok(())
 }
 
 #[test]
-fn main_declares_no_name_of_the_top_level(rt: HostRuntime) -> Result<(), Fail> {
-    hold_below_top(&rt, rt.alloc(), "main", OF_MAIN, "4 Duplicate")?;
-    hold_below_top(&rt, rt.alloc(), "main", TAKEN, "4 Duplicate")
+fn a_name_of_the_top_level_is_declared_once_there(rt: HostRuntime) {
+    for first in OF_TOP.lines() {
+        hold_top_after(&rt, rt.alloc(), first);
+    }
 }
 
 #[test]
-fn other_tasks_may_declare_names_of_the_top_level(rt: HostRuntime) -> Result<(), Fail> {
-    hold_below_top(&rt, rt.alloc(), "t", OF_MAIN, "accepted")?;
-    hold_below_top(&rt, rt.alloc(), "t", TAKEN, "accepted")
+fn main_declares_no_name_of_the_top_level(rt: HostRuntime) {
+    hold_below_top(&rt, rt.alloc(), "main", OF_MAIN, "4 Duplicate");
+    hold_below_top(&rt, rt.alloc(), "main", TAKEN, "4 Duplicate");
+}
+
+#[test]
+fn other_tasks_may_declare_names_of_the_top_level(rt: HostRuntime) {
+    hold_below_top(&rt, rt.alloc(), "t", OF_MAIN, "accepted");
+    hold_below_top(&rt, rt.alloc(), "t", TAKEN, "accepted");
 }
 
 /// A task with two declarations.
-fn text_of_two(alloc: Global, task: &str, first: &str, second: &str) -> Result<String, Fail> {
+fn text_of_two(rt: &impl Abort, alloc: Global, task: &str, first: &str, second: &str) -> String {
     let texts = [
         "swan 1\ntask ",
         task,
@@ -105,51 +117,57 @@ fn text_of_two(alloc: Global, task: &str, first: &str, second: &str) -> Result<S
         second,
         "\ndo\nend\n",
     ];
-    joined(alloc, &texts)
+    joined(rt, alloc, &texts)
 }
 
 /// Asserts what is said of two declarations in a task.
-fn hold_two(
-    rt: &impl Abort,
-    alloc: Global,
-    task: &str,
-    first: &str,
-    second: &str,
-    wanted: &str,
-) -> Result<(), Fail> {
-    let text = text_of_two(alloc, task, first, second)?;
-    hold(rt, alloc, text.as_str(), wanted, text.as_str())
+fn hold_two(rt: &impl Abort, alloc: Global, task: &str, first: &str, second: &str, wanted: &str) {
+    let text = text_of_two(rt, alloc, task, first, second);
+    hold(rt, alloc, text.as_str(), wanted, text.as_str());
 }
 
-#[test]
-fn a_name_is_declared_once_in_a_task(rt: HostRuntime) -> Result<(), Fail> {
-    let all = format!(in rt.alloc(); "{OF_MAIN}\n{TAKEN}")?;
-    for first in all.as_str().lines() {
-        for second in all.as_str().lines() {
-            hold_two(&rt, rt.alloc(), "t", first, second, "4 Duplicate")?;
-        }
+/// Asserts that a task has no declaration of a table after a first one.
+fn hold_seconds(rt: &impl Abort, alloc: Global, task: &str, first: &str, table: &str) {
+    for second in table.lines() {
+        hold_two(rt, alloc, task, first, second, "4 Duplicate");
     }
-    Ok(())
 }
 
-#[test]
-fn a_name_is_declared_once_in_main(rt: HostRuntime) -> Result<(), Fail> {
-    let all = format!(in rt.alloc(); "{OF_MAIN}\n{TAKEN}")?;
-    for first in OF_MAIN.lines() {
-        for second in all.as_str().lines() {
-            hold_two(&rt, rt.alloc(), "main", first, second, "4 Duplicate")?;
-        }
+/// Asserts that a task has no declaration after a first one.
+fn hold_first(rt: &impl Abort, alloc: Global, task: &str, first: &str) {
+    hold_seconds(rt, alloc, task, first, OF_MAIN);
+    hold_seconds(rt, alloc, task, first, TAKEN);
+}
+
+/// Asserts that a task has no declaration after any of a table.
+fn hold_firsts(rt: &impl Abort, alloc: Global, task: &str, table: &str) {
+    for first in table.lines() {
+        hold_first(rt, alloc, task, first);
     }
-    Ok(())
 }
 
 #[test]
-fn main_takes_nothing(rt: HostRuntime) -> Result<(), Fail> {
+fn a_name_is_declared_once_in_a_task(rt: HostRuntime) {
+    hold_firsts(&rt, rt.alloc(), "t", OF_MAIN);
+    hold_firsts(&rt, rt.alloc(), "t", TAKEN);
+}
+
+#[test]
+fn a_name_is_declared_once_in_main(rt: HostRuntime) {
+    hold_firsts(&rt, rt.alloc(), "main", OF_MAIN);
+}
+
+/// Asserts that main takes this neither first nor second.
+fn hold_taken(rt: &impl Abort, alloc: Global, taken: &str) {
+    hold_two(rt, alloc, "main", taken, "var b int", "3 MainParams");
+    hold_two(rt, alloc, "main", "var b int", taken, "4 MainParams");
+}
+
+#[test]
+fn main_takes_nothing(rt: HostRuntime) {
     for taken in TAKEN.lines() {
-        hold_two(&rt, rt.alloc(), "main", taken, "var b int", "3 MainParams")?;
-        hold_two(&rt, rt.alloc(), "main", "var b int", taken, "4 MainParams")?;
+        hold_taken(&rt, rt.alloc(), taken);
     }
-    Ok(())
 }
 
 /// Tasks, after the line `swan 1`.
@@ -199,16 +217,16 @@ accepted task t/param n int/push q int/do/spawn n t 1 q/end/task main/do/end
 5.Unknown task t/var a int/do/b = set a/end/task u/var b int/do/end";
 
 #[test]
-fn a_task_is_declared_once_and_has_names_of_its_own(rt: HostRuntime) -> Result<(), Fail> {
-    hold_texts(&rt, rt.alloc(), TASKS)
+fn a_task_is_declared_once_and_has_names_of_its_own(rt: HostRuntime) {
+    hold_texts(&rt, rt.alloc(), TASKS);
 }
 
 #[test]
-fn the_last_line_is_named_where_there_is_no_main(rt: HostRuntime) -> Result<(), Fail> {
-    hold_texts(&rt, rt.alloc(), WITHOUT_MAIN)
+fn the_last_line_is_named_where_there_is_no_main(rt: HostRuntime) {
+    hold_texts(&rt, rt.alloc(), WITHOUT_MAIN);
 }
 
 #[test]
-fn names_are_known_from_their_line_on_and_in_their_task(rt: HostRuntime) -> Result<(), Fail> {
-    hold_texts(&rt, rt.alloc(), BEFORE)
+fn names_are_known_from_their_line_on_and_in_their_task(rt: HostRuntime) {
+    hold_texts(&rt, rt.alloc(), BEFORE);
 }

@@ -63,11 +63,11 @@ const TWO_LINES: &str = "\
 4.Unbalanced task t/do/push q 1";
 
 #[test]
-fn the_first_fault_of_a_line_is_named(rt: HostRuntime) -> Result<(), Fail> {
-    hold_statements(&rt, rt.alloc(), TWO_IN_A_LINE)
+fn the_first_fault_of_a_line_is_named(rt: HostRuntime) {
+    hold_statements(&rt, rt.alloc(), TWO_IN_A_LINE);
 }
 
 #[test]
-fn the_first_faulty_line_is_named_and_the_text_goes_first(rt: HostRuntime) -> Result<(), Fail> {
-    hold_texts(&rt, rt.alloc(), TWO_LINES)
+fn the_first_faulty_line_is_named_and_the_text_goes_first(rt: HostRuntime) {
+    hold_texts(&rt, rt.alloc(), TWO_LINES);
 }

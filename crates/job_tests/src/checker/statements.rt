@@ -126,33 +126,31 @@ Kind while var_bytes/end
 Kind while \"a\"/end";
 
 #[test]
-fn a_read_takes_a_variable_and_an_object_that_may_be_read(rt: HostRuntime) -> Result<(), Fail> {
-    hold_statements(&rt, rt.alloc(), READ)
+fn a_read_takes_a_variable_and_an_object_that_may_be_read(rt: HostRuntime) {
+    hold_statements(&rt, rt.alloc(), READ);
 }
 
 #[test]
-fn a_write_takes_an_object_that_may_be_written_and_an_atom(rt: HostRuntime) -> Result<(), Fail> {
-    hold_statements(&rt, rt.alloc(), WRITE)
+fn a_write_takes_an_object_that_may_be_written_and_an_atom(rt: HostRuntime) {
+    hold_statements(&rt, rt.alloc(), WRITE);
 }
 
 #[test]
-fn a_push_takes_a_queue_that_may_be_pushed_to_and_an_atom(rt: HostRuntime) -> Result<(), Fail> {
-    hold_statements(&rt, rt.alloc(), PUSH)
+fn a_push_takes_a_queue_that_may_be_pushed_to_and_an_atom(rt: HostRuntime) {
+    hold_statements(&rt, rt.alloc(), PUSH);
 }
 
 #[test]
-fn a_pop_takes_a_variable_and_a_queue_that_may_be_popped(rt: HostRuntime) -> Result<(), Fail> {
-    hold_statements(&rt, rt.alloc(), POP)
+fn a_pop_takes_a_variable_and_a_queue_that_may_be_popped(rt: HostRuntime) {
+    hold_statements(&rt, rt.alloc(), POP);
 }
 
 #[test]
-fn an_emptiness_test_takes_a_number_and_a_queue_that_may_be_popped(
-    rt: HostRuntime,
-) -> Result<(), Fail> {
-    hold_statements(&rt, rt.alloc(), EMPTY)
+fn an_emptiness_test_takes_a_number_and_a_queue_that_may_be_popped(rt: HostRuntime) {
+    hold_statements(&rt, rt.alloc(), EMPTY);
 }
 
 #[test]
-fn fuel_fail_if_and_while_take_a_number(rt: HostRuntime) -> Result<(), Fail> {
-    hold_statements(&rt, rt.alloc(), NUMBERS)
+fn fuel_fail_if_and_while_take_a_number(rt: HostRuntime) {
+    hold_statements(&rt, rt.alloc(), NUMBERS);
 }

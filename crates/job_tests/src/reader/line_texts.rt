@@ -1,8 +1,9 @@
 // Lines, operations and literals: what is accepted, and what is refused.
-use super::{At, hold_refused, hold_written, kind_named, number_of, text_with};
+use super::{At, hold_refused, hold_written, number_of, refused_at, text_with};
+use crate::texts::{joined, three_parts_of};
 use job_reader::read_number;
 use std::alloc::Global;
-use std::test::Fail;
+use std::process::Abort;
 
 /// Lines: where they stand, what is wrong with them, and their text.
 const LINES: &str = r#"Top Ok input a_b9
@@ -194,34 +195,48 @@ const LITERALS: &str = r#""" => ""
 "\x41\x7e " => "A~ "
 "\x00\xfF\x7F\x1b" => "\x00\xff\x7f\x1b""#;
 
+/// Asserts a row of a place, what is wrong, and a line.
+fn hold_line(rt: &impl Abort, alloc: Global, row: &str) {
+    let (place, kind, line) = three_parts_of(rt, row);
+    let at = At::named(place);
+    let expected = refused_at(number_of(at), kind);
+    let text = text_with(rt, alloc, at, line);
+    hold_refused(rt, alloc, text.as_str(), expected, row);
+}
+
 #[test]
-fn lines(rt: HostRuntime) -> Result<(), Fail> {
+fn lines(rt: HostRuntime) {
     for row in LINES.lines() {
-        let (place, rest) = row.split_once(' ').ok_or("row")?;
-        let (kind, line) = rest.split_once(' ').ok_or("row")?;
-        let at = At::named(place);
-        let text = text_with(rt.alloc(), at, line)?;
-        let expected = kind_named(kind).map(|kind| (number_of(at), kind));
-        hold_refused(&rt, rt.alloc(), text.as_str(), expected, row);
+        hold_line(&rt, rt.alloc(), row);
     }
-    Ok(())
 }
 
 /// A text with a literal in a line that begins with these spaces.
-fn text_of_literal(alloc: Global, spaces: &str, literal: &str) -> Result<String, Fail> {
-    let line = format!(in alloc; "{spaces}v = set {literal}")?;
-    Ok(text_with(alloc, At::Do, line.as_str())?)
+fn text_of_literal(rt: &impl Abort, alloc: Global, spaces: &str, literal: &str) -> String {
+    let line = joined(rt, alloc, &[spaces, "v = set ", literal]);
+    text_with(rt, alloc, At::Do, line.as_str())
+}
+
+/// Asserts how a literal is written.
+fn hold_literal(rt: &impl Abort, alloc: Global, given: &str, expected: &str) {
+    let text = text_of_literal(rt, alloc, "", given);
+    let wanted = text_of_literal(rt, alloc, "  ", expected);
+    hold_written(rt, alloc, text.as_str(), wanted.as_str());
+}
+
+/// Asserts a row of a literal and how it is written.
+fn hold_literal_row(rt: &impl Abort, alloc: Global, row: &str) {
+    match row.split_once(" => ") {
+        Some((given, expected)) => hold_literal(rt, alloc, given, expected),
+        None => panic!(rt; "no literal"),
+    }
 }
 
 #[test]
-fn literals(rt: HostRuntime) -> Result<(), Fail> {
+fn literals(rt: HostRuntime) {
     for row in LITERALS.lines() {
-        let (given, expected) = row.split_once(" => ").ok_or("row")?;
-        let text = text_of_literal(rt.alloc(), "", given)?;
-        let wanted = text_of_literal(rt.alloc(), "  ", expected)?;
-        hold_written(&rt, rt.alloc(), text.as_str(), wanted.as_str());
+        hold_literal_row(&rt, rt.alloc(), row);
     }
-    Ok(())
 }
 
 #[test]
