@@ -1,5 +1,5 @@
 //! Tests of pipelines (crates `index_pipeline`, `record_pipeline`, `swan_reducers`) from outside, as tables: all rows of a
-//! table go through one function, so a row costs nothing to prove.
+//! table go through one function, so a row costs little to prove.
 //!
 //! - Step by step: what their tasks ask for where they are told what they haven't asked for. A row is what a plan's root is
 //!   told, and what its last child is told, in words.

@@ -4,7 +4,6 @@ use crate::plans::{plan_of_conversion, plan_of_fold, plan_of_index};
 use crate::texts::Of;
 use std::alloc::Global;
 use std::process::Abort;
-use std::test::Fail;
 use swan_reducers::SumReducer;
 
 /// What the root is told of a pipeline's plan of the text of no line, and then the child that it asks for last, and what the
@@ -17,47 +16,42 @@ struct Row {
     asks: &'static str,
 }
 
-/// What the two tasks of a row ask for in the plan of the index, where the star stands for this word.
-fn asked_in_index(rt: &impl Abort, alloc: Global, row: &Row, other: &str) -> Result<String, Fail> {
-    let plan = plan_of_index(rt, alloc, b"")?;
-    Ok(asks(alloc, plan, row.told, row.child_told, other)?)
-}
-
-/// The same in the plan of the conversion.
-fn asked_in_conversion(
-    rt: &impl Abort,
-    alloc: Global,
-    row: &Row,
-    other: &str,
-) -> Result<String, Fail> {
-    let plan = plan_of_conversion(rt, alloc, b"")?;
-    Ok(asks(alloc, plan, row.told, row.child_told, other)?)
-}
-
-/// The same in the plan of the fold.
-fn asked_in_fold(alloc: Global, row: &Row, other: &str) -> Result<String, Fail> {
-    let plan = plan_of_fold(alloc, SumReducer, b"")?;
-    Ok(asks(alloc, plan, row.told, row.child_told, other)?)
-}
-
-/// The same in the plan that the row is of.
-fn asked(rt: &impl Abort, alloc: Global, row: &Row, other: &str) -> Result<String, Fail> {
+/// What the two tasks of a row ask for in the plan that the row is of, where the star stands for this word.
+fn asked(rt: &impl Abort, alloc: Global, row: &Row, other: &str) -> String {
     match row.of {
-        Of::Index => asked_in_index(rt, alloc, row, other),
-        Of::Conversion => asked_in_conversion(rt, alloc, row, other),
-        Of::Fold => asked_in_fold(alloc, row, other),
+        Of::Index => {
+            let plan = plan_of_index(rt, alloc, b"");
+            asks(rt, alloc, plan, row.told, row.child_told, other)
+        }
+        Of::Conversion => {
+            let plan = plan_of_conversion(rt, alloc, b"");
+            asks(rt, alloc, plan, row.told, row.child_told, other)
+        }
+        Of::Fold => {
+            let plan = plan_of_fold(rt, alloc, SumReducer, b"");
+            asks(rt, alloc, plan, row.told, row.child_told, other)
+        }
     }
+}
+
+/// Asserts what is asked for where the star stands for a word.
+fn hold_asked(rt: &impl Abort, asked: &str, asks: &str, other: &str) {
+    assert_eq!(rt; asked, asks, "told {other}");
+}
+
+/// Asserts what is asked for in a row where the star stands for this word.
+fn hold_row(rt: &impl Abort, alloc: Global, row: &Row, other: &str) {
+    let asked = asked(rt, alloc, row, other);
+    hold_asked(rt, asked.as_str(), row.asks, other);
 }
 
 /// All rows hold, whichever of these words the star stands for.
-fn hold(rt: &impl Abort, alloc: Global, rows: &[Row], others: &[&str]) -> Result<(), Fail> {
+fn hold(rt: &impl Abort, alloc: Global, rows: &[Row], others: &[&str]) {
     for row in rows {
         for other in others {
-            let asked = asked(rt, alloc, row, *other)?;
-            assert_eq!(rt; asked.as_str(), row.asks, "told {other}");
+            hold_row(rt, alloc, row, *other);
         }
     }
-    Ok(())
 }
 
 /// A row.
@@ -71,7 +65,7 @@ fn row_of(of: Of, told: &'static str, child_told: &'static str, asks: &'static s
 }
 
 #[test]
-fn an_answer_that_isnt_whether_a_queue_is_empty_ends_a_reader(rt: HostRuntime) -> Result<(), Fail> {
+fn an_answer_that_isnt_whether_a_queue_is_empty_ends_a_reader(rt: HostRuntime) {
     let rows = [
         row_of(
             Of::Index,
@@ -98,11 +92,11 @@ fn an_answer_that_isnt_whether_a_queue_is_empty_ends_a_reader(rt: HostRuntime) -
         rt.alloc(),
         &rows,
         &["nothing", "start", "item", "place", "true"],
-    )
+    );
 }
 
 #[test]
-fn an_answer_that_is_no_item_ends_a_reader(rt: HostRuntime) -> Result<(), Fail> {
+fn an_answer_that_is_no_item_ends_a_reader(rt: HostRuntime) {
     let rows = [
         row_of(
             Of::Index,
@@ -123,11 +117,11 @@ fn an_answer_that_is_no_item_ends_a_reader(rt: HostRuntime) -> Result<(), Fail> 
         rt.alloc(),
         &rows,
         &["nothing", "start", "place", "true", "false"],
-    )
+    );
 }
 
 #[test]
-fn where_no_answer_is_asked_for_each_will_do(rt: HostRuntime) -> Result<(), Fail> {
+fn where_no_answer_is_asked_for_each_will_do(rt: HostRuntime) {
     let rows = [
         row_of(Of::Index, "* *", "", "new empty "),
         row_of(Of::Conversion, "*", "", "empty "),
@@ -156,5 +150,5 @@ fn where_no_answer_is_asked_for_each_will_do(rt: HostRuntime) -> Result<(), Fail
         rt.alloc(),
         &rows,
         &["nothing", "start", "item", "place", "true", "false"],
-    )
+    );
 }
