@@ -143,52 +143,81 @@ pub(crate) fn append_whole(content: &[u8], into: &mut Vec<u8>) -> Result<(), Rea
 #[cfg(test)]
 mod tests {
     use super::*;
-    use crate::test_reads::{hold_length, hold_read, long_file, word};
-    use std::alloc::{AllocError, Global};
+    use crate::test_reads::{add_file, hold_count, hold_length, hold_read, long_file, word};
+    use std::alloc::Global;
     use std::process::Abort;
     use std::test::Fail;
     use swan_model::Blob;
 
-    fn file(alloc: Global, name: &str, content: &str) -> Result<FileBlob, AllocError> {
+    /// The content that a text is.
+    fn content_of(rt: &impl Abort, alloc: Global, text: &str) -> Blob {
         let mut bytes = Vec::new(alloc);
-        bytes.extend_from_slice(content.as_bytes())?;
-        Ok(FileBlob {
-            name: word(alloc, name)?,
-            content: Blob::new(bytes),
-        })
+        assert!(rt;
+            bytes.extend_from_slice(text.as_bytes()).is_ok(),
+            "no memory"
+        );
+        Blob::new(bytes)
+    }
+
+    fn file(rt: &impl Abort, alloc: Global, name: &str, content: &str) -> FileBlob {
+        FileBlob {
+            name: word(rt, alloc, name),
+            content: content_of(rt, alloc, content),
+        }
     }
 
     /// Three files, two of one name.
-    fn three_files(alloc: Global) -> Result<Vec<FileBlob>, AllocError> {
+    fn three_files(rt: &impl Abort, alloc: Global) -> Vec<FileBlob> {
         let mut files = Vec::new(alloc);
-        for (name, content) in [("a", "one"), ("b", ""), ("a", "two")] {
-            files.push(file(alloc, name, content)?)?;
-        }
-        Ok(files)
+        add_file(rt, &mut files, file(rt, alloc, "a", "one"));
+        add_file(rt, &mut files, file(rt, alloc, "b", ""));
+        add_file(rt, &mut files, file(rt, alloc, "a", "two"));
+        files
     }
 
     /// Asserts how many reads have failed, and how many have found a file that is too long.
     fn hold_counts(rt: &impl Abort, files: &MemoryFiles, faults: u64, long_reads: u64) {
-        assert!(rt; files.counts.faults == faults, "not {faults} faults");
-        let found = files.counts.long_reads;
-        assert!(rt; found == long_reads, "not {long_reads} long reads");
+        hold_count(rt, "faults", files.counts.faults, faults);
+        hold_count(rt, "long reads", files.counts.long_reads, long_reads);
+    }
+
+    /// Asserts what a read of this name answers, what stands in the buffer then, and how many reads have failed.
+    fn hold_row(
+        rt: &impl Abort,
+        alloc: Global,
+        files: &mut MemoryFiles,
+        name: &str,
+        answer: Result<(), ReadAnswer>,
+        left: &str,
+        faults: u64,
+    ) {
+        hold_read(rt, alloc, files, name, answer, left);
+        hold_counts(rt, files, faults, 0);
+    }
+
+    /// Asserts what reads of these files answer, of which the third and the ninth fail.
+    fn hold_rows(rt: &impl Abort, alloc: Global, files: &mut MemoryFiles) {
+        let failed = Err(ReadAnswer::Failed);
+        hold_row(rt, alloc, files, "a", Ok(()), ">one", 0);
+        hold_row(rt, alloc, files, "c", failed, ">", 1);
+        hold_row(rt, alloc, files, "a", failed, ">", 2);
+        hold_row(rt, alloc, files, "b", Ok(()), ">", 2);
+        hold_row(rt, alloc, files, "a", Ok(()), ">one", 2);
     }
 
     #[test]
     fn reads_the_first_of_a_name(rt: HostRuntime) -> Result<(), Fail> {
-        let alloc = rt.alloc();
-        let mut files = MemoryFiles::new(three_files(alloc)?, vec![in alloc; 3, 9]?);
-        for (name, answer, left, faults) in [
-            ("a", Ok(()), ">one", 0),
-            ("c", Err(ReadAnswer::Failed), ">", 1),
-            ("a", Err(ReadAnswer::Failed), ">", 2),
-            ("b", Ok(()), ">", 2),
-            ("a", Ok(()), ">one", 2),
-        ] {
-            hold_read(&rt, alloc, &mut files, name, answer, left)?;
-            hold_counts(&rt, &files, faults, 0);
-        }
+        let fail = vec![in rt.alloc(); 3, 9]?;
+        let mut files = MemoryFiles::new(three_files(&rt, rt.alloc()), fail);
+        hold_rows(&rt, rt.alloc(), &mut files);
         Ok(())
+    }
+
+    /// The files of one of so many bytes.
+    fn files_of(rt: &impl Abort, alloc: Global, length: usize) -> MemoryFiles {
+        let mut files = Vec::new(alloc);
+        add_file(rt, &mut files, long_file(rt, alloc, "a", length));
+        MemoryFiles::new(files, Vec::new(alloc))
     }
 
     /// Asserts what a read of a file of so many bytes answers, how many bytes stand in the buffer then, with the one that stood there before, and
@@ -200,20 +229,17 @@ mod tests {
         answer: Result<(), ReadAnswer>,
         left: usize,
         long_reads: u64,
-    ) -> Result<(), AllocError> {
-        let files = vec![in alloc; long_file(alloc, "a", length)?]?;
-        let mut files = MemoryFiles::new(files, Vec::new(alloc));
-        hold_length(rt, alloc, &mut files, "a", answer, left)?;
+    ) {
+        let mut files = files_of(rt, alloc, length);
+        hold_length(rt, alloc, &mut files, "a", answer, left);
         hold_counts(rt, &files, 0, long_reads);
-        Ok(())
     }
 
     #[test]
-    fn refuses_a_long_content(rt: HostRuntime) -> Result<(), Fail> {
+    fn refuses_a_long_content(rt: HostRuntime) {
         let alloc = rt.alloc();
-        hold_bytes(&rt, alloc, FILE_MOST, Ok(()), FILE_MOST + 1, 0)?;
+        hold_bytes(&rt, alloc, FILE_MOST, Ok(()), FILE_MOST + 1, 0);
         let refused = Err(ReadAnswer::TooLong);
-        hold_bytes(&rt, alloc, FILE_MOST + 1, refused, 1, 1)?;
-        Ok(())
+        hold_bytes(&rt, alloc, FILE_MOST + 1, refused, 1, 1);
     }
 }

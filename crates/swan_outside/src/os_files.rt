@@ -196,8 +196,8 @@ fn refusal_of(error: io::Error) -> ReadAnswer
 #[cfg(test)]
 mod tests {
     use super::*;
-    use crate::test_reads::{hold_length, hold_read};
-    use std::alloc::{AllocError, Global};
+    use crate::test_reads::{hold_count, hold_length, hold_read};
+    use std::alloc::Global;
     use std::fs::File;
     use std::process::Abort;
     use std::test::Fail;
@@ -210,27 +210,14 @@ mod tests {
     const LONG: &str = "swan_outside_test_long";
 
     /// Asserts that the files of these names are read, and what stands in the buffer then.
-    fn hold_read_names<T: Runtime>(
-        rt: &impl Abort,
-        alloc: Global,
-        files: &mut OsFiles<T>,
-    ) -> Result<(), AllocError> {
-        for (name, left) in [
-            (SHORT, ">some bytes"),
-            (SPACED, ">others"),
-            ("/dev/null", ">"),
-        ] {
-            hold_read(rt, alloc, files, name, Ok(()), left)?;
-        }
-        Ok(())
+    fn hold_read_names<T: Runtime>(rt: &impl Abort, alloc: Global, files: &mut OsFiles<T>) {
+        hold_read(rt, alloc, files, SHORT, Ok(()), ">some bytes");
+        hold_read(rt, alloc, files, SPACED, Ok(()), ">others");
+        hold_read(rt, alloc, files, "/dev/null", Ok(()), ">");
     }
 
     /// Asserts that what these names name isn't read, and that nothing is left of it.
-    fn hold_refused_names<T: Runtime>(
-        rt: &impl Abort,
-        alloc: Global,
-        files: &mut OsFiles<T>,
-    ) -> Result<(), AllocError> {
+    fn hold_refused_names<T: Runtime>(rt: &impl Abort, alloc: Global, files: &mut OsFiles<T>) {
         for name in [
             "swan_outside_test_short ",
             "swan_outside_test_missing",
@@ -238,16 +225,22 @@ mod tests {
             "",
             "nul\0byte",
         ] {
-            hold_read(rt, alloc, files, name, Err(ReadAnswer::Failed), ">")?;
+            hold_read(rt, alloc, files, name, Err(ReadAnswer::Failed), ">");
         }
-        hold_read(rt, alloc, files, "/dev/zero", Err(ReadAnswer::TooLong), ">")
+        hold_read(rt, alloc, files, "/dev/zero", Err(ReadAnswer::TooLong), ">");
     }
 
     /// Asserts how many reads failed, and how many files were too long.
     fn hold_counts<T: Runtime>(rt: &impl Abort, files: &OsFiles<T>, faults: u64, long_reads: u64) {
-        assert!(rt; files.counts.faults == faults, "not {faults} faults");
-        let found = files.counts.long_reads;
-        assert!(rt; found == long_reads, "not {long_reads} long reads");
+        hold_count(rt, "faults", files.counts.faults, faults);
+        hold_count(rt, "long reads", files.counts.long_reads, long_reads);
+    }
+
+    /// Asserts what reads of all these names answer, and how many failed or found too long a file.
+    fn hold_names<T: Runtime>(rt: &impl Abort, alloc: Global, files: &mut OsFiles<T>) {
+        hold_read_names(rt, alloc, files);
+        hold_refused_names(rt, alloc, files);
+        hold_counts(rt, files, 5, 1);
     }
 
     #[test]
@@ -255,16 +248,27 @@ mod tests {
         fs::write(&rt, SHORT, "some bytes")?;
         fs::write(&rt, SPACED, "others")?;
         let mut files = OsFiles::new(rt);
-        hold_read_names(&rt, rt.alloc(), &mut files)?;
-        hold_refused_names(&rt, rt.alloc(), &mut files)?;
-        hold_counts(&rt, &files, 5, 1);
+        hold_names(&rt, rt.alloc(), &mut files);
         fs::remove_file(&rt, SHORT)?;
         fs::remove_file(&rt, SPACED)?;
         Ok(())
     }
 
-    /// Asserts what a read of a file of the system of so many bytes answers, how many bytes stand in the buffer then, with the one that stood
-    /// there before, and how many files were too long. No read fails.
+    /// Asserts what a read of the long file answers, how many bytes stand in the buffer then, with the one that stood there before, and how
+    /// many files were too long. No read fails.
+    fn hold_long<T: Runtime>(
+        rt: &impl Abort,
+        alloc: Global,
+        files: &mut OsFiles<T>,
+        answer: Result<(), ReadAnswer>,
+        left: usize,
+        long_reads: u64,
+    ) {
+        hold_length(rt, alloc, files, LONG, answer, left);
+        hold_counts(rt, files, 0, long_reads);
+    }
+
+    /// The same of a file of the system of so many bytes.
     fn hold_bytes(
         abort: &impl Abort,
         rt: HostRuntime,
@@ -275,8 +279,7 @@ mod tests {
     ) -> Result<(), Fail> {
         File::create(&rt, LONG)?.set_len(length as u64)?;
         let mut files = OsFiles::new(rt);
-        hold_length(abort, rt.alloc(), &mut files, LONG, answer, left)?;
-        hold_counts(abort, &files, 0, long_reads);
+        hold_long(abort, rt.alloc(), &mut files, answer, left, long_reads);
         fs::remove_file(&rt, LONG)?;
         Ok(())
     }
