@@ -18,11 +18,21 @@ fn book(alloc: Global) -> BookQueues
     BookQueues::new(alloc, RunName::free())
 }
 
+/// Runs a table on new hyperqueues, and answers the first call that isn't met.
+fn run_of(alloc: Global, steps: &[Step]) -> Result<(), WrongStep>
+    requires { allows_steps new_state steps.now ≡ true }
+{
+    let mut queues = book(alloc);
+    let found = run(&mut queues, alloc, steps);
+    drop(queues);
+    found
+}
+
 /// Runs a table, in which each call has to give its answer.
 fn meets(alloc: Global, steps: &[Step]) -> Result<(), Fail>
     requires { allows_steps new_state steps.now ≡ true }
 {
-    run(&mut book(alloc), alloc, steps)?;
+    run_of(alloc, steps)?;
     Ok(())
 }
 
@@ -72,9 +82,9 @@ fn let_go<T: Send + Drop>(_value: T) {}
 /// Lets go so many items of one queue.
 fn lets_go_of(alloc: Global, count: u32) -> Result<(), Fail> {
     let mut queues = book(alloc);
-    push_many(&mut queues, count)?;
+    let pushed = push_many(&mut queues, count);
     let_go(queues);
-    Ok(())
+    pushed
 }
 
 #[test]
@@ -93,7 +103,7 @@ fn queues_and_ends_may_be_sent(rt: HostRuntime) {
 fn finds(alloc: Global, step: usize, steps: &[Step]) -> Result<(), Fail>
     requires { allows_steps new_state steps.now ≡ true }
 {
-    match run(&mut book(alloc), alloc, steps) {
+    match run_of(alloc, steps) {
         Err(found) if found.step == step && found.wrong == Wrong::Answer => Ok(()),
         _ => Err("a wrong answer wasn't found".into()),
     }
