@@ -74,7 +74,7 @@ fn hold_at(rt: &impl Abort, alloc: Global, text: &str, line: &str, said: &str, r
     hold(rt, alloc, text, wanted.as_str(), row);
 }
 
-/// A whole text, from what stands after its first line, with / in the place of line feeds.
+/// A whole text, from what stands after its first line, in which / stands for a line feed.
 fn text_after_first(rt: &impl Abort, alloc: Global, text: &str) -> String {
     let lines = with_line_feeds(rt, alloc, text);
     joined(rt, alloc, &["swan 1\n", lines.as_str()])
@@ -179,7 +179,7 @@ task main
 end
 ";
 
-/// A job with a statement of the holder, with / in the place of line feeds.
+/// A job with a statement of the holder, in which / stands for a line feed.
 fn text_of_statement(rt: &impl Abort, alloc: Global, statement: &str) -> String {
     let lines = with_line_feeds(rt, alloc, statement);
     let texts = ["swan 1\n", CHILDREN, HOLDER, lines.as_str(), "\n", MAIN];

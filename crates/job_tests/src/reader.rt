@@ -45,7 +45,7 @@ pub fn kind_named(name: &str) -> Option<JobKind> {
     }
 }
 
-/// What is refused, where a row names this line and this kind: nothing where the kind is none.
+/// What is refused, where a row names this line and this kind: nothing where no kind has that name.
 pub fn refused_at(line: u64, kind: &str) -> Option<(u64, JobKind)> {
     kind_named(kind).map(|kind| (line, kind))
 }
@@ -398,7 +398,7 @@ fn hold_blocks(
     hold_repeated(rt, alloc, first, line, count, last, expected);
 }
 
-/// Asserts that 32 blocks are accepted with their ends.
+/// Asserts that 32 blocks are accepted with their ends and the end of the task.
 fn hold_closed(rt: &impl Abort, alloc: Global) {
     let closed = made(rt, copies(alloc, "end\n", 33));
     hold_blocks(rt, alloc, "if 1\n", 32, closed.as_str(), None);

@@ -65,7 +65,7 @@ fn step<B: Body>(
     }
 }
 
-/// Adds the word of an ask, and keeps the local of the child that it is for, where it is for one.
+/// Adds the word of an ask, and keeps the local of the child that it is for, or none.
 fn add_ask<L: Drop>(rt: &impl Abort, ask: Ask<L>, asks: &mut String, child: &mut Option<L>) {
     add_word(rt, asks, word_of(&ask));
     *child = child_of(ask);

@@ -37,7 +37,7 @@ fn hold_bad_line<R: Reducer + Send + Sync>(
     assert!(rt; holds, "at {count}");
 }
 
-/// Asserts what the fold of a text that adds leaves, and this report of its faults.
+/// Asserts the sum that the fold of a text leaves, and this report of its faults.
 fn hold_fold(rt: &impl Abort, alloc: Global, text: &str, out: &str, faults: &str) {
     let bytes = text.as_bytes();
     let holds = leaves(rt, alloc, SumReducer, bytes, out.as_bytes(), faults);
@@ -301,10 +301,8 @@ fn joins_of_lines(rt: &impl Abort, alloc: Global, length: usize, last: usize) ->
 /// Asserts whether the fold of these lines leaves their join. Else it leaves nothing.
 fn hold_whole(rt: &impl Abort, alloc: Global, length: usize, last: usize, is_whole: bool) {
     let (whole, too_long) = joins_of_lines(rt, alloc, length, last);
-    assert!(rt;
-        whole == is_whole && too_long != is_whole,
-        "at {length} and {last}"
-    );
+    assert!(rt; whole == is_whole, "whole at {length} and {last}");
+    assert!(rt; too_long != is_whole, "too long at {length} and {last}");
 }
 
 #[test]
@@ -405,7 +403,7 @@ fn hold_part_of_both(rt: &impl Abort, alloc: Global, line: &[u8], sum: Option<&[
 }
 
 #[test]
-fn a_numbers_part_is_its_16_bytes_or_its_text(rt: HostRuntime) {
+fn a_number_is_16_bytes_of_a_sum_and_its_text_of_a_join(rt: HostRuntime) {
     for (line, sum) in [
         (
             b"5".as_slice(),
@@ -574,7 +572,7 @@ fn lines_one_by_one_keep_the_first_bad_line(rt: HostRuntime) {
     );
 }
 
-/// Asserts what lines one by one leave, of which one may be the longest.
+/// Asserts what lines one by one leave, of which one is the longest.
 fn hold_long_parts(rt: &impl Abort, alloc: Global, longest: &[u8]) {
     hold_parts(rt, alloc, &[b"", longest, b""], ZERO, Some(1), longest);
     hold_parts(

@@ -49,7 +49,7 @@ fn long_words_are_cut(rt: HostRuntime) {
     }
 }
 
-/// Whether the index of so many lines like this one counts them after this word.
+/// Whether the index of so many lines like this one has each of them after this word.
 fn counts(rt: &impl Abort, alloc: Global, line: &[u8], word: &str, lines: usize) -> bool {
     let text = repeated(rt, alloc, line, lines);
     let index = counted(rt, alloc, word, lines, "\n");

@@ -84,7 +84,7 @@ fn texts_of(rt: &impl Abort, alloc: Global, names: &Names, outcome: &Outcome) ->
     }
 }
 
-/// Whether these are the output, no line in the input, and this report of the faults.
+/// Whether texts are this output, and a report of no line in the input and of these faults.
 fn are_so(rt: &impl Abort, alloc: Global, texts: &Printed, out: &[u8], faults: &str) -> bool {
     match format!(in alloc; "left input 0\n{faults}") {
         Ok(report) => texts.out.as_slice() == out && texts.report.as_slice() == report.as_bytes(),
@@ -92,7 +92,7 @@ fn are_so(rt: &impl Abort, alloc: Global, texts: &Printed, out: &[u8], faults: &
     }
 }
 
-/// Whether an outcome has, with these names, this output, no line in its input, and this report of its faults.
+/// Whether an outcome leaves such texts, with these names.
 fn is_so(
     rt: &impl Abort,
     alloc: Global,
@@ -105,7 +105,7 @@ fn is_so(
     are_so(rt, alloc, &texts, out, faults)
 }
 
-/// Whether an outcome has this output, no line in its input, and this report of its faults, with names that are made.
+/// The same, with names for which there has to be memory.
 fn outcome_leaves(
     rt: &impl Abort,
     alloc: Global,

@@ -149,8 +149,8 @@ mod tests {
     use std::test::Fail;
     use swan_model::Blob;
 
-    /// The content that a text is.
-    fn content_of(rt: &impl Abort, alloc: Global, text: &str) -> Blob {
+    /// The bytes of a text.
+    fn blob_of(rt: &impl Abort, alloc: Global, text: &str) -> Blob {
         let mut bytes = Vec::new(alloc);
         assert!(rt;
             bytes.extend_from_slice(text.as_bytes()).is_ok(),
@@ -159,10 +159,11 @@ mod tests {
         Blob::new(bytes)
     }
 
+    /// A file of this text.
     fn file(rt: &impl Abort, alloc: Global, name: &str, content: &str) -> FileBlob {
         FileBlob {
             name: word(rt, alloc, name),
-            content: content_of(rt, alloc, content),
+            content: blob_of(rt, alloc, content),
         }
     }
 
@@ -195,7 +196,7 @@ mod tests {
         hold_counts(rt, files, faults, 0);
     }
 
-    /// Asserts what reads of these files answer, of which the third and the ninth fail.
+    /// Asserts what reads of these files answer, of which the third fails, and that of a name that none has.
     fn hold_rows(rt: &impl Abort, alloc: Global, files: &mut MemoryFiles) {
         let failed = Err(ReadAnswer::Failed);
         hold_row(rt, alloc, files, "a", Ok(()), ">one", 0);
@@ -213,7 +214,7 @@ mod tests {
         Ok(())
     }
 
-    /// The files of one of so many bytes.
+    /// Files of which the one that is there has so many bytes.
     fn files_of(rt: &impl Abort, alloc: Global, length: usize) -> MemoryFiles {
         let mut files = Vec::new(alloc);
         add_file(rt, &mut files, long_file(rt, alloc, "a", length));

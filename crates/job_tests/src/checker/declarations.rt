@@ -74,23 +74,23 @@ fn text_of_top(rt: &impl Abort, alloc: Global, first: &str, second: &str) -> Str
     joined(rt, alloc, &texts)
 }
 
-/// Asserts that the top level has no second declaration after a first one.
-fn hold_top(rt: &impl Abort, alloc: Global, first: &str, second: &str) {
+/// Asserts that a second declaration of a name of the top level is a Duplicate there.
+fn hold_duplicate_at_top(rt: &impl Abort, alloc: Global, first: &str, second: &str) {
     let text = text_of_top(rt, alloc, first, second);
     hold(rt, alloc, text.as_str(), "3 Duplicate", text.as_str());
 }
 
-/// Asserts that the top level has none of its declarations after a first one.
-fn hold_top_after(rt: &impl Abort, alloc: Global, first: &str) {
+/// Asserts the same of each declaration of the top level after a first one.
+fn hold_duplicates_at_top(rt: &impl Abort, alloc: Global, first: &str) {
     for second in OF_TOP.lines() {
-        hold_top(rt, alloc, first, second);
+        hold_duplicate_at_top(rt, alloc, first, second);
     }
 }
 
 #[test]
 fn a_name_of_the_top_level_is_declared_once_there(rt: HostRuntime) {
     for first in OF_TOP.lines() {
-        hold_top_after(&rt, rt.alloc(), first);
+        hold_duplicates_at_top(&rt, rt.alloc(), first);
     }
 }
 
@@ -126,35 +126,35 @@ fn hold_two(rt: &impl Abort, alloc: Global, task: &str, first: &str, second: &st
     hold(rt, alloc, text.as_str(), wanted, text.as_str());
 }
 
-/// Asserts that a task has no declaration of a table after a first one.
-fn hold_seconds(rt: &impl Abort, alloc: Global, task: &str, first: &str, table: &str) {
+/// Asserts that each declaration of a table is a Duplicate in a task after a first one of the same name.
+fn hold_duplicates_of(rt: &impl Abort, alloc: Global, task: &str, first: &str, table: &str) {
     for second in table.lines() {
         hold_two(rt, alloc, task, first, second, "4 Duplicate");
     }
 }
 
-/// Asserts that a task has no declaration after a first one.
-fn hold_first(rt: &impl Abort, alloc: Global, task: &str, first: &str) {
-    hold_seconds(rt, alloc, task, first, OF_MAIN);
-    hold_seconds(rt, alloc, task, first, TAKEN);
+/// Asserts the same of all declarations after a first one.
+fn hold_duplicates(rt: &impl Abort, alloc: Global, task: &str, first: &str) {
+    hold_duplicates_of(rt, alloc, task, first, OF_MAIN);
+    hold_duplicates_of(rt, alloc, task, first, TAKEN);
 }
 
-/// Asserts that a task has no declaration after any of a table.
-fn hold_firsts(rt: &impl Abort, alloc: Global, task: &str, table: &str) {
+/// Asserts the same of all declarations after each one of a table.
+fn hold_duplicates_after_each(rt: &impl Abort, alloc: Global, task: &str, table: &str) {
     for first in table.lines() {
-        hold_first(rt, alloc, task, first);
+        hold_duplicates(rt, alloc, task, first);
     }
 }
 
 #[test]
 fn a_name_is_declared_once_in_a_task(rt: HostRuntime) {
-    hold_firsts(&rt, rt.alloc(), "t", OF_MAIN);
-    hold_firsts(&rt, rt.alloc(), "t", TAKEN);
+    hold_duplicates_after_each(&rt, rt.alloc(), "t", OF_MAIN);
+    hold_duplicates_after_each(&rt, rt.alloc(), "t", TAKEN);
 }
 
 #[test]
 fn a_name_is_declared_once_in_main(rt: HostRuntime) {
-    hold_firsts(&rt, rt.alloc(), "main", OF_MAIN);
+    hold_duplicates_after_each(&rt, rt.alloc(), "main", OF_MAIN);
 }
 
 /// Asserts that main takes this neither first nor second.

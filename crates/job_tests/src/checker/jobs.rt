@@ -76,18 +76,18 @@ const TEXTS: &str = "\
 5 Kind,swan 1/output out int/task main/do/push out \"hi\"/end
 1 BadHeader,";
 
+/// Asserts what is said of a text in which / stands for a line feed.
+fn hold_lines(rt: &impl Abort, alloc: Global, text: &str, wanted: &str, row: &str) {
+    let lines = with_line_feeds(rt, alloc, text);
+    hold(rt, alloc, lines.as_str(), wanted, row);
+}
+
 /// Asserts one of those rows.
 fn hold_whole(rt: &impl Abort, alloc: Global, row: &str) {
     match row.split_once(',') {
         Some((wanted, text)) => hold_lines(rt, alloc, text, wanted, row),
         None => panic!(rt; "no text"),
     }
-}
-
-/// Asserts what is said of a text with / in the place of line feeds.
-fn hold_lines(rt: &impl Abort, alloc: Global, text: &str, wanted: &str, row: &str) {
-    let lines = with_line_feeds(rt, alloc, text);
-    hold(rt, alloc, lines.as_str(), wanted, row);
 }
 
 #[test]

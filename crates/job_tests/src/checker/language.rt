@@ -33,7 +33,7 @@ end
 /// Adds a line and a line feed.
 fn push_line(rt: &impl Abort, alloc: Global, text: &mut String, line: &str) {
     let line = joined(rt, alloc, &[line, "\n"]);
-    assert!(rt; text.push_str(line.as_str()).is_ok());
+    assert!(rt; text.push_str(line.as_str()).is_ok(), "no memory");
 }
 
 /// The job with a line put before the line of a number.
@@ -50,7 +50,7 @@ fn job_with(rt: &impl Abort, alloc: Global, line: &str, number: u64) -> String {
     text
 }
 
-/// The job of a row's number and line, in which / is in the place of line feeds.
+/// The job of a row's number and line, in which / stands for a line feed.
 fn job_of_row(rt: &impl Abort, alloc: Global, number: &str, line: &str) -> String {
     let lines = with_line_feeds(rt, alloc, line);
     job_with(rt, alloc, lines.as_str(), number_of_word(rt, number))
