@@ -7,7 +7,7 @@ use std::alloc::Global;
 use std::process::Abort;
 use std::test::Fail;
 
-/// Whether the input from this number on has so many lines, and this text.
+/// Whether the input of so many lines from this number on is this text.
 fn input_is(alloc: Global, number: u64, size: u64, text: &str) -> bool
     requires { size ≤ BULK_MOST }
 {

@@ -71,7 +71,7 @@ pub fn main_with(
 
 /// What an ask is answered in tests: 7 to a read, the bytes `ab` to a pop, and to a test that the queue is
 /// empty in the first statement and isn't in a later one.
-pub fn answer_to(alloc: Global, ask: &Ask<JobLocal>, steps: u64) -> Result<Answer, NoMemory> {
+fn answer_to(alloc: Global, ask: &Ask<JobLocal>, steps: u64) -> Result<Answer, NoMemory> {
     match ask {
         Ask::Read(_) => Ok(Answer::Item(Value::Int(7))),
         Ask::Pop(_) => match Record::of(alloc, b"ab") {
@@ -95,7 +95,7 @@ fn text_of_trouble(alloc: Global, trouble: Trouble, line: u64) -> Result<String,
 
 /// What number an ask pushes, or the trouble by which it ends its task and the line of that step, as text; nothing of
 /// another ask.
-pub fn told_by(alloc: Global, ask: &Ask<JobLocal>, line: u64) -> Result<Option<String>, NoMemory> {
+fn told_by(alloc: Global, ask: &Ask<JobLocal>, line: u64) -> Result<Option<String>, NoMemory> {
     match ask {
         Ask::Push(_, Value::Int(number)) => Ok(Some(text_of_number(alloc, *number)?)),
         Ask::Fail(trouble) => Ok(Some(text_of_trouble(alloc, *trouble, line)?)),

@@ -244,7 +244,7 @@ fn add_ask(
 }
 
 /// Adds the ask of a step of this line. It answers the local of the child that is spawned, or else the task's own.
-fn after_step(
+fn below_step(
     alloc: Global,
     line: u64,
     stepped: (JobLocal, Ask<JobLocal>),
@@ -266,7 +266,7 @@ fn step_down(
 ) -> Result<JobLocal, NoMemory> {
     let line = body.place(&local);
     let stepped = step(alloc, body, local, Answer::Nothing, 9)?;
-    after_step(alloc, line, stepped, asks)
+    below_step(alloc, line, stepped, asks)
 }
 
 /// The asks of a task and then of the child that it spawned last, and so on, each with its line.

@@ -2,7 +2,7 @@
 ghost use Rattle.std.specs.Prelude.{◌≤◌};
 ghost use Rattle.swan_model.specs.declared.plan.TheConstants.{FUEL_MOST};
 
-use crate::asserts::{are_same, assert_none, assert_text};
+use crate::asserts::{are_same, assert_none, assert_text, parts_of};
 use crate::jobs::{plan_of_text, text_of};
 use crate::rows::{HEAD, LOOPS};
 use job_body::{JobBody, JobLocal};
@@ -80,7 +80,7 @@ fn push_values(alloc: Global, all: &mut String, values: &[Value]) -> Result<(), 
 }
 
 /// Adds the texts of what is left of queues.
-fn push_queues(alloc: Global, all: &mut String, queues: &[Values]) -> Result<(), NoMemory> {
+fn push_left(alloc: Global, all: &mut String, queues: &[Values]) -> Result<(), NoMemory> {
     for queue in queues {
         all.push_str("| ")?;
         push_values(alloc, all, queue.as_slice())?;
@@ -100,7 +100,7 @@ fn push_faults(alloc: Global, all: &mut String, faults: &[Fault]) -> Result<(), 
 /// Adds what an outcome tells: the objects, what is left of the queues, and each fault with its line.
 fn push_outcome(alloc: Global, all: &mut String, outcome: &Outcome) -> Result<(), NoMemory> {
     push_values(alloc, all, outcome.objects.as_slice())?;
-    push_queues(alloc, all, outcome.queues.as_slice())?;
+    push_left(alloc, all, outcome.queues.as_slice())?;
     push_faults(alloc, all, outcome.faults.as_slice())
 }
 
@@ -177,7 +177,7 @@ fn leave_the_same(alloc: Global, statements: &str, fuel: u64) -> Result<bool, No
 fn leaves_the_same(alloc: Global, row: &str, most: u64) -> Result<bool, NoMemory>
     requires { most ≤ FUEL_MOST }
 {
-    let Some((statements, _)) = row.split_once(" => ") else {
+    let Some((statements, _)) = parts_of(row) else {
         return Ok(false);
     };
     for fuel in 0..most {

@@ -69,15 +69,15 @@ fn inputs_are_counted(rt: HostRuntime) -> Result<(), Fail> {
 }
 
 /// The refusal of an input whose first line is too long.
-fn long(input: u64) -> Option<PlanAnswer> {
+fn too_long_in(input: u64) -> Option<PlanAnswer> {
     Some(PlanAnswer::RecordTooLong { input, line: 1 })
 }
 
 #[test]
 fn the_first_input_with_a_long_line_is_named(rt: HostRuntime) -> Result<(), Fail> {
     hold_refusal(&rt, rt.alloc(), b'x', 65_535, 65_535, None)?;
-    hold_refusal(&rt, rt.alloc(), b'x', 65_536, 65_536, long(1))?;
-    hold_refusal(&rt, rt.alloc(), b'x', 65_535, 65_536, long(2))
+    hold_refusal(&rt, rt.alloc(), b'x', 65_536, 65_536, too_long_in(1))?;
+    hold_refusal(&rt, rt.alloc(), b'x', 65_535, 65_536, too_long_in(2))
 }
 
 #[test]
@@ -90,7 +90,7 @@ fn an_input_has_at_most_a_million_lines(rt: HostRuntime) -> Result<(), Fail> {
 /// A body may be shared by threads, and a local may go from one to another.
 fn run_in_threads<B: Drop + Send + Sync, L: Drop + Send>(_body: &B, _local: &L) {}
 
-/// The line at which a body's local stands, which both go to threads.
+/// The line at which a local stands. It goes to threads, and so does its body.
 fn line_of(body: &JobBody, local: &JobLocal) -> u64 {
     run_in_threads(body, local);
     body.place(local)
@@ -118,7 +118,7 @@ fn words_of_shown(shown: Shown) -> &'static str {
 }
 
 /// Adds each queue's name and how it is shown.
-fn push_queues(all: &mut String, queues: &[QueueName]) -> Result<(), NoMemory> {
+fn push_queue_names(all: &mut String, queues: &[QueueName]) -> Result<(), NoMemory> {
     for queue in queues {
         all.push_str(queue.name.as_str())?;
         all.push_str(words_of_shown(queue.shown))?;
@@ -127,7 +127,7 @@ fn push_queues(all: &mut String, queues: &[QueueName]) -> Result<(), NoMemory> {
 }
 
 /// Adds each object's name.
-fn push_objects(all: &mut String, objects: &[Word]) -> Result<(), NoMemory> {
+fn push_object_names(all: &mut String, objects: &[Word]) -> Result<(), NoMemory> {
     for name in objects {
         all.push_str(name.as_str())?;
         all.push_str("; ")?;
@@ -138,8 +138,8 @@ fn push_objects(all: &mut String, objects: &[Word]) -> Result<(), NoMemory> {
 /// Each queue's name and how it is shown, and then each object's name.
 fn listed(alloc: Global, names: &Names) -> Result<String, NoMemory> {
     let mut all = String::new(alloc);
-    push_queues(&mut all, names.queues.as_slice())?;
-    push_objects(&mut all, names.objects.as_slice())?;
+    push_queue_names(&mut all, names.queues.as_slice())?;
+    push_object_names(&mut all, names.objects.as_slice())?;
     Ok(all)
 }
 

@@ -329,7 +329,7 @@ fn text_of_counted(alloc: Global, works: u64, place: Option<u64>) -> Result<Stri
     }
 }
 
-/// Takes the first step of a task.
+/// Takes the first step of a task, and answers its local then.
 fn after_first(alloc: Global, body: &JobBody, root: JobLocal) -> Result<JobLocal, NoMemory> {
     let stepped = step(alloc, body, root, Answer::Start, 199)?;
     Ok(stepped.0)

@@ -89,11 +89,13 @@ fn add_queue_name(
     }
 }
 
+/// Adds the names of the queues.
 fn add_queue_names(alloc: Global, queues: &mut QueueNames) -> Result<(), NoMemory> {
     add_queue_name(alloc, queues, "jobs", Shown::Left)?;
     add_queue_name(alloc, queues, "lines", Shown::Out)
 }
 
+/// The names of the queues.
 fn queue_names(alloc: Global) -> Result<QueueNames, NoMemory> {
     let mut queues = QueueNames::new(alloc);
     add_queue_names(alloc, &mut queues)?;
@@ -108,11 +110,13 @@ fn add_object_name(alloc: Global, objects: &mut Words, name: &str) -> Result<(),
     }
 }
 
+/// Adds the names of the objects.
 fn add_object_names(alloc: Global, objects: &mut Words) -> Result<(), NoMemory> {
     add_object_name(alloc, objects, "count")?;
     add_object_name(alloc, objects, "name")
 }
 
+/// The names of the objects.
 fn object_names(alloc: Global) -> Result<Words, NoMemory> {
     let mut objects = Words::new(alloc);
     add_object_names(alloc, &mut objects)?;

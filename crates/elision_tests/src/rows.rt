@@ -62,7 +62,7 @@ fn texts(alloc: Global, words: &str, fuel: u64) -> Result<Printed, Fail> {
 }
 
 /// Whether texts are this output, and a report that ends so.
-fn are(texts: &Printed, out: &[u8], report: &str) -> bool {
+fn texts_are(texts: &Printed, out: &[u8], report: &str) -> bool {
     texts.out.as_slice() == out && texts.report.as_slice().ends_with(report.as_bytes())
 }
 
@@ -75,5 +75,5 @@ pub fn leaves(
     report: &str,
 ) -> Result<bool, Fail> {
     let texts = texts(alloc, words, fuel)?;
-    Ok(are(&texts, out, report))
+    Ok(texts_are(&texts, out, report))
 }

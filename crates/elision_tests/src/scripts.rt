@@ -50,14 +50,14 @@ fn script_of_words(alloc: Global, words: &str) -> Result<Script, Fail> {
 }
 
 /// Whether it has these deeds.
-fn have_deeds(alloc: Global, words: &str, deeds: &str) -> Result<bool, Fail> {
+fn words_have_deeds(alloc: Global, words: &str, deeds: &str) -> Result<bool, Fail> {
     let script = script_of_words(alloc, words)?;
     Ok(has_deeds(&script, deeds))
 }
 
 /// Asserts that it has.
 fn hold_deeds(rt: &impl Abort, alloc: Global, words: &str, deeds: &str) -> Result<(), Fail> {
-    assert!(rt; have_deeds(alloc, words, deeds)?, "{words}");
+    assert!(rt; words_have_deeds(alloc, words, deeds)?, "{words}");
     Ok(())
 }
 

@@ -232,7 +232,7 @@ fn push_65_spawns(alloc: Global, words: &mut String) -> Result<(), Fail> {
     Ok(words.push_str("spawn:0:1000:")?)
 }
 
-/// The words of them.
+/// The words of these tasks.
 fn words_of_65_spawns(alloc: Global) -> Result<String, Fail> {
     let mut words = String::new(alloc);
     push_65_spawns(alloc, &mut words)?;
@@ -249,7 +249,7 @@ fn report_of_depth(alloc: Global) -> Result<String, Fail> {
     Ok(report)
 }
 
-/// Whether the last of tasks in words has no child, for its path.
+/// Whether the last of tasks in words may have no child, since its path has 64 parts.
 fn leaves_of_depth(alloc: Global, words: &str) -> Result<bool, Fail> {
     let report = report_of_depth(alloc)?;
     leaves(alloc, words, 1_000, b"", report.as_str())

@@ -169,6 +169,7 @@ fn add_gives(gives: &mut Gives, words: &str) -> Result<(), Fail> {
     Ok(())
 }
 
+/// The gives of words with commas between them.
 fn gives_of(alloc: Global, words: &str) -> Result<Gives, Fail> {
     let mut gives = Gives::new(alloc);
     add_gives(&mut gives, words)?;
@@ -183,6 +184,7 @@ fn give_of(word: &str) -> Result<Give, Fail> {
     }
 }
 
+/// The give of a place with the mode of this word.
 fn give_at(place: &str, mode: &str) -> Result<Give, Fail> {
     let place = place_of(place)?;
     let mode = mode_of(mode)?;

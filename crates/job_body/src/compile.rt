@@ -297,7 +297,7 @@ fn instruction_of(
     Ok(Instruction { action, next })
 }
 
-/// Adds the instruction of a line.
+/// Adds the instruction of a line. Err is want of memory, and adds none.
 fn add_instruction(
     alloc: Global,
     job: &Source,
@@ -323,7 +323,7 @@ fn add_instruction(
     }
 }
 
-/// Adds the instructions of a job to none, one for each line, by its tasks, by how the block of each line goes on, and by what is
+/// Adds the instructions of a job to an empty program, one for each line, by its tasks, by how the block of each line goes on, and by what is
 /// known before the first one. `O(n log n)` for n lines, names and values of the job.
 fn add_instructions(
     alloc: Global,

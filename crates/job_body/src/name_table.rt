@@ -1,5 +1,5 @@
 // Names in order.
-ghost use Rattle.std.specs.Prelude.{◌≡◌, ◌∷◌, ◌++◌, ◌<◌, ◌≤◌, [], length, ℕ, List, IfOk, IfSome, OnOk};
+ghost use Rattle.std.specs.Prelude.{◌≡◌, ◌∷◌, ◌++◌, ◌<◌, ◌≤◌, [], length, ℕ, List, IfOk, IfSome, OnErr, OnOk};
 ghost use Rattle.job_body.specs.Names.{slot, with_place};
 ghost use Rattle.std.specs.BTreeMap.{get_by_text};
 
@@ -90,10 +90,12 @@ impl NameTable {
         }
         Ok(NameTable { names, places })
     }
+
     /// Adds a name after the others. An Err is want of memory, and leaves no name. `O(log names)`, and a few allocations.
     pub fn add(&mut self, alloc: Global, name: &Word) -> Result<(), NoMemory>
         requires { length self.old < NAMES_MOST }
-        ensures { OnOk result (self.new ≡ self.old ++ name.now ∷ []) }
+        ensures ok { OnOk result (self.new ≡ self.old ++ name.now ∷ []) }
+        ensures err { OnErr result (self.new ≡ []) }
     {
         let before = mem::replace(self, NameTable::new(alloc));
         *self = before.with(alloc, name)?;

@@ -178,14 +178,19 @@ fn lines_have(alloc: Global, text: &str, sizes: &[i64]) -> bool {
     }
 }
 
+/// Asserts that a text has lines of these sizes.
+fn hold_lines(rt: &impl Abort, alloc: Global, text: &str, sizes: &[i64]) {
+    assert!(rt; lines_have(alloc, text, sizes), "of {text:?}");
+}
+
 #[test]
 fn lines_are_the_pieces_between_line_feeds(rt: HostRuntime) {
-    assert!(rt; lines_have(rt.alloc(), "", &[]));
-    assert!(rt; lines_have(rt.alloc(), "\n", &[0]));
-    assert!(rt; lines_have(rt.alloc(), "a", &[1]));
-    assert!(rt; lines_have(rt.alloc(), "a\n", &[1]));
-    assert!(rt; lines_have(rt.alloc(), "ab\n\nc", &[2, 0, 1]));
-    assert!(rt; lines_have(rt.alloc(), "a\r\n", &[2]));
+    hold_lines(&rt, rt.alloc(), "", &[]);
+    hold_lines(&rt, rt.alloc(), "\n", &[0]);
+    hold_lines(&rt, rt.alloc(), "a", &[1]);
+    hold_lines(&rt, rt.alloc(), "a\n", &[1]);
+    hold_lines(&rt, rt.alloc(), "ab\n\nc", &[2, 0, 1]);
+    hold_lines(&rt, rt.alloc(), "a\r\n", &[2]);
 }
 
 // So many empty lines, and then a line of this many bytes, if of any.
@@ -217,7 +222,7 @@ fn hold_input(
 }
 
 #[test]
-fn an_input_is_refused_past_its_lines(rt: HostRuntime) -> Result<(), Fail> {
+fn an_input_is_refused_past_the_most_lines(rt: HostRuntime) -> Result<(), Fail> {
     let too_many = Some(LinesAnswer::TooMany);
     hold_input(&rt, rt.alloc(), LINES_MOST, 0, None)?;
     hold_input(&rt, rt.alloc(), LINES_MOST + 1, 0, too_many)?;

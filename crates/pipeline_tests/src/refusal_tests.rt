@@ -33,7 +33,10 @@ fn refusal(rt: &impl Abort, alloc: Global, of: Of, text: &[u8]) -> Option<LinesA
 fn hold_refusal(rt: &impl Abort, alloc: Global, text: &[u8], why: Option<LinesAnswer>) {
     let bytes = text.len();
     for of in [Of::Index, Of::Conversion, Of::Fold] {
-        assert!(rt; refusal(rt, alloc, of, text) == why, "{of:?}: {bytes} bytes");
+        assert!(rt;
+            refusal(rt, alloc, of, text) == why,
+            "{of:?}: {bytes} bytes"
+        );
     }
 }
 

@@ -7,53 +7,6 @@ use crate::{Step, Wrong, WrongStep, calls};
 use queues::Queues;
 use std::alloc::Global;
 
-/// Makes one call that ends a frame, or takes what is left of a queue. Another call isn't met here.
-fn make_end<Q: Queues>(queues: &mut Q, step: Step) -> Result<(), Wrong>
-    requires free { Q.name queues.old ≡ None }
-    requires may { allows_step (Q.state queues.old) step ≡ true }
-    ensures free { Q.name queues.new ≡ None }
-    ensures after { OnOk result (Q.state queues.new ≡ after_step (Q.state queues.old) step.entry) }
-{
-    match step {
-        Step::Finish(frame) => {
-            calls::finish(queues, frame);
-            Ok(())
-        }
-        Step::TakeRest(queue, items) => calls::take_rest(queues, queue, items),
-        _ => Err(Wrong::Answer),
-    }
-}
-
-/// Makes one call that pops, or that ends.
-fn make_pop<Q: Queues>(queues: &mut Q, step: Step) -> Result<(), Wrong>
-    requires free { Q.name queues.old ≡ None }
-    requires may { allows_step (Q.state queues.old) step ≡ true }
-    ensures free { Q.name queues.new ≡ None }
-    ensures after { OnOk result (Q.state queues.new ≡ after_step (Q.state queues.old) step.entry) }
-{
-    match step {
-        Step::Pop(frame, queue, item) => calls::pop(queues, frame, queue, item),
-        Step::PopNone(frame, queue) => calls::pop_none(queues, frame, queue),
-        Step::PopWait(frame, queue, cause) => calls::pop_wait(queues, frame, queue, cause),
-        _ => make_end(queues, step),
-    }
-}
-
-/// Makes one call that pushes, or that asks whether there is an item, or that pops or ends.
-fn make_use<Q: Queues>(queues: &mut Q, step: Step) -> Result<(), Wrong>
-    requires free { Q.name queues.old ≡ None }
-    requires may { allows_step (Q.state queues.old) step ≡ true }
-    ensures free { Q.name queues.new ≡ None }
-    ensures after { OnOk result (Q.state queues.new ≡ after_step (Q.state queues.old) step.entry) }
-{
-    match step {
-        Step::Push(frame, queue, item) => calls::push(queues, frame, queue, item),
-        Step::Test(frame, queue, answer) => calls::test(queues, frame, queue, answer),
-        Step::Look(frame, queue, answer) => calls::look(queues, frame, queue, answer),
-        _ => make_pop(queues, step),
-    }
-}
-
 /// Makes one call, which has to give its answer.
 fn make<Q: Queues>(queues: &mut Q, alloc: Global, step: Step) -> Result<(), Wrong>
     requires free { Q.name queues.old ≡ None }
@@ -65,7 +18,17 @@ fn make<Q: Queues>(queues: &mut Q, alloc: Global, step: Step) -> Result<(), Wron
         Step::CreateRoot(number, item) => calls::create_root(queues, alloc, number, item),
         Step::Create(frame, number) => calls::create(queues, frame, number),
         Step::Spawn(parent, child, queue, mode) => calls::spawn(queues, parent, child, queue, mode),
-        _ => make_use(queues, step),
+        Step::Push(frame, queue, item) => calls::push(queues, frame, queue, item),
+        Step::Pop(frame, queue, item) => calls::pop(queues, frame, queue, item),
+        Step::PopNone(frame, queue) => calls::pop_none(queues, frame, queue),
+        Step::PopWait(frame, queue, cause) => calls::pop_wait(queues, frame, queue, cause),
+        Step::Test(frame, queue, answer) => calls::test(queues, frame, queue, answer),
+        Step::Look(frame, queue, answer) => calls::look(queues, frame, queue, answer),
+        Step::Finish(frame) => {
+            calls::finish(queues, frame);
+            Ok(())
+        }
+        Step::TakeRest(queue, items) => calls::take_rest(queues, queue, items),
     }
 }
 

@@ -127,6 +127,7 @@ pub struct StagedTask<B: Body> {
 
 impl<B: Body> StagedTask<B> {
     /// Stands so to its next step. `O(1)`.
+    #[inline(always)]
     pub fn stands(&mut self, stage: Stage<B::Local>)
         ensures { self.new ≡ record self.old { stage = Some stage } }
     {

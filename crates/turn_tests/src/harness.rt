@@ -45,7 +45,7 @@ fn does(turns: &mut PopTurns, step: Step) -> Result<bool, NoMemory>
     }
 }
 
-/// Takes these steps. Ok holds the first one that is answered otherwise, counted from 0. Err is want of memory.
+/// Takes these steps. Ok holds the first one that is answered otherwise, if one is, counted from 0. Err is want of memory.
 fn takes(turns: &mut PopTurns, steps: &[Step]) -> Result<Option<usize>, NoMemory>
     requires { allows_steps turns.old steps.now ≡ true }
 {

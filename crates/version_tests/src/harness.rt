@@ -87,7 +87,7 @@ fn ends(versions: &mut Versions, frame: u64) -> Result<(), NoMemory>
     versions.finish(frame)
 }
 
-/// Whether the objects answer a step as it has to be. A step that only changes them has no answer.
+/// Whether the objects answer a step as they have to. A step that only changes them has no answer.
 fn answers(versions: &Versions, step: Step) -> bool
     requires { allows_step versions.now step ≡ true }
 {
@@ -95,7 +95,11 @@ fn answers(versions: &Versions, step: Step) -> bool
         Step::Ready(frame, answer) => versions.ready(frame) == answer,
         Step::Reads(frame, place, answer) => reads(versions, frame, place, answer),
         Step::ReadsRecord(frame, place, size) => reads_record(versions, frame, place, size),
-        _ => true,
+        Step::Create(_, _, _) => true,
+        Step::CreateRecord(_, _, _) => true,
+        Step::Access(_, _, _, _, _) => true,
+        Step::Write(_, _, _) => true,
+        Step::Finish(_) => true,
     }
 }
 
