@@ -1,18 +1,26 @@
 // Calls in one thread, with the answers worked out by hand.
-ghost use Rattle.std.specs.Prelude.{◌≡◌, ◌≤◌, None, IfOk};
+ghost use Rattle.std.specs.Prelude.{◌≡◌, ◌≤◌, None};
 
-use crate::helpers::{Step, drain, fill, follows, free_segment, pops};
+use crate::helpers::{
+    Step, advanced, drain, fill, free_segment, goes_in, hold_empty, hold_pops, hold_steps,
+};
 use ring_segments::{Consumer, Link, Note, Producer, Tag};
 use std::alloc::Global;
 use std::mem::size_of;
-use std::test::Fail;
-use swan_model::{NoMemory, Record, Value};
+use std::process::Abort;
+use swan_model::{Record, Value};
 
-#[test]
-fn a_full_ring_hands_the_item_back_and_an_empty_one_gives_none(
-    rt: HostRuntime,
-) -> Result<(), Fail> {
-    let (mut producer, mut consumer) = free_segment(rt.alloc(), 0, 2)?;
+/// Asserts how many items were pushed and popped.
+fn hold_counts(rt: &impl Abort, pushed: u64, popped: u64, count: u64) {
+    assert!(rt; pushed == count, "pushed {pushed}, not {count}");
+    assert!(rt; popped == count, "popped {popped}, not {count}");
+}
+
+/// Asserts what calls on the two ends of a segment of two places answer.
+fn hold_two_places(rt: &impl Abort, producer: &mut Producer, consumer: &mut Consumer)
+    requires name { producer.old.of.id.name ≡ None }
+    requires segment { consumer.old.of ≡ producer.old.of }
+{
     let steps = [
         Step::Empty,
         Step::Holds(false),
@@ -30,28 +38,32 @@ fn a_full_ring_hands_the_item_back_and_an_empty_one_gives_none(
         Step::Note,
         Step::Empty,
     ];
-    assert_eq!(rt; follows(&mut producer, &mut consumer, &steps), steps.len());
-    assert_eq!(rt; producer.pushed(), 3);
-    assert_eq!(rt; consumer.popped(), 3);
-    Ok(())
+    hold_steps(rt, producer, consumer, &steps);
+    hold_counts(rt, producer.pushed(), consumer.popped(), 3);
+}
+
+#[test]
+fn a_full_ring_hands_the_item_back_and_an_empty_one_gives_none(rt: HostRuntime) {
+    let (mut producer, mut consumer) = free_segment(&rt, rt.alloc(), 0, 2);
+    hold_two_places(&rt, &mut producer, &mut consumer);
 }
 
 /// The consumer of a segment of key 1 that has 4.
-fn next_with_four(alloc: Global) -> Result<Consumer, Fail>
-    ensures { IfOk result (λ next. next.popped ≡ 0) }
+fn next_with_four(rt: &impl Abort, alloc: Global) -> Consumer
+    ensures { result.popped ≡ 0 }
 {
-    let (mut producer, consumer) = free_segment(alloc, 1, 2)?;
-    if producer.push(Value::Int(4)).is_err() {
-        return Err("it has room".into());
-    }
-    Ok(consumer)
+    let (mut producer, consumer) = free_segment(rt, alloc, 1, 2);
+    let is_pushed = goes_in(&mut producer, 4);
+    drop(producer);
+    assert!(rt; is_pushed, "4 isn't pushed");
+    consumer
 }
 
 /// What is left of 1, 2 and 3 in a segment of key 0 once 1 is popped, and its link to one of key 1 that has 4.
-fn linked(alloc: Global) -> Result<(Consumer, Link), Fail>
-    ensures { IfOk result (λ both. both.1.of ≡ both.0.of) }
+fn linked(rt: &impl Abort, alloc: Global) -> (Consumer, Link)
+    ensures { result.1.of ≡ result.0.of }
 {
-    let (mut producer, mut consumer) = free_segment(alloc, 0, 2)?;
+    let (mut producer, mut consumer) = free_segment(rt, alloc, 0, 2);
     let steps = [
         Step::Push(1),
         Step::Push(2),
@@ -59,38 +71,49 @@ fn linked(alloc: Global) -> Result<(Consumer, Link), Fail>
         Step::Pop(1),
         Step::Push(3),
     ];
-    if follows(&mut producer, &mut consumer, &steps) != steps.len() {
-        return Err("another answer".into());
+    hold_steps(rt, &mut producer, &mut consumer, &steps);
+    (consumer, producer.link(next_with_four(rt, alloc)))
+}
+
+/// Asserts the key of a segment.
+fn hold_key(rt: &impl Abort, found: u64, key: u64) {
+    assert!(rt; found == key, "the key is {found}, not {key}");
+}
+
+/// Both ends of a link that isn't followed yet.
+fn refused(rt: &impl Abort, consumer: Consumer, link: Link) -> (Consumer, Link)
+    requires { link.of ≡ consumer.of }
+    ensures { result ≡ (consumer, link) }
+{
+    match consumer.advance(link) {
+        Ok(next) => {
+            drop(next);
+            panic!(rt; "a link is followed with items left")
+        }
+        Err(both) => both,
     }
-    Ok((consumer, producer.link(next_with_four(alloc)?)))
 }
 
 #[test]
-fn a_link_is_followed_once_all_is_popped(rt: HostRuntime) -> Result<(), Fail> {
-    let (consumer, link) = linked(rt.alloc())?;
-    assert_eq!(rt; link.key(), 0);
-    let Err((mut consumer, link)) = consumer.advance(link) else {
-        panic!(rt; "items are left")
-    };
-    assert!(rt; pops(&mut consumer, &[2, 3]));
-    assert!(rt; consumer.pop().is_none());
-    let Ok(mut next) = consumer.advance(link) else {
-        panic!(rt; "nothing is left")
-    };
-    assert_eq!(rt; next.key(), 1);
-    assert!(rt; pops(&mut next, &[4]));
-    assert!(rt; next.pop().is_none());
-    Ok(())
+fn a_link_is_followed_once_all_is_popped(rt: HostRuntime) {
+    let (consumer, link) = linked(&rt, rt.alloc());
+    hold_key(&rt, link.key(), 0);
+    let (mut consumer, link) = refused(&rt, consumer, link);
+    hold_pops(&rt, &mut consumer, &[2, 3]);
+    hold_empty(&rt, "the first segment", &mut consumer);
+    let mut next = advanced(&rt, consumer, link);
+    hold_key(&rt, next.key(), 1);
+    hold_pops(&rt, &mut next, &[4]);
+    hold_empty(&rt, "the next segment", &mut next);
 }
 
 #[test]
-fn a_note_of_a_link_is_learnt(rt: HostRuntime) -> Result<(), Fail> {
-    let (mut consumer, mut link) = linked(rt.alloc())?;
+fn a_note_of_a_link_is_learnt(rt: HostRuntime) {
+    let (mut consumer, mut link) = linked(&rt, rt.alloc());
     consumer.learn(link.note());
-    assert!(rt; pops(&mut consumer, &[2, 3]));
+    hold_pops(&rt, &mut consumer, &[2, 3]);
     consumer.learn(link.note());
-    assert!(rt; consumer.advance(link).is_ok());
-    Ok(())
+    drop(advanced(&rt, consumer, link));
 }
 
 #[test]
@@ -99,24 +122,33 @@ fn a_note_has_no_bytes(rt: HostRuntime) {
 }
 
 /// Whether a ring of this size takes as many numbers as that, and gives them in order, many times round.
-fn goes_round(alloc: Global, size: u32) -> Result<bool, NoMemory>
-    requires { (1 ≤ size) × (size ≤ 50) }
+fn goes_round(producer: &mut Producer, consumer: &mut Consumer, size: u32) -> bool
+    requires { producer.old.of.id.name ≡ None }
 {
-    let (mut producer, mut consumer) = free_segment(alloc, 0, size)?;
     for _ in 0..200 {
-        if fill(&mut producer) != size || drain(&mut consumer) != Some(size) {
-            return Ok(false);
+        if fill(producer) != size || drain(consumer) != Some(size) {
+            return false;
         }
     }
-    Ok(true)
+    true
+}
+
+/// Asserts that of a ring of this size.
+fn hold_round(rt: &impl Abort, alloc: Global, size: u32)
+    requires { (1 ≤ size) × (size ≤ 50) }
+{
+    let (mut producer, mut consumer) = free_segment(rt, alloc, 0, size);
+    let is_so = goes_round(&mut producer, &mut consumer, size);
+    drop(producer);
+    drop(consumer);
+    assert!(rt; is_so, "at {size}");
 }
 
 #[test]
-fn rings_of_one_two_and_sixteen_places_go_round(rt: HostRuntime) -> Result<(), Fail> {
-    for size in [1, 2, 16] {
-        assert!(rt; goes_round(rt.alloc(), size)?, "at {size}");
-    }
-    Ok(())
+fn rings_of_one_two_and_sixteen_places_go_round(rt: HostRuntime) {
+    hold_round(&rt, rt.alloc(), 1);
+    hold_round(&rt, rt.alloc(), 2);
+    hold_round(&rt, rt.alloc(), 16);
 }
 
 /// Pushes a record of these bytes, and says whether it went in.
@@ -148,41 +180,49 @@ fn pops_text(consumer: &mut Consumer, text: &str) -> bool {
     }
 }
 
+/// Asserts that three records are pushed, and that the first is popped.
+fn hold_texts(rt: &impl Abort, alloc: Global, producer: &mut Producer, consumer: &mut Consumer)
+    requires { producer.old.of.id.name ≡ None }
+{
+    assert!(rt; push_texts(producer, alloc), "a record isn't pushed");
+    assert!(rt; pops_text(consumer, "ab"), "another record");
+}
+
+/// Asserts that an item is there.
+fn hold_there(rt: &impl Abort, consumer: &mut Consumer) {
+    assert!(rt; consumer.holds(), "nothing is there");
+}
+
 #[test]
-fn records_go_through_and_those_left_are_dropped(rt: HostRuntime) -> Result<(), Fail> {
-    let (mut producer, mut consumer) = free_segment(rt.alloc(), 0, 3)?;
-    assert!(rt; push_texts(&mut producer, rt.alloc()));
-    assert!(rt; pops_text(&mut consumer, "ab"));
+fn records_go_through_and_those_left_are_dropped(rt: HostRuntime) {
+    let (mut producer, mut consumer) = free_segment(&rt, rt.alloc(), 0, 3);
+    hold_texts(&rt, rt.alloc(), &mut producer, &mut consumer);
     drop(producer);
-    assert!(rt; consumer.holds());
-    Ok(())
+    hold_there(&rt, &mut consumer);
 }
 
-/// Whether it is the tag of the plan's queue 3.
-fn is_of_root_three(tag: &Tag) -> bool {
-    matches!(tag, Tag::Root(3))
+/// Asserts that an end of a segment shows the tag of the plan's queue 3, and key 7.
+fn hold_shown(rt: &impl Abort, end: &str, tag: &Tag, key: u64) {
+    assert!(rt; matches!(tag, Tag::Root(3)), "the tag of the {end}");
+    assert!(rt; key == 7, "{end}: key {key}, not 7");
 }
 
 #[test]
-fn both_ends_show_tag_and_key(rt: HostRuntime) -> Result<(), Fail> {
-    let (producer, consumer) = free_segment(rt.alloc(), 7, 1)?;
-    assert_eq!(rt; producer.key(), 7);
-    assert_eq!(rt; consumer.key(), 7);
-    assert!(rt; is_of_root_three(producer.tag()));
-    assert!(rt; is_of_root_three(consumer.tag()));
-    Ok(())
+fn both_ends_show_tag_and_key(rt: HostRuntime) {
+    let (producer, consumer) = free_segment(&rt, rt.alloc(), 7, 1);
+    hold_shown(&rt, "producer", producer.tag(), producer.key());
+    hold_shown(&rt, "consumer", consumer.tag(), consumer.key());
 }
 
 /// Lets go of a value that may be sent to another thread.
 fn let_go<T: Send + Drop>(_value: T) {}
 
 #[test]
-fn ends_links_and_notes_may_cross_to_another_thread(rt: HostRuntime) -> Result<(), Fail> {
-    let (mut producer, consumer) = free_segment(rt.alloc(), 0, 1)?;
-    let (next_producer, next) = free_segment(rt.alloc(), 1, 1)?;
+fn ends_links_and_notes_may_cross_to_another_thread(rt: HostRuntime) {
+    let (mut producer, consumer) = free_segment(&rt, rt.alloc(), 0, 1);
+    let (next_producer, next) = free_segment(&rt, rt.alloc(), 1, 1);
     let_go(producer.note());
     let_go(producer.link(next));
     let_go(next_producer);
     let_go(consumer);
-    Ok(())
 }

@@ -1,11 +1,10 @@
 // The two ends in two threads.
-ghost use Rattle.std.specs.Prelude.{◌≡◌, None, IfSome};
+ghost use Rattle.std.specs.Prelude.{◌≡◌, None, Some, IfSome};
 
-use crate::helpers::{free_segment, pops};
+use crate::helpers::{advanced, free_segment, goes_in, hold_pops, is_number, pops};
 use ring_segments::{Consumer, Link, Producer};
-use std::test::Fail;
-use std::thread::{join, yield_now};
-use swan_model::Value;
+use std::process::Abort;
+use std::thread::{Threads, join, yield_now};
 
 /// How many numbers go through.
 const MANY: u32 = 100_000;
@@ -23,9 +22,10 @@ fn push_up_to(producer: &mut Producer, many: u32) -> bool
         if next >= many {
             return true;
         }
-        match producer.push(Value::Int(next as i64)) {
-            Ok(()) => next += 1,
-            Err(_) => yield_now(),
+        if goes_in(producer, next as i64) {
+            next += 1;
+        } else {
+            yield_now();
         }
     }
     false
@@ -46,13 +46,12 @@ fn pop_all(mut consumer: Consumer) -> bool {
             return true;
         }
         match consumer.pop() {
-            Some(Value::Int(number)) => {
-                if number != next as i64 {
+            Some(item) => {
+                if !is_number(item, next as i64) {
                     return false;
                 }
                 next += 1;
             }
-            Some(Value::Bytes(_)) => return false,
             None => yield_now(),
         }
     }
@@ -60,10 +59,8 @@ fn pop_all(mut consumer: Consumer) -> bool {
 }
 
 #[test]
-fn a_hundred_thousand_numbers_go_through_three_places_in_order(
-    rt: HostRuntime,
-) -> Result<(), Fail> {
-    let (producer, consumer) = free_segment(rt.alloc(), 0, 3)?;
+fn a_hundred_thousand_numbers_go_through_three_places_in_order(rt: HostRuntime) {
+    let (producer, consumer) = free_segment(&rt, rt.alloc(), 0, 3);
     let (pushed, popped) = join(
         &rt,
         move || push_last(producer, MANY),
@@ -71,7 +68,6 @@ fn a_hundred_thousand_numbers_go_through_three_places_in_order(
     );
     assert!(rt; pushed);
     assert!(rt; popped);
-    Ok(())
 }
 
 /// Pushes 0 to 999, links to the next segment, and pushes 0 there. No link comes where a side had too many tries.
@@ -109,14 +105,21 @@ fn pop_a_thousand(mut consumer: Consumer) -> Option<Consumer>
     Some(consumer)
 }
 
-#[test]
-fn a_segment_is_linked_while_its_consumer_is_in_another_thread(
-    rt: HostRuntime,
-) -> Result<(), Fail> {
-    let (producer, consumer) = free_segment(rt.alloc(), 0, 2)?;
-    let (next_producer, next) = free_segment(rt.alloc(), 1, 1)?;
-    let (link, consumer) = join(
-        &rt,
+/// Links a segment to the next one while its consumer is in another thread. What each thread gives back.
+fn link_apart<R: Threads>(
+    rt: &R,
+    ends: (Producer, Consumer),
+    next_ends: (Producer, Consumer),
+) -> (Option<Link>, Option<Consumer>)
+    requires free { (ends.0.of.id.name ≡ None) × (next_ends.0.of.id.name ≡ None) }
+    requires next { next_ends.1.popped ≡ 0 }
+    ensures link { IfSome result.0 (λ link. link.of ≡ ends.0.of) }
+    ensures consumer { IfSome result.1 (λ c. c.of ≡ ends.1.of) }
+{
+    let (producer, consumer) = ends;
+    let (next_producer, next) = next_ends;
+    join(
+        rt,
         move || -> Option<Link>
             requires free { (producer.of.id.name ≡ None) × (next_producer.of.id.name ≡ None) }
             requires next { next.popped ≡ 0 }
@@ -125,13 +128,36 @@ fn a_segment_is_linked_while_its_consumer_is_in_another_thread(
         move || -> Option<Consumer>
             ensures { IfSome result (λ c. c.of ≡ consumer.of) }
         { pop_a_thousand(consumer) },
-    );
-    let (Some(link), Some(consumer)) = (link, consumer) else {
-        panic!(rt; "one side has tried too often")
-    };
-    let Ok(mut next) = consumer.advance(link) else {
-        panic!(rt; "all was popped")
-    };
-    assert!(rt; pops(&mut next, &[0]));
-    Ok(())
+    )
+}
+
+/// The link of a side that hasn't tried too often.
+fn link_there(rt: &impl Abort, link: Option<Link>) -> Link
+    ensures { link ≡ Some result }
+{
+    match link {
+        Some(link) => link,
+        None => panic!(rt; "the producer's side has tried too often"),
+    }
+}
+
+/// The consumer of a side that hasn't tried too often.
+fn consumer_there(rt: &impl Abort, consumer: Option<Consumer>) -> Consumer
+    ensures { consumer ≡ Some result }
+{
+    match consumer {
+        Some(consumer) => consumer,
+        None => panic!(rt; "the consumer's side has tried too often"),
+    }
+}
+
+#[test]
+fn a_segment_is_linked_while_its_consumer_is_in_another_thread(rt: HostRuntime) {
+    let ends = free_segment(&rt, rt.alloc(), 0, 2);
+    let next_ends = free_segment(&rt, rt.alloc(), 1, 1);
+    let (link, consumer) = link_apart(&rt, ends, next_ends);
+    let link = link_there(&rt, link);
+    let consumer = consumer_there(&rt, consumer);
+    let mut next = advanced(&rt, consumer, link);
+    hold_pops(&rt, &mut next, &[0]);
 }
