@@ -98,32 +98,51 @@ impl Sink for HonestSink {
 mod tests {
     use super::*;
     use crate::put_all;
+    use crate::test_puts::hold_written;
     use std::process::Abort;
-    use std::test::Fail;
+
+    /// An empty sink with room for so many bytes. The test ends where there is no memory for it.
+    fn honest_sink(rt: &impl Abort, alloc: Global, room: usize) -> HonestSink {
+        match HonestSink::new(alloc, room) {
+            Ok(sink) => sink,
+            Err(_) => panic!(rt; "no memory"),
+        }
+    }
+
+    /// Asserts that a put of these bytes doesn't fail.
+    fn hold_put(rt: &impl Abort, sink: &mut HonestSink, bytes: &str) {
+        let is_put = put_all(sink, bytes.as_bytes()).is_ok();
+        assert!(rt; is_put, "the put of {bytes}");
+    }
 
     /// Asserts that a put of these bytes doesn't fail, and what is told then.
-    fn hold_told(rt: &impl Abort, sink: &mut HonestSink, bytes: &str, told: Option<&str>) {
-        assert!(rt;
-            put_all(sink, bytes.as_bytes()).is_ok(),
-            "the put of {bytes}"
-        );
-        let wanted = told.map(|text| text.as_bytes());
-        assert!(rt; sink.written() == wanted, "what is told after {bytes}");
+    fn hold_told(rt: &impl Abort, sink: &mut HonestSink, bytes: &str, told: &str) {
+        hold_put(rt, sink, bytes);
+        match sink.written() {
+            Some(found) => hold_written(rt, bytes, found, told.as_bytes()),
+            None => panic!(rt; "nothing is told after {bytes}"),
+        }
+    }
+
+    /// Asserts that a put of these bytes doesn't fail, and that nothing is told then.
+    fn hold_untold(rt: &impl Abort, sink: &mut HonestSink, bytes: &str) {
+        hold_put(rt, sink, bytes);
+        assert!(rt; sink.written().is_none(), "told after {bytes}");
+    }
+
+    /// Asserts what puts to a sink with room for 5 bytes leave it to tell.
+    fn hold_puts(rt: &impl Abort, sink: &mut HonestSink) {
+        hold_told(rt, sink, "", "");
+        hold_told(rt, sink, "ab", "ab");
+        hold_told(rt, sink, "cde", "abcde");
+        hold_told(rt, sink, "", "abcde");
+        hold_untold(rt, sink, "f");
+        hold_untold(rt, sink, "g");
     }
 
     #[test]
-    fn takes_all_and_tells_within_its_room(rt: HostRuntime) -> Result<(), Fail> {
-        let mut sink = HonestSink::new(rt.alloc(), 5)?;
-        for (bytes, told) in [
-            ("", Some("")),
-            ("ab", Some("ab")),
-            ("cde", Some("abcde")),
-            ("", Some("abcde")),
-            ("f", None),
-            ("g", None),
-        ] {
-            hold_told(&rt, &mut sink, bytes, told);
-        }
-        Ok(())
+    fn takes_all_and_tells_within_its_room(rt: HostRuntime) {
+        let mut sink = honest_sink(&rt, rt.alloc(), 5);
+        hold_puts(&rt, &mut sink);
     }
 }

@@ -37,6 +37,8 @@ mod os_files;
 mod os_sink;
 mod sink;
 #[cfg(test)]
+mod test_puts;
+#[cfg(test)]
 mod test_reads;
 
 pub use answer::{Failed, ReadAnswer};

@@ -114,8 +114,8 @@ impl Sink for MemorySink {
 #[cfg(test)]
 mod tests {
     use super::*;
+    use crate::test_puts::{hold_faults, hold_put_answer, hold_written, memory_sink};
     use std::process::Abort;
-    use std::test::Fail;
 
     /// A put through the trait's bound, of a piece that isn't empty.
     fn put_piece<S: Sink>(sink: &mut S, piece: &str) -> Result<usize, Failed> {
@@ -134,27 +134,23 @@ mod tests {
         written: &str,
         faults: u64,
     ) {
-        assert!(rt; put_piece(sink, piece) == answer, "the answer at {piece}");
-        assert!(rt;
-            sink.written() == written.as_bytes(),
-            "the bytes at {piece}"
-        );
-        assert!(rt; sink.faults == faults, "faults at {piece}");
+        hold_put_answer(rt, piece, put_piece(sink, piece), answer);
+        hold_written(rt, piece, sink.written(), written.as_bytes());
+        hold_faults(rt, piece, sink.faults, faults);
+    }
+
+    /// Asserts what puts to a sink answer that takes 3 bytes at once, has room for 6, and whose second put fails.
+    fn hold_pieces(rt: &impl Abort, sink: &mut MemorySink) {
+        hold_piece(rt, sink, "abcd", Ok(3), "abc", 0);
+        hold_piece(rt, sink, "d", Err(Failed), "abc", 1);
+        hold_piece(rt, sink, "d", Ok(1), "abcd", 1);
+        hold_piece(rt, sink, "efg", Ok(2), "abcdef", 1);
+        hold_piece(rt, sink, "g", Err(Failed), "abcdef", 2);
     }
 
     #[test]
-    fn takes_the_least_of_the_limits(rt: HostRuntime) -> Result<(), Fail> {
-        let fail = vec![in rt.alloc(); 2]?;
-        let mut sink = MemorySink::new(rt.alloc(), 3, 6, fail)?;
-        for (piece, answer, written, faults) in [
-            ("abcd", Ok(3), "abc", 0),
-            ("d", Err(Failed), "abc", 1),
-            ("d", Ok(1), "abcd", 1),
-            ("efg", Ok(2), "abcdef", 1),
-            ("g", Err(Failed), "abcdef", 2),
-        ] {
-            hold_piece(&rt, &mut sink, piece, answer, written, faults);
-        }
-        Ok(())
+    fn takes_the_least_of_the_limits(rt: HostRuntime) {
+        let mut sink = memory_sink(&rt, rt.alloc(), 3, 6, 2);
+        hold_pieces(&rt, &mut sink);
     }
 }

@@ -200,7 +200,6 @@ mod tests {
     use std::alloc::Global;
     use std::fs::File;
     use std::process::Abort;
-    use std::test::Fail;
 
     const SHORT: &str = "swan_outside_test_short";
 
@@ -210,23 +209,24 @@ mod tests {
     const LONG: &str = "swan_outside_test_long";
 
     /// Asserts that the files of these names are read, and what stands in the buffer then.
-    fn hold_read_names<T: Runtime>(rt: &impl Abort, alloc: Global, files: &mut OsFiles<T>) {
+    fn hold_read_names<F: Files>(rt: &impl Abort, alloc: Global, files: &mut F) {
         hold_read(rt, alloc, files, SHORT, Ok(()), ">some bytes");
         hold_read(rt, alloc, files, SPACED, Ok(()), ">others");
         hold_read(rt, alloc, files, "/dev/null", Ok(()), ">");
     }
 
+    /// Asserts that a read of what this name names fails, and that nothing is left of it.
+    fn hold_failed<F: Files>(rt: &impl Abort, alloc: Global, files: &mut F, name: &str) {
+        hold_read(rt, alloc, files, name, Err(ReadAnswer::Failed), ">");
+    }
+
     /// Asserts that what these names name isn't read, and that nothing is left of it.
-    fn hold_refused_names<T: Runtime>(rt: &impl Abort, alloc: Global, files: &mut OsFiles<T>) {
-        for name in [
-            "swan_outside_test_short ",
-            "swan_outside_test_missing",
-            ".",
-            "",
-            "nul\0byte",
-        ] {
-            hold_read(rt, alloc, files, name, Err(ReadAnswer::Failed), ">");
-        }
+    fn hold_refused_names<F: Files>(rt: &impl Abort, alloc: Global, files: &mut F) {
+        hold_failed(rt, alloc, files, "swan_outside_test_short ");
+        hold_failed(rt, alloc, files, "swan_outside_test_missing");
+        hold_failed(rt, alloc, files, ".");
+        hold_failed(rt, alloc, files, "");
+        hold_failed(rt, alloc, files, "nul\0byte");
         hold_read(rt, alloc, files, "/dev/zero", Err(ReadAnswer::TooLong), ">");
     }
 
@@ -243,15 +243,35 @@ mod tests {
         hold_counts(rt, files, 5, 1);
     }
 
+    /// Writes a file of this text. The test ends where it can't.
+    fn write_file<T: Runtime>(abort: &impl Abort, rt: &T, name: &str, text: &str) {
+        match fs::write(rt, name, text) {
+            Ok(()) => {}
+            Err(error) => panic!(abort; "{name} isn't written: {error}"),
+        }
+    }
+
+    /// Removes a file. The test ends where it can't.
+    fn remove_file<T: Runtime>(abort: &impl Abort, rt: &T, name: &str) {
+        match fs::remove_file(rt, name) {
+            Ok(()) => {}
+            Err(error) => panic!(abort; "{name} isn't removed: {error}"),
+        }
+    }
+
+    /// Writes two files, asserts what reads of all names answer, and removes the two.
+    fn hold_files<T: Runtime>(abort: &impl Abort, rt: &T, alloc: Global, files: &mut OsFiles<T>) {
+        write_file(abort, rt, SHORT, "some bytes");
+        write_file(abort, rt, SPACED, "others");
+        hold_names(abort, alloc, files);
+        remove_file(abort, rt, SHORT);
+        remove_file(abort, rt, SPACED);
+    }
+
     #[test]
-    fn reads_files_of_the_system(rt: HostRuntime) -> Result<(), Fail> {
-        fs::write(&rt, SHORT, "some bytes")?;
-        fs::write(&rt, SPACED, "others")?;
+    fn reads_files_of_the_system(rt: HostRuntime) {
         let mut files = OsFiles::new(rt);
-        hold_names(&rt, rt.alloc(), &mut files);
-        fs::remove_file(&rt, SHORT)?;
-        fs::remove_file(&rt, SPACED)?;
-        Ok(())
+        hold_files(&rt, &rt, rt.alloc(), &mut files);
     }
 
     /// Asserts what a read of the long file answers, how many bytes stand in the buffer then, with the one that stood there before, and how
@@ -268,7 +288,24 @@ mod tests {
         hold_counts(rt, files, 0, long_reads);
     }
 
-    /// The same of a file of the system of so many bytes.
+    /// Gives a file this length. The test ends where it can't.
+    fn set_length(abort: &impl Abort, file: &File, length: u64) {
+        match file.set_len(length) {
+            Ok(()) => {}
+            Err(error) => panic!(abort; "no length of {length}: {error}"),
+        }
+    }
+
+    /// Makes the long file, of so many bytes. The test ends where it can't.
+    fn make_long(abort: &impl Abort, rt: HostRuntime, length: u64) {
+        match File::create(&rt, LONG) {
+            Ok(file) => set_length(abort, &file, length),
+            Err(error) => panic!(abort; "{LONG} isn't made: {error}"),
+        }
+    }
+
+    /// Asserts what a read of a file of the system of so many bytes answers, how many bytes stand in the buffer then, and how many reads were
+    /// too long.
     fn hold_bytes(
         abort: &impl Abort,
         rt: HostRuntime,
@@ -276,18 +313,17 @@ mod tests {
         answer: Result<(), ReadAnswer>,
         left: usize,
         long_reads: u64,
-    ) -> Result<(), Fail> {
-        File::create(&rt, LONG)?.set_len(length as u64)?;
+    ) {
+        make_long(abort, rt, length as u64);
         let mut files = OsFiles::new(rt);
         hold_long(abort, rt.alloc(), &mut files, answer, left, long_reads);
-        fs::remove_file(&rt, LONG)?;
-        Ok(())
+        remove_file(abort, &rt, LONG);
     }
 
     #[test]
-    fn reads_up_to_the_limit(rt: HostRuntime) -> Result<(), Fail> {
-        hold_bytes(&rt, rt, FILE_MOST, Ok(()), FILE_MOST + 1, 0)?;
-        hold_bytes(&rt, rt, FILE_MOST + 1, Err(ReadAnswer::TooLong), 1, 1)
+    fn reads_up_to_the_limit(rt: HostRuntime) {
+        hold_bytes(&rt, rt, FILE_MOST, Ok(()), FILE_MOST + 1, 0);
+        hold_bytes(&rt, rt, FILE_MOST + 1, Err(ReadAnswer::TooLong), 1, 1);
     }
 
     /// Gives a byte, is interrupted, gives another byte, and then ends or fails.
@@ -314,32 +350,48 @@ mod tests {
         }
     }
 
+    /// Asserts what is answered of a file, and that it was read by four reads.
+    fn hold_found(
+        rt: &impl Abort,
+        what: &str,
+        found: Result<(), ReadAnswer>,
+        answer: Result<(), ReadAnswer>,
+        reads: u8,
+    ) {
+        assert!(rt; found == answer, "the answer at {what}");
+        assert!(rt; reads == 4, "not four reads at {what}");
+    }
+
+    /// What is answered of what a reader has left, and whether the bytes 1 and 3 are read of it.
+    fn rest_of(alloc: Global, reader: &mut Stumbling) -> (Result<(), ReadAnswer>, bool) {
+        let mut into = Vec::new(alloc);
+        let answer = append_rest(reader, &mut into);
+        (answer, into.as_slice() == b"13".as_slice())
+    }
+
     /// Asserts what is answered of a file that ends so, of which two bytes are read by four reads: none is made again but the one that was
     /// interrupted.
     fn hold_rest(
         rt: &impl Abort,
         alloc: Global,
+        what: &str,
         last: Option<ErrorKind>,
         answer: Result<(), ReadAnswer>,
     ) {
-        let mut into = Vec::new(alloc);
         let mut reader = Stumbling { reads: 0, last };
-        let found = append_rest(&mut reader, &mut into);
-        assert!(rt; found == answer, "the answer where {last:?} comes last");
-        assert!(rt; into.as_slice() == b"13".as_slice(), "other bytes");
-        assert!(rt;
-            reader.reads == 4,
-            "not four reads where {last:?} comes last"
-        );
+        let (found, is_read) = rest_of(alloc, &mut reader);
+        hold_found(rt, what, found, answer, reader.reads);
+        assert!(rt; is_read, "other bytes at {what}");
     }
 
     #[test]
     fn reads_to_the_end_or_the_fault(rt: HostRuntime) {
         let alloc = rt.alloc();
-        let no_memory = Some(ErrorKind::OutOfMemory);
-        hold_rest(&rt, alloc, None, Ok(()));
-        hold_rest(&rt, alloc, no_memory, Err(ReadAnswer::NoMemory));
-        let other = Some(ErrorKind::Other);
-        hold_rest(&rt, alloc, other, Err(ReadAnswer::Failed));
+        hold_rest(&rt, alloc, "the end", None, Ok(()));
+        let last = Some(ErrorKind::OutOfMemory);
+        let no_memory = Err(ReadAnswer::NoMemory);
+        hold_rest(&rt, alloc, "want of memory", last, no_memory);
+        let last = Some(ErrorKind::Other);
+        hold_rest(&rt, alloc, "a fault", last, Err(ReadAnswer::Failed));
     }
 }

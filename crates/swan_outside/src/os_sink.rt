@@ -160,6 +160,7 @@ fn front_of(piece: &[u8]) -> &str
 #[cfg(test)]
 mod tests {
     use super::*;
+    use crate::test_puts::{hold_faults, hold_put_answer};
     use std::alloc::Global;
     use std::cell::{Cell, RefCell};
     use std::fmt::Display;
@@ -241,20 +242,37 @@ mod tests {
         }
     }
 
-    /// Asserts what a stream took, and by how many calls.
-    fn hold_written(rt: &impl Abort, fake: &Fake, written: &str, calls: u32) {
-        assert!(rt; fake.calls.get() == calls, "not {calls} calls");
-        let is_so = match fake.written.try_borrow() {
+    /// Whether a stream took these bytes.
+    fn has_taken(fake: &Fake, written: &str) -> bool {
+        match fake.written.try_borrow() {
             Ok(bytes) => bytes.as_slice() == written.as_bytes(),
             Err(_) => false,
-        };
-        assert!(rt; is_so, "not what was taken: {written}");
+        }
+    }
+
+    /// Asserts what a stream took, and by how many calls.
+    fn hold_stream(rt: &impl Abort, fake: &Fake, written: &str, calls: u32) {
+        assert!(rt; fake.calls.get() == calls, "not {calls} calls");
+        assert!(rt; has_taken(fake, written), "not what was taken: {written}");
     }
 
     /// An e with an accent, a b and a line feed, which are 4 bytes.
     const PIECE: &str = "\u{e9}b\n";
 
-    /// Asserts what a put of the piece to this stream in memory answers, and what the stream has then taken, by how many calls.
+    /// Asserts what a put of the piece to a stream in memory answers, and what the stream has then taken, by how many calls.
+    fn hold_piece(
+        rt: &impl Abort,
+        sink: &mut OsSink<Fake>,
+        answer: Result<usize, Failed>,
+        written: &str,
+        calls: u32,
+    ) {
+        let found = sink.put(PIECE.as_bytes());
+        assert!(rt; found == answer, "not {answer:?} by {calls} calls");
+        hold_stream(rt, &sink.rt, written, calls);
+    }
+
+    /// The same of this stream.
     fn hold_put(
         rt: &impl Abort,
         stream: Stream,
@@ -268,24 +286,24 @@ mod tests {
             stream,
             faults: 0,
         };
-        let found = sink.put(PIECE.as_bytes());
-        assert!(rt; found == answer, "not {answer:?} by {calls} calls");
-        hold_written(rt, &sink.rt, written, calls);
+        hold_piece(rt, &mut sink, answer, written, calls);
     }
 
     #[test]
     fn the_bytes_of_a_piece_are_written_once(rt: HostRuntime) {
-        for (stream, interrupts, takes, answer, written, calls) in [
-            (Stream::Output, 0, Some(9), Ok(4), PIECE, 1),
-            (Stream::Output, 2, Some(2), Ok(2), "\u{e9}", 3),
-            (Stream::Output, 0, Some(0), Err(Failed), "", 1),
-            (Stream::Output, 1, None, Err(Failed), "", 2),
-            (Stream::Error, 0, Some(9), Ok(4), PIECE, 1),
-            (Stream::Error, 0, None, Err(Failed), "", 1),
-        ] {
-            let fake = fake_streams(rt.alloc(), interrupts, takes);
-            hold_put(&rt, stream, fake, answer, written, calls);
-        }
+        let alloc = rt.alloc();
+        let whole = fake_streams(alloc, 0, Some(9));
+        hold_put(&rt, Stream::Output, whole, Ok(4), PIECE, 1);
+        let part = fake_streams(alloc, 2, Some(2));
+        hold_put(&rt, Stream::Output, part, Ok(2), "\u{e9}", 3);
+        let nothing = fake_streams(alloc, 0, Some(0));
+        hold_put(&rt, Stream::Output, nothing, Err(Failed), "", 1);
+        let failing = fake_streams(alloc, 1, None);
+        hold_put(&rt, Stream::Output, failing, Err(Failed), "", 2);
+        let whole = fake_streams(alloc, 0, Some(9));
+        hold_put(&rt, Stream::Error, whole, Ok(4), PIECE, 1);
+        let failing = fake_streams(alloc, 0, None);
+        hold_put(&rt, Stream::Error, failing, Err(Failed), "", 1);
     }
 
     /// Asserts that a stream of this process takes a front of some bytes.
@@ -302,29 +320,29 @@ mod tests {
         hold_takes(&rt, OsSink::err(rt));
     }
 
-    /// Asserts what a put of this piece answers, and how many puts have failed then.
+    /// Asserts what a put of this piece, which isn't empty, answers, and how many puts have failed then.
     fn hold_characters<T: Print + Eprint + Drop>(
         rt: &impl Abort,
         sink: &mut OsSink<T>,
+        what: &str,
         piece: &[u8],
         answer: Result<usize, Failed>,
         faults: u64,
-    ) {
-        assert!(rt; !piece.is_empty());
-        assert!(rt; sink.put(piece) == answer, "not {answer:?}");
-        assert!(rt; sink.faults == faults, "not {faults} faults");
+    )
+        requires { 0 < length piece.now }
+    {
+        hold_put_answer(rt, what, sink.put(piece), answer);
+        hold_faults(rt, what, sink.faults, faults);
     }
 
     #[test]
     fn standard_error_takes_whole_characters(rt: HostRuntime) {
         let mut sink = OsSink::err(rt);
-        for (piece, answer, faults) in [
-            (&b"\xc3\xa9\n"[..], Ok(3), 0),
-            (&b"\n\xc3"[..], Ok(1), 0),
-            (&b"\xc3"[..], Err(Failed), 1),
-            (&b"\xff\n"[..], Err(Failed), 2),
-        ] {
-            hold_characters(&rt, &mut sink, piece, answer, faults);
-        }
+        let (whole, part) = (b"\xc3\xa9\n", b"\n\xc3");
+        hold_characters(&rt, &mut sink, "a whole one", whole, Ok(3), 0);
+        hold_characters(&rt, &mut sink, "a whole one and a part", part, Ok(1), 0);
+        let failed = Err(Failed);
+        hold_characters(&rt, &mut sink, "a part alone", b"\xc3", failed, 1);
+        hold_characters(&rt, &mut sink, "no such byte", b"\xff\n", failed, 2);
     }
 }

@@ -67,71 +67,64 @@ fn piece_from(bytes: &[u8], done: usize) -> &[u8]
 mod tests {
     use super::*;
     use crate::MemorySink;
+    use crate::test_puts::{hold_put_all_answer, hold_written, memory_sink};
+    use crate::test_reads::bytes_of;
     use std::alloc::Global;
     use std::process::Abort;
-    use std::test::Fail;
+
+    /// Asserts what a put of these bytes answers, and what a sink has taken then.
+    fn hold_bytes(
+        rt: &impl Abort,
+        sink: &mut MemorySink,
+        what: &str,
+        bytes: &[u8],
+        answer: Result<(), Failed>,
+        written: &[u8],
+    ) {
+        hold_put_all_answer(rt, what, put_all(sink, bytes), answer);
+        hold_written(rt, what, sink.written(), written);
+    }
 
     /// Asserts what a put of a word answers, and what was taken of it, by a sink that takes so many bytes at once, and of which the put of
     /// this number fails.
     fn hold_word(
         rt: &impl Abort,
         alloc: Global,
+        what: &str,
         most: usize,
         failing: u64,
         answer: Result<(), Failed>,
         written: &str,
-    ) -> Result<(), Fail> {
-        assert!(rt; 1 <= most);
-        let fail = vec![in alloc; failing]?;
-        let mut sink = MemorySink::new(alloc, most, 16, fail)?;
-        let found = put_all(&mut sink, b"hello");
-        assert!(rt; found == answer, "the answer at {most} and {failing}");
-        let taken = sink.written();
-        assert!(rt;
-            taken == written.as_bytes(),
-            "the bytes at {most} and {failing}"
-        );
-        Ok(())
+    )
+        requires { 1 ≤ most }
+    {
+        let mut sink = memory_sink(rt, alloc, most, 16, failing);
+        let written = written.as_bytes();
+        hold_bytes(rt, &mut sink, what, b"hello", answer, written);
     }
 
     #[test]
-    fn puts_all_or_a_front(rt: HostRuntime) -> Result<(), Fail> {
-        for (most, failing, answer, written) in [
-            (5, 0, Ok(()), "hello"),
-            (2, 0, Ok(()), "hello"),
-            (2, 2, Err(Failed), "he"),
-            (9, 1, Err(Failed), ""),
-        ] {
-            hold_word(&rt, rt.alloc(), most, failing, answer, written)?;
-        }
-        Ok(())
+    fn puts_all_or_a_front(rt: HostRuntime) {
+        let alloc = rt.alloc();
+        hold_word(&rt, alloc, "one put", 5, 0, Ok(()), "hello");
+        hold_word(&rt, alloc, "three puts", 2, 0, Ok(()), "hello");
+        hold_word(&rt, alloc, "the second fails", 2, 2, Err(Failed), "he");
+        hold_word(&rt, alloc, "the first fails", 9, 1, Err(Failed), "");
     }
 
-    /// Asserts what a put of these bytes answers, and what a sink has taken then.
-    fn hold_bytes(
-        rt: &impl Abort,
-        sink: &mut MemorySink,
-        bytes: &[u8],
-        answer: Result<(), Failed>,
-        written: &[u8],
-    ) {
-        let count = bytes.len();
-        assert!(rt;
-            put_all(sink, bytes) == answer,
-            "the answer at {count} bytes"
-        );
-        assert!(rt; sink.written() == written, "what is taken at {count} bytes");
+    /// Asserts what puts of these bytes, which are one more than a piece, of one byte and of none answer, where the second put to the sink
+    /// fails. The front is the first piece.
+    fn hold_pieces(rt: &impl Abort, sink: &mut MemorySink, front: &[u8], bytes: &[u8]) {
+        hold_bytes(rt, sink, "two pieces", bytes, Err(Failed), front);
+        hold_bytes(rt, sink, "one byte", &[7], Ok(()), bytes);
+        hold_bytes(rt, sink, "no byte", b"", Ok(()), bytes);
     }
 
     #[test]
-    fn puts_more_than_one_piece(rt: HostRuntime) -> Result<(), Fail> {
-        let front = vec![in rt.alloc(); 7; PIECE_MOST]?;
-        let bytes = vec![in rt.alloc(); 7; PIECE_MOST + 1]?;
-        let fail = vec![in rt.alloc(); 2]?;
-        let mut sink = MemorySink::new(rt.alloc(), usize::MAX, 2 * PIECE_MOST, fail)?;
-        hold_bytes(&rt, &mut sink, &bytes, Err(Failed), &front);
-        hold_bytes(&rt, &mut sink, &[7], Ok(()), &bytes);
-        hold_bytes(&rt, &mut sink, b"", Ok(()), &bytes);
-        Ok(())
+    fn puts_more_than_one_piece(rt: HostRuntime) {
+        let front = bytes_of(&rt, rt.alloc(), 7, PIECE_MOST);
+        let bytes = bytes_of(&rt, rt.alloc(), 7, PIECE_MOST + 1);
+        let mut sink = memory_sink(&rt, rt.alloc(), usize::MAX, 2 * PIECE_MOST, 2);
+        hold_pieces(&rt, &mut sink, &front, &bytes);
     }
 }

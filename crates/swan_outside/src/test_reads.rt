@@ -1,4 +1,4 @@
-// What tests of files share.
+// What tests of files share, and bytes for those of sinks.
 use crate::{FileBlob, Files, ReadAnswer};
 use std::alloc::Global;
 use std::process::Abort;
@@ -13,7 +13,7 @@ pub(crate) fn word(rt: &impl Abort, alloc: Global, text: &str) -> Word {
 }
 
 /// So many equal bytes.
-fn bytes_of(rt: &impl Abort, alloc: Global, byte: u8, length: usize) -> Vec<u8> {
+pub(crate) fn bytes_of(rt: &impl Abort, alloc: Global, byte: u8, length: usize) -> Vec<u8> {
     match vec![in alloc; byte; length] {
         Ok(bytes) => bytes,
         Err(_) => panic!(rt; "no memory"),
@@ -65,8 +65,10 @@ pub(crate) fn hold_read<F: Files>(
     left: &str,
 ) {
     let (found, into) = read_file(rt, alloc, files, name);
+    let is_left = into.as_slice() == left.as_bytes();
+    drop(into);
     hold_answer(rt, name, found, answer);
-    assert!(rt; into.as_slice() == left.as_bytes(), "the bytes at {name}");
+    assert!(rt; is_left, "the bytes at {name}");
 }
 
 /// Asserts what a read of this name answers, and how many bytes stand in the buffer then, with the one that stood there before.
@@ -79,8 +81,10 @@ pub(crate) fn hold_length<F: Files>(
     left: usize,
 ) {
     let (found, into) = read_file(rt, alloc, files, name);
+    let length = into.len();
+    drop(into);
     hold_answer(rt, name, found, answer);
-    assert!(rt; into.len() == left, "the number of bytes at {name}");
+    assert!(rt; length == left, "the number of bytes at {name}");
 }
 
 /// Asserts how many of these were counted.
