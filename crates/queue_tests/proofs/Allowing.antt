@@ -28,9 +28,9 @@ acting (Some frame) test e = record {
   holds = (and_parts (is_none frame.lent) (test frame) e).1;
 }
 
-pub made_by_test : (state : QueueState) (number : ℕ) → may_make state number ≡ true → MayDo state number
+pub made_by_test : (state : QueueState) (number : ℕ) → may_make state number && has_space state ≡ true → MayDo state number
 made_by_test state number e =
-    let is = acting (active state number) has_room e in
+    let is = acting (active state number) has_room (and_parts (may_make state number) (has_space state) e).0 in
     record { frame = is.frame; may = record { live = is.live; back = is.back }; room = ltb-true is.frame.deeds COUNT_MOST is.holds }
 
 pub lent_by_test : (state : QueueState) (number : ℕ) → may_make state number ≡ true
@@ -39,8 +39,9 @@ lent_by_test state number e =
     let is = acting (active state number) has_room e in
     (is.frame, is.live, is.back)
 
-pub room_by_test : (state : QueueState) → has_space state ≡ true → HasRoom state
-room_by_test state e = ltb-true (length state.makers) QUEUES_MOST e
+-- where another condition and this one hold, there is room
+pub room_by_test : (state : QueueState) (other : Bool) → other && has_space state ≡ true → HasRoom state
+room_by_test state other e = ltb-true (length state.makers) QUEUES_MOST (and_parts other (has_space state) e).1
 
 pub used_by_test : (state : QueueState) (number queue : ℕ) (mode : Mode) → may_use state number queue mode ≡ true → MayUse state number queue mode
 used_by_test state number queue mode e =
@@ -123,8 +124,8 @@ left_by_test state queue e =
       over = none_is (active state 0) (and_parts of over more).1;
     }
 
-pub untouched_by_test : (state : QueueState) → is_untouched state ≡ true → IsUntouched state
+pub untouched_by_test : (state : QueueState) → is_untouched state && has_space state ≡ true → IsUntouched state
 untouched_by_test state e =
-    let is = acting (active state 0) (λ root. (root.deeds == 0) && (root.children == 0)) e in
+    let is = acting (active state 0) (λ root. (root.deeds == 0) && (root.children == 0)) (and_parts (is_untouched state) (has_space state) e).0 in
     let both = and_parts (is.frame.deeds == 0) (is.frame.children == 0) is.holds in
     record { root = is.frame; live = is.live; deeds = eqb-true is.frame.deeds 0 both.0; children = eqb-true is.frame.children 0 both.1; back = is.back }

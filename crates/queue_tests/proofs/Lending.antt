@@ -1,5 +1,5 @@
 -- Which frames may lend their ends.
-use Rattle.std.proofs.Common.{◌≡◌, ◌≢◌, ℕ, true, Some, None, List, refl, sym, subst, ◌∙◌}
+use Rattle.std.proofs.Common.{◌≡◌, ◌≢◌, ℕ, true, Some, None, List, refl, sym, ap, subst, ◌∙◌}
 use Rattle.swan_model.specs.QueueState.{ActiveFrame, LentEnd, QueueState, active, after_lend, new_state, root_frame}
 use Rattle.queues.proofs.ActiveAfter.{one_goes_on}
 use Rattle.queue_tests.specs.Allowed.{may_make}
@@ -20,3 +20,7 @@ lent_beside state now one two frame ends live apart may is =
     let lend : ActiveFrame → ActiveFrame = λ f. record f { lent = Some (record { deeds = frame.deeds; ends = ends }) } in
     let same = (one_goes_on state one frame lend (λ f. refl) live).others two (λ own. apart (sym own)) in
     subst (λ s. MayLend s two) (sym is) (found.0, same ∙ found.1, found.2)
+
+-- a frame that may make a queue in one state may in an equal one
+pub makes_where_equal : (state other : QueueState) (number : ℕ) → state ≡ other → may_make other number ≡ true → may_make state number ≡ true
+makes_where_equal state other number is may = ap (λ s. may_make s number) is ∙ may

@@ -1,5 +1,5 @@
 -- A root that pushes many items to one queue.
-use Rattle.std.proofs.Common.{◌≡◌, ℕ, ◌+◌, ◌<◌, true, Some, None, refl, ap, subst, sym, ◌∙◌, [], ◌∷◌}
+use Rattle.std.proofs.Common.{◌≡◌, ℕ, ◌+◌, ◌<◌, ◌&&◌, true, Some, None, refl, ap, subst, sym, ◌∙◌, [], ◌∷◌}
 use Rattle.swan_model.specs.declared.rights.Mode.TheVariants.{Push, PushPop}
 use Rattle.swan_model.specs.QueueState.{ActiveFrame, QueueState, active, after_create, after_deed, holds_queue, new_state, root_frame, with_deed}
 use Rattle.swan_model.specs.Values.{COUNT_MOST}
@@ -31,12 +31,9 @@ pushed_once state deeds is = record {
   deeds = ap (λ n. n + 1) is.deeds;
 }
 
--- new hyperqueues, on which frame 0 makes its first queue
-pub may_make_new : (state : QueueState) → state ≡ new_state → may_make state 0 ≡ true
-may_make_new state is = ap (λ s. may_make s 0) is
-
-pub has_space_new : (state : QueueState) → state ≡ new_state → has_space state ≡ true
-has_space_new state is = ap has_space is
+-- new hyperqueues allow frame 0 to make a queue, and have space for it
+pub may_make_new : (state : QueueState) → state ≡ new_state → may_make state 0 && has_space state ≡ true
+may_make_new state is = ap (λ s. may_make s 0 && has_space s) is
 
 first_made : IsPushing (after_create new_state root_frame) 1
 first_made = record {

@@ -1,14 +1,26 @@
 // One helper for each call. Where the answer is the wanted one, the state after it is known.
-ghost use Rattle.std.specs.Prelude.{◌≡◌, true, [], ◌∷◌, None, OnOk};
+ghost use Rattle.std.specs.Prelude.{◌≡◌, ℕ, true, ◌&&◌, [], ◌∷◌, None, IfOk, OnOk, length};
 ghost use Rattle.swan_model.specs.declared.rights.Mode.TheVariants.{Push, Pop};
-ghost use Rattle.swan_model.specs.QueueState.{active, after_create, after_create_root, after_deed, after_finish, after_take_rest};
-ghost use Rattle.queues.specs.Tells.{after_spawn_by, with_active, after_test};
+ghost use Rattle.swan_model.specs.QueueState.{QueueState, active, after_create, after_create_root, after_deed, after_finish, after_take_rest};
+ghost use Rattle.queues.specs.Tells.{after_pop, after_spawn_by, with_active, after_test};
 ghost use Rattle.queue_tests.specs.Allowed.{has_space, is_rest_left, is_untouched, may_join, may_make, may_spawn, may_use};
 
 use crate::Wrong;
 use queues::{Popped, QueueGive, Queues, Tested, WaitFor};
 use std::alloc::Global;
-use swan_model::{Mode, Value, Values};
+use swan_model::{Mode, NoMemory, Value, Values};
+
+/// A list of one number.
+fn list_of(alloc: Global, item: i64) -> Result<Values, NoMemory>
+    ensures { IfOk result (λ list. length list ≡ 1) }
+{
+    let mut list = Values::new(alloc);
+    if list.push(Value::Int(item)).is_err() {
+        drop(list);
+        return Err(NoMemory);
+    }
+    Ok(list)
+}
 
 /// Makes a root queue with one item, which has to get this number.
 #[tactic(auto, using(crate::proofs::Allowing::untouched_by_test, crate::proofs::Allowing::room_by_test))]
@@ -19,15 +31,13 @@ pub fn create_root<Q: Queues>(
     item: i64,
 ) -> Result<(), Wrong>
     requires free { Q.name queues.old ≡ None }
-    requires may { is_untouched (Q.state queues.old) ≡ true }
-    requires room { has_space (Q.state queues.old) ≡ true }
+    requires may { is_untouched (Q.state queues.old) && has_space (Q.state queues.old) ≡ true }
     ensures free { Q.name queues.new ≡ None }
     ensures after { OnOk result (Q.state queues.new ≡ after_create_root (Q.state queues.old)) }
 {
-    let mut first = Values::new(alloc);
-    if first.push(Value::Int(item)).is_err() {
+    let Ok(first) = list_of(alloc, item) else {
         return Err(Wrong::NoMemory);
-    }
+    };
     if queues.create_root(first)? == number {
         return Ok(());
     }
@@ -38,8 +48,7 @@ pub fn create_root<Q: Queues>(
 #[tactic(auto, using(crate::proofs::Allowing::made_by_test, crate::proofs::Allowing::room_by_test))]
 pub fn create<Q: Queues>(queues: &mut Q, frame: u64, number: u32) -> Result<(), Wrong>
     requires free { Q.name queues.old ≡ None }
-    requires may { may_make (Q.state queues.old) frame ≡ true }
-    requires room { has_space (Q.state queues.old) ≡ true }
+    requires may { may_make (Q.state queues.old) frame && has_space (Q.state queues.old) ≡ true }
     ensures free { Q.name queues.new ≡ None }
     ensures after { OnOk result (Q.state queues.new ≡ with_active (after_create (Q.state queues.old)) (Q.state queues.old) (active (Q.state queues.old) frame)) }
 {
@@ -77,6 +86,18 @@ pub fn push<Q: Queues>(queues: &mut Q, frame: u64, queue: u32, item: i64) -> Res
     Ok(())
 }
 
+/// What a pop answers has to be this number.
+fn is_item(popped: Popped, item: i64) -> Result<(), Wrong>
+    ensures { OnOk result ((state : QueueState) (frame : ℕ) → after_pop state frame popped ≡ after_deed state frame) }
+{
+    let met = matches!(&popped, Popped::Item(Value::Int(number)) if *number == item);
+    drop(popped);
+    if met {
+        return Ok(());
+    }
+    Err(Wrong::Answer)
+}
+
 /// Pops an item, which has to be this number.
 pub fn pop<Q: Queues>(queues: &mut Q, frame: u64, queue: u32, item: i64) -> Result<(), Wrong>
     requires free { Q.name queues.old ≡ None }
@@ -84,10 +105,19 @@ pub fn pop<Q: Queues>(queues: &mut Q, frame: u64, queue: u32, item: i64) -> Resu
     ensures free { Q.name queues.new ≡ None }
     ensures after { OnOk result (Q.state queues.new ≡ after_deed (Q.state queues.old) frame) }
 {
-    match queues.pop(frame, queue) {
-        Popped::Item(Value::Int(number)) if number == item => Ok(()),
-        _ => Err(Wrong::Answer),
+    is_item(queues.pop(frame, queue), item)
+}
+
+/// What a pop answers has to be that none is left.
+fn is_none(popped: Popped) -> Result<(), Wrong>
+    ensures { OnOk result ((state : QueueState) (frame : ℕ) → after_pop state frame popped ≡ after_deed state frame) }
+{
+    let met = matches!(&popped, Popped::Empty);
+    drop(popped);
+    if met {
+        return Ok(());
     }
+    Err(Wrong::Answer)
 }
 
 /// Pops, which has to find that none is left.
@@ -97,10 +127,19 @@ pub fn pop_none<Q: Queues>(queues: &mut Q, frame: u64, queue: u32) -> Result<(),
     ensures free { Q.name queues.new ≡ None }
     ensures after { OnOk result (Q.state queues.new ≡ after_deed (Q.state queues.old) frame) }
 {
-    match queues.pop(frame, queue) {
-        Popped::Empty => Ok(()),
-        _ => Err(Wrong::Answer),
+    is_none(queues.pop(frame, queue))
+}
+
+/// What a pop answers has to be a wait for this.
+fn is_wait(popped: Popped, cause: WaitFor) -> Result<(), Wrong>
+    ensures { OnOk result ((state : QueueState) (frame : ℕ) → after_pop state frame popped ≡ state) }
+{
+    let met = matches!(&popped, Popped::NotYet(wait) if *wait == cause);
+    drop(popped);
+    if met {
+        return Ok(());
     }
+    Err(Wrong::Answer)
 }
 
 /// Pops, which has to wait for this.
@@ -115,10 +154,7 @@ pub fn pop_wait<Q: Queues>(
     ensures free { Q.name queues.new ≡ None }
     ensures after { OnOk result (Q.state queues.new ≡ Q.state queues.old) }
 {
-    match queues.pop(frame, queue) {
-        Popped::NotYet(wait) if wait == cause => Ok(()),
-        _ => Err(Wrong::Answer),
-    }
+    is_wait(queues.pop(frame, queue), cause)
 }
 
 /// Tests a queue, with this answer.

@@ -10,7 +10,7 @@ use std::alloc::Global;
 use std::test::Fail;
 
 /// Makes the calls of a table, and lends two frames their ends: each has to get its own back, and the other's not.
-#[tactic(auto, using(crate::proofs::Allowing::lent_by_test))]
+#[tactic(auto, using(crate::proofs::Lending::makes_where_equal))]
 pub fn lend_two<Q: Queues>(
     queues: &mut Q,
     alloc: Global,
@@ -25,9 +25,37 @@ pub fn lend_two<Q: Queues>(
     requires two { may_make (after_steps new_state steps.now) two ≡ true }
     requires apart { one ≢ two }
 {
-    run(queues, alloc, steps)?;
+    match run(queues, alloc, steps) {
+        Ok(()) => lend_both(queues, one, two),
+        Err(wrong) => Err(wrong.into()),
+    }
+}
+
+/// Lends two frames their ends: each has to get its own back, and the other's not.
+#[tactic(auto, using(crate::proofs::Allowing::lent_by_test))]
+fn lend_both<Q: Queues>(queues: &mut Q, one: u64, two: u64) -> Result<(), Fail>
+    requires free { Q.name queues.old ≡ None }
+    requires one { may_make (Q.state queues.old) one ≡ true }
+    requires two { may_make (Q.state queues.old) two ≡ true }
+    requires apart { one ≢ two }
+{
     let of_one = queues.lend(one);
     let of_two = queues.lend(two);
+    give_back(queues, one, of_one, two, of_two)
+}
+
+/// Gives each of two frames the other's ends, which has to be refused, and then its own, which has to be taken.
+fn give_back<Q: Queues>(
+    queues: &mut Q,
+    one: u64,
+    of_one: Q::Ends,
+    two: u64,
+    of_two: Q::Ends,
+) -> Result<(), Fail>
+    requires free { Q.name queues.old ≡ None }
+    requires own_one { (Q.Ends.name of_one ≡ Q.name queues.old) × (Q.Ends.run of_one ≡ Q.run queues.old) }
+    requires own_two { (Q.Ends.name of_two ≡ Q.name queues.old) × (Q.Ends.run of_two ≡ Q.run queues.old) }
+{
     let of_two = refuse(queues, one, of_two)?;
     let of_one = refuse(queues, two, of_one)?;
     accept(queues, one, of_one)?;

@@ -8,7 +8,7 @@ use std::test::Fail;
 use swan_model::Value;
 
 /// Makes a queue on new hyperqueues of the free name, and pushes so many items to it.
-#[tactic(auto, using(crate::proofs::Pushing::may_make_new, crate::proofs::Pushing::has_space_new, crate::proofs::Pushing::pushing_new, crate::proofs::Pushing::pushed_once))]
+#[tactic(auto, using(crate::proofs::Pushing::may_make_new, crate::proofs::Pushing::pushing_new, crate::proofs::Pushing::pushed_once))]
 pub fn push_many<Q: Queues>(queues: &mut Q, count: u32) -> Result<(), Fail>
     requires free { Q.name queues.old ≡ None }
     requires new { Q.state queues.old ≡ new_state }

@@ -68,7 +68,10 @@ fn keeps_apart(alloc: Global, steps: &[Step], one: u64, two: u64) -> Result<(), 
     requires two { may_make (after_steps new_state steps.now) two ≡ true }
     requires apart { one ≢ two }
 {
-    lend_two(&mut book(alloc), alloc, steps, one, two)
+    let mut queues = book(alloc);
+    let kept = lend_two(&mut queues, alloc, steps, one, two);
+    drop(queues);
+    kept
 }
 
 #[test]
