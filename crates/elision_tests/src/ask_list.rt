@@ -78,8 +78,10 @@ fn step(
         drop(answer);
         return Ok((at, Ask::Finish));
     };
-    let ask = asked(alloc, ask, answer)?;
-    Ok((at + 1, ask))
+    match asked(alloc, ask, answer) {
+        Ok(ask) => Ok((at + 1, ask)),
+        Err(none) => Err(none),
+    }
 }
 
 /// An ask of the list, as a step asks it that is told this.
