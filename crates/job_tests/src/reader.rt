@@ -76,7 +76,10 @@ pub fn number_of(at: At) -> u64 {
 /// What is refused of a text, if anything.
 pub fn refusal(rt: &impl Abort, alloc: Global, text: &[u8]) -> Option<(u64, JobKind)> {
     match read_job(alloc, text) {
-        Ok(_) => None,
+        Ok(job) => {
+            drop(job);
+            None
+        }
         Err(ReadJob::Refused(JobFault { line, kind })) => Some((line, kind)),
         Err(ReadJob::NoMemory) => panic!(rt; "no memory"),
     }
@@ -100,7 +103,7 @@ pub fn rewritten(rt: &impl Abort, alloc: Global, text: &str) -> Vec<u8> {
 
 /// Asserts that what is written of a text is what is wanted.
 fn hold_bytes(rt: &impl Abort, written: &[u8], wanted: &[u8], text: &str) {
-    assert_eq!(rt; written, wanted, "{text}");
+    assert!(rt; written == wanted, "{written:?} is written of {text}");
 }
 
 /// Asserts what is written of a text.
