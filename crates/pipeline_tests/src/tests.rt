@@ -35,14 +35,14 @@ fn asked(rt: &impl Abort, alloc: Global, row: &Row, other: &str) -> String {
 }
 
 /// Asserts what is asked for where the star stands for a word.
-fn hold_asked(rt: &impl Abort, asked: &str, asks: &str, other: &str) {
-    assert_eq!(rt; asked, asks, "told {other}");
+fn hold_asked(rt: &impl Abort, asked: &str, asks: &str) {
+    assert!(rt; asked == asks, "{asked} is asked, not {asks}");
 }
 
 /// Asserts what is asked for in a row where the star stands for this word.
 fn hold_row(rt: &impl Abort, alloc: Global, row: &Row, other: &str) {
     let asked = asked(rt, alloc, row, other);
-    hold_asked(rt, asked.as_str(), row.asks, other);
+    hold_asked(rt, asked.as_str(), row.asks);
 }
 
 /// All rows hold, whichever of these words the star stands for.
