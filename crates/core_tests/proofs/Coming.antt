@@ -3,8 +3,11 @@ use Rattle.std.proofs.Common.{◌≡◌, ℕ, ◌<◌, List, [], ◌∷◌, ◌�
 use Rattle.std.proofs.lemmas.List.Elements.{All-cons, All-nil, All-same, All-weaker}
 use Rattle.task_frames.specs.Cores.{CoreView}
 use Rattle.task_frames.specs.Frames.{FrameView}
-use Rattle.task_frames.specs.Resumes.{EndsOf, IsGivenBy, IsOpened}
-use Rattle.core_tests.specs.Pools.{MayAllCome, MayCome}
+use Rattle.task_frames.specs.Resumes.{EndsOf, IsGivenBy, IsOpened, IsResumed}
+use Rattle.task_frames.specs.declared.resumed.Resumed.{Resumed}
+use Rattle.task_frames.specs.declared.resumed.Resumed.TheVariants as resumed
+use Rattle.swan_model.specs.declared.body.Body.{Ghosts}
+use Rattle.core_tests.specs.Pools.{CameSo, MayAllCome, MayCome}
 
 -- what a core gives may come to it
 pub given-comes : {B L E : Type 0} (of : EndsOf E) (core : CoreView B L) (frame : FrameView B L E) → IsGivenBy of core frame → MayCome of.run core frame
@@ -37,6 +40,17 @@ module _ {B L E : Type 0} (run : E → List ℕ) (core after : CoreView B L) (pl
       → IfOk result (λ frames. MayAllCome run after (of frames))
   answered-still-come of (Ok frames) may = all-still-come (of frames) may
   answered-still-come of (Err other) may = may
+
+-- so may each frame that came of one that was resumed
+pub came-so : {B Q L E : Type 0} (G : Ghosts B L) (of : EndsOf E) (core after : CoreView B L) (frame : FrameView B L E) (result : Resumed B Q L E)
+    → after.plan ≡ core.plan → after.run ≡ core.run → MayCome of.run core frame → IsResumed G of core after frame result → CameSo of.run after result
+came-so G of core after frame (resumed.Runs next steps) plan run may is = given-comes of after next is.1
+came-so G of core after frame (resumed.Spawned parent new steps) plan run may is = (given-comes of after parent is.1, given-comes of after new is.2)
+came-so G of core after frame (resumed.Waits same waited) plan run may is = given-comes of after same is.0
+came-so G of core after frame (resumed.Ended steps) plan run may is = tt
+came-so G of core after frame (resumed.Strange same foreign) plan run may is =
+    subst (MayCome of.run after) (sym is.0) (still-comes of.run core after plan run frame may)
+came-so G of core after frame resumed.NoMemory plan run may is = tt
 
 -- one of those that may come
 pub taken-comes : {B L E : Type 0} (run : E → List ℕ) (core : CoreView B L) (frames : List (FrameView B L E)) (index : ℕ) (frame : FrameView B L E)

@@ -5,9 +5,9 @@ ghost use Rattle.swan_runtime.specs.Turned.{is_last};
 ghost use Rattle.swan_runtime.specs.Workers.{AreWorkers, OneHasMet};
 
 use crate::plans::{failing_plan, plan};
-use crate::runs::{Row, is_elided, is_said_and_elided};
+use crate::runs::{Row, is_elided, is_said_and_elided, shape_of, texts_of};
 use crate::tables::Tasks;
-use elision_tests::{AskList, printed};
+use elision_tests::AskList;
 use queue_book::{BookQueues, NoEnds};
 use queues::{LocalEnds, Queues, WaitFor};
 use serial_elision::Printed;
@@ -76,6 +76,34 @@ fn turn_of<B: Body, Q: Queues>(alloc: Global, workers: &mut Vec<Worker<B, Q>>, a
     workers[at].turn(alloc, &OpenGate)
 }
 
+/// The turn of this index told this. Err names it where it told something else.
+fn is_told(came: Told, told: Told, index: usize) -> Result<(), Fail> {
+    if came != told {
+        return Err(Fail::new(format_args!("turn {index} told {came:?}")));
+    }
+    Ok(())
+}
+
+/// Takes this turn, which is the one of this index. Err names it where it tells something else.
+fn take_one<B: Body, Q: Queues>(
+    alloc: Global,
+    workers: &mut Vec<Worker<B, Q>>,
+    turn: Hand,
+    index: usize,
+) -> Result<(), Fail>
+    requires workers { AreWorkers (ends_of Q.Ends.LocalEnds) workers.old.items }
+    ensures workers { AreWorkers (ends_of Q.Ends.LocalEnds) workers.new.items }
+{
+    if turn.at >= workers.len() {
+        return Err(Fail::new(format_args!("no worker at turn {index}")));
+    }
+    is_told(
+        Told::of(&turn_of(alloc, workers, turn.at)),
+        turn.told,
+        index,
+    )
+}
+
 /// Takes these turns. Err names the first one that tells something else.
 fn take_turns<B: Body, Q: Queues>(
     alloc: Global,
@@ -86,14 +114,7 @@ fn take_turns<B: Body, Q: Queues>(
     ensures workers { AreWorkers (ends_of Q.Ends.LocalEnds) workers.new.items }
 {
     for index in 0..turns.len() {
-        let Hand { at, told } = turns[index];
-        if at >= workers.len() {
-            return Err(Fail::new(format_args!("no worker at turn {index}")));
-        }
-        let came = Told::of(&turn_of(alloc, workers, at));
-        if came != told {
-            return Err(Fail::new(format_args!("turn {index} told {came:?}")));
-        }
+        take_one(alloc, workers, turns[index], index)?;
     }
     Ok(())
 }
@@ -107,36 +128,41 @@ fn closed<B: Body, Q: Queues>(
 {
     let mut workers = workers;
     if !turn_of(alloc, &mut workers, 0).is_last() {
+        drop(workers);
         return Err("the run goes on".into());
     }
     Ok(close(alloc, workers))
 }
 
-/// The workers of a run of this plan, so many, after these turns.
+/// The workers of a run of this plan in this shape, after these turns.
 fn workers_after<B: Body>(
     alloc: Global,
     plan: Plan<B>,
-    workers: u32,
+    shape: &Shape,
     turns: &[Hand],
 ) -> Result<Vec<Worker<B, BookQueues>>, Fail>
     ensures { IfOk result (λ workers. AreWorkers (ends_of ⟦<NoEnds as LocalEnds>⟧) workers.items) }
 {
-    let shape = Shape::new(workers, 16).ok_or("no shape")?;
-    let mut workers = open(alloc, plan, &shape)?;
-    take_turns(alloc, &mut workers, turns)?;
+    let mut workers = open(alloc, plan, shape)?;
+    if let Err(fail) = take_turns(alloc, &mut workers, turns) {
+        drop(workers);
+        return Err(fail);
+    }
     Ok(workers)
 }
 
-/// The two texts of what a run of this plan leaves, by so many workers in these turns.
+/// The two texts of what a run of this plan in this shape leaves, by these turns.
 fn texts_by_hands(
     alloc: Global,
     plan: Plan<AskList>,
-    workers: u32,
+    shape: &Shape,
     turns: &[Hand],
 ) -> Result<Printed, Fail> {
-    let workers = workers_after(alloc, plan, workers, turns)?;
-    let (outcome, _ran) = closed(alloc, workers)??.outcome();
-    Ok(printed(alloc, &outcome)?)
+    let workers = workers_after(alloc, plan, shape, turns)?;
+    match closed(alloc, workers)? {
+        Ok(ran) => texts_of(alloc, ran),
+        Err(none) => Err(none.into()),
+    }
 }
 
 /// A run of these tasks by so many workers, in these turns, leaves what the elision leaves.
@@ -146,8 +172,9 @@ pub fn leave_by_hands(
     workers: u32,
     turns: &[Hand],
 ) -> Result<(), Fail> {
+    let shape = shape_of(workers)?;
     let plan = plan(alloc, tasks.tasks, tasks.fuel)?;
-    is_elided(alloc, tasks, &texts_by_hands(alloc, plan, workers, turns)?)
+    is_elided(alloc, tasks, &texts_by_hands(alloc, plan, &shape, turns)?)
 }
 
 /// A run of the row's plan by so many workers, in these turns, leaves what the row says, and what the elision leaves.
@@ -157,8 +184,9 @@ pub fn leave_row_by_hands(
     workers: u32,
     turns: &[Hand],
 ) -> Result<(), Fail> {
+    let shape = shape_of(workers)?;
     let plan = plan(alloc, row.tasks, row.fuel)?;
-    is_said_and_elided(alloc, row, &texts_by_hands(alloc, plan, workers, turns)?)
+    is_said_and_elided(alloc, row, &texts_by_hands(alloc, plan, &shape, turns)?)
 }
 
 /// By these turns of so many workers a run of these tasks, in which no memory is found at one index of the list of all asks, is stopped. The
@@ -170,9 +198,13 @@ pub fn stop_by_hands(
     workers: u32,
     turns: &[Hand],
 ) -> Result<(), Fail> {
+    let shape = shape_of(workers)?;
     let plan = failing_plan(alloc, tasks.tasks, tasks.fuel, fails)?;
-    match closed(alloc, workers_after(alloc, plan, workers, turns)?)? {
-        Ok(_) => Err("the run has an outcome".into()),
+    match closed(alloc, workers_after(alloc, plan, &shape, turns)?)? {
+        Ok(ran) => {
+            drop(ran);
+            Err("the run has an outcome".into())
+        }
         Err(NoMemory) => Ok(()),
     }
 }

@@ -60,7 +60,11 @@ fn one_queue(alloc: Global) -> Result<Roots, Fail> {
     };
     match roots.push_queue(queue) {
         Ok(()) => Ok(roots),
-        Err(_) => Err("no memory".into()),
+        Err(back) => {
+            drop(back);
+            drop(roots);
+            Err("no memory".into())
+        }
     }
 }
 
@@ -69,12 +73,32 @@ fn plan(alloc: Global, root: &Root<'_>) -> Result<Plan<AskList>, Fail> {
     if root.fuel > FUEL_MOST {
         return Err("fuel".into());
     }
-    Ok(Plan {
-        body: asks(alloc, &[root.asks], root.fails)?,
-        root_local: 0,
-        roots: one_queue(alloc)?,
-        fuel: PlanFuel::new(root.fuel),
-    })
+    let body = asks(alloc, &[root.asks], root.fails)?;
+    match one_queue(alloc) {
+        Ok(roots) => Ok(Plan {
+            body,
+            root_local: 0,
+            roots,
+            fuel: PlanFuel::new(root.fuel),
+        }),
+        Err(fail) => {
+            drop(body);
+            Err(fail)
+        }
+    }
+}
+
+/// A call is answered otherwise.
+fn another(root: &Root<'_>, index: usize, came: Stop) -> Fail {
+    Fail::new(format_args!("{root:?}: call {index} answers {came:?}"))
+}
+
+/// The frame is the root's.
+fn is_root<B: Body, Q: Queues>(root: &Root<'_>, frame: &Frame<B, Q>) -> Result<(), Fail> {
+    if frame.number() != 0 || !frame.path().parts().is_empty() {
+        return Err(Fail::new(format_args!("{root:?}: another frame")));
+    }
+    Ok(())
 }
 
 /// The frame of this root answers these calls so, one after the other, and is the root's whatever comes. Err names the root, and the first call
@@ -82,24 +106,20 @@ fn plan(alloc: Global, root: &Root<'_>) -> Result<Plan<AskList>, Fail> {
 fn answers<B: Body, Q: Queues>(
     alloc: Global,
     root: &Root<'_>,
-    mut frame: Frame<B, Q>,
+    frame: &mut Frame<B, Q>,
     body: &B,
     calls: &[Call],
 ) -> Result<(), Fail>
-    requires { body.now ≡ frame.task.plan.body }
+    requires { body.now ≡ frame.old.task.plan.body }
 {
     for index in 0..calls.len() {
         let (budget, stop) = calls[index];
         let came = Stop::of(&frame.run_local(alloc, body, budget));
         if came != stop {
-            return Err(Fail::new(format_args!("{root:?}: call {index} answers {came:?}")));
+            return Err(another(root, index, came));
         }
     }
-    if frame.number() != 0 || !frame.path().parts().is_empty() {
-        return Err(Fail::new(format_args!("{root:?}: another frame")));
-    }
-    frame.tear();
-    Ok(())
+    is_root(root, frame)
 }
 
 /// The only frame of a core that began with this one, after these turns.
@@ -116,10 +136,31 @@ fn frame_after<B: Body, Q: Queues>(
 {
     let mut frames = frames_from(alloc, core, body, begun, turns)?;
     if frames.len() != 1 {
+        drop(frames);
         return Err("no frame, or several".into());
     }
     let frame = frames.remove(0);
+    drop(frames);
     Ok(frame)
+}
+
+/// The only frame of a core that began with this one of this root, after these turns, answers these calls so.
+fn answers_at<B: Body, Q: Queues>(
+    alloc: Global,
+    root: &Root<'_>,
+    core: &mut Core<B, Q>,
+    body: &B,
+    begun: Frame<B, Q>,
+    turns: &[FrameTurn],
+    calls: &[Call],
+) -> Result<(), Fail>
+    requires body { body.now ≡ core.old.plan.body }
+    requires begun { MayCome Q.Ends.run core.old begun }
+{
+    let mut frame = frame_after(alloc, core, body, begun, turns)?;
+    let came = answers(alloc, root, &mut frame, body, calls);
+    frame.tear();
+    came
 }
 
 /// The only frame of an opened run of this root, after these turns, answers these calls so.
@@ -138,8 +179,9 @@ fn answers_after<B: Body, Q: Queues>(
         body,
         root: begun,
     } = opened;
-    let frame = frame_after(alloc, &mut core, &body, begun, turns)?;
-    answers(alloc, root, frame, &body, calls)
+    let came = answers_at(alloc, root, &mut core, &body, begun, turns, calls);
+    drop(core);
+    came
 }
 
 /// An opened run of this root.

@@ -2,6 +2,7 @@
 ghost use Rattle.std.specs.Prelude.{IfOk};
 
 use crate::plans::asks;
+use crate::runs::{outcome_of, shape_of};
 use elision_tests::AskList;
 use std::alloc::Global;
 use std::marker::Model;
@@ -12,7 +13,7 @@ use std::test::Fail;
 use std::thread::Threads;
 use swan_model::{Answer, Ask, Body, NoMemory, Plan, PlanFuel, Roots};
 use swan_outside::OpenGate;
-use swan_runtime::{Shape, run};
+use swan_runtime::run;
 
 /// How often one looks for the other.
 const TURNS_MOST: u64 = 1_000_000_000;
@@ -103,14 +104,10 @@ impl Body for Meeting {
     }
 }
 
-/// The plan of a root with no queues and no objects that spawns two children, of which each works twice. They meet in their second steps.
-fn plan_of(alloc: Global, flags: Arc<Flags>) -> Result<Plan<Meeting>, Fail> {
-    let list = asks(
-        alloc,
-        &["spawn:1:3: spawn:2:3:", "work work", "work work"],
-        usize::MAX,
-    )?;
-    Ok(Plan {
+/// The plan of a root with no queues and no objects that goes through these asks, where tasks meet at the asks of index 4 and 7: the second
+/// steps of the two children of `plan_of`.
+fn plan_over(alloc: Global, list: AskList, flags: Arc<Flags>) -> Plan<Meeting> {
+    Plan {
         body: Meeting {
             list,
             first: 4,
@@ -120,17 +117,50 @@ fn plan_of(alloc: Global, flags: Arc<Flags>) -> Result<Plan<Meeting>, Fail> {
         root_local: 0,
         roots: Roots::new(alloc),
         fuel: PlanFuel::new(9),
-    })
+    }
+}
+
+/// The plan of a root that spawns two children, of which each works twice. They meet in their second steps.
+fn plan_of(alloc: Global, flags: &Arc<Flags>) -> Result<Plan<Meeting>, Fail> {
+    let tasks = ["spawn:1:3: spawn:2:3:", "work work", "work work"];
+    let list = asks(alloc, &tasks, usize::MAX)?;
+    match Arc::try_clone(flags) {
+        Ok(flags) => Ok(plan_over(alloc, list, flags)),
+        Err(error) => {
+            drop(list);
+            Err(error.into())
+        }
+    }
+}
+
+/// How many faults a run of that plan by two workers has.
+fn faults_of<T: Threads + Wait + Clock + Sync>(
+    rt: &T,
+    alloc: Global,
+    flags: &Arc<Flags>,
+) -> Result<usize, Fail> {
+    let shape = shape_of(2)?;
+    let plan = plan_of(alloc, flags)?;
+    let outcome = outcome_of(run(rt, alloc, plan, &shape, &OpenGate)?);
+    let faults = outcome.faults.len();
+    drop(outcome);
+    Ok(faults)
+}
+
+/// A run of that plan has no fault, and both children have met.
+fn meet_at<T: Threads + Wait + Clock + Sync>(
+    rt: &T,
+    alloc: Global,
+    flags: &Arc<Flags>,
+) -> Result<(), Fail> {
+    if faults_of(rt, alloc, flags)? != 0 {
+        return Err("a fault".into());
+    }
+    flags.have_met()
 }
 
 /// In a run of that plan by two workers both children are in their second step of work at once.
 pub fn meet<T: Threads + Wait + Clock + Sync>(rt: &T, alloc: Global) -> Result<(), Fail> {
     let flags = Arc::new(alloc, Flags::new())?;
-    let plan = plan_of(alloc, Arc::try_clone(&flags)?)?;
-    let shape = Shape::new(2, 16).ok_or("no shape")?;
-    let (outcome, _ran) = run(rt, alloc, plan, &shape, &OpenGate)?.outcome();
-    if outcome.faults.len() != 0 {
-        return Err("a fault".into());
-    }
-    flags.have_met()
+    meet_at(rt, alloc, &flags)
 }

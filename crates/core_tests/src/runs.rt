@@ -20,7 +20,7 @@ use std::thread::Threads;
 use swan_model::{Body, NoMemory, Outcome, Plan, RunName};
 use swan_outside::OpenGate;
 use swan_runtime::{Shape, run, run_alone};
-use task_frames::{Core, Frame, Opened};
+use task_frames::{Core, Frame, Opened, RunOutcome};
 
 /// How the frames of a run are tried.
 #[derive(Clone, Copy)]
@@ -60,8 +60,13 @@ pub fn frames_from<B: Body, Q: Queues>(
     ensures run { core.new.run ≡ core.old.run }
 {
     let mut frames = alone(alloc, root)?;
-    take_turns(alloc, core, body, &mut frames, turns)?;
-    Ok(frames)
+    match take_turns(alloc, core, body, &mut frames, turns) {
+        Ok(()) => Ok(frames),
+        Err(fail) => {
+            drop(frames);
+            Err(fail)
+        }
+    }
 }
 
 /// Takes turns by chance, with this frame at first.
@@ -79,14 +84,28 @@ fn take_by_chance<B: Body, Q: Queues>(
     take_turns_by_chance(alloc, core, body, &mut frames, seed)
 }
 
+/// The outcome of a run.
+pub fn outcome_of(ran: RunOutcome) -> Outcome {
+    let (outcome, ran) = ran.outcome();
+    drop(ran);
+    outcome
+}
+
+/// The two texts of what a run leaves that has ended.
+pub fn texts_of(alloc: Global, ran: RunOutcome) -> Result<Printed, Fail> {
+    let outcome = outcome_of(ran);
+    let texts = printed(alloc, &outcome);
+    drop(outcome);
+    texts
+}
+
 /// What a run leaves, and None where its root hasn't ended.
 fn left<B: Body, Q: Queues>(alloc: Global, core: Core<B, Q>) -> Result<Option<Outcome>, Fail> {
     if !core.is_done() {
         drop(core);
         return Ok(None);
     }
-    let (outcome, _ran) = core.take_outcome(alloc)?.outcome();
-    Ok(Some(outcome))
+    Ok(Some(outcome_of(core.take_outcome(alloc)?)))
 }
 
 /// What an opened run leaves by turns, and None where the root hasn't ended.
@@ -137,7 +156,7 @@ fn left_alone<B: Body, Q: Queues>(alloc: Global, opened: Opened<B, Q>) -> Option
     requires body { opened.body.value ≡ opened.core.plan.body }
 {
     match run_alone(alloc, opened) {
-        Ok(ran) => Some(ran.outcome().0),
+        Ok(ran) => Some(outcome_of(ran)),
         Err(NoMemory) => None,
     }
 }
@@ -271,7 +290,10 @@ pub fn stops(
 ) -> Result<(), Fail> {
     let plan = failing_plan(alloc, tasks, fuel, fails)?;
     match left_of(alloc, plan, order)? {
-        Some(_) => Err(Fail::new(format_args!("the root has ended past {fails}"))),
+        Some(outcome) => {
+            drop(outcome);
+            Err(Fail::new(format_args!("the root has ended past {fails}")))
+        }
         None => Ok(()),
     }
 }
@@ -291,6 +313,17 @@ pub fn stops_at_each_ask(alloc: Global, row: &Row<'_>, order: Order<'_>) -> Resu
     leaves_past(alloc, row, count, order)
 }
 
+/// Whether the elision of these tasks is stopped where no memory is found at one index of the list of all asks.
+fn stops_the_elision(alloc: Global, tasks: &Tasks<'_>, fails: usize) -> Result<bool, Fail> {
+    match elide(alloc, failing_plan(alloc, tasks.tasks, tasks.fuel, fails)?) {
+        Ok(outcome) => {
+            drop(outcome);
+            Ok(false)
+        }
+        Err(NoMemory) => Ok(true),
+    }
+}
+
 /// A run of these tasks, in which no memory is found at one index of the list of all asks, leaves nothing where that stops the elision, and
 /// else what the elision leaves.
 fn stops_where_the_elision_stops(
@@ -299,12 +332,11 @@ fn stops_where_the_elision_stops(
     fails: usize,
     order: Order<'_>,
 ) -> Result<(), Fail> {
-    let plan = failing_plan(alloc, tasks.tasks, tasks.fuel, fails)?;
-    if elide(alloc, plan).is_err() {
+    if stops_the_elision(alloc, tasks, fails)? {
         return stops(alloc, tasks.tasks, tasks.fuel, fails, order);
     }
-    let plan = failing_plan(alloc, tasks.tasks, tasks.fuel, fails)?;
-    is_elided(alloc, tasks, &texts(alloc, plan, order)?)
+    let left = texts_past(alloc, tasks.tasks, tasks.fuel, fails, order)?;
+    is_elided(alloc, tasks, &left)
 }
 
 /// So do runs of these tasks from a stack and in ten orders.
@@ -324,16 +356,35 @@ pub fn stop_where_the_elision_stops(alloc: Global, tasks: &Tasks<'_>) -> Result<
     Ok(())
 }
 
-/// The two texts of what a run of this plan by so many workers leaves.
+/// The shape of a run by so many workers.
+pub fn shape_of(workers: u32) -> Result<Shape, Fail> {
+    Ok(Shape::new(workers, 16).ok_or("no shape")?)
+}
+
+/// The two texts of what a run of this plan in this shape leaves.
 fn texts_by_workers<T: Threads + Wait + Clock + Sync>(
     rt: &T,
     alloc: Global,
     plan: Plan<AskList>,
-    workers: u32,
+    shape: &Shape,
 ) -> Result<Printed, Fail> {
-    let shape = Shape::new(workers, 16).ok_or("no shape")?;
-    let (outcome, _ran) = run(rt, alloc, plan, &shape, &OpenGate)?.outcome();
-    printed(alloc, &outcome)
+    match run(rt, alloc, plan, shape, &OpenGate) {
+        Ok(ran) => texts_of(alloc, ran),
+        Err(none) => Err(none.into()),
+    }
+}
+
+/// A run of these tasks by so many workers leaves what the elision leaves.
+fn leaves_the_same_by_workers<T: Threads + Wait + Clock + Sync>(
+    rt: &T,
+    alloc: Global,
+    tasks: &Tasks<'_>,
+    workers: u32,
+) -> Result<(), Fail> {
+    let shape = shape_of(workers)?;
+    let plan = plan(alloc, tasks.tasks, tasks.fuel)?;
+    let left = texts_by_workers(rt, alloc, plan, &shape)?;
+    is_elided(alloc, tasks, &left)
 }
 
 /// Runs of these tasks by several workers leave what the elision leaves.
@@ -343,10 +394,25 @@ pub fn workers_leave_the_same<T: Threads + Wait + Clock + Sync>(
     tasks: &Tasks<'_>,
 ) -> Result<(), Fail> {
     for workers in [1, 2, 3, 4, 64] {
-        let plan = plan(alloc, tasks.tasks, tasks.fuel)?;
-        is_elided(alloc, tasks, &texts_by_workers(rt, alloc, plan, workers)?)?;
+        leaves_the_same_by_workers(rt, alloc, tasks, workers)?;
     }
     Ok(())
+}
+
+/// A run of this plan in this shape is stopped by want of memory.
+fn stops_in_shape<T: Threads + Wait + Clock + Sync>(
+    rt: &T,
+    alloc: Global,
+    plan: Plan<AskList>,
+    shape: &Shape,
+) -> Result<(), Fail> {
+    match run(rt, alloc, plan, shape, &OpenGate) {
+        Ok(ran) => {
+            drop(ran);
+            Err("the run has ended".into())
+        }
+        Err(NoMemory) => Ok(()),
+    }
 }
 
 /// Runs of these tasks by several workers are stopped by want of memory, which is met at one index of the list of all asks.
@@ -358,16 +424,9 @@ pub fn stops_by_workers<T: Threads + Wait + Clock + Sync>(
     fails: usize,
 ) -> Result<(), Fail> {
     for workers in [1, 2, 4, 64] {
-        let shape = Shape::new(workers, 16).ok_or("no shape")?;
-        if let Ok(_ran) = run(
-            rt,
-            alloc,
-            failing_plan(alloc, tasks, fuel, fails)?,
-            &shape,
-            &OpenGate,
-        ) {
-            return Err("the run has ended".into());
-        }
+        let shape = shape_of(workers)?;
+        let plan = failing_plan(alloc, tasks, fuel, fails)?;
+        stops_in_shape(rt, alloc, plan, &shape)?;
     }
     Ok(())
 }

@@ -185,7 +185,10 @@ fn come_so<B: Body, Q: Queues>(
         root,
     } = opened;
     let mut stale = stale;
-    take_from(alloc, &mut core, &body, root, &mut stale, turns)
+    let came = take_from(alloc, &mut core, &body, root, &mut stale, turns);
+    drop(core);
+    drop(stale);
+    came
 }
 
 /// An opened run of the plan that goes through these asks.
@@ -200,11 +203,22 @@ fn opened(alloc: Global, list: &Arc<AskList>) -> Result<Opened<Shared, BookQueue
     Ok(Core::open(alloc, plan, queues)?)
 }
 
+/// The turns of two runs of the plan that goes through these asks come to what is said.
+fn come_over(alloc: Global, list: &Arc<AskList>, turns: &Turns<'_>) -> Result<(), Fail> {
+    let stale = frames_after(alloc, opened(alloc, list)?, turns.second)?;
+    match opened(alloc, list) {
+        Ok(opened) => come_so(alloc, opened, stale, turns),
+        Err(fail) => {
+            drop(stale);
+            Err(fail)
+        }
+    }
+}
+
 /// The turns of two runs of these tasks, of which the first is the root, come to what is said.
 fn table(alloc: Global, tasks: &[&str], turns: &Turns<'_>) -> Result<(), Fail> {
     let list = Arc::new(alloc, asks(alloc, tasks, usize::MAX)?)?;
-    let stale = frames_after(alloc, opened(alloc, &list)?, turns.second)?;
-    come_so(alloc, opened(alloc, &list)?, stale, turns)
+    come_over(alloc, &list, turns)
 }
 
 #[test]

@@ -520,13 +520,17 @@ fn a_child_uses_nothing_beyond_what_it_was_given(rt: HostRuntime) -> Result<(), 
     Ok(())
 }
 
+/// The ask for a child that is this task, with so much fuel.
+fn spawn_of(alloc: Global, task: u64, fuel: u64) -> Result<String, Fail> {
+    let word = format!(in alloc; "spawn:{task}")?;
+    Ok(format!(in alloc; "{word}:{fuel}:")?)
+}
+
 /// The tasks of a chain: each spawns the next one, but the last. So the task at depth 64 spawns too.
 fn chain(alloc: Global) -> Result<Vec<String>, Fail> {
     let mut tasks = Vec::new(alloc);
     for depth in 0..65_u64 {
-        let next = depth + 1;
-        let fuel = 900 - 10 * depth;
-        tasks.push(format!(in alloc; "spawn:{next}:{fuel}:")?)?;
+        tasks.push(spawn_of(alloc, depth + 1, 900 - 10 * depth)?)?;
     }
     tasks.push(String::new(alloc))?;
     Ok(tasks)
@@ -582,12 +586,22 @@ fn chain_leaves(alloc: Global, tasks: &[&str], report: &str) -> Result<(), Fail>
     leaves(alloc, &row, Order::Stack)
 }
 
+/// Runs of a chain of these tasks end with a fault of the task at depth 64.
+fn tasks_leave(alloc: Global, tasks: &[&str]) -> Result<(), Fail> {
+    let report = report_of_chain(alloc)?;
+    chain_leaves(alloc, tasks, report.as_str())
+}
+
+/// The same of tasks whose texts are these.
+fn texts_leave(alloc: Global, texts: &[String]) -> Result<(), Fail> {
+    let tasks = tasks_of_chain(alloc, texts)?;
+    tasks_leave(alloc, tasks.as_slice())
+}
+
 #[test]
 fn a_frame_at_depth_64_spawns_nothing(rt: HostRuntime) -> Result<(), Fail> {
     let texts = chain(rt.alloc())?;
-    let tasks = tasks_of_chain(rt.alloc(), texts.as_slice())?;
-    let report = report_of_chain(rt.alloc())?;
-    chain_leaves(rt.alloc(), tasks.as_slice(), report.as_str())
+    texts_leave(rt.alloc(), texts.as_slice())
 }
 
 #[test]
