@@ -1,5 +1,7 @@
 // Runs of the generated job.
-use crate::helpers::{Ended, Machine, Over, assert_ended, called, file_of, hold, hold_row};
+use crate::helpers::{
+    Ended, Machine, Over, assert_ended, called, file_of, hold, hold_row, number_before,
+};
 use bulk_workload::{BULK_MOST, bulk_input, bulk_job};
 use std::alloc::Global;
 use std::test::Fail;
@@ -41,12 +43,24 @@ fn a_generated_run_writes_its_sum_and_its_count(rt: HostRuntime) -> Result<(), F
     hold(&rt, rt.alloc(), "", &[], "", CALLS)
 }
 
+// Adds those files.
+fn add_generated(alloc: Global, files: &mut Vec<FileBlob>, size: u64) -> Result<(), NoMemory> {
+    let size = size.min(BULK_MOST);
+    files.push(file_of(alloc, "job", bulk_job(alloc, size)?)?)?;
+    files.push(file_of(alloc, "input", bulk_input(alloc, 7, size)?)?)?;
+    Ok(())
+}
+
 // The files `job` and `input`: the generated job for so many lines, and its input from 7 on.
 fn generated_files(alloc: Global, size: u64) -> Result<Vec<FileBlob>, NoMemory> {
-    let size = size.min(BULK_MOST);
-    let job = file_of(alloc, "job", bulk_job(alloc, size)?)?;
-    let input = file_of(alloc, "input", bulk_input(alloc, 7, size)?)?;
-    Ok(vec![in alloc; job, input]?)
+    let mut files = Vec::new(alloc);
+    match add_generated(alloc, &mut files, size) {
+        Ok(()) => Ok(files),
+        Err(none) => {
+            drop(files);
+            Err(none)
+        }
+    }
 }
 
 /// The elision of the generated job with so many units: the number of lines, and then a row. So many units are spent or
@@ -57,13 +71,17 @@ const UNITS: &str = "\
 200000 5409015 job input|99900000~200000~|object total int 99900000~object count int 200000~left lines 0~faults 0~|0
 200000 5409014 job input|99900000~200000~|object total int 99900000~object count int 200000~left lines 0~faults 1~fault / 79 Fuel~|1";
 
+// Asserts a row of the units.
+fn hold_units(rt: &impl Machine, alloc: Global, row: &str) -> Result<(), Fail> {
+    let (size, row) = number_before(row)?;
+    let files = generated_files(alloc, u64::from(size))?;
+    hold_row(rt, alloc, Over::files(files), "elide", row)
+}
+
 #[test]
 fn a_generated_run_takes_so_many_units(rt: HostRuntime) -> Result<(), Fail> {
     for row in UNITS.lines() {
-        let (size, row) = row.split_once(' ').ok_or("no size")?;
-        let size = size.parse::<u64>().ok().ok_or("no number")?;
-        let files = generated_files(rt.alloc(), size)?;
-        hold_row(&rt, rt.alloc(), Over::files(files), "elide", row)?;
+        hold_units(&rt, rt.alloc(), row)?;
     }
     Ok(())
 }

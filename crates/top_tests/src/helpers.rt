@@ -54,14 +54,36 @@ impl Over {
     }
 }
 
+/// Adds a word. `-` stands for the empty one.
+fn add_word(alloc: Global, words: &mut Words, part: &str) -> Result<(), NoMemory> {
+    let word = Word::of(alloc, if part == "-" { "" } else { part })?;
+    match words.push(word) {
+        Ok(()) => Ok(()),
+        Err(back) => {
+            drop(back);
+            Err(NoMemory)
+        }
+    }
+}
+
+/// Adds the words between the spaces of a text.
+fn add_words(alloc: Global, words: &mut Words, text: &str) -> Result<(), NoMemory> {
+    for part in text.split_whitespace() {
+        add_word(alloc, words, part)?;
+    }
+    Ok(())
+}
+
 /// The words between the spaces of a text. A word `-` stands for the empty one.
 pub fn words_of(alloc: Global, text: &str) -> Result<Words, NoMemory> {
     let mut words = Words::new(alloc);
-    for part in text.split_whitespace() {
-        let part = if part == "-" { "" } else { part };
-        words.push(Word::of(alloc, part)?).map_err(|_| NoMemory)?;
+    match add_words(alloc, &mut words, text) {
+        Ok(()) => Ok(words),
+        Err(none) => {
+            drop(words);
+            Err(none)
+        }
     }
-    Ok(words)
 }
 
 /// A file of this name, with this content.
@@ -72,11 +94,26 @@ pub fn file_of(alloc: Global, name: &str, content: Vec<u8>) -> Result<FileBlob, 
     })
 }
 
+/// Adds a file of this name, with this content.
+fn add_file(
+    alloc: Global,
+    files: &mut Vec<FileBlob>,
+    name: &str,
+    text: &str,
+) -> Result<(), NoMemory> {
+    let content = text.as_bytes().to_vec(alloc)?;
+    files.push(file_of(alloc, name, content)?)?;
+    Ok(())
+}
+
 /// Files of these names, which stand between spaces, with these contents.
 pub fn files_of(alloc: Global, names: &str, texts: &[&str]) -> Result<Vec<FileBlob>, NoMemory> {
     let mut files = Vec::new(alloc);
     for (name, text) in names.split_whitespace().zip(texts) {
-        files.push(file_of(alloc, name, text.as_bytes().to_vec(alloc)?)?)?;
+        if let Err(none) = add_file(alloc, &mut files, name, *text) {
+            drop(files);
+            return Err(none);
+        }
     }
     Ok(files)
 }
@@ -87,18 +124,112 @@ fn sink(alloc: Global, most: usize, failing: u64) -> Result<MemorySink, NoMemory
     MemorySink::new(alloc, most.max(1), 131_072, fail)
 }
 
-/// How a call ended, by its status and its sinks.
-fn end_of(
-    alloc: Global,
-    out: &MemorySink,
-    report: &MemorySink,
+/// How a call ended, which has written this output.
+fn end_with(
+    out: String,
+    report: Result<String, AllocError>,
     status: Status,
 ) -> Result<Ended, NoMemory> {
-    Ok(Ended {
-        out: String::from_utf8_lossy(alloc, out.written())?,
-        report: String::from_utf8_lossy(alloc, report.written())?,
-        status,
-    })
+    match report {
+        Ok(report) => Ok(Ended {
+            out,
+            report,
+            status,
+        }),
+        Err(error) => {
+            drop(out);
+            drop(status);
+            Err(error.into())
+        }
+    }
+}
+
+/// How a call ended, by its status and what its sinks have.
+pub fn end_of(
+    out: Result<String, AllocError>,
+    report: Result<String, AllocError>,
+    status: Status,
+) -> Result<Ended, NoMemory> {
+    match out {
+        Ok(out) => end_with(out, report, status),
+        Err(error) => {
+            drop(report);
+            drop(status);
+            Err(error.into())
+        }
+    }
+}
+
+/// What a sink has taken.
+fn written(alloc: Global, sink: &MemorySink) -> Result<String, AllocError> {
+    String::from_utf8_lossy(alloc, sink.written())
+}
+
+/// The numbers of a call: how many bytes a put takes at most, and which puts fail.
+#[derive(Clone, Copy)]
+struct Puts {
+    /// How many bytes a put takes at most.
+    most: usize,
+    /// The number of the put to the output that fails.
+    out_fails: u64,
+    /// The number of the put to the report that fails.
+    report_fails: u64,
+}
+
+/// A call with these words over these files, whose output goes to this sink.
+fn called_into<G: Gate>(
+    rt: &impl Machine,
+    alloc: Global,
+    words: &[Word],
+    files: &mut MemoryFiles,
+    out: &mut MemorySink,
+    puts: Puts,
+    gate: &G,
+) -> Result<Ended, NoMemory> {
+    let mut report = sink(alloc, puts.most, puts.report_fails)?;
+    let status = swan(rt, alloc, words, files, out, &mut report, gate);
+    end_of(written(alloc, out), written(alloc, &report), status)
+}
+
+/// A call with these words over these files, whose sinks take and fail so.
+fn called_of_words<G: Gate>(
+    rt: &impl Machine,
+    alloc: Global,
+    words: &[Word],
+    files: &mut MemoryFiles,
+    puts: Puts,
+    gate: &G,
+) -> Result<Ended, NoMemory> {
+    let mut out = sink(alloc, puts.most, puts.out_fails)?;
+    called_into(rt, alloc, words, files, &mut out, puts, gate)
+}
+
+/// A call with the words of a text over these files, whose sinks take and fail so.
+fn called_of_text<G: Gate>(
+    rt: &impl Machine,
+    alloc: Global,
+    words: &str,
+    files: &mut MemoryFiles,
+    puts: Puts,
+    gate: &G,
+) -> Result<Ended, NoMemory> {
+    let words = words_of(alloc, words)?;
+    called_of_words(rt, alloc, words.as_slice(), files, puts, gate)
+}
+
+/// These files, of which the read of this number fails.
+fn files_with(
+    alloc: Global,
+    files: Vec<FileBlob>,
+    read_fails: u64,
+) -> Result<MemoryFiles, NoMemory> {
+    match vec![in alloc; read_fails] {
+        Ok(fails) => Ok(MemoryFiles::new(files, fails)),
+        Err(error) => {
+            drop(files);
+            Err(error.into())
+        }
+    }
 }
 
 /// A call with these words over all this, whose workers ask this gate.
@@ -109,20 +240,13 @@ pub fn called_at<G: Gate>(
     over: Over,
     gate: &G,
 ) -> Result<Ended, NoMemory> {
-    let words = words_of(alloc, words)?;
-    let mut files = MemoryFiles::new(over.files, vec![in alloc; over.read_fails]?);
-    let mut out = sink(alloc, over.put_most, over.out_fails)?;
-    let mut report = sink(alloc, over.put_most, over.report_fails)?;
-    let status = swan(
-        rt,
-        alloc,
-        words.as_slice(),
-        &mut files,
-        &mut out,
-        &mut report,
-        gate,
-    );
-    end_of(alloc, &out, &report, status)
+    let puts = Puts {
+        most: over.put_most,
+        out_fails: over.out_fails,
+        report_fails: over.report_fails,
+    };
+    let mut files = files_with(alloc, over.files, over.read_fails)?;
+    called_of_text(rt, alloc, words, &mut files, puts, gate)
 }
 
 /// A call with these words over all this.
@@ -141,6 +265,12 @@ pub fn number_of(text: Option<&str>) -> Result<u32, Fail> {
     Ok(number.ok().ok_or("no number")?)
 }
 
+/// The number before the first space of a text, and what stands behind that.
+pub fn number_before(text: &str) -> Result<(u32, &str), Fail> {
+    let (number, others) = cut_at_space(text)?;
+    Ok((number_of(Some(number))?, others))
+}
+
 /// A text with line feeds in the place of each ~.
 pub fn with_line_feeds(alloc: Global, text: &str) -> Result<String, AllocError> {
     text.chars()
@@ -155,7 +285,10 @@ pub fn assert_text(rt: &impl Abort, got: &str, wanted: &str, of: &str, row: &str
 
 /// Asserts that a code is this one.
 pub fn assert_code(rt: &impl Abort, got: u8, wanted: &str, row: &str) {
-    assert_eq!(rt; Ok(got), wanted.parse::<u8>(), "the code of {row}");
+    match wanted.parse::<u8>() {
+        Ok(code) => assert!(rt; got == code, "the code of {row}: {got}"),
+        Err(_) => panic!(rt; "no code in {row}"),
+    }
 }
 
 /// Asserts that a call ended so.
@@ -170,13 +303,18 @@ pub fn cut(text: &str) -> Result<(&str, &str), Fail> {
     Ok(text.split_once('|').ok_or("no |")?)
 }
 
+/// The two parts of a text before and after its first space.
+pub fn cut_at_space(text: &str) -> Result<(&str, &str), Fail> {
+    Ok(text.split_once(' ').ok_or("no space")?)
+}
+
 /// A command and its words.
 fn words_after(alloc: Global, command: &str, words: &str) -> Result<String, AllocError> {
     format!(in alloc; "{command} {words}")
 }
 
 /// Asserts that a text is this one, which has ~ for each line feed.
-fn assert_lines(
+pub fn assert_lines(
     rt: &impl Abort,
     alloc: Global,
     got: &str,
@@ -225,10 +363,58 @@ pub fn hold_row(
     command: &str,
     row: &str,
 ) -> Result<(), Fail> {
-    let (words, wanted) = cut(row)?;
-    let words = words_after(alloc, command, words)?;
-    let got = called(rt, alloc, words.as_str(), over)?;
+    match cut(row) {
+        Ok((words, wanted)) => hold_after(rt, alloc, over, command, words, row, wanted),
+        Err(fail) => {
+            drop(over);
+            Err(fail)
+        }
+    }
+}
+
+/// The same of a row with these words, whose other parts are these.
+fn hold_after(
+    rt: &impl Machine,
+    alloc: Global,
+    over: Over,
+    command: &str,
+    words: &str,
+    row: &str,
+    wanted: &str,
+) -> Result<(), Fail> {
+    match words_after(alloc, command, words) {
+        Ok(words) => hold_words(rt, alloc, over, words.as_str(), row, wanted),
+        Err(error) => {
+            drop(over);
+            Err(error.into())
+        }
+    }
+}
+
+/// Asserts how a call with these words over all this ends: the output, the report and the code, with | between them and ~ for each line feed.
+pub fn hold_words(
+    rt: &impl Machine,
+    alloc: Global,
+    over: Over,
+    words: &str,
+    row: &str,
+    wanted: &str,
+) -> Result<(), Fail> {
+    let got = called(rt, alloc, words, over)?;
     assert_row(rt, alloc, &got, row, wanted)
+}
+
+/// Asserts a row over these files.
+pub fn hold_over_files(
+    rt: &impl Machine,
+    alloc: Global,
+    names: &str,
+    texts: &[&str],
+    command: &str,
+    row: &str,
+) -> Result<(), Fail> {
+    let files = files_of(alloc, names, texts)?;
+    hold_row(rt, alloc, Over::files(files), command, row)
 }
 
 /// Asserts each row of a table over these files.
@@ -241,8 +427,7 @@ pub fn hold(
     table: &str,
 ) -> Result<(), Fail> {
     for row in table.lines() {
-        let files = files_of(alloc, names, texts)?;
-        hold_row(rt, alloc, Over::files(files), command, row)?;
+        hold_over_files(rt, alloc, names, texts, command, row)?;
     }
     Ok(())
 }

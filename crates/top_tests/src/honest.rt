@@ -1,9 +1,11 @@
 // Calls over files and sinks that never fail.
-use crate::helpers::{Ended, Machine, assert_ended, assert_row, cut, file_of, files_of, words_of};
+use crate::helpers::{
+    Ended, Machine, assert_ended, assert_row, cut, end_of, file_of, files_of, words_of,
+};
 use crate::jobs::{NAMES, TEXTS};
 use std::alloc::{AllocError, Global};
 use std::test::Fail;
-use swan_model::NoMemory;
+use swan_model::{NoMemory, Word};
 use swan_outside::{FileBlob, HonestFiles, HonestSink, OpenGate};
 use swan_top::honest_call;
 
@@ -29,41 +31,61 @@ fn told(alloc: Global, sink: &HonestSink) -> Result<String, AllocError> {
     }
 }
 
+// Adds a file past the limit.
+fn add_long(alloc: Global, files: &mut Vec<FileBlob>) -> Result<(), NoMemory> {
+    let content = vec![in alloc; b'x'; 67_108_865]?;
+    files.push(file_of(alloc, "long", content)?)?;
+    Ok(())
+}
+
 // The known jobs, and where words name it, a file past the limit.
 fn files_for(alloc: Global, words: &str) -> Result<Vec<FileBlob>, NoMemory> {
     let mut files = files_of(alloc, NAMES, &TEXTS)?;
     if words.contains("long") {
-        let content = vec![in alloc; b'x'; 67_108_865]?;
-        files.push(file_of(alloc, "long", content)?)?;
+        if let Err(none) = add_long(alloc, &mut files) {
+            drop(files);
+            return Err(none);
+        }
     }
     Ok(files)
 }
 
-// A call with these words over those files.
+// A call with these words over these files, whose output goes to this sink, and whose report to one with so much room.
+fn called_into(
+    rt: &impl Machine,
+    alloc: Global,
+    words: &[Word],
+    files: &mut HonestFiles,
+    out: &mut HonestSink,
+    room: usize,
+) -> Result<Ended, NoMemory> {
+    let mut report = HonestSink::new(alloc, room)?;
+    let status = honest_call(rt, alloc, words, files, out, &mut report, &OpenGate);
+    end_of(told(alloc, out), told(alloc, &report), status)
+}
+
+// A call with these words over these files, and sinks with so much room.
+fn called_over(
+    rt: &impl Machine,
+    alloc: Global,
+    words: &[Word],
+    files: &mut HonestFiles,
+    room: usize,
+) -> Result<Ended, NoMemory> {
+    let mut out = HonestSink::new(alloc, room)?;
+    called_into(rt, alloc, words, files, &mut out, room)
+}
+
+// A call with the words of a text over those files, and sinks with so much room.
 fn called_honestly(
     rt: &impl Machine,
     alloc: Global,
-    words: &str,
+    text: &str,
     room: usize,
 ) -> Result<Ended, NoMemory> {
-    let mut files = HonestFiles::new(files_for(alloc, words)?);
-    let words = words_of(alloc, words)?;
-    let mut out = HonestSink::new(alloc, room)?;
-    let mut report = HonestSink::new(alloc, room)?;
-    let status = honest_call(
-        rt,
-        alloc,
-        words.as_slice(),
-        &mut files,
-        &mut out,
-        &mut report,
-        &OpenGate,
-    );
-    Ok(Ended {
-        out: told(alloc, &out)?,
-        report: told(alloc, &report)?,
-        status,
-    })
+    let words = words_of(alloc, text)?;
+    let mut files = HonestFiles::new(files_for(alloc, text)?);
+    called_over(rt, alloc, words.as_slice(), &mut files, room)
 }
 
 // Asserts a row of the calls.

@@ -1,7 +1,7 @@
 // Failing reads and writes, cut jobs, and limits.
 use crate::helpers::{
-    Ended, Machine, Over, assert_ended, assert_report, assert_row, assert_text, called, cut,
-    file_of, files_of, hold, hold_row, number_of, with_line_feeds,
+    Ended, Machine, Over, assert_ended, assert_report, assert_text, called, cut, file_of, files_of,
+    hold, hold_row, hold_words, number_before, number_of, with_line_feeds,
 };
 use crate::jobs::LEAVES;
 use job_tests::{FIRST_JOB, REFUSED_FRONTS};
@@ -36,9 +36,9 @@ const FAILING_READS: &str = "\
 
 // Asserts a row of the failing reads.
 fn hold_failing_read(rt: &impl Machine, alloc: Global, row: &str) -> Result<(), Fail> {
-    let (number, row) = row.split_once(' ').ok_or("no number")?;
+    let (number, row) = number_before(row)?;
     let mut over = Over::files(files_of(alloc, "b x y", &[LEAVES, "1", "2"])?);
-    over.read_fails = u64::from(number_of(Some(number))?);
+    over.read_fails = u64::from(number);
     hold_row(rt, alloc, over, "", row)
 }
 
@@ -84,10 +84,9 @@ fn over_sinks(alloc: Global, out_fails: u32, report_fails: u32) -> Result<Over, 
 
 // Asserts a row of the failing writes.
 fn hold_failing_write(rt: &impl Machine, alloc: Global, row: &str) -> Result<(), Fail> {
-    let (out_fails, others) = row.split_once(' ').ok_or("no put")?;
-    let (report_fails, row) = others.split_once(' ').ok_or("no put")?;
-    let out_fails = number_of(Some(out_fails))?;
-    let over = over_sinks(alloc, out_fails, number_of(Some(report_fails))?)?;
+    let (out_fails, others) = number_before(row)?;
+    let (report_fails, row) = number_before(others)?;
+    let over = over_sinks(alloc, out_fails, report_fails)?;
     hold_row(rt, alloc, over, "", row)
 }
 
@@ -99,6 +98,12 @@ fn a_failing_write_leaves_a_front(rt: HostRuntime) -> Result<(), Fail> {
     Ok(())
 }
 
+// How a check of a job ended.
+fn checked(rt: &impl Machine, alloc: Global, job: &str) -> Result<Ended, NoMemory> {
+    let files = files_of(alloc, "a", &[job])?;
+    called(rt, alloc, "check a", Over::files(files))
+}
+
 // Asserts what a check of a job says.
 fn hold_check(
     rt: &impl Machine,
@@ -108,41 +113,42 @@ fn hold_check(
     report: &str,
     code: &str,
 ) -> Result<(), Fail> {
-    let over = Over::files(files_of(alloc, "a", &[job])?);
-    let got = called(rt, alloc, "check a", over)?;
+    let got = checked(rt, alloc, job)?;
     assert_ended(rt, &got, job, out, report, code);
     Ok(())
 }
 
-// Asserts that each front of the first job of these lengths is refused so.
+// Asserts that a check refuses each front of the first job of these lengths by this report.
 fn hold_fronts(
     rt: &impl Machine,
     alloc: Global,
     from: u32,
     to: u32,
-    refusal: &str,
+    report: &str,
 ) -> Result<(), Fail> {
-    let report = format!(in alloc; "refused {refusal}\n")?;
     for len in from..=to {
-        let front = FIRST_JOB.get(..len as usize).ok_or("too long")?;
-        hold_check(rt, alloc, front, "", report.as_str(), "3")?;
+        hold_check(rt, alloc, front_of(len)?, "", report, "3")?;
     }
     Ok(())
 }
 
+// The front of the first job of this length.
+fn front_of(len: u32) -> Result<&'static str, Fail> {
+    Ok(FIRST_JOB.get(..len as usize).ok_or("too long")?)
+}
+
 // Asserts a row of the fronts.
 fn hold_front(rt: &impl Machine, alloc: Global, row: &str) -> Result<(), Fail> {
-    let (from, others) = row.split_once(' ').ok_or("no lengths")?;
-    let (to, refusal) = others.split_once(' ').ok_or("no refusal")?;
-    let from = number_of(Some(from))?;
-    hold_fronts(rt, alloc, from, number_of(Some(to))?, refusal)
+    let (from, others) = number_before(row)?;
+    let (to, refusal) = number_before(others)?;
+    let report = format!(in alloc; "refused {refusal}\n")?;
+    hold_fronts(rt, alloc, from, to, report.as_str())
 }
 
 #[test]
 fn a_whole_job_is_printed_with_and_without_its_last_line_feed(rt: HostRuntime) -> Result<(), Fail> {
     for len in [58, 59] {
-        let front = FIRST_JOB.get(..len).ok_or("too long")?;
-        hold_check(&rt, rt.alloc(), front, FIRST_JOB, "checked\n", "0")?;
+        hold_check(&rt, rt.alloc(), front_of(len)?, FIRST_JOB, "checked\n", "0")?;
     }
     Ok(())
 }
@@ -164,8 +170,8 @@ a~|x|65536|~b|long line 1 2~|7
 |~|1000000||left text 1000000~faults 0~|0
 |~|1000000|~|too many lines 1~|7";
 
-// The input of a row, by its first four parts.
-fn input_of(
+// So many copies of a text between two others, with a line feed in the place of each ~.
+fn between(
     alloc: Global,
     first: &str,
     part: &str,
@@ -175,6 +181,18 @@ fn input_of(
     let copies = part.repeat(alloc, times as usize)?;
     let text = format!(in alloc; "{first}{copies}{last}")?;
     with_line_feeds(alloc, text.as_str())
+}
+
+// The input of a row, by its first four parts.
+fn input_of(
+    alloc: Global,
+    first: &str,
+    part: &str,
+    times: &str,
+    last: &str,
+) -> Result<String, Fail> {
+    let times = number_of(Some(times))?;
+    Ok(between(alloc, first, part, times, last)?)
 }
 
 // A call with these words over this input.
@@ -200,17 +218,37 @@ fn hold_copies(
 ) -> Result<(), Fail> {
     let (times, ending) = cut(others)?;
     let (last, wanted) = cut(ending)?;
-    let text = input_of(alloc, first, part, number_of(Some(times))?, last)?;
+    let text = input_of(alloc, first, part, times, last)?;
+    hold_report(rt, alloc, words, text, others, wanted)
+}
+
+// Asserts that a call with this input writes nothing, and what its report and code are.
+fn hold_report(
+    rt: &impl Machine,
+    alloc: Global,
+    words: &str,
+    text: String,
+    row: &str,
+    wanted: &str,
+) -> Result<(), Fail> {
     let got = with_input(rt, alloc, words, text)?;
-    assert_text(rt, got.out.as_str(), "", "the output", others);
-    assert_report(rt, alloc, &got, others, wanted)
+    assert_text(rt, got.out.as_str(), "", "the output", row);
+    assert_report(rt, alloc, &got, row, wanted)
 }
 
 // Asserts a row of the inputs.
-pub fn hold_input(rt: &impl Machine, alloc: Global, words: &str, row: &str) -> Result<(), Fail> {
+fn hold_input(rt: &impl Machine, alloc: Global, words: &str, row: &str) -> Result<(), Fail> {
     let (first, others) = cut(row)?;
     let (part, others) = cut(others)?;
     hold_copies(rt, alloc, words, first, part, others)
+}
+
+// Asserts each row of a table of inputs.
+pub fn hold_inputs(rt: &impl Machine, alloc: Global, words: &str, table: &str) -> Result<(), Fail> {
+    for row in table.lines() {
+        hold_input(rt, alloc, words, row)?;
+    }
+    Ok(())
 }
 
 /// As many lines as a full file has, of as many bytes as a line may have.
@@ -322,18 +360,12 @@ fn a_full_text_is_converted_and_one_byte_more_is_too_long(rt: HostRuntime) -> Re
 
 #[test]
 fn run_refuses_inputs_past_their_limits(rt: HostRuntime) -> Result<(), Fail> {
-    for row in INPUTS.lines() {
-        hold_input(&rt, rt.alloc(), "run 1 5 b x", row)?;
-    }
-    Ok(())
+    hold_inputs(&rt, rt.alloc(), "run 1 5 b x", INPUTS)
 }
 
 #[test]
 fn elide_refuses_the_same_inputs(rt: HostRuntime) -> Result<(), Fail> {
-    for row in INPUTS.lines() {
-        hold_input(&rt, rt.alloc(), "elide 5 b x", row)?;
-    }
-    Ok(())
+    hold_inputs(&rt, rt.alloc(), "elide 5 b x", INPUTS)
 }
 
 /// Jobs of 16 and of 17 inputs, and two inputs.
@@ -370,14 +402,27 @@ swan 1~task main~  do~^  if 1~*33^  end~*33^end~||refused 36 Limit~|3
 swan 1~task ^a*32^~  do~end~task main~  do~end~||faults 0~|0
 swan 1~task ^a*33^~  do~end~task main~  do~end~||refused 2 BadName~|3";
 
+// So many copies of a text, with a line feed in the place of each ~.
+fn copies_of(alloc: Global, part: &str, times: &str) -> Result<String, Fail> {
+    let times = number_of(Some(times))? as usize;
+    Ok(with_line_feeds(alloc, part)?.repeat(alloc, times)?)
+}
+
+// Adds a piece, which has * before the number of its copies.
+fn add_piece(alloc: Global, text: &mut String, piece: &str) -> Result<(), Fail> {
+    let (part, times) = piece.split_once('*').unwrap_or((piece, "1"));
+    text.push_str(copies_of(alloc, part, times)?.as_str())?;
+    Ok(())
+}
+
 // The text of pieces.
 fn text_of(alloc: Global, pieces: &str) -> Result<String, Fail> {
     let mut text = String::new(alloc);
     for piece in pieces.split('^') {
-        let (part, times) = piece.split_once('*').unwrap_or((piece, "1"));
-        let times = number_of(Some(times))? as usize;
-        let copies = with_line_feeds(alloc, part)?.repeat(alloc, times)?;
-        text.push_str(copies.as_str())?;
+        if let Err(fail) = add_piece(alloc, &mut text, piece) {
+            drop(text);
+            return Err(fail);
+        }
     }
     Ok(text)
 }
@@ -391,9 +436,14 @@ fn over_job(alloc: Global, pieces: &str) -> Result<Over, Fail> {
 // Asserts a row of the jobs.
 fn hold_job(rt: &impl Machine, alloc: Global, row: &str) -> Result<(), Fail> {
     let (pieces, wanted) = cut(row)?;
-    let over = over_job(alloc, pieces)?;
-    let got = called(rt, alloc, "run 1 100 j", over)?;
-    assert_row(rt, alloc, &got, row, wanted)
+    hold_words(
+        rt,
+        alloc,
+        over_job(alloc, pieces)?,
+        "run 1 100 j",
+        row,
+        wanted,
+    )
 }
 
 #[test]

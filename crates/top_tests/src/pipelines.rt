@@ -1,6 +1,6 @@
 // What `index` and `convert` write.
-use crate::helpers::{Machine, Over, files_of, hold, hold_row};
-use crate::limits::hold_input;
+use crate::helpers::{Machine, cut_at_space, hold, hold_over_files};
+use crate::limits::hold_inputs;
 use std::alloc::Global;
 use std::test::Fail;
 
@@ -31,10 +31,9 @@ convert missing||read failed missing~|4";
 
 // Asserts a row of the calls, by so many workers.
 fn hold_by(rt: &impl Machine, alloc: Global, workers: u32, row: &str) -> Result<(), Fail> {
-    let (command, row) = row.split_once(' ').ok_or("no command")?;
+    let (command, row) = cut_at_space(row)?;
     let command = format!(in alloc; "{command} {workers}")?;
-    let over = Over::files(files_of(alloc, NAMES, &TEXTS)?);
-    hold_row(rt, alloc, over, command.as_str(), row)
+    hold_over_files(rt, alloc, NAMES, &TEXTS, command.as_str(), row)
 }
 
 #[test]
@@ -82,17 +81,14 @@ const UNFIT: &str = "\
 |~|1000000||left input 0~faults 0~|0
 |~|1000000|~|too many lines 1~|7";
 
+/// The same of a conversion.
+const UNFIT_TO_CONVERT: &str = "\
+|x|65535|~|left input 0~faults 1~fault /0/0 1 TooLong~|1
+|x|65536|~|long line 1 1~|7
+|~|1000000|~|too many lines 1~|7";
+
 #[test]
 fn a_text_is_refused_as_an_input_is(rt: HostRuntime) -> Result<(), Fail> {
-    for row in UNFIT.lines() {
-        hold_input(&rt, rt.alloc(), "index 1 x", row)?;
-    }
-    for row in [
-        "|x|65535|~|left input 0~faults 1~fault /0/0 1 TooLong~|1",
-        "|x|65536|~|long line 1 1~|7",
-        "|~|1000000|~|too many lines 1~|7",
-    ] {
-        hold_input(&rt, rt.alloc(), "convert 1 x", row)?;
-    }
-    Ok(())
+    hold_inputs(&rt, rt.alloc(), "index 1 x", UNFIT)?;
+    hold_inputs(&rt, rt.alloc(), "convert 1 x", UNFIT_TO_CONVERT)
 }

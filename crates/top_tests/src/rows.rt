@@ -1,5 +1,5 @@
 // What jobs write, with `run` by so many workers and with `elide`.
-use crate::helpers::{Over, assert_code, assert_text, called, hold};
+use crate::helpers::{Ended, Over, assert_code, assert_text, called, hold};
 use crate::jobs::{NAMES, TEXTS};
 use std::process::Abort;
 use std::test::Fail;
@@ -124,12 +124,17 @@ fn assert_parts(rt: &impl Abort, text: &str, parts: &str) {
     }
 }
 
+// Asserts that a call ended with the help.
+fn assert_help(rt: &impl Abort, got: &Ended) {
+    assert_parts(rt, got.out.as_str(), HELP_SAYS);
+    assert_text(rt, got.report.as_str(), "", "the report", "--help");
+    assert_code(rt, got.status.code(), "0", "--help");
+}
+
 #[test]
 fn the_help_lists_each_command_range_and_status(rt: HostRuntime) -> Result<(), Fail> {
     let over = Over::files(Vec::new(rt.alloc()));
     let got = called(&rt, rt.alloc(), "--help", over)?;
-    assert_parts(&rt, got.out.as_str(), HELP_SAYS);
-    assert_text(&rt, got.report.as_str(), "", "the report", "--help");
-    assert_code(&rt, got.status.code(), "0", "--help");
+    assert_help(&rt, &got);
     Ok(())
 }

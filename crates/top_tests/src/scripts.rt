@@ -1,5 +1,8 @@
 // Scripts of known jobs. Each was traced by hand through the lines of its job.
-use crate::helpers::{assert_text, number_of};
+ghost use Rattle.std.specs.Prelude.{◌≤◌};
+ghost use Rattle.swan_model.specs.declared.plan.TheConstants.{FUEL_MOST};
+
+use crate::helpers::{assert_text, cut, number_of};
 use crate::jobs::{NAMES, TEXTS};
 use job_body::{JobBody, plan_of};
 use job_reader::read_job;
@@ -133,11 +136,18 @@ fn text_of(name: &str) -> Result<&'static str, Fail> {
     if name == "short" {
         return Ok(SHORT);
     }
-    let index = NAMES
-        .split_whitespace()
-        .position(|known| known == name)
-        .ok_or("no such file")?;
-    Ok(*TEXTS.get(index).ok_or("no such file")?)
+    match NAMES.split_whitespace().position(|known| known == name) {
+        Some(index) => text_at(index),
+        None => Err("no such file".into()),
+    }
+}
+
+// The text of the file that stands at this place.
+fn text_at(index: usize) -> Result<&'static str, Fail> {
+    match TEXTS.get(index) {
+        Some(text) => Ok(*text),
+        None => Err("no such file".into()),
+    }
 }
 
 // The job that has this name.
@@ -147,12 +157,21 @@ fn job_of(alloc: Global, name: &str) -> Result<CheckedJob, Fail> {
     Ok(job.ok().ok_or("no checked job")?)
 }
 
+// Adds the input of this name.
+fn add_input(alloc: Global, inputs: &mut Vec<Blob>, name: &str) -> Result<(), Fail> {
+    let input = text_of(name)?.as_bytes().to_vec(alloc)?;
+    inputs.push(Blob::new(input))?;
+    Ok(())
+}
+
 // The inputs of these names, which stand between spaces.
 fn inputs_of(alloc: Global, names: &str) -> Result<Vec<Blob>, Fail> {
     let mut inputs = Vec::new(alloc);
     for name in names.split_whitespace() {
-        let input = text_of(name)?.as_bytes().to_vec(alloc)?;
-        inputs.push(Blob::new(input))?;
+        if let Err(fail) = add_input(alloc, &mut inputs, name) {
+            drop(inputs);
+            return Err(fail);
+        }
     }
     Ok(inputs)
 }
@@ -168,19 +187,36 @@ pub fn plan_of_files(
     if fuel > FUEL_MOST {
         return Err("too much fuel".into());
     }
-    let job = job_of(alloc, job)?;
     let inputs = inputs_of(alloc, inputs)?;
-    let plan = plan_of(alloc, job, inputs, fuel);
-    Ok(plan.ok().ok_or("no plan")?)
+    match job_of(alloc, job) {
+        Ok(job) => plan_over(alloc, job, inputs, fuel),
+        Err(fail) => {
+            drop(inputs);
+            Err(fail)
+        }
+    }
+}
+
+// The plan of a checked job over these inputs.
+fn plan_over(
+    alloc: Global,
+    job: CheckedJob,
+    inputs: Vec<Blob>,
+    fuel: u64,
+) -> Result<Plan<JobBody>, Fail>
+    requires { fuel ≤ FUEL_MOST }
+{
+    match plan_of(alloc, job, inputs, fuel) {
+        Ok(plan) => Ok(plan),
+        Err(_) => Err("no plan".into()),
+    }
 }
 
 // The plan of a run: its fuel, its job and its inputs, with | between them.
 fn plan_of_run(alloc: Global, run: &str) -> Result<Plan<JobBody>, Fail> {
-    let mut parts = run.split('|');
-    let fuel = number_of(parts.next())?;
-    let job = parts.next().ok_or("no job")?;
-    let inputs = parts.next().ok_or("no inputs")?;
-    plan_of_files(alloc, fuel, job, inputs)
+    let (fuel, others) = cut(run)?;
+    let (job, inputs) = cut(others)?;
+    plan_of_files(alloc, number_of(Some(fuel))?, job, inputs)
 }
 
 // A number after a space.

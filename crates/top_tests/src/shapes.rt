@@ -1,9 +1,10 @@
 // Runs of a plan by workers and rings of several numbers.
-use crate::helpers::{Machine, number_of, with_line_feeds};
+use crate::helpers::{Machine, assert_lines, cut, number_of};
 use crate::scripts::{line_of_values, lines_of_queues, plan_of_files};
+use job_body::JobBody;
 use std::alloc::Global;
 use std::test::Fail;
-use swan_model::{NoMemory, Outcome};
+use swan_model::{NoMemory, Outcome, Plan};
 use swan_outside::OpenGate;
 use swan_runtime::{Shape, run};
 
@@ -31,19 +32,45 @@ fn shown(alloc: Global, outcome: &Outcome) -> Result<String, NoMemory> {
     Ok(format!(in alloc; "{queues}{objects}{faults}")?)
 }
 
+// What a run of a plan in this shape leaves.
+fn left_of(
+    rt: &impl Machine,
+    alloc: Global,
+    plan: Plan<JobBody>,
+    shape: &Shape,
+) -> Result<String, Fail> {
+    let (outcome, ran) = run(rt, alloc, plan, shape, &OpenGate)?.outcome();
+    drop(ran);
+    let left = shown(alloc, &outcome);
+    drop(outcome);
+    Ok(left?)
+}
+
+// The shape of so many workers, with so many places in a ring.
+fn shape_of(workers: Option<&str>, ring: Option<&str>) -> Result<Shape, Fail> {
+    let workers = number_of(workers)?;
+    Ok(Shape::new(workers, number_of(ring)?).ok_or("no shape")?)
+}
+
+// The plan of this job with so much fuel.
+fn plan_by(alloc: Global, fuel: Option<&str>, job: Option<&str>) -> Result<Plan<JobBody>, Fail> {
+    let fuel = number_of(fuel)?;
+    plan_of_files(alloc, fuel, job.ok_or("no job")?, "")
+}
+
+// What a run leaves by these words: workers, rings, fuel and job.
+fn left_by(rt: &impl Machine, alloc: Global, words: &str) -> Result<String, Fail> {
+    let mut words = words.split_whitespace();
+    let shape = shape_of(words.next(), words.next())?;
+    let plan = plan_by(alloc, words.next(), words.next())?;
+    left_of(rt, alloc, plan, &shape)
+}
+
 // Asserts a row of the shapes.
 fn hold_shape(rt: &impl Machine, alloc: Global, row: &str) -> Result<(), Fail> {
-    let (words, wanted) = row.split_once('|').ok_or("no outcome")?;
-    let mut words = words.split_whitespace();
-    let workers = number_of(words.next())?;
-    let ring = number_of(words.next())?;
-    let shape = Shape::new(workers, ring).ok_or("no shape")?;
-    let fuel = number_of(words.next())?;
-    let job = words.next().ok_or("no job")?;
-    let plan = plan_of_files(alloc, fuel, job, "")?;
-    let (outcome, _) = run(rt, alloc, plan, &shape, &OpenGate)?.outcome();
-    let wanted = with_line_feeds(alloc, wanted)?;
-    assert_eq!(rt; shown(alloc, &outcome)?.as_str(), wanted.as_str(), "{row}");
+    let (words, wanted) = cut(row)?;
+    let left = left_by(rt, alloc, words)?;
+    assert_lines(rt, alloc, left.as_str(), wanted, "what is left", row)?;
     Ok(())
 }
 

@@ -1,5 +1,5 @@
 // By which way commands run.
-use crate::helpers::{Machine, Over, called, files_of};
+use crate::helpers::{Machine, Over, assert_text, called, cut, files_of};
 use crate::jobs::{NAMES, TEXTS};
 use std::alloc::Global;
 use std::test::Fail;
@@ -41,13 +41,15 @@ fn way_of(status: &Status) -> &'static str {
 fn way_of_words(rt: &impl Machine, alloc: Global, words: &str) -> Result<&'static str, NoMemory> {
     let over = Over::files(files_of(alloc, NAMES, &TEXTS)?);
     let got = called(rt, alloc, words, over)?;
-    Ok(way_of(&got.status))
+    let way = way_of(&got.status);
+    drop(got);
+    Ok(way)
 }
 
 // Asserts a row of the ways.
 fn hold_way(rt: &impl Machine, alloc: Global, row: &str) -> Result<(), Fail> {
-    let (words, way) = row.split_once('|').ok_or("no way")?;
-    assert_eq!(rt; way_of_words(rt, alloc, words)?, way, "{row}");
+    let (words, way) = cut(row)?;
+    assert_text(rt, way_of_words(rt, alloc, words)?, way, "the way", row);
     Ok(())
 }
 
