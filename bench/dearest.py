@@ -15,7 +15,8 @@ each time in a new process, which reads again; so does the gate for what wrong b
 
 What a function takes itself is told better by its modules, of which a check writes some fifteen for each function, and one for each file
 of `specs/` and `proofs/`. Of each that the last check wrote it tells the seconds by the clock since the one before: first by function, the
-NUMBER longest, and then by module. Let the check go by one job, and from nothing, without the crate's `out/`, where all is to be told. What a
+NUMBER longest, and then by module; and last the kilobytes of the NUMBER largest of all that are kept, which no other work of the machine
+changes. Let the check go by one job, and from nothing, without the crate's `out/`, where all is to be told. What a
 new process reads counts with the first module that it writes. The module `Lts` holds the ways through the code, and grows with each place in
 which an owned value may end; `Proof` and `Tie` grow with what is left to show. So the check of a function gets shorter where what ends
 in several places is given up by `drop`, and where what is asserted of one row is a function of its own.
@@ -99,7 +100,7 @@ def of_gate(lines):
 
 
 def written_by(crate):
-    """The seconds between the modules that the last check of a crate wrote, by function, and then by module."""
+    """The seconds between the modules that the last check of a crate wrote, by function, and then by module; and the kilobytes of all, by module."""
     own = ROOT / "crates" / crate
     if not own.is_dir():
         raise SystemExit(f"there is no crate {crate}")
@@ -108,13 +109,15 @@ def written_by(crate):
     begun = max((at for path, at in times.items() if path.name == "rattle-last-used"), default=None)
     if begun is None:
         raise SystemExit(f"no check of {crate} has kept anything")
-    functions, modules, last = collections.Counter(), collections.Counter(), begun
-    for at, name in sorted((at, path.stem) for path, at in times.items() if path.suffix == ".oantt" and at >= begun):
-        name = re.sub(rf"^Rattle-{crate}-(?:proofs|specs)\.(?:contracts\.)?", "", name)
-        functions[PART.sub("", name)] += at - last
-        modules[name] += at - last
-        last = at
-    return functions, modules
+    functions, modules, sizes, last = collections.Counter(), collections.Counter(), collections.Counter(), begun
+    for at, path in sorted((at, path) for path, at in times.items() if path.suffix == ".oantt"):
+        name = re.sub(rf"^Rattle-{crate}-(?:proofs|specs)\.(?:contracts\.)?", "", path.stem)
+        sizes[name] = path.stat().st_size / 1000
+        if at >= begun:
+            functions[PART.sub("", name)] += at - last
+            modules[name] += at - last
+            last = at
+    return (functions, "s"), (modules, "s"), (sizes, "kB")
 
 
 def copied(here, crate):
@@ -181,7 +184,7 @@ def main(words):
         raise SystemExit(__doc__)
     most = int(words[1]) if len(words) > 1 else 10
     if option == "--modules":
-        lists = ["\n".join(f"{seconds:8.1f} s  {name}" for name, seconds in part.most_common(most)) for part in written_by(words[0])]
+        lists = ["\n".join(f"{much:8.1f} {unit}  {name}" for name, much in part.most_common(most)) for part, unit in written_by(words[0])]
         print("\n\n".join(lists))
         return
     if option == "--edits":
