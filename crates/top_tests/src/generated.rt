@@ -43,7 +43,7 @@ fn a_generated_run_writes_its_sum_and_its_count(rt: HostRuntime) -> Result<(), F
     hold(&rt, rt.alloc(), "", &[], "", CALLS)
 }
 
-// Adds those files.
+// Adds the files `job` and `input` of the generated job for so many lines.
 fn add_generated(alloc: Global, files: &mut Vec<FileBlob>, size: u64) -> Result<(), NoMemory> {
     let size = size.min(BULK_MOST);
     files.push(file_of(alloc, "job", bulk_job(alloc, size)?)?)?;
