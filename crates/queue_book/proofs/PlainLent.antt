@@ -36,6 +36,7 @@ tree_none = record {
   root = λ frame live. absurd (none_active 0 frame live);
   others = λ n frame live other. absurd (none_active n frame live);
   spawned = λ n parent frame live of. absurd (none_active n frame live);
+  older = λ n parent frame live of. absurd (none_active n frame live);
   siblings = λ n other i j a b path live too one two before. absurd (none_active n a live);
   different = λ n other a b live too same. absurd (none_active n a live);
   held = λ n queue frame live has. absurd (none_active n frame live);

@@ -21,7 +21,7 @@ root_active (suc most) state tree m frame less live = elim (cases_eq m 0) [
       let parent = tree.others m frame live other in
       let above = tree.spawned m parent.0 frame live parent.1 in
       let number : frame.number ≡ m = active_number state m frame live in
-      let older : parent.0 < frame.number = above.older in
+      let older : parent.0 < frame.number = tree.older m parent.0 frame live parent.1 in
       root_active most state tree parent.0 above.above (omega (arith, number, older)) above.live
 ]
 
@@ -58,7 +58,7 @@ module _ (state : QueueState) (tree : IsTree state) where
           let from = tree.spawned number parent frame live of in
           let one = one_answer (active state parent) from.above above from.live alive in
           let own = active_number state number frame live in
-          let older = from.older in
+          let older = tree.older number parent frame live of in
           let upper = higher parent above (omega arith) alive too in
           let parts : above.path ++ from.index ∷ [] ≡ maker_path maker ++ (upper.0 ++ from.index ∷ []) =
           ap (λ p. p ++ from.index ∷ []) upper.1 ∙ append_assoc (maker_path maker) upper.0 (from.index ∷ []) in
@@ -125,7 +125,7 @@ module _ (state : QueueState) (tree : IsTree state) where
       let parent = parent_of number frame top (next ∷ rest) part live path in
       let from = tree.spawned number parent.0 frame live parent.1 in
       let own = active_number state number frame live in
-      let older = from.older in
+      let older = tree.older number parent.0 frame live parent.1 in
       let last = last_of next rest in
       let whole : top ++ part ∷ next ∷ rest ≡ (top ++ part ∷ last.front) ++ last.last ∷ [] =
       ap (λ p. top ++ part ∷ p) last.is ∙ sym (append_assoc top (part ∷ last.front) (last.last ∷ [])) in

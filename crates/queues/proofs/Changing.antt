@@ -136,7 +136,7 @@ module _ (s : Script) (state : QueueState) (follows : QueuesFollow s state) (new
           subst (λ b. IsTask s new (cond b (change old) old)) (sym own) (others n old before apart)
     ]
 
-    child_now : (n parent : ℕ) (x y : ActiveFrame) → active state n ≡ Some x → frame_after_change number change x ≡ y → x.parent ≡ Some parent → IsChildOf s new y parent
+    child_now : (n parent : ℕ) (x y : ActiveFrame) → active state n ≡ Some x → frame_after_change number change x ≡ y → x.parent ≡ Some parent → IsChildOf new y parent
     child_now n parent x y before e of =
         let up = follows.children n parent x before of in
         let more = children_kept up.above in

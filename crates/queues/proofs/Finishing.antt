@@ -45,7 +45,7 @@ module _ (s : Script) (state : QueueState) (follows : QueuesFollow s state) (num
       let old = filtered_stands stays state.frames i y at in
       all_each (is_reached s t by.entry.path) state.frames old.index y by.reached old.stands))
 
-  child_still : (n p : ℕ) (y : ActiveFrame) → active state n ≡ Some y → y.parent ≡ Some p → IsChildOf s state y p → IsChildOf s gone y p
+  child_still : (n p : ℕ) (y : ActiveFrame) → active state n ≡ Some y → y.parent ≡ Some p → IsChildOf state y p → IsChildOf gone y p
   child_still n p y live of up =
       let apart : p ≡ number → ⊥ = λ same.
       alone n (record { frame = y; live = live; of = of ∙ ap Some same }) in

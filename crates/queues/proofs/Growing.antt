@@ -64,10 +64,10 @@ module _ (s : Script) (state : QueueState) (follows : QueuesFollow s state) (chi
       by (Some x) live is = inl (live ∙ is)
       by None live is = inr (own (nat_eq child.number n) refl is)
 
-  module _ (free : active state child.number ≡ None) (parent : ℕ) (of : child.parent ≡ Some parent) (spawned : IsChildOf s state child parent) (task : IsTask s state child)
+  module _ (free : active state child.number ≡ None) (parent : ℕ) (of : child.parent ≡ Some parent) (spawned : IsChildOf state child parent) (task : IsTask s state child)
       (apart : (n : ℕ) (other : ActiveFrame) → active state n ≡ Some other → other.path ≡ child.path → ⊥)
       (reached : (queue : ℕ) (path : List ℕ) (deeds : ℕ) (entry : Entry) → slice_get state.makers queue ≡ Some (made_by path deeds) → slice_get s.entries (queue_time s path deeds) ≡ Some entry → is_reached s (queue_time s path deeds) entry.path child ≡ true) where
-    child_on : (frame : ActiveFrame) (p : ℕ) → IsChildOf s state frame p → IsChildOf s grown frame p
+    child_on : (frame : ActiveFrame) (p : ℕ) → IsChildOf state frame p → IsChildOf grown frame p
     child_on frame p up = record { above = up.above; live = still_active p up.above up.live; index = up.index; path = up.path; spawned = up.spawned }
 
     made_still : (queue : ℕ) (maker : QueueMaker) → slice_get state.makers queue ≡ Some maker → IsMade s state queue maker → IsMade s grown queue maker
@@ -123,7 +123,7 @@ module _ (s : Script) (state : QueueState) (follows : QueuesFollow s state) (chi
             | inr here ↦
                 let parents : Some parent ≡ Some p = sym of ∙ ap (λ (f : ActiveFrame). f.parent) here.1 ∙ up in
                 let one : parent ≡ p = same_Some parent p parents in
-                subst (λ f. IsChildOf s grown f p) here.1 (subst (IsChildOf s grown child) one (child_on child parent spawned))
+                subst (λ f. IsChildOf grown f p) here.1 (subst (IsChildOf grown child) one (child_on child parent spawned))
           ];
           different = different_now;
           queues = λ queue maker at. made_still queue maker at (follows.queues queue maker at);

@@ -126,7 +126,7 @@ module _ (s : Script) (lawful : IsLawful s) where
     -- an active frame that isn't the root has a parent that is active
     record HasParent (frame : ActiveFrame) : Type 0 where
       pub parent : ℕ
-      pub of : IsChildOf s state frame parent
+      pub of : IsChildOf state frame parent
 
     has_parent : (number : ℕ) (frame : ActiveFrame) → active state number ≡ Some frame → (frame.path ≡ [] → ⊥) → HasParent frame
     has_parent number frame live below = elim (cases_eq number 0) [

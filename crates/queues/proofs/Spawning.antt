@@ -174,7 +174,7 @@ module _ (s : Script) (lawful : IsLawful s) (state : QueueState) (follows : Queu
           made = λ queue mode queues holds. child_made s state follows queue mode rights spawn.all spawn.queues holds;
         }
 
-    child_below : IsChildOf s after_parent new_child parent.number
+    child_below : IsChildOf after_parent new_child parent.number
     child_below =
         record {
           above = frame_after_change parent.number one_child_more parent;

@@ -4,10 +4,11 @@ use Rattle.std.proofs.lemmas.Bool.{eq-eqb}
 use Rattle.std.proofs.lemmas.List.{same_from_push}
 use Rattle.std.specs.Prelude.{slice_get, ◌==◌}
 use Rattle.swan_model.specs.declared.rights.Mode.{Mode}
+use Rattle.swan_model.specs.QueueFollows.{IsChildOf}
 use Rattle.swan_model.specs.QueueState.{ActiveFrame, QueueState, active, holds_queue, IsOlderPopper}
 use Rattle.swan_model.specs.Rights.{is_queue_mode}
 use Rattle.swan_model.proofs.Paths.{not_below-itself}
-use Rattle.queues.specs.Tree.{IsHeld, made, given, IsSpawnedBy, IsTree, has_queue, maker_path}
+use Rattle.queues.specs.Tree.{IsHeld, made, given, IsTree, has_queue, maker_path}
 use Rattle.queues.proofs.Above.{under_maker}
 use Rattle.queues.proofs.Frames.{active_number}
 use Rattle.swan_model.proofs.Elements.{more_cases, found_before, found_cases, found_last, option_cases}
@@ -73,24 +74,28 @@ module _ (state : QueueState) (parent new : ActiveFrame) (index : ℕ) (tree : I
     | inr last ↦ ap (λ (f : ActiveFrame). active after f.number) last.1 ∙ new_live ∙ ap Some (sym last.1)
   ]
 
-  spawned_too : (number above : ℕ) (frame : ActiveFrame) → active state number ≡ Some frame → frame.parent ≡ Some above → IsSpawnedBy after frame above
+  spawned_too : (number above : ℕ) (frame : ActiveFrame) → active state number ≡ Some frame → frame.parent ≡ Some above → IsChildOf after frame above
   spawned_too number above frame live of =
       let from = tree.spawned number above frame live of in
-      record { above = from.above; live = still_live above from.above from.live; older = from.older; index = from.index; path = from.path; spawned = from.spawned }
+      record { above = from.above; live = still_live above from.above from.live; index = from.index; path = from.path; spawned = from.spawned }
 
-  new_spawned : (above : ℕ) → new.parent ≡ Some above → IsSpawnedBy after new above
+  new_spawned : (above : ℕ) → new.parent ≡ Some above → IsChildOf after new above
   new_spawned above of =
       let same : parent.number ≡ above = let e : Some parent.number ≡ Some above = sym is.of ∙ of in cc in
-      let upto = tree.latest parent.number parent is.live in
-      let least = is.number in
       record {
         above = parent;
         live = ap (active after) (sym same) ∙ still_live parent.number parent is.live;
-        older = omega arith;
         index = index;
         path = is.path;
         spawned = is.spawned;
       }
+
+  new_older : (above : ℕ) → new.parent ≡ Some above → above < new.number
+  new_older above of =
+      let same : parent.number ≡ above = let e : Some parent.number ≡ Some above = sym is.of ∙ of in cc in
+      let upto = tree.latest parent.number parent is.live in
+      let least = is.number in
+      omega arith
 
   -- the numbers of siblings rise to the new one
   siblings_too : (number other i j : ℕ) (a b : ActiveFrame) (path : List ℕ) → active after number ≡ Some a → active after other ≡ Some b
@@ -179,8 +184,10 @@ module _ (state : QueueState) (parent new : ActiveFrame) (index : ℕ) (tree : I
           absurd (omega arith)
     ];
     others = for_both (λ number frame. number ≢ 0 → (above : ℕ) × (frame.parent ≡ Some above)) tree.others (λ apart. (parent.number, is.of));
-    spawned = λ number above frame live. for_both (λ n f. f.parent ≡ Some above → IsSpawnedBy after f above)
+    spawned = λ number above frame live. for_both (λ n f. f.parent ≡ Some above → IsChildOf after f above)
         (λ n f alive. spawned_too n above f alive) (new_spawned above) number frame live;
+    older = λ number above frame live. for_both (λ n f. f.parent ≡ Some above → above < f.number)
+        (λ n f alive. tree.older n above f alive) (new_older above) number frame live;
     siblings = siblings_too;
     different = different_too;
     held = λ number queue frame live. for_both (λ n f. has_queue f queue ≡ true → (queue < length state.makers) × IsHeld after f queue)

@@ -7,10 +7,11 @@ use Rattle.std.specs.Option.{option_map}
 use Rattle.std.specs.Prelude.{slice_get}
 use Rattle.swan_model.specs.declared.rights.Mode.{Mode}
 use Rattle.swan_model.specs.declared.rights.Mode.TheVariants.{Pop}
+use Rattle.swan_model.specs.QueueFollows.{IsChildOf}
 use Rattle.swan_model.specs.QueueState.{ActiveFrame, QueueMaker, QueueState, active, holds_queue, IsOlderPopper}
 use Rattle.swan_model.specs.Rights.{is_queue_mode}
 use Rattle.swan_model.proofs.Lists.{some_within}
-use Rattle.queues.specs.Tree.{IsHeld, made, given, IsSpawnedBy, IsTree, has_queue}
+use Rattle.queues.specs.Tree.{IsHeld, made, given, IsTree, has_queue}
 use Rattle.queues.proofs.Frames.{active_number, has_held}
 use Rattle.queues.proofs.FramesChanged.{find_changed}
 use Rattle.swan_model.proofs.Elements.{mapped_is}
@@ -55,21 +56,24 @@ module _ (before after : QueueState) (each : ActiveFrame → ActiveFrame) (actor
       let own : now.number ≡ at.0.number = ap (λ (f : ActiveFrame). f.number) (sym at.2) ∙ change.kept.number at.0 in
       ap (active after) own ∙ still at.0.number at.0 (tree.known index at.0 at.1) ∙ ap Some at.2
 
-  spawned_still : (number parent : ℕ) (frame : ActiveFrame) → active before number ≡ Some frame → (each frame).parent ≡ Some parent → IsSpawnedBy after (each frame) parent
+  spawned_still : (number parent : ℕ) (frame : ActiveFrame) → active before number ≡ Some frame → (each frame).parent ≡ Some parent → IsChildOf after (each frame) parent
   spawned_still number parent frame live of =
       let from = tree.spawned number parent frame live (sym (change.kept.parent frame) ∙ of) in
-      let own = change.kept.number frame in
-      let older = from.older in
       let fewer = from.spawned in
       let more = change.kept.children from.above in
       record {
         above = each from.above;
         live = still parent from.above from.live;
-        older = omega arith;
         index = from.index;
         path = change.kept.path frame ∙ from.path ∙ ap (λ p. p ++ from.index ∷ []) (sym (change.kept.path from.above));
         spawned = omega arith;
       }
+
+  older_still : (number parent : ℕ) (frame : ActiveFrame) → active before number ≡ Some frame → (each frame).parent ≡ Some parent → parent < (each frame).number
+  older_still number parent frame live of =
+      let own = change.kept.number frame in
+      let older = tree.older number parent frame live (sym (change.kept.parent frame) ∙ of) in
+      omega arith
 
   -- of a queue that was there, the maker is the same
   same_maker : (queue : ℕ) (maker : QueueMaker) → queue < length before.makers → slice_get after.makers queue ≡ Some maker → slice_get before.makers queue ≡ Some maker
@@ -133,8 +137,10 @@ module _ (before after : QueueState) (each : ActiveFrame → ActiveFrame) (actor
         (ap (λ (f : ActiveFrame). f.path) at.2 ∙ change.kept.path at.0 ∙ top.0, ap (λ (f : ActiveFrame). f.parent) at.2 ∙ change.kept.parent at.0 ∙ top.1);
     others = for_each (λ number frame. number ≢ 0 → (parent : ℕ) × (frame.parent ≡ Some parent)) (λ number frame live apart.
         let parent = tree.others number frame live apart in (parent.0, change.kept.parent frame ∙ parent.1));
-    spawned = λ number parent frame live. for_each (λ n f. f.parent ≡ Some parent → IsSpawnedBy after f parent)
+    spawned = λ number parent frame live. for_each (λ n f. f.parent ≡ Some parent → IsChildOf after f parent)
         (λ n f alive. spawned_still n parent f alive) number frame live;
+    older = λ number parent frame live. for_each (λ n f. f.parent ≡ Some parent → parent < f.number)
+        (λ n f alive. older_still n parent f alive) number frame live;
     siblings = λ number other i j a b path one two at there.
         let first = was number a one in
         let second = was other b two in

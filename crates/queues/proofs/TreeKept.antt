@@ -36,6 +36,7 @@ tree_new = record {
   root = λ frame live. root_only (λ f. (f.path ≡ []) × (f.parent ≡ None)) (refl, refl) 0 frame live;
   others = λ number frame live apart. absurd (apart (only_root number frame live).0);
   spawned = λ number parent frame live of. absurd (root_only (λ f. f.parent ≡ Some parent → ⊥) (λ is. let e : None ≡ Some parent = is in cc) number frame live of);
+  older = λ number parent frame live of. absurd (root_only (λ f. f.parent ≡ Some parent → ⊥) (λ is. let e : None ≡ Some parent = is in cc) number frame live of);
   siblings = λ number other i j a b path one two at there less.
       let first = (only_root number a one).0 in let second = (only_root other b two).0 in absurd (omega arith);
   different = λ number other a b one two same. (only_root number a one).0 ∙ sym (only_root other b two).0;

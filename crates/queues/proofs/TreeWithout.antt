@@ -2,8 +2,9 @@
 use Rattle.std.proofs.Common.{◌≡◌, ℕ, Some, sym, ap, ◌∙◌}
 use Rattle.std.proofs.lemmas.Bool.{eq-eqb, false≢true}
 use Rattle.std.specs.Prelude.{◌==◌, not, slice_get}
+use Rattle.swan_model.specs.QueueFollows.{IsChildOf}
 use Rattle.swan_model.specs.QueueState.{ActiveFrame, QueueState, active, after_finish, IsActiveChild, IsOlderPopper}
-use Rattle.queues.specs.Tree.{IsHeld, made, given, IsSpawnedBy, IsTree}
+use Rattle.queues.specs.Tree.{IsHeld, made, given, IsTree}
 use Rattle.queues.proofs.FramesChanged.{find_gone, find_others}
 use Rattle.swan_model.proofs.Elements.{filtered_stands}
 
@@ -33,14 +34,13 @@ module _ (state : QueueState) (gone : ℕ) (tree : IsTree state) (alone : (child
       (λ same. false≢true (ap not (sym (eq-eqb frame.number gone same)) ∙ at.passes)) (tree.known at.index frame at.stands)
 
   spawned_left : (number parent : ℕ) (frame : ActiveFrame) → active (after_finish state gone) number ≡ Some frame → frame.parent ≡ Some parent
-      → IsSpawnedBy (after_finish state gone) frame parent
+      → IsChildOf (after_finish state gone) frame parent
   spawned_left number parent frame live of =
       let was = (was_there state gone number frame live).1 in
       let from = tree.spawned number parent frame was of in
       record {
         above = from.above;
         live = parent_stays number parent frame from.above was of from.live;
-        older = from.older;
         index = from.index;
         path = from.path;
         spawned = from.spawned;
@@ -72,6 +72,7 @@ module _ (state : QueueState) (gone : ℕ) (tree : IsTree state) (alone : (child
     root = λ frame live. tree.root frame (was_there state gone 0 frame live).1;
     others = λ number frame live. tree.others number frame (was_there state gone number frame live).1;
     spawned = spawned_left;
+    older = λ number parent frame live. tree.older number parent frame (was_there state gone number frame live).1;
     siblings = λ number other i j a b path one two.
         tree.siblings number other i j a b path (was_there state gone number a one).1 (was_there state gone other b two).1;
     different = λ number other a b one two.

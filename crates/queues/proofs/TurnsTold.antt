@@ -13,9 +13,10 @@ use Rattle.pop_order.proofs.Lineage.{below_below}
 use Rattle.swan_model.specs.declared.rights.Mode.{Mode}
 use Rattle.swan_model.specs.declared.rights.Mode.TheVariants.{Push, Pop}
 use Rattle.swan_model.specs.PathOrder.{comes_before}
+use Rattle.swan_model.specs.QueueFollows.{IsChildOf}
 use Rattle.swan_model.specs.QueueState.{ActiveFrame, HasTurn, IsEarlierPusher, IsOlderPopper, IsPoppingChild, QueueMaker, QueueState, active, holds_queue}
 use Rattle.swan_model.proofs.PathOrder.{before-below, before-parent, how_before, IsAside, IsBelow, left-before, left-below, left-below_other, left-sibling, not_before-under}
-use Rattle.queues.specs.Tree.{IsSpawnedBy, IsTree, has_queue, maker_path}
+use Rattle.queues.specs.Tree.{IsTree, has_queue, maker_path}
 use Rattle.queues.specs.Turned.{AreTurns, IsToldBy}
 use Rattle.queues.proofs.Above.{Climbs, climb, held_above, IsOnWay, maker_aside, maker_below, maker_of, same_front, under_maker}
 use Rattle.queues.proofs.Frames.{active_number, has_held, some_mode}
@@ -29,7 +30,7 @@ module _ (state : QueueState) (tree : IsTree state) (turns : Frames) (are : AreT
   record IsThere (parent number : ℕ) : Type 0 where
     pub frame : ActiveFrame
     pub live : active state number ≡ Some frame
-    pub from : IsSpawnedBy state frame parent
+    pub from : IsChildOf state frame parent
 
   there : (parent number : ℕ) → IsChild turns parent number → IsThere parent number
   there parent number is =
@@ -87,10 +88,10 @@ module _ (state : QueueState) (tree : IsTree state) (turns : Frames) (are : AreT
     own : frame.number ≡ number
     own = active_number state number frame live
 
-    mine : IsSpawnedBy state frame is.parent
+    mine : IsChildOf state frame is.parent
     mine = tree.spawned number is.parent frame live is.of
 
-    theirs : IsSpawnedBy state is.older is.parent
+    theirs : IsChildOf state is.older is.parent
     theirs = tree.spawned older is.parent is.older is.live is.sibling
 
     path_of : is.older.path ≡ mine.above.path ++ theirs.index ∷ []

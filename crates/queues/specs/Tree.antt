@@ -6,7 +6,7 @@ use Rattle.swan_model.specs.Rights.{is_queue_mode}
 use Rattle.swan_model.specs.declared.origin.Origin.{Origin}
 use Rattle.swan_model.specs.declared.script.Script.{Script}
 use Rattle.swan_model.specs.Lawful.{IsLawful}
-use Rattle.swan_model.specs.QueueFollows.{NextSpawnGivesQueues, QueuesFollow, queue_origin}
+use Rattle.swan_model.specs.QueueFollows.{IsChildOf, NextSpawnGivesQueues, QueuesFollow, queue_origin}
 use Rattle.swan_model.specs.QueueState.{ActiveFrame, QueueMaker, planned, made_by, QueueState, active, holds_queue, HasTurn, IsOfRoot, MayGive, QueueRight, child_of}
 use Rattle.pop_order.specs.OneChange.{IsOnlyChange}
 
@@ -18,15 +18,6 @@ maker_path (made_by path deeds) = path
 -- whether a frame has a queue, by any mode
 abbrev pub has_queue : ActiveFrame → ℕ → Bool
 has_queue frame queue = list_any (λ right. right.queue == queue) frame.rights
-
--- a frame was spawned by an active one, as its child of this index
-pub record IsSpawnedBy (state : QueueState) (frame : ActiveFrame) (parent : ℕ) : Type 0 where
-  pub above : ActiveFrame
-  pub live : active state parent ≡ Some above
-  pub older : parent < frame.number
-  pub index : ℕ
-  pub path : frame.path ≡ above.path ++ index ∷ []
-  pub spawned : index < above.children
 
 -- a frame has a queue since it made it, or since its parent gave it, who may use it so too
 pub data IsHeld (state : QueueState) (frame : ActiveFrame) (queue : ℕ) : Type 0 where
@@ -41,7 +32,9 @@ pub record IsTree (state : QueueState) : Type 0 where
   pub latest : (number : ℕ) (frame : ActiveFrame) → active state number ≡ Some frame → number ≤ state.latest
   pub root : (frame : ActiveFrame) → active state 0 ≡ Some frame → (frame.path ≡ []) × (frame.parent ≡ None)
   pub others : (number : ℕ) (frame : ActiveFrame) → active state number ≡ Some frame → number ≢ 0 → (parent : ℕ) × (frame.parent ≡ Some parent)
-  pub spawned : (number parent : ℕ) (frame : ActiveFrame) → active state number ≡ Some frame → frame.parent ≡ Some parent → IsSpawnedBy state frame parent
+  pub spawned : (number parent : ℕ) (frame : ActiveFrame) → active state number ≡ Some frame → frame.parent ≡ Some parent → IsChildOf state frame parent
+  -- a parent has a lesser number than its children
+  pub older : (number parent : ℕ) (frame : ActiveFrame) → active state number ≡ Some frame → frame.parent ≡ Some parent → parent < frame.number
   -- siblings have rising numbers
   pub siblings : (number other i j : ℕ) (a b : ActiveFrame) (path : List ℕ) → active state number ≡ Some a → active state other ≡ Some b
       → a.path ≡ path ++ i ∷ [] → b.path ≡ path ++ j ∷ [] → number < other → i < j

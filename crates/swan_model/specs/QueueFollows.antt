@@ -105,7 +105,7 @@ pub record IsTask (s : Script) (state : QueueState) (frame : ActiveFrame) : Type
   pub made : (queue : ℕ) (mode : Mode) → is_queue_mode mode ≡ true → holds_queue frame queue mode ≡ true → queue < length state.makers
 
 -- the frame was spawned by its parent, which is active too
-pub record IsChildOf (s : Script) (state : QueueState) (frame : ActiveFrame) (parent : ℕ) : Type 0 where
+pub record IsChildOf (state : QueueState) (frame : ActiveFrame) (parent : ℕ) : Type 0 where
   pub above : ActiveFrame
   pub live : active state parent ≡ Some above
   pub index : ℕ
@@ -126,7 +126,7 @@ pub record QueuesFollow (s : Script) (state : QueueState) : Type 0 where
   pub root : (frame : ActiveFrame) → active state 0 ≡ Some frame → (frame.path ≡ []) × (frame.parent ≡ None)
   pub others : (number : ℕ) (frame : ActiveFrame) → active state number ≡ Some frame → number ≢ 0 → (parent : ℕ) × (frame.parent ≡ Some parent)
   pub tasks : (number : ℕ) (frame : ActiveFrame) → active state number ≡ Some frame → IsTask s state frame
-  pub children : (number parent : ℕ) (frame : ActiveFrame) → active state number ≡ Some frame → frame.parent ≡ Some parent → IsChildOf s state frame parent
+  pub children : (number parent : ℕ) (frame : ActiveFrame) → active state number ≡ Some frame → frame.parent ≡ Some parent → IsChildOf state frame parent
   pub different : (number other : ℕ) (a b : ActiveFrame) → active state number ≡ Some a → active state other ≡ Some b → a.path ≡ b.path → number ≡ other
   pub queues : (queue : ℕ) (maker : QueueMaker) → slice_get state.makers queue ≡ Some maker → IsMade s state queue maker
   -- no two queues are made by the same
