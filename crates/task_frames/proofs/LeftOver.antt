@@ -1,6 +1,5 @@
 -- Once the root has ended: no frame is live, each task of the script has ended, and what is left is the elision's outcome.
-use Rattle.std.proofs.Common.{◌≡◌, inl, inr, ℕ, zero, suc, ◌+◌, ◌-◌, ◌<◌, nat_eq, List, [], ◌∷◌, ◌++◌, None, Some, length, refl, sym, ap, subst, ◌∙◌, append_assoc, arith}
-use Rattle.std.proofs.lemmas.Bool.{cases_eq}
+use Rattle.std.proofs.Common.{◌≡◌, inl, inr, ℕ, suc, ◌+◌, ◌-◌, ◌<◌, nat_eq, List, [], ◌∷◌, ◌++◌, None, Some, length, refl, sym, ap, subst, ◌∙◌, append_assoc, arith}
 use Rattle.std.proofs.lemmas.List.{append-nil}
 use Rattle.std.proofs.lemmas.Option.{same_Some, slice_get-get_or, slice_get_within}
 use Rattle.std.specs.List.{find}
@@ -32,8 +31,8 @@ use Rattle.pop_order.specs.Frames.{Frames}
 use Rattle.queues.specs.Asks.{IsRestLeft}
 use Rattle.queues.specs.Tells.{rest_of}
 use Rattle.queues.specs.Tree.{IsTree}
+use Rattle.queues.proofs.Above.{none_active}
 use Rattle.queues.proofs.Between.{own_last}
-use Rattle.queues.proofs.Frames.{active_number}
 use Rattle.queues.proofs.Refitting.{past_done}
 use Rattle.queues.proofs.Under.{led_to}
 use Rattle.serial_elision.proofs.OutcomeTold.{objects_told, rest_told}
@@ -43,23 +42,11 @@ use Rattle.task_frames.proofs.FaultsSorted.{is_earlier_fault, sorted-faults}
 
 -- ---- nobody is live
 
--- where the root isn't active, no frame is: each other one has an active parent of a lesser number
-none-active_below : (state : QueueState) → IsTree state → active state 0 ≡ None → (bound n : ℕ) (frame : ActiveFrame) → n < bound → active state n ≡ Some frame → ⊥
-none-active_below state tree none zero n frame less live = absurd (omega (arith, less))
-none-active_below state tree none (suc bound) n frame less live = elim (cases_eq n 0) [
-  | inl root ↦ let both : None ≡ Some frame = sym none ∙ ap (active state) (sym root) ∙ live in absurd (cc)
-  | inr other ↦
-      let parent = tree.others n frame live other in
-      let by = tree.spawned n parent.0 frame live parent.1 in
-      let older = by.older in
-      let own = active_number state n frame live in
-      none-active_below state tree none bound parent.0 by.above (omega (arith, less, older, own)) by.live
-]
-
-pub none-active : (state : QueueState) → IsTree state → active state 0 ≡ None → (n : ℕ) → active state n ≡ None
+-- where the root isn't active, no frame is
+none-active : (state : QueueState) → IsTree state → active state 0 ≡ None → (n : ℕ) → active state n ≡ None
 none-active state tree none n = elim (option_cases (active state n)) [
   | inl gone ↦ gone
-  | inr found ↦ absurd (none-active_below state tree none (suc n) n found.0 (omega arith) found.1)
+  | inr found ↦ absurd (none_active state tree none n found.0 found.1)
 ]
 
 -- ---- each task has ended
