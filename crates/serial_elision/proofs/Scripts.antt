@@ -19,17 +19,17 @@ use Rattle.swan_model.specs.SerialStep as serial
 use Rattle.swan_model.specs.SerialStep.{with_answer, after_next, effect, effect_of}
 use Rattle.serial_elision.specs.declared.effect.Effect as code
 use Rattle.serial_elision.specs.declared.effect.Effect.TheVariants.{Answered, Spawned, Ended, Faulted}
-use Rattle.serial_elision.specs.Effects.{IsEffect, kept, is_over}
+use Rattle.serial_elision.specs.Effects.{IsEffect, deed_kept, ends_its_task}
 use Rattle.serial_elision.proofs.Runs.{serial-over}
 use Rattle.serial_elision.proofs.Steps.{stepped, effect-paid}
 
-kept-fault : (L : Type 0) (does : Deed) (fault : FaultKind) → kept {L = L} does (Faulted fault) ≡ deed_of {L = L} does (serial.faults fault)
-kept-fault L does (kind.Trouble trouble) = refl
-kept-fault L does kind.PopEmpty = refl
-kept-fault L does kind.Privilege = refl
-kept-fault L does kind.Alias = refl
-kept-fault L does kind.Fuel = refl
-kept-fault L does kind.Depth = refl
+deed_kept-fault : (L : Type 0) (does : Deed) (fault : FaultKind) → deed_kept {L = L} does (Faulted fault) ≡ deed_of {L = L} does (serial.faults fault)
+deed_kept-fault L does (kind.Trouble trouble) = refl
+deed_kept-fault L does kind.PopEmpty = refl
+deed_kept-fault L does kind.Privilege = refl
+deed_kept-fault L does kind.Alias = refl
+deed_kept-fault L does kind.Fuel = refl
+deed_kept-fault L does kind.Depth = refl
 
 -- one more holding is one more give, where it stands in the store
 cons-listed : (give : Option OriginGive) → cons_option give [] ≡ option_to_list give
@@ -42,31 +42,31 @@ gives_of-push store holdings holding =
     ∙ ap (λ last. gives_of store holdings ++ last) (cons-listed (give_of store holding))
 
 -- the code's effect tells the deed of the effect that the definitions give
-pub kept-is : {L : Type 0} (does : Deed) (a : Activation L) (before after : Store) (done : code.Effect L) (said : serial.Effect L) → IsEffect done a before after said → kept does done ≡ deed_of does said
-kept-is does a before after (Answered answer) said is = ap (deed_of does) (sym is)
-kept-is does a before after (Spawned child) said is = ap (deed_of does) (sym is)
-kept-is does a before after Ended said is = ap (deed_of does) (sym is.0)
-kept-is {L = L} does a before after (Faulted fault) said is = kept-fault L does fault ∙ ap (deed_of does) (sym is.0)
+pub deed_kept-is : {L : Type 0} (does : Deed) (a : Activation L) (before after : Store) (done : code.Effect L) (said : serial.Effect L) → IsEffect done a before after said → deed_kept does done ≡ deed_of does said
+deed_kept-is does a before after (Answered answer) said is = ap (deed_of does) (sym is)
+deed_kept-is does a before after (Spawned child) said is = ap (deed_of does) (sym is)
+deed_kept-is does a before after Ended said is = ap (deed_of does) (sym is.0)
+deed_kept-is {L = L} does a before after (Faulted fault) said is = deed_kept-fault L does fault ∙ ap (deed_of does) (sym is.0)
 
-pub is_over-is : {L : Type 0} (a : Activation L) (before after : Store) (done : code.Effect L) (said : serial.Effect L) → IsEffect done a before after said → is_over done ≡ is_end said
-is_over-is a before after (Answered answer) said is = ap is_end (sym is)
-is_over-is a before after (Spawned child) said is = ap is_end (sym is)
-is_over-is a before after Ended said is = ap is_end (sym is.0)
-is_over-is a before after (Faulted fault) said is = ap is_end (sym is.0)
+pub ends_its_task-is : {L : Type 0} (a : Activation L) (before after : Store) (done : code.Effect L) (said : serial.Effect L) → IsEffect done a before after said → ends_its_task done ≡ is_end said
+ends_its_task-is a before after (Answered answer) said is = ap is_end (sym is)
+ends_its_task-is a before after (Spawned child) said is = ap is_end (sym is)
+ends_its_task-is a before after Ended said is = ap is_end (sym is.0)
+ends_its_task-is a before after (Faulted fault) said is = ap is_end (sym is.0)
 
 module _ {B L : Type 0} (G : Ghosts B L) where
   -- the entry of a step that costs fuel
-  pub entry-paid : (body : B) (s : State L) (top paid a : Activation L) (ask : Ask L) (below : List (Activation L)) (done : code.Effect L) (after : Store) (path : List ℕ) (does : Deed) → s.stack ≡ top ∷ below → (top.fuel ≡ 0 → ⊥) → paid ≡ with_answer (after_next top (stepped G body top).0) answer.Nothing → ask ≡ (stepped G body top).1 → path ≡ top.path → does ≡ asked s.store paid.holdings ask → IsEffect done a s.store after (effect s.steps s.store paid ask) → ◌≡◌ {A = Option Entry} (Some (record { path = path; deed = kept does done; ends = is_over done })) (next_entry G body s)
+  pub entry-paid : (body : B) (s : State L) (top paid a : Activation L) (ask : Ask L) (below : List (Activation L)) (done : code.Effect L) (after : Store) (path : List ℕ) (does : Deed) → s.stack ≡ top ∷ below → (top.fuel ≡ 0 → ⊥) → paid ≡ with_answer (after_next top (stepped G body top).0) answer.Nothing → ask ≡ (stepped G body top).1 → path ≡ top.path → does ≡ asked s.store paid.holdings ask → IsEffect done a s.store after (effect s.steps s.store paid ask) → ◌≡◌ {A = Option Entry} (Some (record { path = path; deed = deed_kept does done; ends = ends_its_task done })) (next_entry G body s)
   entry-paid body s top paid a ask below done after path does stack fuel moved_is ask_is path_is does_is is =
       let said : serial.Effect L = effect s.steps s.store paid ask in
       let final : serial.Effect L = effect_of G body s.steps s.store top in
       let same : said ≡ final = effect-paid G body s.steps s.store top paid ask fuel moved_is ask_is in
       let was : Deed = asked s.store top.holdings (stepped G body top).1 in
       let does_was : does ≡ was = does_is ∙ ap (λ p. asked s.store p.holdings ask) moved_is ∙ ap (asked s.store top.holdings) ask_is in
-      let deed_is : kept does done ≡ deed_of was final = kept-is does a s.store after done said is ∙ ap (λ d. deed_of d said) does_was ∙ ap (deed_of was) same in
-      let ends_is : is_over done ≡ is_end final = is_over-is a s.store after done said is ∙ ap is_end same in
-      ap {B = Option Entry} (λ p. Some (record { path = p; deed = kept does done; ends = is_over done })) path_is
-      ∙ ap {B = Option Entry} (λ d. Some (record { path = top.path; deed = d; ends = is_over done })) deed_is
+      let deed_is : deed_kept does done ≡ deed_of was final = deed_kept-is does a s.store after done said is ∙ ap (λ d. deed_of d said) does_was ∙ ap (deed_of was) same in
+      let ends_is : ends_its_task done ≡ is_end final = ends_its_task-is a s.store after done said is ∙ ap is_end same in
+      ap {B = Option Entry} (λ p. Some (record { path = p; deed = deed_kept does done; ends = ends_its_task done })) path_is
+      ∙ ap {B = Option Entry} (λ d. Some (record { path = top.path; deed = d; ends = ends_its_task done })) deed_is
       ∙ ap {B = Option Entry} (λ e. Some (record { path = top.path; deed = deed_of was final; ends = e })) ends_is
       ∙ ap (entry_on G body s) (sym stack)
 

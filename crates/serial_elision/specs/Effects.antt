@@ -46,13 +46,13 @@ after_effect Ended a place s = record s { steps = s.steps + 1 }
 after_effect (Faulted kind) a place s = record s { steps = s.steps + 1; faults = s.faults ++ (record { path = a.path; place = place; kind = kind }) ∷ [] }
 
 -- What an ask with this effect did, where it was to do that; and whether its activation ends by it.
-abbrev pub kept : {L : Type 0} → Deed → Effect L → Deed
-kept does (Faulted PopEmpty) = does
-kept does (Faulted kind) = deed.Quiet
-kept does effect = does
+abbrev pub deed_kept : {L : Type 0} → Deed → Effect L → Deed
+deed_kept does (Faulted PopEmpty) = does
+deed_kept does (Faulted kind) = deed.Quiet
+deed_kept does effect = does
 
-abbrev pub is_over : {L : Type 0} → Effect L → Bool
-is_over (Answered answer) = false
-is_over (Spawned child) = false
-is_over Ended = true
-is_over (Faulted kind) = true
+abbrev pub ends_its_task : {L : Type 0} → Effect L → Bool
+ends_its_task (Answered answer) = false
+ends_its_task (Spawned child) = false
+ends_its_task Ended = true
+ends_its_task (Faulted kind) = true

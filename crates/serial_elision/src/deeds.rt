@@ -3,7 +3,7 @@ ghost use Rattle.std.specs.Prelude.{◌≡◌, ◌++◌, IfOk, OnOk};
 ghost use Rattle.std.specs.Option.{option_to_list};
 ghost use Rattle.swan_model.specs.Script.{asked, spawn_of, gives_of, give_of};
 ghost use Rattle.swan_model.specs.SerialStep.{given};
-ghost use Rattle.serial_elision.specs.Effects.{kept, is_over};
+ghost use Rattle.serial_elision.specs.Effects.{deed_kept, ends_its_task};
 
 use crate::spawn::given;
 use crate::{Activation, Effect, Holding, Store};
@@ -95,7 +95,7 @@ fn name(gives: &mut OriginGives, store: &Store, holding: &Holding) -> Result<(),
 
 /// The entry of a step, from what its ask was to do and what became of it. `O(1)`.
 pub fn entry<L>(path: Path, deed: Deed, effect: &Effect<L>) -> Entry
-    ensures { result ≡ record { path = path; deed = kept deed effect.now; ends = is_over effect.now } }
+    ensures { result ≡ record { path = path; deed = deed_kept deed effect.now; ends = ends_its_task effect.now } }
 {
     match effect {
         Effect::Answered(_) | Effect::Spawned(_) => Entry {
