@@ -10,8 +10,8 @@ use Rattle.crossbeam_deque.proofs.Lists.{at_set, at_snoc}
 use Rattle.steal_pool.specs.declared.parcel.Parcel.{Parcel}
 use Rattle.steal_pool.specs.declared.parcel.Parcel.TheVariants.{Label, Item}
 use Rattle.steal_pool.specs.declared.rule.PoolView.{PoolView}
-use Rattle.steal_pool.specs.declared.rule.Stage.{Stage}
-use Rattle.steal_pool.specs.declared.rule.Stage.TheVariants.{Unnamed, Labelled, Open}
+use Rattle.steal_pool.specs.declared.rule.DequeStage.{DequeStage}
+use Rattle.steal_pool.specs.declared.rule.DequeStage.TheVariants.{Unnamed, Labelled, Open}
 use Rattle.steal_pool.specs.Rule.{at_stage, new_pass, IsAtStage, Single, AllOf, Stands, Pooled, IsTaken, IsLabelled, IsPoolOpened, IsUnchanged}
 
 two-ne : (n : ℕ) → suc (suc n) ≡ suc zero → ⊥
@@ -61,7 +61,7 @@ module _ {T N : Type 0} (name : T → N) where
   -- what holds at the stage and the name that one view has
   staged : (v : PoolView N) (items : List (Parcel T N)) (views : List (PoolView N)) (port : ℕ) → Rule items views → get_elem? views port ≡ some v → Each (IsAtStage v.stage v.name) views × Stands name v.stage v.name items views
   staged v items views port h at = let e = h.2 port v at in
-      subst (λ (z : Stage × Option N). Each (IsAtStage z.0 z.1) views × Stands name z.0 z.1 items views) (λ i. (sym e.0 i, sym e.1 i)) (h.2, h.3)
+      subst (λ (z : DequeStage × Option N). Each (IsAtStage z.0 z.1) views × Stands name z.0 z.1 items views) (λ i. (sym e.0 i, sym e.1 i)) (h.2, h.3)
 
   labels : (port k : ℕ) (n : N) → Pushes Rule port (at_stage Unnamed None k) (Label n ∷ []) (IsLabelled {T = T} (at_stage Unnamed None k) (Label n ∷ []))
   labels port k n items views h at = let s = staged (at_stage Unnamed None k) items views port h at in let w : PoolView N = at_stage Labelled (Some n) k in

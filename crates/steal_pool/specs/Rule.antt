@@ -7,11 +7,11 @@ use lib.ListN.{get_elem?}
 use Rattle.steal_pool.specs.declared.parcel.Parcel.{Parcel}
 use Rattle.steal_pool.specs.declared.parcel.Parcel.TheVariants.{Label, Item}
 use Rattle.steal_pool.specs.declared.rule.PoolView.{PoolView}
-use Rattle.steal_pool.specs.declared.rule.Stage.{Stage}
-use Rattle.steal_pool.specs.declared.rule.Stage.TheVariants.{Unnamed, Labelled, Open}
+use Rattle.steal_pool.specs.declared.rule.DequeStage.{DequeStage}
+use Rattle.steal_pool.specs.declared.rule.DequeStage.TheVariants.{Unnamed, Labelled, Open}
 
 module _ {N : Type 0} where
-  abbrev pub at_stage : Stage → Option N → ℕ → PoolView N
+  abbrev pub at_stage : DequeStage → Option N → ℕ → PoolView N
   at_stage stage name taken = record { stage = stage; name = name; taken = taken }
 
   -- what the pass of another seat knows at first
@@ -22,7 +22,7 @@ module _ {N : Type 0} where
   abbrev pub one_more : PoolView N → PoolView N
   one_more v = record v { taken = v.taken + 1 }
 
-  abbrev pub IsAtStage : Stage → Option N → PoolView N → Type 0
+  abbrev pub IsAtStage : DequeStage → Option N → PoolView N → Type 0
   IsAtStage stage name v = (v.stage ≡ stage) × (v.name ≡ name)
 
   -- the worker's own is the only view
@@ -40,14 +40,14 @@ module _ {T N : Type 0} (name : T → N) where
   AllOf m (x ∷ xs) = HasName m x × AllOf m xs
 
   -- what is in a deque at a stage
-  abbrev pub Stands : Stage → Option N → List (Parcel T N) → List (PoolView N) → Type 0
+  abbrev pub Stands : DequeStage → Option N → List (Parcel T N) → List (PoolView N) → Type 0
   Stands Unnamed m items views = (items ≡ []) × Single views
   Stands Labelled m items views = (n : N) × (items ≡ Label n ∷ []) × (m ≡ Some n) × Single views
   Stands Open m items views = AllOf m items
 
   -- all views are at one stage, and know one name
   abbrev pub Pooled : List (Parcel T N) → List (PoolView N) → Type 0
-  Pooled items views = (k : Stage) × (m : Option N) × ((j : ℕ) (v : PoolView N) → get_elem? views j ≡ some v → IsAtStage k m v) × Stands k m items views
+  Pooled items views = (k : DequeStage) × (m : Option N) × ((j : ℕ) (v : PoolView N) → get_elem? views j ≡ some v → IsAtStage k m v) × Stands k m items views
 
   abbrev pub IsTaken : PoolView N → List (Parcel T N) → PoolView N → Type 0
   IsTaken v xs w = (w ≡ one_more v) × AllOf v.name xs

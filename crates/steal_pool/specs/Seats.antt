@@ -5,7 +5,7 @@ use Rattle.crossbeam_deque.specs.Handles.{worker_capacity, worker_deque, worker_
 use Rattle.crossbeam_utils.specs.Padded.{padded_value}
 use Rattle.named_lock.specs.declared.named.Named.{Ghosts}
 use Rattle.steal_pool.specs.declared.rule.PoolView.{PoolView}
-use Rattle.steal_pool.specs.declared.rule.Stage.TheVariants.{Open}
+use Rattle.steal_pool.specs.declared.rule.DequeStage.TheVariants.{Open}
 use Rattle.steal_pool.specs.declared.seat.PoolSeat.{PoolSeat}
 use Rattle.steal_pool.specs.Rule.{IsAtStage, one_more}
 use Rattle.steal_pool.specs.Kept.{frames}

@@ -3,7 +3,7 @@ ghost use Rattle.std.specs.Prelude.{◌≡◌, ◌+◌, ◌≤◌, Some, IfOk, I
 ghost use Rattle.crossbeam_deque.specs.Tasks.{Finds};
 ghost use Rattle.crossbeam_deque.specs.Handles.{view, IsPassOf, worker_deque, worker_view, worker_port, worker_flavor, worker_index, worker_capacity, stealer_deque, stealer_flavor};
 ghost use Rattle.steal_pool.specs.Rule.{IsAtStage, new_pass, Pooled, one_more};
-ghost use Rattle.steal_pool.specs.declared.rule.Stage.TheVariants.{Open};
+ghost use Rattle.steal_pool.specs.declared.rule.DequeStage.TheVariants.{Open};
 
 use crate::parcel::Parcel;
 use crate::rule::{Labels, Opens, PoolRule, PoolView, Puts, Takes, Twins};

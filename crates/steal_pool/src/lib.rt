@@ -41,5 +41,5 @@ mod tests;
 pub use dry::Dry;
 pub use limits::limit_of_seats;
 pub use opening::pool;
-pub use rule::{PoolView, Stage};
+pub use rule::{DequeStage, PoolView};
 pub use seat::PoolSeat;

@@ -3,7 +3,7 @@ ghost use Rattle.std.specs.Prelude.{◌≡◌, ◌+◌, Some, IfNone, IfSome, If
 ghost use Rattle.crossbeam_deque.specs.Handles.{view, IsPassOf, worker_view, worker_flavor, stealer_deque};
 ghost use Rattle.std.specs.Coded.{Coded-set, coded_option};
 ghost use Rattle.steal_pool.specs.Rule.{IsAtStage};
-ghost use Rattle.steal_pool.specs.declared.rule.Stage.TheVariants.{Open};
+ghost use Rattle.steal_pool.specs.declared.rule.DequeStage.TheVariants.{Open};
 
 use crate::deque::{Other, Own, Thief, new_thief, steal_frame};
 use named_lock::{NameOf, Named};

@@ -5,7 +5,7 @@ use named_lock::Named;
 use std::marker::PhantomData;
 
 /// How far a deque is with its name. It is there for contracts: no value of it is made.
-pub enum Stage {
+pub enum DequeStage {
     /// The label isn't put yet.
     Unnamed,
     /// The label is there.
@@ -17,7 +17,7 @@ pub enum Stage {
 /// What a seat knows of a deque. It is there for contracts: no value of it is made.
 pub struct PoolView<N> {
     /// How far the deque is with its name.
-    pub stage: Stage,
+    pub stage: DequeStage,
     /// The name of the pool, once the label is put.
     pub name: Option<N>,
     /// How many frames left the deque by the steps of this pass.
@@ -29,7 +29,7 @@ pub struct PoolRule;
 
 impl<T: Named> Protocol<Parcel<T>, PoolView<T::Name>> for PoolRule {
     ghost use Rattle.std.specs.Prelude.{None};
-    ghost use Rattle.steal_pool.specs.declared.rule.Stage.TheVariants.{Unnamed};
+    ghost use Rattle.steal_pool.specs.declared.rule.DequeStage.TheVariants.{Unnamed};
     ghost use Rattle.steal_pool.specs.Rule.{Pooled, at_stage};
 
     ghost holds = { Pooled T.name };

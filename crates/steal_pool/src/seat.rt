@@ -5,7 +5,7 @@ ghost use Rattle.crossbeam_deque.specs.Handles.{worker_view, worker_flavor};
 ghost use Rattle.crossbeam_utils.specs.Padded.{padded_value};
 ghost use Rattle.std.specs.Coded.{Coded-set, coded_option};
 ghost use Rattle.steal_pool.specs.Rule.{Pooled};
-ghost use Rattle.steal_pool.specs.declared.rule.Stage.TheVariants.{Open};
+ghost use Rattle.steal_pool.specs.declared.rule.DequeStage.TheVariants.{Open};
 
 use crate::Dry;
 use crate::deque::{Own, own_like, pop_frame, push_frame};
@@ -34,7 +34,7 @@ pub struct PoolSeat<T: Named> {
 }
 
 impl<T: Named> PoolSeat<T> {
-    ghost use Rattle.steal_pool.specs.Seats.{GivesFirst, GivesListed, GivesStolen, IsNewSeat, SameSeat, SameView, listed, next_put, own_port, own_room, own_view, pool_name, stolen};
+    ghost use Rattle.steal_pool.specs.Seats.{GivesFirst, GivesListed, GivesStolen, IsNewSeat, SameSeat, SameView, listed, next_put, own_port, own_room, own_view, pool_name};
 
     /// A seat of the pool that has the name of `like`, which knows no other seat yet, and has room for so many. It
     /// allocates the deque with its first ring, and the list of the others.
