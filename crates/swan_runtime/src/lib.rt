@@ -31,7 +31,7 @@ pub use alone::run_alone;
 pub use laws::turns_are_few;
 pub use limits::limit_of_rings;
 pub use opening::{close, open};
-pub use shape::{RING_MOST, Shape, WORKERS_MOST};
+pub use shape::{Shape, WORKERS_MOST};
 pub use threads::run;
 pub use turn::Turn;
 pub use worker::Worker;
