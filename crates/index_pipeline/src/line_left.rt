@@ -6,7 +6,7 @@ ghost use Rattle.index_pipeline.specs.Records.{line_records};
 ghost use Rattle.index_pipeline.specs.declared.word.TheConstants.{WORD_MOST};
 
 use crate::batch::BatchWriter;
-use crate::word::{after, first_run};
+use crate::word::first_run;
 use line_blocks::bytes_of;
 use std::marker::Model;
 use swan_model::{NoMemory, Value};
@@ -64,7 +64,7 @@ impl LineLeft {
         ensures none { IfOk result (λ more. more ≡ false → self.new ≡ []) }
         ensures same { IfOk result (λ more. more ≡ false → (self.new ≡ self.old) × (batch.new ≡ batch.old)) }
     {
-        let left = after(bytes_of(&self.line), self.taken);
+        let left = bytes_of(&self.line).split_at(self.taken).1;
         let Some(run) = first_run(left) else {
             return Ok(false);
         };

@@ -40,14 +40,6 @@ pub struct Span {
     pub to: usize,
 }
 
-/// What stands in a line from a byte on.
-pub fn after(line: &[u8], from: usize) -> &[u8]
-    requires { from ≤ length line.now }
-    ensures { result.now ≡ drop from line.now }
-{
-    &line[from..]
-}
-
 /// Where the first run of a line stands, and None exactly where there is none. `O(to)`.
 #[tactic(auto, using(crate::proofs::Runs::first_run_range, crate::proofs::Runs::no_run_is))]
 pub fn first_run(line: &[u8]) -> Option<Span>
@@ -57,7 +49,7 @@ pub fn first_run(line: &[u8]) -> Option<Span>
     ensures first { IfSome result (λ run. runs line.now ≡ slice_range line.now run.from run.to ∷ runs (drop run.to line.now)) }
 {
     let from = gap_len(line);
-    let len = run_len(after(line, from));
+    let len = run_len(line.split_at(from).1);
     if len == 0 {
         return None;
     }

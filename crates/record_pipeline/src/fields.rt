@@ -1,5 +1,5 @@
 // Fields of lines, and their netstrings.
-ghost use Rattle.std.specs.Prelude.{◌≡◌, ◌≤◌, ◌+◌, ◌++◌, ◌==◌, not, length, drop, IfOk, OnOk};
+ghost use Rattle.std.specs.Prelude.{◌≡◌, ◌≤◌, ◌+◌, ◌++◌, ◌==◌, not, length, IfOk, OnOk};
 ghost use Rattle.std.specs.List.{prefix_len};
 ghost use Rattle.record_pipeline.specs.Netstrings.{fields, netstring, netstrings};
 
@@ -43,14 +43,6 @@ fn push_netstring(text: &mut Vec<u8>, field: &[u8]) -> Result<(), NoMemory>
     Ok(())
 }
 
-/// What stands in a line after so many bytes.
-fn after(line: &[u8], len: usize) -> &[u8]
-    requires { len ≤ length line.now }
-    ensures { result.now ≡ drop len line.now }
-{
-    &line[len..]
-}
-
 /// The netstrings of a line's fields, of which there are so many, joined. There is room for all of them at once; what is left
 /// of it is at most a byte a field where the line has fewer than 100 bytes, and else four. `O(length)`.
 pub fn netstrings(alloc: Global, line: &[u8], count: u64) -> Result<Vec<u8>, NoMemory>
@@ -70,7 +62,7 @@ pub fn netstrings(alloc: Global, line: &[u8], count: u64) -> Result<Vec<u8>, NoM
     let mut len = field_len(rest);
     while len < rest.len() {
         push_netstring(&mut text, &rest[..len])?;
-        rest = after(rest, len + 1);
+        rest = rest.split_at(len + 1).1;
         len = field_len(rest);
     }
     push_netstring(&mut text, rest)?;

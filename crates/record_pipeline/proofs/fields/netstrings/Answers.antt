@@ -10,7 +10,7 @@ loop-len-preserved c =
     let below : c.loop-len.len < length rest = omega arith in
     let here : c.push_netstring.new.text.items ≡ c.loop-len.text.items ++ netstring (take c.loop-len.len rest) = c.in_ok-push_netstring.ensures in
     record {
-      all = netstrings_step (netstrings c.args.line.now) c.loop-len.text.items c.push_netstring.new.text.items rest c.after-rest.result.now c.loop-len.len c.loop-len.invariant.all c.loop-len.invariant.first below here c.after-rest.ensures;
+      all = netstrings_step (netstrings c.args.line.now) c.loop-len.text.items c.push_netstring.new.text.items rest c.split_at.result.1.now c.loop-len.len c.loop-len.invariant.all c.loop-len.invariant.first below here c.split_at.ensures.back;
       first = c.field_len-len-in-loop-len.ensures.field;
     }
 
