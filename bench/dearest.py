@@ -94,7 +94,7 @@ def of_gate(lines):
             tries = TRIES.match(what)
             if tries or what.startswith("must-fail "):
                 what, bodies = bodies, tries and f"{tries[1]}: its wrong bodies"
-            if what:
+            if what and stamps[-1] > last:
                 yield (stamps[-1] - last) * 60, f"{what}, after {stamps[0]:.1f} minutes"
                 last = stamps[-1]
 
