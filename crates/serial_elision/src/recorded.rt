@@ -1,6 +1,7 @@
 // The script of a plan, recorded along its elision.
 ghost use Rattle.std.specs.Prelude.{◌≡◌, ◌+◌, ◌^◌, ◌<◌, IfOk, OnOk, map};
-ghost use Rattle.swan_model.specs.Script.{script, next_entry, with_entry};
+ghost use Rattle.swan_model.specs.Elision.{most_steps};
+ghost use Rattle.swan_model.specs.Script.{entries, script, next_entry, with_entry};
 ghost use Rattle.swan_model.specs.SerialStep.{step};
 
 use crate::deeds::{asked, entry};
@@ -21,28 +22,35 @@ use swan_model::{
 pub fn script_of<B: Body>(alloc: Global, plan: Plan<B>) -> Result<Script, NoMemory>
     ensures { IfOk result (λ s. s ≡ script B.Body plan) }
 {
+    let queues = lists_of(alloc, plan.roots.queues().as_slice())?;
+    let objects = copied(alloc, plan.roots.objects().as_slice())?;
+    let entries = entries_of(alloc, plan)?;
+    Ok(Script {
+        queues,
+        objects,
+        entries,
+    })
+}
+
+/// What the steps of a plan's elision do, in order. It costs what `script_of` costs.
+fn entries_of<B: Body>(alloc: Global, plan: Plan<B>) -> Result<Entries, NoMemory>
+    ensures { IfOk result (λ them. them ≡ entries B.Body plan (most_steps plan)) }
+{
     let Plan {
         body,
         root_local,
         roots,
         fuel,
     } = plan;
-    let queues = lists_of(alloc, roots.queues().as_slice())?;
-    let objects = copied(alloc, roots.objects().as_slice())?;
     let mut state = start(alloc, root_local, roots, fuel)?;
     let mut entries = Entries::new(alloc);
     for _turn in 0..2 * fuel.units() + 2 {
         if state.is_over() {
             break;
         }
-        let told = state.tell(alloc, &body)?;
-        add(&mut entries, told)?;
+        state.record_step(alloc, &body, &mut entries)?;
     }
-    Ok(Script {
-        queues,
-        objects,
-        entries,
-    })
+    Ok(entries)
 }
 
 /// Adds an entry, where there is one. `O(1)` amortised.
@@ -85,6 +93,21 @@ fn lists_of(alloc: Global, queues: &[RootQueue]) -> Result<ValueLists, NoMemory>
 }
 
 impl<L: Drop> State<L> {
+    /// Takes one serial step, and adds its entry to those before. It costs what `tell` costs.
+    fn record_step<B: Body<Local = L>>(
+        &mut self,
+        alloc: Global,
+        body: &B,
+        entries: &mut Entries,
+    ) -> Result<(), NoMemory>
+        requires { self.old.steps + 1 < 2 ^ 64 }
+        ensures state { OnOk result (self.new ≡ step B.Body body.now self.old) }
+        ensures entry { OnOk result (entries.new ≡ with_entry entries.old (next_entry B.Body body.now self.old)) }
+    {
+        let told = self.tell(alloc, body)?;
+        add(entries, told)
+    }
+
     /// Takes one serial step, and tells what it did; where no activation is left there is none. It
     /// costs what the step costs, a copy of the path, and of a spawn its gives, found and named once more.
     fn tell<B: Body<Local = L>>(
@@ -100,7 +123,11 @@ impl<L: Drop> State<L> {
             return Ok(None);
         };
         let place = body.place(&top.local);
-        let path = top.path.copy()?;
+        let Ok(path) = top.path.copy() else {
+            // here and below by calls, since what ends with its block is checked part by part
+            drop(top);
+            return Err(NoMemory);
+        };
         if top.fuel == 0 {
             self.settle(top, place, Effect::Faulted(FaultKind::Fuel))?;
             return Ok(Some(Entry {
@@ -110,10 +137,21 @@ impl<L: Drop> State<L> {
             }));
         }
         let (mut top, ask) = top.advance(alloc, body)?;
-        let deed = asked(alloc, &self.store, &top, &ask)?;
-        let effect = self.perform(alloc, &mut top, ask)?;
+        let Ok(deed) = asked(alloc, &self.store, &top, &ask) else {
+            drop(top);
+            drop(ask);
+            return Err(NoMemory);
+        };
+        let Ok(effect) = self.perform(alloc, &mut top, ask) else {
+            drop(top);
+            drop(deed);
+            return Err(NoMemory);
+        };
         let told = entry(path, deed, &effect);
-        self.settle(top, place, effect)?;
+        let Ok(()) = self.settle(top, place, effect) else {
+            drop(told);
+            return Err(NoMemory);
+        };
         Ok(Some(told))
     }
 }

@@ -107,10 +107,17 @@ impl<L: Drop> State<L> {
                 self.stack.push(top)
             }
             Effect::Spawned(child) => {
-                self.stack.push(top)?;
+                let Ok(()) = self.stack.push(top) else {
+                    // here and below by a call, since what ends with its block is checked part by part
+                    drop(child);
+                    return Err(NoMemory);
+                };
                 self.stack.push(child)
             }
-            Effect::Ended => Ok(()),
+            Effect::Ended => {
+                drop(top);
+                Ok(())
+            }
             Effect::Faulted(kind) => self.book(top.path, place, kind),
         }
     }

@@ -12,9 +12,9 @@ returns-clause-state g c =
     let body = c.args.body.now in
     let fuelled : c.in-Some.top.fuel ≡ 0 → ⊥ = λ dry. c.if-top-eq0.false (ap (λ a. a.fuel) c.top.view_is ∙ dry) in
     let place : c.place-place.result ≡ g.B.Body.place_of body c.in-Some.top.local = c.place-place.ensures ∙ ap (λ a. g.B.Body.place_of body a.local) c.top.view_is in
-    let paid = step-paid g.B.Body body _ c.perform.new.self c.in-Some.top c.in_ok-top.top c.perform.new.top c.in_ok-top.ask _ c.in_ok-effect.effect c.in-Some.ensures.top fuelled c.in_ok-top.ensures.moved c.in_ok-top.ensures.ask c.in_ok-effect.ensures.path c.in_ok-effect.ensures.effect c.in_ok-effect.ensures.steps c.in_ok-effect.ensures.stack c.in_ok-effect.ensures.faults in
-    c.in_ok-settle-2.ensures
-    ∙ ap (λ p. after_effect c.in_ok-effect.effect c.perform.new.top p c.perform.new.self) place
+    let paid = step-paid g.B.Body body _ c.perform.new.self c.in-Some.top c.in_ok-top.top c.perform.new.top c.in_ok-top.ask _ c.in-Ok-perform.effect c.in-Some.ensures.top fuelled c.in_ok-top.ensures.moved c.in_ok-top.ensures.ask c.in-Ok-perform.ensures.path c.in-Ok-perform.ensures.effect c.in-Ok-perform.ensures.steps c.in-Ok-perform.ensures.stack c.in-Ok-perform.ensures.faults in
+    c.in-Ok-settle.ensures
+    ∙ ap (λ p. after_effect c.in-Ok-perform.effect c.perform.new.top p c.perform.new.self) place
     ∙ paid
     ∙ ap (step g.B.Body body) c.self.view_is
 
@@ -22,7 +22,7 @@ pub returns-clause-entry : goal.returns-clause-entry
 returns-clause-entry g c =
     let body = c.args.body.now in
     let fuelled : c.in-Some.top.fuel ≡ 0 → ⊥ = λ dry. c.if-top-eq0.false (ap (λ a. a.fuel) c.top.view_is ∙ dry) in
-    let path : c.in_ok-path.path ≡ c.in-Some.top.path = c.in_ok-path.ensures ∙ ap (λ a. a.path) c.top.view_is in
+    let path : c.in-Ok.path ≡ c.in-Some.top.path = c.in-Ok.ensures ∙ ap (λ a. a.path) c.top.view_is in
     let before : State g.row.L.Denot = record { steps = c.self.inside.steps; stack = c.self.inside.stack; store = c.self.inside.store; faults = c.self.inside.faults } in
-    let paid = entry-paid g.B.Body body before c.in-Some.top c.in_ok-top.top c.perform.new.top c.in_ok-top.ask _ c.in_ok-effect.effect c.perform.new.self.store c.in_ok-path.path c.in_ok-deed.deed c.in-Some.ensures.top fuelled c.in_ok-top.ensures.moved c.in_ok-top.ensures.ask path c.in_ok-deed.ensures c.in_ok-effect.ensures.effect in
+    let paid = entry-paid g.B.Body body before c.in-Some.top c.in_ok-top.top c.perform.new.top c.in_ok-top.ask _ c.in-Ok-perform.effect c.perform.new.self.store c.in-Ok.path c.in-Ok-asked.deed c.in-Some.ensures.top fuelled c.in_ok-top.ensures.moved c.in_ok-top.ensures.ask path c.in-Ok-asked.ensures c.in-Ok-perform.ensures.effect in
     ap Some c.entry-told.ensures ∙ paid ∙ ap (next_entry g.B.Body body) c.self.view_is

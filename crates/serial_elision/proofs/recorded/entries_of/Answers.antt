@@ -1,16 +1,15 @@
 use Rattle.std.proofs.Common.{◌≡◌, ◌≤◌, ◌∙◌, refl, sym, arith, ap, []}
-use Rattle.swan_model.specs.declared.script.Script.{Script}
 use Rattle.swan_model.specs.Elision.{most_steps}
 use Rattle.swan_model.specs.Script.{entries, next_entry}
 use Rattle.swan_model.specs.SerialStep.{step}
 use Rattle.serial_elision.proofs.Runs.{le-serial}
 use Rattle.serial_elision.proofs.Scripts.{entries-last, entries_add_one}
 use Rattle.serial_elision.proofs.StepLaws.{serial_add_one}
-use Rattle.serial_elision.proofs.recorded.script_of.Goals as goal
-use Rattle.serial_elision.proofs.recorded.script_of.Goals.{else-loop-turn-test, then-loop-turn-test+then-is_over}
+use Rattle.serial_elision.proofs.recorded.entries_of.Goals as goal
+use Rattle.serial_elision.proofs.recorded.entries_of.Goals.{else-loop-turn-test, then-loop-turn-test+then-is_over}
 
-pub tell-requires-after_bounds : goal.tell-requires-after_bounds
-tell-requires-after_bounds g c = λ κs live. omega (arith, le-serial g.B.Body c.args.plan c.loop-turn._turn, ap (λ s. s.steps) c.loop-turn.invariant.state)
+pub record_step-requires-after_bounds : goal.record_step-requires-after_bounds
+record_step-requires-after_bounds g c = λ κs live. omega (arith, le-serial g.B.Body c.args.plan c.loop-turn._turn, ap (λ s. s.steps) c.loop-turn.invariant.state)
 
 pub loop-turn-preserved : goal.loop-turn-preserved
 loop-turn-preserved g c =
@@ -22,22 +21,18 @@ loop-turn-preserved g c =
     let one_state = serial_add_one g.B.Body plan turn in
     let one_entry = entries_add_one g.B.Body plan turn in
     record {
-      state = cc (c.in_ok-told.ensures.state);
-      entries = cc (c.in_ok-told.ensures.entry, c.in_ok-add.ensures, c.loop-turn.invariant.entries);
+      state = cc (c.in_ok-record_step.ensures.state);
+      entries = cc (c.in_ok-record_step.ensures.entry, c.loop-turn.invariant.entries);
     }
 
 pub returns : goal.returns
 returns g c =
     let plan = c.args.plan in
     let turn = c.loop-turn._turn in
-    let all : c.loop-turn.entries ≡ entries g.B.Body plan (most_steps plan) = elim c.loop-turn-test.branch [
+    elim c.loop-turn-test.branch [
       | else-loop-turn-test w ↦ let end : turn ≡ most_steps plan = omega arith in c.loop-turn.invariant.entries ∙ ap (entries g.B.Body plan) end
       | then-loop-turn-test+then-is_over w ↦
           let most : turn ≤ most_steps plan = omega arith in
           let over : c.loop-turn.state.stack ≡ [] = w.if-is_over.ensures.0 refl in
           c.loop-turn.invariant.entries ∙ entries-last g.B.Body plan turn most (ap (λ s. s.stack) (sym c.loop-turn.invariant.state) ∙ over)
-    ] in
-    let lists = c.in_ok-queues.ensures in
-    let values = c.in_ok-objects.ensures in
-    ap {B = Script} (λ e. record { queues = c.in_ok-queues.queues; objects = c.in_ok-objects.objects; entries = e }) all
-    ∙ cc (lists, values, c.as_slice.ensures, c.as_slice-2.ensures, c.queues.ensures.queues, c.objects.ensures.objects)
+    ]

@@ -1,7 +1,7 @@
 use Rattle.std.proofs.Common.{◌≡◌}
 use Rattle.swan_model.specs.Elision.{serial}
 use Rattle.swan_model.specs.Script.{entries}
-use Rattle.serial_elision.proofs.recorded.script_of.Given as goal
+use Rattle.serial_elision.proofs.recorded.entries_of.Given as goal
 
 pub record HasTold (told now : Type 0) : Type 0 where
   pub state : now
