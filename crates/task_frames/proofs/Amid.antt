@@ -1,7 +1,8 @@
 -- A frame in the middle of its next step, and after steps of its own.
-use Rattle.std.proofs.Common.{◌≡◌, inl, inr, ℕ, zero, suc, ◌+◌, ◌*◌, ◌-◌, ◌<◌, ◌≤◌, true, Option, Some, refl, sym, ap, subst, ◌∙◌, arith, rules}
+use Rattle.std.proofs.Common.{◌≡◌, inl, inr, Bool, ℕ, zero, suc, ◌+◌, ◌*◌, ◌-◌, ◌<◌, ◌≤◌, true, Option, Some, refl, sym, ap, subst, ◌∙◌, arith, rules}
 use Rattle.std.proofs.lemmas.Bool.{cases_lt}
 use Rattle.std.proofs.lemmas.Option.{same_Some, slice_get-get_or}
+use Rattle.std.specs.Option.{is_some}
 use Rattle.std.specs.Prelude.{slice_get}
 use Rattle.swan_model.specs.declared.body.Answer.{Answer}
 use Rattle.swan_model.specs.declared.body.Answer.TheVariants as answer
@@ -25,6 +26,7 @@ use Rattle.serial_elision.specs.TaskSteps.{GoesOn, IsAsking}
 use Rattle.serial_elision.proofs.AskSteps.{works}
 use Rattle.serial_elision.proofs.FewMade.{few-times}
 use Rattle.serial_elision.proofs.TaskSteps.{goes_on_next, stands-one}
+use Rattle.task_frames.specs.declared.at_core.StagedTask.{StagedTask}
 use Rattle.task_frames.specs.declared.stage.Stage.TheVariants.{Ready, Asking}
 use Rattle.task_frames.specs.declared.row.AfterRow.{AfterRow}
 use Rattle.task_frames.specs.declared.stage.Stage.{Stage}
@@ -35,6 +37,14 @@ use Rattle.task_frames.specs.Going.{IsRow, IsRowTo, is_still}
 -- what holds of one stage holds of whatever the option has
 pub for-one : {X : Type 0} (P : X → Type 0) (one : X) → P one → (x : X) → Some one ≡ Some x → P x
 for-one P one is x same = subst P (same_Some one x same) is
+
+-- what the invariant of a frame says of its staged task, once that has this task and stands so
+pub at-stage : {B L : Type 0} (G : Ghosts B L) (name : Option Script) (ends : LentEnds) (since : ℕ) (mark : Bool) (staged : StagedTask B L) (task : Task B L) (stage : Stage L)
+    → staged ≡ record { task = task; stage = Some stage } → IsFrame G (record task { since = since }) name ends stage
+    → ((x : Stage L) → staged.stage ≡ Some x → IsFrame G (record staged.task { since = since }) name ends x) × (mark ≡ true → is_some staged.stage ≡ true)
+at-stage {B = B} {L = L} G name ends since mark staged task stage so is =
+    subst (λ (st : StagedTask B L). ((x : Stage L) → st.stage ≡ Some x → IsFrame G (record st.task { since = since }) name ends x) × (mark ≡ true → is_some st.stage ≡ true))
+    (sym so) (for-one (IsFrame G (record task { since = since }) name ends) stage is, λ _. refl)
 
 module _ {B L : Type 0} (G : Ghosts B L) (name : Option Script) where
   -- a task that has done and paid so much

@@ -11,6 +11,7 @@ use crate::{Core, Kept, RunOutcome};
 use queues::Queues;
 use std::alloc::Global;
 use std::cmp::Ordering;
+use std::mem;
 use swan_model::{
     Body, Fault, Faults, Meaning, Means, NoMemory, Outcome, Plan, Script, ValueLists, Values,
 };
@@ -121,23 +122,19 @@ fn in_serial_order<B: Body>(plan: &Meaning<Plan<B>>, faults: Vec<Fault>) -> Faul
 fn outcome_left<B: Body, Q: Queues>(
     alloc: Global,
     plan: &Meaning<Plan<B>>,
-    kept: Kept<Q>,
+    kept: &mut Kept<Q>,
     root_queues: u32,
     root_objects: u32,
 ) -> Result<Outcome, NoMemory>
-    requires core { IsCore B.Body plan.now.means kept }
-    requires over { live_at kept.live 0 ≡ None }
+    requires core { IsCore B.Body plan.now.means kept.old }
+    requires over { live_at kept.old.live 0 ≡ None }
     requires root_queues { root_queues ≡ length plan.now.means.roots.queues }
     requires root_objects { root_objects ≡ length plan.now.means.roots.objects }
     ensures { IfOk result (λ left. left ≡ outcome B.Body plan.now.means) }
 {
-    let objects = values_left(alloc, plan, &kept, root_queues, root_objects)?;
-    let Kept {
-        mut queues,
-        faults,
-        ..
-    } = kept;
-    let queues = rests_left(alloc, plan, &mut queues, root_queues)?;
+    let objects = values_left(alloc, plan, kept, root_queues, root_objects)?;
+    let queues = rests_left(alloc, plan, &mut kept.queues, root_queues)?;
+    let faults = mem::replace(&mut kept.faults, Vec::new(alloc));
     let faults = in_serial_order(plan, faults);
     Ok(Outcome {
         objects,
@@ -176,10 +173,12 @@ impl<B: Body, Q: Queues> Core<B, Q> {
             root_queues,
             root_objects,
         } = self;
-        let Some(kept) = kept else {
+        let Some(mut kept) = kept else {
             return Err(NoMemory);
         };
-        let outcome = outcome_left(alloc, &plan, kept, root_queues, root_objects)?;
-        Ok(RunOutcome::of(outcome, Meaning::of(&ScriptOf { plan: &plan })))
+        let outcome = outcome_left(alloc, &plan, &mut kept, root_queues, root_objects);
+        // by a call, since what ends with its block is checked part by part
+        drop(kept);
+        Ok(RunOutcome::of(outcome?, Meaning::of(&ScriptOf { plan: &plan })))
     }
 }

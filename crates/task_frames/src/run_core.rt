@@ -95,7 +95,8 @@ impl<B: Body, Q: Queues> Core<B, Q> {
                     resumed
                 }
                 Err(NoMemory) => {
-                    self.kept = None;
+                    // by a call, since what ends with its block is checked part by part
+                    drop(self.kept.take());
                     Resumed::NoMemory
                 }
             },

@@ -2,11 +2,10 @@ use Rattle.std.proofs.Common.{◌≡◌, ◌<◌, true, Some, refl, sym, ap, sub
 use Rattle.std.proofs.lemmas.Bool.{false≢true}
 use Rattle.std.specs.Option.{is_some}
 use Rattle.task_frames.specs.declared.at_core.StagedTask.{StagedTask}
-use Rattle.task_frames.specs.declared.stage.Stage.{Stage}
 use Rattle.task_frames.specs.declared.stage.Stage.TheVariants.{Asking}
 use Rattle.task_frames.specs.Frames.{FrameView, IsFrame}
 use Rattle.task_frames.specs.Going.{IsServedAnswer, IsNextDeed}
-use Rattle.task_frames.proofs.Amid.{few, for-one}
+use Rattle.task_frames.proofs.Amid.{at-stage, few, for-one}
 use Rattle.task_frames.proofs.Served.{next-ask, room, same-ends, served}
 use Rattle.task_frames.proofs.frame.Frame.step.Goals as goal
 
@@ -58,10 +57,7 @@ invariant_of-self-in-Some-Asking g c =
     let says = subst (λ hs. IsServedAnswer (g.Q.Ends.LocalEnds.name c.self.inside.ends) hs (g.Q.Ends.LocalEnds.ends c.self.inside.ends) c.in-Some-Asking.ask c.in-Some.said) c.holdings.ensures c.in-Some.ensures.answer in
     let then = served g.B.Body _ _ _ c.in-Some-Asking.field-0-0 c.in-Some-Asking.ask c.in-Some-Asking.field-0-2 c.in-Some.said _ _ own begun says c.in-Some.ensures.same.0 c.in-Some.ensures.some in
     let told = c.is_told.ensures c.in-Some-Asking.field-0-0 c.serve.new.ask c.in-Some-Asking.field-0-2 refl in
-    subst (λ (st : StagedTask g.row.B.Denot g.row.B-Local.Denot).
-    ((x : Stage g.row.B-Local.Denot) → st.stage ≡ Some x
-    → IsFrame g.B.Body (record st.task { since = c.self.inside.since }) (g.Q.Ends.LocalEnds.name c.serve.new.ends) (g.Q.Ends.LocalEnds.ends c.serve.new.ends) x)
-    × (c.self.inside.mark ≡ true → is_some st.stage ≡ true)) (sym told) (for-one _ _ then, λ _. refl)
+    at-stage g.B.Body _ _ _ _ _ _ _ told then
 
 pub invariant_of-self-in-Some-Ready : goal.invariant_of-self-in-Some-Ready
 invariant_of-self-in-Some-Ready g c =
