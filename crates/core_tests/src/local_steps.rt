@@ -204,34 +204,40 @@ fn stops_so(
     answers_after(alloc, root, opened(alloc, root)?, turns, calls)
 }
 
-/// After three steps of work, of which the core takes the first one, comes each ask that isn't work. At place 7 the root has nothing.
+/// Three steps of work, and then each ask that isn't work. At place 7 the root has nothing.
+const ASKS: &str = "\
+work work work read:0
+work work work write:0:1
+work work work push:0:1
+work work work push:7:1
+work work work pop:0
+work work work empty:0
+work work work queue
+work work work object:1
+work work work spawn:0:1:
+work work work sync
+work work work finish
+work work work range";
+
+/// The frame of a root with these asks, of which the core takes the first one, stops after two more.
+fn stops_at_third(alloc: Global, asks: &str) -> Result<(), Fail> {
+    let root = Root {
+        asks,
+        fuel: 9,
+        fails: 9,
+    };
+    stops_so(
+        alloc,
+        &root,
+        BEGUN,
+        &[(9, Stop::AtCore(2)), (9, Stop::AtCore(0))],
+    )
+}
+
 #[test]
 fn a_frame_stops_at_each_ask_that_needs_the_core(rt: HostRuntime) -> Result<(), Fail> {
-    for asks in [
-        "work work work read:0",
-        "work work work write:0:1",
-        "work work work push:0:1",
-        "work work work push:7:1",
-        "work work work pop:0",
-        "work work work empty:0",
-        "work work work queue",
-        "work work work object:1",
-        "work work work spawn:0:1:",
-        "work work work sync",
-        "work work work finish",
-        "work work work range",
-    ] {
-        let root = Root {
-            asks,
-            fuel: 9,
-            fails: 9,
-        };
-        stops_so(
-            rt.alloc(),
-            &root,
-            BEGUN,
-            &[(9, Stop::AtCore(2)), (9, Stop::AtCore(0))],
-        )?;
+    for asks in ASKS.lines() {
+        stops_at_third(rt.alloc(), asks)?;
     }
     Ok(())
 }

@@ -86,7 +86,13 @@ pub fn run_alone<B: Body, Q: Queues>(
     let mut below = Vec::new(alloc);
     let mut top = Some(root);
     while let Some(frame) = top {
-        top = turn(alloc, &mut core, &body, &mut below, frame)?;
+        let Ok(next) = turn(alloc, &mut core, &body, &mut below, frame) else {
+            // by calls, since what ends with its block is checked part by part
+            drop(core);
+            drop(below);
+            return Err(NoMemory);
+        };
+        top = next;
     }
     if !core.is_done() {
         unreachable!();
