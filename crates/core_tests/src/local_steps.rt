@@ -205,7 +205,7 @@ fn stops_so(
 }
 
 /// Three steps of work, and then each ask that isn't work. At place 7 the root has nothing.
-const ASKS: &str = "\
+const CORE_ASKS: &str = "\
 work work work read:0
 work work work write:0:1
 work work work push:0:1
@@ -219,8 +219,8 @@ work work work sync
 work work work finish
 work work work range";
 
-/// The frame of a root with these asks, of which the core takes the first one, stops after two more.
-fn stops_at_third(alloc: Global, asks: &str) -> Result<(), Fail> {
+/// The core takes the first of these asks. The frame of their root takes the two after it, and stops at the fourth, at each call.
+fn stops_at_fourth(alloc: Global, asks: &str) -> Result<(), Fail> {
     let root = Root {
         asks,
         fuel: 9,
@@ -236,8 +236,8 @@ fn stops_at_third(alloc: Global, asks: &str) -> Result<(), Fail> {
 
 #[test]
 fn a_frame_stops_at_each_ask_that_needs_the_core(rt: HostRuntime) -> Result<(), Fail> {
-    for asks in ASKS.lines() {
-        stops_at_third(rt.alloc(), asks)?;
+    for asks in CORE_ASKS.lines() {
+        stops_at_fourth(rt.alloc(), asks)?;
     }
     Ok(())
 }

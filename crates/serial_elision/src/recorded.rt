@@ -32,9 +32,9 @@ pub fn script_of<B: Body>(alloc: Global, plan: Plan<B>) -> Result<Script, NoMemo
     })
 }
 
-/// What the steps of a plan's elision do, in order. It costs what `script_of` costs.
+/// What the steps of a plan's elision do, in order. It takes the steps that `elide` takes, and `O(d + g)` more for each, as `script_of` says.
 fn entries_of<B: Body>(alloc: Global, plan: Plan<B>) -> Result<Entries, NoMemory>
-    ensures { IfOk result (λ them. them ≡ entries B.Body plan (most_steps plan)) }
+    ensures { IfOk result (λ told. told ≡ entries B.Body plan (most_steps plan)) }
 {
     let Plan {
         body,
@@ -93,7 +93,7 @@ fn lists_of(alloc: Global, queues: &[RootQueue]) -> Result<ValueLists, NoMemory>
 }
 
 impl<L: Drop> State<L> {
-    /// Takes one serial step, and adds its entry to those before. It costs what `tell` costs.
+    /// Takes one serial step, and adds its entry, where it has one, to those before. It costs what `tell` costs, and `O(1)` amortised.
     fn record_step<B: Body<Local = L>>(
         &mut self,
         alloc: Global,
@@ -124,7 +124,7 @@ impl<L: Drop> State<L> {
         };
         let place = body.place(&top.local);
         let Ok(path) = top.path.copy() else {
-            // here and below by calls, since what ends with its block is checked part by part
+            // large values here and below by calls, since what ends with its block is checked part by part
             drop(top);
             return Err(NoMemory);
         };
@@ -138,13 +138,13 @@ impl<L: Drop> State<L> {
         }
         let (mut top, ask) = top.advance(alloc, body)?;
         let Ok(deed) = asked(alloc, &self.store, &top, &ask) else {
-            drop(top);
             drop(ask);
+            drop(top);
             return Err(NoMemory);
         };
         let Ok(effect) = self.perform(alloc, &mut top, ask) else {
-            drop(top);
             drop(deed);
+            drop(top);
             return Err(NoMemory);
         };
         let told = entry(path, deed, &effect);

@@ -88,8 +88,8 @@ pub fn run_alone<B: Body, Q: Queues>(
     while let Some(frame) = top {
         let Ok(next) = turn(alloc, &mut core, &body, &mut below, frame) else {
             // by calls, since what ends with its block is checked part by part
-            drop(core);
             drop(below);
+            drop(core);
             return Err(NoMemory);
         };
         top = next;

@@ -39,10 +39,10 @@ pub for-one : {X : Type 0} (P : X → Type 0) (one : X) → P one → (x : X) �
 for-one P one is x same = subst P (same_Some one x same) is
 
 -- what the invariant of a frame says of its staged task, once that has this task and stands so
-pub at-stage : {B L : Type 0} (G : Ghosts B L) (name : Option Script) (ends : LentEnds) (since : ℕ) (mark : Bool) (staged : StagedTask B L) (task : Task B L) (stage : Stage L)
-    → staged ≡ record { task = task; stage = Some stage } → IsFrame G (record task { since = since }) name ends stage
+pub at-stage : {B L : Type 0} (G : Ghosts B L) {name : Option Script} {ends : LentEnds} {since : ℕ} {mark : Bool} {staged : StagedTask B L} {task : Task B L}
+    {stage : Stage L} → staged ≡ record { task = task; stage = Some stage } → IsFrame G (record task { since = since }) name ends stage
     → ((x : Stage L) → staged.stage ≡ Some x → IsFrame G (record staged.task { since = since }) name ends x) × (mark ≡ true → is_some staged.stage ≡ true)
-at-stage {B = B} {L = L} G name ends since mark staged task stage so is =
+at-stage {B = B} {L = L} G {name} {ends} {since} {mark} {staged} {task} {stage} so is =
     subst (λ (st : StagedTask B L). ((x : Stage L) → st.stage ≡ Some x → IsFrame G (record st.task { since = since }) name ends x) × (mark ≡ true → is_some st.stage ≡ true))
     (sym so) (for-one (IsFrame G (record task { since = since }) name ends) stage is, λ _. refl)
 

@@ -117,8 +117,8 @@ fn in_serial_order<B: Body>(plan: &Meaning<Plan<B>>, faults: Vec<Fault>) -> Faul
     Faults::from_vec(faults)
 }
 
-/// Takes the outcome of the plan out of what its core keeps, once the root has ended. Err is want of memory. `O(f log f)` for f faults,
-/// and what taking the values and the items costs. The plan is there for contracts alone.
+/// Takes the outcome of the plan out of what its core keeps, once the root has ended; what is left there is only to be given up. Err is want
+/// of memory. `O(f log f)` for f faults, and what taking the values and the items costs. The plan is there for contracts alone.
 fn outcome_left<B: Body, Q: Queues>(
     alloc: Global,
     plan: &Meaning<Plan<B>>,

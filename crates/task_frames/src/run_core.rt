@@ -95,7 +95,7 @@ impl<B: Body, Q: Queues> Core<B, Q> {
                     resumed
                 }
                 Err(NoMemory) => {
-                    // by a call, since what ends with its block is checked part by part
+                    // by a call, since what an assignment ends is checked part by part
                     drop(self.kept.take());
                     Resumed::NoMemory
                 }

@@ -1,4 +1,4 @@
-use Rattle.std.proofs.Common.{◌≡◌, ◌<◌, true, Some, refl, sym, ap, subst, ◌∙◌, arith}
+use Rattle.std.proofs.Common.{◌<◌, Some, refl, sym, ap, subst, ◌∙◌, arith}
 use Rattle.std.proofs.lemmas.Bool.{false≢true}
 use Rattle.std.specs.Option.{is_some}
 use Rattle.task_frames.specs.declared.at_core.StagedTask.{StagedTask}
@@ -57,7 +57,7 @@ invariant_of-self-in-Some-Asking g c =
     let says = subst (λ hs. IsServedAnswer (g.Q.Ends.LocalEnds.name c.self.inside.ends) hs (g.Q.Ends.LocalEnds.ends c.self.inside.ends) c.in-Some-Asking.ask c.in-Some.said) c.holdings.ensures c.in-Some.ensures.answer in
     let then = served g.B.Body _ _ _ c.in-Some-Asking.field-0-0 c.in-Some-Asking.ask c.in-Some-Asking.field-0-2 c.in-Some.said _ _ own begun says c.in-Some.ensures.same.0 c.in-Some.ensures.some in
     let told = c.is_told.ensures c.in-Some-Asking.field-0-0 c.serve.new.ask c.in-Some-Asking.field-0-2 refl in
-    at-stage g.B.Body _ _ _ _ _ _ _ told then
+    at-stage g.B.Body told then
 
 pub invariant_of-self-in-Some-Ready : goal.invariant_of-self-in-Some-Ready
 invariant_of-self-in-Some-Ready g c =
