@@ -107,9 +107,12 @@ fn take_beside<B: Body, Q: Queues>(
     others: &Vec<Frame<B, Q>>,
     turns: &[FrameTurn],
 ) -> Result<(), Fail>
+    // which frames may come to the core
     requires body { body.now ≡ core.old.plan.body }
     requires frames { MayAllCome Q.Ends.run core.old frames.old.items }
     requires others { MayAllCome Q.Ends.run core.old others.now.items }
+
+    // which still may
     ensures frames { OnOk result (MayAllCome Q.Ends.run core.new frames.new.items) }
     ensures others { MayAllCome Q.Ends.run core.new others.now.items }
     ensures plan { core.new.plan ≡ core.old.plan }

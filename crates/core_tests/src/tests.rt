@@ -521,7 +521,7 @@ fn a_child_uses_nothing_beyond_what_it_was_given(rt: HostRuntime) -> Result<(), 
 }
 
 /// The ask for a child that is this task, with so much fuel.
-fn spawn_of(alloc: Global, task: u64, fuel: u64) -> Result<String, Fail> {
+fn spawn_word(alloc: Global, task: u64, fuel: u64) -> Result<String, Fail> {
     let word = format!(in alloc; "spawn:{task}")?;
     Ok(format!(in alloc; "{word}:{fuel}:")?)
 }
@@ -530,7 +530,7 @@ fn spawn_of(alloc: Global, task: u64, fuel: u64) -> Result<String, Fail> {
 fn chain(alloc: Global) -> Result<Vec<String>, Fail> {
     let mut tasks = Vec::new(alloc);
     for depth in 0..65_u64 {
-        tasks.push(spawn_of(alloc, depth + 1, 900 - 10 * depth)?)?;
+        tasks.push(spawn_word(alloc, depth + 1, 900 - 10 * depth)?)?;
     }
     tasks.push(String::new(alloc))?;
     Ok(tasks)

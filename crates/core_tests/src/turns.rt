@@ -17,10 +17,13 @@ fn resumed<B: Body, Q: Queues>(
     frame: Frame<B, Q>,
     others: &Vec<Frame<B, Q>>,
 ) -> Resumed<B, Q>
+    // how the frame stands, and which others may come to the core
     requires body { body.now ≡ core.old.plan.body }
     requires frame { MayCome Q.Ends.run core.old frame }
     requires mark { frame.mark ≡ true }
     requires others { MayAllCome Q.Ends.run core.old others.now.items }
+
+    // which may come to it then
     ensures came { CameSo Q.Ends.run core.new result }
     ensures others { MayAllCome Q.Ends.run core.new others.now.items }
     ensures plan { core.new.plan ≡ core.old.plan }
@@ -101,10 +104,13 @@ fn resume<B: Body, Q: Queues>(
     frame: Frame<B, Q>,
     works: u64,
 ) -> Result<FrameTurn, NoMemory>
+    // how the frame stands, and which others may come to the core
     requires body { body.now ≡ core.old.plan.body }
     requires frames { MayAllCome Q.Ends.run core.old frames.old.items }
     requires frame { MayCome Q.Ends.run core.old frame }
     requires mark { frame.mark ≡ true }
+
+    // which may come to it then
     ensures frames { OnOk result (MayAllCome Q.Ends.run core.new frames.new.items) }
     ensures plan { core.new.plan ≡ core.old.plan }
     ensures run { core.new.run ≡ core.old.run }
@@ -124,9 +130,12 @@ pub fn take_turn<B: Body, Q: Queues>(
     mut frame: Frame<B, Q>,
     budget: u64,
 ) -> Result<FrameTurn, NoMemory>
+    // which frames may come to the core
     requires body { body.now ≡ core.old.plan.body }
     requires frames { MayAllCome Q.Ends.run core.old frames.old.items }
     requires frame { MayCome Q.Ends.run core.old frame }
+
+    // which may come to it then
     ensures frames { OnOk result (MayAllCome Q.Ends.run core.new frames.new.items) }
     ensures plan { core.new.plan ≡ core.old.plan }
     ensures run { core.new.run ≡ core.old.run }

@@ -26,7 +26,7 @@ fn ask_with(alloc: Global, name: &str, parts: &str) -> Result<Ask<usize>, Fail> 
         "write" => write_of(parts),
         "push" => push_of(parts),
         "object" => object_of(parts),
-        "spawn" => spawn_of(alloc, parts),
+        "spawn" => spawn_ask(alloc, parts),
         "fail" => fail_of(parts),
         _ => Err("no such ask".into()),
     }
@@ -58,7 +58,7 @@ fn object_of(parts: &str) -> Result<Ask<usize>, Fail> {
     Ok(Ask::NewObject(Value::Int(number_of(parts)?)))
 }
 
-fn spawn_of(alloc: Global, parts: &str) -> Result<Ask<usize>, Fail> {
+fn spawn_ask(alloc: Global, parts: &str) -> Result<Ask<usize>, Fail> {
     Ok(Ask::Spawn(child_of(alloc, parts)?))
 }
 

@@ -58,9 +58,13 @@ impl LineLeft {
     #[tactic(auto, using(crate::proofs::Taking::line_more, crate::proofs::Taking::line_over))]
     pub fn write_next(&mut self, batch: &mut BatchWriter) -> Result<bool, NoMemory>
         requires { has_room batch.old WORD_MOST ≡ true }
+
+        // that a word goes from the line to the batch
         ensures records { OnOk result (batch.new ++ self.new ≡ batch.old ++ self.old) }
         ensures shorter { IfOk result (λ more. more ≡ true → length self.new < length self.old) }
         ensures written { IfOk result (λ more. more ≡ true → batch.new ≡ [] → ⊥) }
+
+        // where none is left
         ensures none { IfOk result (λ more. more ≡ false → self.new ≡ []) }
         ensures same { IfOk result (λ more. more ≡ false → (self.new ≡ self.old) × (batch.new ≡ batch.old)) }
     {

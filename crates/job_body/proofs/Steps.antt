@@ -60,7 +60,7 @@ spawned-is lines s (pos fuel) p given begins =
     ∙ ap (λ gives. (steps.after_move_on lines s, ask.Spawn (record { local = steps.begun lines p (flat_map (steps.value_given lines s) given); gives = gives; fuel = fuel }))) (sym (gives-given lines s given))
 
 abbrev spawn : List Line → Standing → ℕ → Atom → Option Task → List Atom → Standing × Ask Standing
-spawn lines s f fuel found args = runs.done (program_of lines) s (executed_from lines (s.at + 1)) f (compiled.spawn_of lines (seen_at lines s.at) fuel found args)
+spawn lines s f fuel found args = runs.done (program_of lines) s (executed_from lines (s.at + 1)) f (compiled.spawn_action lines (seen_at lines s.at) fuel found args)
 
 spawn-found : (lines : List Line) (s : Standing) (f : ℕ) (fuel : Atom) (p : ℕ) (found : Option Task) (args : List Atom)
     → ((values : List Value) → runs.begun_in (program_of lines) p values ≡ steps.begun lines p values)
@@ -179,7 +179,7 @@ answered-end : (values : List Value) (block : Option BlockWithLine) (a : Answer)
 answered-end values None a = refl
 answered-end values (Some block) a = refl
 
-answered-spawn : (lines : List Line) (values : List Value) (scope : Scope) (fuel : Atom) (found : Option Task) (args : List Atom) (a : Answer) → runs.values_after_answer values (compiled.spawn_of lines scope fuel found args) a ≡ values
+answered-spawn : (lines : List Line) (values : List Value) (scope : Scope) (fuel : Atom) (found : Option Task) (args : List Atom) (a : Answer) → runs.values_after_answer values (compiled.spawn_action lines scope fuel found args) a ≡ values
 answered-spawn lines values scope fuel None args a = refl
 answered-spawn lines values scope fuel (Some task) args a = refl
 

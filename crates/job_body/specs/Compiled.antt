@@ -176,9 +176,9 @@ give_given s (given.Access mode, a) = (record { place = place_of_atom s a; mode 
 give_given s _ = []
 
 -- a spawn; an unknown task stands past all lines and takes nothing
-abbrev pub spawn_of : List Line → Scope → Atom → Option Task → List Atom → Action
-spawn_of lines s fuel None args = action.Demand (demand.Spawn (operand_of s fuel) (length lines) [] [])
-spawn_of lines s fuel (Some task) args =
+abbrev pub spawn_action : List Line → Scope → Atom → Option Task → List Atom → Action
+spawn_action lines s fuel None args = action.Demand (demand.Spawn (operand_of s fuel) (length lines) [] [])
+spawn_action lines s fuel (Some task) args =
     action.Demand (demand.Spawn (operand_of s fuel) task.index (flat_map (param_given s) (zip task.takes args)) (flat_map (give_given s) (zip task.takes args)))
 
 -- the kinds of the variables of the task at an index
@@ -210,7 +210,7 @@ action_of lines tasks s exit i (line.Write o a) = action.Demand (demand.Write (p
 action_of lines tasks s exit i (line.Push q a) = action.Demand (demand.Push (place_in s q) (operand_of s a))
 action_of lines tasks s exit i (line.Pop v q) = action.Demand (demand.Pop (slot_in s v) (place_in s q))
 action_of lines tasks s exit i (line.Empty v q) = action.Demand (demand.Empty (slot_in s v) (place_in s q))
-action_of lines tasks s exit i (line.Spawn fuel task args) = spawn_of lines s fuel (task_named tasks task) args
+action_of lines tasks s exit i (line.Spawn fuel task args) = spawn_action lines s fuel (task_named tasks task) args
 action_of lines tasks s exit i line.Sync = action.Demand demand.Sync
 action_of lines tasks s exit i (line.Fuel v) = action.Work (work.Fuel (slot_in s v))
 action_of lines tasks s exit i (line.Fail a) = action.Demand (demand.Fail (operand_of s a))

@@ -32,15 +32,15 @@ flag true = Int (pos 1)
 flag false = Int (pos 0)
 
 -- a number that fits 64 bits with its sign, and bytes that fit a record
-abbrev pub fitting : ℤ → Result Value Trouble
-fitting n = if fits_64 n then Ok (Int n) else Err Overflow
+abbrev pub fitting_number : ℤ → Result Value Trouble
+fitting_number n = if fits_64 n then Ok (Int n) else Err Overflow
 
 abbrev pub fitting_bytes : List ℕ → Result Value Trouble
 fitting_bytes bytes = if nat_le (length bytes) RECORD_MOST then Ok (Bytes bytes) else Err TooLong
 
 -- The quotient is truncated, and the rest has the sign of the first number.
 abbrev pub quotient : ℤ → ℤ → Result Value Trouble
-quotient a b = if is_zero b then Err DivideByZero else fitting (int_div a b)
+quotient a b = if is_zero b then Err DivideByZero else fitting_number (int_div a b)
 
 abbrev pub rest : ℤ → ℤ → Result Value Trouble
 rest a b = if is_zero b then Err DivideByZero else Ok (Int (int_rem a b))
@@ -89,9 +89,9 @@ numbered (Some n) = Ok (Int n)
 -- The value of an operation. An operation that takes fewer values doesn't look at the others.
 abbrev pub operation : Op → Value → Value → Value → Result Value Trouble
 operation op.Set a b c = Ok a
-operation op.Add a b c = fitting (number_of a +ℤ number_of b)
-operation op.Sub a b c = fitting (number_of a -ℤ number_of b)
-operation op.Mul a b c = fitting (number_of a *ℤ number_of b)
+operation op.Add a b c = fitting_number (number_of a +ℤ number_of b)
+operation op.Sub a b c = fitting_number (number_of a -ℤ number_of b)
+operation op.Mul a b c = fitting_number (number_of a *ℤ number_of b)
 operation op.Div a b c = quotient (number_of a) (number_of b)
 operation op.Rem a b c = rest (number_of a) (number_of b)
 operation op.Lt a b c = Ok (flag (int_lt (number_of a) (number_of b)))

@@ -1,6 +1,6 @@
 // From lines to instructions.
 ghost use Rattle.std.specs.Prelude.{◌≡◌, ◌<◌, ◌≤◌, ◌++◌, ◌∷◌, [], length, flat_map, slice_get, zip, IfOk, OnOk};
-ghost use Rattle.job_body.specs.Compiled.{TakeFew, after_end_of, action_of, assign_of, branch_of, end_action, exits_of, give_given, instruction_of, int_op, next_of, num_of, or_zero, param_given, program_of, scope_before, spawn_of, task_named, tasks_of};
+ghost use Rattle.job_body.specs.Compiled.{TakeFew, after_end_of, action_of, assign_of, branch_of, end_action, exits_of, give_given, instruction_of, int_op, next_of, num_of, or_zero, param_given, program_of, scope_before, spawn_action, task_named, tasks_of};
 ghost use Rattle.job_body.specs.Blocks.{innermost};
 ghost use Rattle.job_body.specs.declared.instruction.Action.TheVariants as action;
 ghost use Rattle.job_body.specs.Tasks.{before_task, roots, top_lines, var_kinds};
@@ -84,7 +84,7 @@ fn gives_of(alloc: Global, scope: &Scope, takes: &[Take], args: &[Atom]) -> Resu
 }
 
 /// A spawn. `O(args log names)`.
-fn spawn_of(
+fn spawn_action(
     alloc: Global,
     lines: &[Line],
     tasks: &Tasks,
@@ -95,7 +95,7 @@ fn spawn_of(
 ) -> Result<Action, NoMemory>
     requires short { length lines.now ≤ GIVES_MOST }
     requires few { TakeFew tasks.now }
-    ensures { IfOk result (λ action. action ≡ spawn_of lines.now scope.now fuel.now (task_named tasks.now name.now) args.now) }
+    ensures { IfOk result (λ action. action ≡ spawn_action lines.now scope.now fuel.now (task_named tasks.now name.now) args.now) }
 {
     let fuel = scope.operand(fuel)?;
     let Some(task) = tasks.find(name) else {
@@ -172,7 +172,7 @@ fn assign_of(op: Op, slot: Option<u32>, a: Operand, b: Operand, c: Operand) -> W
 }
 
 /// An assignment to this slot of what an operation makes of its arguments.
-fn assignment(scope: &Scope, slot: Option<u32>, op: Op, args: &Atoms) -> Result<Action, NoMemory>
+fn assign(scope: &Scope, slot: Option<u32>, op: Op, args: &Atoms) -> Result<Action, NoMemory>
     ensures { IfOk result (λ made. made ≡ action.Work (assign_of op slot (or_zero scope.now (slice_get args.now 0)) (or_zero scope.now (slice_get args.now 1)) (or_zero scope.now (slice_get args.now 2)))) }
 {
     let first = argument(scope, args, 0)?;
@@ -228,13 +228,13 @@ fn action_of(
         )?))),
         Line::Queue(_, _) => Ok(Action::Demand(Demand::NewQueue)),
         Line::Object(_, kind) => Ok(Action::Demand(Demand::NewObject(*kind))),
-        Line::Assign(v, op, args) => assignment(scope, scope.slot(v), *op, args),
+        Line::Assign(v, op, args) => assign(scope, scope.slot(v), *op, args),
         Line::Read(v, o) => Ok(Action::Demand(Demand::Read(scope.slot(v), scope.place(o)))),
         Line::Write(o, a) => Ok(Action::Demand(Demand::Write(scope.place(o), scope.operand(a)?))),
         Line::Push(q, a) => Ok(Action::Demand(Demand::Push(scope.place(q), scope.operand(a)?))),
         Line::Pop(v, q) => Ok(Action::Demand(Demand::Pop(scope.slot(v), scope.place(q)))),
         Line::Empty(v, q) => Ok(Action::Demand(Demand::Empty(scope.slot(v), scope.place(q)))),
-        Line::Spawn(fuel, task, args) => spawn_of(
+        Line::Spawn(fuel, task, args) => spawn_action(
             alloc,
             job.lines(),
             tasks,
@@ -333,9 +333,12 @@ fn add_instructions(
     scope: &mut Scope,
     program: &mut Listed<Instruction>,
 ) -> Result<(), NoMemory>
+    // what is known of the job
     requires few { length job.now ≤ GIVES_MOST }
     requires tasks { tasks.now ≡ tasks_of job.now }
     requires exits { exits.now.items ≡ exits_of job.now }
+
+    // where it begins, and what it makes
     requires scope { scope.old ≡ scope_before (roots (top_lines job.now)) }
     requires none { program.old ≡ [] }
     ensures { OnOk result (program.new ≡ program_of job.now) }

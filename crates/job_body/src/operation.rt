@@ -1,6 +1,6 @@
 // Operations on values.
 ghost use Rattle.std.specs.Prelude.{◌≡◌, ◌≤◌, ◌+ℤ◌, ◌-ℤ◌, ◌*ℤ◌, ◌++◌, ◌==◌, pos, length, drop, position, IfOk};
-ghost use Rattle.job_body.specs.Operations.{number_of, flag, fitting, quotient, rest, is_equal, is_true, byte_at, part, found, fitting_bytes, numbered, up_to, place_after};
+ghost use Rattle.job_body.specs.Operations.{number_of, flag, fitting_number, quotient, rest, is_equal, is_true, byte_at, part, found, fitting_bytes, numbered, up_to, place_after};
 ghost use Rattle.job_body.specs.Runs.{int_operation, valued};
 ghost use Rattle.swan_model.specs.declared.value.Value.TheVariants.{Int, Bytes};
 ghost use Rattle.job_reader.specs.Atoms.{number};
@@ -57,7 +57,7 @@ pub fn flag(is_so: bool) -> Value
 
 #[inline(always)]
 fn sum(a: i64, b: i64) -> Result<i64, Trouble>
-    ensures { valued result ≡ fitting (a +ℤ b) }
+    ensures { valued result ≡ fitting_number (a +ℤ b) }
 {
     match a.checked_add(b) {
         Some(number) => Ok(number),
@@ -67,7 +67,7 @@ fn sum(a: i64, b: i64) -> Result<i64, Trouble>
 
 #[inline(always)]
 fn difference(a: i64, b: i64) -> Result<i64, Trouble>
-    ensures { valued result ≡ fitting (a -ℤ b) }
+    ensures { valued result ≡ fitting_number (a -ℤ b) }
 {
     match a.checked_sub(b) {
         Some(number) => Ok(number),
@@ -77,7 +77,7 @@ fn difference(a: i64, b: i64) -> Result<i64, Trouble>
 
 #[inline(always)]
 fn product(a: i64, b: i64) -> Result<i64, Trouble>
-    ensures { valued result ≡ fitting (a *ℤ b) }
+    ensures { valued result ≡ fitting_number (a *ℤ b) }
 {
     match a.checked_mul(b) {
         Some(number) => Ok(number),

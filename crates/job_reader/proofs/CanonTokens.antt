@@ -6,7 +6,7 @@ use Rattle.std.specs.List.{list_all}
 use Rattle.std.proofs.lemmas.Bool.{cond-true, cond_both, cases_Bool, and_from, and_parts, eqb-true, le-leb}
 use Rattle.std.proofs.lemmas.List.Folds.{list_all-append}
 use Rattle.swan_model.specs.declared.record.TheConstants.{RECORD_MOST}
-use Rattle.job_reader.specs.Atoms.{as_bytes, as_name, atom, decoded, fitting, literal, name}
+use Rattle.job_reader.specs.Atoms.{as_bytes, as_name, atom, decoded, fitting_literal, literal, name}
 use Rattle.job_reader.specs.CanonicalText.{escaped, literal_text}
 use Rattle.job_reader.specs.Characters.{is_allowed}
 use Rattle.job_reader.specs.declared.fault.JobKind.{JobKind}
@@ -44,7 +44,7 @@ same_of_canon f same token =
     (λ (q : IsLiteral token). ap f q.written ∙ same (flat_map escaped q.bytes ++ 34 ∷ []) q.inside ∙ sym (ap f q.is))
     (canon_cases token)
 
-pub read_inside : (found : Option (List ℕ)) (bytes : List ℕ) → fitting found ≡ Ok bytes → (found ≡ Some bytes) × (nat_le (length bytes) RECORD_MOST ≡ true)
+pub read_inside : (found : Option (List ℕ)) (bytes : List ℕ) → fitting_literal found ≡ Ok bytes → (found ≡ Some bytes) × (nat_le (length bytes) RECORD_MOST ≡ true)
 read_inside (Some other) bytes is = fits_or_not (nat_le (length other) RECORD_MOST) other bytes refl is
   where
     fits_or_not : (b : Bool) (other bytes : List ℕ) → nat_le (length other) RECORD_MOST ≡ b → cond b (Ok other) (Err kind.BadLine) ≡ Ok bytes → (Some other ≡ Some bytes) × (nat_le (length bytes) RECORD_MOST ≡ true)
@@ -56,7 +56,7 @@ allowed_inside : (token inside : List ℕ) → token ≡ 34 ∷ inside → list_
 allowed_inside token inside is allowed = (and_parts (is_allowed 34) (list_all is_allowed inside) (ap (list_all is_allowed) (sym is) ∙ allowed)).1
 
 literal_again : (bytes : List ℕ) → AreBytes bytes → nat_le (length bytes) RECORD_MOST ≡ true → literal (flat_map escaped bytes ++ 34 ∷ []) ≡ Ok bytes
-literal_again bytes are fits = ap fitting (all_decode bytes are) ∙ cond-true (nat_le (length bytes) RECORD_MOST) _ _ fits
+literal_again bytes are fits = ap fitting_literal (all_decode bytes are) ∙ cond-true (nat_le (length bytes) RECORD_MOST) _ _ fits
 
 -- a canonical token is the same atom
 pub atom_same : (token : List ℕ) → list_all is_allowed token ≡ true → atom (canon token) ≡ atom token

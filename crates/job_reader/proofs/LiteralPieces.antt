@@ -5,7 +5,7 @@ use Rattle.std.specs.Char.{digit_value, is_digit}
 use Rattle.std.proofs.lemmas.Bool.{cond-true, cond_both, eqb-true, leb-true, le-leb, or_cases}
 use Rattle.std.proofs.lemmas.Iterator.Adapters.{option_map_id}
 use Rattle.swan_model.specs.declared.record.TheConstants.{RECORD_MOST}
-use Rattle.job_reader.specs.Atoms.{decode, decoded, fitting, literal}
+use Rattle.job_reader.specs.Atoms.{decode, decoded, fitting_literal, literal}
 use Rattle.job_reader.specs.Pieces.{Piece, StandsFor}
 use Rattle.job_reader.specs.Pieces.Piece.{itself, a_backslash, a_quote, a_line_feed, a_tab, by_digits}
 use Rattle.job_reader.specs.Pieces.StandsFor.{closed, piece}
@@ -109,4 +109,4 @@ literal_fits rest bytes is = leb-true (length bytes) RECORD_MOST (read_inside (d
 
 pub literal_only : (rest bytes : List ℕ) → StandsFor rest bytes → length bytes ≤ RECORD_MOST → literal rest ≡ Ok bytes
 literal_only rest bytes is fits =
-    ap fitting (pieces_decoded rest bytes is) ∙ cond-true (nat_le (length bytes) RECORD_MOST) _ _ (le-leb (length bytes) RECORD_MOST fits)
+    ap fitting_literal (pieces_decoded rest bytes is) ∙ cond-true (nat_le (length bytes) RECORD_MOST) _ _ (le-leb (length bytes) RECORD_MOST fits)

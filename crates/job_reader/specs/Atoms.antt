@@ -82,12 +82,12 @@ decoded inside (byte ∷ bytes) =
     and_then (decode inside byte) (λ step. option_map (λ more. option_to_list step.1 ++ more) (decoded step.0 bytes))
 
 -- A literal, by what follows its first quote. It fits a record.
-abbrev pub fitting : Option (List ℕ) → Result (List ℕ) JobKind
-fitting None = Err kind.BadLine
-fitting (Some bytes) = if nat_le (length bytes) RECORD_MOST then Ok bytes else Err kind.BadLine
+abbrev pub fitting_literal : Option (List ℕ) → Result (List ℕ) JobKind
+fitting_literal None = Err kind.BadLine
+fitting_literal (Some bytes) = if nat_le (length bytes) RECORD_MOST then Ok bytes else Err kind.BadLine
 
 abbrev pub literal : List ℕ → Result (List ℕ) JobKind
-literal rest = fitting (decoded Plain rest)
+literal rest = fitting_literal (decoded Plain rest)
 
 -- An atom. A token that begins with a quote is a literal, one that begins with a digit or a minus is a
 -- number, and any other is a name.

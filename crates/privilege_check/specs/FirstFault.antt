@@ -11,7 +11,7 @@ use Rattle.job_reader.specs.declared.fault.JobKind.TheVariants as fault
 use Rattle.job_reader.specs.declared.line.Line.{Line}
 use Rattle.job_reader.specs.declared.line.Line.TheVariants as line
 use Rattle.privilege_check.specs.Names.{Before, after_line, before_first_line, is_main, known, KnownNames}
-use Rattle.privilege_check.specs.Operations.{assignment}
+use Rattle.privilege_check.specs.Operations.{check_assignment}
 use Rattle.privilege_check.specs.Spawns.{spawn}
 use Rattle.privilege_check.specs.Uses.{held, value, variable}
 
@@ -73,7 +73,7 @@ plain names task _ = Ok tt
 -- a line, by what the lines before it say
 abbrev pub check_line : Before → Line → Result (Unit {0}) JobKind
 check_line before (line.Task name) = fresh (before.tasks name)
-check_line before (line.Assign v op atoms) = assignment (known before) v op atoms
+check_line before (line.Assign v op atoms) = check_assignment (known before) v op atoms
 check_line before (line.Spawn fuel task args) = spawn before fuel task args
 check_line before other = plain (known before) before.open_task other
 

@@ -46,5 +46,5 @@ operands names op k [] = Ok tt
 operands names op k (a ∷ more) = value names (first_kind op k) a >>= λ first. values names (later_kind op first) more
 
 -- an assignment: first the variable, and then the atoms
-abbrev pub assignment : KnownNames → List ℕ → Op → List Atom → Result (Unit {0}) JobKind
-assignment names v op atoms = variable names (result_kind op) v >>= λ k. operands names op k atoms
+abbrev pub check_assignment : KnownNames → List ℕ → Op → List Atom → Result (Unit {0}) JobKind
+check_assignment names v op atoms = variable names (result_kind op) v >>= λ k. operands names op k atoms

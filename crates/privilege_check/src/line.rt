@@ -110,7 +110,7 @@ impl Checker<'_> {
         match line {
             Line::Task(name) => self.fresh_task(name)?,
             Line::Assign(variable, op, atoms) => {
-                self.assignment(variable, *op, atoms.as_slice())?;
+                self.check_assignment(variable, *op, atoms.as_slice())?;
             }
             Line::Spawn(fuel, task, args) => self.spawn(fuel, task, args.as_slice())?,
             _ => self.plain(line)?,

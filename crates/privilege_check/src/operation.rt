@@ -2,7 +2,7 @@
 ghost use Rattle.std.specs.Prelude.{◌≡◌};
 ghost use Rattle.privilege_check.specs.Checking.{state_of};
 ghost use Rattle.privilege_check.specs.Names.{known};
-ghost use Rattle.privilege_check.specs.Operations.{assignment, first_kind, later_kind, operands, result_kind, values};
+ghost use Rattle.privilege_check.specs.Operations.{check_assignment, first_kind, later_kind, operands, result_kind, values};
 ghost use Rattle.privilege_check.specs.Uses.{held, value, variable};
 
 use crate::checker::Checker;
@@ -101,8 +101,8 @@ impl Checker<'_> {
     }
 
     /// An assignment: the variable, and then the atoms. `O(atoms · log names)`.
-    pub fn assignment(&self, variable: &Word, op: Op, atoms: &[Atom]) -> Result<(), JobKind>
-        ensures { result ≡ assignment (known (state_of self.now)) variable.now op atoms.now }
+    pub fn check_assignment(&self, variable: &Word, op: Op, atoms: &[Atom]) -> Result<(), JobKind>
+        ensures { result ≡ check_assignment (known (state_of self.now)) variable.now op atoms.now }
     {
         let kind = self.variable(result_kind(op), variable)?;
         self.operands(op, kind, atoms)

@@ -18,9 +18,12 @@ pub fn lend_two<Q: Queues>(
     one: u64,
     two: u64,
 ) -> Result<(), Fail>
+    // queues in which nothing was done, where the table may be called
     requires free { Q.name queues.old ≡ None }
     requires new { Q.state queues.old ≡ new_state }
     requires may { allows_steps new_state steps.now ≡ true }
+
+    // two frames that may have their ends then
     requires one { may_make (after_steps new_state steps.now) one ≡ true }
     requires two { may_make (after_steps new_state steps.now) two ≡ true }
     requires apart { one ≢ two }

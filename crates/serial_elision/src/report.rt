@@ -2,7 +2,7 @@
 ghost use Rattle.std.specs.Prelude.{◌≡◌, ◌++◌, length, codes, OnOk, flat_map};
 ghost use Rattle.std.specs.Fmt.{decimal};
 ghost use Rattle.std.specs.List.{zip};
-ghost use Rattle.swan_model.specs.Texts.{object_line, left_line, fault_line, path_text, kind_text, trouble_text};
+ghost use Rattle.swan_model.specs.Texts.{object_line, left_line, fault_line, path_text, fault_kind_text, trouble_text};
 
 use crate::text::Text;
 use std::alloc::Global;
@@ -126,7 +126,7 @@ fn push_parts(alloc: Global, report: &mut Text, parts: &[u32]) -> Result<(), NoM
 
 /// Adds what was wrong.
 fn push_kind(alloc: Global, report: &mut Text, kind: FaultKind) -> Result<(), NoMemory>
-    ensures { OnOk result (report.new ≡ report.old ++ kind_text kind) }
+    ensures { OnOk result (report.new ≡ report.old ++ fault_kind_text kind) }
 {
     match kind {
         FaultKind::Trouble(trouble) => push_trouble(alloc, report, trouble),

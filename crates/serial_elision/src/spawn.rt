@@ -100,10 +100,13 @@ fn begin<L: Drop>(
     child: Child<L>,
     holdings: Vec<Holding>,
 ) -> Result<Activation<L>, NoMemory>
+    // that the spawn is no fault
     requires paid { HasPaid parent.old }
     requires fuel { child.fuel ≤ parent.old.fuel }
     requires most { length holdings.items ≤ GIVES_MOST }
     requires deep { length parent.old.path < PATH_MOST }
+
+    // the child, and what the spawn leaves of its parent and of the store
     ensures child { IfOk result (λ begun. begun ≡ child_activation parent.old child holdings.items) }
     ensures parent { OnOk result (parent.new ≡ parent_activation parent.old child) }
     ensures store { OnOk result (store.new ≡ record store.old { cells = cells_with_zeros store.old.cells holdings.items }) }

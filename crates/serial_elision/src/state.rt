@@ -49,9 +49,13 @@ impl<L: Drop> State<L> {
         ask: Ask<L>,
     ) -> Result<Effect<L>, NoMemory>
         requires { HasPaid top.old }
+
+        // what comes of it
         ensures effect { IfOk result (λ e.
             IsEffect e top.new self.old.store self.new.store
             (effect self.old.steps self.old.store top.old ask)) }
+
+        // what stays
         ensures path { top.new.path ≡ top.old.path }
         ensures steps { self.new.steps ≡ self.old.steps }
         ensures stack { self.new.stack ≡ self.old.stack }
@@ -72,9 +76,13 @@ impl<L: Drop> State<L> {
         ask: OwnAsk<L>,
     ) -> Result<Effect<L>, NoMemory>
         requires { HasPaid top.old }
+
+        // what comes of it
         ensures effect { IfOk result (λ e.
             IsEffect e top.new self.old.store self.new.store
             (effect self.old.steps self.old.store top.old (as_ask ask))) }
+
+        // what stays
         ensures path { top.new.path ≡ top.old.path }
         ensures steps { self.new.steps ≡ self.old.steps }
         ensures stack { self.new.stack ≡ self.old.stack }

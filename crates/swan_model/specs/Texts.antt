@@ -57,16 +57,16 @@ trouble_text trouble.TooLong = codes "TooLong"
 trouble_text trouble.BadNumber = codes "BadNumber"
 trouble_text (trouble.User number) = codes "User " ++ signed_decimal number
 
-abbrev pub kind_text : FaultKind → List ℕ
-kind_text (kind.Trouble t) = trouble_text t
-kind_text kind.PopEmpty = codes "PopEmpty"
-kind_text kind.Privilege = codes "Privilege"
-kind_text kind.Alias = codes "Alias"
-kind_text kind.Fuel = codes "Fuel"
-kind_text kind.Depth = codes "Depth"
+abbrev pub fault_kind_text : FaultKind → List ℕ
+fault_kind_text (kind.Trouble t) = trouble_text t
+fault_kind_text kind.PopEmpty = codes "PopEmpty"
+fault_kind_text kind.Privilege = codes "Privilege"
+fault_kind_text kind.Alias = codes "Alias"
+fault_kind_text kind.Fuel = codes "Fuel"
+fault_kind_text kind.Depth = codes "Depth"
 
 abbrev pub fault_line : Fault → List ℕ
-fault_line fault = line (codes "fault " ++ path_text fault.path ++ codes " " ++ decimal fault.place ++ codes " " ++ kind_text fault.kind)
+fault_line fault = line (codes "fault " ++ path_text fault.path ++ codes " " ++ decimal fault.place ++ codes " " ++ fault_kind_text fault.kind)
 
 -- the report: the objects, the queues of which the number of items is shown, the number of faults, and the faults
 abbrev pub report_bytes : Names → Outcome → List ℕ

@@ -9,7 +9,7 @@ use Rattle.swan_reducers.specs.declared.join_reducer.JoinReducer.{JoinReducer}
 use Rattle.swan_reducers.specs.declared.join_reducer.TheConstants.{JOIN_MOST}
 use Rattle.swan_reducers.specs.Fold.{fold_of, joined_from}
 use Rattle.swan_reducers.specs.JoinLaws.{fitting_few, fitting_many, join_fitting, joined_not_long}
-use Rattle.swan_reducers.specs.Joins.{all_bytes, fitting, is_too_long, join_end, whole_text}
+use Rattle.swan_reducers.specs.Joins.{all_bytes, fitting_part, is_too_long, join_end, whole_text}
 
 -- no line is the line feed
 abbrev NoFeeds : List (List ℕ) → Type 0
@@ -32,21 +32,21 @@ no_feeds (byte ∷ text) = by_case (nat_eq byte 10) refl (no_feeds text)
     by_case true is none = (refl, none)
     by_case false is none = before_feeds byte (lines text) is none
 
-joins_all : (reducer : JoinReducer) (whole : List ℕ) (ls : List (List ℕ)) → is_too_long whole ≡ false → NoFeeds ls → joined_from ghosts reducer (fitting whole) ls ≡ fitting (whole ++ all_bytes ls)
-joins_all reducer whole [] short none = ap fitting (sym (append-nil whole))
+joins_all : (reducer : JoinReducer) (whole : List ℕ) (ls : List (List ℕ)) → is_too_long whole ≡ false → NoFeeds ls → joined_from ghosts reducer (fitting_part whole) ls ≡ fitting_part (whole ++ all_bytes ls)
+joins_all reducer whole [] short none = ap fitting_part (sym (append-nil whole))
 joins_all reducer whole (line ∷ ls) short none =
     ap (λ v. joined_from ghosts reducer v ls) (join_fitting whole line short none.0)
     ∙ joins_all reducer (whole ++ line) ls (joined_not_long whole line short none.0) none.1
-    ∙ ap fitting (append_assoc whole line (all_bytes ls))
+    ∙ ap fitting_part (append_assoc whole line (all_bytes ls))
 
 all_short : (ls : List (List ℕ)) → NoFeeds ls → is_too_long (all_bytes ls) ≡ false
 all_short [] none = refl
 all_short (line ∷ ls) none = joined_not_long line (all_bytes ls) none.0 (all_short ls none.1)
 
-ends_whole : (bytes : List ℕ) → is_too_long bytes ≡ false → join_end (fitting bytes) ≡ whole_text bytes
+ends_whole : (bytes : List ℕ) → is_too_long bytes ≡ false → join_end (fitting_part bytes) ≡ whole_text bytes
 ends_whole bytes short = by_case (nat_lt JOIN_MOST (length bytes)) refl
   where
-    by_case : (b : Bool) → nat_lt JOIN_MOST (length bytes) ≡ b → join_end (fitting bytes) ≡ whole_text bytes
+    by_case : (b : Bool) → nat_lt JOIN_MOST (length bytes) ≡ b → join_end (fitting_part bytes) ≡ whole_text bytes
     by_case true is =
         let many : JOIN_MOST < length bytes = search (rules, tests) in
         ap join_end (fitting_many bytes many) ∙ sym (ap (λ b. cond b (Err TooLong) (Ok bytes)) is)

@@ -17,14 +17,14 @@ abbrev pub is_join_part : List ℕ → Bool
 is_join_part bytes = nat_le (length bytes) JOIN_MOST
 
 -- bytes, unless there are too many
-abbrev pub fitting : List ℕ → List ℕ
-fitting bytes = if nat_lt JOIN_MOST (length bytes) then too_long else bytes
+abbrev pub fitting_part : List ℕ → List ℕ
+fitting_part bytes = if nat_lt JOIN_MOST (length bytes) then too_long else bytes
 
 abbrev pub line_part : List ℕ → Option (List ℕ)
-line_part line = Some (fitting line)
+line_part line = Some (fitting_part line)
 
 abbrev pub bytes_joined : List ℕ → List ℕ → List ℕ
-bytes_joined left right = if is_too_long left || is_too_long right then too_long else fitting (left ++ right)
+bytes_joined left right = if is_too_long left || is_too_long right then too_long else fitting_part (left ++ right)
 
 -- whether a line makes joined bytes too many
 abbrev pub passes : List ℕ → List ℕ → Bool

@@ -1,7 +1,7 @@
 // The reducer of joins.
 ghost use Rattle.std.specs.Prelude.{◌≡◌, ◌≤◌, [], ◌++◌, true, length, map, IfOk};
 ghost use Rattle.swan_model.specs.Values.{bytes_of};
-ghost use Rattle.swan_reducers.specs.Joins.{bytes_joined, fitting, is_too_long, line_part, passes, too_long};
+ghost use Rattle.swan_reducers.specs.Joins.{bytes_joined, fitting_part, is_too_long, line_part, passes, too_long};
 ghost use Rattle.swan_reducers.specs.LineFolds.{joined_lines};
 
 use crate::{BlockFold, EndAnswer, LineAnswer, Reducer};
@@ -52,7 +52,7 @@ fn too_long(alloc: Global) -> Result<Record, NoMemory>
 fn joined(alloc: Global, left: &[u8], right: &[u8]) -> Result<Record, NoMemory>
     requires left { length left.now ≤ JOIN_MOST }
     requires right { length right.now ≤ JOIN_MOST }
-    ensures { IfOk result (λ part. part ≡ fitting (left.now ++ right.now)) }
+    ensures { IfOk result (λ part. part ≡ fitting_part (left.now ++ right.now)) }
 {
     if left.len() + right.len() > JOIN_MOST {
         return too_long(alloc);

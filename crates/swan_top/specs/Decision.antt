@@ -39,22 +39,22 @@ pub data Next : Type 0 where
   reads : (file : List ℕ) → Next
   settled : Verdict → Next
 
-abbrev pub kind_text : JobKind → List ℕ
-kind_text kind.BadByte = codes "BadByte"
-kind_text kind.BadHeader = codes "BadHeader"
-kind_text kind.BadLine = codes "BadLine"
-kind_text kind.BadName = codes "BadName"
-kind_text kind.BadNumber = codes "BadNumber"
-kind_text kind.Unbalanced = codes "Unbalanced"
-kind_text kind.Limit = codes "Limit"
-kind_text kind.Duplicate = codes "Duplicate"
-kind_text kind.Unknown = codes "Unknown"
-kind_text kind.Kind = codes "Kind"
-kind_text kind.Arity = codes "Arity"
-kind_text kind.Privilege = codes "Privilege"
-kind_text kind.Alias = codes "Alias"
-kind_text kind.NoMain = codes "NoMain"
-kind_text kind.MainParams = codes "MainParams"
+abbrev pub job_kind_text : JobKind → List ℕ
+job_kind_text kind.BadByte = codes "BadByte"
+job_kind_text kind.BadHeader = codes "BadHeader"
+job_kind_text kind.BadLine = codes "BadLine"
+job_kind_text kind.BadName = codes "BadName"
+job_kind_text kind.BadNumber = codes "BadNumber"
+job_kind_text kind.Unbalanced = codes "Unbalanced"
+job_kind_text kind.Limit = codes "Limit"
+job_kind_text kind.Duplicate = codes "Duplicate"
+job_kind_text kind.Unknown = codes "Unknown"
+job_kind_text kind.Kind = codes "Kind"
+job_kind_text kind.Arity = codes "Arity"
+job_kind_text kind.Privilege = codes "Privilege"
+job_kind_text kind.Alias = codes "Alias"
+job_kind_text kind.NoMain = codes "NoMain"
+job_kind_text kind.MainParams = codes "MainParams"
 
 -- A job is accepted where its text has no fault, and then its names, kinds and rights have none.
 abbrev pub unless_fault : List Line → Option JobFault → Result (List Line) JobFault
@@ -69,7 +69,7 @@ abbrev pub accepted : List ℕ → Result (List Line) JobFault
 accepted text = accepted_lines (job_of text)
 
 abbrev pub job_line : JobFault → List ℕ
-job_line fault = codes "refused " ++ (decimal fault.line ++ (codes " " ++ (kind_text fault.kind ++ codes "\n")))
+job_line fault = codes "refused " ++ (decimal fault.line ++ (codes " " ++ (job_kind_text fault.kind ++ codes "\n")))
 
 abbrev pub job_refused : JobFault → Verdict
 job_refused fault = refuses (job_line fault) status.JobRefused

@@ -1,6 +1,6 @@
 // Accepting a job.
 ghost use Rattle.std.specs.Prelude.{◌≡◌, Ok, Err, IfOk, IfErr};
-ghost use Rattle.swan_top.specs.Decision.{accepted, job_line, job_refused, kind_text};
+ghost use Rattle.swan_top.specs.Decision.{accepted, job_line, job_refused, job_kind_text};
 ghost use Rattle.swan_top.specs.Settled.{Stops, IsRefused};
 
 use crate::Status;
@@ -11,8 +11,8 @@ use std::alloc::{AllocError, Global};
 use swan_model::Blob;
 
 // A kind of fault as it is written.
-fn kind_text(kind: JobKind) -> &'static str
-    ensures { result.now ≡ kind_text kind }
+fn job_kind_text(kind: JobKind) -> &'static str
+    ensures { result.now ≡ job_kind_text kind }
 {
     match kind {
         JobKind::BadByte => "BadByte",
@@ -38,13 +38,13 @@ fn refusal_line(alloc: Global, fault: JobFault) -> Result<Blob, AllocError>
     ensures { IfOk result (λ line. line ≡ job_line fault) }
 {
     let line = fault.line;
-    let kind = kind_text(fault.kind);
+    let kind = job_kind_text(fault.kind);
     let text = format!(in alloc; "refused {line} {kind}\n")?;
     Ok(Blob::new(text.into_bytes()))
 }
 
 // A job's refusal.
-fn refuse(alloc: Global, fault: JobFault) -> WhyStopped
+fn refuse_job(alloc: Global, fault: JobFault) -> WhyStopped
     ensures { Stops (λ verdict. verdict ≡ job_refused fault) result }
 {
     match refusal_line(alloc, fault) {
@@ -63,13 +63,13 @@ pub(crate) fn accept(alloc: Global, text: Vec<u8>) -> Result<CheckedJob, WhyStop
 {
     let job = match read_job(alloc, text.as_slice()) {
         Ok(job) => job,
-        Err(ReadJob::Refused(fault)) => return Err(refuse(alloc, fault)),
+        Err(ReadJob::Refused(fault)) => return Err(refuse_job(alloc, fault)),
         Err(ReadJob::NoMemory) => return Err(WhyStopped::NoMemory),
     };
     drop(text);
     match check(alloc, job) {
         Ok(job) => Ok(job),
-        Err(CheckJob::Refused(fault)) => Err(refuse(alloc, fault)),
+        Err(CheckJob::Refused(fault)) => Err(refuse_job(alloc, fault)),
         Err(CheckJob::NoMemory) => Err(WhyStopped::NoMemory),
     }
 }

@@ -34,7 +34,7 @@ fn file_line(mut line: Vec<u8>, what: &str, file: &Word) -> Blob
 }
 
 // Settles that a file can't be read. It takes no memory.
-fn refuse(line: Vec<u8>, what: &str, file: &Word) -> WhyStopped
+fn refuse_read(line: Vec<u8>, what: &str, file: &Word) -> WhyStopped
     requires empty { line.items ≡ [] }
     requires short { length what.now ≤ 12 }
     requires room { 13 + length file.now ≤ vec_capacity line }
@@ -64,8 +64,8 @@ pub(crate) fn read_file<F: Files>(
     let mut text = Vec::new(alloc);
     match files.read(file, &mut text) {
         Ok(()) => Ok(text),
-        Err(ReadAnswer::Failed) => Err(refuse(line, "read failed ", file)),
-        Err(ReadAnswer::TooLong) => Err(refuse(line, "too long ", file)),
+        Err(ReadAnswer::Failed) => Err(refuse_read(line, "read failed ", file)),
+        Err(ReadAnswer::TooLong) => Err(refuse_read(line, "too long ", file)),
         Err(ReadAnswer::NoMemory) => Err(WhyStopped::NoMemory),
     }
 }

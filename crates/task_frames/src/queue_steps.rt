@@ -61,10 +61,13 @@ impl<Q: Queues> Kept<Q> {
         place: u32,
         queue: u32,
     ) -> Result<Step<B>, NoMemory>
+        // how the core and the frame stand
         requires has { HasIt B.Body self.old (asking mid (ask.Pop place)) }
         requires begun { MayBegin self.old mid.task.number }
         requires at { number_at mid.task.holdings place Pop ≡ Some queue }
         requires some { OnActive self.old.state mid.task.number (λ own. OnQueue self.old.name self.old.state queue (FindsItem own)) }
+
+        // what the step comes to
         ensures step { IfOk result (IsStep B.Body self.old self.new mid.task) }
         ensures run { OnOk result (self.new.run ≡ self.old.run) }
     {
@@ -88,10 +91,13 @@ impl<Q: Queues> Kept<Q> {
         place: u32,
         queue: u32,
     ) -> Result<Step<B>, NoMemory>
+        // how the core and the frame stand
         requires has { HasIt B.Body self.old (asking mid (ask.Pop place)) }
         requires begun { MayBegin self.old mid.task.number }
         requires at { number_at mid.task.holdings place Pop ≡ Some queue }
         requires none { OnActive self.old.state mid.task.number (λ own. OnQueue self.old.name self.old.state queue (FindsNone own)) }
+
+        // what the step comes to
         ensures step { IfOk result (IsStep B.Body self.old self.new mid.task) }
         ensures run { OnOk result (self.new.run ≡ self.old.run) }
     {

@@ -19,4 +19,4 @@ returns-in-Err-Refused-clause-refused c =
     let named : fault_of (job_of text) ≡ Some fault = rw (← is_text) first in
     Stops-map (Unit {0}) (Unit {0}) _ _ (λ it. it)
     (λ verdict is. record { fault = fault; first = ap accepted_lines (fault_is (job_of text) fault named); refused = is })
-    c.refuse.result c.refuse.ensures
+    c.refuse_job.result c.refuse_job.ensures

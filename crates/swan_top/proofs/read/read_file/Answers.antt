@@ -6,7 +6,7 @@ pub returns-in-Err-Failed-clause-refused : goal.returns-in-Err-Failed-clause-ref
 returns-in-Err-Failed-clause-refused g c =
     let rose = c.in-Err-Failed.ensures.failed (ap (λ e. Err e) c.in-Err-Failed.field-0-is) in
     let short = c.in-Err-Failed.ensures.no_long_read (λ is. cc) in
-    Stops-map ⊥ _ _ _ (λ never. absurd never) (λ verdict is. inl (is, rose, short)) c.refuse.result c.refuse.ensures
+    Stops-map ⊥ _ _ _ (λ never. absurd never) (λ verdict is. inl (is, rose, short)) c.refuse_read.result c.refuse_read.ensures
 
 pub returns-in-Err-TooLong-clause-refused : goal.returns-in-Err-TooLong-clause-refused
 returns-in-Err-TooLong-clause-refused g c =
@@ -14,4 +14,4 @@ returns-in-Err-TooLong-clause-refused g c =
     let rose = c.in-Err-TooLong.ensures.long is_long in
     let told = c.in-Err-TooLong.ensures.long_where_told is_long in
     let well = c.in-Err-TooLong.ensures.no_fault (λ is. cc) in
-    Stops-map ⊥ _ _ _ (λ never. absurd never) (λ verdict is. inr (is, rose, well, told)) c.refuse-in-Err-TooLong.result c.refuse-in-Err-TooLong.ensures
+    Stops-map ⊥ _ _ _ (λ never. absurd never) (λ verdict is. inr (is, rose, well, told)) c.refuse_read-in-Err-TooLong.result c.refuse_read-in-Err-TooLong.ensures
