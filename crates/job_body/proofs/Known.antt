@@ -9,12 +9,12 @@ use Rattle.job_body.specs.declared.block.BlockWithLine.{BlockWithLine}
 use Rattle.job_body.specs.declared.scope.Scope.{Scope as Known}
 use Rattle.job_body.specs.Blocks.{blocks_after, blocks_at, blocks_from}
 use Rattle.job_body.specs.Compiled.{scope_past, seen_at}
-use Rattle.job_body.specs.Tasks.{Scope, access_name_of, made_of, param_of, roots, scope_after, scope_at, scope_from, top_lines, var_of}
+use Rattle.job_body.specs.Tasks.{TaskSoFar, access_name_of, made_of, param_of, roots, scope_after, scope_at, scope_from, top_lines, var_of}
 use Rattle.privilege_check.specs.Names.{is_main}
 use Rattle.swan_model.proofs.Lists.{take_next}
 
 -- what a scope and open blocks say
-abbrev seen : List (List ℕ) → Scope → List BlockWithLine → Known
+abbrev seen : List (List ℕ) → TaskSoFar → List BlockWithLine → Known
 seen names scope blocks = record {
   roots = names;
   is_main = is_main scope.name;
@@ -25,11 +25,11 @@ seen names scope blocks = record {
   blocks = blocks;
 }
 
-seen-after : (i : ℕ) (names : List (List ℕ)) (scope : Scope) (blocks : List BlockWithLine) (line : Line) → scope_past i (seen names scope blocks) line ≡ seen names (scope_after scope line) (blocks_after i blocks line)
+seen-after : (i : ℕ) (names : List (List ℕ)) (scope : TaskSoFar) (blocks : List BlockWithLine) (line : Line) → scope_past i (seen names scope blocks) line ≡ seen names (scope_after scope line) (blocks_after i blocks line)
 seen-after i names scope blocks (line.Task name) = refl
 seen-after i names scope blocks line = simp (flat_map-append, append-nil)
 
-pub scope-push : (scope : Scope) (lines : List Line) (line : Line) → scope_from scope (lines ++ line ∷ []) ≡ scope_after (scope_from scope lines) line
+pub scope-push : (scope : TaskSoFar) (lines : List Line) (line : Line) → scope_from scope (lines ++ line ∷ []) ≡ scope_after (scope_from scope lines) line
 scope-push scope [] line = refl
 scope-push scope (first ∷ lines) line = scope-push (scope_after scope first) lines line
 

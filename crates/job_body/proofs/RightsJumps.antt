@@ -22,7 +22,7 @@ use Rattle.job_body.specs.Compiled.{scope_past, seen_at}
 use Rattle.job_body.proofs.Known.{seen-next}
 use Rattle.job_body.proofs.RightsEntries.{held_at, made_entry}
 use Rattle.job_body.proofs.RightsNames.{modes}
-use Rattle.job_body.proofs.RightsPlaces.{along, place_at, place-next, placed-from, take-past}
+use Rattle.job_body.proofs.RightsPlaces.{along, position_at, place-next, placed-from, take-past}
 use Rattle.job_body.proofs.RightsStands.{Stands, held-same, is_task, item_of_drop, rest_of_drop, stands_here}
 use Rattle.swan_model.proofs.Lists.{past_none}
 
@@ -108,7 +108,7 @@ outside-blocks job held i blocks (line.Task name) = refl
 outside-blocks job held i blocks line = tt
 
 -- what is held after a line: the same after a statement
-blocks-step : (job : List Line) (i : ℕ) (line : Line) (place : Position) → place_at job i ≡ place → slice_get job i ≡ Some line → may_stand place line ≡ true → BlocksAt place job (modes (held_at job i)) (blocks_at job i) → BlocksAt (positions.after place line) job (modes (held_at job (i + 1))) (blocks_after i (blocks_at job i) line)
+blocks-step : (job : List Line) (i : ℕ) (line : Line) (place : Position) → position_at job i ≡ place → slice_get job i ≡ Some line → may_stand place line ≡ true → BlocksAt place job (modes (held_at job i)) (blocks_at job i) → BlocksAt (positions.after place line) job (modes (held_at job (i + 1))) (blocks_after i (blocks_at job i) line)
 blocks-step job i line First at is stands b = tt
 blocks-step job i line (Top n) at is stands b = opened-blocks job _ n i (blocks_at job i) line
 blocks-step job i line Outside at is stands b = outside-blocks job _ i (blocks_at job i) line
@@ -126,14 +126,14 @@ drop-past xs i h =
     drop_all (i + 1) xs (omega (arith, past)) ∙ sym (drop_all i xs past)
 
 -- the blocks at each line
-pub blocks-stand : (job : List Line) → IsPlaced First job → (i : ℕ) → BlocksAt (place_at job i) job (modes (held_at job i)) (blocks_at job i)
+pub blocks-stand : (job : List Line) → IsPlaced First job → (i : ℕ) → BlocksAt (position_at job i) job (modes (held_at job i)) (blocks_at job i)
 blocks-stand job placed =
-    along job (λ i. BlocksAt (place_at job i) job (modes (held_at job i)) (blocks_at job i)) tt
+    along job (λ i. BlocksAt (position_at job i) job (modes (held_at job i)) (blocks_at job i)) tt
     (λ i past b. rw (take-past job i past, drop-past job i past) b)
     (λ i line is b.
     subst (λ p. BlocksAt p job (modes (held_at job (i + 1))) (blocks_at job (i + 1))) (sym (place-next job i line is))
-    (subst (BlocksAt (positions.after (place_at job i) line) job (modes (held_at job (i + 1)))) (sym (blocks-next job i line is))
-    (blocks-step job i line (place_at job i) refl is (stands_here job i line placed is) b)))
+    (subst (BlocksAt (positions.after (position_at job i) line) job (modes (held_at job (i + 1)))) (sym (blocks-next job i line is))
+    (blocks-step job i line (position_at job i) refl is (stands_here job i line placed is) b)))
 
 -- ---- exits
 
@@ -169,7 +169,7 @@ done-exits job held inside i (line.Task name) exits stands next e = absurd (fals
 done-exits job held inside i line exits stands next e = e
 
 -- the exits of the rest of a task
-exits-step : (job : List Line) (i : ℕ) (line : Line) (lines : List Line) (place : Position) → place_at job i ≡ place → slice_get job i ≡ Some line → may_stand place line ≡ true → ExitsAt (place_at job (i + 1)) job (modes (held_at job (i + 1))) (exits (i + 1) lines) → ExitsAt place job (modes (held_at job i)) (exits_with i line (exits (i + 1) lines))
+exits-step : (job : List Line) (i : ℕ) (line : Line) (lines : List Line) (place : Position) → position_at job i ≡ place → slice_get job i ≡ Some line → may_stand place line ≡ true → ExitsAt (position_at job (i + 1)) job (modes (held_at job (i + 1))) (exits (i + 1) lines) → ExitsAt place job (modes (held_at job i)) (exits_with i line (exits (i + 1) lines))
 exits-step job i line lines First at is stands later = tt
 exits-step job i line lines (Top n) at is stands later = tt
 exits-step job i line lines Outside at is stands later = tt
@@ -178,9 +178,9 @@ exits-step job i line lines (InDo inside) at is stands later =
     let plain = statement inside line stands in
     let held = modes (held_at job i) in
     let same : modes (held_at job (i + 1)) ≡ held = ap modes (held-same job i line is plain.0 plain.1) in
-    let next : place_at job (i + 1) ≡ positions.after_statement inside line = place-next job i line is ∙ ap (λ p. positions.after p line) at in
+    let next : position_at job (i + 1) ≡ positions.after_statement inside line = place-next job i line is ∙ ap (λ p. positions.after p line) at in
     let there : ExitsAt (positions.after_statement inside line) job held (exits (i + 1) lines) =
-    subst (λ p. ExitsAt p job held (exits (i + 1) lines)) next (subst (λ h. ExitsAt (place_at job (i + 1)) job h (exits (i + 1) lines)) same later) in
+    subst (λ p. ExitsAt p job held (exits (i + 1) lines)) next (subst (λ h. ExitsAt (position_at job (i + 1)) job h (exits (i + 1) lines)) same later) in
     done-exits job held inside i line (exits (i + 1) lines) stands
     (λ goes. record { within = ap is_open next ∙ goes; holds = sym same }) there
 
@@ -191,19 +191,19 @@ never-open InTask job held exits e = tt
 never-open (InDo inside) job held exits e = absurd (true≢false e)
 never-open Outside job held exits e = tt
 
-pub exits-stand : (job : List Line) → IsPlaced First job → (lines : List Line) (i : ℕ) → drop i job ≡ lines → ExitsAt (place_at job i) job (modes (held_at job i)) (exits i lines)
+pub exits-stand : (job : List Line) → IsPlaced First job → (lines : List Line) (i : ℕ) → drop i job ≡ lines → ExitsAt (position_at job i) job (modes (held_at job i)) (exits i lines)
 exits-stand job placed [] i rest =
-    never-open (place_at job i) job _ [] (subst (IsPlaced (place_at job i)) rest (placed-from First job i placed))
+    never-open (position_at job i) job _ [] (subst (IsPlaced (position_at job i)) rest (placed-from First job i placed))
 exits-stand job placed (line ∷ lines) i rest =
     let is = item_of_drop job i line lines rest in
-    exits-step job i line lines (place_at job i) refl is (stands_here job i line placed is) (exits-stand job placed lines (i + 1) (rest_of_drop job i line lines rest))
+    exits-step job i line lines (position_at job i) refl is (stands_here job i line placed is) (exits-stand job placed lines (i + 1) (rest_of_drop job i line lines rest))
 
 first-stands : (job : List Line) (held : List Mode) (innermost : Opened) (inside : List Opened) (exits : List Exit) (end : ℕ) → ExitsStand job held (innermost ∷ inside) exits → Stands job (first_exit end exits).otherwise held × Stands job (first_exit end exits).after held
 first-stands job held innermost inside [] end e = absurd e
 first-stands job held innermost inside (exit ∷ exits) end e = (e.0, e.1)
 
 -- how the block goes on that is open after a line
-pub exit-stands : (job : List Line) (i : ℕ) (innermost : Opened) (inside : List Opened) (held : List Mode) → IsPlaced First job → place_at job (i + 1) ≡ InDo (innermost ∷ inside) → modes (held_at job (i + 1)) ≡ held → Stands job (exit_at job i).otherwise held × Stands job (exit_at job i).after held
+pub exit-stands : (job : List Line) (i : ℕ) (innermost : Opened) (inside : List Opened) (held : List Mode) → IsPlaced First job → position_at job (i + 1) ≡ InDo (innermost ∷ inside) → modes (held_at job (i + 1)) ≡ held → Stands job (exit_at job i).otherwise held × Stands job (exit_at job i).after held
 exit-stands job i innermost inside held placed at same =
     first-stands job held innermost inside (exits (i + 1) (drop (i + 1) job)) (length job)
     (subst (λ h. ExitsStand job h (innermost ∷ inside) (exits (i + 1) (drop (i + 1) job))) same

@@ -21,11 +21,11 @@ use Rattle.privilege_check.specs.Names as checks
 use Rattle.privilege_check.specs.Names.{Before, before_first_line, after_declare, after_declare_in, known, known_in, after_open, after_declare_taken, taken_by, with_name, with_taken, is_main}
 use Rattle.privilege_check.specs.declared.declaration.Declaration.{Declaration}
 use Rattle.privilege_check.specs.declared.declaration.Declaration.TheVariants.{Variable, Held}
-use Rattle.job_body.specs.Tasks.{Scope, before_task, scope_after, scope_from, top_lines}
+use Rattle.job_body.specs.Tasks.{TaskSoFar, before_task, scope_after, scope_from, top_lines}
 use Rattle.job_body.proofs.Known.{scope-push}
 use Rattle.job_body.proofs.RightsNames.{Entry, mode_known, mode_of, declared-held, declared-variable}
 use Rattle.job_body.proofs.RightsEntries.{access_entry, made_entry, root_queue_entry, root_object_entry, root_entries, roots_held, entries, entries-more, root_entries-more, access-between, made-between, none-between}
-use Rattle.job_body.proofs.RightsPlaces.{place_from, before_from, place-push, before-push, Passes, line-at, along, take-past}
+use Rattle.job_body.proofs.RightsPlaces.{position_from, before_from, place-push, before-push, Passes, line-at, along, take-past}
 use Rattle.swan_model.proofs.Lists.{drop_next, take_next}
 
 -- at the top level
@@ -35,12 +35,12 @@ pub record KnownAtTop (done : List Line) (before : Before) : Type 0 where
   pub top : (name : List ℕ) → mode_of (root_entries done) name ≡ mode_known (before.top name)
 
 -- in a task, and after one
-pub record KnownInTask (job : List Line) (scope : Scope) (before : Before) : Type 0 where
+pub record KnownInTask (job : List Line) (scope : TaskSoFar) (before : Before) : Type 0 where
   pub task : before.open_task ≡ Some scope.name
   pub top : (name : List ℕ) → mode_of (root_entries (top_lines job)) name ≡ mode_known (before.top name)
   pub names : (name : List ℕ) → mode_of (entries job scope) name ≡ mode_known (known before name)
 
-abbrev pub KnownAt : Position → List Line → List Line → Scope → Before → Type 0
+abbrev pub KnownAt : Position → List Line → List Line → TaskSoFar → Before → Type 0
 KnownAt First job done scope before = KnownAtTop done before
 KnownAt (Top inputs_left) job done scope before = KnownAtTop done before
 KnownAt _ job done scope before = KnownInTask job scope before
@@ -154,11 +154,11 @@ top-none done line queue object =
     ∙ ap (λ es. (flat_map root_queue_entry done ++ []) ++ (flat_map root_object_entry done ++ es)) object
     ∙ none-between [] (flat_map root_queue_entry done) (flat_map root_object_entry done)
 
-top-first : (job done : List Line) (scope : Scope) (before : Before) (line : Line) → IsTrue (may_stand First line) → KnownAtTop done before → KnownAtTop (done ++ line ∷ []) (checks.after_line before line)
+top-first : (job done : List Line) (scope : TaskSoFar) (before : Before) (line : Line) → IsTrue (may_stand First line) → KnownAtTop done before → KnownAtTop (done ++ line ∷ []) (checks.after_line before line)
 top-first job done scope before line.Header stands k = top-quiet done before line.Header (top-none done line.Header refl refl) (λ rest. refl) k
 top-first job done scope before line stands k = absurd (false≢true stands)
 
-top-step : (job done rest : List Line) (n : ℕ) (scope : Scope) (before : Before) (line : Line) → job ≡ done ++ line ∷ rest → IsTrue (may_stand (Top n) line) → check_line before line ≡ Ok tt → KnownAtTop done before → KnownAt (positions.after (Top n) line) job (done ++ line ∷ []) (scope_after scope line) (checks.after_line before line)
+top-step : (job done rest : List Line) (n : ℕ) (scope : TaskSoFar) (before : Before) (line : Line) → job ≡ done ++ line ∷ rest → IsTrue (may_stand (Top n) line) → check_line before line ≡ Ok tt → KnownAtTop done before → KnownAt (positions.after (Top n) line) job (done ++ line ∷ []) (scope_after scope line) (checks.after_line before line)
 top-step job done rest n scope before (line.Note text) whole stands passes k =
     top-quiet done before (line.Note text) (top-none done (line.Note text) refl refl) (λ more. refl) k
 top-step job done rest n scope before (line.Input name) whole stands passes k =
@@ -181,10 +181,10 @@ top-step job done rest n scope before line whole stands passes k = absurd (false
 
 -- ---- lines of a task
 
-abbrev more_lines : Scope → Line → Scope
+abbrev more_lines : TaskSoFar → Line → TaskSoFar
 more_lines scope line = record { name = scope.name; lines = scope.lines ++ line ∷ [] }
 
-task-none : (job : List Line) (scope : Scope) (line : Line) → access_entry line ≡ [] → made_entry line ≡ [] → entries job (more_lines scope line) ≡ entries job scope
+task-none : (job : List Line) (scope : TaskSoFar) (line : Line) → access_entry line ≡ [] → made_entry line ≡ [] → entries job (more_lines scope line) ≡ entries job scope
 task-none job scope line access made =
     let first = roots_held job scope.name in
     let second = flat_map access_entry scope.lines in
@@ -195,7 +195,7 @@ task-none job scope line access made =
     ∙ none-between first second third
 
 -- a line that declares nothing
-task-quiet : (job : List Line) (scope : Scope) (before : Before) (line : Line) → access_entry line ≡ [] → made_entry line ≡ [] → KnownInTask job scope before → KnownInTask job (more_lines scope line) before
+task-quiet : (job : List Line) (scope : TaskSoFar) (before : Before) (line : Line) → access_entry line ≡ [] → made_entry line ≡ [] → KnownInTask job scope before → KnownInTask job (more_lines scope line) before
 task-quiet job scope before line access made k =
     record {
       task = k.task;
@@ -204,7 +204,7 @@ task-quiet job scope before line access made k =
     }
 
 -- a line that declares a variable
-task-variable : (job : List Line) (scope : Scope) (before after : Before) (line : Line) (name : List ℕ) (meaning : Declaration) → access_entry line ≡ [] → made_entry line ≡ [] → mode_known (Some meaning) ≡ None → fresh (known before name) ≡ Ok tt → Declares before after name meaning → KnownInTask job scope before → KnownInTask job (more_lines scope line) after
+task-variable : (job : List Line) (scope : TaskSoFar) (before after : Before) (line : Line) (name : List ℕ) (meaning : Declaration) → access_entry line ≡ [] → made_entry line ≡ [] → mode_known (Some meaning) ≡ None → fresh (known before name) ≡ Ok tt → Declares before after name meaning → KnownInTask job scope before → KnownInTask job (more_lines scope line) after
 task-variable job scope before after line name meaning access made variable is_fresh d k =
     record {
       task = d.task ∙ k.task;
@@ -215,7 +215,7 @@ task-variable job scope before after line name meaning access made variable is_f
     }
 
 -- a line that declares something held
-task-held : (job : List Line) (scope : Scope) (before after : Before) (line : Line) (name : List ℕ) (mode : Mode) (meaning : Declaration) (first second : List Entry)
+task-held : (job : List Line) (scope : TaskSoFar) (before after : Before) (line : Line) (name : List ℕ) (mode : Mode) (meaning : Declaration) (first second : List Entry)
     → mode_known (Some meaning) ≡ Some mode
     → entries job scope ≡ first ++ second
     → entries job (more_lines scope line) ≡ first ++ (name, mode) ∷ second
@@ -232,7 +232,7 @@ task-held job scope before after line name mode meaning first second held old ne
     }
 
 -- a line that makes a queue or an object
-task-makes : (job : List Line) (scope : Scope) (before : Before) (line : Line) (name : List ℕ) (mode : Mode) (meaning : Declaration) → access_entry line ≡ [] → made_entry line ≡ (name, mode) ∷ [] → mode_known (Some meaning) ≡ Some mode → fresh (known before name) ≡ Ok tt → KnownInTask job scope before → KnownInTask job (more_lines scope line) (after_declare name meaning before)
+task-makes : (job : List Line) (scope : TaskSoFar) (before : Before) (line : Line) (name : List ℕ) (mode : Mode) (meaning : Declaration) → access_entry line ≡ [] → made_entry line ≡ (name, mode) ∷ [] → mode_known (Some meaning) ≡ Some mode → fresh (known before name) ≡ Ok tt → KnownInTask job scope before → KnownInTask job (more_lines scope line) (after_declare name meaning before)
 task-makes job scope before line name mode meaning access made held is_fresh k =
     let first = roots_held job scope.name in
     let second = flat_map access_entry scope.lines in
@@ -244,7 +244,7 @@ task-makes job scope before line name mode meaning access made held is_fresh k =
     ∙ made-between first second third (name, mode) in
     task-held job scope before (after_declare name meaning before) line name mode meaning (entries job scope) [] held (sym (append-nil (entries job scope))) new is_fresh (declares-declared before scope.name name meaning k.task) k
 
-task-takes : (job : List Line) (scope : Scope) (before : Before) (name : List ℕ) (mode : Mode) (kind : Kind) → fresh (known before name) ≡ Ok tt → KnownInTask job scope before → KnownInTask job (more_lines scope (line.Access mode name kind)) (after_declare_taken name (Held mode kind) before)
+task-takes : (job : List Line) (scope : TaskSoFar) (before : Before) (name : List ℕ) (mode : Mode) (kind : Kind) → fresh (known before name) ≡ Ok tt → KnownInTask job scope before → KnownInTask job (more_lines scope (line.Access mode name kind)) (after_declare_taken name (Held mode kind) before)
 task-takes job scope before name mode kind is_fresh k =
     let first = roots_held job scope.name in
     let second = flat_map access_entry scope.lines in
@@ -252,7 +252,7 @@ task-takes job scope before name mode kind is_fresh k =
     task-held job scope before (after_declare_taken name (Held mode kind) before) (line.Access mode name kind) name mode (Held mode kind) (first ++ second) third refl (sym (append_assoc first second third))
     (entries-more job scope (line.Access mode name kind) ∙ access-between first second third (name, mode)) is_fresh (declares-taken before scope.name name (Held mode kind) k.task) k
 
-task-step : (job done : List Line) (scope : Scope) (before : Before) (line : Line) → IsTrue (may_stand InTask line) → check_line before line ≡ Ok tt → KnownInTask job scope before → KnownAt (positions.after InTask line) job (done ++ line ∷ []) (scope_after scope line) (checks.after_line before line)
+task-step : (job done : List Line) (scope : TaskSoFar) (before : Before) (line : Line) → IsTrue (may_stand InTask line) → check_line before line ≡ Ok tt → KnownInTask job scope before → KnownAt (positions.after InTask line) job (done ++ line ∷ []) (scope_after scope line) (checks.after_line before line)
 task-step job done scope before (line.Note text) stands passes k = task-quiet job scope before (line.Note text) refl refl k
 task-step job done scope before (line.Param name kind) stands passes k =
     task-variable job scope before (after_declare_taken name (Variable kind) before) (line.Param name kind) name (Variable kind) refl refl refl (first_of_two (fresh (known before name)) _ tt passes) (declares-taken before scope.name name (Variable kind) k.task) k
@@ -268,7 +268,7 @@ task-step job done scope before line.Do stands passes k = task-quiet job scope b
 task-step job done scope before line stands passes k = absurd (false≢true stands)
 
 -- a statement declares nothing
-do-quiet : (blocks : List Block) (scope : Scope) (before : Before) (line : Line) → IsTrue (may_stand (InDo blocks) line) → (access_entry line ≡ []) × (made_entry line ≡ []) × (scope_after scope line ≡ more_lines scope line) × (checks.after_line before line ≡ before)
+do-quiet : (blocks : List Block) (scope : TaskSoFar) (before : Before) (line : Line) → IsTrue (may_stand (InDo blocks) line) → (access_entry line ≡ []) × (made_entry line ≡ []) × (scope_after scope line ≡ more_lines scope line) × (checks.after_line before line ≡ before)
 do-quiet blocks scope before line.Header stands = absurd (false≢true stands)
 do-quiet blocks scope before (line.Input name) stands = absurd (false≢true stands)
 do-quiet blocks scope before (line.Output name kind) stands = absurd (false≢true stands)
@@ -281,26 +281,26 @@ do-quiet blocks scope before (line.Queue name kind) stands = absurd (false≢tru
 do-quiet blocks scope before line.Do stands = absurd (false≢true stands)
 do-quiet blocks scope before line stands = (refl, refl, refl, refl)
 
-after-do : (blocks : List Block) (line : Line) (job done : List Line) (scope : Scope) (before : Before) → KnownInTask job scope before → KnownAt (positions.after_statement blocks line) job done scope before
+after-do : (blocks : List Block) (line : Line) (job done : List Line) (scope : TaskSoFar) (before : Before) → KnownInTask job scope before → KnownAt (positions.after_statement blocks line) job done scope before
 after-do [] line.Else job done scope before k = k
 after-do (innermost ∷ blocks) line.Else job done scope before k = k
 after-do [] line.End job done scope before k = k
 after-do (innermost ∷ blocks) line.End job done scope before k = k
 after-do blocks line job done scope before k = k
 
-do-step : (job done : List Line) (blocks : List Block) (scope : Scope) (before : Before) (line : Line) → IsTrue (may_stand (InDo blocks) line) → KnownInTask job scope before → KnownAt (positions.after (InDo blocks) line) job (done ++ line ∷ []) (scope_after scope line) (checks.after_line before line)
+do-step : (job done : List Line) (blocks : List Block) (scope : TaskSoFar) (before : Before) (line : Line) → IsTrue (may_stand (InDo blocks) line) → KnownInTask job scope before → KnownAt (positions.after (InDo blocks) line) job (done ++ line ∷ []) (scope_after scope line) (checks.after_line before line)
 do-step job done blocks scope before line stands k =
     let quiet = do-quiet blocks scope before line stands in
     let after = after-do blocks line job (done ++ line ∷ []) (more_lines scope line) before (task-quiet job scope before line quiet.0 quiet.1 k) in
     subst (λ s. KnownAt (positions.after (InDo blocks) line) job (done ++ line ∷ []) s (checks.after_line before line)) (sym quiet.2)
     (subst (λ b. KnownAt (positions.after (InDo blocks) line) job (done ++ line ∷ []) (more_lines scope line) b) (sym quiet.3) after)
 
-outside-step : (job done : List Line) (scope : Scope) (before : Before) (line : Line) → IsTrue (may_stand Outside line) → KnownInTask job scope before → KnownAt (positions.after Outside line) job (done ++ line ∷ []) (scope_after scope line) (checks.after_line before line)
+outside-step : (job done : List Line) (scope : TaskSoFar) (before : Before) (line : Line) → IsTrue (may_stand Outside line) → KnownInTask job scope before → KnownAt (positions.after Outside line) job (done ++ line ∷ []) (scope_after scope line) (checks.after_line before line)
 outside-step job done scope before (line.Note text) stands k = task-quiet job scope before (line.Note text) refl refl k
 outside-step job done scope before (line.Task name) stands k = opens job before name k.top
 outside-step job done scope before line stands k = absurd (false≢true stands)
 
-known-step : (job done rest : List Line) (place : Position) (scope : Scope) (before : Before) (line : Line) → job ≡ done ++ line ∷ rest → IsTrue (may_stand place line) → check_line before line ≡ Ok tt → KnownAt place job done scope before → KnownAt (positions.after place line) job (done ++ line ∷ []) (scope_after scope line) (checks.after_line before line)
+known-step : (job done rest : List Line) (place : Position) (scope : TaskSoFar) (before : Before) (line : Line) → job ≡ done ++ line ∷ rest → IsTrue (may_stand place line) → check_line before line ≡ Ok tt → KnownAt place job done scope before → KnownAt (positions.after place line) job (done ++ line ∷ []) (scope_after scope line) (checks.after_line before line)
 known-step job done rest First scope before line whole stands passes k = top-first job done scope before line stands k
 known-step job done rest (Top n) scope before line whole stands passes k = top-step job done rest n scope before line whole stands passes k
 known-step job done rest InTask scope before line whole stands passes k = task-step job done scope before line stands passes k
@@ -309,16 +309,16 @@ known-step job done rest Outside scope before line whole stands passes k = outsi
 
 -- what is known after some lines of a job
 abbrev pub KnownAfter : List Line → List Line → Type 0
-KnownAfter job done = KnownAt (place_from First done) job done (scope_from (record { name = []; lines = [] }) done) (before_from before_first_line done)
+KnownAfter job done = KnownAt (position_from First done) job done (scope_from (record { name = []; lines = [] }) done) (before_from before_first_line done)
 
-known-more : (job done rest : List Line) (line : Line) → job ≡ done ++ line ∷ rest → IsTrue (may_stand (place_from First done) line) → check_line (before_from before_first_line done) line ≡ Ok tt → KnownAfter job done → KnownAfter job (done ++ line ∷ [])
+known-more : (job done rest : List Line) (line : Line) → job ≡ done ++ line ∷ rest → IsTrue (may_stand (position_from First done) line) → check_line (before_from before_first_line done) line ≡ Ok tt → KnownAfter job done → KnownAfter job (done ++ line ∷ [])
 known-more job done rest line whole stands passes k =
-    let start : Scope = record { name = []; lines = [] } in
-    let next = known-step job done rest (place_from First done) (scope_from start done) (before_from before_first_line done) line whole stands passes k in
+    let start : TaskSoFar = record { name = []; lines = [] } in
+    let next = known-step job done rest (position_from First done) (scope_from start done) (before_from before_first_line done) line whole stands passes k in
     let all = done ++ line ∷ [] in
     subst (λ p. KnownAt p job all (scope_from start all) (before_from before_first_line all)) (sym (place-push First done line))
-    (subst (λ s. KnownAt (positions.after (place_from First done) line) job all s (before_from before_first_line all)) (sym (scope-push start done line))
-    (subst (λ b. KnownAt (positions.after (place_from First done) line) job all (scope_after (scope_from start done) line) b) (sym (before-push before_first_line done line)) next))
+    (subst (λ s. KnownAt (positions.after (position_from First done) line) job all s (before_from before_first_line all)) (sym (scope-push start done line))
+    (subst (λ b. KnownAt (positions.after (position_from First done) line) job all (scope_after (scope_from start done) line) b) (sym (before-push before_first_line done line)) next))
 
 -- what is known at each line of a job that passes the check
 pub known-at : (job : List Line) → IsPlaced First job → Passes before_first_line job → (i : ℕ) → KnownAfter job (take i job)

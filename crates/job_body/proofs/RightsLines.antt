@@ -24,11 +24,11 @@ use Rattle.privilege_check.specs.Spawns.{arguments, as_child, is_lent_twice, len
 use Rattle.privilege_check.specs.Uses.{value}
 use Rattle.privilege_check.specs.declared.declaration.Declaration.{Declaration}
 use Rattle.job_body.specs.Steps as steps
-use Rattle.job_body.specs.Tasks.{Scope, before_task, scope_at, task_index, top_lines}
+use Rattle.job_body.specs.Tasks.{TaskSoFar, before_task, scope_at, task_index, top_lines}
 use Rattle.job_body.proofs.RightsEntries.{access_entry, entries, held_at, held_with, made_entry, names-entries, root_entries, roots_held}
 use Rattle.job_body.proofs.RightsKnown.{KnownAt, KnownInTask, known-at}
 use Rattle.job_body.proofs.RightsNames.{mode_known, mode_of, modes, position}
-use Rattle.job_body.proofs.RightsPlaces.{Passes, before_at, before_from, passes-from, place_at, place-next, placed-from, scope-next}
+use Rattle.job_body.proofs.RightsPlaces.{Passes, before_at, before_from, passes-from, position_at, place-next, placed-from, scope-next}
 use Rattle.job_body.proofs.RightsStands.{Stands, stands_here}
 use Rattle.job_body.proofs.RightsTasks.{IsTaskAt, held_modes, kept, learnt, meaning_of, meanings, modes-meanings, task-found, bind-parts}
 
@@ -117,7 +117,7 @@ takes-nothing (line ∷ lines) Outside past placed = absurd (false≢true placed
 
 pub record IsStatementAt (job : List Line) (i : ℕ) (held : List Mode) : Type 0 where
   pub inside : List Opened
-  pub at : place_at job i ≡ InDo inside
+  pub at : position_at job i ≡ InDo inside
   pub task : (before_at job i).open_task ≡ Some (scope_at job i).name
   pub names : (query : List ℕ) → mode_of (entries job (scope_at job i)) query ≡ mode_known (known (before_at job i) query)
   pub holds : held ≡ modes (entries job (scope_at job i))
@@ -132,7 +132,7 @@ held-statement job i none =
 
 pub statement-at : (job : List Line) → IsPlaced First job → Passes before_first_line job → (i : ℕ) (line : Line) (held : List Mode) → slice_get job i ≡ Some line → Stands job i held → is_statement line ≡ true → IsStatementAt job i held
 statement-at job placed passes i line held is at e =
-    let doing = in-do (place_at job i) line at.within (stands_here job i line placed is) e in
+    let doing = in-do (position_at job i) line at.within (stands_here job i line placed is) e in
     let here : IsPlaced (InDo doing.0) (drop i job) = subst (λ p. IsPlaced p (drop i job)) doing.1 (placed-from First job i placed) in
     let nothing = takes-nothing (drop i job) (InDo doing.0) refl here in
     let known_here : KnownInTask job (scope_at job i) (before_at job i) = subst (λ p. KnownAt p job (take i job) (scope_at job i) (before_at job i)) doing.1 (known-at job placed passes i) in
@@ -221,9 +221,9 @@ opens-task Outside name stands = refl
 -- a task begins with what the top level lends it and with what it takes
 pub task-stands : (job : List Line) → IsPlaced First job → (index : ℕ) (name : List ℕ) (taken : List Declaration) → IsTaskAt job index name taken → Stands job (index + 1) (modes (roots_held job name) ++ held_modes taken)
 task-stands job placed index name taken at =
-    let opened : Scope = record { name = name; lines = [] } in
-    let within : place_at job (index + 1) ≡ InTask =
-    place-next job index (line.Task name) at.at ∙ opens-task (place_at job index) name (stands_here job index (line.Task name) placed at.at) in
+    let opened : TaskSoFar = record { name = name; lines = [] } in
+    let within : position_at job (index + 1) ≡ InTask =
+    place-next job index (line.Task name) at.at ∙ opens-task (position_at job index) name (stands_here job index (line.Task name) placed at.at) in
     let access = flat_map access_entry (before_task (drop (index + 1) job)) in
     let here : held_at job (index + 1) ≡ roots_held job name ++ access =
     ap (λ scope. held_with job scope (drop (index + 1) job)) (scope-next job index (line.Task name) at.at)

@@ -13,17 +13,17 @@ use Rattle.job_body.proofs.Known.{scope-push}
 use Rattle.swan_model.proofs.Lists.{drop_next, take_next, past_none}
 
 -- the place after lines, and what they say
-abbrev pub place_from : Position → List Line → Position
-place_from place [] = place
-place_from place (line ∷ lines) = place_from (positions.after place line) lines
+abbrev pub position_from : Position → List Line → Position
+position_from place [] = place
+position_from place (line ∷ lines) = position_from (positions.after place line) lines
 
 abbrev pub before_from : Before → List Line → Before
 before_from before [] = before
 before_from before (line ∷ lines) = before_from (checks.after_line before line) lines
 
 -- the place at an index, and what the lines before it say
-abbrev pub place_at : List Line → ℕ → Position
-place_at job i = place_from First (take i job)
+abbrev pub position_at : List Line → ℕ → Position
+position_at job i = position_from First (take i job)
 
 abbrev pub before_at : List Line → ℕ → Before
 before_at job i = before_from before_first_line (take i job)
@@ -35,7 +35,7 @@ Passes before (line ∷ lines) = (check_line before line ≡ Ok tt) × Passes (c
 
 -- what is known of the line at an index
 pub record IsLineAt (job : List Line) (i : ℕ) (line : Line) : Type 0 where
-  pub stands : IsTrue (may_stand (place_at job i) line)
+  pub stands : IsTrue (may_stand (position_at job i) line)
   pub passes : check_line (before_at job i) line ≡ Ok tt
 
 -- ---- one line more
@@ -45,7 +45,7 @@ take-past xs i h =
     let past = past_none xs i h in
     take_all (i + 1) xs (omega (arith, past)) ∙ sym (take_all i xs past)
 
-pub place-push : (place : Position) (lines : List Line) (line : Line) → place_from place (lines ++ line ∷ []) ≡ positions.after (place_from place lines) line
+pub place-push : (place : Position) (lines : List Line) (line : Line) → position_from place (lines ++ line ∷ []) ≡ positions.after (position_from place lines) line
 place-push place [] line = refl
 place-push place (first ∷ lines) line = place-push (positions.after place first) lines line
 
@@ -53,8 +53,8 @@ pub before-push : (before : Before) (lines : List Line) (line : Line) → before
 before-push before [] line = refl
 before-push before (first ∷ lines) line = before-push (checks.after_line before first) lines line
 
-pub place-next : (job : List Line) (i : ℕ) (line : Line) → slice_get job i ≡ Some line → place_at job (i + 1) ≡ positions.after (place_at job i) line
-place-next job i line h = ap (place_from First) (take_next job i line h) ∙ place-push First (take i job) line
+pub place-next : (job : List Line) (i : ℕ) (line : Line) → slice_get job i ≡ Some line → position_at job (i + 1) ≡ positions.after (position_at job i) line
+place-next job i line h = ap (position_from First) (take_next job i line h) ∙ place-push First (take i job) line
 
 pub scope-next : (job : List Line) (i : ℕ) (line : Line) → slice_get job i ≡ Some line → scope_at job (i + 1) ≡ scope_after (scope_at job i) line
 scope-next job i line h = ap (scope_from (record { name = []; lines = [] })) (take_next job i line h) ∙ scope-push _ (take i job) line
@@ -69,7 +69,7 @@ along job P first past more (suc i) = rw⁻¹ add-one (go (slice_get job i) refl
 
 -- ---- the rest of a job
 
-pub placed-from : (place : Position) (lines : List Line) (i : ℕ) → IsPlaced place lines → IsPlaced (place_from place (take i lines)) (drop i lines)
+pub placed-from : (place : Position) (lines : List Line) (i : ℕ) → IsPlaced place lines → IsPlaced (position_from place (take i lines)) (drop i lines)
 placed-from place lines zero placed = placed
 placed-from place [] (suc i) placed = placed
 placed-from place (line ∷ lines) (suc i) placed = placed-from (positions.after place line) lines i placed.1
@@ -83,6 +83,6 @@ pub line-at : (job : List Line) (i : ℕ) (line : Line) → IsPlaced First job �
 line-at job i line placed passes h =
     let next = drop_next job i line h in
     record {
-      stands = (subst (IsPlaced (place_at job i)) next (placed-from First job i placed)).0;
+      stands = (subst (IsPlaced (position_at job i)) next (placed-from First job i placed)).0;
       passes = (subst (Passes (before_at job i)) next (passes-from before_first_line job i passes)).0;
     }

@@ -23,7 +23,7 @@ use Rattle.privilege_check.specs.Uses.{as_held, held, is_asked, is_same_sort}
 use Rattle.privilege_check.specs.declared.declaration.Declaration.{Declaration}
 use Rattle.privilege_check.specs.declared.declaration.Declaration.TheVariants.{Variable, Held}
 use Rattle.job_body.specs.Standing.{Standing}
-use Rattle.job_body.specs.Steps.{give_of, place_at}
+use Rattle.job_body.specs.Steps.{access_given, place_at}
 use Rattle.job_body.proofs.RightsNames.{Entry, mode_at, mode_known, mode_of, modes, name_at, names, position}
 use Rattle.job_body.proofs.RightsTasks.{held_modes, take_of_meaning, bind-parts}
 use Rattle.swan_model.proofs.Uses.{same_kind}
@@ -119,7 +119,7 @@ lent-may entries known names (Held mode k ∷ taken) (atom.Name name ∷ args) e
     let parts = bind-parts (held known (Some k) mode name) (arguments known taken args) e in
     (held-may entries known (Some k) mode name parts.0.0 names parts.0.1, lent-may entries known names taken args parts.1)
 
-pub gives-lent : (job : List Line) (s : Standing) (known : KnownNames) (taken : List Declaration) (args : List Atom) → arguments known taken args ≡ Ok tt → flat_map (give_of job s) (zip (map take_of_meaning taken) args) ≡ map (to_give job s.at) (lent taken args)
+pub gives-lent : (job : List Line) (s : Standing) (known : KnownNames) (taken : List Declaration) (args : List Atom) → arguments known taken args ≡ Ok tt → flat_map (access_given job s) (zip (map take_of_meaning taken) args) ≡ map (to_give job s.at) (lent taken args)
 gives-lent job s known [] args e = refl
 gives-lent job s known (t ∷ taken) [] e = refl
 gives-lent job s known (Variable k ∷ taken) (a ∷ args) e =

@@ -10,15 +10,15 @@ use Rattle.job_reader.specs.declared.line.Line.{Line}
 use Rattle.job_reader.specs.declared.line.Line.TheVariants as line
 use Rattle.job_reader.specs.declared.position.Position.{Position}
 use Rattle.job_reader.specs.declared.position.Position.TheVariants.{First, Top, InTask, InDo, Outside}
-use Rattle.job_body.specs.Tasks.{Scope, before_task, executed_from, is_executed, passed_over, scope_after, scope_at}
+use Rattle.job_body.specs.Tasks.{TaskSoFar, before_task, executed_from, is_executed, passed_over, scope_after, scope_at}
 use Rattle.job_body.proofs.RightsEntries.{access_entry, made_entry, roots_held, held_at, held_with, flat-more}
 use Rattle.job_body.proofs.RightsNames.{Entry, modes}
-use Rattle.job_body.proofs.RightsPlaces.{place_at, place-next, placed-from, scope-next}
+use Rattle.job_body.proofs.RightsPlaces.{position_at, place-next, placed-from, scope-next}
 use Rattle.swan_model.proofs.Lists.{drop_next, get-drop, same_parts}
 
 -- an activation that holds by these modes may stand at a line: in a task, with what is held there
 pub record Stands (job : List Line) (i : ℕ) (held : List Mode) : Type 0 where
-  pub within : is_open (place_at job i) ≡ true
+  pub within : is_open (position_at job i) ≡ true
   pub holds : held ≡ modes (held_at job i)
 
 abbrev pub is_task : Line → Bool
@@ -27,7 +27,7 @@ is_task _ = false
 
 -- ---- one line more
 
-scope-plain : (scope : Scope) (line : Line) → is_task line ≡ false → scope_after scope line ≡ record { name = scope.name; lines = scope.lines ++ line ∷ [] }
+scope-plain : (scope : TaskSoFar) (line : Line) → is_task line ≡ false → scope_after scope line ≡ record { name = scope.name; lines = scope.lines ++ line ∷ [] }
 scope-plain scope (line.Task name) e = absurd (true≢false e)
 scope-plain scope line e = refl
 
@@ -41,7 +41,7 @@ held-list first second access third made last =
     ∙ ap (λ es. first ++ es) (sym (append_assoc (second ++ (access ++ third)) made last))
     ∙ sym (append_assoc first ((second ++ (access ++ third)) ++ made) last)
 
-held-more : (job : List Line) (scope : Scope) (line : Line) (rest : List Line) → is_task line ≡ false → held_with job (record { name = scope.name; lines = scope.lines ++ line ∷ [] }) rest ≡ held_with job scope (line ∷ rest) ++ made_entry line
+held-more : (job : List Line) (scope : TaskSoFar) (line : Line) (rest : List Line) → is_task line ≡ false → held_with job (record { name = scope.name; lines = scope.lines ++ line ∷ [] }) rest ≡ held_with job scope (line ∷ rest) ++ made_entry line
 held-more job scope line rest plain =
     let first = roots_held job scope.name in
     let second = flat_map access_entry scope.lines in
@@ -63,7 +63,7 @@ held-same job i line is plain none =
     held-next job i line is plain ∙ ap (λ es. held_at job i ++ es) none ∙ append-nil (held_at job i)
 
 -- the next line, after one that makes nothing
-pub stands-on : (job : List Line) (i : ℕ) (line : Line) (held : List Mode) → slice_get job i ≡ Some line → is_task line ≡ false → made_entry line ≡ [] → is_open (positions.after (place_at job i) line) ≡ true → Stands job i held → Stands job (i + 1) held
+pub stands-on : (job : List Line) (i : ℕ) (line : Line) (held : List Mode) → slice_get job i ≡ Some line → is_task line ≡ false → made_entry line ≡ [] → is_open (positions.after (position_at job i) line) ≡ true → Stands job i held → Stands job (i + 1) held
 stands-on job i line held is plain none within at =
     record {
       within = ap is_open (place-next job i line is) ∙ within;
@@ -71,7 +71,7 @@ stands-on job i line held is plain none within at =
     }
 
 -- the next line, after one that makes a queue or an object
-pub stands-made : (job : List Line) (i : ℕ) (line : Line) (held : List Mode) (name : List ℕ) (mode : Mode) → slice_get job i ≡ Some line → is_task line ≡ false → made_entry line ≡ (name, mode) ∷ [] → is_open (positions.after (place_at job i) line) ≡ true → Stands job i held → Stands job (i + 1) (held ++ mode ∷ [])
+pub stands-made : (job : List Line) (i : ℕ) (line : Line) (held : List Mode) (name : List ℕ) (mode : Mode) → slice_get job i ≡ Some line → is_task line ≡ false → made_entry line ≡ (name, mode) ∷ [] → is_open (positions.after (position_at job i) line) ≡ true → Stands job i held → Stands job (i + 1) (held ++ mode ∷ [])
 stands-made job i line held name mode is plain made within at =
     record {
       within = ap is_open (place-next job i line is) ∙ within;
@@ -91,9 +91,9 @@ pub rest_of_drop : {A : Type 0} (xs : List A) (i : ℕ) (x : A) (rest : List A) 
 rest_of_drop xs i x rest e =
     (same_parts x x (drop (i + 1) xs) rest (sym (drop_next xs i x (item_of_drop xs i x rest e)) ∙ e)).1
 
-pub stands_here : (job : List Line) (i : ℕ) (line : Line) → IsPlaced First job → slice_get job i ≡ Some line → may_stand (place_at job i) line ≡ true
+pub stands_here : (job : List Line) (i : ℕ) (line : Line) → IsPlaced First job → slice_get job i ≡ Some line → may_stand (position_at job i) line ≡ true
 stands_here job i line placed is =
-    (subst (IsPlaced (place_at job i)) (drop_next job i line is) (placed-from First job i placed)).0
+    (subst (IsPlaced (position_at job i)) (drop_next job i line is) (placed-from First job i placed)).0
 
 passes-over : (place : Position) (line : Line) → is_open place ≡ true → may_stand place line ≡ true → is_executed line ≡ false → (is_task line ≡ false) × (made_entry line ≡ []) × (is_open (positions.after place line) ≡ true)
 unfolding is_executed
@@ -119,7 +119,7 @@ executed-on job held (line ∷ lines) i placed is at = go (is_executed line) ref
       let here : i ≡ i + (if is_executed line then 0 else passed_over lines + 1) = omega arith ∙ ap (λ b. i + (if b then 0 else passed_over lines + 1)) (sym e) in
       subst (λ k. Stands job k held) here at
   go false e later =
-      let over = passes-over (place_at job i) line at.within (stands_here job i line placed item) e in
+      let over = passes-over (position_at job i) line at.within (stands_here job i line placed item) e in
       let there : i + 1 + passed_over lines ≡ i + (if is_executed line then 0 else passed_over lines + 1) = omega arith ∙ ap (λ b. i + (if b then 0 else passed_over lines + 1)) (sym e) in
       subst (λ k. Stands job k held) there (later (stands-on job i line held item over.0 over.1 over.2 at))
 

@@ -41,7 +41,7 @@ use Rattle.job_body.proofs.RightsEntries.{entries, held_at, made_entry}
 use Rattle.job_body.proofs.RightsJumps.{BlocksAt, BlocksStand, blocks-stand, exit-stands}
 use Rattle.job_body.proofs.RightsLines.{IsStatementAt, SpawnPasses, child-stands, is_statement, spawn-passes, statement-at, task-known}
 use Rattle.job_body.proofs.RightsNames.{Entry, modes}
-use Rattle.job_body.proofs.RightsPlaces.{IsLineAt, Passes, before_at, line-at, place_at, place-next}
+use Rattle.job_body.proofs.RightsPlaces.{IsLineAt, Passes, before_at, line-at, position_at, place-next}
 use Rattle.job_body.proofs.RightsSpawns.{AllMayUse, ChildHolds, HeldAt, InStore, child-holds, gives-apart, gives-lent, held-may, held_modes_of, lent-may, may-hold, modes-lent, to_give}
 use Rattle.job_body.proofs.RightsStands.{Stands, held-same, is_task, stands-executed, stands-made, stands-on}
 use Rattle.job_body.proofs.RightsTasks.{IsTaskAt, held_modes, take_of_meaning, takes-meanings}
@@ -87,7 +87,7 @@ module _ (job : List Line) (store : Store) (a : Activation Standing) (s : Standi
   -- the next line, after a statement that isn't `end`
   next-stands : is_task line ≡ false → made_entry line ≡ [] → is_closing line ≡ false → Stands job (s.at + 1) (held_modes_of a.holdings)
   next-stands plain none e =
-      stands-on job s.at line (held_modes_of a.holdings) step.is plain none (goes-on (place_at job s.at) line step.stands.within at-line.stands e) step.stands
+      stands-on job s.at line (held_modes_of a.holdings) step.is plain none (goes-on (position_at job s.at) line step.stands.within at-line.stands e) step.stands
 
   on-fits : is_task line ≡ false → made_entry line ≡ [] → is_closing line ≡ false → FitsStore job store (after_next a (steps.after_move_on job s))
   on-fits plain none e = to-fits (s.at + 1) (next-stands plain none e)
@@ -99,7 +99,7 @@ module _ (job : List Line) (store : Store) (a : Activation Standing) (s : Standi
   made-stands : (name : List ℕ) (mode : Mode) → is_task line ≡ false → made_entry line ≡ (name, mode) ∷ [] → is_closing line ≡ false → Stands job (executed_from job (s.at + 1)) (held_modes_of a.holdings ++ mode ∷ [])
   made-stands name mode plain made e =
       stands-executed job (s.at + 1) (held_modes_of a.holdings ++ mode ∷ []) step.placed
-      (stands-made job s.at line (held_modes_of a.holdings) name mode step.is plain made (goes-on (place_at job s.at) line step.stands.within at-line.stands e) step.stands)
+      (stands-made job s.at line (held_modes_of a.holdings) name mode step.is plain made (goes-on (position_at job s.at) line step.stands.within at-line.stands e) step.stands)
 
   -- a statement
   doing : is_statement line ≡ true → IsStatementAt job s.at (held_modes_of a.holdings)
@@ -140,11 +140,11 @@ branch-fits job n store a true x y first second = work-fits job n store (after_n
 branch-fits job n store a false x y first second = work-fits job n store (after_next a y) second
 
 -- the `end` of a block, or of the task
-ended-fits : (job : List Line) (n : ℕ) (store : Store) (a : Activation Standing) (s : Standing) (step : Step job store a s line.End) (inside : List Opened) (blocks : List BlockWithLine) → place_at job s.at ≡ InDo inside → BlocksStand job (held_modes_of a.holdings) inside blocks → StepFits job n store a (steps.ended job s blocks)
+ended-fits : (job : List Line) (n : ℕ) (store : Store) (a : Activation Standing) (s : Standing) (step : Step job store a s line.End) (inside : List Opened) (blocks : List BlockWithLine) → position_at job s.at ≡ InDo inside → BlocksStand job (held_modes_of a.holdings) inside blocks → StepFits job n store a (steps.ended job s blocks)
 ended-fits job n store a s step inside [] at b = tt
 ended-fits job n store a s step [] (block ∷ blocks) at b = absurd (let e = b.0 in cc)
 ended-fits job n store a s step (innermost ∷ inside) (block.If ∷ blocks) at b =
-    let within : is_open (positions.after (place_at job s.at) line.End) ≡ true = ap (λ p. is_open (positions.after p line.End)) at in
+    let within : is_open (positions.after (position_at job s.at) line.End) ≡ true = ap (λ p. is_open (positions.after p line.End)) at in
     let next = stands-on job s.at line.End (held_modes_of a.holdings) step.is refl refl within step.stands in
     work-fits job n store (after_next a (steps.after_move_on job s)) (to-fits job store a s line.End step (s.at + 1) next)
 ended-fits job n store a s step (innermost ∷ inside) (block.While i ∷ blocks) at b =
@@ -158,7 +158,7 @@ end-fits job n store a s step =
     (subst (λ p. BlocksAt p job (modes (held_at job s.at)) (blocks_at job s.at)) d.at (blocks-stand job step.placed s.at)))
 
 -- a line that opens a block, or goes past it
-opens-fits : (job : List Line) (store : Store) (a : Activation Standing) (s : Standing) (line : Line) (step : Step job store a s line) (innermost : Opened) (inside : List Opened) → is_task line ≡ false → made_entry line ≡ [] → positions.after (place_at job s.at) line ≡ InDo (innermost ∷ inside) → Stands job (exit_at job s.at).otherwise (held_modes_of a.holdings) × Stands job (exit_at job s.at).after (held_modes_of a.holdings)
+opens-fits : (job : List Line) (store : Store) (a : Activation Standing) (s : Standing) (line : Line) (step : Step job store a s line) (innermost : Opened) (inside : List Opened) → is_task line ≡ false → made_entry line ≡ [] → positions.after (position_at job s.at) line ≡ InDo (innermost ∷ inside) → Stands job (exit_at job s.at).otherwise (held_modes_of a.holdings) × Stands job (exit_at job s.at).after (held_modes_of a.holdings)
 opens-fits job store a s line step innermost inside plain none at =
     exit-stands job s.at innermost inside (held_modes_of a.holdings) step.placed (place-next job s.at line step.is ∙ at)
     (ap modes (held-same job s.at line step.is plain none) ∙ sym step.stands.holds)
@@ -191,11 +191,11 @@ else-fits job n store a s step =
 
 -- ---- spawns
 
-spawned-fits : (job : List Line) (n : ℕ) (store : Store) (a : Activation Standing) (s : Standing) (fuel : ℤ) (index : ℕ) (given : List (Take × Atom)) (held : List Mode) → FitsStore job store (after_next a (steps.after_move_on job s)) → is_aliased (flat_map (steps.give_of job s) given) ≡ false → ChildHolds (length store.cells) (length store.queues) a.holdings (flat_map (steps.give_of job s) given) held → Stands job (executed_from job (index + 1)) held → StepFits job n store a (steps.step_of_spawn job s fuel index given)
+spawned-fits : (job : List Line) (n : ℕ) (store : Store) (a : Activation Standing) (s : Standing) (fuel : ℤ) (index : ℕ) (given : List (Take × Atom)) (held : List Mode) → FitsStore job store (after_next a (steps.after_move_on job s)) → is_aliased (flat_map (steps.access_given job s) given) ≡ false → ChildHolds (length store.cells) (length store.queues) a.holdings (flat_map (steps.access_given job s) given) held → Stands job (executed_from job (index + 1)) held → StepFits job n store a (steps.step_of_spawn job s fuel index given)
 spawned-fits job n store a s (negsuc k) index given held fits apart holds stands = refl
 spawned-fits job n store a s (pos fuel) index given held fits apart holds stands =
     spawn-fits job n store (after_next a (steps.after_move_on job s))
-    (record { local = steps.begun job index (flat_map (steps.value_given job s) given); gives = flat_map (steps.give_of job s) given; fuel = fuel })
+    (record { local = steps.begun job index (flat_map (steps.value_given job s) given); gives = flat_map (steps.access_given job s) given; fuel = fuel })
     held apart holds stands fits
 
 spawn-step : (job : List Line) (n : ℕ) (store : Store) (a : Activation Standing) (s : Standing) (fuel : Atom) (task : List ℕ) (args : List Atom) (step : Step job store a s (line.Spawn fuel task args)) (amount : ℤ) → StepFits job n store a (steps.step_of_spawn job s amount (task_index job task) (zip (takes (lines_of_task job (task_index job task))) args))
@@ -236,8 +236,8 @@ spawn-step job n store a s fuel task args step amount =
       same : takes (lines_of_task job (task_index job task)) ≡ map take_of_meaning p.taken
       same = takes-meanings (lines_of_task job (task_index job task)) ∙ ap (λ ms. map take_of_meaning ms) found.takes
 
-      gives : flat_map (steps.give_of job s) given ≡ map (to_give job s.at) gifts
-      gives = ap (λ ts. flat_map (steps.give_of job s) (zip ts args)) same ∙ gives-lent job s names p.taken args p.all
+      gives : flat_map (steps.access_given job s) given ≡ map (to_give job s.at) gifts
+      gives = ap (λ ts. flat_map (steps.access_given job s) (zip ts args)) same ∙ gives-lent job s names p.taken args p.all
 
       may : AllMayUse all gifts
       may = lent-may all names d.names p.taken args p.all

@@ -48,11 +48,11 @@ later_set : (value : Value) (values : List Value) (i : Option ℕ) (new : Value)
 later_set value values None new = refl
 later_set value values (Some i) new = refl
 
-pub set-slot : (names : List (List ℕ)) (values : List Value) (name : List ℕ) (new : Value) → steps.with_value names values name new ≡ runs.with_slot values (slot names name) new
+pub set-slot : (names : List (List ℕ)) (values : List Value) (name : List ℕ) (new : Value) → steps.values_with names values name new ≡ runs.with_slot values (slot names name) new
 set-slot [] values name new = refl
 set-slot (first ∷ names) [] name new = none_set (slot (first ∷ names) name) new
 set-slot (first ∷ names) (value ∷ values) name new =
-    elim (bytes_eq first name) as (λ b. (if b then new ∷ values else value ∷ steps.with_value names values name new) ≡ runs.with_slot (value ∷ values) (if b then Some 0 else option_map (λ i. suc i) (slot names name)) new) [
+    elim (bytes_eq first name) as (λ b. (if b then new ∷ values else value ∷ steps.values_with names values name new) ≡ runs.with_slot (value ∷ values) (if b then Some 0 else option_map (λ i. suc i) (slot names name)) new) [
       | true ↦ refl
       | false ↦ ap (λ vs. value ∷ vs) (set-slot names values name new) ∙ later_set value values (slot names name) new
     ]
@@ -84,7 +84,7 @@ value-operand lines i values (atom.Name name) = value-slot (steps.names_at lines
 pub place-name : (lines : List Line) (i : ℕ) (name : List ℕ) → steps.place_at lines i name ≡ compiled.place_in (compiled.seen_at lines i) name
 place-name lines i name = place-slot (places lines (scope_at lines i)) name
 
-pub place-atom : (lines : List Line) (i : ℕ) (a : Atom) → steps.place_of_atom lines i a ≡ compiled.place_of_atom (compiled.seen_at lines i) a
+pub place-atom : (lines : List Line) (i : ℕ) (a : Atom) → steps.place_of_atom lines i a ≡ compiled.atom_place_in (compiled.seen_at lines i) a
 place-atom lines i (atom.Int n) = refl
 place-atom lines i (atom.Bytes bytes) = refl
 place-atom lines i (atom.Name name) = place-name lines i name
@@ -98,9 +98,9 @@ values-given lines s ((given.Param, a) ∷ more) =
     ∙ ap (λ vs. runs.value_of s.values (compiled.operand_of (compiled.seen_at lines s.at) a) ∷ vs) (values-given lines s more)
 values-given lines s ((given.Access mode, a) ∷ more) = values-given lines s more
 
-pub gives-given : (lines : List Line) (s : Standing) (given : List (Take × Atom)) → flat_map (steps.give_of lines s) given ≡ flat_map (compiled.give_given (compiled.seen_at lines s.at)) given
+pub gives-given : (lines : List Line) (s : Standing) (given : List (Take × Atom)) → flat_map (steps.access_given lines s) given ≡ flat_map (compiled.give_given (compiled.seen_at lines s.at)) given
 gives-given lines s [] = refl
 gives-given lines s ((given.Param, a) ∷ more) = gives-given lines s more
 gives-given lines s ((given.Access mode, a) ∷ more) =
-    ap (λ p. record { place = p; mode = mode } ∷ flat_map (steps.give_of lines s) more) (place-atom lines s.at a)
-    ∙ ap (λ gs. record { place = compiled.place_of_atom (compiled.seen_at lines s.at) a; mode = mode } ∷ gs) (gives-given lines s more)
+    ap (λ p. record { place = p; mode = mode } ∷ flat_map (steps.access_given lines s) more) (place-atom lines s.at a)
+    ∙ ap (λ gs. record { place = compiled.atom_place_in (compiled.seen_at lines s.at) a; mode = mode } ∷ gs) (gives-given lines s more)

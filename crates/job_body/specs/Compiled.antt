@@ -134,9 +134,9 @@ abbrev pub or_zero : Scope → Option Atom → Operand
 or_zero s None = operand.Int (pos 0)
 or_zero s (Some a) = operand_of s a
 
-abbrev pub place_of_atom : Scope → Atom → ℕ
-place_of_atom s (atom.Name name) = place_in s name
-place_of_atom s _ = length (places_in s)
+abbrev pub atom_place_in : Scope → Atom → ℕ
+atom_place_in s (atom.Name name) = place_in s name
+atom_place_in s _ = length (places_in s)
 
 -- the number that an operand means; bytes count as 0
 abbrev pub num_of : Operand → Num
@@ -172,7 +172,7 @@ param_given s (given.Param, a) = operand_of s a ∷ []
 param_given s _ = []
 
 abbrev pub give_given : Scope → Take × Atom → List Give
-give_given s (given.Access mode, a) = (record { place = place_of_atom s a; mode = mode }) ∷ []
+give_given s (given.Access mode, a) = (record { place = atom_place_in s a; mode = mode }) ∷ []
 give_given s _ = []
 
 -- a spawn; an unknown task stands past all lines and takes nothing

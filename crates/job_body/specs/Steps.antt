@@ -35,10 +35,10 @@ value_named (other ∷ names) (value ∷ values) name = if bytes_eq other name t
 value_named _ _ name = Int (pos 0)
 
 -- the values where the variable with this name has a new one
-abbrev pub with_value : List (List ℕ) → List Value → List ℕ → Value → List Value
-with_value (other ∷ names) (value ∷ values) name new =
-    if bytes_eq other name then new ∷ values else value ∷ with_value names values name new
-with_value _ values name new = values
+abbrev pub values_with : List (List ℕ) → List Value → List ℕ → Value → List Value
+values_with (other ∷ names) (value ∷ values) name new =
+    if bytes_eq other name then new ∷ values else value ∷ values_with names values name new
+values_with _ values name new = values
 
 -- the names of the variables at a line
 abbrev pub names_at : List Line → ℕ → List (List ℕ)
@@ -68,7 +68,7 @@ is_kind _ _ = false
 abbrev pub received : List Line → Standing → List ℕ → Value → List Value
 received lines s name new =
     if is_kind (kind_of (value_named (names_at lines s.before) s.values name)) (kind_of new)
-    then with_value (names_at lines s.before) s.values name new
+    then values_with (names_at lines s.before) s.values name new
     else s.values
 
 abbrev pub received_by : List Line → Standing → Option Line → Answer → List Value
@@ -90,7 +90,7 @@ after_move_on lines s = after_move_to lines s (s.at + 1)
 -- the activation once a variable has a new value and it has moved on
 abbrev pub with_variable : List Line → Standing → List ℕ → Value → Standing
 with_variable lines s name new =
-    record { before = s.at; at = executed_from lines (s.at + 1); values = with_value (names_at lines s.at) s.values name new }
+    record { before = s.at; at = executed_from lines (s.at + 1); values = values_with (names_at lines s.at) s.values name new }
 
 -- an assignment, by what its operation gives
 abbrev pub step_of_assignment : List Line → Standing → List ℕ → Result Value Trouble → Standing × Ask Standing
@@ -110,9 +110,9 @@ abbrev pub value_given : List Line → Standing → Take × Atom → List Value
 value_given lines s (given.Param, a) = value_at lines s.at s.values a ∷ []
 value_given lines s _ = []
 
-abbrev pub give_of : List Line → Standing → Take × Atom → List Give
-give_of lines s (given.Access mode, a) = (record { place = place_of_atom lines s.at a; mode = mode }) ∷ []
-give_of lines s _ = []
+abbrev pub access_given : List Line → Standing → Take × Atom → List Give
+access_given lines s (given.Access mode, a) = (record { place = place_of_atom lines s.at a; mode = mode }) ∷ []
+access_given lines s _ = []
 
 -- an activation of the task at this index before its first step, by the values of its `param` lines
 abbrev pub begun : List Line → ℕ → List Value → Standing
@@ -123,7 +123,7 @@ begun lines index values =
 abbrev pub step_of_spawn : List Line → Standing → ℤ → ℕ → List (Take × Atom) → Standing × Ask Standing
 step_of_spawn lines s (negsuc n) index given = (s, ask.Fail trouble.Range)
 step_of_spawn lines s (pos fuel) index given =
-    (after_move_on lines s, ask.Spawn (record { local = begun lines index (flat_map (value_given lines s) given); gives = flat_map (give_of lines s) given; fuel = fuel }))
+    (after_move_on lines s, ask.Spawn (record { local = begun lines index (flat_map (value_given lines s) given); gives = flat_map (access_given lines s) given; fuel = fuel }))
 
 -- the end of the innermost of these blocks, or of the task where there is none
 abbrev pub ended : List Line → Standing → List BlockWithLine → Standing × Ask Standing

@@ -63,20 +63,20 @@ abbrev pub lines_of_task : List Line → ℕ → List Line
 lines_of_task lines index = before_task (drop (index + 1) lines)
 
 -- A task as far as one has read it: its name, and its lines so far.
-pub record Scope : Type 0 where
+pub record TaskSoFar : Type 0 where
   pub name : List ℕ
   pub lines : List Line
 
-abbrev pub scope_after : Scope → Line → Scope
+abbrev pub scope_after : TaskSoFar → Line → TaskSoFar
 scope_after scope (Task name) = record { name = name; lines = [] }
 scope_after scope line = record { name = scope.name; lines = scope.lines ++ line ∷ [] }
 
-abbrev pub scope_from : Scope → List Line → Scope
+abbrev pub scope_from : TaskSoFar → List Line → TaskSoFar
 scope_from scope [] = scope
 scope_from scope (line ∷ lines) = scope_from (scope_after scope line) lines
 
 -- the task in which a line stands, as far as the lines before it
-abbrev pub scope_at : List Line → ℕ → Scope
+abbrev pub scope_at : List Line → ℕ → TaskSoFar
 scope_at lines i = scope_from (record { name = []; lines = [] }) (take i lines)
 
 -- The variables of a task: its `param` lines in order, then its `var` lines in order.
@@ -138,6 +138,6 @@ roots top = flat_map root_queue_of top ++ flat_map root_object_of top
 abbrev pub roots_of : List Line → List ℕ → List (List ℕ)
 roots_of lines name = if is_main name then roots (top_lines lines) else []
 
-abbrev pub places : List Line → Scope → List (List ℕ)
+abbrev pub places : List Line → TaskSoFar → List (List ℕ)
 places lines scope =
     roots_of lines scope.name ++ (flat_map access_name_of scope.lines ++ flat_map made_of scope.lines)

@@ -45,7 +45,7 @@ fn joined(first: Option<u32>, count: u32, second: Option<u32>) -> Option<u32>
 
 impl Scope {
     ghost use Rattle.std.specs.Prelude.{◌≡◌, ◌<◌, ◌≤◌, ◌+◌, ◌++◌, length, IfOk, IfSome, OnOk};
-    ghost use Rattle.job_body.specs.Compiled.{KnowsFew, scope_past, scope_past_task, operand_of, place_in, place_of_atom, places_in, roots_in, scope_before, slot_in};
+    ghost use Rattle.job_body.specs.Compiled.{KnowsFew, scope_past, scope_past_task, operand_of, place_in, atom_place_in, places_in, roots_in, scope_before, slot_in};
     ghost use Rattle.job_body.specs.Names.{slot};
     ghost use Rattle.privilege_check.specs.Names.{is_main};
 
@@ -173,7 +173,7 @@ impl Scope {
 
     /// The place that an atom names. `O(log names)`.
     pub fn place_of(&self, atom: &Atom) -> u32
-        ensures { result ≡ place_of_atom self.now atom.now }
+        ensures { result ≡ atom_place_in self.now atom.now }
     {
         match atom {
             Atom::Name(name) => self.place(name),

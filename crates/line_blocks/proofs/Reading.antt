@@ -4,7 +4,7 @@ use Rattle.swan_model.specs.declared.value.Value.{Value}
 use Rattle.line_blocks.specs.declared.held_lines.AfterLine.TheVariants as held
 use Rattle.line_blocks.specs.declared.line_reader.LineStep.TheVariants.{Tests, Hands}
 use Rattle.line_blocks.specs.declared.queue_reader.QueueReader.TheVariants as reader
-use Rattle.line_blocks.specs.Holding.{held_with}
+use Rattle.line_blocks.specs.HeldLines.{held_with}
 use Rattle.line_blocks.specs.LineBlocks.{Lines, after_lines, later, with_line}
 use Rattle.line_blocks.specs.LineReading.{held_step}
 

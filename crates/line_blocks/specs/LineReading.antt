@@ -8,7 +8,7 @@ use Rattle.line_blocks.specs.declared.line_reader.LineStep.TheVariants.{Tests, P
 use Rattle.line_blocks.specs.declared.queue_reader.QueueReader.TheVariants as reader
 use Rattle.line_blocks.specs.declared.queue_reader.ReaderStep.{ReaderStep}
 use Rattle.line_blocks.specs.declared.queue_reader.ReaderStep.TheVariants as step
-use Rattle.line_blocks.specs.Holding.{held_with}
+use Rattle.line_blocks.specs.HeldLines.{held_with}
 use Rattle.line_blocks.specs.LineBlocks.{Lines}
 
 -- a block is handed out

@@ -1,6 +1,6 @@
 // Lines that are held until they are a block.
 ghost use Rattle.std.specs.Prelude.{◌≡◌, IfOk};
-ghost use Rattle.line_blocks.specs.Holding.{held_with};
+ghost use Rattle.line_blocks.specs.HeldLines.{held_with};
 ghost use Rattle.line_blocks.specs.LineBlocks.{no_lines};
 
 use crate::{BLOCK_LINES, LineBlock};

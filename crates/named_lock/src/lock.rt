@@ -154,6 +154,7 @@ impl<S: Named> NamedLock<S> {
     /// done. True comes where it was Runs or Done, and it is Done then; false exactly where it was Stopped, and it stays so. No
     /// stop is counted. The state has to be done when it goes back, in either case. It takes no memory. `O(1)`.
     pub fn finish(&self, seat: &mut LockSeat<S>, held: &Held<S>) -> bool
+        // whose seat it is, and that its state is done
         requires seat { IsSeatOf self.now true seat.old × IsHeldBy seat.old held.now }
         requires name { S.name held.now.state ≡ lock_name self.now }
         requires done { S.done held.now.state ≡ true }

@@ -73,6 +73,8 @@ impl Versions {
             → ObjectsFollow s (with_object r (Root self.old.made)) self.new) }
         ensures made { OnOk result (OnFollowing self.old frame (λ s r maker. next_deed s maker ≡ Some (deed.MakeObject first)
             → ObjectsFollow s (with_object (gone_on r frame) (Step (point s maker))) self.new)) }
+
+        // while another frame gives a child its objects
         ensures giving { OnOk result (OnMeanwhile self.old frame (λ s r maker giver child made left. next_deed s maker ≡ Some (deed.MakeObject first)
             → IsGiving s (with_object (gone_on r frame) (Step (point s maker))) self.new giver child made left)) }
     {
@@ -191,9 +193,11 @@ impl Versions {
         // what it leaves
         ensures ok { OnOk result (self.new ≡ after_write self.old frame place value) }
 
-        // by a script and a reading, and while another frame gives a child its objects
+        // by a script and a reading that they follow
         ensures follows { OnOk result (OnFollowing self.old frame (λ s r writer. NextWrites s r self.old frame place value writer
             → ObjectsFollow s (gone_on r frame) self.new)) }
+
+        // while another frame gives a child its objects
         ensures giving { OnOk result (OnMeanwhile self.old frame (λ s r writer giver child made left. NextWrites s r self.old frame place value writer
             → IsGiving s (gone_on r frame) self.new giver child made left)) }
     {
@@ -223,8 +227,10 @@ impl Versions {
         // what it leaves
         ensures ok { OnOk result (self.new ≡ objects_after_finish self.old frame) }
 
-        // by a script and a reading, and while another frame gives a child its objects
+        // by a script and a reading that they follow
         ensures follows { OnOk result (OnFollowing self.old frame (λ s r ended. ended.done ≡ length (times s ended.path) → ObjectsFollow s r self.new)) }
+
+        // while another frame gives a child its objects
         ensures giving { OnOk result (OnMeanwhile self.old frame (λ s r ended giver child made left. ended.done ≡ length (times s ended.path)
             → IsGiving s r self.new giver child made left)) }
     {

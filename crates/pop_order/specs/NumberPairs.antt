@@ -13,8 +13,8 @@ abbrev pub pair_cmp : NumberPair → NumberPair → Ordering
 pair_cmp a b = ordering_then (nat_cmp a.0 b.0) (nat_cmp a.1 b.1)
 
 -- a pair isn't after another in that order
-unfoldable pub IsNotAfter : NumberPair → NumberPair → Type 0
-IsNotAfter a b = is_gt (pair_cmp a b) ≡ false
+unfoldable pub IsPairNotAfter : NumberPair → NumberPair → Type 0
+IsPairNotAfter a b = is_gt (pair_cmp a b) ≡ false
 
 -- whether a set has the pair of two numbers
 unfoldable pub has_pair : List NumberPair → (first second : ℕ) → Bool

@@ -1,6 +1,6 @@
 // Pairs of numbers.
 ghost use Rattle.std.specs.Prelude.{◌≡◌, ℕ, ◌≤◌, true, false, [], IfSome, IfNone, OnOk, OnErr};
-ghost use Rattle.pop_order.specs.NumberPairs.{has_pair, IsNotAfter, IsNext, IsWithPair, IsWithoutPair};
+ghost use Rattle.pop_order.specs.NumberPairs.{has_pair, IsPairNotAfter, IsNext, IsWithPair, IsWithoutPair};
 
 use std::alloc::Global;
 use std::collections::BTreeSet;
@@ -71,11 +71,11 @@ impl NumberPairs {
     }
 
     /// The first pair from this one on.
-    #[tactic(auto, unfolding(crate::specs::NumberPairs::has_pair, crate::specs::NumberPairs::IsNotAfter))]
+    #[tactic(auto, unfolding(crate::specs::NumberPairs::has_pair, crate::specs::NumberPairs::IsPairNotAfter))]
     fn next_pair(&self, first: u64, from: u64) -> Option<&(u64, u64)>
         ensures found { IfSome result (λ e. has_pair self.now e.now.0 e.now.1 ≡ true) }
-        ensures from { IfSome result (λ e. IsNotAfter (first, from) e.now) }
-        ensures least { IfSome result (λ e. (number : ℕ) → from ≤ number → has_pair self.now first number ≡ true → IsNotAfter e.now (first, number)) }
+        ensures from { IfSome result (λ e. IsPairNotAfter (first, from) e.now) }
+        ensures least { IfSome result (λ e. (number : ℕ) → from ≤ number → has_pair self.now first number ≡ true → IsPairNotAfter e.now (first, number)) }
         ensures none { IfNone result ((number : ℕ) → from ≤ number → has_pair self.now first number ≡ false) }
     {
         match self.entries.range((first, from)..).next() {

@@ -16,8 +16,8 @@ abbrev pub by_name : {A : Type 0} → BTreeMap (Bor (List ℕ)) A → List ℕ �
 by_name map name = get_by (λ key. slice_cmp nat_cmp name key.now) map
 
 -- what the lines before say, as the maps of a check have it
-abbrev pub state_of : Checker → Before
-state_of checker =
+abbrev pub before_of : Checker → Before
+before_of checker =
     record {
       top = by_name checker.top;
       open_task = option_copied checker.open_task;

@@ -19,22 +19,22 @@ result_kind op.Text = Some Bytes
 result_kind _ = Some Int
 
 -- the kind that the first atom is asked to have, where the variable is of this kind; `eq` asks none
-abbrev pub first_kind : Op → Kind → Option Kind
-first_kind op.Set k = Some k
-first_kind op.Eq k = None
-first_kind op.Len k = Some Bytes
-first_kind op.At k = Some Bytes
-first_kind op.Slice k = Some Bytes
-first_kind op.Cat k = Some Bytes
-first_kind op.Find k = Some Bytes
-first_kind op.Num k = Some Bytes
-first_kind _ k = Some Int
+abbrev pub first_operand_kind : Op → Kind → Option Kind
+first_operand_kind op.Set k = Some k
+first_operand_kind op.Eq k = None
+first_operand_kind op.Len k = Some Bytes
+first_operand_kind op.At k = Some Bytes
+first_operand_kind op.Slice k = Some Bytes
+first_operand_kind op.Cat k = Some Bytes
+first_operand_kind op.Find k = Some Bytes
+first_operand_kind op.Num k = Some Bytes
+first_operand_kind _ k = Some Int
 
 -- the kind that the others are asked to have, where the first is of this kind
-abbrev pub later_kind : Op → Kind → Kind
-later_kind op.Eq k = k
-later_kind op.Cat k = Bytes
-later_kind _ k = Int
+abbrev pub later_operand_kind : Op → Kind → Kind
+later_operand_kind op.Eq k = k
+later_operand_kind op.Cat k = Bytes
+later_operand_kind _ k = Int
 
 -- atoms that are all of one kind
 abbrev pub values : KnownNames → Kind → List Atom → Result (Unit {0}) JobKind
@@ -43,7 +43,7 @@ values names k (a ∷ more) = value names (Some k) a >>= λ _. values names k mo
 
 abbrev pub operands : KnownNames → Op → Kind → List Atom → Result (Unit {0}) JobKind
 operands names op k [] = Ok tt
-operands names op k (a ∷ more) = value names (first_kind op k) a >>= λ first. values names (later_kind op first) more
+operands names op k (a ∷ more) = value names (first_operand_kind op k) a >>= λ first. values names (later_operand_kind op first) more
 
 -- an assignment: first the variable, and then the atoms
 abbrev pub check_assignment : KnownNames → List ℕ → Op → List Atom → Result (Unit {0}) JobKind

@@ -2,7 +2,7 @@
 ghost use Rattle.std.specs.Prelude.{◌≡◌, Some, OnOk, bytes_eq, codes};
 ghost use Rattle.std.specs.Map.{update};
 ghost use Rattle.std.specs.Option.{option_copied};
-ghost use Rattle.privilege_check.specs.Checking.{by_name, state_of};
+ghost use Rattle.privilege_check.specs.Checking.{by_name, before_of};
 ghost use Rattle.privilege_check.specs.Names.{after_line, before_first_line, after_declare, is_main, known, after_open, after_declare_taken, with_next, with_taken};
 ghost use Rattle.privilege_check.specs.FirstFault.{has_main, is_in_main};
 
@@ -65,7 +65,7 @@ fn take_next<'a>(
 impl<'a> Checker<'a> {
     /// Before the first line. It takes no memory. `O(1)`.
     pub fn new(alloc: Global) -> Checker<'a>
-        ensures { state_of result ≡ before_first_line }
+        ensures { before_of result ≡ before_first_line }
     {
         Checker {
             alloc,
@@ -85,7 +85,7 @@ impl<'a> Checker<'a> {
 
     /// What a name stands for, if it is known. `O(log names)`.
     pub fn declaration(&self, name: &Word) -> Option<Declaration>
-        ensures { result ≡ known (state_of self.now) name.now }
+        ensures { result ≡ known (before_of self.now) name.now }
     {
         let Some(task) = self.open_task else {
             return self.top.get(name.as_str()).copied();
@@ -99,7 +99,7 @@ impl<'a> Checker<'a> {
 
     /// Whether main is open.
     pub fn is_in_main(&self) -> bool
-        ensures { result ≡ is_in_main (state_of self.now).open_task }
+        ensures { result ≡ is_in_main (before_of self.now).open_task }
     {
         match self.open_task {
             None => false,
@@ -109,14 +109,14 @@ impl<'a> Checker<'a> {
 
     /// What a task takes, if it is known. `O(log tasks)`.
     pub fn takes(&self, task: &str) -> Option<&Listed<Declaration>>
-        ensures { option_copied result ≡ (state_of self.now).tasks task.now }
+        ensures { option_copied result ≡ (before_of self.now).tasks task.now }
     {
         self.tasks.get(task)
     }
 
     /// NoMain at the last line, exactly where there is no task `main`.
     pub fn without_main(&self, last: u64) -> Option<JobFault>
-        ensures { result ≡ has_main last ((state_of self.now).tasks (codes "main")) }
+        ensures { result ≡ has_main last ((before_of self.now).tasks (codes "main")) }
     {
         match self.tasks.get("main") {
             Some(_) => None,
@@ -129,7 +129,7 @@ impl<'a> Checker<'a> {
 
     /// Adds what a line says. `O(log names)`, and an allocation now and then.
     pub fn learn(&mut self, line: &'a Line) -> Result<(), NoMemory>
-        ensures { OnOk result (state_of self.new ≡ after_line (state_of self.old) line.now) }
+        ensures { OnOk result (before_of self.new ≡ after_line (before_of self.old) line.now) }
     {
         match line {
             Line::Input(name) => self.declare(name, Declaration::Held(Mode::Pop, Kind::Bytes)),
@@ -149,7 +149,7 @@ impl<'a> Checker<'a> {
 
     /// Adds a name at the top level, or to the open task.
     fn declare(&mut self, name: &'a Word, declaration: Declaration) -> Result<(), NoMemory>
-        ensures { OnOk result (state_of self.new ≡ after_declare name.now declaration (state_of self.old)) }
+        ensures { OnOk result (before_of self.new ≡ after_declare name.now declaration (before_of self.old)) }
     {
         if self.open_task.is_some() {
             set(&mut self.own, name, declaration)
@@ -160,7 +160,7 @@ impl<'a> Checker<'a> {
 
     /// Adds to what the open task takes.
     fn take(&mut self, declaration: Declaration) -> Result<(), NoMemory>
-        ensures { OnOk result (state_of self.new ≡ with_taken declaration (state_of self.old)) }
+        ensures { OnOk result (before_of self.new ≡ with_taken declaration (before_of self.old)) }
     {
         let Some(task) = self.open_task else {
             return Ok(());
@@ -171,7 +171,7 @@ impl<'a> Checker<'a> {
 
     /// Adds a name that the open task takes.
     fn declare_taken(&mut self, name: &'a Word, declaration: Declaration) -> Result<(), NoMemory>
-        ensures { OnOk result (state_of self.new ≡ after_declare_taken name.now declaration (state_of self.old)) }
+        ensures { OnOk result (before_of self.new ≡ after_declare_taken name.now declaration (before_of self.old)) }
     {
         self.declare(name, declaration)?;
         self.take(declaration)?;
@@ -180,7 +180,7 @@ impl<'a> Checker<'a> {
 
     /// Opens a task.
     fn open(&mut self, task: &'a Word) -> Result<(), NoMemory>
-        ensures { OnOk result (state_of self.new ≡ after_open task.now (state_of self.old)) }
+        ensures { OnOk result (before_of self.new ≡ after_open task.now (before_of self.old)) }
     {
         set(&mut self.tasks, task, Listed::new(self.alloc))?;
         self.open_task = Some(task);

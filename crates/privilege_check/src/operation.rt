@@ -1,8 +1,8 @@
 // Assignments.
 ghost use Rattle.std.specs.Prelude.{◌≡◌};
-ghost use Rattle.privilege_check.specs.Checking.{state_of};
+ghost use Rattle.privilege_check.specs.Checking.{before_of};
 ghost use Rattle.privilege_check.specs.Names.{known};
-ghost use Rattle.privilege_check.specs.Operations.{check_assignment, first_kind, later_kind, operands, result_kind, values};
+ghost use Rattle.privilege_check.specs.Operations.{check_assignment, first_operand_kind, later_operand_kind, operands, result_kind, values};
 ghost use Rattle.privilege_check.specs.Uses.{held, value, variable};
 
 use crate::checker::Checker;
@@ -22,8 +22,8 @@ fn result_kind(op: Op) -> Option<Kind>
 }
 
 /// The kind that the first atom of an operation is asked to have, where the variable is of this kind.
-fn first_kind(op: Op, variable: Kind) -> Option<Kind>
-    ensures { result ≡ first_kind op variable }
+fn first_operand_kind(op: Op, variable: Kind) -> Option<Kind>
+    ensures { result ≡ first_operand_kind op variable }
 {
     match op {
         Op::Set => Some(variable),
@@ -34,8 +34,8 @@ fn first_kind(op: Op, variable: Kind) -> Option<Kind>
 }
 
 /// The kind that the other atoms are asked to have, where the first is of this kind.
-fn later_kind(op: Op, first: Kind) -> Kind
-    ensures { result ≡ later_kind op first }
+fn later_operand_kind(op: Op, first: Kind) -> Kind
+    ensures { result ≡ later_operand_kind op first }
 {
     match op {
         Op::Eq => first,
@@ -48,7 +48,7 @@ impl Checker<'_> {
     /// The kind of a variable. Unknown or Kind comes exactly where the name isn't one of the kind that
     /// is asked. `O(log names)`.
     pub fn variable(&self, asked: Option<Kind>, name: &Word) -> Result<Kind, JobKind>
-        ensures { result ≡ variable (known (state_of self.now)) asked name.now }
+        ensures { result ≡ variable (known (before_of self.now)) asked name.now }
     {
         match self.declaration(name) {
             None => Err(JobKind::Unknown),
@@ -59,7 +59,7 @@ impl Checker<'_> {
     /// The kind of an object or a queue that is used by a mode. Unknown, Kind or Privilege comes exactly
     /// where the name isn't one of the kind that is asked or may not be used so. `O(log names)`.
     pub fn held(&self, asked: Option<Kind>, mode: Mode, name: &Word) -> Result<Kind, JobKind>
-        ensures { result ≡ held (known (state_of self.now)) asked mode name.now }
+        ensures { result ≡ held (known (before_of self.now)) asked mode name.now }
     {
         match self.declaration(name) {
             None => Err(JobKind::Unknown),
@@ -70,7 +70,7 @@ impl Checker<'_> {
     /// The kind of an atom. Unknown or Kind comes exactly where it isn't of the kind that is asked.
     /// `O(log names)`.
     pub fn value(&self, asked: Option<Kind>, atom: &Atom) -> Result<Kind, JobKind>
-        ensures { result ≡ value (known (state_of self.now)) asked atom.now }
+        ensures { result ≡ value (known (before_of self.now)) asked atom.now }
     {
         match atom {
             Atom::Int(_) => of_kind(asked, Kind::Int),
@@ -81,7 +81,7 @@ impl Checker<'_> {
 
     /// Whether atoms are all of a kind. `O(atoms · log names)`.
     fn values(&self, kind: Kind, atoms: &[Atom]) -> Result<(), JobKind>
-        ensures { result ≡ values (known (state_of self.now)) kind atoms.now }
+        ensures { result ≡ values (known (before_of self.now)) kind atoms.now }
     {
         for atom in atoms {
             self.value(Some(kind), atom)?;
@@ -91,18 +91,18 @@ impl Checker<'_> {
 
     /// Whether atoms are of the kinds that an operation takes, where its variable is of this kind.
     fn operands(&self, op: Op, variable: Kind, atoms: &[Atom]) -> Result<(), JobKind>
-        ensures { result ≡ operands (known (state_of self.now)) op variable atoms.now }
+        ensures { result ≡ operands (known (before_of self.now)) op variable atoms.now }
     {
         let Some((first, others)) = atoms.split_first() else {
             return Ok(());
         };
-        let kind = self.value(first_kind(op, variable), first)?;
-        self.values(later_kind(op, kind), others)
+        let kind = self.value(first_operand_kind(op, variable), first)?;
+        self.values(later_operand_kind(op, kind), others)
     }
 
     /// An assignment: the variable, and then the atoms. `O(atoms · log names)`.
     pub fn check_assignment(&self, variable: &Word, op: Op, atoms: &[Atom]) -> Result<(), JobKind>
-        ensures { result ≡ check_assignment (known (state_of self.now)) variable.now op atoms.now }
+        ensures { result ≡ check_assignment (known (before_of self.now)) variable.now op atoms.now }
     {
         let kind = self.variable(result_kind(op), variable)?;
         self.operands(op, kind, atoms)

@@ -8,7 +8,7 @@ use Rattle.swan_model.specs.declared.value.Value.{Value}
 use Rattle.swan_model.specs.declared.value.Value.TheVariants.{Bytes}
 use Rattle.swan_model.specs.Values.{bytes_of, COUNT_MOST}
 use Rattle.line_blocks.specs.LineBlocks.{later}
-use Rattle.record_pipeline.specs.Conversion.{fault_of, faults_from, records_of, trouble_of, unless_trouble}
+use Rattle.record_pipeline.specs.Conversion.{fault_at_line, faults_from, records_of, trouble_of, unless_trouble}
 use Rattle.record_pipeline.specs.Netstrings.{netstrings}
 
 -- what a line pushes
@@ -77,7 +77,7 @@ module _ (width : ℕ) where
       ∙ ap (λ v. map Bytes (unless_trouble (trouble_of width line) line) ++ v) (records_are ls)
       ∙ sym (map-append Bytes (unless_trouble (trouble_of width line) line) (records_of width ls))
 
-  one_fault : (before : ℕ) (t : Option Trouble) → before + 1 < 2 ^ 64 → booked_of ((before / 64) ∷ (before % 64) ∷ []) (later 1 before) t ≡ fault_of before t
+  one_fault : (before : ℕ) (t : Option Trouble) → before + 1 < 2 ^ 64 → booked_of ((before / 64) ∷ (before % 64) ∷ []) (later 1 before) t ≡ fault_at_line before t
   one_fault before None fits = refl
   one_fault before (Some t) fits =
       ap {B = List Fault} (λ n. (record { path = (before / 64) ∷ (before % 64) ∷ []; place = n; kind = kind.Trouble t }) ∷ []) (let e : later 1 before ≡ before + 1 = omega arith in e)
@@ -86,4 +86,4 @@ module _ (width : ℕ) where
   faults_are before [] fits = refl
   faults_are before (line ∷ ls) fits =
       ap (λ v. v ++ line_faults (before + 1) (map Bytes ls)) (one_fault before (trouble_of width line) (omega arith))
-      ∙ ap (λ v. fault_of before (trouble_of width line) ++ v) (faults_are (before + 1) ls (omega arith))
+      ∙ ap (λ v. fault_at_line before (trouble_of width line) ++ v) (faults_are (before + 1) ls (omega arith))

@@ -36,11 +36,11 @@ abbrev pub convert_of : List ℕ → List ℕ
 convert_of text = flat_map line (records_of (width_of (lines text)) (lines text))
 
 -- the fault of the line that has so many lines before it: that of its line's task, child of its block's task
-abbrev pub fault_of : ℕ → Option Trouble → List Fault
-fault_of before None = []
-fault_of before (Some trouble) = (record { path = (before / BLOCK_LINES) ∷ (before % BLOCK_LINES) ∷ []; place = before + 1; kind = kind.Trouble trouble }) ∷ []
+abbrev pub fault_at_line : ℕ → Option Trouble → List Fault
+fault_at_line before None = []
+fault_at_line before (Some trouble) = (record { path = (before / BLOCK_LINES) ∷ (before % BLOCK_LINES) ∷ []; place = before + 1; kind = kind.Trouble trouble }) ∷ []
 
 -- a fault for each line that is left out
 abbrev pub faults_from : ℕ → ℕ → List (List ℕ) → List Fault
 faults_from before width [] = []
-faults_from before width (line ∷ lines) = fault_of before (trouble_of width line) ++ faults_from (before + 1) width lines
+faults_from before width (line ∷ lines) = fault_at_line before (trouble_of width line) ++ faults_from (before + 1) width lines

@@ -50,12 +50,12 @@ module _ {T N : Type 0} {G : Ghosts T N} where
   IsNewSeat name seat = (pool_name seat ≡ name) × IsAtStage Open (Some name) (own_view seat) × (listed seat ≡ [])
 
   -- it is the same seat of the same pool: the pool's name, the seat's own deque and its place there are the same
-  abbrev pub SameSeat : PoolSeat T N G → PoolSeat T N G → Type 0
-  SameSeat old new = (pool_name new ≡ pool_name old) × (own_deque new ≡ own_deque old) × (own_port new ≡ own_port old)
+  abbrev pub IsSameSeat : PoolSeat T N G → PoolSeat T N G → Type 0
+  IsSameSeat old new = (pool_name new ≡ pool_name old) × (own_deque new ≡ own_deque old) × (own_port new ≡ own_port old)
 
   -- no frame left the seat's deque or was stolen by its steps
-  abbrev pub SameView : PoolSeat T N G → PoolSeat T N G → Type 0
-  SameView old new = (own_view new ≡ own_view old) × (stolen new ≡ stolen old)
+  abbrev pub IsSameView : PoolSeat T N G → PoolSeat T N G → Type 0
+  IsSameView old new = (own_view new ≡ own_view old) × (stolen new ≡ stolen old)
 
   -- one frame left the seat's deque, and nothing else left
   abbrev pub GivesFirst : PoolSeat T N G → PoolSeat T N G → Type 0
@@ -63,7 +63,7 @@ module _ {T N : Type 0} {G : Ghosts T N} where
 
   -- this frame, the first of the seat's own list, left it, and nothing else left
   abbrev pub GivesListed : T → PoolSeat T N G → PoolSeat T N G → Type 0
-  GivesListed frame old new = SameView old new × (listed old ≡ frame ∷ listed new)
+  GivesListed frame old new = IsSameView old new × (listed old ≡ frame ∷ listed new)
 
   -- one frame was stolen, where the list was empty, and nothing else left
   abbrev pub GivesStolen : PoolSeat T N G → PoolSeat T N G → Type 0

@@ -34,7 +34,7 @@ pub struct PoolSeat<T: Named> {
 }
 
 impl<T: Named> PoolSeat<T> {
-    ghost use Rattle.steal_pool.specs.Seats.{GivesFirst, GivesListed, GivesStolen, IsNewSeat, SameSeat, SameView, listed, next_put, own_port, own_room, own_view, pool_name};
+    ghost use Rattle.steal_pool.specs.Seats.{GivesFirst, GivesListed, GivesStolen, IsNewSeat, IsSameSeat, IsSameView, listed, next_put, own_port, own_room, own_view, pool_name};
 
     /// A seat of the pool that has the name of `like`, which knows no other seat yet, and has room for so many. It
     /// allocates the deque with its first ring, and the list of the others.
@@ -74,7 +74,7 @@ impl<T: Named> PoolSeat<T> {
     /// Err is want of memory for that list: it hands the frame back, and nothing was put. `O(1)` amortised.
     pub fn put(&mut self, frame: T) -> Result<(), T>
         requires { T.name frame ≡ pool_name self.old }
-        ensures same { SameSeat self.old self.new × SameView self.old self.new }
+        ensures same { IsSameSeat self.old self.new × IsSameView self.old self.new }
         ensures ok { OnOk result (((next_put self.new ≡ next_put self.old + 1) × (listed self.new ≡ listed self.old)) ⊎ ((own_room self.old ≤ next_put self.old) × (next_put self.new ≡ next_put self.old) × (listed self.new ≡ listed self.old ++ frame ∷ []))) }
         ensures err { IfErr result (λ given. (given ≡ frame) × (next_put self.new ≡ next_put self.old) × (listed self.new ≡ listed self.old)) }
     {
@@ -87,7 +87,7 @@ impl<T: Named> PoolSeat<T> {
     /// Puts a frame at the end of the seat's own list, or hands it back where there is no memory for that. `O(1)` amortised.
     pub(crate) fn keep(&mut self, frame: T) -> Result<(), T>
         requires { T.name frame ≡ pool_name self.old }
-        ensures same { SameSeat self.old self.new × SameView self.old self.new × (next_put self.new ≡ next_put self.old) }
+        ensures same { IsSameSeat self.old self.new × IsSameView self.old self.new × (next_put self.new ≡ next_put self.old) }
         ensures ok { OnOk result (listed self.new ≡ listed self.old ++ frame ∷ []) }
         ensures err { IfErr result (λ given. (given ≡ frame) × (listed self.new ≡ listed self.old)) }
     {
@@ -104,7 +104,7 @@ impl<T: Named> PoolSeat<T> {
         requires { Finds (Pooled T.name) (own_port self.old) (own_view self.old) (M.empty (own_view self.old)) }
 
         // which seat it stays
-        ensures same { SameSeat self.old self.new × (next_put self.new ≤ next_put self.old) }
+        ensures same { IsSameSeat self.old self.new × (next_put self.new ≤ next_put self.old) }
 
         // the frame that is taken, and where it was
         ensures named { IfOk result (λ frame. T.name frame ≡ pool_name self.old) }
@@ -112,7 +112,7 @@ impl<T: Named> PoolSeat<T> {
 
         // what shows that none was found
         ensures empty { OnErr result (M.empty (own_view self.old)) }
-        ensures none_taken { OnErr result (SameView self.old self.new) }
+        ensures none_taken { OnErr result (IsSameView self.old self.new) }
         ensures none_listed { OnErr result ((listed self.old ≡ []) × (listed self.new ≡ [])) }
     {
         let empty = match pop_frame::<T, M>(&mut self.own) {

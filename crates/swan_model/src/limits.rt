@@ -11,12 +11,17 @@ ghost use Rattle.swan_model.specs.declared.run_name.TheConstants.{ENTRIES_MOST};
 /// without it another number would change what they mean. (Those that definitions alone have stand as numbers in `Values` and
 /// `QueueState`.)
 pub fn limits_of_values_and_plans()
+    // of values, lines and paths
     ensures record { RECORD_MOST ≡ 65535 }
     ensures lines { LINES_MOST ≡ 1000000 }
     ensures path { PATH_MOST ≡ 64 }
+
+    // of plans
     ensures gives { GIVES_MOST ≡ 1000000 }
     ensures roots { ROOTS_MOST ≡ 1000000 }
     ensures first_items { FIRST_ITEMS_MOST ≡ 1000000 }
     ensures fuel { FUEL_MOST ≡ 4000000000 }
+
+    // of scripts
     ensures entries { ENTRIES_MOST ≡ 8000000002 }
 {}

@@ -116,6 +116,7 @@ impl Roots {
     /// Adds a queue after the others. `O(1)` amortised. An Err is want of memory: it hands the queue
     /// back and leaves the lists as they were.
     pub fn push_queue(&mut self, queue: RootQueue) -> Result<(), RootQueue>
+        // that there is room, and a queue that a root may have
         requires room { length self.old.queues + length self.old.objects < ROOTS_MOST }
         requires mode { IsTrue (is_queue_mode queue.mode) }
         requires items { length queue.items ≤ FIRST_ITEMS_MOST }

@@ -32,6 +32,7 @@ fn has_run<B: Body, Q: Queues>(
     asked: Option<u32>,
     steps: Steps,
 ) -> Result<Tried<B, Q>, NoMemory>
+    // that one step was taken
     requires one { steps.count ≡ 1 }
 
     // what is answered, and that all frames stay of their run
@@ -60,6 +61,7 @@ fn has_spawned<B: Body, Q: Queues>(
     child: Frame<B, Q>,
     steps: Steps,
 ) -> Result<Tried<B, Q>, NoMemory>
+    // that one step was taken
     requires one { steps.count ≡ 1 }
 
     // what is answered, and that all frames stay of their run
@@ -92,6 +94,7 @@ fn has_ended<B: Body, Q: Queues>(
     number: u64,
     steps: Steps,
 ) -> Result<Tried<B, Q>, NoMemory>
+    // that one step was taken
     requires one { steps.count ≡ 1 }
 
     // what is answered, and that all frames stay of their run

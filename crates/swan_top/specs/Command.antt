@@ -94,15 +94,15 @@ command (word ∷ words) =
     else None
 
 -- a command as the code keeps it
-abbrev pub asked : Asked → Command
-asked code.Help = help
-asked code.Version = version
-asked (code.Check job) = check job.now
-asked (code.Elide fuel job inputs) = elide fuel job.now inputs.now
-asked (code.Run workers fuel job inputs) = run workers fuel job.now inputs.now
-asked (code.Index workers input) = index workers input.now
-asked (code.Convert workers input) = convert workers input.now
-asked (code.Bulk number size workers) = bulk number size workers
+abbrev pub command_of : Asked → Command
+command_of code.Help = help
+command_of code.Version = version
+command_of (code.Check job) = check job.now
+command_of (code.Elide fuel job inputs) = elide fuel job.now inputs.now
+command_of (code.Run workers fuel job inputs) = run workers fuel job.now inputs.now
+command_of (code.Index workers input) = index workers input.now
+command_of (code.Convert workers input) = convert workers input.now
+command_of (code.Bulk number size workers) = bulk number size workers
 
 -- no command asks for more fuel, or for a longer input, than words can
 abbrev pub IsWithinLimits : Command → Type 0

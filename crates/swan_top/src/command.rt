@@ -1,7 +1,7 @@
 // The command that words are.
 ghost use Rattle.std.specs.Prelude.{◌≡◌, ◌^◌, ◌<◌, ◌∷◌, [], bytes_eq, IfOk, OnErr, Some, None};
 ghost use Rattle.swan_runtime.specs.declared.shape.TheConstants.{WORKERS_MOST};
-ghost use Rattle.swan_top.specs.Command.{command, number_within, is_file, alone, asked, job_alone, fueled, manned, over_input, elide, run, index, convert, three_numbers, IsWithinLimits};
+ghost use Rattle.swan_top.specs.Command.{command, number_within, is_file, alone, command_of, job_alone, fueled, manned, over_input, elide, run, index, convert, three_numbers, IsWithinLimits};
 ghost use Rattle.swan_top.specs.Forms.{ReadsWords, elide_or_run, FilesOf, JobOf, WorkersOf, InputOf};
 ghost use Rattle.std.specs.List.{list_all};
 
@@ -105,8 +105,8 @@ fn is_file(word: &Word) -> bool
 
 // A command of no further words.
 fn alone<'a>(command: Command<'a>, words: &[Word]) -> Result<Command<'a>, Usage>
-    requires { IsWithinLimits (asked command) }
-    ensures { ReadsWords (alone (asked command.entry) words.now) result }
+    requires { IsWithinLimits (command_of command) }
+    ensures { ReadsWords (alone (command_of command.entry) words.now) result }
 {
     match words {
         [] => Ok(command),
@@ -286,9 +286,9 @@ fn bulk_command(words: &[Word]) -> Result<Command<'_>, Usage>
 /// The command that words are. Usage comes exactly where they are none. FUEL is 1 to 10,000,000, WORKERS 1
 /// to 64, NUMBER 0 to 1,000,000,000 and SIZE 0 to 300,000. It takes no memory, and goes over the words once.
 pub fn read_words(words: &[Word]) -> Result<Command<'_>, Usage>
-    ensures command { IfOk result (λ command'. command words.now ≡ Some (asked command')) }
+    ensures command { IfOk result (λ command'. command words.now ≡ Some (command_of command')) }
     ensures usage { OnErr result (command words.now ≡ None) }
-    ensures within_limits { IfOk result (λ command'. IsWithinLimits (asked command')) }
+    ensures within_limits { IfOk result (λ command'. IsWithinLimits (command_of command')) }
 {
     let Some((word, words)) = words.split_first() else {
         return Err(Usage);

@@ -2,7 +2,7 @@
 ghost use Rattle.std.specs.Prelude.{◌≡◌, ◌≤◌, ◌∷◌, [], IfOk, IfErr, Ok, Some};
 ghost use Rattle.bulk_workload.specs.declared.texts.TheConstants.{BULK_MOST};
 ghost use Rattle.swan_model.specs.declared.plan.TheConstants.{FUEL_MOST};
-ghost use Rattle.swan_top.specs.Command.{asked, IsWithinLimits};
+ghost use Rattle.swan_top.specs.Command.{command_of, IsWithinLimits};
 ghost use Rattle.swan_top.specs.Decision.{checked, generated, settled, next_of_check, next_of_run, next_of_text, prints};
 ghost use Rattle.swan_top.specs.Elisions.{cheapest, conversion_end, elisions, index_end};
 ghost use Rattle.swan_top.specs.Headline.{Leads, Settles, files_over};
@@ -152,10 +152,10 @@ pub(crate) fn settle<T: Threads + Wait + Clock + Sync, F: Files, G: Gate>(
     files: &mut F,
     command: Command<'_>,
 ) -> Result<Settled, WhyStopped>
-    requires { IsWithinLimits (asked command) }
-    ensures ok { IfOk result (Is (Settles elisions (files_over F.Files files.old files.new) (asked command.entry))) }
+    requires { IsWithinLimits (command_of command) }
+    ensures ok { IfOk result (Is (Settles elisions (files_over F.Files files.old files.new) (command_of command.entry))) }
     ensures err { let seen = files_over F.Files files.old files.new in
-        IfErr result (StopsOver seen (Settles elisions seen (asked command.entry))) }
+        IfErr result (StopsOver seen (Settles elisions seen (command_of command.entry))) }
 {
     match command {
         Command::Help => Ok(settle_text(engine.alloc, HELP)?),

@@ -12,7 +12,8 @@ use Rattle.queues.proofs.Frames.{active_number}
 use Rattle.queues.proofs.TurnsTold.{has_turn}
 use Rattle.swan_model.specs.declared.script.Deed.TheVariants as deed
 use Rattle.task_frames.specs.declared.step.Step.TheVariants as step
-use Rattle.task_frames.specs.Cores.{AtCore, AwaitsNone, HasIt, KeptView, MayBegin}
+use Rattle.task_frames.specs.Cores.{AtCore, HasIt, KeptView, MayBegin}
+use Rattle.object_versions.specs.Following.{WaitsForNone}
 use Rattle.task_frames.specs.Records.{IsOldestChild, LiveFrame}
 use Rattle.task_frames.specs.Resumes.{AsksOf, IsLast, IsLiveBefore, IsShown, IsStep, deed_now, IsFirstToBlock, WaitsForTurn, WaitsForVersion, at_first, at_pop, at_start, waited_for}
 use Rattle.task_frames.proofs.Endings.{child-before}
@@ -40,7 +41,7 @@ module _ {B L : Type 0} (G : Ghosts B L) (kept : KeptView) (frame : AtCore B L) 
     ready = has.core.objects.begun frame.task.number f has.of.live (let same = done-is G kept frame has in omega (arith, same, some));
   }
 
-  pub may-begin : AwaitsNone kept.versions frame.task.number → ((older : ℕ) → ¬ Blocks kept.turns frame.task.number older) → MayBegin kept frame.task.number
+  pub may-begin : WaitsForNone kept.versions frame.task.number → ((older : ℕ) → ¬ Blocks kept.turns frame.task.number older) → MayBegin kept frame.task.number
   may-begin ready free = record {
     turn = λ a live. has_turn kept.state has.core.queues.tree kept.turns has.core.queues.turns_are frame.task.number a live free;
     ready = ready;
@@ -49,7 +50,7 @@ module _ {B L : Type 0} (G : Ghosts B L) (kept : KeptView) (frame : AtCore B L) 
   pub waits-awaited : (done m : ℕ) → done ≡ frame.task.done → nat_lt 0 done ≡ false → (place : ℕ) → Awaits kept.versions frame.task.number place m → WaitsForVersion G kept frame m
   waits-awaited done m same not_so place awaits = at_first place (sym same ∙ not-less done not_so) awaits
 
-  pub waits-blocked : (done m : ℕ) → done ≡ frame.task.done → nat_lt 0 done ≡ false → AwaitsNone kept.versions frame.task.number → IsFirstToBlock kept.turns frame.task.number m
+  pub waits-blocked : (done m : ℕ) → done ≡ frame.task.done → nat_lt 0 done ≡ false → WaitsForNone kept.versions frame.task.number → IsFirstToBlock kept.turns frame.task.number m
       → WaitsForTurn G kept frame m
   waits-blocked done m same not_so ready first = at_start (sym same ∙ not-less done not_so) ready first
 

@@ -25,7 +25,8 @@ use Rattle.object_versions.proofs.GivingCalls.{access_giving, giving_ends}
 use Rattle.object_versions.proofs.NoMoreWaits.{access_waits}
 use Rattle.object_versions.proofs.PlacesStay.{access_keeps, access_leaves}
 use Rattle.swan_model.proofs.Elements.{option_cases, taken_stands}
-use Rattle.task_frames.specs.Cores.{AreObjects, AwaitsNone, HasObjects, IsPlacedSo}
+use Rattle.task_frames.specs.Cores.{AreObjects, HasObjects, IsPlacedSo}
+use Rattle.object_versions.specs.Following.{WaitsForNone}
 use Rattle.task_frames.specs.Giving.{AreMade, access_of_give, accesses_from, with_access}
 use Rattle.task_frames.specs.Records.{LiveFrame, NumberedFrames, live_at}
 use Rattle.task_frames.proofs.GoneOn.{with-child}
@@ -264,7 +265,7 @@ module _ (s : Script) (lawful : IsLawful s) (r : Reading) (before now : VersionS
       others = λ m place apart old.
           ap (λ v. placed_at v m place) is ∙ access_keeps now parent.number give.place child done give.mode m place (inl apart) (inl old) ∙ are.others m place apart old;
       count = ap (λ (v : VersionState). v.made) is ∙ access-made now parent.number give.place child done give.mode ∙ are.count;
-      waits = λ m old none. subst (λ v. AwaitsNone v m) (sym is) (access_waits now parent.number give.place child done give.mode m old (are.waits m old none));
+      waits = λ m old none. subst (λ v. WaitsForNone v m) (sym is) (access_waits now parent.number give.place child done give.mode m old (are.waits m old none));
     } where
       accessed : VersionState
       accessed = after_access now parent.number give.place child done give.mode
@@ -351,7 +352,7 @@ pub spawned-objects : (s : Script) → IsLawful s → (r : Reading) (before now 
     → (n : ℕ) (path : List ℕ) (k : ℕ) → frame_of r n ≡ Some (record { number = n; path = path; done = k }) → (f c : LiveFrame) → live_at live n ≡ Some f
     → (child : ℕ) → n ≢ child → child ≢ 0 → (gives : List Give) → given f.holdings gives ≡ Some c.holdings
     → AreMade s r before now (record { number = n; path = path; done = k }) child gives (length gives) → (new : Progress)
-    → reading_after_spawn s r (record { number = n; path = path; done = k }) child ≡ with-child r n new → AwaitsNone before n
+    → reading_after_spawn s r (record { number = n; path = path; done = k }) child ≡ with-child r n new → WaitsForNone before n
     → live_at then_live n ≡ Some (record f { done = k + 1 }) → live_at then_live child ≡ Some c → c.done ≡ 0 → ((m : ℕ) → m ≢ n → m ≢ child → live_at then_live m ≡ live_at live m)
     → AreObjects s (with-child r n new) now then_live objects
 spawned-objects s lawful r before now live then_live objects have n path k known f c there child differ root gives given_is are new reads none parent_live child_live fresh others_live = record {
@@ -407,14 +408,14 @@ spawned-objects s lawful r before now live then_live objects have n path k known
     ]
   ]
 
-  begun : (m : ℕ) (frame : LiveFrame) → live_at then_live m ≡ Some frame → 0 < frame.done → AwaitsNone now m
+  begun : (m : ℕ) (frame : LiveFrame) → live_at then_live m ≡ Some frame → 0 < frame.done → WaitsForNone now m
   begun m frame at some = elim (cases_eq m child) [
     | inl new_one ↦
         let it : c ≡ frame = same_Some c frame (sym child_live ∙ ap (live_at then_live) (sym new_one) ∙ at) in
         let zero_done : frame.done ≡ 0 = ap (λ (x : LiveFrame). x.done) (sym it) ∙ fresh in
         absurd (omega (arith, some, zero_done))
     | inr old ↦ elim (cases_eq m n) [
-      | inl own ↦ are.waits m old (subst (AwaitsNone before) (sym own) none)
+      | inl own ↦ are.waits m old (subst (WaitsForNone before) (sym own) none)
       | inr other ↦ are.waits m old (have.begun m frame (sym (others_live m other old) ∙ at) some)
     ]
   ]

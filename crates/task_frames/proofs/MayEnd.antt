@@ -24,7 +24,8 @@ use Rattle.pop_order.specs.OneChange.{IsOnlyChange}
 use Rattle.queues.proofs.ActiveAfter.{one_changed}
 use Rattle.queues.proofs.NextDeeds.{none_after, none_then}
 use Rattle.queues.proofs.Rereading.{fit_of}
-use Rattle.task_frames.specs.Cores.{AreFrames, AreObjects, AreQueues, AwaitsNone}
+use Rattle.task_frames.specs.Cores.{AreFrames, AreObjects, AreQueues}
+use Rattle.object_versions.specs.Following.{WaitsForNone}
 use Rattle.task_frames.specs.Records.{IsLiveChild, LiveFrame, NumberedFrames, live_at}
 use Rattle.task_frames.proofs.Queues.{next-does}
 use Rattle.task_frames.proofs.Waiting.{same-path}
@@ -104,7 +105,7 @@ module _ {B L : Type 0} (G : Ghosts B L) (plan : Plan B L) (lawful : IsLawful (s
         let one : parent.0 ≡ n = queues.follow.different parent.0 n of.above own.0 of.live own.1 (same.0 ∙ mine) in
         record { frame = it.0; live = it.1; of = parent.1 ∙ ap Some one }
 
-    pub may-end : AwaitsNone versions n → IsSettled versions n
+    pub may-end : WaitsForNone versions n → IsSettled versions n
     may-end ready =
         ended_children s r versions n p have.follow (are.told n f there).progress ready children
         (λ place owing object stands owes. let other = have.follow.owing n place owing object stands (inl owes) in owner-read owing other.0 other.1 other.2)

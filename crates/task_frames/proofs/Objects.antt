@@ -30,7 +30,8 @@ use Rattle.object_versions.proofs.PlacesAfter.{at_placed}
 use Rattle.object_versions.proofs.PlacesStay.{create_keeps, finish_forgets, finish_keeps, write_keeps, write_leaves}
 use Rattle.swan_model.specs.Readings.{gone_on_by}
 use Rattle.serial_elision.specs.Laws.{IsObjectOf}
-use Rattle.task_frames.specs.Cores.{AreObjects, AwaitsNone, HasObjects, IsPlacedSo, IsRootObject}
+use Rattle.task_frames.specs.Cores.{AreObjects, HasObjects, IsPlacedSo, IsRootObject}
+use Rattle.object_versions.specs.Following.{WaitsForNone}
 use Rattle.task_frames.specs.Frames.{AreLocal}
 use Rattle.task_frames.specs.Records.{IsOnlyLive, LiveFrame, NumberedFrames, live_at}
 use Rattle.task_frames.proofs.CatchUp.{caught-up}
@@ -108,8 +109,8 @@ module _ (s : Script) (lawful : IsLawful s) (r : Reading) (versions : VersionSta
 
   -- a call that leaves every place with its object
   keeps-by : (g : LiveFrame) → IsOnlyLive live then_live n (Some g) → (then_r : Reading) (after : VersionState) → ObjectsFollow s then_r after
-      → then_r.objects ≡ r.objects → after.made ≡ versions.made → KeepPlaces versions after → ((m : ℕ) → AwaitsNone versions m → AwaitsNone after m)
-      → (0 < g.done → AwaitsNone versions n) → (0 ≢ n → IsSettled versions 0 → IsSettled after 0) → HasObjects after n g.holdings → AreObjects s then_r after then_live objects
+      → then_r.objects ≡ r.objects → after.made ≡ versions.made → KeepPlaces versions after → ((m : ℕ) → WaitsForNone versions m → WaitsForNone after m)
+      → (0 < g.done → WaitsForNone versions n) → (0 ≢ n → IsSettled versions 0 → IsSettled after 0) → HasObjects after n g.holdings → AreObjects s then_r after then_live objects
   keeps-by g only then_r after follow names made keep waits begun settle held = record {
     follow = follow;
     known = λ i origin at. are.known i origin (ap (λ os. slice_get os i) (sym names) ∙ at);
@@ -123,7 +124,7 @@ module _ (s : Script) (lawful : IsLawful s) (r : Reading) (versions : VersionSta
     begun = λ m frame at some. elim (cases_eq m n) [
       | inl own ↦
           let it : g ≡ frame = same_Some g frame (sym only.changed ∙ ap (live_at then_live) (sym own) ∙ at) in
-          waits m (subst (AwaitsNone versions) (sym own) (begun (subst (λ (x : LiveFrame). 0 < x.done) (sym it) some)))
+          waits m (subst (WaitsForNone versions) (sym own) (begun (subst (λ (x : LiveFrame). 0 < x.done) (sym it) some)))
       | inr other ↦ waits m (are.begun m frame (sym (only.others m other) ∙ at) some)
     ];
     gone = λ m place object none some at. are.gone m place (keep.back m place object at).0 (gone-before g only m none) some (keep.back m place object at).1;
@@ -133,8 +134,8 @@ module _ (s : Script) (lawful : IsLawful s) (r : Reading) (versions : VersionSta
 
   -- and where it holds the same
   keeps : (g : LiveFrame) → g.holdings ≡ f.holdings → IsOnlyLive live then_live n (Some g) → (then_r : Reading) (after : VersionState) → ObjectsFollow s then_r after
-      → then_r.objects ≡ r.objects → after.made ≡ versions.made → KeepPlaces versions after → ((m : ℕ) → AwaitsNone versions m → AwaitsNone after m)
-      → (0 < g.done → AwaitsNone versions n) → (0 ≢ n → IsSettled versions 0 → IsSettled after 0) → AreObjects s then_r after then_live objects
+      → then_r.objects ≡ r.objects → after.made ≡ versions.made → KeepPlaces versions after → ((m : ℕ) → WaitsForNone versions m → WaitsForNone after m)
+      → (0 < g.done → WaitsForNone versions n) → (0 ≢ n → IsSettled versions 0 → IsSettled after 0) → AreObjects s then_r after then_live objects
   keeps g same only then_r after follow names made keep waits begun settle =
       keeps-by g only then_r after follow names made keep waits begun settle (subst (HasObjects after n) (sym same) (objects-kept versions after n f.holdings keep (are.each n f there)))
 
@@ -154,7 +155,7 @@ module _ (s : Script) (lawful : IsLawful s) (r : Reading) (versions : VersionSta
 
   -- an entry that neither makes nor writes an object
   pub others : (does : Deed) → deed_at s (time s path k) ≡ does → k < length (times s path) → is_object_deed does ≡ false → is_spawn does ≡ false
-      → AwaitsNone versions n → IsOnlyLive live then_live n (Some (record f { done = k + 1 })) → AreObjects s (gone_on_by r n 1) versions then_live objects
+      → WaitsForNone versions n → IsOnlyLive live then_live n (Some (record f { done = k + 1 })) → AreObjects s (gone_on_by r n 1) versions then_live objects
   others does is left quiet still none only =
       keeps (record f { done = k + 1 }) refl only (gone_on_by r n 1) versions
       (others_pass s r versions (record { number = n; path = path; done = k }) does lawful are.follow known (next-does s n path k does left is) quiet still r.queues)
@@ -163,13 +164,13 @@ module _ (s : Script) (lawful : IsLawful s) (r : Reading) (versions : VersionSta
   -- a write
   pub written : (place : ℕ) (value : Value) (object : Placed) (origin : Origin) (after : VersionState) → deed_at s (time s path k) ≡ deed.Write origin value → k < length (times s path)
       → placed_at versions n place ≡ Some object → allows object.mode Out ≡ true → slice_get r.objects object.object ≡ Some origin
-      → after ≡ after_write versions n place value → AwaitsNone versions n → IsOnlyLive live then_live n (Some (record f { done = k + 1 }))
+      → after ≡ after_write versions n place value → WaitsForNone versions n → IsOnlyLive live then_live n (Some (record f { done = k + 1 }))
       → AreObjects s (gone_on_by r n 1) after then_live objects
   written place value object origin after is left stands may made same none only =
       keeps (record f { done = k + 1 }) refl only (gone_on_by r n 1) after
       (write_told versions after n place value same s r (record { number = n; path = path; done = k }) object origin lawful are.follow known stands may made (next-does s n path k (deed.Write origin value) left is))
       refl (ap (λ (v : VersionState). v.made) same ∙ made-same) (subst (KeepPlaces versions) (sym same) (written-keep versions n place value object stands))
-      (λ m waits. subst (λ v. AwaitsNone v m) (sym same) (write_waits versions n place value m waits)) (λ some. none)
+      (λ m waits. subst (λ v. WaitsForNone v m) (sym same) (write_waits versions n place value m waits)) (λ some. none)
       (λ other all. subst (λ v. IsSettled v 0) (sym same) (record { values = λ at has here. all.values at has (sym (write_keeps versions n place value 0 at (inl other)) ∙ here) }))
     where
       made-same : (after_write versions n place value).made ≡ versions.made
@@ -180,7 +181,7 @@ module _ (s : Script) (lawful : IsLawful s) (r : Reading) (versions : VersionSta
 
   -- a queue that is made
   pub queue-made : (h : Holding) (queues : List Origin) → deed_at s (time s path k) ≡ deed.MakeQueue → k < length (times s path) → is_queue_mode h.mode ≡ true
-      → AwaitsNone versions n → IsOnlyLive live then_live n (Some (record f { done = k + 1; holdings = f.holdings ++ h ∷ [] }))
+      → WaitsForNone versions n → IsOnlyLive live then_live n (Some (record f { done = k + 1; holdings = f.holdings ++ h ∷ [] }))
       → AreObjects s (record (gone_on_by r n 1) { queues = queues }) versions then_live objects
   queue-made h queues is left kind none only =
       keeps-by (record f { done = k + 1; holdings = f.holdings ++ h ∷ [] }) only (record (gone_on_by r n 1) { queues = queues }) versions
@@ -212,7 +213,7 @@ module _ (s : Script) (lawful : IsLawful s) (r : Reading) (versions : VersionSta
   ]
 
   module _ (value : Value) (after : VersionState) (is : deed_at s (time s path k) ≡ deed.MakeObject value) (left : k < length (times s path))
-      (same : after ≡ objects_after_create versions n (length f.holdings) value) (none : AwaitsNone versions n)
+      (same : after ≡ objects_after_create versions n (length f.holdings) value) (none : WaitsForNone versions n)
       (only : IsOnlyLive live then_live n (Some (record f { done = k + 1; holdings = f.holdings ++ record { mode = InOut; number = objects } ∷ [] }))) where
     abbrev made : VersionState
     made = objects_after_create versions n (length f.holdings) value
@@ -288,8 +289,8 @@ module _ (s : Script) (lawful : IsLawful s) (r : Reading) (versions : VersionSta
             subst (λ (x : LiveFrame). HasObjects made m x.holdings) it (subst (λ j. HasObjects made j g.holdings) (sym own) own-objects)
         | inr other ↦ other-objects m frame.holdings other (are.each m frame (sym (only.others m other) ∙ at))
       ]);
-      begun = λ m frame at some. subst (λ v. AwaitsNone v m) (sym same) (create_waits versions n (length f.holdings) value m (elim (cases_eq m n) [
-        | inl own ↦ subst (AwaitsNone versions) (sym own) none
+      begun = λ m frame at some. subst (λ v. WaitsForNone v m) (sym same) (create_waits versions n (length f.holdings) value m (elim (cases_eq m n) [
+        | inl own ↦ subst (WaitsForNone versions) (sym own) none
         | inr other ↦ are.begun m frame (sym (only.others m other) ∙ at) some
       ]));
       gone = λ m place object absent some at. elim (cases_eq m n) [
@@ -352,7 +353,7 @@ module _ (s : Script) (lawful : IsLawful s) (r : Reading) (versions : VersionSta
       ];
       begun = λ m frame at some. elim (cases_eq m n) [
         | inl own ↦ let both : None ≡ Some frame = sym only.changed ∙ ap (live_at then_live) (sym own) ∙ at in absurd (cc)
-        | inr other ↦ subst (λ v. AwaitsNone v m) (sym same) (finish_waits versions n m (are.begun m frame (sym (only.others m other) ∙ at) some))
+        | inr other ↦ subst (λ v. WaitsForNone v m) (sym same) (finish_waits versions n m (are.begun m frame (sym (only.others m other) ∙ at) some))
       ];
       gone = λ m place object none some at.
           let now : placed_at over m place ≡ Some object = ap (λ v. placed_at v m place) (sym same) ∙ at in

@@ -31,7 +31,8 @@ use Rattle.queues.proofs.Lineage.{spawns_by}
 use Rattle.serial_elision.specs.TaskSteps.{Spawns, child_activation, parent_activation}
 use Rattle.serial_elision.proofs.Room.{children-told, room-children}
 use Rattle.serial_elision.proofs.TaskSteps.{spawns_child, spawns_next, top_path}
-use Rattle.task_frames.specs.Cores.{HasQueuesOnce, AreBooked, AreFrames, AreObjects, AreQueues, AwaitsNone}
+use Rattle.task_frames.specs.Cores.{HasQueuesOnce, AreBooked, AreFrames, AreObjects, AreQueues}
+use Rattle.object_versions.specs.Following.{WaitsForNone}
 use Rattle.task_frames.specs.Frames.{IsPlan}
 use Rattle.task_frames.specs.Giving.{AreMade, accesses_from, queue_rights}
 use Rattle.task_frames.specs.Records.{LiveFrame, NumberedFrames, live_at}
@@ -177,7 +178,7 @@ module _ {B L : Type 0} (G : Ghosts B L) (plan : Plan B L) (sound : IsPlan plan)
         (spawned-so s lawful r state turns queues n path k known a frames (queue_rights hs) spawn.gives then_state then_turns own spawn.deed at.left (next-unread G plan r state live frames are)
         (may-spawn back deep) spawn-next is.state_is is.turns_are)
 
-    pub objects-then : (objects : ℕ) → AreObjects s r versions live objects → AwaitsNone versions n → AreObjects s (with-child r n new-frame) then_versions then_live objects
+    pub objects-then : (objects : ℕ) → AreObjects s r versions live objects → WaitsForNone versions n → AreObjects s (with-child r n new-frame) then_versions then_live objects
     objects-then objects have none =
         spawned-objects s lawful r versions then_versions live then_live objects have n path k known f (record { parent = Some n; path = path ++ top.children ∷ []; done = 0; holdings = hs }) there frames differ
         (next-some G plan r state live frames are) child.gives given_is is.made new-frame reads none is.parent is.new refl is.others

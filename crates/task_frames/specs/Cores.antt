@@ -25,6 +25,7 @@ use Rattle.queues.specs.Turned.{AreTurns}
 use Rattle.serial_elision.specs.Bounds.{IsWithin}
 use Rattle.serial_elision.specs.Laws.{IsObjectOf}
 use Rattle.serial_elision.specs.TaskSteps.{IsFaultOf}
+use Rattle.object_versions.specs.Following.{WaitsForNone}
 use Rattle.task_frames.specs.declared.stage.Stage.{Stage}
 use Rattle.task_frames.specs.declared.stage.Stage.TheVariants.{Asking}
 use Rattle.task_frames.specs.Frames.{IsPlan, Task, state_of}
@@ -89,10 +90,6 @@ pub record IsRootObject (s : Script) (r : Reading) (versions : VersionState) (i 
   pub stands : placed_at versions 0 (length s.queues + i) ≡ Some object
   pub same : object.object ≡ i
 
--- a frame waits for none of the versions that it was given to read
-abbrev pub AwaitsNone : VersionState → ℕ → Type 0
-AwaitsNone versions number = (place owing : ℕ) → ¬ Awaits versions number place owing
-
 -- The objects follow the script and the reading. The live frames have theirs, and nobody else has any but the root, each
 -- of whose objects has its value in the end. Who has begun waits for nothing that it was given.
 pub record AreObjects (s : Script) (r : Reading) (versions : VersionState) (live : NumberedFrames) (objects : ℕ) : Type 0 where
@@ -100,7 +97,7 @@ pub record AreObjects (s : Script) (r : Reading) (versions : VersionState) (live
   pub known : (i : ℕ) (origin : Origin) → slice_get r.objects i ≡ Some origin → IsObjectOf s origin
   pub count : versions.made ≡ objects
   pub each : (number : ℕ) (frame : LiveFrame) → live_at live number ≡ Some frame → HasObjects versions number frame.holdings
-  pub begun : (number : ℕ) (frame : LiveFrame) → live_at live number ≡ Some frame → 0 < frame.done → AwaitsNone versions number
+  pub begun : (number : ℕ) (frame : LiveFrame) → live_at live number ≡ Some frame → 0 < frame.done → WaitsForNone versions number
   pub gone : (number place : ℕ) (object : Placed) → live_at live number ≡ None → number ≢ 0 → placed_at versions number place ≡ Some object → ⊥
   pub roots : (i : ℕ) → i < length s.objects → IsRootObject s r versions i
   pub over : live_at live 0 ≡ None → IsSettled versions 0
@@ -196,7 +193,7 @@ after_coming_in kept task ends = record kept {
 -- a frame that has its turn to pop, and waits for nothing that it was given to read
 pub record MayBegin (kept : KeptView) (number : ℕ) : Type 0 where
   pub turn : (own : ActiveFrame) → active kept.state number ≡ Some own → HasTurn kept.state own
-  pub ready : AwaitsNone kept.versions number
+  pub ready : WaitsForNone kept.versions number
 
 -- a frame that is at the core: its ends are back, and what it did with them is known
 pub record AtCore (B L : Type 0) : Type 0 where

@@ -10,7 +10,8 @@ use Rattle.swan_model.specs.SerialStep.{given}
 use Rattle.swan_model.specs.SerialTime.{Progress, Reading, frame_of}
 use Rattle.swan_model.specs.Versions.{Placed, VersionState, placed_at}
 use Rattle.swan_model.specs.VersionsFollow.{Access, IsGiving}
-use Rattle.task_frames.specs.Cores.{AwaitsNone, HasObjects}
+use Rattle.task_frames.specs.Cores.{HasObjects}
+use Rattle.object_versions.specs.Following.{WaitsForNone}
 
 -- ---- queues
 
@@ -45,7 +46,7 @@ pub record AreMade (s : Script) (r : Reading) (before now : VersionState) (paren
   pub back : (place : ℕ) (object : Placed) → placed_at now parent.number place ≡ Some object → (was : Placed) × (placed_at before parent.number place ≡ Some was)
   pub others : (m place : ℕ) → m ≢ parent.number → m ≢ child → placed_at now m place ≡ placed_at before m place
   pub count : now.made ≡ before.made
-  pub waits : (m : ℕ) → m ≢ child → AwaitsNone before m → AwaitsNone now m
+  pub waits : (m : ℕ) → m ≢ child → WaitsForNone before m → WaitsForNone now m
 
 -- A parent may give a child the objects among these gives: its next entry of the script is the spawn that gives them, and no place
 -- is given twice but to read.

@@ -34,7 +34,8 @@ use Rattle.task_frames.specs.declared.resumed.Resumed.{Resumed}
 use Rattle.task_frames.specs.declared.resumed.Resumed.TheVariants as resumed
 use Rattle.task_frames.specs.declared.step.Step.{Step}
 use Rattle.task_frames.specs.declared.step.Step.TheVariants as step
-use Rattle.task_frames.specs.Cores.{AwaitsNone, MayBegin, AtCore, CoreView, HasIt, IsCore, IsGiven, KeptView, after_coming_in}
+use Rattle.task_frames.specs.Cores.{MayBegin, AtCore, CoreView, HasIt, IsCore, IsGiven, KeptView, after_coming_in}
+use Rattle.object_versions.specs.Following.{WaitsForNone}
 use Rattle.task_frames.specs.Frames.{FrameView, Task, is_whole, root_task}
 use Rattle.task_frames.specs.Records.{HasNoLiveChild, IsOldestChild, LiveFrame, NumberedFrames, live_at}
 
@@ -98,7 +99,7 @@ module _ {B L : Type 0} (G : Ghosts B L) where
     -- A turn to pop is waited for before the first step, where no version is, of the oldest sibling that pops what the frame pops; or
     -- where a child pops it.
     pub data WaitsForTurn (number : ℕ) : Type 0 where
-      at_start : frame.task.done ≡ 0 → AwaitsNone kept.versions frame.task.number → IsFirstToBlock kept.turns frame.task.number number → WaitsForTurn number
+      at_start : frame.task.done ≡ 0 → WaitsForNone kept.versions frame.task.number → IsFirstToBlock kept.turns frame.task.number number → WaitsForTurn number
       at_pop : IsToldToWait kept frame (wait.PopTurn number) → WaitsForTurn number
 
     -- What is kept shows a wait.

@@ -83,8 +83,12 @@ impl<Q: Queues> Kept<Q> {
         requires live { IsSome (live_at self.old.live number) }
         requires settled { IsSettled self.old.versions number }
         requires may { MayJoin self.old.state number }
+
+        // where there is a script
         requires turn { IsOnTurn self.old.name self.old.state number }
         requires over { OnNext self.old.name self.old.state number (λ s own. next_queue_deed s own.path own.deeds ≡ None) }
+
+        // that no child of it is active
         requires alone { HasNoChild self.old.turns number }
 
         // what it leaves

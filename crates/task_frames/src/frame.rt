@@ -93,6 +93,8 @@ impl<B: Body, Q: Queues> Frame<B, Q> {
         // whose it is
         requires mark { self.mark ≡ true }
         requires own { (Q.Ends.name self.ends ≡ Q.name queues.old) × (Q.Ends.run self.ends ≡ Q.run queues.old) }
+
+        // where there is a script
         requires path { OnNext (Q.name queues.old) (Q.state queues.old) self.task.number (λ s f. self.task.path ≡ f.path) }
 
         // the frame
@@ -103,8 +105,12 @@ impl<B: Body, Q: Queues> Frame<B, Q> {
 
         // the queues
         ensures recorded { OnOk result (IsRecorded (Q.state queues.old) self.task.number (Q.Ends.ends self.ends)) }
+
+        // where there is a script
         ensures by_ends { OnOk result (OnNext (Q.name queues.old) (Q.state queues.old) self.task.number
             (λ s f. IsLawful s → AreByEnds s f.path f.deeds (Q.Ends.ends self.ends).deeds)) }
+
+        // what they keep
         ensures ok { OnOk result (Q.state queues.new ≡ after_back (Q.state queues.old) self.task.number (Q.Ends.ends self.ends).deeds) }
         ensures err { OnErr result ((¬ IsRecorded (Q.state queues.old) self.task.number (Q.Ends.ends self.ends)) × (Q.state queues.new ≡ Q.state queues.old)) }
         ensures same { IsSameRun Q.name Q.run queues.old queues.new }

@@ -112,6 +112,7 @@ impl<Q: Queues> Kept<Q> {
     /// Gives the frames that came of a step. It takes no memory. `O(1)`, and what `Queues::lend` costs for each. The plan is
     /// there for contracts alone.
     pub fn answer<B: Body>(&mut self, plan: &Meaning<Plan<B>>, step: Step<B>) -> Resumed<B, Q>
+        // what is kept, and which step came
         requires core { IsCore B.Body plan.now.means self.old }
         requires come { HaveCome B.Body self.old step }
         requires plan { AreOfPlan plan.now.means step }

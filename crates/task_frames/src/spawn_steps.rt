@@ -214,6 +214,8 @@ impl<Q: Queues> Kept<Q> {
         // what the objects allow, and what the queues
         requires objects { GivesObjects self.old.versions parent child gives.now }
         requires may { MaySpawn self.old.state parent child (queue_rights held.now) }
+
+        // where there is a script
         requires turn { IsOnTurn self.old.name self.old.state parent }
         requires next { OnNext self.old.name self.old.state parent (λ s f. NextSpawnGivesQueues s self.old.state f (queue_rights held.now)) }
 

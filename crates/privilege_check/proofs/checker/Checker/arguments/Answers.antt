@@ -1,7 +1,7 @@
 use Rattle.std.proofs.Common.{◌≡◌, refl, sym, ◌∙◌, length, drop, min, arith, rules, List, [], ◌∷◌, Ok, length-drop}
 use Rattle.std.proofs.lemmas.Slice.Zip.{zip_end}
 use Rattle.job_reader.specs.declared.atom.Atom.{Atom}
-use Rattle.privilege_check.specs.Checking.{state_of}
+use Rattle.privilege_check.specs.Checking.{before_of}
 use Rattle.privilege_check.specs.Names.{known, KnownNames}
 use Rattle.privilege_check.specs.Spawns.{arguments}
 use Rattle.privilege_check.specs.declared.declaration.Declaration.{Declaration}
@@ -22,4 +22,4 @@ returns c =
     (search rules) (search rules) c.loop-taken.yielded_by c.in-None.is c.next.ensures.steps in
     let none : min (length (drop turns takes)) (length (drop turns args)) ≡ 0 =
     omega (arith, length-drop turns takes, length-drop turns args) in
-    sym (nothing_left (known (state_of c.args.self.now)) (drop turns takes) (drop turns args) none) ∙ c.loop-taken.invariant
+    sym (nothing_left (known (before_of c.args.self.now)) (drop turns takes) (drop turns args) none) ∙ c.loop-taken.invariant

@@ -1,7 +1,7 @@
 use Rattle.std.proofs.Common.{◌<◌, ◌≤◌, rules, sym, subst, arith}
 use Rattle.swan_model.specs.Versions.{Awaits}
 use Rattle.pop_order.specs.Turns.{Blocks}
-use Rattle.task_frames.specs.Cores.{AwaitsNone}
+use Rattle.object_versions.specs.Following.{WaitsForNone}
 use Rattle.task_frames.proofs.Firsts.{awaited-before, begun-so, blocked-before, may-begin, waits-awaited, waits-blocked}
 use Rattle.task_frames.proofs.Given.{over}
 use Rattle.task_frames.proofs.kept.Kept.first_wait.Goals as goal
@@ -21,7 +21,7 @@ returns-in-Err-clause-earlier g c =
 
 pub returns-in-Ok-clause-begun : goal.returns-in-Ok-clause-begun
 returns-in-Ok-clause-begun g c =
-    may-begin g.B.Body _ _ c.requires.has (over (λ k n. AwaitsNone k.versions n) _ _ _ _ (sym c.self.view_is) (sym c.number-number.ensures) c.in_default.ensures.ok)
+    may-begin g.B.Body _ _ c.requires.has (over (λ k n. WaitsForNone k.versions n) _ _ _ _ (sym c.self.view_is) (sym c.number-number.ensures) c.in_default.ensures.ok)
     (over (λ k n. (older : _) → ¬ Blocks k.turns n older) _ _ _ _ (sym c.self.view_is) (sym c.number-number.ensures) c.in-Ok.ensures.ok)
 
 pub returns-in-Err-may_start-clause-earlier : goal.returns-in-Err-may_start-clause-earlier
@@ -32,7 +32,7 @@ pub returns-in-Err-may_start-clause-shown : goal.returns-in-Err-may_start-clause
 returns-in-Err-may_start-clause-shown g c =
     let older = c.in-Err-may_start.older in
     waits-blocked g.B.Body _ _ c.requires.has c.done-done.result older c.done-done.ensures (search rules)
-    (over (λ k n. AwaitsNone k.versions n) _ _ _ _ (sym c.self.view_is) (sym c.number-number.ensures) c.in_default.ensures.ok)
+    (over (λ k n. WaitsForNone k.versions n) _ _ _ _ (sym c.self.view_is) (sym c.number-number.ensures) c.in_default.ensures.ok)
     (record {
       blocks = over (λ k n. Blocks k.turns n older) _ _ _ _ (sym c.self.view_is) (sym c.number-number.ensures) c.in-Err-may_start.ensures.blocks;
       oldest = over (λ k n. (other : _) → Blocks k.turns n other → older ≤ other) _ _ _ _ (sym c.self.view_is) (sym c.number-number.ensures) c.in-Err-may_start.ensures.oldest;
