@@ -24,12 +24,12 @@ use Rattle.swan_model.specs.VersionsFollow.{Access, Begins, ObjectsFollow, Follo
 use Rattle.object_versions.proofs.Differ.{owing_owed, reads_not-out, settled_not-owed}
 use Rattle.swan_model.proofs.MovedFrames.{IsMoved, child_progress, frame_number, own_moves, other_stays, path_kept, spawned_back, spawned_there, done_spawned}
 use Rattle.object_versions.proofs.GivingAccess.{no_frame}
-use Rattle.object_versions.proofs.Moves.{IsSameTask, Owes, at_moves, does_now, held_on, one_object, same_task, version_moves}
+use Rattle.object_versions.proofs.Moves.{IsSameTask, Owes, at_moves, held_on, one_object, same_task, version_moves}
 use Rattle.object_versions.proofs.SpawnGives.{giving_out, may_by, out_by, writing}
 use Rattle.object_versions.proofs.Tasks.{tasks_spawned}
 use Rattle.swan_model.proofs.ScriptCells.{cell_given, cell_lent, cell_through}
 use Rattle.swan_model.proofs.ScriptRights.{child_holds, held_older}
-use Rattle.swan_model.proofs.ScriptSteps.{IsSpawnOf, spawn_moves}
+use Rattle.swan_model.proofs.ScriptSteps.{IsSpawnOf, does_now, spawn_moves}
 use Rattle.swan_model.proofs.TaskEntries.{point_is}
 
 -- a version is owed by this frame, or it isn't

@@ -28,10 +28,10 @@ use Rattle.swan_model.proofs.MovedFrames.{frame_number, gone_back, gone_there, p
 use Rattle.swan_model.proofs.Elements.{last_more, more_cases}
 use Rattle.object_versions.specs.Following.{MayWrite}
 use Rattle.object_versions.proofs.PlacesAfter.{after_placed, made_object, sorted_in, still_placed}
-use Rattle.object_versions.proofs.Moves.{Owes, acting, at_gone, at_moves, does_now}
+use Rattle.object_versions.proofs.Moves.{Owes, acting, at_gone, at_moves}
 use Rattle.swan_model.proofs.ScriptCells.{cell_made}
 use Rattle.swan_model.proofs.ScriptRights.{maker_holds_object}
-use Rattle.swan_model.proofs.ScriptSteps.{at_next}
+use Rattle.swan_model.proofs.ScriptSteps.{at_next, does_now}
 use Rattle.object_versions.proofs.Tasks.{done_then, not_done, tasks_gone}
 use Rattle.object_versions.proofs.Differ.{settled_not-owed}
 use Rattle.swan_model.proofs.Paths.{not_root}

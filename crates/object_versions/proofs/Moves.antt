@@ -12,21 +12,15 @@ use Rattle.swan_model.specs.Granted.{holds, is_spawn, may_use}
 use Rattle.swan_model.specs.Lawful.{IsLawful}
 use Rattle.swan_model.specs.Readings.{end_time, next_deed, one_more}
 use Rattle.swan_model.specs.SerialTime.{Progress, Reading, frame_of, point, time}
-use Rattle.swan_model.specs.Told.{cell, deed_at}
+use Rattle.swan_model.specs.Told.{cell}
 use Rattle.swan_model.specs.Versions.{Version, settled, owed, Placed, VersionState}
 use Rattle.swan_model.specs.VersionsFollow.{ObjectsFollow, FollowsAt, IsVersionAt}
 use Rattle.swan_model.proofs.MovedFrames.{IsMoved, frame_number, other_stays, own_moves, path_kept}
 use Rattle.swan_model.proofs.ScriptCells.{cell_unchanged}
 use Rattle.swan_model.proofs.ScriptDeeds.{is_change_of}
 use Rattle.swan_model.proofs.ScriptRights.{held_later}
-use Rattle.swan_model.proofs.ScriptSteps.{at_next, deed_is, moved}
+use Rattle.swan_model.proofs.ScriptSteps.{does_now, moved}
 use Rattle.object_versions.proofs.Differ.{owed_same}
-
--- what a frame does at its point
-pub does_now : (s : Script) (frame : Progress) (does : Deed) → next_deed s frame ≡ Some does → deed_at s (point s frame) ≡ does
-does_now s frame does next =
-    let step = at_next s frame does next in
-    deed_is s (point s frame) step.entry step.stands ∙ step.does
 
 -- the frame of a number was the same task before
 pub record IsSameTask (r : Reading) (number : ℕ) (now : Progress) : Type 0 where

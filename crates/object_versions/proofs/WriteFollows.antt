@@ -18,9 +18,10 @@ use Rattle.swan_model.proofs.MovedFrames.{gone_back, gone_there, path_kept, done
 use Rattle.object_versions.specs.Following.{MayWrite}
 use Rattle.object_versions.proofs.Differ.{settled_not-owed, writes_not-in}
 use Rattle.object_versions.proofs.PlacesAfter.{IsThere, after_present, back_present, sorted_set, still_present}
-use Rattle.object_versions.proofs.Moves.{Owes, acting, at_gone, does_now, given_stays, held_on, one_object, same_task}
+use Rattle.object_versions.proofs.Moves.{Owes, acting, at_gone, given_stays, held_on, one_object, same_task}
 use Rattle.swan_model.proofs.Origins.{is_same-equal}
 use Rattle.swan_model.proofs.ScriptCells.{cell_written}
+use Rattle.swan_model.proofs.ScriptSteps.{does_now}
 use Rattle.object_versions.proofs.Tasks.{tasks_gone}
 
 module _ (s : Script) (r : Reading) (state : VersionState) (lawful : IsLawful s) (follows : ObjectsFollow s r state) (n place : ℕ) (writer : Progress) (object : Placed)

@@ -41,6 +41,12 @@ at_next s p d next =
     let own = point_own s p left in
     record { left = left; entry = own.entry; stands = own.stands; own = own.own; does = sym (deed_is s (point s p) own.entry own.stands) ∙ both.1; at = point_is s p left }
 
+-- what a frame does next is what is done at its point
+pub does_now : (s : Script) (p : Progress) (d : Deed) → next_deed s p ≡ Some d → deed_at s (point s p) ≡ d
+does_now s p d next =
+    let step = at_next s p d next in
+    deed_is s (point s p) step.entry step.stands ∙ step.does
+
 -- the time of its next entry is the one after those that it has done
 pub next_stands : (s : Script) (p : Progress) → p.done < length (times s p.path) → slice_get (times s p.path) p.done ≡ Some (point s p)
 next_stands s p left = slice_get-get_or (times s p.path) p.done 0 left ∙ ap Some (sym (point_is s p left))
