@@ -1,12 +1,11 @@
 -- What is left of the places when a frame has ended, and the versions that it leaves.
-use Rattle.std.proofs.Common.{◌≡◌, ◌≢◌, ℕ, zero, suc, nat_eq, ◌&&◌, ◌||◌, not, Bool, true, false, cond, Option, None, Some, [], ◌∷◌, filter, refl, sym, ap, subst, ◌∙◌}
-use Rattle.std.proofs.lemmas.Bool.{false≢true, and_parts, and_from, eq-eqb, eqb-true, ne_eqb}
+use Rattle.std.proofs.Common.{◌≡◌, ◌≢◌, ℕ, nat_eq, ◌&&◌, ◌||◌, not, Bool, true, false, cond, Option, None, Some, [], ◌∷◌, filter, refl, sym, ap, subst, ◌∙◌}
+use Rattle.std.proofs.lemmas.Bool.{and_parts, and_from, eq-eqb, eqb-true, ne_eqb}
 use Rattle.std.proofs.lemmas.Cmp.{eq_by_cmp_equiv}
 use Rattle.std.proofs.lemmas.List.Kept.{IsStrictlySortedBy-filter}
 use Rattle.std.proofs.lemmas.Map.Entries.{lookup-filter-keys, lookup_from_place, place_from_lookup}
 use Rattle.std.proofs.lemmas.Map.Keys.{IsDistinct-from_sorted}
 use Rattle.std.proofs.lemmas.Map.Made.{keys_of-map_values, lookup-map_values}
-use Rattle.std.specs.Prelude.{slice_get, find}
 use Rattle.std.specs.BTreeMap.{is_at}
 use Rattle.std.specs.List.Sorted.{IsStrictlySortedBy}
 use Rattle.std.specs.Map.{keys_of}
@@ -14,6 +13,7 @@ use Rattle.std.specs.Option.{option_map}
 use Rattle.swan_model.specs.declared.rights.Mode.TheVariants.{Out}
 use Rattle.swan_model.specs.Rights.{allows}
 use Rattle.swan_model.specs.Versions.{Placed, Places, VersionState, place_cmp, placed_at, objects_after_finish, settle_placed, stays, may_write, left_by}
+use Rattle.swan_model.proofs.Elements.{find_some, found_is}
 use Rattle.object_versions.proofs.Lookups.{equal_at, place_total}
 
 -- whether a frame's places are still kept once the frame n has ended
@@ -68,32 +68,6 @@ sorted_kept state n sorted =
 
 -- ---- the version that a frame leaves
 
--- the first entry that passes a test
-record IsFirst (test : (ℕ × ℕ) × Placed → Bool) (es : Places) : Type 0 where
-  pub index : ℕ
-  pub entry : (ℕ × ℕ) × Placed
-  pub stands : slice_get es index ≡ Some entry
-  pub passes : test entry ≡ true
-  pub found : find test es ≡ Some entry
-
-first_of : (test : (ℕ × ℕ) × Placed → Bool) (es : Places) (i : ℕ) (entry : (ℕ × ℕ) × Placed) → slice_get es i ≡ Some entry → test entry ≡ true → IsFirst test es
-first_of test [] i entry is passes = absurd (cc)
-first_of test (e ∷ es) i entry is passes = by (test e) refl i is (λ j later. first_of test es j entry later passes) where
-  by : (b : Bool) → test e ≡ b → (i : ℕ) → slice_get (e ∷ es) i ≡ Some entry → ((j : ℕ) → slice_get es j ≡ Some entry → IsFirst test es) → IsFirst test (e ∷ es)
-  by true is i at rest = record { index = 0; entry = e; stands = refl; passes = is; found = ap (λ b. cond b (Some e) (find test es)) is }
-  by false is zero at rest =
-      let same : e ≡ entry = cc in
-      absurd (false≢true (sym is ∙ ap test same ∙ passes))
-  by false is (suc j) at rest =
-      let later = rest j at in
-      record {
-        index = suc later.index;
-        entry = later.entry;
-        stands = later.stands;
-        passes = later.passes;
-        found = ap (λ b. cond b (Some e) (find test es)) is ∙ later.found;
-      }
-
 -- a frame leaves the version that it has at this place
 pub record LeavesFrom (state : VersionState) (n object : ℕ) : Type 0 where
   pub place : ℕ
@@ -110,14 +84,16 @@ leaves_from state n object other has sorted stands same may =
     let passes : may_write n object (at.1, has) ≡ true =
     and_from (nat_eq at.1.0 n) (nat_eq has.object object && allows has.mode Out) (eq-eqb at.1.0 n (ap (λ (k : ℕ × ℕ). k.0) (sym key)))
     (and_from (nat_eq has.object object) (allows has.mode Out) (eq-eqb has.object object same) may) in
-    let first = first_of (may_write n object) state.places at.0 (at.1, has) at.2 passes in
-    let parts = and_parts (nat_eq first.entry.0.0 n) (nat_eq first.entry.1.object object && allows first.entry.1.mode Out) first.passes in
-    let found = lookup_from_place (eq_by_cmp_equiv place_total) state.places first.index first.entry.0 first.entry.1 (IsDistinct-from_sorted place_cmp (keys_of state.places) sorted) first.stands in
-    let own : first.entry.0.0 ≡ n = eqb-true first.entry.0.0 n parts.0 in
+    let some = find_some (may_write n object) state.places at.0 (at.1, has) at.2 passes in
+    let first : (ℕ × ℕ) × Placed = some.0 in
+    let found = found_is (may_write n object) state.places first some.1 in
+    let parts = and_parts (nat_eq first.0.0 n) (nat_eq first.1.object object && allows first.1.mode Out) found.passes in
+    let there = lookup_from_place (eq_by_cmp_equiv place_total) state.places found.index first.0 first.1 (IsDistinct-from_sorted place_cmp (keys_of state.places) sorted) found.stands in
+    let own : first.0.0 ≡ n = eqb-true first.0.0 n parts.0 in
     record {
-      place = first.entry.0.1;
-      has = first.entry.1;
-      stands = ap (λ f. placed_at state f first.entry.0.1) (sym own) ∙ found;
-      same = eqb-true first.entry.1.object object (and_parts (nat_eq first.entry.1.object object) (allows first.entry.1.mode Out) parts.1).0;
-      leaves = ap (option_map (λ (entry : (ℕ × ℕ) × Placed). entry.1.present)) first.found;
+      place = first.0.1;
+      has = first.1;
+      stands = ap (λ f. placed_at state f first.0.1) (sym own) ∙ there;
+      same = eqb-true first.1.object object (and_parts (nat_eq first.1.object object) (allows first.1.mode Out) parts.1).0;
+      leaves = ap (option_map (λ (entry : (ℕ × ℕ) × Placed). entry.1.present)) some.1;
     }

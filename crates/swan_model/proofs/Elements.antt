@@ -55,6 +55,16 @@ found_is test (y ∷ xs) x is = by (test y) refl is (λ later. found_is test xs 
         record { index = 0; stands = is; passes = ap test (sym same) ∙ passes }
     by false fails is rest = found-later test y xs x (rest is)
 
+-- where an element that stands in a list passes a test, one is found
+pub find_some : {X : Type 0} (test : X → Bool) (xs : List X) (i : ℕ) (x : X) → slice_get xs i ≡ Some x → test x ≡ true → (y : X) × (find test xs ≡ Some y)
+find_some test [] i x is passes = absurd (cc)
+find_some test (z ∷ xs) zero x is passes = (z, ap (λ b. cond b (Some z) (find test xs)) (ap test (same_Some z x is) ∙ passes))
+find_some {X = X} test (z ∷ xs) (suc i) x is passes = by (test z) (find_some test xs i x is passes)
+  where
+    by : (b : Bool) → (y : X) × (find test xs ≡ Some y) → (y : X) × (cond b (Some z) (find test xs) ≡ Some y)
+    by true rest = (z, refl)
+    by false rest = rest
+
 -- what holds of all
 pub all_each : {X : Type 0} (test : X → Bool) (xs : List X) (i : ℕ) (x : X) → list_all test xs ≡ true → slice_get xs i ≡ Some x → test x ≡ true
 all_each test [] i x all is = absurd (cc)
