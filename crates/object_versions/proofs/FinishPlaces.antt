@@ -1,5 +1,5 @@
 -- What is left of the places when a frame has ended, and the versions that it leaves.
-use Rattle.std.proofs.Common.{◌≡◌, ◌≢◌, ℕ, nat_eq, ◌&&◌, ◌||◌, not, Bool, true, false, cond, Option, None, Some, [], ◌∷◌, filter, refl, sym, ap, subst, ◌∙◌}
+use Rattle.std.proofs.Common.{◌≡◌, ◌≢◌, ℕ, nat_eq, ◌&&◌, ◌||◌, not, Bool, true, false, cond, Option, None, Some, filter, refl, sym, ap, subst, ◌∙◌}
 use Rattle.std.proofs.lemmas.Bool.{and_parts, and_from, eq-eqb, eqb-true, ne_eqb}
 use Rattle.std.proofs.lemmas.Cmp.{eq_by_cmp_equiv}
 use Rattle.std.proofs.lemmas.List.Kept.{IsStrictlySortedBy-filter}
@@ -12,8 +12,9 @@ use Rattle.std.specs.Map.{keys_of}
 use Rattle.std.specs.Option.{option_map}
 use Rattle.swan_model.specs.declared.rights.Mode.TheVariants.{Out}
 use Rattle.swan_model.specs.Rights.{allows}
-use Rattle.swan_model.specs.Versions.{Placed, Places, VersionState, place_cmp, placed_at, objects_after_finish, settle_placed, stays, may_write, left_by}
+use Rattle.swan_model.specs.Versions.{Placed, VersionState, place_cmp, placed_at, objects_after_finish, settle_placed, stays, may_write, left_by}
 use Rattle.swan_model.proofs.Elements.{find_some, found_is}
+use Rattle.swan_model.proofs.Lookups.{keys_filtered}
 use Rattle.object_versions.proofs.Lookups.{equal_at, place_total}
 
 -- whether a frame's places are still kept once the frame n has ended
@@ -52,18 +53,10 @@ still_kept state n f p was stood apart =
     by false true e = absurd (cc)
     by false false e = ap (option_map (settle_placed state n)) stood
 
-filter_keys : (p : ℕ × ℕ → Bool) (es : Places) → keys_of (filter (λ (e : (ℕ × ℕ) × Placed). p e.0) es) ≡ filter p (keys_of es)
-filter_keys p [] = refl
-filter_keys p (e ∷ es) = by (p e.0) ∙ ap (λ ks. cond (p e.0) (e.0 ∷ ks) ks) (filter_keys p es) where
-  by : (b : Bool) → keys_of (cond b (e ∷ filter (λ (e : (ℕ × ℕ) × Placed). p e.0) es) (filter (λ (e : (ℕ × ℕ) × Placed). p e.0) es))
-      ≡ cond b (e.0 ∷ keys_of (filter (λ (e : (ℕ × ℕ) × Placed). p e.0) es)) (keys_of (filter (λ (e : (ℕ × ℕ) × Placed). p e.0) es))
-  by true = refl
-  by false = refl
-
 pub sorted_kept : (state : VersionState) (n : ℕ) → IsStrictlySortedBy place_cmp (keys_of state.places) → IsStrictlySortedBy place_cmp (keys_of (objects_after_finish state n).places)
 sorted_kept state n sorted =
     let same : keys_of (objects_after_finish state n).places ≡ filter (keeps n) (keys_of state.places) =
-    keys_of-map_values (settle_placed state n) (filter (stays n) state.places) ∙ filter_keys (keeps n) state.places in
+    keys_of-map_values (settle_placed state n) (filter (stays n) state.places) ∙ keys_filtered (keeps n) state.places in
     subst (λ keys. IsStrictlySortedBy place_cmp keys) (sym same) (IsStrictlySortedBy-filter place_cmp (keeps n) (keys_of state.places) sorted)
 
 -- ---- the version that a frame leaves

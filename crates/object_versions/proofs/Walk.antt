@@ -1,5 +1,5 @@
 -- One walk over the places of a frame, in rising order.
-use Rattle.std.proofs.Common.{◌≡◌, ◌≢◌, ◌⊎◌, inl, inr, ℕ, ◌≤◌, Bool, true, false, cond, Option, None, Some, List, [], ◌∷◌, filter, refl, sym, ap, subst, ◌∙◌, arith}
+use Rattle.std.proofs.Common.{◌≡◌, ◌≢◌, ◌⊎◌, inl, inr, ℕ, ◌≤◌, Bool, true, false, cond, Option, None, Some, List, [], ◌∷◌, refl, sym, ap, subst, ◌∙◌, arith}
 use Rattle.std.proofs.lemmas.Option.{none-some, same_Some}
 use Rattle.std.proofs.lemmas.Bool.Decides.{nat_tests}
 use Rattle.std.proofs.lemmas.List.Kept.{IsStrictlySortedBy-filter}
@@ -14,6 +14,7 @@ use Rattle.std.specs.declared.ops.Bound.TheVariants.{Included, Unbounded}
 use Rattle.swan_model.specs.Versions.{place_cmp}
 use Rattle.object_versions.specs.declared.placed_object.PlacedObject.{PlacedObject}
 use Rattle.object_versions.specs.Store.{Entries, place_at}
+use Rattle.swan_model.proofs.Lookups.{keys_filtered}
 use Rattle.object_versions.proofs.Lookups.{equal_at, tied}
 
 -- These entries are left of a walk over a frame's places: what is left stands in the map, in rising order and at no
@@ -146,14 +147,6 @@ kept : (b : Bool) (o : Option PlacedObject) (has : PlacedObject) → cond b o No
 kept true o has is = (refl, is)
 kept false o has is = absurd (none-some has is)
 
-keys_kept : (p : ℕ × ℕ → Bool) (es : Entries) → keys_of (filter (λ e. p e.0) es) ≡ filter p (keys_of es)
-keys_kept p [] = refl
-keys_kept p (e ∷ es) = by (p e.0) (keys_kept p es) where
-  by : (b : Bool) → keys_of (filter (λ e. p e.0) es) ≡ filter p (keys_of es)
-      → keys_of (cond b (e ∷ filter (λ e. p e.0) es) (filter (λ e. p e.0) es)) ≡ cond b (e.0 ∷ filter p (keys_of es)) (filter p (keys_of es))
-  by true rest = ap (◌∷◌ e.0) rest
-  by false rest = rest
-
 -- the walk begins with all entries from the frame's first place on
 pub begins : (entries : Entries) (frame : ℕ) (Done : PlacedObject → Type 0) → IsStrictlySortedBy place_cmp (keys_of entries)
     → IsWalk entries (entries_between place_cmp (Included (frame, 0)) Unbounded entries) frame Done
@@ -166,7 +159,7 @@ begins entries frame Done sorted = record {
   keys_from : IsStrictlySortedBy place_cmp (keys_of (entries_between place_cmp (Included (frame, 0)) Unbounded entries))
   keys_from =
       let P : List (ℕ × ℕ) → Type 0 = λ keys. IsStrictlySortedBy place_cmp keys in
-      subst P (sym (keys_kept (is_from frame) entries)) (IsStrictlySortedBy-filter place_cmp (is_from frame) (keys_of entries) sorted)
+      subst P (sym (keys_filtered (is_from frame) entries)) (IsStrictlySortedBy-filter place_cmp (is_from frame) (keys_of entries) sorted)
 
   found : (owner place : ℕ) (has : PlacedObject) → place_at (entries_between place_cmp (Included (frame, 0)) Unbounded entries) owner place ≡ Some has
       → (is_from frame (owner, place) ≡ true) × (place_at entries owner place ≡ Some has)

@@ -1,6 +1,6 @@
 -- What is found in a list of entries: what holds of each entry holds of one that is found, and what is found after one came in, was changed, or
 -- went out, for any order of keys, and for keys that are numbers.
-use Rattle.std.proofs.Common.{◌≡◌, ◌≢◌, ℕ, Bool, true, false, cond, Option, None, Some, List, [], ◌∷◌, refl, sym, ap, ◌∙◌, arith}
+use Rattle.std.proofs.Common.{◌≡◌, ◌≢◌, ℕ, Bool, true, false, cond, Option, None, Some, List, [], ◌∷◌, filter, refl, sym, ap, ◌∙◌, arith}
 use Rattle.std.proofs.lemmas.Bool.{and_parts, false≢true}
 use Rattle.std.proofs.lemmas.Bool.Decides.{nat_tests}
 use Rattle.std.proofs.lemmas.Cmp.{alike_right, eq_by_cmp_equiv, nat_cmp_total}
@@ -42,6 +42,17 @@ hidden true true x y z e = refl
 hidden true false x y z e = absurd (false≢true (sym e))
 hidden false true x y z e = absurd (false≢true e)
 hidden false false x y z e = refl
+
+-- ---- keys
+
+-- the keys of the entries whose keys pass a test are the keys that pass it
+pub keys_filtered : {K X : Type 0} (p : K → Bool) (es : List (K × X)) → keys_of (filter (λ e. p e.0) es) ≡ filter p (keys_of es)
+keys_filtered p [] = refl
+keys_filtered p (e ∷ es) = by (p e.0) (keys_filtered p es) where
+  by : (b : Bool) → keys_of (filter (λ e. p e.0) es) ≡ filter p (keys_of es)
+      → keys_of (cond b (e ∷ filter (λ e. p e.0) es) (filter (λ e. p e.0) es)) ≡ cond b (e.0 ∷ filter p (keys_of es)) (filter p (keys_of es))
+  by true rest = ap (◌∷◌ e.0) rest
+  by false rest = rest
 
 -- ---- tests of entries
 
