@@ -2,21 +2,17 @@
 use Rattle.std.proofs.Common.{◌≡◌, ◌≢◌, ◌⊎◌, inl, inr, ℕ, Bool, true, false, cond, Option, None, Some, List, refl, sym, ap, ◌∙◌, arith}
 use Rattle.std.proofs.lemmas.Bool.{false≢true}
 use Rattle.std.proofs.lemmas.Bool.Decides.{nat_tests}
-use Rattle.std.proofs.lemmas.Cmp.{nat_cmp_total, on_total, then_total, tied_itself}
+use Rattle.std.proofs.lemmas.Cmp.{nat_cmp_total, on_total, then_total}
 use Rattle.std.proofs.lemmas.Option.{none-some}
 use Rattle.std.specs.Cmp.{IsTotalOrder}
 use Rattle.std.specs.List.Sorted.{IsStrictlySortedBy}
 use Rattle.std.specs.Map.{lookup, set_value, remove_entry, keys_of}
 use Rattle.std.specs.BTreeMap.{is_at, insert_entry}
-use Rattle.std.specs.Ordering.{is_eq}
 use Rattle.swan_model.specs.Versions.{place_cmp}
-use Rattle.swan_model.proofs.Lookups.{found_in, found_set, found_without}
+use Rattle.swan_model.proofs.Lookups.{at_key_inserted, at_key_set, by_key_inserted, by_key_removed, by_key_set, found_in, found_set, found_without, key_tied, key_untied}
 
 pub place_total : IsTotalOrder place_cmp
 place_total = then_total (on_total (λ (k : ℕ × ℕ). k.0) nat_cmp_total) (on_total (λ (k : ℕ × ℕ). k.1) nat_cmp_total)
-
-pub tied : (k : ℕ × ℕ) → is_at (place_cmp k) k ≡ true
-tied k = ap is_eq (tied_itself place_total k)
 
 pub equal_by : (a b c d : ℕ) → is_at (place_cmp (a, b)) (c, d) ≡ true → (a ≡ c) × (b ≡ d)
 equal_by a b c d h = (grind (arith, nat_tests), grind (arith, nat_tests))
@@ -24,11 +20,13 @@ equal_by a b c d h = (grind (arith, nat_tests), grind (arith, nat_tests))
 pub equal_at : (k n : ℕ × ℕ) → is_at (place_cmp k) n ≡ true → k ≡ n
 equal_at k n h = let both = equal_by k.0 k.1 n.0 n.1 h in λ i. (both.0 i, both.1 i)
 
+-- a place ties with itself
+pub tied : (k : ℕ × ℕ) → is_at (place_cmp k) k ≡ true
+tied k = key_tied place_total equal_at k
+
+-- and with no other one
 pub untied : (k n : ℕ × ℕ) → n ≢ k → is_at (place_cmp k) n ≡ false
-untied k n apart = by (is_at (place_cmp k) n) refl where
-  by : (b : Bool) → is_at (place_cmp k) n ≡ b → b ≡ false
-  by true e = absurd (apart (sym (equal_at k n e)))
-  by false e = refl
+untied k n apart = key_untied place_total equal_at k n apart
 
 -- a place is this one, or another one
 pub cases_place : (n k : ℕ × ℕ) → (n ≡ k) ⊎ (n ≢ k)
@@ -82,21 +80,20 @@ module _ {X : Type 0} where
   -- ---- what is there still
 
   pub at_inserted : (es : List ((ℕ × ℕ) × X)) (k : ℕ × ℕ) (value : X) → here (insert_entry place_cmp es k value) k ≡ Some value
-  at_inserted es k value = found_in place_total k value k es ∙ ap (λ b. cond b (Some value) (here es k)) (tied k)
+  at_inserted = at_key_inserted place_total equal_at
 
   pub at_set : (es : List ((ℕ × ℕ) × X)) (k : ℕ × ℕ) (was value : X) → here es k ≡ Some was → here (set_value (is_at (place_cmp k)) es value) k ≡ Some value
-  at_set es k was value stands = found_set place_total es k was value k stands ∙ ap (λ b. cond b (Some value) (here es k)) (tied k)
+  at_set = at_key_set place_total equal_at
 
   pub still_inserted : (es : List ((ℕ × ℕ) × X)) (k : ℕ × ℕ) (value : X) (n : ℕ × ℕ) (has : X) → here es k ≡ None
       → here es n ≡ Some has → here (insert_entry place_cmp es k value) n ≡ Some has
   still_inserted es k value n has free is =
-      let apart : is_at (place_cmp n) k ≡ false = untied n k (λ e. none-some has (sym free ∙ ap (here es) e ∙ is)) in
-      found_in place_total k value n es ∙ ap (λ b. cond b (Some value) (here es n)) apart ∙ is
+      by_key_inserted place_total equal_at es k value n (λ e. none-some has (sym free ∙ ap (here es) (sym e) ∙ is)) ∙ is
 
   pub still_set : (es : List ((ℕ × ℕ) × X)) (k : ℕ × ℕ) (was value : X) (n : ℕ × ℕ) → here es k ≡ Some was → n ≢ k
       → here (set_value (is_at (place_cmp k)) es value) n ≡ here es n
-  still_set es k was value n stands apart = found_set place_total es k was value n stands ∙ ap (λ b. cond b (Some value) (here es n)) (untied k n apart)
+  still_set = by_key_set place_total equal_at
 
   pub still_without : (es : List ((ℕ × ℕ) × X)) (k n : ℕ × ℕ) → IsStrictlySortedBy place_cmp (keys_of es) → n ≢ k
       → here (remove_entry (is_at (place_cmp k)) es) n ≡ here es n
-  still_without es k n sorted apart = found_without place_total es k n sorted ∙ ap (λ b. cond b None (here es n)) (untied k n apart)
+  still_without = by_key_removed place_total equal_at

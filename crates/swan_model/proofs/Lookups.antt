@@ -1,9 +1,9 @@
 -- What is found in a list of entries: what holds of each entry holds of one that is found, and what is found after one came in, was changed, or
 -- went out, for any order of keys, and for keys that are numbers.
 use Rattle.std.proofs.Common.{◌≡◌, ◌≢◌, ℕ, Bool, true, false, cond, Option, None, Some, List, [], ◌∷◌, filter, refl, sym, ap, ◌∙◌, arith}
-use Rattle.std.proofs.lemmas.Bool.{and_parts, false≢true}
+use Rattle.std.proofs.lemmas.Bool.{and_parts, false_from_ne_true, false≢true}
 use Rattle.std.proofs.lemmas.Bool.Decides.{nat_tests}
-use Rattle.std.proofs.lemmas.Cmp.{alike_right, eq_by_cmp_equiv, nat_cmp_total}
+use Rattle.std.proofs.lemmas.Cmp.{alike_right, eq_by_cmp_equiv, nat_cmp_total, tied_itself}
 use Rattle.std.proofs.lemmas.Map.{lookup-set_value, lookup-remove_entry}
 use Rattle.std.proofs.lemmas.Map.Keys.{IsDistinct-from_sorted}
 use Rattle.std.proofs.lemmas.Option.{none-some, same_Some}
@@ -111,6 +111,48 @@ module _ {K : Type 0} {cmp : K → K → Ordering} (total : IsTotalOrder cmp) wh
     found_without es k n sorted =
         lookup-remove_entry (eq_by_cmp_equiv total) (is_at (cmp k)) (one_key k) n es (IsDistinct-from_sorted cmp (keys_of es) sorted)
 
+-- ---- any order in which only a key itself ties with it
+
+module _ {K : Type 0} {cmp : K → K → Ordering} (total : IsTotalOrder cmp) (equal : (k n : K) → is_at (cmp k) n ≡ true → k ≡ n) where
+  -- a key ties with itself
+  pub key_tied : (k : K) → is_at (cmp k) k ≡ true
+  key_tied k = ap is_eq (tied_itself total k)
+
+  -- a key ties with no other one
+  pub key_untied : (k n : K) → n ≢ k → is_at (cmp k) n ≡ false
+  key_untied k n apart = false_from_ne_true (is_at (cmp k) n) (λ is. apart (sym (equal k n is)))
+
+  module _ {X : Type 0} where
+    -- what is found at a key
+    abbrev at_key : List (K × X) → K → Option X
+    at_key es n = lookup (is_at (cmp n)) es
+
+    -- an entry that came in is found at its key
+    pub at_key_inserted : (es : List (K × X)) (k : K) (v : X) → at_key (insert_entry cmp es k v) k ≡ Some v
+    at_key_inserted es k v = found_in total k v k es ∙ ap (λ b. cond b (Some v) (at_key es k)) (key_tied k)
+
+    -- what is found at other keys than that of an entry that came in was found there before
+    pub by_key_inserted : (es : List (K × X)) (k : K) (v : X) (n : K) → n ≢ k → at_key (insert_entry cmp es k v) n ≡ at_key es n
+    by_key_inserted es k v n apart = found_in total k v n es ∙ ap (λ b. cond b (Some v) (at_key es n)) (key_untied n k (λ e. apart (sym e)))
+
+    -- an entry that was changed is found as it is now
+    pub at_key_set : (es : List (K × X)) (k : K) (was v : X) → at_key es k ≡ Some was → at_key (set_value (is_at (cmp k)) es v) k ≡ Some v
+    at_key_set es k was v e = found_set total es k was v k e ∙ ap (λ b. cond b (Some v) (at_key es k)) (key_tied k)
+
+    -- what is found at other keys than that of an entry that was changed was found there before
+    pub by_key_set : (es : List (K × X)) (k : K) (was v : X) (n : K) → at_key es k ≡ Some was → n ≢ k
+        → at_key (set_value (is_at (cmp k)) es v) n ≡ at_key es n
+    by_key_set es k was v n e apart = found_set total es k was v n e ∙ ap (λ b. cond b (Some v) (at_key es n)) (key_untied k n apart)
+
+    -- an entry that went out isn't found
+    pub at_key_removed : (es : List (K × X)) (k : K) → IsStrictlySortedBy cmp (keys_of es) → at_key (remove_entry (is_at (cmp k)) es) k ≡ None
+    at_key_removed es k sorted = found_without total es k k sorted ∙ ap (λ b. cond b None (at_key es k)) (key_tied k)
+
+    -- what is found at other keys than that of an entry that went out was found there before
+    pub by_key_removed : (es : List (K × X)) (k n : K) → IsStrictlySortedBy cmp (keys_of es) → n ≢ k
+        → at_key (remove_entry (is_at (cmp k)) es) n ≡ at_key es n
+    by_key_removed es k n sorted apart = found_without total es k n sorted ∙ ap (λ b. cond b None (at_key es n)) (key_untied k n apart)
+
 -- ---- entries by numbers
 
 module _ {X : Type 0} where
@@ -119,21 +161,21 @@ module _ {X : Type 0} where
   at_number es n = lookup (is_at (nat_cmp n)) es
 
   pub at_inserted : (es : List (ℕ × X)) (k : ℕ) (v : X) → at_number (insert_entry nat_cmp es k v) k ≡ Some v
-  at_inserted es k v = found_in nat_cmp_total k v k es ∙ ap (λ b. cond b (Some v) (at_number es k)) (tied k k refl)
+  at_inserted = at_key_inserted nat_cmp_total equal_at
 
   pub by_inserted : (es : List (ℕ × X)) (k : ℕ) (v : X) (n : ℕ) → n ≢ k → at_number (insert_entry nat_cmp es k v) n ≡ at_number es n
-  by_inserted es k v n apart = found_in nat_cmp_total k v n es ∙ ap (λ b. cond b (Some v) (at_number es n)) (untied n k (λ e. apart (sym e)))
+  by_inserted = by_key_inserted nat_cmp_total equal_at
 
   pub at_set : (es : List (ℕ × X)) (k : ℕ) (was v : X) → at_number es k ≡ Some was → at_number (set_value (is_at (nat_cmp k)) es v) k ≡ Some v
-  at_set es k was v e = found_set nat_cmp_total es k was v k e ∙ ap (λ b. cond b (Some v) (at_number es k)) (tied k k refl)
+  at_set = at_key_set nat_cmp_total equal_at
 
   pub by_set : (es : List (ℕ × X)) (k : ℕ) (was v : X) (n : ℕ) → at_number es k ≡ Some was → n ≢ k
       → at_number (set_value (is_at (nat_cmp k)) es v) n ≡ at_number es n
-  by_set es k was v n e apart = found_set nat_cmp_total es k was v n e ∙ ap (λ b. cond b (Some v) (at_number es n)) (untied k n apart)
+  by_set = by_key_set nat_cmp_total equal_at
 
   pub at_removed : (es : List (ℕ × X)) (k : ℕ) → IsStrictlySortedBy nat_cmp (keys_of es) → at_number (remove_entry (is_at (nat_cmp k)) es) k ≡ None
-  at_removed es k sorted = found_without nat_cmp_total es k k sorted ∙ ap (λ b. cond b None (at_number es k)) (tied k k refl)
+  at_removed = at_key_removed nat_cmp_total equal_at
 
   pub by_removed : (es : List (ℕ × X)) (k n : ℕ) → IsStrictlySortedBy nat_cmp (keys_of es) → n ≢ k
       → at_number (remove_entry (is_at (nat_cmp k)) es) n ≡ at_number es n
-  by_removed es k n sorted apart = found_without nat_cmp_total es k n sorted ∙ ap (λ b. cond b None (at_number es n)) (untied k n apart)
+  by_removed = by_key_removed nat_cmp_total equal_at
