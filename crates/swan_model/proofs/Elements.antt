@@ -32,6 +32,11 @@ some_of (Some x) is = (x, refl)
 pub some_is : {X : Type 0} (o : Option X) (x : X) → o ≡ Some x → IsSome o
 some_is o x is = subst IsSome (sym is) refl
 
+-- an answer that nothing stands in for is itself
+pub or_none : {X : Type 0} (o : Option X) → option_or o None ≡ o
+or_none None = refl
+or_none (Some x) = refl
+
 -- two answers of one look-up are the same
 pub one_answer : {X : Type 0} (o : Option X) (x y : X) → o ≡ Some x → o ≡ Some y → x ≡ y
 one_answer o x y is also = same_Some x y (sym is ∙ also)
@@ -236,11 +241,7 @@ module _ {X : Type 0} (test : X → Bool) (xs : List X) (x : X) where
       find-append test xs (x ∷ []) ∙ ap (λ o. option_or o (find test (x ∷ []))) none ∙ ap (λ b. cond b (Some x) None) passes
 
   pub found_unless : test x ≡ false → find test (xs ++ x ∷ []) ≡ find test xs
-  found_unless fails = find-append test xs (x ∷ []) ∙ ap (λ b. option_or (find test xs) (cond b (Some x) None)) fails ∙ by (find test xs)
-    where
-      by : (o : Option X) → option_or o None ≡ o
-      by None = refl
-      by (Some y) = refl
+  found_unless fails = find-append test xs (x ∷ []) ∙ ap (λ b. option_or (find test xs) (cond b (Some x) None)) fails ∙ or_none (find test xs)
 
   pub found_cases : (y : X) → find test (xs ++ x ∷ []) ≡ Some y → (find test xs ≡ Some y) ⊎ ((find test xs ≡ None) × (test x ≡ true) × (x ≡ y))
   found_cases y is = by (find test xs) (test x) refl refl (sym (find-append test xs (x ∷ [])) ∙ is)
