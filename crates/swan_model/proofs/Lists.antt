@@ -1,8 +1,11 @@
 -- Lists: their last element, what stands within them, and their parts.
-use Rattle.std.proofs.Common.{◌≡◌, ℕ, zero, suc, ◌<◌, List, [], ◌∷◌, ◌++◌, length, Some, refl, ap, arith, ◌∙◌, ◌+◌, take, drop, None, ◌≤◌}
+use Rattle.std.proofs.Common.{◌≡◌, ℕ, zero, suc, ◌<◌, List, [], ◌∷◌, ◌++◌, length, Some, refl, sym, ap, arith, ◌∙◌, ◌+◌, take, drop, None, ◌≤◌}
+use Rattle.std.proofs.lemmas.Bool.Decides.{same_from_decides}
 use Rattle.std.proofs.lemmas.List.{drop_more, take_more}
 use Rattle.std.proofs.lemmas.Option.{get_or_from_slice_get, slice_get_within}
+use Rattle.std.proofs.lemmas.Slice.Eq.{bytes_eq-Decides}
 use Rattle.std.specs.Prelude.{slice_get, slice_set}
+use Rattle.std.specs.Str.{bytes_eq}
 
 -- a list is empty, or it has a last element
 pub record HasLast (xs : List ℕ) : Type 0 where
@@ -31,6 +34,13 @@ get-set_same (y ∷ xs) (suc n) x within = get-set_same xs n x (omega arith)
 -- the parts of two lists that are the same
 pub same_parts : {X : Type 0} (x y : X) (xs ys : List X) → x ∷ xs ≡ y ∷ ys → (x ≡ y) × (xs ≡ ys)
 same_parts x y xs ys same = (cc, cc)
+
+-- one list of numbers is another one where that one is this one
+pub bytes_eq-sym : (a b : List ℕ) → bytes_eq a b ≡ bytes_eq b a
+bytes_eq-sym a b =
+    let forth = bytes_eq-Decides a b in
+    let back = bytes_eq-Decides b a in
+    same_from_decides (bytes_eq a b) (bytes_eq b a) forth (λ h. sym (back.0 h), λ e. back.1 (sym e))
 
 -- what stands in the first of two lists, and after it
 pub get-before : {X : Type 0} (xs ys : List X) (n : ℕ) → n < length xs → slice_get (xs ++ ys) n ≡ slice_get xs n

@@ -1,7 +1,8 @@
 -- Paths that are the same, and paths that are below another one.
 use Rattle.std.proofs.Common.{◌≡◌, ℕ, true, nat_eq, List, [], ◌∷◌, ◌++◌, length, refl, sym, ap, ◌∙◌, append_assoc, arith, length-append}
-use Rattle.std.proofs.lemmas.Bool.{and_parts, and_from, eqb-true, eq-eqb}
+use Rattle.std.proofs.lemmas.Bool.{eq-eqb}
 use Rattle.std.proofs.lemmas.List.{append-nil}
+use Rattle.std.proofs.lemmas.Slice.Eq.{bytes_eq-Decides}
 use Rattle.std.specs.Cmp.Lexicographic.{pointwise}
 
 pub same_part : (part : ℕ) → nat_eq part part ≡ true
@@ -18,19 +19,13 @@ not_below-itself path rest number is =
     let e : length path ≡ length (path ++ number ∷ rest) = ap length is in
     omega (arith, length-append path (number ∷ rest))
 
+-- paths that are equal part by part are the same
 pub same_path : (path other : List ℕ) → pointwise nat_eq path other ≡ true → path ≡ other
-same_path [] [] is = refl
-same_path [] (part ∷ parts) is = absurd (cc)
-same_path (part ∷ parts) [] is = absurd (cc)
-same_path (part ∷ parts) (other ∷ others) is =
-    let both = and_parts (nat_eq part other) (pointwise nat_eq parts others) is in
-    let head : part ≡ other = eqb-true part other both.0 in
-    let tail : parts ≡ others = same_path parts others both.1 in
-    cc
+same_path path other is = (bytes_eq-Decides path other).0 is
 
+-- a path is equal to itself part by part
 pub path_is-itself : (path : List ℕ) → pointwise nat_eq path path ≡ true
-path_is-itself [] = refl
-path_is-itself (part ∷ parts) = and_from (nat_eq part part) (pointwise nat_eq parts parts) (same_part part) (path_is-itself parts)
+path_is-itself path = (bytes_eq-Decides path path).1 refl
 
 -- a path is another one, or below it
 pub record IsUnder (path other : List ℕ) : Type 0 where
