@@ -11,8 +11,7 @@ use Rattle.swan_model.specs.QueueFollows.{FitsFrame}
 use Rattle.swan_model.specs.QueueState.{ActiveFrame}
 use Rattle.swan_model.specs.Readings.{next_deed}
 use Rattle.swan_model.specs.SerialTime.{Progress, is_queue_deed, point, time, times}
-use Rattle.swan_model.specs.Told.{deed_at}
-use Rattle.swan_model.proofs.ScriptSteps.{at_next, deed_is, next_stands}
+use Rattle.swan_model.proofs.ScriptSteps.{at_next, deed_is, does_now, next_stands}
 use Rattle.queues.specs.Reads.{deeds_among}
 use Rattle.queues.proofs.Between.{own_last}
 use Rattle.swan_model.proofs.Elements.{filtered_more, one_if}
@@ -20,12 +19,6 @@ use Rattle.queues.proofs.Fitting.{is_queue_time}
 use Rattle.queues.proofs.QueuePoints.{last-ends}
 
 module _ (s : Script) where
-  -- what a frame does at its point
-  pub does_now : (p : Progress) (d : Deed) → next_deed s p ≡ Some d → deed_at s (point s p) ≡ d
-  does_now p d next =
-      let step = at_next s p d next in
-      deed_is s (point s p) step.entry step.stands ∙ step.does
-
   pub own_now : (p : Progress) (d : Deed) → next_deed s p ≡ Some d → IsEntryOf s p.path (point s p)
   own_now p d next =
       let step = at_next s p d next in
@@ -36,7 +29,7 @@ module _ (s : Script) where
   deeds_more p d next =
       let step = at_next s p d next in
       filtered_more (is_queue_time s) (times s p.path) p.done (point s p) (next_stands s p step.left)
-      ∙ ap (λ x. deeds_among s p.path p.done + one_if (is_queue_deed x)) (does_now p d next)
+      ∙ ap (λ x. deeds_among s p.path p.done + one_if (is_queue_deed x)) (does_now s p d next)
 
   -- a frame fits that differs in nothing that counts
   pub fits_same : (frame after : ActiveFrame) (p : Progress) → FitsFrame s frame p → after.path ≡ frame.path → after.deeds ≡ frame.deeds → FitsFrame s after p

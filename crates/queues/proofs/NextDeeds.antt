@@ -12,10 +12,9 @@ use Rattle.swan_model.specs.Readings.{next_deed}
 use Rattle.swan_model.specs.SerialTime.{Progress, is_queue_deed, point, time, times}
 use Rattle.swan_model.specs.Told.{deed_at}
 use Rattle.swan_model.proofs.Places.{passing-rises}
-use Rattle.swan_model.proofs.ScriptSteps.{at_next}
+use Rattle.swan_model.proofs.ScriptSteps.{at_next, does_now}
 use Rattle.swan_model.proofs.TaskEntries.{point_is}
 use Rattle.queues.specs.Reads.{deeds_among}
-use Rattle.queues.proofs.Advancing.{does_now}
 use Rattle.queues.proofs.Between.{deed-place, deed_left, is_queue_deed_of, own_last, to_deed}
 use Rattle.queues.proofs.Fitting.{fits_comes}
 use Rattle.queues.proofs.QueuePoints.{at_own}

@@ -14,9 +14,9 @@ use Rattle.swan_model.specs.Readings.{gone_on, gone_on_by, next_deed, with_queue
 use Rattle.swan_model.specs.SerialTime.{Progress, Reading, frame_of, is_queue_deed, point, times}
 use Rattle.swan_model.specs.Told.{deed_at}
 use Rattle.swan_model.proofs.Places.{passing-rises}
-use Rattle.swan_model.proofs.ScriptSteps.{point_rises}
+use Rattle.swan_model.proofs.ScriptSteps.{does_now, point_rises}
 use Rattle.swan_model.proofs.TaskEntries.{spawn_own}
-use Rattle.queues.proofs.Advancing.{does_now, fits_next, fits_same, more_left}
+use Rattle.queues.proofs.Advancing.{fits_next, fits_same, more_left}
 use Rattle.queues.proofs.Between.{deed-more, deed-place, deeds_before, is_queue_deed_of, point_left}
 use Rattle.queues.proofs.Calls.{by_end_makes}
 use Rattle.queues.proofs.Continuing.{became, changed_gone, fits_by, goes_by, others_kept}

@@ -1,8 +1,7 @@
 -- A reading fits that differs from one that fits only in what queues aren't told of.
-use Rattle.std.proofs.Common.{◌≡◌, inl, inr, ℕ, zero, suc, Bool, true, false, nat_eq, nat_lt, cond, List, [], ◌∷◌, Some, None, refl, sym, ap, subst, ◌∙◌, arith}
+use Rattle.std.proofs.Common.{◌≡◌, inl, inr, ℕ, Bool, true, nat_eq, nat_lt, Some, None, sym, ap, subst, ◌∙◌, arith}
 use Rattle.std.proofs.lemmas.Bool.{eq-eqb, eqb-true, lt-ltb, ltb-true}
 use Rattle.std.proofs.lemmas.Option.{slice_get_within, same_Some}
-use Rattle.std.specs.List.{find}
 use Rattle.std.specs.Option.{option_map_or}
 use Rattle.std.specs.Prelude.{slice_get}
 use Rattle.swan_model.specs.declared.script.Script.{Script}
@@ -14,20 +13,10 @@ use Rattle.swan_model.specs.Told.{deed_at}
 use Rattle.swan_model.proofs.Lists.{some_within}
 use Rattle.queues.specs.Reads.{DiffersIdly}
 use Rattle.queues.proofs.Done.{spawn_deed}
-use Rattle.swan_model.proofs.Elements.{found_is, option_cases}
+use Rattle.swan_model.proofs.Elements.{find_some, found_is, option_cases}
 use Rattle.queues.proofs.Fitting.{fits_still, same_side}
 use Rattle.queues.proofs.Refitting.{GoesTo, refits}
 use Rattle.swan_model.proofs.MovedFrames.{frame_in, frame_number}
-
--- one that passes is found
-find_some : {X : Type 0} (test : X → Bool) (xs : List X) (i : ℕ) (x : X) → slice_get xs i ≡ Some x → test x ≡ true → (y : X) × (find test xs ≡ Some y)
-find_some test [] i x at passes = absurd (cc)
-find_some test (z ∷ xs) zero x at passes = (z, ap (λ b. cond b (Some z) (find test xs)) (ap test (same_Some z x at) ∙ passes))
-find_some {X = X} test (z ∷ xs) (suc i) x at passes = by (test z) (find_some test xs i x at passes)
-  where
-    by : (b : Bool) → (y : X) × (find test xs ≡ Some y) → (y : X) × (cond b (Some z) (find test xs) ≡ Some y)
-    by true rest = (z, refl)
-    by false rest = rest
 
 point_same : (s : Script) (a b : Progress) → b.path ≡ a.path → b.done ≡ a.done → point s b ≡ point s a
 point_same s a b path done =

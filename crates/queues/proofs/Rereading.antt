@@ -18,9 +18,9 @@ use Rattle.swan_model.specs.Readings.{gone_on, more_by, next_deed, with_queue}
 use Rattle.swan_model.specs.SerialTime.{Progress, Reading, frame_of, is_of, is_queue_deed, point, times}
 use Rattle.swan_model.specs.Told.{deed_at}
 use Rattle.swan_model.proofs.Places.{placed}
-use Rattle.swan_model.proofs.ScriptSteps.{deed_is, moved}
+use Rattle.swan_model.proofs.ScriptSteps.{deed_is, does_now, moved}
 use Rattle.swan_model.proofs.TaskEntries.{is_spawn_of}
-use Rattle.queues.proofs.Advancing.{does_now, fits_next, fits_same}
+use Rattle.queues.proofs.Advancing.{fits_next, fits_same}
 use Rattle.queues.proofs.Between.{no_spawn}
 use Rattle.queues.proofs.Continuing.{KeepsOthers, WasActive, all_kept, became, changed_gone, fits_by, goes_by, others_kept}
 use Rattle.queues.proofs.Finishing.{not_active, still_active}
