@@ -13,7 +13,7 @@ use Rattle.job_reader.specs.declared.fault.JobKind.{JobKind}
 use Rattle.job_reader.specs.declared.fault.JobKind.TheVariants as kind
 use Rattle.job_reader.specs.declared.literal.Inside.TheVariants.{Plain}
 use Rattle.job_reader.proofs.Canon.{canon, canon_literal, unquoted_stays}
-use Rattle.job_reader.proofs.Literals.{AreBytes, Escaping, all_decode, escaping, literal_short}
+use Rattle.job_reader.proofs.Literals.{AreBytes, Escaping, all_decode, escaping, literal_short, two_digits}
 use Rattle.job_reader.proofs.Literals.Escaping.{at_quote, at_backslash, at_feed, at_tab, itself, by_digits}
 
 -- a token that is a literal
@@ -100,7 +100,8 @@ escape_allowed byte _ (itself quote backslash is) small = and_from (is_allowed b
 escape_allowed byte _ (by_digits isnt) small =
     let high : byte / 16 < 16 = omega arith in
     let low : byte % 16 < 16 = omega arith in
-    and_from (is_allowed (digit_char (byte / 16))) (is_allowed (digit_char (byte % 16)) && true) (digit_allowed (byte / 16) high) (and_from (is_allowed (digit_char (byte % 16))) true (digit_allowed (byte % 16) low) refl)
+    ap (list_all is_allowed) (two_digits byte small)
+    ∙ and_from (is_allowed (digit_char (byte / 16))) (is_allowed (digit_char (byte % 16)) && true) (digit_allowed (byte / 16) high) (and_from (is_allowed (digit_char (byte % 16))) true (digit_allowed (byte % 16) low) refl)
 
 bytes_allowed : (bytes : List ℕ) → AreBytes bytes → list_all is_allowed (flat_map escaped bytes) ≡ true
 bytes_allowed [] are = refl

@@ -1,15 +1,17 @@
 -- A literal's canonical text stands for the same bytes, and is no longer than the token.
-use Rattle.std.proofs.Common.{◌≡◌, ℕ, ◌+◌, ◌*◌, ◌/◌, ◌%◌, ◌<◌, ◌≤◌, true, false, List, [], ◌∷◌, ◌++◌, length, Option, Some, None, refl, sym, ap, subst, ◌∙◌, ⊎_elim, append_assoc, arith}
+use Rattle.std.proofs.Common.{◌≡◌, ℕ, ◌+◌, ◌*◌, ◌/◌, ◌%◌, ◌<◌, ◌≤◌, zero, suc, Bool, true, false, List, [], ◌∷◌, ◌++◌, length, Option, Some, None, refl, sym, ap, subst, ◌∙◌, ⊎_elim, append_assoc, arith}
 use Rattle.std.proofs.Common.{length-append}
-use Rattle.std.specs.Prelude.{◌==◌, ◌||◌, nat_le, nat_lt, flat_map, option_map, option_to_list}
+use Rattle.std.specs.Prelude.{◌==◌, ◌&&◌, ◌||◌, slice_index, nat_le, nat_lt, flat_map, option_map, option_to_list}
 use Rattle.std.specs.Char.{digit_value, digit_char, is_digit}
 use Rattle.std.specs.List.{list_all}
 use Rattle.std.proofs.Common.{lit≤, lit<}
 use Rattle.std.proofs.lemmas.Grind.{flat_map-append}
 use Rattle.std.proofs.lemmas.List.{append-nil}
 use Rattle.std.proofs.lemmas.Str.{digit_value-digit_char}
-use Rattle.std.proofs.lemmas.Bool.{cond-true, cond-false, cond_both, and_parts, lt-ltb, ltb-true, leb-true, eqb-true, eq-eqb, both_ways, or_cases}
+use Rattle.std.proofs.lemmas.Bool.{cond-true, cond-false, cond_both, and_parts, lt-ltb, ltb-true, leb-true, eqb-true, eq-eqb, both_ways, or_cases, cases_lt}
 use Rattle.std.proofs.lemmas.Iterator.Adapters.{option_map_id}
+use Rattle.hex.specs.Hex.{encode_lower, encode_with, lower_digits}
+use Rattle.hex.proofs.HexLemmas.{length-encode_with}
 use Rattle.swan_model.proofs.Elements.{mapped_is}
 use Rattle.job_reader.specs.Atoms.{and_then, decode, decoded, IsDecoding}
 use Rattle.job_reader.specs.CanonicalText.{escaped}
@@ -30,6 +32,27 @@ step Closed byte rest = refl
 
 pub by_step : (inside : Inside) (byte : ℕ) (rest : List ℕ) (next : Inside) (out : Option ℕ) → decode inside byte ≡ Some (next, out) → decoded inside (byte ∷ rest) ≡ option_map (λ more. option_to_list out ++ more) (decoded next rest)
 by_step inside byte rest next out is = step inside byte rest ∙ ap (λ d. and_then d (λ s. option_map (λ more. option_to_list s.1 ++ more) (decoded s.0 rest))) is
+
+-- whether the digits of values below n are those of the table
+abbrev tabled : ℕ → Bool
+tabled zero = true
+tabled (suc n) = slice_index lower_digits n == digit_char n && tabled n
+
+-- the digit of a value is the one at its place of the table
+tabled_digit : (n d : ℕ) → tabled n ≡ true → d < n → slice_index lower_digits d ≡ digit_char d
+tabled_digit zero d are below = absurd (omega arith)
+tabled_digit (suc n) d are below =
+    let parts = and_parts (slice_index lower_digits n == digit_char n) (tabled n) are in
+    ⊎_elim (λ (less : d < n). tabled_digit n d parts.1 less)
+    (λ (last : n ≤ d). let same : n ≡ d = omega arith in subst (λ k. slice_index lower_digits k ≡ digit_char k) same (eqb-true (slice_index lower_digits n) (digit_char n) parts.0))
+    (cases_lt d n)
+
+-- the hexadecimal text of a byte is its two digits
+pub two_digits : (byte : ℕ) → byte < 256 → encode_lower (byte ∷ []) ≡ digit_char (byte / 16) ∷ digit_char (byte % 16) ∷ []
+unfolding encode_with
+two_digits byte small =
+    ap (λ high. high ∷ slice_index lower_digits (byte % 16) ∷ []) (tabled_digit 16 (byte / 16) refl (omega arith))
+    ∙ ap (λ low. digit_char (byte / 16) ∷ low ∷ []) (tabled_digit 16 (byte % 16) refl (omega arith))
 
 hex_digit : (d : ℕ) → d < 16 → is_digit (digit_char d) 16 ≡ true
 hex_digit d small =
@@ -66,7 +89,7 @@ pub data Escaping (byte : ℕ) : List ℕ → Type 0 where
   at_feed : byte ≡ 10 → Escaping byte (92 ∷ 110 ∷ [])
   at_tab : byte ≡ 9 → Escaping byte (92 ∷ 116 ∷ [])
   itself : (byte == 34) ≡ false → (byte == 92) ≡ false → is_allowed byte ≡ true → Escaping byte (byte ∷ [])
-  by_digits : is_allowed byte ≡ false → Escaping byte (92 ∷ 120 ∷ digit_char (byte / 16) ∷ digit_char (byte % 16) ∷ [])
+  by_digits : is_allowed byte ≡ false → Escaping byte (92 ∷ 120 ∷ encode_lower (byte ∷ []))
 
 pub escaping : (byte : ℕ) → Escaping byte (escaped byte)
 escaping byte =
@@ -82,7 +105,7 @@ decodes_as byte _ (at_backslash is) rest small = option_map_id (after_byte 92 (d
 decodes_as byte _ (at_feed is) rest small = option_map_id (after_byte 10 (decoded Plain rest)) ∙ ap (λ b. after_byte b (decoded Plain rest)) (sym is)
 decodes_as byte _ (at_tab is) rest small = option_map_id (after_byte 9 (decoded Plain rest)) ∙ ap (λ b. after_byte b (decoded Plain rest)) (sym is)
 decodes_as byte _ (itself quote backslash is) rest small = by_step Plain byte rest Plain (Some byte) (plain_byte byte quote backslash)
-decodes_as byte _ (by_digits isnt) rest small = hex_decodes byte rest small
+decodes_as byte _ (by_digits isnt) rest small = ap (λ digits. decoded Plain (92 ∷ 120 ∷ digits ++ rest)) (two_digits byte small) ∙ hex_decodes byte rest small
 
 abbrev pub AreBytes : List ℕ → Type 0
 AreBytes [] = Unit {0}
@@ -103,7 +126,7 @@ short_as byte _ (at_backslash is) = (lit≤ tt, λ quote backslash allowed. absu
 short_as byte _ (at_feed is) = (lit≤ tt, λ quote backslash allowed. cc)
 short_as byte _ (at_tab is) = (lit≤ tt, λ quote backslash allowed. cc)
 short_as byte _ (itself quote backslash is) = (lit≤ tt, λ q b allowed. refl)
-short_as byte _ (by_digits isnt) = (lit≤ tt, λ quote backslash allowed. absurd (both_ways _ isnt allowed))
+short_as byte _ (by_digits isnt) = (omega (arith, length-encode_with lower_digits (byte ∷ [])), λ quote backslash allowed. absurd (both_ways _ isnt allowed))
 
 -- what is still owed of an escape that has begun, and the closing quote
 abbrev pending : Inside → ℕ

@@ -17,7 +17,7 @@ use Rattle.job_reader.specs.declared.scan.Scan.{Scan}
 use Rattle.job_reader.specs.declared.scan.Scan.TheVariants.{Between, Token, Quoted, Escaped}
 use Rattle.job_reader.proofs.Canon.{canon, canon_literal, is_fine, unquoted_stays}
 use Rattle.job_reader.proofs.CanonTokens.{read_inside}
-use Rattle.job_reader.proofs.Literals.{AreBytes, Escaping, escaping, literal_short}
+use Rattle.job_reader.proofs.Literals.{AreBytes, Escaping, escaping, literal_short, two_digits}
 use Rattle.job_reader.proofs.Literals.Escaping.{at_quote, at_backslash, at_feed, at_tab, itself, by_digits}
 use Rattle.job_reader.proofs.Scans.{front_of_byte}
 use Rattle.job_reader.proofs.Trims.{end_other, front_other}
@@ -169,9 +169,11 @@ escape_scanned byte _ (by_digits isnt) small rest =
     let low : byte % 16 < 16 = omega arith in
     let h = digit_char (byte / 16) in
     let l = digit_char (byte % 16) in
-    two_in_front 92 120 (tokens_from Quoted (h ∷ l ∷ rest))
+    ap (λ digits. tokens_from Quoted (92 ∷ 120 ∷ digits ++ rest)) (two_digits byte small)
+    ∙ two_in_front 92 120 (tokens_from Quoted (h ∷ l ∷ rest))
     ∙ ap (with_front (92 ∷ 120 ∷ [])) (stays_quoted h (l ∷ rest) (hex_stays (byte / 16) high) ∙ ap (in_front h) (stays_quoted l rest (hex_stays (byte % 16) low)) ∙ two_in_front h l (tokens_from Quoted rest))
     ∙ joined_front (92 ∷ 120 ∷ []) (h ∷ l ∷ []) (tokens_from Quoted rest)
+    ∙ ap (λ digits. with_front (92 ∷ 120 ∷ digits) (tokens_from Quoted rest)) (sym (two_digits byte small))
 
 pub closed_quote : (rest : List ℕ) → tokens_from Quoted (34 ∷ rest) ≡ with_front (34 ∷ []) (tokens_from Token rest)
 closed_quote rest = front_of_byte 34 (tokens_from Token rest)

@@ -1,10 +1,10 @@
 -- The one text of a job. Each line ends with a line feed, its tokens are joined by one space, and it is
 -- indented by where it stands: not at all at the top level, by two spaces in a task, and by two more
 -- for each block that is open.
-use Rattle.std.specs.Prelude.{Bool, true, false, ℕ, ◌+◌, ◌*◌, ◌/◌, ◌%◌, ◌==◌, List, [], ◌∷◌, ◌++◌, length, replicate, codes, flat_map, map, if◌then◌else◌}
-use Rattle.std.specs.Char.{digit_char}
+use Rattle.std.specs.Prelude.{Bool, true, false, ℕ, ◌+◌, ◌*◌, ◌==◌, List, [], ◌∷◌, ◌++◌, length, replicate, codes, flat_map, map, if◌then◌else◌}
 use Rattle.std.specs.Fmt.{signed_decimal}
 use Rattle.std.specs.List.{join_with_byte}
+use Rattle.hex.specs.Hex.{encode_lower}
 use Rattle.swan_model.specs.declared.rights.Mode.{Mode}
 use Rattle.swan_model.specs.declared.rights.Mode.TheVariants.{In, Out, InOut, Push, Pop, PushPop}
 use Rattle.job_reader.specs.Characters.{tab, line_feed, space, quote, backslash, letter_n, letter_t, letter_x, is_allowed}
@@ -25,7 +25,7 @@ escaped byte =
     else (if byte == line_feed then backslash ∷ letter_n ∷ []
     else (if byte == tab then backslash ∷ letter_t ∷ []
     else (if is_allowed byte then byte ∷ []
-    else backslash ∷ letter_x ∷ digit_char (byte / 16) ∷ digit_char (byte % 16) ∷ []))))
+    else backslash ∷ letter_x ∷ encode_lower (byte ∷ [])))))
 
 abbrev pub literal_text : List ℕ → List ℕ
 literal_text bytes = quote ∷ flat_map escaped bytes ++ quote ∷ []

@@ -1,6 +1,5 @@
 // The canonical text of atoms.
-ghost use Rattle.std.specs.Prelude.{◌≡◌, ◌++◌, ◌∷◌, ◌<◌, [], OnOk, flat_map};
-ghost use Rattle.std.specs.Char.{digit_char};
+ghost use Rattle.std.specs.Prelude.{◌≡◌, ◌++◌, ◌∷◌, [], OnOk, flat_map};
 ghost use Rattle.job_reader.specs.CanonicalText.{atom_text, escaped, literal_text};
 ghost use Rattle.job_reader.specs.Characters.{is_allowed, space};
 
@@ -25,14 +24,6 @@ pub fn push_token(out: &mut Vec<u8>, token: &[u8]) -> Result<(), NoMemory>
     push(out, token)
 }
 
-/// A hexadecimal digit in lower case.
-fn digit_char(value: u8) -> u8
-    requires { value < 16 }
-    ensures { result ≡ digit_char value }
-{
-    char::from_digit(u32::from(value), 16).unwrap() as u8
-}
-
 /// Adds a byte of a literal. `O(1)`.
 fn push_escaped(out: &mut Vec<u8>, byte: u8) -> Result<(), NoMemory>
     ensures { OnOk result (out.new.items ≡ out.old.items ++ escaped byte) }
@@ -48,10 +39,10 @@ fn push_escaped(out: &mut Vec<u8>, byte: u8) -> Result<(), NoMemory>
     } else if is_allowed(byte) {
         push(out, &[byte])
     } else {
-        push(
-            out,
-            &[b'\\', b'x', digit_char(byte / 16), digit_char(byte % 16)],
-        )
+        let mut digits = [0; 2];
+        hex::encode_to_slice([byte], &mut digits).unwrap();
+        push(out, b"\\x")?;
+        push(out, &digits)
     }
 }
 
