@@ -12,6 +12,7 @@ use native.Mathlib.Decide.{ℕ_discrete}
 use lib.ListN.{get_elem?}
 use prog.Atomic.{either}
 use Rattle.atomic_table.specs.Table.{State, Me, Act, step, keeps, takes, gives, homes_after, carried_after, Valid, Allows, Splits, Joins, opening}
+use Rattle.swan_model.proofs.Tables.{all_set, only_one}
 use Rattle.atomic_table.proofs.Lists.{at_set, at_snoc, at_longer, set_here, set_else, exchanged}
 use Rattle.atomic_table.specs.declared.shared.Seat.{Seat}
 use Rattle.named_lock.specs.declared.rule.View.{View}
@@ -35,10 +36,6 @@ stopped_as (suc k) e = refl
 module _ {N : Type 0} where
   abbrev All : (ℕ → View N → Type 0) → List (View N) → Type 0
   All F views = (j : ℕ) (v : View N) → get_elem? views j ≡ some v → F j v
-
-  all_set : (F : ℕ → View N → Type 0) (views : List (View N)) (id : ℕ) (w : View N) → F id w → ((j : ℕ) (u : View N) → j ≢ id → get_elem? views j ≡ some u → F j u) → All F (set views id w)
-  all_set F views id w mine others j u e = ⊎_elim (λ (x : (j ≡ id) × (w ≡ u)). subst (λ (y : ℕ × View N). F y.0 y.1) (λ i. (sym x.0 i, x.1 i)) mine)
-      (λ (x : (j ≢ id) × (get_elem? views j ≡ some u)). others j u x.0 x.1) (at_set views id j w u e)
 
   total_set : (l : List (View N)) (i : ℕ) (v w : View N) → get_elem? l i ≡ some v → total (set l i w) + v.parts ≡ total l + w.parts
   total_set [] i v w e = absurd (some-ne-none v (sym e))
@@ -291,10 +288,6 @@ module _ {S N : Type 0} (name : S → N) (done : S → Bool) (n : N) (seats : �
         },
       )
 
-  one_seat : (w : View N) (j : ℕ) (u : View N) → get_elem? (w ∷ []) j ≡ some u → w ≡ u
-  one_seat w zero u e = some-injective w u e
-  one_seat w (suc j) u e = absurd (some-ne-none u (sym e))
-
   pub opens : (x : S) → name x ≡ n → Rule (opening (lock_words 0 0) (Some x ∷ []) (seated seats n))
   opens x is = (
     0,
@@ -308,7 +301,7 @@ module _ {S N : Type 0} (name : S → N) (done : S → Bool) (n : N) (seats : �
       sum = omega arith;
       free = λ _. (x, refl, is, λ e. absurd (omega arith));
       taken = λ z. absurd (z refl);
-      each = λ j u e. subst (IsTrueView 0 0 n 0 j) (one_seat (seated seats n) j u e) ((λ _. refl), (λ h. absurd (true≢false (sym h))), (λ h. absurd (true≢false (sym h))), λ h. absurd (true≢false (sym h)));
+      each = λ j u e. subst (IsTrueView 0 0 n 0 j) (only_one (seated seats n) j u e).1 ((λ _. refl), (λ h. absurd (true≢false (sym h))), (λ h. absurd (true≢false (sym h))), λ h. absurd (true≢false (sym h)));
     },
   )
 

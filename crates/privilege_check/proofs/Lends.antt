@@ -5,8 +5,8 @@ use Rattle.std.specs.Map.{lookup, update}
 use Rattle.std.specs.Str.{bytes_eq}
 use Rattle.std.proofs.Math.Path.{fun_ext}
 use Rattle.std.proofs.lemmas.Bool.{cases_Bool, or_parts, or_right}
-use Rattle.std.proofs.lemmas.Bool.Decides.{same_from_decides}
 use Rattle.std.proofs.lemmas.Slice.Eq.{bytes_eq-Decides}
+use Rattle.swan_model.proofs.Lists.{bytes_eq-sym}
 use Rattle.swan_model.specs.Rights.{is_in}
 use Rattle.swan_model.specs.declared.rights.Mode.{Mode}
 use Rattle.swan_model.specs.declared.value.Kind.{Kind}
@@ -27,12 +27,6 @@ lent_more takes args i t a mode k name above in_takes in_args is_held is_name =
     let next : suc (i - 1) ≡ i = omega arith in
     lent_next takes args (i - 1) t a mode k name (omega arith) (omega arith) is_held is_name
     ∙ ap (λ j. (name, mode) ∷ lent (drop j takes) (drop j args)) next
-
-bytes_eq-sym : (a b : List ℕ) → bytes_eq a b ≡ bytes_eq b a
-bytes_eq-sym a b =
-    let forth = bytes_eq-Decides a b in
-    let back = bytes_eq-Decides b a in
-    same_from_decides (bytes_eq a b) (bytes_eq b a) forth (λ h. sym (back.0 h), λ e. back.1 (sym e))
 
 -- a map after one more name
 pub modes_more : (name : List ℕ) (mode : Mode) (gifts more : List (List ℕ × Mode)) → more ≡ (name, mode) ∷ gifts → update bytes_eq (λ q. lookup (bytes_eq q) gifts) name (Some mode) ≡ (λ q. lookup (bytes_eq q) more)

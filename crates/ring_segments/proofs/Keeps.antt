@@ -9,6 +9,7 @@ use mathlib.Core.Option.{Option as Maybe, none, some, some-ne-none, some-injecti
 use native.Mathlib.Decide.{ℕ_discrete, dec_le}
 use lib.ListN.{get_elem?}
 use Rattle.atomic_table.specs.Table.{State, Me, Act, step, keeps, takes, gives, rest, homes_after, carried_after, Valid, Allows, Splits, Joins, opening}
+use Rattle.swan_model.proofs.Tables.{all_set, only_one}
 use Rattle.atomic_table.proofs.Lists.{at_set, at_snoc, set_here, set_else, one_turn}
 use Rattle.ring_segments.specs.declared.rule.SeatView.{SeatView}
 use Rattle.ring_segments.specs.Ends.{first_told}
@@ -20,10 +21,6 @@ module _ {V : Type 0} where
   at_end [] a b (suc j) n e = absurd (some-ne-none b (sym e))
   at_end (x ∷ xs) a b zero n e = absurd (n e)
   at_end (x ∷ xs) a b (suc j) n e = ap suc (at_end xs a b j n e)
-
-  all_set : (F : ℕ → V → Type 0) (views : List V) (id : ℕ) (w : V) → F id w → ((j : ℕ) (u : V) → j ≢ id → get_elem? views j ≡ some u → F j u) → (j : ℕ) (u : V) → get_elem? (set views id w) j ≡ some u → F j u
-  all_set F views id w mine others j u e = ⊎_elim (λ (x : (j ≡ id) × (w ≡ u)). subst (λ (y : ℕ × V). F y.0 y.1) (λ i. (sym x.0 i, x.1 i)) mine)
-      (λ (x : (j ≢ id) × (get_elem? views j ≡ some u)). others j u x.0 x.1) (at_set views id j w u e)
 
 module _ {E O : Type 0} (index : E → ℕ) (of : E → O) (HasRoom : O → ℕ → Type 0) (owner : O) (size : ℕ) where
   abbrev Rule : State (Option E) (SeatView O) → Type 0
@@ -309,10 +306,6 @@ module _ {E O : Type 0} (index : E → ℕ) (of : E → O) (HasRoom : O → ℕ 
   that_many : (n : ℕ) → length (map some (nones n)) ≡ n
   that_many zero = refl
   that_many (suc n) = ap suc (that_many n)
-
-  only_one : (w : SeatView O) (j : ℕ) (u : SeatView O) → get_elem? (w ∷ []) j ≡ some u → (j ≡ 0) × (w ≡ u)
-  only_one w zero u e = (refl, some-injective w u e)
-  only_one w (suc j) u e = absurd (some-ne-none u (sym e))
 
   pub opens : 0 < size → HasRoom owner 0 → Rule (opening (words_of 0 0) (replicate size None) (opening_view owner))
   opens some_size inside = let p : RingState = record { head = 0; tail = 0; writer = 0; reader = 0; putting = false; taking = false; sealed = false } in record {

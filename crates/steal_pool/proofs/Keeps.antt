@@ -7,6 +7,7 @@ use mathlib.Core.Option.{some, some-ne-none, some-injective}
 use lib.ListN.{get_elem?}
 use Rattle.crossbeam_deque.specs.Tasks.{Pushes, Takes, Forks, Finds}
 use Rattle.crossbeam_deque.proofs.Lists.{at_set, at_snoc}
+use Rattle.swan_model.proofs.Tables.{all_set}
 use Rattle.steal_pool.specs.declared.parcel.Parcel.{Parcel}
 use Rattle.steal_pool.specs.declared.parcel.Parcel.TheVariants.{Label, Item}
 use Rattle.steal_pool.specs.declared.rule.PoolView.{PoolView}
@@ -33,7 +34,7 @@ module _ {N : Type 0} where
   single (suc j) v e = absurd (some-ne-none v (sym e))
 
   set_each : (P : PoolView N → Type 0) (views : List (PoolView N)) (port : ℕ) (w : PoolView N) → P w → Each P views → Each P (set views port w)
-  set_each P views port w now h j v e = ⊎_elim (λ (t : (j ≡ port) × (w ≡ v)). subst P t.1 now) (λ (t : (j ≢ port) × (get_elem? views j ≡ some v)). h j v t.1) (at_set views port j w v e)
+  set_each P views port w now h = all_set (λ _. P) views port w now (λ j v apart e. h j v e)
 
   -- where the worker's own view is the only one, so it is after a step
   set_single : (P : PoolView N → Type 0) (views : List (PoolView N)) (port : ℕ) (v w : PoolView N) → get_elem? views port ≡ some v → Single views → P w → (j : ℕ) (u : PoolView N) → get_elem? (set views port w) j ≡ some u → (j ≡ 0) × P u

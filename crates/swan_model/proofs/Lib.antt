@@ -6,6 +6,7 @@ pub mod Lists
 pub mod Elements
 pub mod RootLists
 pub mod Lookups
+pub mod Tables
 pub mod Places
 pub mod Paths
 pub mod Origins

@@ -15,10 +15,6 @@ bad_step None (Some known) number others = refl
 bad_step (Some part) None number others = refl
 bad_step (Some part) (Some known) number others = refl
 
-pub bad_last : (bad : Option ℕ) → option_or bad None ≡ bad
-bad_last None = refl
-bad_last (Some known) = refl
-
 module _ {R : Type 0} (g : Ghosts R) (reducer : R) where
   -- a part is itself, and what stands for a record is a part
   pub as_part-is : (part : List ℕ) → g.is_part reducer part ≡ true → as_part g reducer part ≡ part

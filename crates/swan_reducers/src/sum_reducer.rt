@@ -97,7 +97,7 @@ fn first_bad(bad: Option<u64>, number: u64, read: Option<i64>) -> Option<u64>
 }
 
 /// The sum of a block's lines. It takes no memory. `O(length)`.
-#[tactic(auto, using(crate::proofs::Joining::bad_last, crate::proofs::Joining::bad_step))]
+#[tactic(auto, using(crate::proofs::Joining::bad_step, swan_model::proofs::Elements::or_none))]
 fn lines_summed(mut block: LineBlock) -> LineSum
     ensures sum { result.sum ≡ lines_summed (pos 0) (map bytes_of block.lines) }
     ensures bad { result.bad ≡ bad_number number_part block.number (map bytes_of block.lines) }

@@ -9,6 +9,7 @@ use Rattle.std.specs.Cmp.Lexicographic.{pointwise}
 use Rattle.std.specs.List.Sorted.{IsPermutation, IsSortedBy}
 use Rattle.std.specs.List.{Contains, IsDistinct}
 use Rattle.std.specs.Prelude.{slice_get}
+use Rattle.swan_model.proofs.Lists.{bytes_eq-sym}
 use Rattle.swan_model.specs.declared.body.Body.{Ghosts}
 use Rattle.swan_model.specs.declared.fault.Fault.{Fault}
 use Rattle.swan_model.specs.declared.plan.Plan.{Plan}
@@ -38,12 +39,6 @@ other-task a b differ = by (is_same_task a b) refl where
   by true is = absurd (differ (same_path a.path b.path is))
   by false is = refl
 
-same-both : (path other : List ℕ) → pointwise nat_eq path other ≡ pointwise nat_eq other path
-same-both [] [] = refl
-same-both [] (other ∷ others) = refl
-same-both (part ∷ parts) [] = refl
-same-both (part ∷ parts) (other ∷ others) = grind (arith, same-both parts others)
-
 stands-in : (faults : List Fault) (i : ℕ) (fault : Fault) → slice_get faults i ≡ Some fault → Contains faults fault
 stands-in faults i fault at = (i, slice_get_within faults i fault at, get_or_from_slice_get faults i fault fault at)
 
@@ -54,7 +49,7 @@ module _ (booked sorted : List Fault) (same : IsPermutation booked sorted)
     (once : (i j : ℕ) (a b : Fault) → slice_get booked i ≡ Some a → slice_get booked j ≡ Some b → a.path ≡ b.path → i ≡ j) (rise : IsSortedBy is_earlier_fault sorted) where
   apart : IsDistinct is_same_task sorted
   apart =
-      IsDistinct-IsPermutation is_same_task (λ a b. same-both a.path b.path) booked sorted same
+      IsDistinct-IsPermutation is_same_task (λ a b. bytes_eq-sym a.path b.path) booked sorted same
       (IsDistinct-from_apart is_same_task booked (λ i j d less within.
       let a = get_or booked i d in
       let b = get_or booked j d in
