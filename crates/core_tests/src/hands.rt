@@ -5,7 +5,7 @@ ghost use Rattle.swan_runtime.specs.Turned.{is_last};
 ghost use Rattle.swan_runtime.specs.Workers.{AreWorkers, OneHasMet};
 
 use crate::plans::{failing_plan, plan};
-use crate::runs::{Row, is_elided, is_said_and_elided, shape_of, texts_of};
+use crate::runs::{Row, is_elided, is_said_and_elided, is_stopped, shape_of, texts_of};
 use crate::tables::Tasks;
 use elision_tests::AskList;
 use queue_book::{BookQueues, NoEnds};
@@ -119,6 +119,15 @@ fn take_turns<B: Body, Q: Queues>(
     Ok(())
 }
 
+/// Whether the next turn of the first worker meets the end.
+fn meets_end<B: Body, Q: Queues>(alloc: Global, workers: &mut Vec<Worker<B, Q>>) -> bool
+    requires workers { AreWorkers (ends_of Q.Ends.LocalEnds) workers.old.items }
+    ensures workers { AreWorkers (ends_of Q.Ends.LocalEnds) workers.new.items }
+    ensures met { result ≡ true → OneHasMet workers.new.items }
+{
+    turn_of(alloc, workers, 0).is_last()
+}
+
 /// What closing a run answers, of which the first worker meets the end in its next turn.
 fn closed<B: Body, Q: Queues>(
     alloc: Global,
@@ -127,7 +136,7 @@ fn closed<B: Body, Q: Queues>(
     requires workers { AreWorkers (ends_of Q.Ends.LocalEnds) workers.items }
 {
     let mut workers = workers;
-    if !turn_of(alloc, &mut workers, 0).is_last() {
+    if !meets_end(alloc, &mut workers) {
         drop(workers);
         return Err("the run goes on".into());
     }
@@ -165,6 +174,18 @@ fn texts_by_hands(
     }
 }
 
+/// The two texts of what a run of these tasks by so many workers leaves, by these turns.
+fn left_by_hands(
+    alloc: Global,
+    tasks: &[&str],
+    fuel: u64,
+    workers: u32,
+    turns: &[Hand],
+) -> Result<Printed, Fail> {
+    let shape = shape_of(workers)?;
+    texts_by_hands(alloc, plan(alloc, tasks, fuel)?, &shape, turns)
+}
+
 /// A run of these tasks by so many workers, in these turns, leaves what the elision leaves.
 pub fn leave_by_hands(
     alloc: Global,
@@ -172,9 +193,8 @@ pub fn leave_by_hands(
     workers: u32,
     turns: &[Hand],
 ) -> Result<(), Fail> {
-    let shape = shape_of(workers)?;
-    let plan = plan(alloc, tasks.tasks, tasks.fuel)?;
-    is_elided(alloc, tasks, &texts_by_hands(alloc, plan, &shape, turns)?)
+    let left = left_by_hands(alloc, tasks.tasks, tasks.fuel, workers, turns)?;
+    is_elided(alloc, tasks, &left)
 }
 
 /// A run of the row's plan by so many workers, in these turns, leaves what the row says, and what the elision leaves.
@@ -184,9 +204,8 @@ pub fn leave_row_by_hands(
     workers: u32,
     turns: &[Hand],
 ) -> Result<(), Fail> {
-    let shape = shape_of(workers)?;
-    let plan = plan(alloc, row.tasks, row.fuel)?;
-    is_said_and_elided(alloc, row, &texts_by_hands(alloc, plan, &shape, turns)?)
+    let left = left_by_hands(alloc, row.tasks, row.fuel, workers, turns)?;
+    is_said_and_elided(alloc, row, &left)
 }
 
 /// By these turns of so many workers a run of these tasks, in which no memory is found at one index of the list of all asks, is stopped. The
@@ -200,11 +219,5 @@ pub fn stop_by_hands(
 ) -> Result<(), Fail> {
     let shape = shape_of(workers)?;
     let plan = failing_plan(alloc, tasks.tasks, tasks.fuel, fails)?;
-    match closed(alloc, workers_after(alloc, plan, &shape, turns)?)? {
-        Ok(ran) => {
-            drop(ran);
-            Err("the run has an outcome".into())
-        }
-        Err(NoMemory) => Ok(()),
-    }
+    is_stopped(closed(alloc, workers_after(alloc, plan, &shape, turns)?)?)
 }

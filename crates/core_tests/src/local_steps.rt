@@ -4,14 +4,14 @@ ghost use Rattle.task_frames.specs.Resumes.{IsOpened, ends_of};
 ghost use Rattle.core_tests.specs.Pools.{MayCome};
 
 use crate::plans::asks;
-use crate::runs::frames_from;
+use crate::runs::{frames_from, opened};
 use crate::turn::FrameTurn;
 use elision_tests::AskList;
 use queue_book::{BookQueues, NoEnds};
 use queues::{LocalEnds, Queues};
 use std::alloc::Global;
 use std::test::Fail;
-use swan_model::{Body, FUEL_MOST, Mode, Plan, PlanFuel, RootQueue, Roots, RunName, Values};
+use swan_model::{Body, FUEL_MOST, Mode, Plan, PlanFuel, RootQueue, Roots, Values};
 use task_frames::{Core, Frame, Opened, Paused};
 
 /// What a call of `run_local` answers.
@@ -185,13 +185,11 @@ fn answers_after<B: Body, Q: Queues>(
 }
 
 /// An opened run of this root.
-fn opened(alloc: Global, root: &Root<'_>) -> Result<Opened<AskList, BookQueues>, Fail>
+fn opened_root(alloc: Global, root: &Root<'_>) -> Result<Opened<AskList, BookQueues>, Fail>
     ensures opened { IfOk result (λ it. IsOpened (ends_of ⟦<NoEnds as LocalEnds>⟧) it.core it.root) }
     ensures body { IfOk result (λ it. it.body.value ≡ it.core.plan.body) }
 {
-    let plan = plan(alloc, root)?;
-    let queues = BookQueues::new(alloc, RunName::of(&plan));
-    Ok(Core::open(alloc, plan, queues)?)
+    Ok(opened(alloc, plan(alloc, root)?)?)
 }
 
 /// The frame of this root, after these turns, answers these calls so.
@@ -201,7 +199,7 @@ fn stops_so(
     turns: &[FrameTurn],
     calls: &[Call],
 ) -> Result<(), Fail> {
-    answers_after(alloc, root, opened(alloc, root)?, turns, calls)
+    answers_after(alloc, root, opened_root(alloc, root)?, turns, calls)
 }
 
 /// Three steps of work, and then each ask that isn't work. At place 7 the root has nothing.

@@ -45,6 +45,11 @@ fn ask_in(alloc: Global, word: &str, beginnings: &[usize]) -> Result<Ask<usize>,
     }
 }
 
+/// Adds an ask.
+fn add_ask(asks: &mut Vec<Ask<usize>>, ask: Ask<usize>) -> Result<(), Fail> {
+    Ok(asks.push(ask)?)
+}
+
 /// Adds the asks of a task.
 fn add_task(
     alloc: Global,
@@ -53,10 +58,9 @@ fn add_task(
     beginnings: &[usize],
 ) -> Result<(), Fail> {
     for word in task.split_whitespace() {
-        asks.push(ask_in(alloc, word, beginnings)?)?;
+        add_ask(asks, ask_in(alloc, word, beginnings)?)?;
     }
-    asks.push(Ask::Finish)?;
-    Ok(())
+    add_ask(asks, Ask::Finish)
 }
 
 /// Adds the asks of these tasks.

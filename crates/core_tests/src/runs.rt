@@ -1,5 +1,5 @@
 // Runs of plans, and what they leave.
-ghost use Rattle.std.specs.Prelude.{◌≡◌, ◌∷◌, [], IfOk};
+ghost use Rattle.std.specs.Prelude.{◌≡◌, ◌∷◌, [], IfOk, Ok, OnOk, true};
 ghost use Rattle.task_frames.specs.Resumes.{IsOpened, ends_of};
 ghost use Rattle.core_tests.specs.Pools.{MayAllCome, MayCome};
 
@@ -9,8 +9,8 @@ use crate::tables::Tasks;
 use crate::turn::FrameTurn;
 use crate::turns::take_turns;
 use elision_tests::{AskList, printed};
-use queue_book::BookQueues;
-use queues::Queues;
+use queue_book::{BookQueues, NoEnds};
+use queues::{LocalEnds, Queues};
 use serial_elision::{Printed, elide};
 use std::alloc::Global;
 use std::rt::Clock;
@@ -33,6 +33,17 @@ pub enum Order<'a> {
     Stack,
 }
 
+/// An opened run of this plan, over hyperqueues in the plainest form.
+pub fn opened<B: Body>(alloc: Global, plan: Plan<B>) -> Result<Opened<B, BookQueues>, NoMemory>
+    ensures opened { IfOk result (λ it. IsOpened (ends_of ⟦<NoEnds as LocalEnds>⟧) it.core it.root) }
+    ensures plan { IfOk result (λ it. it.core.plan ≡ plan) }
+    ensures run { IfOk result (λ it. it.core.run ≡ []) }
+    ensures body { IfOk result (λ it. it.body.value ≡ plan.body) }
+{
+    let queues = BookQueues::new(alloc, RunName::of(&plan));
+    Core::open(alloc, plan, queues)
+}
+
 /// The list of a root alone.
 pub fn alone<B: Body, Q: Queues>(
     alloc: Global,
@@ -43,6 +54,23 @@ pub fn alone<B: Body, Q: Queues>(
     let mut frames = Vec::new(alloc);
     frames.push(root)?;
     Ok(frames)
+}
+
+/// These frames, where their turns came to what was said.
+fn frames_unless<B: Body, Q: Queues>(
+    frames: Vec<Frame<B, Q>>,
+    came: Result<(), Fail>,
+) -> Result<Vec<Frame<B, Q>>, Fail>
+    ensures frames { IfOk result (λ it. it ≡ frames) }
+    ensures came { OnOk result (came ≡ Ok tt) }
+{
+    match came {
+        Ok(()) => Ok(frames),
+        Err(fail) => {
+            drop(frames);
+            Err(fail)
+        }
+    }
 }
 
 /// Takes these turns, with this frame at first. What is answered are the frames that come of it.
@@ -60,13 +88,23 @@ pub fn frames_from<B: Body, Q: Queues>(
     ensures run { core.new.run ≡ core.old.run }
 {
     let mut frames = alone(alloc, root)?;
-    match take_turns(alloc, core, body, &mut frames, turns) {
-        Ok(()) => Ok(frames),
-        Err(fail) => {
-            drop(frames);
-            Err(fail)
-        }
-    }
+    let came = take_turns(alloc, core, body, &mut frames, turns);
+    frames_unless(frames, came)
+}
+
+/// Takes these turns, with this frame at first.
+fn take_by_turns<B: Body, Q: Queues>(
+    alloc: Global,
+    core: &mut Core<B, Q>,
+    body: &B,
+    root: Frame<B, Q>,
+    turns: &[FrameTurn],
+) -> Result<(), Fail>
+    requires body { body.now ≡ core.old.plan.body }
+    requires root { MayCome Q.Ends.run core.old root }
+{
+    drop(frames_from(alloc, core, body, root, turns)?);
+    Ok(())
 }
 
 /// Takes turns by chance, with this frame at first.
@@ -81,7 +119,9 @@ fn take_by_chance<B: Body, Q: Queues>(
     requires root { MayCome Q.Ends.run core.old root }
 {
     let mut frames = alone(alloc, root)?;
-    take_turns_by_chance(alloc, core, body, &mut frames, seed)
+    let came = take_turns_by_chance(alloc, core, body, &mut frames, seed);
+    drop(frames);
+    came
 }
 
 /// The outcome of a run.
@@ -99,13 +139,35 @@ pub fn texts_of(alloc: Global, ran: RunOutcome) -> Result<Printed, Fail> {
     texts
 }
 
+/// What a run leaves whose root has ended.
+fn taken<B: Body, Q: Queues>(alloc: Global, core: Core<B, Q>) -> Result<Outcome, NoMemory>
+    requires { core.is_done ≡ true }
+{
+    Ok(outcome_of(core.take_outcome(alloc)?))
+}
+
 /// What a run leaves, and None where its root hasn't ended.
 fn left<B: Body, Q: Queues>(alloc: Global, core: Core<B, Q>) -> Result<Option<Outcome>, Fail> {
     if !core.is_done() {
         drop(core);
         return Ok(None);
     }
-    Ok(Some(outcome_of(core.take_outcome(alloc)?)))
+    Ok(Some(taken(alloc, core)?))
+}
+
+/// What a run leaves whose turns have come to this.
+fn left_unless<B: Body, Q: Queues>(
+    alloc: Global,
+    core: Core<B, Q>,
+    came: Result<(), Fail>,
+) -> Result<Option<Outcome>, Fail> {
+    match came {
+        Ok(()) => left(alloc, core),
+        Err(fail) => {
+            drop(core);
+            Err(fail)
+        }
+    }
 }
 
 /// What an opened run leaves by turns, and None where the root hasn't ended.
@@ -122,11 +184,8 @@ fn left_by_turns<B: Body, Q: Queues>(
         body,
         root,
     } = opened;
-    if let Err(fail) = frames_from(alloc, &mut core, &body, root, turns) {
-        drop(core);
-        return Err(fail);
-    }
-    left(alloc, core)
+    let came = take_by_turns(alloc, &mut core, &body, root, turns);
+    left_unless(alloc, core, came)
 }
 
 /// What an opened run leaves in an order by chance.
@@ -143,11 +202,8 @@ fn left_by_chance<B: Body, Q: Queues>(
         body,
         root,
     } = opened;
-    if let Err(fail) = take_by_chance(alloc, &mut core, &body, root, seed) {
-        drop(core);
-        return Err(fail);
-    }
-    left(alloc, core)
+    let came = take_by_chance(alloc, &mut core, &body, root, seed);
+    left_unless(alloc, core, came)
 }
 
 /// What an opened run leaves on a stack, and None where it has met want of memory.
@@ -167,8 +223,7 @@ fn left_of<B: Body>(
     plan: Plan<B>,
     order: Order<'_>,
 ) -> Result<Option<Outcome>, Fail> {
-    let queues = BookQueues::new(alloc, RunName::of(&plan));
-    let opened = Core::open(alloc, plan, queues)?;
+    let opened = opened(alloc, plan)?;
     match order {
         Order::Turns(turns) => left_by_turns(alloc, opened, turns),
         Order::Chance(seed) => left_by_chance(alloc, opened, seed),
@@ -374,6 +429,17 @@ fn texts_by_workers<T: Threads + Wait + Clock + Sync>(
     }
 }
 
+/// The two texts of what a run of these tasks by so many workers leaves.
+fn left_by_workers<T: Threads + Wait + Clock + Sync>(
+    rt: &T,
+    alloc: Global,
+    tasks: &Tasks<'_>,
+    workers: u32,
+) -> Result<Printed, Fail> {
+    let shape = shape_of(workers)?;
+    texts_by_workers(rt, alloc, plan(alloc, tasks.tasks, tasks.fuel)?, &shape)
+}
+
 /// A run of these tasks by so many workers leaves what the elision leaves.
 fn leaves_the_same_by_workers<T: Threads + Wait + Clock + Sync>(
     rt: &T,
@@ -381,9 +447,7 @@ fn leaves_the_same_by_workers<T: Threads + Wait + Clock + Sync>(
     tasks: &Tasks<'_>,
     workers: u32,
 ) -> Result<(), Fail> {
-    let shape = shape_of(workers)?;
-    let plan = plan(alloc, tasks.tasks, tasks.fuel)?;
-    let left = texts_by_workers(rt, alloc, plan, &shape)?;
+    let left = left_by_workers(rt, alloc, tasks, workers)?;
     is_elided(alloc, tasks, &left)
 }
 
@@ -399,20 +463,29 @@ pub fn workers_leave_the_same<T: Threads + Wait + Clock + Sync>(
     Ok(())
 }
 
-/// A run of this plan in this shape is stopped by want of memory.
-fn stops_in_shape<T: Threads + Wait + Clock + Sync>(
-    rt: &T,
-    alloc: Global,
-    plan: Plan<AskList>,
-    shape: &Shape,
-) -> Result<(), Fail> {
-    match run(rt, alloc, plan, shape, &OpenGate) {
+/// A run that came to this was stopped by want of memory.
+pub fn is_stopped(came: Result<RunOutcome, NoMemory>) -> Result<(), Fail> {
+    match came {
         Ok(ran) => {
             drop(ran);
-            Err("the run has ended".into())
+            Err("the run has an outcome".into())
         }
         Err(NoMemory) => Ok(()),
     }
+}
+
+/// A run of these tasks by so many workers is stopped by want of memory, which is met at one index of the list of all asks.
+fn stops_by<T: Threads + Wait + Clock + Sync>(
+    rt: &T,
+    alloc: Global,
+    tasks: &[&str],
+    fuel: u64,
+    fails: usize,
+    workers: u32,
+) -> Result<(), Fail> {
+    let shape = shape_of(workers)?;
+    let plan = failing_plan(alloc, tasks, fuel, fails)?;
+    is_stopped(run(rt, alloc, plan, &shape, &OpenGate))
 }
 
 /// Runs of these tasks by several workers are stopped by want of memory, which is met at one index of the list of all asks.
@@ -424,9 +497,7 @@ pub fn stops_by_workers<T: Threads + Wait + Clock + Sync>(
     fails: usize,
 ) -> Result<(), Fail> {
     for workers in [1, 2, 4, 64] {
-        let shape = shape_of(workers)?;
-        let plan = failing_plan(alloc, tasks, fuel, fails)?;
-        stops_in_shape(rt, alloc, plan, &shape)?;
+        stops_by(rt, alloc, tasks, fuel, fails, workers)?;
     }
     Ok(())
 }

@@ -4,7 +4,7 @@ ghost use Rattle.task_frames.specs.Resumes.{IsOpened, ends_of};
 ghost use Rattle.core_tests.specs.Pools.{MayAllCome, MayCome};
 
 use crate::plans::asks;
-use crate::runs::{alone, frames_from};
+use crate::runs::{alone, frames_from, opened};
 use crate::turn::FrameTurn;
 use crate::turns::take_turns;
 use elision_tests::AskList;
@@ -14,7 +14,7 @@ use std::alloc::Global;
 use std::marker::Model;
 use std::sync::Arc;
 use std::test::Fail;
-use swan_model::{Answer, Ask, Body, NoMemory, Plan, PlanFuel, Roots, RunName};
+use swan_model::{Answer, Ask, Body, NoMemory, Plan, PlanFuel, Roots};
 use task_frames::{Core, Frame, Opened};
 
 /// A list of asks that the plans of two runs share. Contracts see it as the list.
@@ -195,21 +195,19 @@ fn come_so<B: Body, Q: Queues>(
 }
 
 /// An opened run of the plan that goes through these asks.
-fn opened(alloc: Global, list: &Arc<AskList>) -> Result<Opened<Shared, BookQueues>, Fail>
+fn opened_over(alloc: Global, list: &Arc<AskList>) -> Result<Opened<Shared, BookQueues>, Fail>
     ensures opened { IfOk result (λ it. IsOpened (ends_of ⟦<NoEnds as LocalEnds>⟧) it.core it.root) }
     ensures plan { IfOk result (λ it. it.core.plan ≡ record { body = list.now.value; root_local = 0; roots = record { queues = []; objects = [] }; fuel = 50 }) }
     ensures run { IfOk result (λ it. it.core.run ≡ []) }
     ensures body { IfOk result (λ it. it.body.value ≡ list.now.value) }
 {
-    let plan = plan_of(alloc, Arc::try_clone(list)?);
-    let queues = BookQueues::new(alloc, RunName::of(&plan));
-    Ok(Core::open(alloc, plan, queues)?)
+    Ok(opened(alloc, plan_of(alloc, Arc::try_clone(list)?))?)
 }
 
 /// The turns of two runs of the plan that goes through these asks come to what is said.
 fn come_over(alloc: Global, list: &Arc<AskList>, turns: &Turns<'_>) -> Result<(), Fail> {
-    let stale = frames_after(alloc, opened(alloc, list)?, turns.second)?;
-    match opened(alloc, list) {
+    let stale = frames_after(alloc, opened_over(alloc, list)?, turns.second)?;
+    match opened_over(alloc, list) {
         Ok(opened) => come_so(alloc, opened, stale, turns),
         Err(fail) => {
             drop(stale);

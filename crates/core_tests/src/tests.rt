@@ -187,31 +187,38 @@ fn each_fault_at_the_first_step_ends_the_root(rt: HostRuntime) -> Result<(), Fai
     )
 }
 
+/// Asks of a root without the right for them.
+const WITHOUT_RIGHT: &str = "\
+push:0:1
+push:2:1
+pop:1
+pop:2
+empty:1
+empty:9
+read:0
+read:9
+write:1:1
+write:9:1
+spawn:1:5:1.pop
+spawn:1:5:0.push
+spawn:1:5:0.pushpop
+spawn:1:5:0.in
+spawn:1:5:2.push
+spawn:1:5:9.in";
+
+/// A root that asks this ends at once, by a fault.
+fn needs_its_right(alloc: Global, ask: &str) -> Result<(), Fail> {
+    all_end_so(
+        alloc,
+        &[(ask, 50, "faults 1\nfault / 0 Privilege\n")],
+        &[FrameTurn::Ends(0, 0)],
+    )
+}
+
 #[test]
 fn each_ask_needs_its_right(rt: HostRuntime) -> Result<(), Fail> {
-    for ask in [
-        "push:0:1",
-        "push:2:1",
-        "pop:1",
-        "pop:2",
-        "empty:1",
-        "empty:9",
-        "read:0",
-        "read:9",
-        "write:1:1",
-        "write:9:1",
-        "spawn:1:5:1.pop",
-        "spawn:1:5:0.push",
-        "spawn:1:5:0.pushpop",
-        "spawn:1:5:0.in",
-        "spawn:1:5:2.push",
-        "spawn:1:5:9.in",
-    ] {
-        all_end_so(
-            rt.alloc(),
-            &[(ask, 50, "faults 1\nfault / 0 Privilege\n")],
-            &[FrameTurn::Ends(0, 0)],
-        )?;
+    for ask in WITHOUT_RIGHT.lines() {
+        needs_its_right(rt.alloc(), ask)?;
     }
     Ok(())
 }
@@ -492,30 +499,37 @@ fn a_child_uses_what_it_was_given_by_each_mode(rt: HostRuntime) -> Result<(), Fa
     leaves(rt.alloc(), &each_mode(), Order::Stack)
 }
 
+/// Asks of a child that was given an object to read, a queue to pop from and one to push to.
+const BEYOND_GIVEN: &str = "\
+write:0:1
+pop:0
+push:1:1
+read:2
+empty:3
+spawn:1:1:0.out
+spawn:1:1:1.pushpop
+spawn:1:1:3.pop";
+
+/// Such a child that asks this ends at once, by a fault.
+fn is_beyond_given(alloc: Global, ask: &str) -> Result<(), Fail> {
+    let row = Row {
+        tasks: &["spawn:1:9:2.in,0.pop,1.push", ask],
+        fuel: 50,
+        out: "",
+        report: "left jobs 2\nfaults 1\nfault /0 2 Privilege\n",
+    };
+    let turns = [
+        FrameTurn::Spawns(0, 0, 1),
+        FrameTurn::Ends(1, 0),
+        FrameTurn::Ends(0, 0),
+    ];
+    leaves(alloc, &row, Order::Turns(&turns))
+}
+
 #[test]
 fn a_child_uses_nothing_beyond_what_it_was_given(rt: HostRuntime) -> Result<(), Fail> {
-    for ask in [
-        "write:0:1",
-        "pop:0",
-        "push:1:1",
-        "read:2",
-        "empty:3",
-        "spawn:1:1:0.out",
-        "spawn:1:1:1.pushpop",
-        "spawn:1:1:3.pop",
-    ] {
-        let row = Row {
-            tasks: &["spawn:1:9:2.in,0.pop,1.push", ask],
-            fuel: 50,
-            out: "",
-            report: "left jobs 2\nfaults 1\nfault /0 2 Privilege\n",
-        };
-        let turns = [
-            FrameTurn::Spawns(0, 0, 1),
-            FrameTurn::Ends(1, 0),
-            FrameTurn::Ends(0, 0),
-        ];
-        leaves(rt.alloc(), &row, Order::Turns(&turns))?;
+    for ask in BEYOND_GIVEN.lines() {
+        is_beyond_given(rt.alloc(), ask)?;
     }
     Ok(())
 }

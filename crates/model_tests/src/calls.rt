@@ -114,16 +114,20 @@ fn gives_are_listed(rt: HostRuntime) {
     assert!(rt; is_copied);
 }
 
-#[test]
-fn roots_are_listed(rt: HostRuntime) {
-    let mut roots = Roots::new(rt.alloc());
-    let items = Values::new(rt.alloc());
+/// Whether roots take a queue without items and an object.
+fn roots_take_each(alloc: Global) -> bool {
+    let mut roots = Roots::new(alloc);
+    let items = Values::new(alloc);
     let mode = Mode::Pop;
     let has_queue = roots.push_queue(RootQueue { mode, items }).is_ok();
     let has_object = roots.push_object(Value::Int(1)).is_ok();
     drop(roots);
-    assert!(rt; has_queue);
-    assert!(rt; has_object);
+    has_queue && has_object
+}
+
+#[test]
+fn roots_are_listed(rt: HostRuntime) {
+    assert!(rt; roots_take_each(rt.alloc()));
 }
 
 /// What a record that copies these bytes is refused with.
@@ -136,6 +140,17 @@ fn refusal_from(bytes: Vec<u8>) -> Option<RecordAnswer> {
     Record::from_vec(bytes).err()
 }
 
+/// Whether a record of so many bytes, copied or taken over, is refused with this.
+fn is_refused_so(
+    alloc: Global,
+    length: usize,
+    answer: Option<RecordAnswer>,
+) -> Result<bool, AllocError> {
+    let bytes = vec![in alloc; 7u8; length]?;
+    let is_copied_so = refusal_of(alloc, bytes.as_slice()) == answer;
+    Ok(refusal_from(bytes) == answer && is_copied_so)
+}
+
 /// Asserts what a record of so many bytes is refused with.
 fn hold_length(
     rt: &impl Abort,
@@ -143,10 +158,7 @@ fn hold_length(
     length: usize,
     answer: Option<RecordAnswer>,
 ) -> Result<(), AllocError> {
-    let bytes = vec![in alloc; 7u8; length]?;
-    let found = refusal_of(alloc, bytes.as_slice());
-    assert!(rt; found == answer, "at {length} bytes");
-    assert!(rt; refusal_from(bytes) == answer, "of {length} bytes");
+    assert!(rt; is_refused_so(alloc, length, answer)?, "of {length} bytes");
     Ok(())
 }
 
@@ -206,6 +218,19 @@ fn answer_of(alloc: Global, text: &[u8]) -> Option<LinesAnswer> {
     lines_of(alloc, text).err()
 }
 
+/// Whether an input of so many empty lines and a line of this many bytes is refused with this.
+fn input_is_refused_so(
+    alloc: Global,
+    empty: usize,
+    last: usize,
+    answer: Option<LinesAnswer>,
+) -> Result<bool, AllocError> {
+    let text = text_of(alloc, empty, last)?;
+    let found = answer_of(alloc, text.as_slice());
+    drop(text);
+    Ok(found == answer)
+}
+
 /// Asserts what an input of so many empty lines and a line of this many bytes is refused with.
 fn hold_input(
     rt: &impl Abort,
@@ -214,10 +239,10 @@ fn hold_input(
     last: usize,
     answer: Option<LinesAnswer>,
 ) -> Result<(), AllocError> {
-    let text = text_of(alloc, empty, last)?;
-    let found = answer_of(alloc, text.as_slice());
-    drop(text);
-    assert!(rt; found == answer, "of {empty} and {last}");
+    assert!(rt;
+        input_is_refused_so(alloc, empty, last, answer)?,
+        "of {empty} and {last}"
+    );
     Ok(())
 }
 

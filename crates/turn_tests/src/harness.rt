@@ -4,7 +4,7 @@ ghost use Rattle.turn_tests.specs.declared.step.Step.TheVariants as step;
 ghost use Rattle.turn_tests.specs.Steps.{allows_step, allows_steps, after_step};
 
 use crate::Step;
-use pop_order::PopTurns;
+use pop_order::{Certain, PopTurns};
 use std::alloc::Global;
 use std::test::Fail;
 use swan_model::NoMemory;
@@ -22,6 +22,21 @@ fn lends(turns: &mut PopTurns, child: u64) -> bool
     }
 }
 
+/// Whether `may_start` of this child answers so.
+fn may_start(turns: &PopTurns, child: u64, answer: Result<(), u64>) -> bool {
+    turns.may_start(child) == answer
+}
+
+/// Whether `popping_child` of this frame and queue answers so.
+fn is_popping_child(turns: &PopTurns, frame: u64, queue: u32, answer: Option<u64>) -> bool {
+    turns.popping_child(frame, queue) == answer
+}
+
+/// Whether `certain` of this frame and queue answers so.
+fn finds(turns: &PopTurns, frame: u64, queue: u32, answer: Certain) -> bool {
+    turns.certain(frame, queue) == answer
+}
+
 /// Makes a step's call, and answers whether that had the step's answer. Err is want of memory.
 fn does(turns: &mut PopTurns, step: Step) -> Result<bool, NoMemory>
     requires { allows_step turns.old step ≡ true }
@@ -32,16 +47,16 @@ fn does(turns: &mut PopTurns, step: Step) -> Result<bool, NoMemory>
             turns.enlist(parent, child, queue, mode)?;
             Ok(true)
         }
-        Step::MayStart(child, answer) => Ok(turns.may_start(child) == answer),
+        Step::MayStart(child, answer) => Ok(may_start(turns, child, answer)),
         Step::Lend(child) => Ok(lends(turns, child)),
         Step::Back(child) => {
             turns.back(child);
             Ok(true)
         }
         Step::PoppingChild(frame, queue, answer) => {
-            Ok(turns.popping_child(frame, queue) == answer)
+            Ok(is_popping_child(turns, frame, queue, answer))
         }
-        Step::Finds(frame, queue, answer) => Ok(turns.certain(frame, queue) == answer),
+        Step::Finds(frame, queue, answer) => Ok(finds(turns, frame, queue, answer)),
     }
 }
 

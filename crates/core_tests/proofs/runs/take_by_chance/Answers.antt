@@ -1,5 +1,5 @@
 use Rattle.core_tests.proofs.Coming.{one-comes}
 use Rattle.core_tests.proofs.runs.take_by_chance.Goals as goal
 
-pub take_turns_by_chance-requires-clause-frames : goal.take_turns_by_chance-requires-clause-frames
-take_turns_by_chance-requires-clause-frames g c κs within = one-comes g.Q.Ends.LocalEnds.run c.args.core.now c.args.root _ c.requires.root c.in_ok-frames.ensures
+pub take_turns_by_chance-came-requires-clause-frames : goal.take_turns_by_chance-came-requires-clause-frames
+take_turns_by_chance-came-requires-clause-frames g c κs within = one-comes g.Q.Ends.LocalEnds.run c.args.core.now c.args.root _ c.requires.root c.in_ok-frames.ensures
