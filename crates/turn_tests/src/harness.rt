@@ -23,17 +23,17 @@ fn lends(turns: &mut PopTurns, child: u64) -> bool
 }
 
 /// Whether `may_start` of this child answers so.
-fn may_start(turns: &PopTurns, child: u64, answer: Result<(), u64>) -> bool {
+fn may_start_is(turns: &PopTurns, child: u64, answer: Result<(), u64>) -> bool {
     turns.may_start(child) == answer
 }
 
 /// Whether `popping_child` of this frame and queue answers so.
-fn is_popping_child(turns: &PopTurns, frame: u64, queue: u32, answer: Option<u64>) -> bool {
+fn popping_child_is(turns: &PopTurns, frame: u64, queue: u32, answer: Option<u64>) -> bool {
     turns.popping_child(frame, queue) == answer
 }
 
 /// Whether `certain` of this frame and queue answers so.
-fn finds(turns: &PopTurns, frame: u64, queue: u32, answer: Certain) -> bool {
+fn certain_is(turns: &PopTurns, frame: u64, queue: u32, answer: Certain) -> bool {
     turns.certain(frame, queue) == answer
 }
 
@@ -47,16 +47,16 @@ fn does(turns: &mut PopTurns, step: Step) -> Result<bool, NoMemory>
             turns.enlist(parent, child, queue, mode)?;
             Ok(true)
         }
-        Step::MayStart(child, answer) => Ok(may_start(turns, child, answer)),
+        Step::MayStart(child, answer) => Ok(may_start_is(turns, child, answer)),
         Step::Lend(child) => Ok(lends(turns, child)),
         Step::Back(child) => {
             turns.back(child);
             Ok(true)
         }
         Step::PoppingChild(frame, queue, answer) => {
-            Ok(is_popping_child(turns, frame, queue, answer))
+            Ok(popping_child_is(turns, frame, queue, answer))
         }
-        Step::Finds(frame, queue, answer) => Ok(finds(turns, frame, queue, answer)),
+        Step::Finds(frame, queue, answer) => Ok(certain_is(turns, frame, queue, answer)),
     }
 }
 
