@@ -5,7 +5,7 @@ use Rattle.std.proofs.lemmas.List.Concat.{flat_map-append}
 use Rattle.job_reader.specs.declared.line.Line.{Line}
 use Rattle.job_reader.specs.declared.line.Line.TheVariants as line
 use Rattle.swan_model.specs.declared.rights.Mode.TheVariants.{InOut, Push, Pop, PushPop}
-use Rattle.job_body.specs.Tasks.{TaskSoFar, access_name_of, before_task, made_of, places, root_object_of, root_queue_of, roots, scope_at, top_lines}
+use Rattle.job_body.specs.Tasks.{TaskSoFar, access_name_of, before_task, made_of, places, root_object_of, root_queue_of, roots, so_far_at, top_lines}
 use Rattle.privilege_check.specs.Names.{is_main}
 use Rattle.job_body.proofs.RightsNames.{Entry, names}
 
@@ -36,16 +36,16 @@ roots_held job name = if is_main name then root_entries (top_lines job) else []
 
 -- what is known in a task, as far as one has read it
 abbrev pub entries : List Line → TaskSoFar → List Entry
-entries job scope = roots_held job scope.name ++ (flat_map access_entry scope.lines ++ flat_map made_entry scope.lines)
+entries job so_far = roots_held job so_far.name ++ (flat_map access_entry so_far.lines ++ flat_map made_entry so_far.lines)
 
 -- What an activation holds at a line: all that its task takes, also by lines further on, and what it has
 -- made so far.
 abbrev pub held_with : List Line → TaskSoFar → List Line → List Entry
-held_with job scope rest =
-    roots_held job scope.name ++ ((flat_map access_entry scope.lines ++ flat_map access_entry (before_task rest)) ++ flat_map made_entry scope.lines)
+held_with job so_far rest =
+    roots_held job so_far.name ++ ((flat_map access_entry so_far.lines ++ flat_map access_entry (before_task rest)) ++ flat_map made_entry so_far.lines)
 
 abbrev pub held_at : List Line → ℕ → List Entry
-held_at job i = held_with job (scope_at job i) (drop i job)
+held_at job i = held_with job (so_far_at job i) (drop i job)
 
 -- ---- the names are the places
 
@@ -80,21 +80,21 @@ names-held : (job : List Line) (b : Bool) → names (if b then root_entries (top
 names-held job true = names-roots (top_lines job)
 names-held job false = refl
 
-pub names-entries : (job : List Line) (scope : TaskSoFar) → names (entries job scope) ≡ places job scope
-names-entries job scope =
-    map-append (λ entry. entry.0) (roots_held job scope.name) (flat_map access_entry scope.lines ++ flat_map made_entry scope.lines)
-    ∙ ap₂ (λ a b. a ++ b) (names-held job (is_main scope.name))
-    (map-append (λ entry. entry.0) (flat_map access_entry scope.lines) (flat_map made_entry scope.lines)
-    ∙ ap₂ (λ a b. a ++ b) (names-access scope.lines) (names-made scope.lines))
+pub names-entries : (job : List Line) (so_far : TaskSoFar) → names (entries job so_far) ≡ places job so_far
+names-entries job so_far =
+    map-append (λ entry. entry.0) (roots_held job so_far.name) (flat_map access_entry so_far.lines ++ flat_map made_entry so_far.lines)
+    ∙ ap₂ (λ a b. a ++ b) (names-held job (is_main so_far.name))
+    (map-append (λ entry. entry.0) (flat_map access_entry so_far.lines) (flat_map made_entry so_far.lines)
+    ∙ ap₂ (λ a b. a ++ b) (names-access so_far.lines) (names-made so_far.lines))
 
 -- ---- one line more
 
 pub flat-more : (f : Line → List Entry) (lines : List Line) (line : Line) → flat_map f (lines ++ line ∷ []) ≡ flat_map f lines ++ f line
 flat-more f lines line = flat_map-append f lines (line ∷ []) ∙ ap (λ es. flat_map f lines ++ es) (append-nil (f line))
 
-pub entries-more : (job : List Line) (scope : TaskSoFar) (line : Line) → entries job (record { name = scope.name; lines = scope.lines ++ line ∷ [] }) ≡ roots_held job scope.name ++ ((flat_map access_entry scope.lines ++ access_entry line) ++ (flat_map made_entry scope.lines ++ made_entry line))
-entries-more job scope line =
-    ap₂ (λ a m. roots_held job scope.name ++ (a ++ m)) (flat-more access_entry scope.lines line) (flat-more made_entry scope.lines line)
+pub entries-more : (job : List Line) (so_far : TaskSoFar) (line : Line) → entries job (record { name = so_far.name; lines = so_far.lines ++ line ∷ [] }) ≡ roots_held job so_far.name ++ ((flat_map access_entry so_far.lines ++ access_entry line) ++ (flat_map made_entry so_far.lines ++ made_entry line))
+entries-more job so_far line =
+    ap₂ (λ a m. roots_held job so_far.name ++ (a ++ m)) (flat-more access_entry so_far.lines line) (flat-more made_entry so_far.lines line)
 
 pub root_entries-more : (lines : List Line) (line : Line) → root_entries (lines ++ line ∷ []) ≡ (flat_map root_queue_entry lines ++ root_queue_entry line) ++ (flat_map root_object_entry lines ++ root_object_entry line)
 root_entries-more lines line =

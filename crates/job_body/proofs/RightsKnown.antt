@@ -21,8 +21,8 @@ use Rattle.privilege_check.specs.Names as checks
 use Rattle.privilege_check.specs.Names.{Before, before_first_line, after_declare, after_declare_in, known, known_in, after_open, after_declare_taken, taken_by, with_name, with_taken, is_main}
 use Rattle.privilege_check.specs.declared.declaration.Declaration.{Declaration}
 use Rattle.privilege_check.specs.declared.declaration.Declaration.TheVariants.{Variable, Held}
-use Rattle.job_body.specs.Tasks.{TaskSoFar, before_task, scope_after, scope_from, top_lines}
-use Rattle.job_body.proofs.Known.{scope-push}
+use Rattle.job_body.specs.Tasks.{TaskSoFar, before_task, so_far_after, so_far_from, top_lines}
+use Rattle.job_body.proofs.Known.{so_far-push}
 use Rattle.job_body.proofs.RightsNames.{Entry, mode_known, mode_of, declared-held, declared-variable}
 use Rattle.job_body.proofs.RightsEntries.{access_entry, made_entry, root_queue_entry, root_object_entry, root_entries, roots_held, entries, entries-more, root_entries-more, access-between, made-between, none-between}
 use Rattle.job_body.proofs.RightsPlaces.{position_from, before_from, place-push, before-push, Passes, line-at, along, take-past}
@@ -35,15 +35,15 @@ pub record KnownAtTop (done : List Line) (before : Before) : Type 0 where
   pub top : (name : List ℕ) → mode_of (root_entries done) name ≡ mode_known (before.top name)
 
 -- in a task, and after one
-pub record KnownInTask (job : List Line) (scope : TaskSoFar) (before : Before) : Type 0 where
-  pub task : before.open_task ≡ Some scope.name
+pub record KnownInTask (job : List Line) (so_far : TaskSoFar) (before : Before) : Type 0 where
+  pub task : before.open_task ≡ Some so_far.name
   pub top : (name : List ℕ) → mode_of (root_entries (top_lines job)) name ≡ mode_known (before.top name)
-  pub names : (name : List ℕ) → mode_of (entries job scope) name ≡ mode_known (known before name)
+  pub names : (name : List ℕ) → mode_of (entries job so_far) name ≡ mode_known (known before name)
 
 abbrev pub KnownAt : Position → List Line → List Line → TaskSoFar → Before → Type 0
-KnownAt First job done scope before = KnownAtTop done before
-KnownAt (Top inputs_left) job done scope before = KnownAtTop done before
-KnownAt _ job done scope before = KnownInTask job scope before
+KnownAt First job done so_far before = KnownAtTop done before
+KnownAt (Top inputs_left) job done so_far before = KnownAtTop done before
+KnownAt _ job done so_far before = KnownInTask job so_far before
 
 pub fresh_is : {A : Type 0} (o : Option A) → fresh o ≡ Ok tt → o ≡ None
 fresh_is None e = refl
@@ -154,75 +154,75 @@ top-none done line queue object =
     ∙ ap (λ es. (flat_map root_queue_entry done ++ []) ++ (flat_map root_object_entry done ++ es)) object
     ∙ none-between [] (flat_map root_queue_entry done) (flat_map root_object_entry done)
 
-top-first : (job done : List Line) (scope : TaskSoFar) (before : Before) (line : Line) → IsTrue (may_stand First line) → KnownAtTop done before → KnownAtTop (done ++ line ∷ []) (checks.after_line before line)
-top-first job done scope before line.Header stands k = top-quiet done before line.Header (top-none done line.Header refl refl) (λ rest. refl) k
-top-first job done scope before line stands k = absurd (false≢true stands)
+top-first : (job done : List Line) (so_far : TaskSoFar) (before : Before) (line : Line) → IsTrue (may_stand First line) → KnownAtTop done before → KnownAtTop (done ++ line ∷ []) (checks.after_line before line)
+top-first job done so_far before line.Header stands k = top-quiet done before line.Header (top-none done line.Header refl refl) (λ rest. refl) k
+top-first job done so_far before line stands k = absurd (false≢true stands)
 
-top-step : (job done rest : List Line) (n : ℕ) (scope : TaskSoFar) (before : Before) (line : Line) → job ≡ done ++ line ∷ rest → IsTrue (may_stand (Top n) line) → check_line before line ≡ Ok tt → KnownAtTop done before → KnownAt (positions.after (Top n) line) job (done ++ line ∷ []) (scope_after scope line) (checks.after_line before line)
-top-step job done rest n scope before (line.Note text) whole stands passes k =
+top-step : (job done rest : List Line) (n : ℕ) (so_far : TaskSoFar) (before : Before) (line : Line) → job ≡ done ++ line ∷ rest → IsTrue (may_stand (Top n) line) → check_line before line ≡ Ok tt → KnownAtTop done before → KnownAt (positions.after (Top n) line) job (done ++ line ∷ []) (so_far_after so_far line) (checks.after_line before line)
+top-step job done rest n so_far before (line.Note text) whole stands passes k =
     top-quiet done before (line.Note text) (top-none done (line.Note text) refl refl) (λ more. refl) k
-top-step job done rest n scope before (line.Input name) whole stands passes k =
+top-step job done rest n so_far before (line.Input name) whole stands passes k =
     let first = flat_map root_queue_entry done in
     let second = flat_map root_object_entry done in
     top-held done before (line.Input name) name Pop (Held Pop kind.Bytes) first second refl refl
     (root_entries-more done (line.Input name) ∙ access-between [] first second (name, Pop)) (λ more. refl) passes k
-top-step job done rest n scope before (line.Output name kind) whole stands passes k =
+top-step job done rest n so_far before (line.Output name kind) whole stands passes k =
     let first = flat_map root_queue_entry done in
     let second = flat_map root_object_entry done in
     top-held done before (line.Output name kind) name Push (Held Push kind) first second refl refl
     (root_entries-more done (line.Output name kind) ∙ access-between [] first second (name, Push)) (λ more. refl) passes k
-top-step job done rest n scope before (line.Object name kind) whole stands passes k =
+top-step job done rest n so_far before (line.Object name kind) whole stands passes k =
     let first = flat_map root_queue_entry done in
     let second = flat_map root_object_entry done in
     top-held done before (line.Object name kind) name InOut (Held InOut kind) (root_entries done) [] refl (sym (append-nil (root_entries done)))
     (root_entries-more done (line.Object name kind) ∙ made-between [] first second (name, InOut)) (λ more. refl) passes k
-top-step job done rest n scope before (line.Task name) whole stands passes k = top-opens job done rest before name whole k
-top-step job done rest n scope before line whole stands passes k = absurd (false≢true stands)
+top-step job done rest n so_far before (line.Task name) whole stands passes k = top-opens job done rest before name whole k
+top-step job done rest n so_far before line whole stands passes k = absurd (false≢true stands)
 
 -- ---- lines of a task
 
 abbrev more_lines : TaskSoFar → Line → TaskSoFar
-more_lines scope line = record { name = scope.name; lines = scope.lines ++ line ∷ [] }
+more_lines so_far line = record { name = so_far.name; lines = so_far.lines ++ line ∷ [] }
 
-task-none : (job : List Line) (scope : TaskSoFar) (line : Line) → access_entry line ≡ [] → made_entry line ≡ [] → entries job (more_lines scope line) ≡ entries job scope
-task-none job scope line access made =
-    let first = roots_held job scope.name in
-    let second = flat_map access_entry scope.lines in
-    let third = flat_map made_entry scope.lines in
-    entries-more job scope line
+task-none : (job : List Line) (so_far : TaskSoFar) (line : Line) → access_entry line ≡ [] → made_entry line ≡ [] → entries job (more_lines so_far line) ≡ entries job so_far
+task-none job so_far line access made =
+    let first = roots_held job so_far.name in
+    let second = flat_map access_entry so_far.lines in
+    let third = flat_map made_entry so_far.lines in
+    entries-more job so_far line
     ∙ ap (λ es. first ++ ((second ++ es) ++ (third ++ made_entry line))) access
     ∙ ap (λ es. first ++ ((second ++ []) ++ (third ++ es))) made
     ∙ none-between first second third
 
 -- a line that declares nothing
-task-quiet : (job : List Line) (scope : TaskSoFar) (before : Before) (line : Line) → access_entry line ≡ [] → made_entry line ≡ [] → KnownInTask job scope before → KnownInTask job (more_lines scope line) before
-task-quiet job scope before line access made k =
+task-quiet : (job : List Line) (so_far : TaskSoFar) (before : Before) (line : Line) → access_entry line ≡ [] → made_entry line ≡ [] → KnownInTask job so_far before → KnownInTask job (more_lines so_far line) before
+task-quiet job so_far before line access made k =
     record {
       task = k.task;
       top = k.top;
-      names = λ name. ap (λ es. mode_of es name) (task-none job scope line access made) ∙ k.names name;
+      names = λ name. ap (λ es. mode_of es name) (task-none job so_far line access made) ∙ k.names name;
     }
 
 -- a line that declares a variable
-task-variable : (job : List Line) (scope : TaskSoFar) (before after : Before) (line : Line) (name : List ℕ) (meaning : Declaration) → access_entry line ≡ [] → made_entry line ≡ [] → mode_known (Some meaning) ≡ None → fresh (known before name) ≡ Ok tt → Declares before after name meaning → KnownInTask job scope before → KnownInTask job (more_lines scope line) after
-task-variable job scope before after line name meaning access made variable is_fresh d k =
+task-variable : (job : List Line) (so_far : TaskSoFar) (before after : Before) (line : Line) (name : List ℕ) (meaning : Declaration) → access_entry line ≡ [] → made_entry line ≡ [] → mode_known (Some meaning) ≡ None → fresh (known before name) ≡ Ok tt → Declares before after name meaning → KnownInTask job so_far before → KnownInTask job (more_lines so_far line) after
+task-variable job so_far before after line name meaning access made variable is_fresh d k =
     record {
       task = d.task ∙ k.task;
       top = λ query. k.top query ∙ ap (λ top. mode_known (top query)) (sym d.top);
       names = λ query.
-          ap (λ es. mode_of es query) (task-none job scope line access made)
-          ∙ declared-variable (entries job scope) (known before) (known after) name meaning variable k.names (fresh_is (known before name) is_fresh) d.names query;
+          ap (λ es. mode_of es query) (task-none job so_far line access made)
+          ∙ declared-variable (entries job so_far) (known before) (known after) name meaning variable k.names (fresh_is (known before name) is_fresh) d.names query;
     }
 
 -- a line that declares something held
-task-held : (job : List Line) (scope : TaskSoFar) (before after : Before) (line : Line) (name : List ℕ) (mode : Mode) (meaning : Declaration) (first second : List Entry)
+task-held : (job : List Line) (so_far : TaskSoFar) (before after : Before) (line : Line) (name : List ℕ) (mode : Mode) (meaning : Declaration) (first second : List Entry)
     → mode_known (Some meaning) ≡ Some mode
-    → entries job scope ≡ first ++ second
-    → entries job (more_lines scope line) ≡ first ++ (name, mode) ∷ second
+    → entries job so_far ≡ first ++ second
+    → entries job (more_lines so_far line) ≡ first ++ (name, mode) ∷ second
     → fresh (known before name) ≡ Ok tt
     → Declares before after name meaning
-    → KnownInTask job scope before → KnownInTask job (more_lines scope line) after
-task-held job scope before after line name mode meaning first second held old new is_fresh d k =
+    → KnownInTask job so_far before → KnownInTask job (more_lines so_far line) after
+task-held job so_far before after line name mode meaning first second held old new is_fresh d k =
     record {
       task = d.task ∙ k.task;
       top = λ query. k.top query ∙ ap (λ top. mode_known (top query)) (sym d.top);
@@ -232,93 +232,93 @@ task-held job scope before after line name mode meaning first second held old ne
     }
 
 -- a line that makes a queue or an object
-task-makes : (job : List Line) (scope : TaskSoFar) (before : Before) (line : Line) (name : List ℕ) (mode : Mode) (meaning : Declaration) → access_entry line ≡ [] → made_entry line ≡ (name, mode) ∷ [] → mode_known (Some meaning) ≡ Some mode → fresh (known before name) ≡ Ok tt → KnownInTask job scope before → KnownInTask job (more_lines scope line) (after_declare name meaning before)
-task-makes job scope before line name mode meaning access made held is_fresh k =
-    let first = roots_held job scope.name in
-    let second = flat_map access_entry scope.lines in
-    let third = flat_map made_entry scope.lines in
-    let new : entries job (more_lines scope line) ≡ entries job scope ++ (name, mode) ∷ [] =
-    entries-more job scope line
+task-makes : (job : List Line) (so_far : TaskSoFar) (before : Before) (line : Line) (name : List ℕ) (mode : Mode) (meaning : Declaration) → access_entry line ≡ [] → made_entry line ≡ (name, mode) ∷ [] → mode_known (Some meaning) ≡ Some mode → fresh (known before name) ≡ Ok tt → KnownInTask job so_far before → KnownInTask job (more_lines so_far line) (after_declare name meaning before)
+task-makes job so_far before line name mode meaning access made held is_fresh k =
+    let first = roots_held job so_far.name in
+    let second = flat_map access_entry so_far.lines in
+    let third = flat_map made_entry so_far.lines in
+    let new : entries job (more_lines so_far line) ≡ entries job so_far ++ (name, mode) ∷ [] =
+    entries-more job so_far line
     ∙ ap (λ es. first ++ ((second ++ es) ++ (third ++ made_entry line))) access
     ∙ ap (λ es. first ++ ((second ++ []) ++ (third ++ es))) made
     ∙ made-between first second third (name, mode) in
-    task-held job scope before (after_declare name meaning before) line name mode meaning (entries job scope) [] held (sym (append-nil (entries job scope))) new is_fresh (declares-declared before scope.name name meaning k.task) k
+    task-held job so_far before (after_declare name meaning before) line name mode meaning (entries job so_far) [] held (sym (append-nil (entries job so_far))) new is_fresh (declares-declared before so_far.name name meaning k.task) k
 
-task-takes : (job : List Line) (scope : TaskSoFar) (before : Before) (name : List ℕ) (mode : Mode) (kind : Kind) → fresh (known before name) ≡ Ok tt → KnownInTask job scope before → KnownInTask job (more_lines scope (line.Access mode name kind)) (after_declare_taken name (Held mode kind) before)
-task-takes job scope before name mode kind is_fresh k =
-    let first = roots_held job scope.name in
-    let second = flat_map access_entry scope.lines in
-    let third = flat_map made_entry scope.lines in
-    task-held job scope before (after_declare_taken name (Held mode kind) before) (line.Access mode name kind) name mode (Held mode kind) (first ++ second) third refl (sym (append_assoc first second third))
-    (entries-more job scope (line.Access mode name kind) ∙ access-between first second third (name, mode)) is_fresh (declares-taken before scope.name name (Held mode kind) k.task) k
+task-takes : (job : List Line) (so_far : TaskSoFar) (before : Before) (name : List ℕ) (mode : Mode) (kind : Kind) → fresh (known before name) ≡ Ok tt → KnownInTask job so_far before → KnownInTask job (more_lines so_far (line.Access mode name kind)) (after_declare_taken name (Held mode kind) before)
+task-takes job so_far before name mode kind is_fresh k =
+    let first = roots_held job so_far.name in
+    let second = flat_map access_entry so_far.lines in
+    let third = flat_map made_entry so_far.lines in
+    task-held job so_far before (after_declare_taken name (Held mode kind) before) (line.Access mode name kind) name mode (Held mode kind) (first ++ second) third refl (sym (append_assoc first second third))
+    (entries-more job so_far (line.Access mode name kind) ∙ access-between first second third (name, mode)) is_fresh (declares-taken before so_far.name name (Held mode kind) k.task) k
 
-task-step : (job done : List Line) (scope : TaskSoFar) (before : Before) (line : Line) → IsTrue (may_stand InTask line) → check_line before line ≡ Ok tt → KnownInTask job scope before → KnownAt (positions.after InTask line) job (done ++ line ∷ []) (scope_after scope line) (checks.after_line before line)
-task-step job done scope before (line.Note text) stands passes k = task-quiet job scope before (line.Note text) refl refl k
-task-step job done scope before (line.Param name kind) stands passes k =
-    task-variable job scope before (after_declare_taken name (Variable kind) before) (line.Param name kind) name (Variable kind) refl refl refl (first_of_two (fresh (known before name)) _ tt passes) (declares-taken before scope.name name (Variable kind) k.task) k
-task-step job done scope before (line.Access mode name kind) stands passes k =
-    task-takes job scope before name mode kind (first_of_two (fresh (known before name)) _ tt passes) k
-task-step job done scope before (line.Var name kind) stands passes k =
-    task-variable job scope before (after_declare name (Variable kind) before) (line.Var name kind) name (Variable kind) refl refl refl passes (declares-declared before scope.name name (Variable kind) k.task) k
-task-step job done scope before (line.Queue name kind) stands passes k =
-    task-makes job scope before (line.Queue name kind) name PushPop (Held PushPop kind) refl refl refl passes k
-task-step job done scope before (line.Object name kind) stands passes k =
-    task-makes job scope before (line.Object name kind) name InOut (Held InOut kind) refl refl refl passes k
-task-step job done scope before line.Do stands passes k = task-quiet job scope before line.Do refl refl k
-task-step job done scope before line stands passes k = absurd (false≢true stands)
+task-step : (job done : List Line) (so_far : TaskSoFar) (before : Before) (line : Line) → IsTrue (may_stand InTask line) → check_line before line ≡ Ok tt → KnownInTask job so_far before → KnownAt (positions.after InTask line) job (done ++ line ∷ []) (so_far_after so_far line) (checks.after_line before line)
+task-step job done so_far before (line.Note text) stands passes k = task-quiet job so_far before (line.Note text) refl refl k
+task-step job done so_far before (line.Param name kind) stands passes k =
+    task-variable job so_far before (after_declare_taken name (Variable kind) before) (line.Param name kind) name (Variable kind) refl refl refl (first_of_two (fresh (known before name)) _ tt passes) (declares-taken before so_far.name name (Variable kind) k.task) k
+task-step job done so_far before (line.Access mode name kind) stands passes k =
+    task-takes job so_far before name mode kind (first_of_two (fresh (known before name)) _ tt passes) k
+task-step job done so_far before (line.Var name kind) stands passes k =
+    task-variable job so_far before (after_declare name (Variable kind) before) (line.Var name kind) name (Variable kind) refl refl refl passes (declares-declared before so_far.name name (Variable kind) k.task) k
+task-step job done so_far before (line.Queue name kind) stands passes k =
+    task-makes job so_far before (line.Queue name kind) name PushPop (Held PushPop kind) refl refl refl passes k
+task-step job done so_far before (line.Object name kind) stands passes k =
+    task-makes job so_far before (line.Object name kind) name InOut (Held InOut kind) refl refl refl passes k
+task-step job done so_far before line.Do stands passes k = task-quiet job so_far before line.Do refl refl k
+task-step job done so_far before line stands passes k = absurd (false≢true stands)
 
 -- a statement declares nothing
-do-quiet : (blocks : List Block) (scope : TaskSoFar) (before : Before) (line : Line) → IsTrue (may_stand (InDo blocks) line) → (access_entry line ≡ []) × (made_entry line ≡ []) × (scope_after scope line ≡ more_lines scope line) × (checks.after_line before line ≡ before)
-do-quiet blocks scope before line.Header stands = absurd (false≢true stands)
-do-quiet blocks scope before (line.Input name) stands = absurd (false≢true stands)
-do-quiet blocks scope before (line.Output name kind) stands = absurd (false≢true stands)
-do-quiet blocks scope before (line.Object name kind) stands = absurd (false≢true stands)
-do-quiet blocks scope before (line.Task name) stands = absurd (false≢true stands)
-do-quiet blocks scope before (line.Param name kind) stands = absurd (false≢true stands)
-do-quiet blocks scope before (line.Access mode name kind) stands = absurd (false≢true stands)
-do-quiet blocks scope before (line.Var name kind) stands = absurd (false≢true stands)
-do-quiet blocks scope before (line.Queue name kind) stands = absurd (false≢true stands)
-do-quiet blocks scope before line.Do stands = absurd (false≢true stands)
-do-quiet blocks scope before line stands = (refl, refl, refl, refl)
+do-quiet : (blocks : List Block) (so_far : TaskSoFar) (before : Before) (line : Line) → IsTrue (may_stand (InDo blocks) line) → (access_entry line ≡ []) × (made_entry line ≡ []) × (so_far_after so_far line ≡ more_lines so_far line) × (checks.after_line before line ≡ before)
+do-quiet blocks so_far before line.Header stands = absurd (false≢true stands)
+do-quiet blocks so_far before (line.Input name) stands = absurd (false≢true stands)
+do-quiet blocks so_far before (line.Output name kind) stands = absurd (false≢true stands)
+do-quiet blocks so_far before (line.Object name kind) stands = absurd (false≢true stands)
+do-quiet blocks so_far before (line.Task name) stands = absurd (false≢true stands)
+do-quiet blocks so_far before (line.Param name kind) stands = absurd (false≢true stands)
+do-quiet blocks so_far before (line.Access mode name kind) stands = absurd (false≢true stands)
+do-quiet blocks so_far before (line.Var name kind) stands = absurd (false≢true stands)
+do-quiet blocks so_far before (line.Queue name kind) stands = absurd (false≢true stands)
+do-quiet blocks so_far before line.Do stands = absurd (false≢true stands)
+do-quiet blocks so_far before line stands = (refl, refl, refl, refl)
 
-after-do : (blocks : List Block) (line : Line) (job done : List Line) (scope : TaskSoFar) (before : Before) → KnownInTask job scope before → KnownAt (positions.after_statement blocks line) job done scope before
-after-do [] line.Else job done scope before k = k
-after-do (innermost ∷ blocks) line.Else job done scope before k = k
-after-do [] line.End job done scope before k = k
-after-do (innermost ∷ blocks) line.End job done scope before k = k
-after-do blocks line job done scope before k = k
+after-do : (blocks : List Block) (line : Line) (job done : List Line) (so_far : TaskSoFar) (before : Before) → KnownInTask job so_far before → KnownAt (positions.after_statement blocks line) job done so_far before
+after-do [] line.Else job done so_far before k = k
+after-do (innermost ∷ blocks) line.Else job done so_far before k = k
+after-do [] line.End job done so_far before k = k
+after-do (innermost ∷ blocks) line.End job done so_far before k = k
+after-do blocks line job done so_far before k = k
 
-do-step : (job done : List Line) (blocks : List Block) (scope : TaskSoFar) (before : Before) (line : Line) → IsTrue (may_stand (InDo blocks) line) → KnownInTask job scope before → KnownAt (positions.after (InDo blocks) line) job (done ++ line ∷ []) (scope_after scope line) (checks.after_line before line)
-do-step job done blocks scope before line stands k =
-    let quiet = do-quiet blocks scope before line stands in
-    let after = after-do blocks line job (done ++ line ∷ []) (more_lines scope line) before (task-quiet job scope before line quiet.0 quiet.1 k) in
+do-step : (job done : List Line) (blocks : List Block) (so_far : TaskSoFar) (before : Before) (line : Line) → IsTrue (may_stand (InDo blocks) line) → KnownInTask job so_far before → KnownAt (positions.after (InDo blocks) line) job (done ++ line ∷ []) (so_far_after so_far line) (checks.after_line before line)
+do-step job done blocks so_far before line stands k =
+    let quiet = do-quiet blocks so_far before line stands in
+    let after = after-do blocks line job (done ++ line ∷ []) (more_lines so_far line) before (task-quiet job so_far before line quiet.0 quiet.1 k) in
     subst (λ s. KnownAt (positions.after (InDo blocks) line) job (done ++ line ∷ []) s (checks.after_line before line)) (sym quiet.2)
-    (subst (λ b. KnownAt (positions.after (InDo blocks) line) job (done ++ line ∷ []) (more_lines scope line) b) (sym quiet.3) after)
+    (subst (λ b. KnownAt (positions.after (InDo blocks) line) job (done ++ line ∷ []) (more_lines so_far line) b) (sym quiet.3) after)
 
-outside-step : (job done : List Line) (scope : TaskSoFar) (before : Before) (line : Line) → IsTrue (may_stand Outside line) → KnownInTask job scope before → KnownAt (positions.after Outside line) job (done ++ line ∷ []) (scope_after scope line) (checks.after_line before line)
-outside-step job done scope before (line.Note text) stands k = task-quiet job scope before (line.Note text) refl refl k
-outside-step job done scope before (line.Task name) stands k = opens job before name k.top
-outside-step job done scope before line stands k = absurd (false≢true stands)
+outside-step : (job done : List Line) (so_far : TaskSoFar) (before : Before) (line : Line) → IsTrue (may_stand Outside line) → KnownInTask job so_far before → KnownAt (positions.after Outside line) job (done ++ line ∷ []) (so_far_after so_far line) (checks.after_line before line)
+outside-step job done so_far before (line.Note text) stands k = task-quiet job so_far before (line.Note text) refl refl k
+outside-step job done so_far before (line.Task name) stands k = opens job before name k.top
+outside-step job done so_far before line stands k = absurd (false≢true stands)
 
-known-step : (job done rest : List Line) (place : Position) (scope : TaskSoFar) (before : Before) (line : Line) → job ≡ done ++ line ∷ rest → IsTrue (may_stand place line) → check_line before line ≡ Ok tt → KnownAt place job done scope before → KnownAt (positions.after place line) job (done ++ line ∷ []) (scope_after scope line) (checks.after_line before line)
-known-step job done rest First scope before line whole stands passes k = top-first job done scope before line stands k
-known-step job done rest (Top n) scope before line whole stands passes k = top-step job done rest n scope before line whole stands passes k
-known-step job done rest InTask scope before line whole stands passes k = task-step job done scope before line stands passes k
-known-step job done rest (InDo blocks) scope before line whole stands passes k = do-step job done blocks scope before line stands k
-known-step job done rest Outside scope before line whole stands passes k = outside-step job done scope before line stands k
+known-step : (job done rest : List Line) (place : Position) (so_far : TaskSoFar) (before : Before) (line : Line) → job ≡ done ++ line ∷ rest → IsTrue (may_stand place line) → check_line before line ≡ Ok tt → KnownAt place job done so_far before → KnownAt (positions.after place line) job (done ++ line ∷ []) (so_far_after so_far line) (checks.after_line before line)
+known-step job done rest First so_far before line whole stands passes k = top-first job done so_far before line stands k
+known-step job done rest (Top n) so_far before line whole stands passes k = top-step job done rest n so_far before line whole stands passes k
+known-step job done rest InTask so_far before line whole stands passes k = task-step job done so_far before line stands passes k
+known-step job done rest (InDo blocks) so_far before line whole stands passes k = do-step job done blocks so_far before line stands k
+known-step job done rest Outside so_far before line whole stands passes k = outside-step job done so_far before line stands k
 
 -- what is known after some lines of a job
 abbrev pub KnownAfter : List Line → List Line → Type 0
-KnownAfter job done = KnownAt (position_from First done) job done (scope_from (record { name = []; lines = [] }) done) (before_from before_first_line done)
+KnownAfter job done = KnownAt (position_from First done) job done (so_far_from (record { name = []; lines = [] }) done) (before_from before_first_line done)
 
 known-more : (job done rest : List Line) (line : Line) → job ≡ done ++ line ∷ rest → IsTrue (may_stand (position_from First done) line) → check_line (before_from before_first_line done) line ≡ Ok tt → KnownAfter job done → KnownAfter job (done ++ line ∷ [])
 known-more job done rest line whole stands passes k =
     let start : TaskSoFar = record { name = []; lines = [] } in
-    let next = known-step job done rest (position_from First done) (scope_from start done) (before_from before_first_line done) line whole stands passes k in
+    let next = known-step job done rest (position_from First done) (so_far_from start done) (before_from before_first_line done) line whole stands passes k in
     let all = done ++ line ∷ [] in
-    subst (λ p. KnownAt p job all (scope_from start all) (before_from before_first_line all)) (sym (place-push First done line))
-    (subst (λ s. KnownAt (positions.after (position_from First done) line) job all s (before_from before_first_line all)) (sym (scope-push start done line))
-    (subst (λ b. KnownAt (positions.after (position_from First done) line) job all (scope_after (scope_from start done) line) b) (sym (before-push before_first_line done line)) next))
+    subst (λ p. KnownAt p job all (so_far_from start all) (before_from before_first_line all)) (sym (place-push First done line))
+    (subst (λ s. KnownAt (positions.after (position_from First done) line) job all s (before_from before_first_line all)) (sym (so_far-push start done line))
+    (subst (λ b. KnownAt (positions.after (position_from First done) line) job all (so_far_after (so_far_from start done) line) b) (sym (before-push before_first_line done line)) next))
 
 -- what is known at each line of a job that passes the check
 pub known-at : (job : List Line) → IsPlaced First job → Passes before_first_line job → (i : ℕ) → KnownAfter job (take i job)

@@ -24,11 +24,11 @@ use Rattle.privilege_check.specs.Spawns.{arguments, as_child, is_lent_twice, len
 use Rattle.privilege_check.specs.Uses.{value}
 use Rattle.privilege_check.specs.declared.declaration.Declaration.{Declaration}
 use Rattle.job_body.specs.Steps as steps
-use Rattle.job_body.specs.Tasks.{TaskSoFar, before_task, scope_at, task_index, top_lines}
+use Rattle.job_body.specs.Tasks.{TaskSoFar, before_task, so_far_at, task_index, top_lines}
 use Rattle.job_body.proofs.RightsEntries.{access_entry, entries, held_at, held_with, made_entry, names-entries, root_entries, roots_held}
 use Rattle.job_body.proofs.RightsKnown.{KnownAt, KnownInTask, known-at}
 use Rattle.job_body.proofs.RightsNames.{mode_known, mode_of, modes, position}
-use Rattle.job_body.proofs.RightsPlaces.{Passes, before_at, before_from, passes-from, position_at, place-next, placed-from, scope-next}
+use Rattle.job_body.proofs.RightsPlaces.{Passes, before_at, before_from, passes-from, position_at, place-next, placed-from, so_far-next}
 use Rattle.job_body.proofs.RightsStands.{Stands, stands_here}
 use Rattle.job_body.proofs.RightsTasks.{IsTaskAt, held_modes, kept, learnt, meaning_of, meanings, modes-meanings, task-found, bind-parts}
 
@@ -118,31 +118,31 @@ takes-nothing (line ∷ lines) Outside past placed = absurd (false≢true placed
 pub record IsStatementAt (job : List Line) (i : ℕ) (held : List Mode) : Type 0 where
   pub inside : List Opened
   pub at : position_at job i ≡ InDo inside
-  pub task : (before_at job i).open_task ≡ Some (scope_at job i).name
-  pub names : (query : List ℕ) → mode_of (entries job (scope_at job i)) query ≡ mode_known (known (before_at job i) query)
-  pub holds : held ≡ modes (entries job (scope_at job i))
-  pub place : (name : List ℕ) → steps.place_at job i name ≡ position (entries job (scope_at job i)) name
+  pub task : (before_at job i).open_task ≡ Some (so_far_at job i).name
+  pub names : (query : List ℕ) → mode_of (entries job (so_far_at job i)) query ≡ mode_known (known (before_at job i) query)
+  pub holds : held ≡ modes (entries job (so_far_at job i))
+  pub place : (name : List ℕ) → steps.place_at job i name ≡ position (entries job (so_far_at job i)) name
   pub rest : meanings (before_task (drop i job)) ≡ []
 
-held-statement : (job : List Line) (i : ℕ) → flat_map access_entry (before_task (drop i job)) ≡ [] → held_at job i ≡ entries job (scope_at job i)
+held-statement : (job : List Line) (i : ℕ) → flat_map access_entry (before_task (drop i job)) ≡ [] → held_at job i ≡ entries job (so_far_at job i)
 held-statement job i none =
-    let scope = scope_at job i in
-    ap (λ es. roots_held job scope.name ++ ((flat_map access_entry scope.lines ++ es) ++ flat_map made_entry scope.lines)) none
-    ∙ ap (λ es. roots_held job scope.name ++ (es ++ flat_map made_entry scope.lines)) (append-nil (flat_map access_entry scope.lines))
+    let so_far = so_far_at job i in
+    ap (λ es. roots_held job so_far.name ++ ((flat_map access_entry so_far.lines ++ es) ++ flat_map made_entry so_far.lines)) none
+    ∙ ap (λ es. roots_held job so_far.name ++ (es ++ flat_map made_entry so_far.lines)) (append-nil (flat_map access_entry so_far.lines))
 
 pub statement-at : (job : List Line) → IsPlaced First job → Passes before_first_line job → (i : ℕ) (line : Line) (held : List Mode) → slice_get job i ≡ Some line → Stands job i held → is_statement line ≡ true → IsStatementAt job i held
 statement-at job placed passes i line held is at e =
     let doing = in-do (position_at job i) line at.within (stands_here job i line placed is) e in
     let here : IsPlaced (InDo doing.0) (drop i job) = subst (λ p. IsPlaced p (drop i job)) doing.1 (placed-from First job i placed) in
     let nothing = takes-nothing (drop i job) (InDo doing.0) refl here in
-    let known_here : KnownInTask job (scope_at job i) (before_at job i) = subst (λ p. KnownAt p job (take i job) (scope_at job i) (before_at job i)) doing.1 (known-at job placed passes i) in
+    let known_here : KnownInTask job (so_far_at job i) (before_at job i) = subst (λ p. KnownAt p job (take i job) (so_far_at job i) (before_at job i)) doing.1 (known-at job placed passes i) in
     record {
       inside = doing.0;
       at = doing.1;
       task = known_here.task;
       names = known_here.names;
       holds = at.holds ∙ ap modes (held-statement job i nothing.access);
-      place = λ name. ap (position_or_len (λ other. bytes_eq other name)) (sym (names-entries job (scope_at job i)));
+      place = λ name. ap (position_or_len (λ other. bytes_eq other name)) (sym (names-entries job (so_far_at job i)));
       rest = nothing.meaning;
     }
 
@@ -156,12 +156,12 @@ before-split before (line ∷ lines) (suc i) = before-split (checks.after_line b
 -- what the check knows of a task at a statement is what its lines say
 pub task-known : (job : List Line) → Passes before_first_line job → (i : ℕ) (held : List Mode) → IsStatementAt job i held → (task : List ℕ) (taken : List Declaration) → (before_at job i).tasks task ≡ Some taken → IsTaskAt job (task_index job task) task taken
 task-known job passes i held at task taken is =
-    let all = kept (drop i job) (before_at job i) (scope_at job i).name task taken at.task (passes-from before_first_line job i passes) is in
+    let all = kept (drop i job) (before_at job i) (so_far_at job i).name task taken at.task (passes-from before_first_line job i passes) is in
     let ends : (before_from before_first_line job).tasks task ≡ Some taken =
     ap (λ (b : Before). b.tasks task) (before-split before_first_line job i)
     ∙ all
-    ∙ ap (λ ms. Some (taken ++ cond (bytes_eq (scope_at job i).name task) ms [])) at.rest
-    ∙ ap Some (nothing-more (bytes_eq (scope_at job i).name task)) in
+    ∙ ap (λ ms. Some (taken ++ cond (bytes_eq (so_far_at job i).name task) ms [])) at.rest
+    ∙ ap Some (nothing-more (bytes_eq (so_far_at job i).name task)) in
     task-found job task taken (sym (learnt before_first_line job task passes refl) ∙ ends) where
       nothing-more : (b : Bool) → taken ++ cond b [] [] ≡ taken
       nothing-more true = append-nil taken
@@ -226,7 +226,7 @@ task-stands job placed index name taken at =
     place-next job index (line.Task name) at.at ∙ opens-task (position_at job index) name (stands_here job index (line.Task name) placed at.at) in
     let access = flat_map access_entry (before_task (drop (index + 1) job)) in
     let here : held_at job (index + 1) ≡ roots_held job name ++ access =
-    ap (λ scope. held_with job scope (drop (index + 1) job)) (scope-next job index (line.Task name) at.at)
+    ap (λ so_far. held_with job so_far (drop (index + 1) job)) (so_far-next job index (line.Task name) at.at)
     ∙ ap (λ es. roots_held job name ++ es) (append-nil access) in
     record {
       within = ap is_open within;

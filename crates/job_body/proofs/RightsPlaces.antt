@@ -8,8 +8,8 @@ use Rattle.job_reader.specs.declared.position.Position.TheVariants.{First}
 use Rattle.privilege_check.specs.FirstFault.{check_line}
 use Rattle.privilege_check.specs.Names as checks
 use Rattle.privilege_check.specs.Names.{Before, before_first_line}
-use Rattle.job_body.specs.Tasks.{scope_after, scope_at, scope_from}
-use Rattle.job_body.proofs.Known.{scope-push}
+use Rattle.job_body.specs.Tasks.{so_far_after, so_far_at, so_far_from}
+use Rattle.job_body.proofs.Known.{so_far-push}
 use Rattle.swan_model.proofs.Lists.{drop_next, take_next, past_none}
 
 -- the place after lines, and what they say
@@ -56,8 +56,8 @@ before-push before (first ∷ lines) line = before-push (checks.after_line befor
 pub place-next : (job : List Line) (i : ℕ) (line : Line) → slice_get job i ≡ Some line → position_at job (i + 1) ≡ positions.after (position_at job i) line
 place-next job i line h = ap (position_from First) (take_next job i line h) ∙ place-push First (take i job) line
 
-pub scope-next : (job : List Line) (i : ℕ) (line : Line) → slice_get job i ≡ Some line → scope_at job (i + 1) ≡ scope_after (scope_at job i) line
-scope-next job i line h = ap (scope_from (record { name = []; lines = [] })) (take_next job i line h) ∙ scope-push _ (take i job) line
+pub so_far-next : (job : List Line) (i : ℕ) (line : Line) → slice_get job i ≡ Some line → so_far_at job (i + 1) ≡ so_far_after (so_far_at job i) line
+so_far-next job i line h = ap (so_far_from (record { name = []; lines = [] })) (take_next job i line h) ∙ so_far-push _ (take i job) line
 
 -- what holds of the first lines of a job by a fact that each line keeps holds of any number of them
 pub along : (job : List Line) (P : ℕ → Type 0) → P 0 → ((i : ℕ) → slice_get job i ≡ None → P i → P (i + 1)) → ((i : ℕ) (line : Line) → slice_get job i ≡ Some line → P i → P (i + 1)) → (i : ℕ) → P i

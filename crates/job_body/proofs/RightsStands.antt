@@ -10,10 +10,10 @@ use Rattle.job_reader.specs.declared.line.Line.{Line}
 use Rattle.job_reader.specs.declared.line.Line.TheVariants as line
 use Rattle.job_reader.specs.declared.position.Position.{Position}
 use Rattle.job_reader.specs.declared.position.Position.TheVariants.{First, Top, InTask, InDo, Outside}
-use Rattle.job_body.specs.Tasks.{TaskSoFar, before_task, executed_from, is_executed, passed_over, scope_after, scope_at}
+use Rattle.job_body.specs.Tasks.{TaskSoFar, before_task, executed_from, is_executed, passed_over, so_far_after, so_far_at}
 use Rattle.job_body.proofs.RightsEntries.{access_entry, made_entry, roots_held, held_at, held_with, flat-more}
 use Rattle.job_body.proofs.RightsNames.{Entry, modes}
-use Rattle.job_body.proofs.RightsPlaces.{position_at, place-next, placed-from, scope-next}
+use Rattle.job_body.proofs.RightsPlaces.{position_at, place-next, placed-from, so_far-next}
 use Rattle.swan_model.proofs.Lists.{drop_next, get-drop, same_parts}
 
 -- an activation that holds by these modes may stand at a line: in a task, with what is held there
@@ -27,9 +27,9 @@ is_task _ = false
 
 -- ---- one line more
 
-scope-plain : (scope : TaskSoFar) (line : Line) → is_task line ≡ false → scope_after scope line ≡ record { name = scope.name; lines = scope.lines ++ line ∷ [] }
-scope-plain scope (line.Task name) e = absurd (true≢false e)
-scope-plain scope line e = refl
+so_far-plain : (so_far : TaskSoFar) (line : Line) → is_task line ≡ false → so_far_after so_far line ≡ record { name = so_far.name; lines = so_far.lines ++ line ∷ [] }
+so_far-plain so_far (line.Task name) e = absurd (true≢false e)
+so_far-plain so_far line e = refl
 
 before-plain : (line : Line) (rest : List Line) → is_task line ≡ false → before_task (line ∷ rest) ≡ line ∷ before_task rest
 before-plain (line.Task name) rest e = absurd (true≢false e)
@@ -41,21 +41,21 @@ held-list first second access third made last =
     ∙ ap (λ es. first ++ es) (sym (append_assoc (second ++ (access ++ third)) made last))
     ∙ sym (append_assoc first ((second ++ (access ++ third)) ++ made) last)
 
-held-more : (job : List Line) (scope : TaskSoFar) (line : Line) (rest : List Line) → is_task line ≡ false → held_with job (record { name = scope.name; lines = scope.lines ++ line ∷ [] }) rest ≡ held_with job scope (line ∷ rest) ++ made_entry line
-held-more job scope line rest plain =
-    let first = roots_held job scope.name in
-    let second = flat_map access_entry scope.lines in
+held-more : (job : List Line) (so_far : TaskSoFar) (line : Line) (rest : List Line) → is_task line ≡ false → held_with job (record { name = so_far.name; lines = so_far.lines ++ line ∷ [] }) rest ≡ held_with job so_far (line ∷ rest) ++ made_entry line
+held-more job so_far line rest plain =
+    let first = roots_held job so_far.name in
+    let second = flat_map access_entry so_far.lines in
     let third = flat_map access_entry (before_task rest) in
-    let made = flat_map made_entry scope.lines in
-    ap₂ (λ a m. first ++ ((a ++ third) ++ m)) (flat-more access_entry scope.lines line) (flat-more made_entry scope.lines line)
+    let made = flat_map made_entry so_far.lines in
+    ap₂ (λ a m. first ++ ((a ++ third) ++ m)) (flat-more access_entry so_far.lines line) (flat-more made_entry so_far.lines line)
     ∙ held-list first second (access_entry line) third made (made_entry line)
     ∙ ap (λ ls. (first ++ ((second ++ flat_map access_entry ls) ++ made)) ++ made_entry line) (sym (before-plain line rest plain))
 
 pub held-next : (job : List Line) (i : ℕ) (line : Line) → slice_get job i ≡ Some line → is_task line ≡ false → held_at job (i + 1) ≡ held_at job i ++ made_entry line
 held-next job i line is plain =
-    ap (λ scope. held_with job scope (drop (i + 1) job)) (scope-next job i line is ∙ scope-plain (scope_at job i) line plain)
-    ∙ held-more job (scope_at job i) line (drop (i + 1) job) plain
-    ∙ ap (λ rest. held_with job (scope_at job i) rest ++ made_entry line) (sym (drop_next job i line is))
+    ap (λ so_far. held_with job so_far (drop (i + 1) job)) (so_far-next job i line is ∙ so_far-plain (so_far_at job i) line plain)
+    ∙ held-more job (so_far_at job i) line (drop (i + 1) job) plain
+    ∙ ap (λ rest. held_with job (so_far_at job i) rest ++ made_entry line) (sym (drop_next job i line is))
 
 -- what is held after a line that makes nothing
 pub held-same : (job : List Line) (i : ℕ) (line : Line) → slice_get job i ≡ Some line → is_task line ≡ false → made_entry line ≡ [] → held_at job (i + 1) ≡ held_at job i

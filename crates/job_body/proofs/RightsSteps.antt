@@ -35,7 +35,7 @@ use Rattle.job_body.specs.declared.take.Take.{Take}
 use Rattle.job_body.specs.Blocks.{blocks_at, exit_at}
 use Rattle.job_body.specs.Standing.{Standing}
 use Rattle.job_body.specs.Steps as steps
-use Rattle.job_body.specs.Tasks.{executed_from, lines_of_task, scope_at, takes, task_index}
+use Rattle.job_body.specs.Tasks.{executed_from, lines_of_task, so_far_at, takes, task_index}
 use Rattle.job_body.proofs.RightsEffects.{EffectFits, FitsStore, empty-fits, object-fits, pop-fits, push-fits, queue-fits, read-fits, spawn-fits, sync-fits, work-fits, write-fits}
 use Rattle.job_body.proofs.RightsEntries.{entries, held_at, made_entry}
 use Rattle.job_body.proofs.RightsJumps.{BlocksAt, BlocksStand, blocks-stand, exit-stands}
@@ -109,7 +109,7 @@ module _ (job : List Line) (store : Store) (a : Activation Standing) (s : Standi
   used : (asked : Option Kind) (mode : Mode) (name : List ℕ) (k : Kind) → is_statement line ≡ true → held (known (before_at job s.at)) asked mode name ≡ Ok k → HeldAt a.holdings (steps.place_at job s.at name) mode
   used asked mode name k e may =
       let d = doing e in
-      let all = entries job (scope_at job s.at) in
+      let all = entries job (so_far_at job s.at) in
       subst (λ p. HeldAt a.holdings p mode) (sym (d.place name))
       (may-hold all a.holdings name mode d.holds (held-may all (known (before_at job s.at)) asked mode name k d.names may))
 
@@ -225,7 +225,7 @@ spawn-step job n store a s fuel task args step amount =
       names = known (before_at job s.at)
 
       all : List Entry
-      all = entries job (scope_at job s.at)
+      all = entries job (so_far_at job s.at)
 
       gifts : List (List ℕ × Mode)
       gifts = lent p.taken args

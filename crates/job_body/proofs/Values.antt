@@ -14,7 +14,7 @@ use Rattle.job_body.specs.Names.{slot}
 use Rattle.job_body.specs.Runs as runs
 use Rattle.job_body.specs.Standing.{Standing}
 use Rattle.job_body.specs.Steps as steps
-use Rattle.job_body.specs.Tasks.{places, scope_at}
+use Rattle.job_body.specs.Tasks.{places, so_far_at}
 
 -- ---- a variable's value
 
@@ -82,7 +82,7 @@ value-operand lines i values (atom.Name name) = value-slot (steps.names_at lines
   of_variable (Some k) = refl
 
 pub place-name : (lines : List Line) (i : ℕ) (name : List ℕ) → steps.place_at lines i name ≡ compiled.place_in (compiled.seen_at lines i) name
-place-name lines i name = place-slot (places lines (scope_at lines i)) name
+place-name lines i name = place-slot (places lines (so_far_at lines i)) name
 
 pub place-atom : (lines : List Line) (i : ℕ) (a : Atom) → steps.place_of_atom lines i a ≡ compiled.atom_place_in (compiled.seen_at lines i) a
 place-atom lines i (atom.Int n) = refl

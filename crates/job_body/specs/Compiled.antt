@@ -3,7 +3,7 @@
 use Rattle.std.specs.Prelude.{◌≡◌, ◌≤◌, ℕ, ◌+◌, false, Option, Some, None, List, [], ◌∷◌, ◌++◌, length, drop, flat_map, zip, slice_get, unwrap_or, pos, if◌then◌else◌}
 use Rattle.job_body.specs.Blocks.{blocks_after_end, blocks_at, exits, first_exit, innermost}
 use Rattle.job_body.specs.Names.{slot}
-use Rattle.job_body.specs.Tasks.{access_name_of, before_task, executed_from, made_of, param_of, roots, scope_at, takes, top_lines, var_kinds, var_of}
+use Rattle.job_body.specs.Tasks.{access_name_of, before_task, executed_from, made_of, param_of, roots, so_far_at, takes, top_lines, var_kinds, var_of}
 use Rattle.privilege_check.specs.Names.{is_main}
 use Rattle.job_body.specs.declared.block.BlockWithLine.{BlockWithLine}
 use Rattle.job_body.specs.declared.block.BlockWithLine.TheVariants as opened
@@ -99,11 +99,11 @@ pub record KnowsFew (s : Scope) (most : ℕ) : Type 0 where
 abbrev pub seen_at : List Line → ℕ → Scope
 seen_at lines i = record {
   roots = roots (top_lines lines);
-  is_main = is_main (scope_at lines i).name;
-  params = flat_map param_of (scope_at lines i).lines;
-  vars = flat_map var_of (scope_at lines i).lines;
-  accesses = flat_map access_name_of (scope_at lines i).lines;
-  made = flat_map made_of (scope_at lines i).lines;
+  is_main = is_main (so_far_at lines i).name;
+  params = flat_map param_of (so_far_at lines i).lines;
+  vars = flat_map var_of (so_far_at lines i).lines;
+  accesses = flat_map access_name_of (so_far_at lines i).lines;
+  made = flat_map made_of (so_far_at lines i).lines;
   blocks = blocks_at lines i;
 }
 

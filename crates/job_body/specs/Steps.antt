@@ -26,7 +26,7 @@ use Rattle.job_body.specs.declared.take.Take.TheVariants as given
 use Rattle.job_body.specs.Blocks.{blocks_at, exit_at}
 use Rattle.job_body.specs.Operations.{number_of, is_true, flag, operation}
 use Rattle.job_body.specs.Standing.{Standing}
-use Rattle.job_body.specs.Tasks.{executed_from, task_index, lines_of_task, scope_at, variables, zeros, takes, places}
+use Rattle.job_body.specs.Tasks.{executed_from, task_index, lines_of_task, so_far_at, variables, zeros, takes, places}
 
 -- the value of the variable with this name, where the values stand in the order of the names; the number 0
 -- where there is none
@@ -42,7 +42,7 @@ values_with _ values name new = values
 
 -- the names of the variables at a line
 abbrev pub names_at : List Line → ℕ → List (List ℕ)
-names_at lines i = variables (scope_at lines i).lines
+names_at lines i = variables (so_far_at lines i).lines
 
 -- what an atom means at a line
 abbrev pub value_at : List Line → ℕ → List Value → Atom → Value
@@ -52,11 +52,11 @@ value_at lines i values (atom.Name name) = value_named (names_at lines i) values
 
 -- the place of an object or a queue at a line; the number of places where it isn't there
 abbrev pub place_at : List Line → ℕ → List ℕ → ℕ
-place_at lines i name = position_or_len (λ other. bytes_eq other name) (places lines (scope_at lines i))
+place_at lines i name = position_or_len (λ other. bytes_eq other name) (places lines (so_far_at lines i))
 
 abbrev pub place_of_atom : List Line → ℕ → Atom → ℕ
 place_of_atom lines i (atom.Name name) = place_at lines i name
-place_of_atom lines i _ = length (places lines (scope_at lines i))
+place_of_atom lines i _ = length (places lines (so_far_at lines i))
 
 -- What is received for the last ask. An answer that wasn't asked for is nothing, and a value of the
 -- other kind leaves the variable as it is.

@@ -67,17 +67,18 @@ pub record TaskSoFar : Type 0 where
   pub name : List ℕ
   pub lines : List Line
 
-abbrev pub scope_after : TaskSoFar → Line → TaskSoFar
-scope_after scope (Task name) = record { name = name; lines = [] }
-scope_after scope line = record { name = scope.name; lines = scope.lines ++ line ∷ [] }
+-- the task so far, once one has read one more line
+abbrev pub so_far_after : TaskSoFar → Line → TaskSoFar
+so_far_after so_far (Task name) = record { name = name; lines = [] }
+so_far_after so_far line = record { name = so_far.name; lines = so_far.lines ++ line ∷ [] }
 
-abbrev pub scope_from : TaskSoFar → List Line → TaskSoFar
-scope_from scope [] = scope
-scope_from scope (line ∷ lines) = scope_from (scope_after scope line) lines
+abbrev pub so_far_from : TaskSoFar → List Line → TaskSoFar
+so_far_from so_far [] = so_far
+so_far_from so_far (line ∷ lines) = so_far_from (so_far_after so_far line) lines
 
 -- the task in which a line stands, as far as the lines before it
-abbrev pub scope_at : List Line → ℕ → TaskSoFar
-scope_at lines i = scope_from (record { name = []; lines = [] }) (take i lines)
+abbrev pub so_far_at : List Line → ℕ → TaskSoFar
+so_far_at lines i = so_far_from (record { name = []; lines = [] }) (take i lines)
 
 -- The variables of a task: its `param` lines in order, then its `var` lines in order.
 abbrev pub param_of : Line → List (List ℕ)
@@ -139,5 +140,5 @@ abbrev pub roots_of : List Line → List ℕ → List (List ℕ)
 roots_of lines name = if is_main name then roots (top_lines lines) else []
 
 abbrev pub places : List Line → TaskSoFar → List (List ℕ)
-places lines scope =
-    roots_of lines scope.name ++ (flat_map access_name_of scope.lines ++ flat_map made_of scope.lines)
+places lines so_far =
+    roots_of lines so_far.name ++ (flat_map access_name_of so_far.lines ++ flat_map made_of so_far.lines)

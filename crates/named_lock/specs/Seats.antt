@@ -52,6 +52,7 @@ module _ {S N : Type 0} where
   IsNewSeatOf lock seat = IsSeatOf lock false seat
       × (knows seat ≡ record { parts = 1; name = Some (lock_name lock); holding = false; owes_done = false; saw_done = false; saw_stopped = false; sign = Runs; holds = 0; lost = 0; stops = 0 })
 
+  -- it is this seat, whatever it has learnt since
   abbrev pub IsSameSeat : (old new : LockSeat S N) → Type 0
   IsSameSeat old new = (new.seat.table_id ≡ old.seat.table_id) × (new.seat.id ≡ old.seat.id)
 

@@ -37,8 +37,8 @@ module _ (old now : VersionState) (parent parent_place child child_place : ℕ) 
   giver_after : after_access old giver.number parent_place child child_place mode ≡ now
   giver_after = ap (λ k. after_access old k parent_place child child_place mode) own ∙ sym is
 
-  access_given : IsGiving s r old giver child made (this ∷ left) → IsGiving s r now giver child (made ++ this ∷ []) left
-  access_given giving =
+  next_given : IsGiving s r old giver child made (this ∷ left) → IsGiving s r now giver child (made ++ this ∷ []) left
+  next_given giving =
       subst (λ state. IsGiving s r state giver child (made ++ this ∷ []) left) giver_after
       (one_more_given s r old giver child made left this giver_known giving giver_held free (alone held.object held.stands))
 
@@ -48,7 +48,7 @@ pub access_giving : (old now : VersionState) (parent parent_place child child_pl
     → IsGiving s r old giver child made ((record { place = parent_place; child_place = child_place; mode = mode }) ∷ left)
     → IsGiving s r now giver child (made ++ (record { place = parent_place; child_place = child_place; mode = mode }) ∷ []) left
 access_giving old now parent parent_place child child_place mode held free alone is = λ s r giver made left lawful known giving.
-    access_given old now parent parent_place child child_place mode held free alone is s r giver made left known giving
+    next_given old now parent parent_place child child_place mode held free alone is s r giver made left known giving
 
 -- nothing is left to be given
 pub giving_ends : (s : Script) (r : Reading) (state : VersionState) (giver : Progress) (child : ℕ) (made : List Access) → IsLawful s → frame_of r giver.number ≡ Some giver

@@ -58,7 +58,7 @@ module _ (name : Option Script) (state : QueueState) (frames : LiveFrames) (head
       let frame : IsFrameKept (after_deed state n) (counted kept) (with_deed act.frame) = record {
         deeds = ap (λ k. k + 1) was.2.deeds;
         lent = act.may.back ∙ sym (lent_none (counted kept) free);
-        places = was.2.places;
+        own_chunks = was.2.own_chunks;
         made = was.2.made;
         given = was.2.given;
         pushers = was.2.pushers;

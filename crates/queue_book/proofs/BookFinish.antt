@@ -24,7 +24,7 @@ use Rattle.queue_book.specs.declared.live_frames.LiveFrames.{LiveFrames}
 use Rattle.queues.proofs.ActiveAfter.{one_gone}
 use Rattle.queue_book.proofs.ChainChanges.{chained_same}
 use Rattle.queues.proofs.Finishing.{finished_follows}
-use Rattle.queue_book.proofs.LiveKept.{key_none, kept_live, live_gone, place_has}
+use Rattle.queue_book.proofs.LiveKept.{key_none, kept_live, live_gone, own_chunk_has}
 use Rattle.queues.proofs.Match.{matches_finish, matches_finish_other}
 use Rattle.queue_book.proofs.PlainSaid.{on_next}
 use Rattle.queue_book.proofs.BookRest.{root_path}
@@ -90,20 +90,20 @@ module _ (name : Option Script) (state : QueueState) (lines : ℕ → Chunks) (i
       emptied = λ taken. refl;
     }
 
-    line_ended : IsLine name (after_finish state n) q maker (line_after_end n (own_chunk_in kept.places q) (lines q))
-    line_ended = by (own_chunk_in kept.places q) refl where
-      given_up : (place : OwnChunk) → own_chunk_in kept.places q ≡ Some place → (b : Bool) → (place.is_maker && not (n == 0)) ≡ b
+    line_ended : IsLine name (after_finish state n) q maker (line_after_end n (own_chunk_in kept.own_chunks q) (lines q))
+    line_ended = by (own_chunk_in kept.own_chunks q) refl where
+      given_up : (own_chunk : OwnChunk) → own_chunk_in kept.own_chunks q ≡ Some own_chunk → (b : Bool) → (own_chunk.is_maker && not (n == 0)) ≡ b
           → IsLine name (after_finish state n) q maker (if b then [] else after_close n (lines q))
-      given_up place at true yes_over =
-          let parts = and_parts place.is_maker (not (n == 0)) yes_over in
-          line_over (λ root. both_ways (n == 0) (not-true (n == 0) parts.1) (ap (λ k. k == 0) root ∙ eq-eqb 0 0 refl)) (agrees.made q place maker at made parts.0)
-      given_up place at false stays = line_closed
+      given_up own_chunk at true yes_over =
+          let parts = and_parts own_chunk.is_maker (not (n == 0)) yes_over in
+          line_over (λ root. both_ways (n == 0) (not-true (n == 0) parts.1) (ap (λ k. k == 0) root ∙ eq-eqb 0 0 refl)) (agrees.made q own_chunk maker at made parts.0)
+      given_up own_chunk at false stays = line_closed
 
-      by : (o : Option OwnChunk) → own_chunk_in kept.places q ≡ o → IsLine name (after_finish state n) q maker (line_after_end n o (lines q))
-      by None at = line_gone (sym (agrees.places q) ∙ ap is_some at)
-      by (Some place) at = given_up place at (place.is_maker && not (n == 0)) refl
+      by : (o : Option OwnChunk) → own_chunk_in kept.own_chunks q ≡ o → IsLine name (after_finish state n) q maker (line_after_end n o (lines q))
+      by None at = line_gone (sym (agrees.own_chunks q) ∙ ap is_some at)
+      by (Some own_chunk) at = given_up own_chunk at (own_chunk.is_maker && not (n == 0)) refl
 
-  pub plain_finish : IsPlain name (after_finish state n) (lines_after_end n kept.places lines)
+  pub plain_finish : IsPlain name (after_finish state n) (lines_after_end n kept.own_chunks lines)
   plain_finish = record {
     tree = tree_finish state n is.tree may;
     follows = λ s named lawful. finished_follows s state (is.follows s named lawful) n may.alone;
@@ -122,32 +122,32 @@ module _ (name : Option Script) (state : QueueState) (frames : LiveFrames) (head
       let P : KeptFrame → Type 0 = λ k. IsFrameKept state k may.frame in
       subst P same was.2
 
-  keys_own : (m q : ℕ) → own_keys n kept.places (key_at frames) m q ≡ key_at frames m q
+  keys_own : (m q : ℕ) → own_keys n kept.own_chunks (key_at frames) m q ≡ key_at frames m q
   keys_own m q = by (m == n) refl where
-    by : (b : Bool) → (m == n) ≡ b → (if b then option_map (λ (place : OwnChunk). place.key) (own_chunk_in kept.places q) else key_at frames m q) ≡ key_at frames m q
+    by : (b : Bool) → (m == n) ≡ b → (if b then option_map (λ (own_chunk : OwnChunk). own_chunk.key) (own_chunk_in kept.own_chunks q) else key_at frames m q) ≡ key_at frames m q
     by true e = sym (ap (λ k. key_at frames k q) (eqb-true m n e) ∙ ap (λ o. key_in o q) at)
     by false e = refl
 
-  pub alone_in : IsAlone n kept.places (key_at frames)
-  alone_in q place found made top other apart =
-      let less = (is.plain.tree.held n q may.frame may.may.live (place_has state kept may.frame q place kept_frame found)).0 in
+  pub alone_in : IsAlone n kept.own_chunks (key_at frames)
+  alone_in q own_chunk found made top other apart =
+      let less = (is.plain.tree.held n q may.frame may.may.live (own_chunk_has state kept may.frame q own_chunk kept_frame found)).0 in
       let maker = some_within state.makers q less in
       key_none state frames is.live other q (λ frame live has.
-      none_has state n q maker.0 is.plain.tree may maker.1 (kept_frame.made q place maker.0 found maker.1 made) other frame ((one_gone state n).others other apart ∙ live) has)
+      none_has state n q maker.0 is.plain.tree may maker.1 (kept_frame.made q own_chunk maker.0 found maker.1 made) other frame ((one_gone state n).others other apart ∙ live) has)
 
-  pub chained_before : AreChained (own_keys n kept.places (key_at frames)) heads nodes is.lines
-  chained_before = chained_same (key_at frames) (own_keys n kept.places (key_at frames)) heads nodes is.lines is.lines keys_own (λ q. refl) is.chained
+  pub chained_before : AreChained (own_keys n kept.own_chunks (key_at frames)) heads nodes is.lines
+  chained_before = chained_same (key_at frames) (own_keys n kept.own_chunks (key_at frames)) heads nodes is.lines is.lines keys_own (λ q. refl) is.chained
 
   pub book_finish : OnNext name state n (λ s f. next_queue_deed s f.path f.deeds ≡ None) → (after_frames : LiveFrames) → IsOnlyChange (kept_of frames) (kept_of after_frames) n None
       → (after_heads : List (Option ℕ)) (after_nodes : Slab Link) → length after_heads ≡ length heads
-      → AreChained (own_keys n [] (key_at frames)) after_heads after_nodes (lines_after_end n kept.places is.lines)
+      → AreChained (own_keys n [] (key_at frames)) after_heads after_nodes (lines_after_end n kept.own_chunks is.lines)
       → IsBook name (after_finish state n) after_frames after_heads after_nodes (without turns n)
   book_finish over after_frames one after_heads after_nodes same chained = record {
-    lines = lines_after_end n kept.places is.lines;
+    lines = lines_after_end n kept.own_chunks is.lines;
     plain = plain_finish name state is.lines is.plain n may over kept kept_frame;
     live = live_gone state (after_finish state n) is.plain.tree frames after_frames is.live n (λ q maker less made. made) one (one_gone state n);
     count = same ∙ is.count;
-    chained = chained_same (own_keys n [] (key_at frames)) (key_at after_frames) after_heads after_nodes (lines_after_end n kept.places is.lines) (lines_after_end n kept.places is.lines)
+    chained = chained_same (own_keys n [] (key_at frames)) (key_at after_frames) after_heads after_nodes (lines_after_end n kept.own_chunks is.lines) (lines_after_end n kept.own_chunks is.lines)
         keys_after (λ q. refl) chained;
     turned = turns_finish state turns is.turned n;
   } where

@@ -42,7 +42,7 @@ module _ (name : Option Script) (state : QueueState) (frames : LiveFrames) (head
       let now : IsFrameKept (after_lend state frame []) (with_lent true kept) (change frame) = record {
         deeds = was.2.deeds;
         lent = ap (λ k. Some (record { deeds = k; ends = [] })) (sym was.2.deeds);
-        places = was.2.places;
+        own_chunks = was.2.own_chunks;
         made = was.2.made;
         given = was.2.given;
         pushers = was.2.pushers;
@@ -68,7 +68,7 @@ module _ (name : Option Script) (state : QueueState) (frames : LiveFrames) (head
       let now : IsFrameKept (after_back state n frame.deeds) (with_lent false kept) (change frame) = record {
         deeds = was.2.deeds;
         lent = refl;
-        places = was.2.places;
+        own_chunks = was.2.own_chunks;
         made = was.2.made;
         given = was.2.given;
         pushers = was.2.pushers;

@@ -28,8 +28,8 @@ use Rattle.queues.proofs.ActiveAfter.{one_changed, one_goes_on}
 use Rattle.queue_book.proofs.BookDeeds.{counted, lent_none, not_lent}
 use Rattle.queue_book.proofs.ChainChanges.{chained_same}
 use Rattle.swan_model.proofs.Elements.{more_cases, last_more, one_answer, some_is}
-use Rattle.queue_book.proofs.LiveKept.{kept_changed, kept_live, key_none, keys_same, live_one, place_has}
-use Rattle.queue_book.proofs.LivePut.{keys_put, place_elsewhere, place_here, places_made}
+use Rattle.queue_book.proofs.LiveKept.{kept_changed, kept_live, key_none, keys_same, live_one, own_chunk_has}
+use Rattle.queue_book.proofs.LivePut.{keys_put, own_chunk_elsewhere, own_chunk_here, own_chunks_made}
 use Rattle.queues.proofs.Making.{holds_before}
 use Rattle.queues.proofs.TurnsMade.{turns_made}
 use Rattle.queue_book.proofs.OpenOwners.{pushes_made}
@@ -56,47 +56,47 @@ module _ (name : Option Script) (state after : QueueState) (frames : LiveFrames)
 
   module _ (after_frames : LiveFrames) (key : ℕ) (kept now_kept : KeptFrame) (was : kept_of frames n ≡ Some kept) (agrees : IsFrameKept state kept frame)
       (one : IsOnlyChange (kept_of frames) (kept_of after_frames) n (Some now_kept)) (deeds : now_kept.deeds ≡ later.deeds) (lent : later.lent ≡ lent_of now_kept)
-      (places : now_kept.places ≡ (with_own_chunk (length state.makers) (record { key = key; is_maker = true; pushes = true }) kept).places) where
-    abbrev place_now : OwnChunk
-    place_now = record { key = key; is_maker = true; pushes = true }
+      (own_chunks : now_kept.own_chunks ≡ (with_own_chunk (length state.makers) (record { key = key; is_maker = true; pushes = true }) kept).own_chunks) where
+    abbrev own_chunk_now : OwnChunk
+    own_chunk_now = record { key = key; is_maker = true; pushes = true }
 
-    at_place : (q : ℕ) → own_chunk_in now_kept.places q ≡ own_chunk_in (with_own_chunk (length state.makers) (record { key = key; is_maker = true; pushes = true }) kept).places q
-    at_place q = ap (λ ps. own_chunk_in ps q) places
+    at_own_chunk : (q : ℕ) → own_chunk_in now_kept.own_chunks q ≡ own_chunk_in (with_own_chunk (length state.makers) (record { key = key; is_maker = true; pushes = true }) kept).own_chunks q
+    at_own_chunk q = ap (λ ps. own_chunk_in ps q) own_chunks
 
     is_frame : IsFrameKept after now_kept later
     is_frame = record {
       deeds = deeds;
       lent = lent;
-      places = λ q. ap is_some (at_place q) ∙ places_made kept frame (length state.makers) (record { key = key; is_maker = true; pushes = true }) agrees.places q
+      own_chunks = λ q. ap is_some (at_own_chunk q) ∙ own_chunks_made kept frame (length state.makers) (record { key = key; is_maker = true; pushes = true }) agrees.own_chunks q
           ∙ sym (ap (λ rs. has_queue (record later { rights = rs }) q) rights);
       made = λ q pl m at made is_maker. elim (cases_eq q (length state.makers)) [
         | inl here ↦ path ∙ own_maker ∙ ap maker_path (sym (new_maker m (ap (λ k. slice_get after.makers k) (sym here) ∙ made)))
         | inr other ↦
-            let old = sym (place_elsewhere kept (length state.makers) (record { key = key; is_maker = true; pushes = true }) q other) ∙ sym (at_place q) ∙ at in
-            let less = (is.plain.tree.held n q frame live (place_has state kept frame q pl agrees old)).0 in
+            let old = sym (own_chunk_elsewhere kept (length state.makers) (record { key = key; is_maker = true; pushes = true }) q other) ∙ sym (at_own_chunk q) ∙ at in
+            let less = (is.plain.tree.held n q frame live (own_chunk_has state kept frame q pl agrees old)).0 in
             path ∙ agrees.made q pl m old (old_maker q m less made) is_maker
       ];
       given = λ q pl m at made not_maker. elim (cases_eq q (length state.makers)) [
         | inl here ↦
-            let its : own_chunk_in now_kept.places q ≡ Some (record { key = key; is_maker = true; pushes = true }) =
-            ap (λ k. own_chunk_in now_kept.places k) here ∙ at_place (length state.makers) ∙ place_here kept (length state.makers) (record { key = key; is_maker = true; pushes = true }) in
-            let same : pl ≡ record { key = key; is_maker = true; pushes = true } = one_answer (own_chunk_in now_kept.places q) pl (record { key = key; is_maker = true; pushes = true }) at its in
+            let its : own_chunk_in now_kept.own_chunks q ≡ Some (record { key = key; is_maker = true; pushes = true }) =
+            ap (λ k. own_chunk_in now_kept.own_chunks k) here ∙ at_own_chunk (length state.makers) ∙ own_chunk_here kept (length state.makers) (record { key = key; is_maker = true; pushes = true }) in
+            let same : pl ≡ record { key = key; is_maker = true; pushes = true } = one_answer (own_chunk_in now_kept.own_chunks q) pl (record { key = key; is_maker = true; pushes = true }) at its in
             let never : true ≡ false = ap (λ (p : OwnChunk). p.is_maker) (sym same) ∙ not_maker in
             absurd (cc)
         | inr other ↦
-            let old = sym (place_elsewhere kept (length state.makers) (record { key = key; is_maker = true; pushes = true }) q other) ∙ sym (at_place q) ∙ at in
-            let less = (is.plain.tree.held n q frame live (place_has state kept frame q pl agrees old)).0 in
+            let old = sym (own_chunk_elsewhere kept (length state.makers) (record { key = key; is_maker = true; pushes = true }) q other) ∙ sym (at_own_chunk q) ∙ at in
+            let less = (is.plain.tree.held n q frame live (own_chunk_has state kept frame q pl agrees old)).0 in
             λ is_own. agrees.given q pl m old (old_maker q m less made) not_maker (sym path ∙ is_own)
       ];
       pushers = λ q pl at. elim (cases_eq q (length state.makers)) [
         | inl here ↦
-            let its : own_chunk_in now_kept.places q ≡ Some place_now =
-            ap (λ k. own_chunk_in now_kept.places k) here ∙ at_place (length state.makers) ∙ place_here kept (length state.makers) place_now in
-            let same : pl ≡ place_now = one_answer (own_chunk_in now_kept.places q) pl place_now at its in
+            let its : own_chunk_in now_kept.own_chunks q ≡ Some own_chunk_now =
+            ap (λ k. own_chunk_in now_kept.own_chunks k) here ∙ at_own_chunk (length state.makers) ∙ own_chunk_here kept (length state.makers) own_chunk_now in
+            let same : pl ≡ own_chunk_now = one_answer (own_chunk_in now_kept.own_chunks q) pl own_chunk_now at its in
             ap (λ (p : OwnChunk). p.pushes) same ∙ sym (later_holds q Push ∙ ap (λ k. holds_queue (with_made (length state.makers) frame) k Push) here ∙ pushes_made frame (length state.makers))
         | inr other ↦
-            let old = sym (place_elsewhere kept (length state.makers) place_now q other) ∙ sym (at_place q) ∙ at in
-            let less = (is.plain.tree.held n q frame live (place_has state kept frame q pl agrees old)).0 in
+            let old = sym (own_chunk_elsewhere kept (length state.makers) own_chunk_now q other) ∙ sym (at_own_chunk q) ∙ at in
+            let less = (is.plain.tree.held n q frame live (own_chunk_has state kept frame q pl agrees old)).0 in
             agrees.pushers q pl old ∙ sym (later_holds q Push ∙ holds_before frame (length state.makers) q Push less)
       ];
     }
@@ -140,23 +140,23 @@ module _ (name : Option Script) (state : QueueState) (frames : LiveFrames) (head
       let at : q ≡ i = new ∙ is.count in
       let was = kept_live state frames is.live 0 root untouched.live in
       let kept = was.0 in
-      let place : OwnChunk = record { key = made.key; is_maker = true; pushes = true } in
-      let Q : ℕ → Type 0 = λ k. IsOnlyChange (kept_of frames) (kept_of after_frames) 0 (Some (with_own_chunk k place kept)) in
-      let one : IsOnlyChange (kept_of frames) (kept_of after_frames) 0 (Some (with_own_chunk i place kept)) = subst Q at (kept_changed frames after_frames 0 kept (with_own_chunk q place) was.1 made.place) in
+      let own_chunk : OwnChunk = record { key = made.key; is_maker = true; pushes = true } in
+      let Q : ℕ → Type 0 = λ k. IsOnlyChange (kept_of frames) (kept_of after_frames) 0 (Some (with_own_chunk k own_chunk kept)) in
+      let one : IsOnlyChange (kept_of frames) (kept_of after_frames) 0 (Some (with_own_chunk i own_chunk kept)) = subst Q at (kept_changed frames after_frames 0 kept (with_own_chunk q own_chunk) was.1 made.own_chunk) in
       let R : ℕ → Type 0 = λ k. AreChained (put_at 0 k (Some made.key) (key_at frames)) after_heads after_nodes (in_line k (λ old. own 0 first ∷ []) is.lines) in
       let path = (is.plain.tree.root root untouched.live).0 in
       book_made name state (after_create_root state) frames heads nodes turns is 0 root (with_made i root) (planned i) untouched.live
       (one_changed state 0 (with_made i) (λ f. refl) root untouched.live) refl refl refl refl path
-      after_frames made.key kept (with_own_chunk i place kept) was.1 was.2 one was.2.deeds was.2.lent refl
+      after_frames made.key kept (with_own_chunk i own_chunk kept) was.1 was.2 one was.2.deeds was.2.lent refl
       first after_heads after_nodes more (plain_create_root name state is.lines is.plain untouched first next)
-      (keys_put frames after_frames 0 i place kept was.1 one)
+      (keys_put frames after_frames 0 i own_chunk kept was.1 one)
       (subst R at (made.chained is.lines is.chained (unplaced 0 q new)))
 
   module _ (n : ℕ) (act : MayDo state n) (q : ℕ) (new : q ≡ length heads) (mid_frames : LiveFrames) (after_heads : List (Option ℕ)) (after_nodes : Slab Link)
       (made : IsMadeIn frames mid_frames n q [] heads nodes after_heads after_nodes) where
     mid_one : (kept : KeptFrame) → kept_of frames n ≡ Some kept → IsOnlyChange (kept_of frames) (kept_of mid_frames) n (Some (with_own_chunk q (record { key = made.key; is_maker = true; pushes = true }) kept))
     mid_one kept was =
-        kept_changed frames mid_frames n kept (with_own_chunk q (record { key = made.key; is_maker = true; pushes = true })) was made.place
+        kept_changed frames mid_frames n kept (with_own_chunk q (record { key = made.key; is_maker = true; pushes = true })) was made.own_chunk
 
     pub create_there : IsSome (kept_of mid_frames n)
     create_there =
@@ -182,17 +182,17 @@ module _ (name : Option Script) (state : QueueState) (frames : LiveFrames) (head
         let change : ActiveFrame → ActiveFrame = λ f. with_deed (with_made i f) in
         let was = kept_live state frames is.live n frame act.may.live in
         let kept = was.0 in
-        let place : OwnChunk = record { key = made.key; is_maker = true; pushes = true } in
+        let own_chunk : OwnChunk = record { key = made.key; is_maker = true; pushes = true } in
         let free = not_lent kept frame.lent was.2.lent act.may.back in
-        let S : ℕ → Type 0 = λ k. IsOnlyChange (kept_of frames) (kept_of mid_frames) n (Some (with_own_chunk k place kept)) in
-        let mid : IsOnlyChange (kept_of frames) (kept_of mid_frames) n (Some (with_own_chunk i place kept)) = subst S at (mid_one kept was.1) in
-        let now_kept : KeptFrame = counted (with_own_chunk i place kept) in
-        let one : IsOnlyChange (kept_of frames) (kept_of after_frames) n (Some now_kept) = one_then frames mid_frames after_frames n (with_own_chunk i place kept) counted mid counted_one in
+        let S : ℕ → Type 0 = λ k. IsOnlyChange (kept_of frames) (kept_of mid_frames) n (Some (with_own_chunk k own_chunk kept)) in
+        let mid : IsOnlyChange (kept_of frames) (kept_of mid_frames) n (Some (with_own_chunk i own_chunk kept)) = subst S at (mid_one kept was.1) in
+        let now_kept : KeptFrame = counted (with_own_chunk i own_chunk kept) in
+        let one : IsOnlyChange (kept_of frames) (kept_of after_frames) n (Some now_kept) = one_then frames mid_frames after_frames n (with_own_chunk i own_chunk kept) counted mid counted_one in
         let R : ℕ → Type 0 = λ k. AreChained (put_at n k (Some made.key) (key_at frames)) after_heads after_nodes (in_line k (λ old. own n [] ∷ []) is.lines) in
         book_made name state (after_create state frame) frames heads nodes turns is n frame (change frame) (made_by frame.path frame.deeds) act.may.live
         (one_goes_on state n frame change (λ f. refl) act.may.live) refl refl refl refl refl
         after_frames made.key kept now_kept was.1 was.2 one (ap (λ k. k + 1) was.2.deeds) (act.may.back ∙ sym (lent_none now_kept free)) refl
         [] after_heads after_nodes more (plain_create name state is.lines is.plain n act next)
-        (λ m p. keys_same mid_frames after_frames n (with_own_chunk i place kept) now_kept mid.changed (record { changed = one.changed; others = counted_one.others }) refl m p
-        ∙ keys_put frames mid_frames n i place kept was.1 mid m p)
+        (λ m p. keys_same mid_frames after_frames n (with_own_chunk i own_chunk kept) now_kept mid.changed (record { changed = one.changed; others = counted_one.others }) refl m p
+        ∙ keys_put frames mid_frames n i own_chunk kept was.1 mid m p)
         (subst R at (made.chained is.lines is.chained (unplaced n q new)))

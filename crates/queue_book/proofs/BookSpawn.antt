@@ -51,7 +51,7 @@ module _ (name : Option Script) (state : QueueState) (frames : LiveFrames) (head
         kept = was.0;
         live = was.1;
         room = let room = may.act.room in let deeds = was.2.deeds in omega (arith, room, deeds);
-        has = λ q given. was.2.places q ∙ gives_had may.act.frame gives may.lawful q given;
+        has = λ q given. was.2.own_chunks q ∙ gives_had may.act.frame gives may.lawful q given;
         frame = may.act.frame;
         lawful = may.lawful;
         rising = rising;
@@ -84,7 +84,7 @@ module _ (name : Option Script) (state : QueueState) (frames : LiveFrames) (head
   module _ (after_frames : LiveFrames) (then_nodes : Slab Link) (then_turns : Frames)
       (done : IsSpawnedIn frames after_frames p child gives heads nodes then_nodes turns then_turns) where
     abbrev child_kept : KeptFrame
-    child_kept = record { deeds = 0; is_lent = false; places = done.places }
+    child_kept = record { deeds = 0; is_lent = false; own_chunks = done.own_chunks }
 
     -- ---- what is kept of the frames
 
@@ -103,26 +103,26 @@ module _ (name : Option Script) (state : QueueState) (frames : LiveFrames) (head
     child_frame = record {
       deeds = refl;
       lent = refl;
-      places = λ q. done.given.given q;
-      made = λ q place maker at made is_maker. absurd (false≢true (sym (done.given.fresh q place at) ∙ is_maker));
-      given = λ q place maker at made not_maker same.
+      own_chunks = λ q. done.given.given q;
+      made = λ q own_chunk maker at made is_maker. absurd (false≢true (sym (done.given.fresh q own_chunk at) ∙ is_maker));
+      given = λ q own_chunk maker at made not_maker same.
           let had = gives_had may.act.frame gives may.lawful q (sym (done.given.given q) ∙ ap is_some at) in
           let under = under_maker state is.plain.tree p q may.act.frame maker may.act.may.live had made in
           let long : length (may.act.frame.path ++ may.act.frame.children ∷ []) ≡ length may.act.frame.path + 1 = length-append may.act.frame.path (may.act.frame.children ∷ []) in
           let upper : length may.act.frame.path ≡ length (maker_path maker) + length under.0 = ap length under.1 ∙ length-append (maker_path maker) under.0 in
           let short : length (may.act.frame.path ++ may.act.frame.children ∷ []) ≡ length (maker_path maker) = ap length same in
           omega arith;
-      pushers = λ q place at. done.given.pushers q place at;
+      pushers = λ q own_chunk at. done.given.pushers q own_chunk at;
     }
 
     parent_frame : (kept one : KeptFrame) → IsFrameKept state kept may.act.frame → IsMoved kept one → IsFrameKept after (counted one) parent_now
     parent_frame kept one was moved = record {
       deeds = ap (λ k. k + 1) (moved.deeds ∙ was.deeds);
       lent = may.act.may.back ∙ sym (lent_none (counted one) (moved.lent ∙ not_lent kept may.act.frame.lent was.lent may.act.may.back));
-      places = λ q. moved.places q ∙ was.places q;
-      made = λ q place maker at made is_maker. let old = moved.makers q place at in was.made q old.0 maker old.1 made (sym old.2 ∙ is_maker);
-      given = λ q place maker at made not_maker. let old = moved.makers q place at in was.given q old.0 maker old.1 made (sym old.2 ∙ not_maker);
-      pushers = λ q place at. let old = moved.makers q place at in old.3 ∙ was.pushers q old.0 old.1;
+      own_chunks = λ q. moved.own_chunks q ∙ was.own_chunks q;
+      made = λ q own_chunk maker at made is_maker. let old = moved.makers q own_chunk at in was.made q old.0 maker old.1 made (sym old.2 ∙ is_maker);
+      given = λ q own_chunk maker at made not_maker. let old = moved.makers q own_chunk at in was.given q old.0 maker old.1 made (sym old.2 ∙ not_maker);
+      pushers = λ q own_chunk at. let old = moved.makers q own_chunk at in old.3 ∙ was.pushers q old.0 old.1;
     }
 
     agrees_at : (kept : Option KeptFrame) (found : Option ActiveFrame) (one : KeptFrame) (frame : ActiveFrame) → kept ≡ Some one → found ≡ Some frame
@@ -152,22 +152,22 @@ module _ (name : Option Script) (state : QueueState) (frames : LiveFrames) (head
 
     -- ---- the chains
 
-    keys_now : (m q : ℕ) → key_at after_frames m q ≡ own_keys child done.places (key_at done.middle) m q
+    keys_now : (m q : ℕ) → key_at after_frames m q ≡ own_keys child done.own_chunks (key_at done.middle) m q
     keys_now m q = by (cases_eq m child) (cases_eq m p) where
-      by : (m ≡ child) ⊎ (m ≢ child) → (m ≡ p) ⊎ (m ≢ p) → key_at after_frames m q ≡ own_keys child done.places (key_at done.middle) m q
+      by : (m ≡ child) ⊎ (m ≢ child) → (m ≡ p) ⊎ (m ≢ p) → key_at after_frames m q ≡ own_keys child done.own_chunks (key_at done.middle) m q
       by (inl is_child) c =
-          ap (λ k. key_at after_frames k q) is_child ∙ ap (λ o. key_in o q) kept_child ∙ sym (own_placed child done.places (key_at done.middle) q)
-          ∙ sym (ap (λ k. own_keys child done.places (key_at done.middle) k q) is_child)
+          ap (λ k. key_at after_frames k q) is_child ∙ ap (λ o. key_in o q) kept_child ∙ sym (own_placed child done.own_chunks (key_at done.middle) q)
+          ∙ sym (ap (λ k. own_keys child done.own_chunks (key_at done.middle) k q) is_child)
       by (inr apart) (inl is_parent) =
           let was = kept_live state frames is.live p may.act.frame may.act.may.live in
           let now = kept_parent was.0 was.1 in
           ap (λ k. key_at after_frames k q) is_parent ∙ ap (λ o. key_in o q) now.2 ∙ sym (ap (λ o. key_in o q) now.1) ∙ sym (ap (λ k. key_at done.middle k q) is_parent)
-          ∙ sym (other_placed child done.places (key_at done.middle) m q apart)
-      by (inr apart) (inr other) = ap (λ o. key_in o q) (kept_other m other apart) ∙ sym (other_placed child done.places (key_at done.middle) m q apart)
+          ∙ sym (other_placed child done.own_chunks (key_at done.middle) m q apart)
+      by (inr apart) (inr other) = ap (λ o. key_in o q) (kept_other m other apart) ∙ sym (other_placed child done.own_chunks (key_at done.middle) m q apart)
 
     chained_now : AreChained (key_at after_frames) heads then_nodes (lines_after_gives p child gives is.lines)
     chained_now =
-        chained_same (own_keys child done.places (key_at done.middle)) (key_at after_frames) heads then_nodes (lines_after_gives p child gives is.lines) (lines_after_gives p child gives is.lines)
+        chained_same (own_keys child done.own_chunks (key_at done.middle)) (key_at after_frames) heads then_nodes (lines_after_gives p child gives is.lines) (lines_after_gives p child gives is.lines)
         keys_now (λ q. refl) (done.given.chained is.lines is.chained child_keys)
 
     pub book_spawn : OnNext name state p (λ s g. NextSpawnGivesQueues s state g gives) → IsOnTurn name state p

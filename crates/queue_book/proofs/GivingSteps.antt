@@ -29,10 +29,10 @@ pub given_none : (before : LiveFrames) (parent child : ℕ) (all : List QueueRig
     → AreGiven before before parent child [] [] heads nodes nodes turns turns
 given_none before parent child all heads nodes turns may = record {
   others = λ other apart. refl;
-  moved = λ kept at. (kept, at, record { deeds = refl; lent = refl; places = λ q. refl; makers = λ q place found. (place, found, refl, refl) });
+  moved = λ kept at. (kept, at, record { deeds = refl; lent = refl; own_chunks = λ q. refl; makers = λ q own_chunk found. (own_chunk, found, refl, refl) });
   given = λ q. refl;
-  fresh = λ q place at. let never : None ≡ Some place = at in absurd (cc);
-  pushers = λ q place at. let never : None ≡ Some place = at in absurd (cc);
+  fresh = λ q own_chunk at. let never : None ≡ Some own_chunk = at in absurd (cc);
+  pushers = λ q own_chunk at. let never : None ≡ Some own_chunk = at in absurd (cc);
   chained = λ lines is free.
       chained_same (key_at before) (own_keys child [] (key_at before)) heads nodes lines (lines_after_gives parent child [] lines) (keys free) (λ q. refl) is;
   turned = turns_given_none turns parent child may.newest;
@@ -43,29 +43,29 @@ given_none before parent child all heads nodes turns may = record {
     | inr apart ↦ other_placed child [] (key_at before) m q apart
   ]
 
-module _ (before now : LiveFrames) (parent child : ℕ) (all : List QueueRight) (i : ℕ) (give : QueueRight) (places : OwnChunks) (heads : List (Option ℕ)) (nodes now_nodes : Slab Link)
+module _ (before now : LiveFrames) (parent child : ℕ) (all : List QueueRight) (i : ℕ) (give : QueueRight) (own_chunks : OwnChunks) (heads : List (Option ℕ)) (nodes now_nodes : Slab Link)
     (turns now_turns : Frames) (may : MayHandOn before turns parent child all) (at : slice_get all i ≡ Some give)
-    (is : AreGiven before now parent child (take i all) places heads nodes now_nodes turns now_turns) where
+    (is : AreGiven before now parent child (take i all) own_chunks heads nodes now_nodes turns now_turns) where
   fresh : gives_queue (take i all) give.queue ≡ false
   fresh = fresh_at may.frame all may.lawful i give at
 
   two : parent ≢ child
   two same = let less = may.rising in omega arith
 
-  pub has_now : (place : OwnChunk) × (own_chunk_at now parent give.queue ≡ Some place)
+  pub has_now : (own_chunk : OwnChunk) × (own_chunk_at now parent give.queue ≡ Some own_chunk)
   has_now =
       let was = is.moved may.kept may.live in
-      let some : is_some (own_chunk_in was.0.places give.queue) ≡ true = was.2.places give.queue ∙ may.has give.queue (given_at all i give at) in
-      let found = some_of (own_chunk_in was.0.places give.queue) some in
+      let some : is_some (own_chunk_in was.0.own_chunks give.queue) ≡ true = was.2.own_chunks give.queue ∙ may.has give.queue (given_at all i give at) in
+      let found = some_of (own_chunk_in was.0.own_chunks give.queue) some in
       (found.0, ap (λ o. own_chunk_of o give.queue) was.1 ∙ found.1)
 
   -- its node
   pub stands_now : (lines : ℕ → Chunks) → AreChained (key_at before) heads nodes lines → ((q : ℕ) → key_at before child q ≡ None)
-      → (place : OwnChunk) → own_chunk_at now parent give.queue ≡ Some place → ContainsKey now_nodes place.key
-  stands_now lines chained free place found =
-      let key : own_keys child places (key_at now) parent give.queue ≡ Some place.key =
-      other_placed child places (key_at now) parent give.queue two ∙ key_of now parent give.queue place found in
-      let node = (is.chained lines chained free).owned parent give.queue place.key key in
+      → (own_chunk : OwnChunk) → own_chunk_at now parent give.queue ≡ Some own_chunk → ContainsKey now_nodes own_chunk.key
+  stands_now lines chained free own_chunk found =
+      let key : own_keys child own_chunks (key_at now) parent give.queue ≡ Some own_chunk.key =
+      other_placed child own_chunks (key_at now) parent give.queue two ∙ key_of now parent give.queue own_chunk found in
+      let node = (is.chained lines chained free).owned parent give.queue own_chunk.key key in
       subst IsSome (sym node.1) refl
 
   pub newest_now : AreUpTo now_turns child
@@ -75,17 +75,17 @@ module _ (before now : LiveFrames) (parent child : ℕ) (all : List QueueRight) 
   may_get_now = turns_may_get turns now_turns parent child (take i all) is.turned give.queue fresh
 
   -- one more
-  pub given_more : (after : LiveFrames) (then_places : OwnChunks) (then_nodes : Slab Link) (then_turns : Frames)
-      → IsHandedIn now after parent child give.queue (allows give.mode Push) places then_places heads now_nodes then_nodes
+  pub given_more : (after : LiveFrames) (then_own_chunks : OwnChunks) (then_nodes : Slab Link) (then_turns : Frames)
+      → IsHandedIn now after parent child give.queue (allows give.mode Push) own_chunks then_own_chunks heads now_nodes then_nodes
       → then_turns ≡ frames_after_enlist now_turns parent child (holding_of give)
-      → AreGiven before after parent child (take i all ++ give ∷ []) then_places heads nodes then_nodes turns then_turns
-  given_more after then_places then_nodes then_turns handed turned = record {
-    others = step_others before now after parent child (take i all) give places then_places heads nodes now_nodes then_nodes turns now_turns is handed fresh two may.kept may.live;
-    moved = λ kept found. step_moved before now after parent child (take i all) give places then_places heads nodes now_nodes then_nodes turns now_turns is handed fresh two kept found;
-    given = step_given before now after parent child (take i all) give places then_places heads nodes now_nodes then_nodes turns now_turns is handed fresh two may.kept may.live;
-    fresh = step_fresh before now after parent child (take i all) give places then_places heads nodes now_nodes then_nodes turns now_turns is handed fresh two may.kept may.live;
-    pushers = step_pushers before now after parent child (take i all) give places then_places heads nodes now_nodes then_nodes turns now_turns is handed fresh two may.kept may.live;
-    chained = step_chained before now after parent child (take i all) give places then_places heads nodes now_nodes then_nodes turns now_turns is handed fresh two may.kept may.live;
+      → AreGiven before after parent child (take i all ++ give ∷ []) then_own_chunks heads nodes then_nodes turns then_turns
+  given_more after then_own_chunks then_nodes then_turns handed turned = record {
+    others = step_others before now after parent child (take i all) give own_chunks then_own_chunks heads nodes now_nodes then_nodes turns now_turns is handed fresh two may.kept may.live;
+    moved = λ kept found. step_moved before now after parent child (take i all) give own_chunks then_own_chunks heads nodes now_nodes then_nodes turns now_turns is handed fresh two kept found;
+    given = step_given before now after parent child (take i all) give own_chunks then_own_chunks heads nodes now_nodes then_nodes turns now_turns is handed fresh two may.kept may.live;
+    fresh = step_fresh before now after parent child (take i all) give own_chunks then_own_chunks heads nodes now_nodes then_nodes turns now_turns is handed fresh two may.kept may.live;
+    pushers = step_pushers before now after parent child (take i all) give own_chunks then_own_chunks heads nodes now_nodes then_nodes turns now_turns is handed fresh two may.kept may.live;
+    chained = step_chained before now after parent child (take i all) give own_chunks then_own_chunks heads nodes now_nodes then_nodes turns now_turns is handed fresh two may.kept may.live;
     turned = let P : Frames → Type 0 = λ ts. AreGivenTurns turns ts parent child (take i all ++ give ∷ []) in
         subst P (sym turned) (turns_given_more turns now_turns parent child (take i all) is.turned give);
   }

@@ -45,35 +45,35 @@ active_there state frames live n frame e =
     let one = kept_live state frames live n frame e in
     some_is (kept_of frames n) one.0 one.1
 
--- and so is one that has a place
-pub placed_there : (frames : LiveFrames) (n queue : ℕ) (place : OwnChunk) → own_chunk_at frames n queue ≡ Some place → IsSome (kept_of frames n)
-placed_there frames n queue place e = by (kept_of frames n) e where
-  by : (o : Option KeptFrame) → own_chunk_of o queue ≡ Some place → IsSome o
-  by None h = let never : None ≡ Some place = h in absurd (cc)
+-- and so is one that has an own chunk
+pub placed_there : (frames : LiveFrames) (n queue : ℕ) (own_chunk : OwnChunk) → own_chunk_at frames n queue ≡ Some own_chunk → IsSome (kept_of frames n)
+placed_there frames n queue own_chunk e = by (kept_of frames n) e where
+  by : (o : Option KeptFrame) → own_chunk_of o queue ≡ Some own_chunk → IsSome o
+  by None h = let never : None ≡ Some own_chunk = h in absurd (cc)
   by (Some one) h = refl
 
--- where a place is, the frame has the queue
-pub place_has : (state : QueueState) (one : KeptFrame) (frame : ActiveFrame) (queue : ℕ) (place : OwnChunk) → IsFrameKept state one frame → own_chunk_in one.places queue ≡ Some place
+-- where a frame has an own chunk, it has the queue
+pub own_chunk_has : (state : QueueState) (one : KeptFrame) (frame : ActiveFrame) (queue : ℕ) (own_chunk : OwnChunk) → IsFrameKept state one frame → own_chunk_in one.own_chunks queue ≡ Some own_chunk
     → has_queue frame queue ≡ true
-place_has state one frame queue place is e = sym (is.places queue) ∙ ap is_some e
+own_chunk_has state one frame queue own_chunk is e = sym (is.own_chunks queue) ∙ ap is_some e
 
-pub has_place : (state : QueueState) (one : KeptFrame) (frame : ActiveFrame) (queue : ℕ) → IsFrameKept state one frame → has_queue frame queue ≡ true
-    → (place : OwnChunk) × (own_chunk_in one.places queue ≡ Some place)
-has_place state one frame queue is has = some_of (own_chunk_in one.places queue) (is.places queue ∙ has)
+pub has_own_chunk : (state : QueueState) (one : KeptFrame) (frame : ActiveFrame) (queue : ℕ) → IsFrameKept state one frame → has_queue frame queue ≡ true
+    → (own_chunk : OwnChunk) × (own_chunk_in one.own_chunks queue ≡ Some own_chunk)
+has_own_chunk state one frame queue is has = some_of (own_chunk_in one.own_chunks queue) (is.own_chunks queue ∙ has)
 
 pub key_has : (state : QueueState) (frames : LiveFrames) → AreLive state frames → (n queue key : ℕ) → key_at frames n queue ≡ Some key
     → (frame : ActiveFrame) × (active state n ≡ Some frame) × (has_queue frame queue ≡ true)
 key_has state frames live n queue key e = by_kept (kept_of frames n) refl e where
-  by_place : (one : KeptFrame) → kept_of frames n ≡ Some one → (o : Option OwnChunk) → own_chunk_in one.places queue ≡ o → option_map (λ (place : OwnChunk). place.key) o ≡ Some key
+  by_own_chunk : (one : KeptFrame) → kept_of frames n ≡ Some one → (o : Option OwnChunk) → own_chunk_in one.own_chunks queue ≡ o → option_map (λ (own_chunk : OwnChunk). own_chunk.key) o ≡ Some key
       → (frame : ActiveFrame) × (active state n ≡ Some frame) × (has_queue frame queue ≡ true)
-  by_place one is None none h = let never : None ≡ Some key = h in absurd (cc)
-  by_place one is (Some place) some h =
+  by_own_chunk one is None none h = let never : None ≡ Some key = h in absurd (cc)
+  by_own_chunk one is (Some own_chunk) some h =
       let frame = live_kept state frames live n one is in
-      (frame.0, frame.1, place_has state one frame.0 queue place frame.2 some)
+      (frame.0, frame.1, own_chunk_has state one frame.0 queue own_chunk frame.2 some)
 
   by_kept : (o : Option KeptFrame) → kept_of frames n ≡ o → key_in o queue ≡ Some key → (frame : ActiveFrame) × (active state n ≡ Some frame) × (has_queue frame queue ≡ true)
   by_kept None none h = let never : None ≡ Some key = h in absurd (cc)
-  by_kept (Some one) is h = by_place one is (own_chunk_in one.places queue) refl h
+  by_kept (Some one) is h = by_own_chunk one is (own_chunk_in one.own_chunks queue) refl h
 
 pub key_none : (state : QueueState) (frames : LiveFrames) → AreLive state frames → (n queue : ℕ)
     → ((frame : ActiveFrame) → active state n ≡ Some frame → has_queue frame queue ≡ true → ⊥) → key_at frames n queue ≡ None
@@ -83,21 +83,21 @@ key_none state frames live n queue none = by_key (key_at frames n queue) refl wh
   by_key (Some key) e = let has = key_has state frames live n queue key e in absurd (none has.0 has.1 has.2)
 
 pub has_key : (state : QueueState) (frames : LiveFrames) → AreLive state frames → (n queue : ℕ) (frame : ActiveFrame) → active state n ≡ Some frame → has_queue frame queue ≡ true
-    → (one : KeptFrame) × (kept_of frames n ≡ Some one) × IsFrameKept state one frame × (place : OwnChunk) × (own_chunk_in one.places queue ≡ Some place)
+    → (one : KeptFrame) × (kept_of frames n ≡ Some one) × IsFrameKept state one frame × (own_chunk : OwnChunk) × (own_chunk_in one.own_chunks queue ≡ Some own_chunk)
 has_key state frames live n queue frame e has =
     let one = kept_live state frames live n frame e in
-    let place = has_place state one.0 frame queue one.2 has in
-    (one.0, one.1, one.2, place.0, place.1)
+    let own_chunk = has_own_chunk state one.0 frame queue one.2 has in
+    (one.0, one.1, one.2, own_chunk.0, own_chunk.1)
 
--- a place tells the key
-pub key_of : (frames : LiveFrames) (n queue : ℕ) (place : OwnChunk) → own_chunk_at frames n queue ≡ Some place → key_at frames n queue ≡ Some place.key
-key_of frames n queue place e = by (kept_of frames n) e where
-  by : (o : Option KeptFrame) → own_chunk_of o queue ≡ Some place → key_in o queue ≡ Some place.key
-  by None h = let never : None ≡ Some place = h in absurd (cc)
+-- an own chunk tells the key
+pub key_of : (frames : LiveFrames) (n queue : ℕ) (own_chunk : OwnChunk) → own_chunk_at frames n queue ≡ Some own_chunk → key_at frames n queue ≡ Some own_chunk.key
+key_of frames n queue own_chunk e = by (kept_of frames n) e where
+  by : (o : Option KeptFrame) → own_chunk_of o queue ≡ Some own_chunk → key_in o queue ≡ Some own_chunk.key
+  by None h = let never : None ≡ Some own_chunk = h in absurd (cc)
   by (Some one) h = ap (option_map (λ (p : OwnChunk). p.key)) h
 
-pub place_of_key : (frames : LiveFrames) (n queue : ℕ) (one : KeptFrame) (place : OwnChunk) → kept_of frames n ≡ Some one → own_chunk_in one.places queue ≡ Some place → own_chunk_at frames n queue ≡ Some place
-place_of_key frames n queue one place is at = ap (λ o. own_chunk_of o queue) is ∙ at
+pub own_chunk_of_key : (frames : LiveFrames) (n queue : ℕ) (one : KeptFrame) (own_chunk : OwnChunk) → kept_of frames n ≡ Some one → own_chunk_in one.own_chunks queue ≡ Some own_chunk → own_chunk_at frames n queue ≡ Some own_chunk
+own_chunk_of_key frames n queue one own_chunk is at = ap (λ o. own_chunk_of o queue) is ∙ at
 
 -- ---- after a call
 
@@ -111,9 +111,9 @@ pub frame_on : (state after : QueueState) (one : KeptFrame) (frame : ActiveFrame
 frame_on state after one frame same known is = record {
   deeds = is.deeds;
   lent = is.lent;
-  places = is.places;
-  made = λ queue place maker at made. is.made queue place maker at (same queue maker (known queue (place_has state one frame queue place is at)) made);
-  given = λ queue place maker at made. is.given queue place maker at (same queue maker (known queue (place_has state one frame queue place is at)) made);
+  own_chunks = is.own_chunks;
+  made = λ queue own_chunk maker at made. is.made queue own_chunk maker at (same queue maker (known queue (own_chunk_has state one frame queue own_chunk is at)) made);
+  given = λ queue own_chunk maker at made. is.given queue own_chunk maker at (same queue maker (known queue (own_chunk_has state one frame queue own_chunk is at)) made);
   pushers = is.pushers;
 }
 
@@ -153,7 +153,7 @@ module _ (state after : QueueState) (tree : IsTree state) (frames then_frames : 
     | inr other ↦ live_other None None one only m other
   ]
 
-pub live_new : (frames : LiveFrames) → kept_of frames 0 ≡ Some (record { deeds = 0; is_lent = false; places = [] }) → ((n : ℕ) → n ≢ 0 → kept_of frames n ≡ None) → AreLive new_state frames
+pub live_new : (frames : LiveFrames) → kept_of frames 0 ≡ Some (record { deeds = 0; is_lent = false; own_chunks = [] }) → ((n : ℕ) → n ≢ 0 → kept_of frames n ≡ None) → AreLive new_state frames
 live_new frames root others m = elim (cases_eq m 0) [
   | inl here ↦
       let P : ℕ → Type 0 = λ k. Agrees new_state (kept_of frames k) (active new_state k) in
@@ -161,10 +161,10 @@ live_new frames root others m = elim (cases_eq m 0) [
       subst P (sym here) (subst Q (sym root) (record {
         deeds = refl;
         lent = refl;
-        places = λ queue. refl;
-        made = λ queue place maker at. let never : None ≡ Some place = at in absurd (cc);
-        given = λ queue place maker at. let never : None ≡ Some place = at in absurd (cc);
-        pushers = λ queue place at. let never : None ≡ Some place = at in absurd (cc);
+        own_chunks = λ queue. refl;
+        made = λ queue own_chunk maker at. let never : None ≡ Some own_chunk = at in absurd (cc);
+        given = λ queue own_chunk maker at. let never : None ≡ Some own_chunk = at in absurd (cc);
+        pushers = λ queue own_chunk at. let never : None ≡ Some own_chunk = at in absurd (cc);
       }))
   | inr other ↦
       let P : Option KeptFrame → Type 0 = λ o. Agrees new_state o (active new_state m) in
@@ -173,12 +173,12 @@ live_new frames root others m = elim (cases_eq m 0) [
       subst P (sym (others m other)) (subst Q (sym b) tt)
 ]
 
--- the places of a frame stay, and so do all keys
-pub keys_same : (frames then_frames : LiveFrames) (n : ℕ) (was now : KeptFrame) → kept_of frames n ≡ Some was → IsOnlyChange (kept_of frames) (kept_of then_frames) n (Some now) → now.places ≡ was.places
+-- the own chunks of a frame stay, and so do all keys
+pub keys_same : (frames then_frames : LiveFrames) (n : ℕ) (was now : KeptFrame) → kept_of frames n ≡ Some was → IsOnlyChange (kept_of frames) (kept_of then_frames) n (Some now) → now.own_chunks ≡ was.own_chunks
     → (m queue : ℕ) → key_at then_frames m queue ≡ key_at frames m queue
-keys_same frames then_frames n was now is one places m queue = elim (cases_eq m n) [
+keys_same frames then_frames n was now is one own_chunks m queue = elim (cases_eq m n) [
   | inl here ↦
       ap (λ k. key_at then_frames k queue) here ∙ ap (λ o. key_in o queue) one.changed
-      ∙ ap (λ ps. option_map (λ (place : OwnChunk). place.key) (own_chunk_in ps queue)) places ∙ sym (ap (λ o. key_in o queue) is) ∙ ap (λ k. key_at frames k queue) (sym here)
+      ∙ ap (λ ps. option_map (λ (own_chunk : OwnChunk). own_chunk.key) (own_chunk_in ps queue)) own_chunks ∙ sym (ap (λ o. key_in o queue) is) ∙ ap (λ k. key_at frames k queue) (sym here)
   | inr other ↦ ap (λ o. key_in o queue) (one.others m other)
 ]

@@ -13,7 +13,7 @@ use Rattle.queue_book.specs.Live.{AreLive, is_pusher}
 use Rattle.queues.specs.Tree.{has_queue}
 use Rattle.queue_book.specs.declared.live_frame.OwnChunk.{OwnChunk}
 use Rattle.queue_book.specs.declared.live_frames.LiveFrames.{LiveFrames}
-use Rattle.queue_book.proofs.LiveKept.{has_key, place_of_key}
+use Rattle.queue_book.proofs.LiveKept.{has_key, own_chunk_of_key}
 use Rattle.swan_model.proofs.Elements.{one_answer}
 
 -- an owner has the queue
@@ -29,7 +29,7 @@ pub pushes_kept : (state : QueueState) (frames : LiveFrames) → AreLive state f
     → is_pusher frames m q ≡ holds_queue g q Push
 pushes_kept state frames live m q g there has =
     let key = has_key state frames live m q g there has in
-    ap (λ o. option_map_or (λ (place : OwnChunk). place.pushes) o false) (place_of_key frames m q key.0 key.3 key.1 key.4) ∙ key.2.pushers q key.3 key.4
+    ap (λ o. option_map_or (λ (own_chunk : OwnChunk). own_chunk.pushes) o false) (own_chunk_of_key frames m q key.0 key.3 key.1 key.4) ∙ key.2.pushers q key.3 key.4
 
 -- who made a queue may push to it
 pub pushes_made : (frame : ActiveFrame) (queue : ℕ) → holds_queue (with_made queue frame) queue Push ≡ true

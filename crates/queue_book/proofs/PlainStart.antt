@@ -25,7 +25,7 @@ new_active n frame live = by (0 == n) live where
   by false e = let never : None ≡ Some frame = e in absurd (cc)
 
 pub book_new : (name : Option Script) (frames : LiveFrames) (heads : List (Option ℕ)) (nodes : Slab Link) (turns : Frames)
-    → kept_of frames 0 ≡ Some (record { deeds = 0; is_lent = false; places = [] }) → ((n : ℕ) → n ≢ 0 → kept_of frames n ≡ None) → length heads ≡ 0
+    → kept_of frames 0 ≡ Some (record { deeds = 0; is_lent = false; own_chunks = [] }) → ((n : ℕ) → n ≢ 0 → kept_of frames n ≡ None) → length heads ≡ 0
     → ((lines : ℕ → Chunks) → AreChained (λ n q. None) heads nodes lines) → turns ≡ [] → IsBook name new_state frames heads nodes turns
 book_new name frames heads nodes turns root others none chained no_turns = record {
   lines = λ queue. [];

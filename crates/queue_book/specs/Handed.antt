@@ -19,15 +19,15 @@ use Rattle.queues.specs.Turned.{gives_queue, AreGivenTurns}
 use Rattle.queue_book.specs.declared.live_frame.OwnChunk.{OwnChunk}
 use Rattle.queue_book.specs.declared.live_frames.LiveFrames.{LiveFrames}
 
--- The child has its parent's place, and the parent a new one.
-pub record IsHandedIn (before after : LiveFrames) (parent child queue : ℕ) (pushes : Bool) (places then_places : OwnChunks) (heads : List (Option ℕ)) (nodes then_nodes : Slab Link) : Type 0 where
+-- The child has its parent's own chunk, and the parent a new one.
+pub record IsHandedIn (before after : LiveFrames) (parent child queue : ℕ) (pushes : Bool) (own_chunks then_own_chunks : OwnChunks) (heads : List (Option ℕ)) (nodes then_nodes : Slab Link) : Type 0 where
   pub new : ℕ
-  pub place : OwnChunk
-  pub was : own_chunk_at before parent queue ≡ Some place
-  pub parent_now : IsOnlyChange (kept_of before) (kept_of after) parent (option_map (with_own_chunk queue (record { key = new; is_maker = place.is_maker; pushes = place.pushes })) (kept_of before parent))
-  pub child_now : then_places ≡ insert_entry nat_cmp places queue (record { key = place.key; is_maker = false; pushes = pushes })
-  pub chained : (at : ℕ → ℕ → Option ℕ) (lines : ℕ → Chunks) → AreChained at heads nodes lines → at parent queue ≡ Some place.key → at child queue ≡ None
-      → AreChained (put_at parent queue (Some new) (put_at child queue (Some place.key) at)) heads then_nodes (in_line queue (after_hand_on parent child) lines)
+  pub own_chunk : OwnChunk
+  pub was : own_chunk_at before parent queue ≡ Some own_chunk
+  pub parent_now : IsOnlyChange (kept_of before) (kept_of after) parent (option_map (with_own_chunk queue (record { key = new; is_maker = own_chunk.is_maker; pushes = own_chunk.pushes })) (kept_of before parent))
+  pub child_now : then_own_chunks ≡ insert_entry nat_cmp own_chunks queue (record { key = own_chunk.key; is_maker = false; pushes = pushes })
+  pub chained : (at : ℕ → ℕ → Option ℕ) (lines : ℕ → Chunks) → AreChained at heads nodes lines → at parent queue ≡ Some own_chunk.key → at child queue ≡ None
+      → AreChained (put_at parent queue (Some new) (put_at child queue (Some own_chunk.key) at)) heads then_nodes (in_line queue (after_hand_on parent child) lines)
 
 -- ---- queue by queue
 
@@ -39,21 +39,21 @@ gives_push gives queue = list_any (λ right. (right.queue == queue) && allows ri
 abbrev pub lines_after_gives : (parent child : ℕ) → List QueueRight → (ℕ → Chunks) → ℕ → Chunks
 lines_after_gives parent child gives lines queue = if gives_queue gives queue then after_hand_on parent child (lines queue) else lines queue
 
--- a frame that differs in the keys of its places alone
+-- a frame that differs in the keys of its own chunks alone
 pub record IsMoved (before now : KeptFrame) : Type 0 where
   pub deeds : now.deeds ≡ before.deeds
   pub lent : now.is_lent ≡ before.is_lent
-  pub places : (queue : ℕ) → is_some (own_chunk_in now.places queue) ≡ is_some (own_chunk_in before.places queue)
-  pub makers : (queue : ℕ) (place : OwnChunk) → own_chunk_in now.places queue ≡ Some place → (old : OwnChunk) × (own_chunk_in before.places queue ≡ Some old) × (place.is_maker ≡ old.is_maker) × (place.pushes ≡ old.pushes)
+  pub own_chunks : (queue : ℕ) → is_some (own_chunk_in now.own_chunks queue) ≡ is_some (own_chunk_in before.own_chunks queue)
+  pub makers : (queue : ℕ) (own_chunk : OwnChunk) → own_chunk_in now.own_chunks queue ≡ Some own_chunk → (old : OwnChunk) × (own_chunk_in before.own_chunks queue ≡ Some old) × (own_chunk.is_maker ≡ old.is_maker) × (own_chunk.pushes ≡ old.pushes)
 
 -- What is kept while a child is given its queues, where it was given these by now.
-pub record AreGiven (before now : LiveFrames) (parent child : ℕ) (gives : List QueueRight) (places : OwnChunks) (heads : List (Option ℕ)) (nodes now_nodes : Slab Link)
+pub record AreGiven (before now : LiveFrames) (parent child : ℕ) (gives : List QueueRight) (own_chunks : OwnChunks) (heads : List (Option ℕ)) (nodes now_nodes : Slab Link)
     (turns now_turns : Frames) : Type 0 where
   pub others : (other : ℕ) → other ≢ parent → kept_of now other ≡ kept_of before other
   pub moved : (kept : KeptFrame) → kept_of before parent ≡ Some kept → (one : KeptFrame) × (kept_of now parent ≡ Some one) × IsMoved kept one
-  pub given : (queue : ℕ) → is_some (own_chunk_in places queue) ≡ gives_queue gives queue
-  pub fresh : (queue : ℕ) (place : OwnChunk) → own_chunk_in places queue ≡ Some place → place.is_maker ≡ false
-  pub pushers : (queue : ℕ) (place : OwnChunk) → own_chunk_in places queue ≡ Some place → place.pushes ≡ gives_push gives queue
+  pub given : (queue : ℕ) → is_some (own_chunk_in own_chunks queue) ≡ gives_queue gives queue
+  pub fresh : (queue : ℕ) (own_chunk : OwnChunk) → own_chunk_in own_chunks queue ≡ Some own_chunk → own_chunk.is_maker ≡ false
+  pub pushers : (queue : ℕ) (own_chunk : OwnChunk) → own_chunk_in own_chunks queue ≡ Some own_chunk → own_chunk.pushes ≡ gives_push gives queue
   pub chained : (lines : ℕ → Chunks) → AreChained (key_at before) heads nodes lines → ((queue : ℕ) → key_at before child queue ≡ None)
-      → AreChained (own_keys child places (key_at now)) heads now_nodes (lines_after_gives parent child gives lines)
+      → AreChained (own_keys child own_chunks (key_at now)) heads now_nodes (lines_after_gives parent child gives lines)
   pub turned : AreGivenTurns turns now_turns parent child gives

@@ -5,17 +5,17 @@ use Rattle.std.specs.BTreeMap.{is_at}
 use Rattle.std.specs.Ordering.{nat_cmp}
 use Rattle.queue_book.specs.declared.live_frame.OwnChunk.{OwnChunk}
 
--- each queue that a frame has, with the place of its own chunk there
+-- each queue that a frame has, with its own chunk there
 abbrev pub OwnChunks : Type 0
 OwnChunks = List (ℕ × OwnChunk)
 
--- the place of a queue
+-- the own chunk of a queue
 abbrev pub own_chunk_in : OwnChunks → ℕ → Option OwnChunk
-own_chunk_in places queue = lookup (is_at (nat_cmp queue)) places
+own_chunk_in own_chunks queue = lookup (is_at (nat_cmp queue)) own_chunks
 
 pub record KeptFrame : Type 0 where
   -- how many queue deeds it has done
   pub deeds : ℕ
   -- whether its ends are lent
   pub is_lent : Bool
-  pub places : OwnChunks
+  pub own_chunks : OwnChunks

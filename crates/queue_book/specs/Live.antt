@@ -22,7 +22,7 @@ OnKept frames number Holds = (kept : KeptFrame) → kept_of frames number ≡ So
 
 abbrev pub own_chunk_of : Option KeptFrame → ℕ → Option OwnChunk
 own_chunk_of None queue = None
-own_chunk_of (Some kept) queue = own_chunk_in kept.places queue
+own_chunk_of (Some kept) queue = own_chunk_in kept.own_chunks queue
 
 -- where a frame's own chunk of a queue stands
 abbrev pub own_chunk_at : LiveFrames → ℕ → ℕ → Option OwnChunk
@@ -30,7 +30,7 @@ own_chunk_at frames number queue = own_chunk_of (kept_of frames number) queue
 
 abbrev pub key_in : Option KeptFrame → ℕ → Option ℕ
 key_in None queue = None
-key_in (Some kept) queue = option_map (λ (place : OwnChunk). place.key) (own_chunk_in kept.places queue)
+key_in (Some kept) queue = option_map (λ (own_chunk : OwnChunk). own_chunk.key) (own_chunk_in kept.own_chunks queue)
 
 -- the key of its node
 abbrev pub key_at : LiveFrames → ℕ → ℕ → Option ℕ
@@ -38,11 +38,11 @@ key_at frames number queue = key_in (kept_of frames number) queue
 
 -- whether a frame may push to a queue
 abbrev pub is_pusher : LiveFrames → (number queue : ℕ) → Bool
-is_pusher frames number queue = option_map_or (λ (place : OwnChunk). place.pushes) (own_chunk_at frames number queue) false
+is_pusher frames number queue = option_map_or (λ (own_chunk : OwnChunk). own_chunk.pushes) (own_chunk_at frames number queue) false
 
--- a frame with one place more, or another place for a queue
+-- a frame with one own chunk more, or another one of a queue
 abbrev pub with_own_chunk : ℕ → OwnChunk → KeptFrame → KeptFrame
-with_own_chunk queue place kept = record kept { places = insert_entry nat_cmp kept.places queue place }
+with_own_chunk queue own_chunk kept = record kept { own_chunks = insert_entry nat_cmp kept.own_chunks queue own_chunk }
 
 -- ---- what they say of the state
 
@@ -59,12 +59,12 @@ is_lent_with (Some kept) deeds = kept.is_lent && (kept.deeds == deeds)
 pub record IsFrameKept (state : QueueState) (kept : KeptFrame) (frame : ActiveFrame) : Type 0 where
   pub deeds : kept.deeds ≡ frame.deeds
   pub lent : frame.lent ≡ lent_of kept
-  pub places : (queue : ℕ) → is_some (own_chunk_in kept.places queue) ≡ has_queue frame queue
-  pub made : (queue : ℕ) (place : OwnChunk) (maker : QueueMaker) → own_chunk_in kept.places queue ≡ Some place → slice_get state.makers queue ≡ Some maker
-      → place.is_maker ≡ true → frame.path ≡ maker_path maker
-  pub given : (queue : ℕ) (place : OwnChunk) (maker : QueueMaker) → own_chunk_in kept.places queue ≡ Some place → slice_get state.makers queue ≡ Some maker
-      → place.is_maker ≡ false → frame.path ≢ maker_path maker
-  pub pushers : (queue : ℕ) (place : OwnChunk) → own_chunk_in kept.places queue ≡ Some place → place.pushes ≡ holds_queue frame queue Push
+  pub own_chunks : (queue : ℕ) → is_some (own_chunk_in kept.own_chunks queue) ≡ has_queue frame queue
+  pub made : (queue : ℕ) (own_chunk : OwnChunk) (maker : QueueMaker) → own_chunk_in kept.own_chunks queue ≡ Some own_chunk → slice_get state.makers queue ≡ Some maker
+      → own_chunk.is_maker ≡ true → frame.path ≡ maker_path maker
+  pub given : (queue : ℕ) (own_chunk : OwnChunk) (maker : QueueMaker) → own_chunk_in kept.own_chunks queue ≡ Some own_chunk → slice_get state.makers queue ≡ Some maker
+      → own_chunk.is_maker ≡ false → frame.path ≢ maker_path maker
+  pub pushers : (queue : ℕ) (own_chunk : OwnChunk) → own_chunk_in kept.own_chunks queue ≡ Some own_chunk → own_chunk.pushes ≡ holds_queue frame queue Push
 
 abbrev pub Agrees : QueueState → Option KeptFrame → Option ActiveFrame → Type 0
 Agrees state None None = Unit {0}

@@ -141,10 +141,10 @@ impl Queues for BookQueues {
 
     /// Adds the value to the frame's own chunk. Look-ups, which are `O(log n)`, and `O(1)` amortised for the item.
     fn push(&mut self, frame: u64, queue: u32, value: Value) -> Result<(), NoMemory> {
-        let Some(place) = self.store.frames.place(frame, queue) else {
+        let Some(own_chunk) = self.store.frames.own_chunk(frame, queue) else {
             unreachable!()
         };
-        match self.store.chains.push(place.key, value) {
+        match self.store.chains.push(own_chunk.key, value) {
             Ok(()) => {
                 self.store.frames.count_deed(frame);
                 self.state = after(&self.state, Call::Deed(frame));

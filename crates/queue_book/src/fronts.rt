@@ -100,8 +100,8 @@ fn meet(frames: &LiveFrames, owner: Option<u64>, frame: u64, queue: u32) -> Met
 fn may_push(frames: &LiveFrames, number: u64, queue: u32) -> bool
     ensures { result ≡ is_pusher frames.now number queue }
 {
-    match frames.place(number, queue) {
-        Some(place) => place.pushes,
+    match frames.own_chunk(number, queue) {
+        Some(own_chunk) => own_chunk.pushes,
         None => false,
     }
 }

@@ -27,7 +27,7 @@ pub struct QueueFrame {
     /// Whether its ends are lent.
     pub is_lent: bool,
     /// Its own chunk of each queue that it has.
-    pub places: BTreeMap<u32, OwnChunk>,
+    pub own_chunks: BTreeMap<u32, OwnChunk>,
 }
 
 impl Model for QueueFrame {
@@ -35,34 +35,34 @@ impl Model for QueueFrame {
 
     ghost Value = { KeptFrame };
 
-    ghost view = { λ frame. record { deeds = frame.deeds; is_lent = frame.is_lent; places = frame.places.entries } };
+    ghost view = { λ frame. record { deeds = frame.deeds; is_lent = frame.is_lent; own_chunks = frame.own_chunks.entries } };
 }
 
 impl QueueFrame {
     /// A frame that has done nothing and has no queue. It takes no memory. `O(1)`.
     pub fn new(alloc: Global) -> QueueFrame
-        ensures { result ≡ record { deeds = 0; is_lent = false; places = [] } }
+        ensures { result ≡ record { deeds = 0; is_lent = false; own_chunks = [] } }
     {
         QueueFrame {
             deeds: 0,
             is_lent: false,
-            places: BTreeMap::new(alloc),
+            own_chunks: BTreeMap::new(alloc),
         }
     }
 
     /// Notes where the frame's own chunk of a queue stands. `O(log n)`. Err is want of memory.
-    pub fn put(&mut self, queue: u32, place: OwnChunk) -> Result<(), NoMemory>
-        ensures { OnOk result (self.new ≡ with_own_chunk queue place self.old) }
+    pub fn put(&mut self, queue: u32, own_chunk: OwnChunk) -> Result<(), NoMemory>
+        ensures { OnOk result (self.new ≡ with_own_chunk queue own_chunk self.old) }
     {
-        self.places.insert(queue, place)?;
+        self.own_chunks.insert(queue, own_chunk)?;
         Ok(())
     }
 
     /// Where the frame's own chunk of a queue stands. `O(log n)`.
-    pub fn place(&self, queue: u32) -> Option<OwnChunk>
-        ensures { result ≡ own_chunk_in self.now.places queue }
+    pub fn own_chunk(&self, queue: u32) -> Option<OwnChunk>
+        ensures { result ≡ own_chunk_in self.now.own_chunks queue }
     {
-        self.places.get(&queue).copied()
+        self.own_chunks.get(&queue).copied()
     }
 
     /// Notes that its ends are lent, and answers how many queue deeds it has done. `O(1)`.
@@ -74,15 +74,15 @@ impl QueueFrame {
         self.deeds
     }
 
-    /// The places of the frame's own chunks. `O(1)`.
-    pub fn into_places(self) -> BTreeMap<u32, OwnChunk>
-        ensures { result.entries ≡ self.places }
+    /// Its own chunk of each queue that it has. `O(1)`.
+    pub fn into_own_chunks(self) -> BTreeMap<u32, OwnChunk>
+        ensures { result.entries ≡ self.own_chunks }
     {
         let QueueFrame {
             deeds: _,
             is_lent: _,
-            places,
+            own_chunks,
         } = self;
-        places
+        own_chunks
     }
 }

@@ -28,7 +28,7 @@ pub struct LiveFrames {
 impl LiveFrames {
     /// The root alone, which has done nothing and has no queue. It takes no memory. `O(1)`.
     pub fn new(alloc: Global) -> LiveFrames
-        ensures root { kept_of result 0 ≡ Some (record { deeds = 0; is_lent = false; places = [] }) }
+        ensures root { kept_of result 0 ≡ Some (record { deeds = 0; is_lent = false; own_chunks = [] }) }
         ensures others { (number : ℕ) → number ≢ 0 → kept_of result number ≡ None }
     {
         LiveFrames {
@@ -53,11 +53,11 @@ impl LiveFrames {
     }
 
     /// Where a frame's own chunk of a queue stands. `O(log n)`.
-    pub fn place(&self, number: u64, queue: u32) -> Option<OwnChunk>
+    pub fn own_chunk(&self, number: u64, queue: u32) -> Option<OwnChunk>
         ensures { result ≡ own_chunk_at self.now number queue }
     {
         match self.get(number) {
-            Some(frame) => frame.place(queue),
+            Some(frame) => frame.own_chunk(queue),
             None => None,
         }
     }
@@ -144,28 +144,28 @@ impl LiveFrames {
     }
 
     /// Notes where an active frame's own chunk of a queue stands. `O(log n)`. Err is want of memory.
-    pub fn put(&mut self, number: u64, queue: u32, place: OwnChunk) -> Result<(), NoMemory>
+    pub fn put(&mut self, number: u64, queue: u32, own_chunk: OwnChunk) -> Result<(), NoMemory>
         requires { IsSome (kept_of self.old number) }
-        ensures { OnOk result (IsOnlyChange (kept_of self.old) (kept_of self.new) number (option_map (with_own_chunk queue place) (kept_of self.old number))) }
+        ensures { OnOk result (IsOnlyChange (kept_of self.old) (kept_of self.new) number (option_map (with_own_chunk queue own_chunk) (kept_of self.old number))) }
     {
         if number == 0 {
             let Some(frame) = &mut self.root else {
                 unreachable!()
             };
-            frame.put(queue, place)?;
+            frame.put(queue, own_chunk)?;
             return Ok(());
         }
         if number == self.newest_number {
             let Some(frame) = &mut self.newest else {
                 unreachable!()
             };
-            frame.put(queue, place)?;
+            frame.put(queue, own_chunk)?;
             return Ok(());
         }
         let Some(frame) = self.others.get_mut(&number) else {
             unreachable!()
         };
-        frame.put(queue, place)?;
+        frame.put(queue, own_chunk)?;
         Ok(())
     }
 

@@ -33,7 +33,7 @@ impl QueueStore {
     {
         let mut frame = QueueFrame::new(self.alloc);
         for one in gives {
-            self.give(parent, child, *one, &mut frame.places)?;
+            self.give(parent, child, *one, &mut frame.own_chunks)?;
         }
         self.frames.count_deed(parent);
         self.frames.add(child, frame)?;
@@ -46,11 +46,11 @@ impl QueueStore {
         parent: u64,
         child: u64,
         one: QueueGive,
-        places: &mut BTreeMap<u32, OwnChunk>,
+        own_chunks: &mut BTreeMap<u32, OwnChunk>,
     ) -> Result<(), NoMemory>
         // what is given
-        requires has { (place : Held) × (own_chunk_at self.old.frames parent one.queue ≡ Some place) }
-        requires stands { (place : Held) → own_chunk_at self.old.frames parent one.queue ≡ Some place → ContainsKey self.old.chains.nodes place.key }
+        requires has { (own_chunk : Held) × (own_chunk_at self.old.frames parent one.queue ≡ Some own_chunk) }
+        requires stands { (own_chunk : Held) → own_chunk_at self.old.frames parent one.queue ≡ Some own_chunk → ContainsKey self.old.chains.nodes own_chunk.key }
         requires of_queues { IsTrue (is_queue_mode one.mode) }
 
         // who gets it
@@ -60,23 +60,23 @@ impl QueueStore {
 
         // what it leaves
         ensures heads { OnOk result (self.new.chains.heads.items ≡ self.old.chains.heads.items) }
-        ensures given { OnOk result (IsHandedIn self.old.frames self.new.frames parent child one.queue (allows one.mode Push) places.old.entries places.new.entries self.old.chains.heads.items self.old.chains.nodes self.new.chains.nodes) }
+        ensures given { OnOk result (IsHandedIn self.old.frames self.new.frames parent child one.queue (allows one.mode Push) own_chunks.old.entries own_chunks.new.entries self.old.chains.heads.items self.old.chains.nodes self.new.chains.nodes) }
         ensures turns { OnOk result (self.new.turns ≡ frames_after_enlist self.old.turns parent child (holding_of one)) }
     {
-        let Some(place) = self.frames.place(parent, one.queue) else {
+        let Some(own) = self.frames.own_chunk(parent, one.queue) else {
             unreachable!()
         };
-        let new = self.chains.hand_on(self.alloc, place.key, parent, child)?;
+        let new = self.chains.hand_on(self.alloc, own.key, parent, child)?;
         let given = OwnChunk {
-            key: place.key,
+            key: own.key,
             is_maker: false,
             pushes: one.mode.allows(Mode::Push),
         };
-        places.insert(one.queue, given)?;
+        own_chunks.insert(one.queue, given)?;
         let kept = OwnChunk {
             key: new,
-            is_maker: place.is_maker,
-            pushes: place.pushes,
+            is_maker: own.is_maker,
+            pushes: own.pushes,
         };
         self.frames.put(parent, one.queue, kept)?;
         self.turns.enlist(parent, child, one.queue, one.mode)?;

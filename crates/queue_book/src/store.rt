@@ -70,12 +70,12 @@ impl QueueStore {
     {
         let queue = self.chains.heads.len() as u32;
         let key = self.chains.make(queue, frame, first)?;
-        let place = OwnChunk {
+        let own_chunk = OwnChunk {
             key,
             is_maker: true,
             pushes: true,
         };
-        self.frames.put(frame, queue, place)?;
+        self.frames.put(frame, queue, own_chunk)?;
         Ok(queue)
     }
 }

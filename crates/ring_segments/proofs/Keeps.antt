@@ -5,7 +5,7 @@ use Rattle.std.proofs.lemmas.Option.{same_Some}
 use Rattle.std.specs.Prelude.{Option, Some, None}
 use Rattle.std.specs.Option.{ForSome}
 use mathlib.Core.Logic.{dite}
-use mathlib.Core.Option.{Option as Maybe, none, some, some-ne-none, some-injective}
+use mathlib.Core.Option.{Option as Maybe, none, some, some-ne-none}
 use native.Mathlib.Decide.{ℕ_discrete, dec_le}
 use lib.ListN.{get_elem?}
 use Rattle.atomic_table.specs.Table.{State, Me, Act, step, keeps, takes, gives, rest, homes_after, carried_after, Valid, Allows, Splits, Joins, opening}

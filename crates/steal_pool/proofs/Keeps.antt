@@ -3,7 +3,7 @@ use Rattle.std.specs.Prelude.{sum_by, slice_index_or, slice_set}
 use Rattle.std.proofs.lemmas.List.Sums.{sum_by-set}
 use Rattle.std.proofs.Common.{◌≡◌, ◌≢◌, ℕ, zero, suc, ◌+◌, ◌<◌, List, [], ◌∷◌, ◌++◌, length, set, sym, refl, ap, ◌∙◌, subst, ⊎_elim, arith}
 use Rattle.std.specs.Prelude.{Option, Some, None}
-use mathlib.Core.Option.{some, some-ne-none, some-injective}
+use mathlib.Core.Option.{some}
 use lib.ListN.{get_elem?}
 use Rattle.crossbeam_deque.specs.Tasks.{Pushes, Takes, Forks, Finds}
 use Rattle.crossbeam_deque.proofs.Lists.{at_set, at_snoc}
@@ -25,14 +25,6 @@ module _ {N : Type 0} where
   abbrev Each : (PoolView N → Type 0) → List (PoolView N) → Type 0
   Each P views = (j : ℕ) (v : PoolView N) → get_elem? views j ≡ some v → P v
 
-  only : Each (IsAtStage Unnamed None) (at_stage Unnamed None 0 ∷ [])
-  only zero v e = subst (IsAtStage Unnamed None) (some-injective (at_stage Unnamed None 0) v e) (refl, refl)
-  only (suc j) v e = absurd (some-ne-none v (sym e))
-
-  single : Single {N = N} (at_stage Unnamed None 0 ∷ [])
-  single zero v e = refl
-  single (suc j) v e = absurd (some-ne-none v (sym e))
-
   set_each : (P : PoolView N → Type 0) (views : List (PoolView N)) (port : ℕ) (w : PoolView N) → P w → Each P views → Each P (set views port w)
   set_each P views port w now h = all_set (λ _. P) views port w now (λ j v apart e. h j v e)
 
@@ -43,9 +35,6 @@ module _ {N : Type 0} where
 module _ {T N : Type 0} (name : T → N) where
   abbrev Rule : List (Parcel T N) → List (PoolView N) → Type 0
   Rule = Pooled name
-
-  pub begins : Rule [] (at_stage Unnamed None 0 ∷ [])
-  begins = (Unnamed, None, only, (refl, single))
 
   all_append : (m : Option N) (xs ys : List (Parcel T N)) → AllOf name m xs → AllOf name m ys → AllOf name m (xs ++ ys)
   all_append m [] ys h k = k

@@ -1,4 +1,4 @@
--- Lists: their last element, what stands within them, and their parts.
+-- Lists: their last element, what stands within them, their parts, and when two of numbers are equal.
 use Rattle.std.proofs.Common.{◌≡◌, ℕ, zero, suc, ◌<◌, List, [], ◌∷◌, ◌++◌, length, Some, refl, sym, ap, arith, ◌∙◌, ◌+◌, take, drop, None, ◌≤◌}
 use Rattle.std.proofs.lemmas.Bool.Decides.{same_from_decides}
 use Rattle.std.proofs.lemmas.List.{drop_more, take_more}

@@ -1,5 +1,6 @@
 -- What is found in a list of entries: what holds of each entry holds of one that is found, and what is found after one came in, was changed, or
--- went out, for any order of keys, and for keys that are numbers.
+-- went out, for any order of keys, for one in which a key ties with itself alone, and for keys that are numbers. And the keys of the entries
+-- that pass a test.
 use Rattle.std.proofs.Common.{◌≡◌, ◌≢◌, ℕ, Bool, true, false, cond, Option, None, Some, List, [], ◌∷◌, filter, refl, sym, ap, ◌∙◌, arith}
 use Rattle.std.proofs.lemmas.Bool.{and_parts, false_from_ne_true, false≢true}
 use Rattle.std.proofs.lemmas.Bool.Decides.{nat_tests}

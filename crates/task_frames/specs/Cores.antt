@@ -16,7 +16,7 @@ use Rattle.swan_model.specs.Script.{script}
 use Rattle.swan_model.specs.SerialState.{Activation, Holding}
 use Rattle.swan_model.specs.SerialTime.{Progress, Reading, frame_of, times}
 use Rattle.swan_model.specs.TrueFrames.{IsTrueAlone, StandsAt, give_in, gives_at}
-use Rattle.swan_model.specs.Versions.{Awaits, IsSettled, Placed, VersionState, placed_at}
+use Rattle.swan_model.specs.Versions.{IsSettled, Placed, VersionState, placed_at}
 use Rattle.swan_model.specs.VersionsFollow.{ObjectsFollow}
 use Rattle.pop_order.specs.Frames.{Frames}
 use Rattle.queues.specs.Asks.{IsRecorded, LentEnds}

@@ -110,7 +110,7 @@ impl<B: Body, Q: Queues> Frame<B, Q> {
         ensures by_ends { OnOk result (OnNext (Q.name queues.old) (Q.state queues.old) self.task.number
             (λ s f. IsLawful s → AreByEnds s f.path f.deeds (Q.Ends.ends self.ends).deeds)) }
 
-        // what they keep
+        // what the queues keep
         ensures ok { OnOk result (Q.state queues.new ≡ after_back (Q.state queues.old) self.task.number (Q.Ends.ends self.ends).deeds) }
         ensures err { OnErr result ((¬ IsRecorded (Q.state queues.old) self.task.number (Q.Ends.ends self.ends)) × (Q.state queues.new ≡ Q.state queues.old)) }
         ensures same { IsSameRun Q.name Q.run queues.old queues.new }

@@ -219,7 +219,7 @@ impl<Q: Queues> Kept<Q> {
         requires turn { IsOnTurn self.old.name self.old.state parent }
         requires next { OnNext self.old.name self.old.state parent (λ s f. NextSpawnGivesQueues s self.old.state f (queue_rights held.now)) }
 
-        // and the turns of those that pop
+        // what the turns of those that pop allow
         requires rising { parent < child }
         requires older { AreOlder self.old.turns child }
         requires apart { AreApart self.old.turns }

@@ -9,7 +9,7 @@ use Rattle.queue_book.specs.Live.{key_at}
 use Rattle.queue_book.specs.BookView.{BookView}
 use Rattle.queue_book.specs.Whole.{IsBook}
 use Rattle.queue_book.proofs.BookDeeds.{book_push}
-use Rattle.queue_book.proofs.LiveKept.{has_key, key_of, place_of_key, active_there}
+use Rattle.queue_book.proofs.LiveKept.{has_key, key_of, own_chunk_of_key, active_there}
 use Rattle.queues.proofs.Frames.{has_held}
 use Rattle.queue_book.proofs.book.BookQueuesQueues.push.Goals as goal
 
@@ -27,15 +27,15 @@ unreachable-requires c =
     let May : BookView → Type 0 = λ v. MayUse v.state n q Push in
     let may : MayUse state n q Push = subst May (sym c.self.view_is) c.requires.may in
     let found = has_key state frames is.live n q may.act.frame may.act.may.live (has_held may.act.frame q Push may.held) in
-    let never : None ≡ Some found.3 = sym c.in_default.is ∙ c.place.ensures ∙ place_of_key frames n q found.0 found.3 found.1 found.4 in
+    let never : None ≡ Some found.3 = sym c.in_default.is ∙ c.own_chunk.ensures ∙ own_chunk_of_key frames n q found.0 found.3 found.1 found.4 in
     cc
 
 pub push-requires : goal.push-requires
 push-requires c =
     let is = c.self.invariant in
-    let place = c.in-Some.place in
-    let key : key_at c.self.inside.store.frames c.args.frame c.args.queue ≡ Some place.key = key_of c.self.inside.store.frames c.args.frame c.args.queue place (sym c.in-Some.ensures) in
-    let node = is.chained.owned c.args.frame c.args.queue place.key key in
+    let own_chunk = c.in-Some.own_chunk in
+    let key : key_at c.self.inside.store.frames c.args.frame c.args.queue ≡ Some own_chunk.key = key_of c.self.inside.store.frames c.args.frame c.args.queue own_chunk (sym c.in-Some.ensures) in
+    let node = is.chained.owned c.args.frame c.args.queue own_chunk.key key in
     record { known = subst IsSome (sym node.1) refl }
 
 pub count_deed-requires-clause-active : goal.count_deed-requires-clause-active
@@ -61,9 +61,9 @@ invariant_of-self c =
     let q = c.args.queue in
     let May : BookView → Type 0 = λ v. MayUse v.state n q Push in
     let may : MayUse state n q Push = subst May (sym c.self.view_is) c.requires.may in
-    let place = c.in-Some.place in
+    let own_chunk = c.in-Some.own_chunk in
     let value = c.args.value in
-    let key : key_at frames n q ≡ Some place.key = key_of frames n q place (sym c.in-Some.ensures) in
+    let key : key_at frames n q ≡ Some own_chunk.key = key_of frames n q own_chunk (sym c.in-Some.ensures) in
     let Next : BookView → Type 0 = λ v. OnNext v.name v.state n (λ s f. IsNextAbout (λ origin. deed.Push origin value) s v.state f q) in
     let next : OnNext name state n (λ s f. IsNextAbout (λ origin. deed.Push origin value) s state f q) = subst Next (sym c.self.view_is) c.requires.next in
     let Turn : BookView → Type 0 = λ v. IsOnTurn v.name v.state n in

@@ -16,21 +16,21 @@ returns-clause-given c =
     let parent = c.args.parent in
     let child = c.args.child in
     let Handed : QueueRight → Type 0 = λ one.
-    IsHandedIn c.args.self.now.frames c.put.new.self parent child one.queue (allows one.mode Push) c.args.places.now.entries c.insert.new.self.entries c.args.self.now.chains.heads.items
+    IsHandedIn c.args.self.now.frames c.put.new.self parent child one.queue (allows one.mode Push) c.args.own_chunks.now.entries c.insert.new.self.entries c.args.self.now.chains.heads.items
     c.args.self.now.chains.nodes c.hand_on.new.self.nodes in
     let Given : Bool → Type 0 = λ b.
-    c.insert.new.self.entries ≡ insert_entry nat_cmp c.args.places.now.entries q (record { key = c.in-Some.place.key; is_maker = false; pushes = b }) in
+    c.insert.new.self.entries ≡ insert_entry nat_cmp c.args.own_chunks.now.entries q (record { key = c.in-Some.own.key; is_maker = false; pushes = b }) in
     subst Handed c.one.view_is (record {
       new = c.in_ok-new.new;
-      place = c.in-Some.place;
+      own_chunk = c.in-Some.own;
       was = sym c.in-Some.ensures;
       parent_now = c.in_ok-put.ensures;
       child_now = subst Given c.allows.ensures c.in_ok-insert.ensures.entries;
       chained = λ at lines is mine free.
           let P : List (Option ℕ) → Type 0 = λ hs.
-          AreChained (put_at parent q (Some c.in_ok-new.new) (put_at child q (Some c.in-Some.place.key) at)) hs c.hand_on.new.self.nodes (in_line q (after_hand_on parent child) lines) in
+          AreChained (put_at parent q (Some c.in_ok-new.new) (put_at child q (Some c.in-Some.own.key) at)) hs c.hand_on.new.self.nodes (in_line q (after_hand_on parent child) lines) in
           subst P c.hand_on.ensures.heads (c.in_ok-new.ensures.handed at lines is q mine free);
     })
 
 pub put-requires : goal.put-requires
-put-requires c = placed_there c.args.self.now.frames c.args.parent c.one.inside.queue c.in-Some.place (sym c.in-Some.ensures)
+put-requires c = placed_there c.args.self.now.frames c.args.parent c.one.inside.queue c.in-Some.own (sym c.in-Some.ensures)
