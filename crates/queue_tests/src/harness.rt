@@ -1,11 +1,28 @@
 // Tables are run.
 ghost use Rattle.std.specs.Prelude.{◌≡◌, true, None, OnOk};
 ghost use Rattle.swan_model.specs.QueueState.{new_state};
-ghost use Rattle.queue_tests.specs.Steps.{after_step, after_steps, allows_step, allows_steps};
+ghost use Rattle.queue_tests.specs.Steps.{after_step, after_steps, after_use, allows_step, allows_steps, allows_use};
 
-use crate::{Step, Wrong, WrongStep, calls};
+use crate::{Step, Use, Wrong, WrongStep, calls};
 use queues::Queues;
 use std::alloc::Global;
+
+/// Uses a queue in this way, which has to give its answer.
+fn make_use<Q: Queues>(queues: &mut Q, frame: u64, queue: u32, way: Use) -> Result<(), Wrong>
+    requires free { Q.name queues.old ≡ None }
+    requires may { allows_use (Q.state queues.old) frame queue way ≡ true }
+    ensures free { Q.name queues.new ≡ None }
+    ensures after { OnOk result (Q.state queues.new ≡ after_use (Q.state queues.old) frame way) }
+{
+    match way {
+        Use::Push(item) => calls::push(queues, frame, queue, item),
+        Use::Pop(item) => calls::pop(queues, frame, queue, item),
+        Use::PopNone => calls::pop_none(queues, frame, queue),
+        Use::PopWait(cause) => calls::pop_wait(queues, frame, queue, cause),
+        Use::Test(answer) => calls::test(queues, frame, queue, answer),
+        Use::Look(answer) => calls::look(queues, frame, queue, answer),
+    }
+}
 
 /// Makes one call, which has to give its answer.
 fn make<Q: Queues>(queues: &mut Q, alloc: Global, step: Step) -> Result<(), Wrong>
@@ -18,12 +35,7 @@ fn make<Q: Queues>(queues: &mut Q, alloc: Global, step: Step) -> Result<(), Wron
         Step::CreateRoot(number, item) => calls::create_root(queues, alloc, number, item),
         Step::Create(frame, number) => calls::create(queues, frame, number),
         Step::Spawn(parent, child, queue, mode) => calls::spawn(queues, parent, child, queue, mode),
-        Step::Push(frame, queue, item) => calls::push(queues, frame, queue, item),
-        Step::Pop(frame, queue, item) => calls::pop(queues, frame, queue, item),
-        Step::PopNone(frame, queue) => calls::pop_none(queues, frame, queue),
-        Step::PopWait(frame, queue, cause) => calls::pop_wait(queues, frame, queue, cause),
-        Step::Test(frame, queue, answer) => calls::test(queues, frame, queue, answer),
-        Step::Look(frame, queue, answer) => calls::look(queues, frame, queue, answer),
+        Step::Use(frame, queue, way) => make_use(queues, frame, queue, way),
         Step::Finish(frame) => {
             calls::finish(queues, frame);
             Ok(())

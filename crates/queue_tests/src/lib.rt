@@ -29,7 +29,7 @@ pub use ends::lend_two;
 pub use harness::run;
 #[cfg(test)]
 pub use many::push_many;
-pub use step::Step;
+pub use step::{Step, Use};
 #[cfg(test)]
 pub use tables::{
     CHILD_QUEUE_ENDS, FIRST_ITEMS, GRANDCHILD, PUSHER_BETWEEN_POPPERS, TWO_CHILDREN, TWO_PUSHERS,

@@ -11,20 +11,27 @@ pub enum Step<'a> {
     Create(u64, u32),
     /// Makes this child of a frame, which is given one queue by a mode.
     Spawn(u64, u64, u32, Mode),
-    /// Pushes a number.
-    Push(u64, u32, i64),
-    /// Pops a number.
-    Pop(u64, u32, i64),
-    /// Pops, and finds that none is left.
-    PopNone(u64, u32),
-    /// Pops, and has to wait.
-    PopWait(u64, u32, WaitFor),
-    /// Tests for emptiness.
-    Test(u64, u32, Tested),
-    /// Looks whether there is an item.
-    Look(u64, u32, Tested),
+    /// Uses a queue in this way.
+    Use(u64, u32, Use),
     /// Syncs and ends a frame.
     Finish(u64),
     /// Takes what is left of a queue: these numbers.
     TakeRest(u32, &'a [i64]),
+}
+
+/// How a frame uses a queue, with the answer that it has to get.
+#[derive(Clone, Copy)]
+pub enum Use {
+    /// Pushes a number.
+    Push(i64),
+    /// Pops a number.
+    Pop(i64),
+    /// Pops, and finds that none is left.
+    PopNone,
+    /// Pops, and has to wait.
+    PopWait(WaitFor),
+    /// Tests for emptiness.
+    Test(Tested),
+    /// Looks whether there is an item.
+    Look(Tested),
 }

@@ -87,7 +87,8 @@ fn lets_go_of(alloc: Global, count: u32) -> Result<(), Fail> {
     let mut queues = book(alloc);
     let pushed = push_many(&mut queues, count);
     let_go(queues);
-    pushed
+    pushed?;
+    Ok(())
 }
 
 #[test]
@@ -117,22 +118,26 @@ fn wrong_numbers_and_items_are_found(rt: HostRuntime) -> Result<(), Fail> {
     let alloc = rt.alloc();
     finds(alloc, 0, &[Step::CreateRoot(1, 7)])?;
     finds(alloc, 0, &[Step::Create(0, 1)])?;
-    finds(alloc, 1, &[Step::CreateRoot(0, 7), Step::Pop(0, 0, 8)])
+    let pop = Step::Use(0, 0, Use::Pop(8));
+    finds(alloc, 1, &[Step::CreateRoot(0, 7), pop])
 }
 
 #[test]
 fn wrong_emptiness_is_found(rt: HostRuntime) -> Result<(), Fail> {
     let alloc = rt.alloc();
     let root = Step::CreateRoot(0, 7);
-    finds(alloc, 1, &[root, Step::PopNone(0, 0)])?;
-    finds(alloc, 1, &[root, Step::Test(0, 0, Tested::Empty)])?;
-    finds(alloc, 1, &[root, Step::Look(0, 0, Tested::Empty)])
+    let none = Step::Use(0, 0, Use::PopNone);
+    finds(alloc, 1, &[root, none])?;
+    let test = Step::Use(0, 0, Use::Test(Tested::Empty));
+    finds(alloc, 1, &[root, test])?;
+    let look = Step::Use(0, 0, Use::Look(Tested::Empty));
+    finds(alloc, 1, &[root, look])
 }
 
 #[test]
 fn wrong_waits_are_found(rt: HostRuntime) -> Result<(), Fail> {
     let alloc = rt.alloc();
-    let wait = Step::PopWait(0, 0, WaitFor::Pusher(0));
+    let wait = Step::Use(0, 0, Use::PopWait(WaitFor::Pusher(0)));
     finds(alloc, 1, &[Step::CreateRoot(0, 7), wait])?;
     let child = Step::Spawn(0, 1, 0, Mode::Push);
     finds(alloc, 2, &[Step::Create(0, 0), child, wait])
