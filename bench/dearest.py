@@ -3,6 +3,7 @@
     python3 bench/dearest.py CRATE [NUMBER]           runs the check of the crate with its tests, one job
     rt .. | python3 bench/dearest.py - [NUMBER]       reads what such a command writes
     python3 bench/dearest.py --modules CRATE [NUMBER] reads when the last check of the crate wrote each of its modules
+    python3 bench/dearest.py --again CRATE [NUMBER]   checks the longest of those once more in one process, and reads that
     python3 bench/dearest.py --edits CRATE [NUMBER]   tries each wrong body of the crate by a check of a copy, one job
     python3 bench/dearest.py LOG [NUMBER]             reads the log of a whole gate, as `bench/gate.py --whole LOG` writes it
 
@@ -20,6 +21,10 @@ changes. Let the check go by one job, and from nothing, without the crate's `out
 new process reads counts with the first module that it writes. The module `Lts` holds the ways through the code, and grows with each place in
 which an owned value may end; `Proof` and `Tie` grow with what is left to show. So the check of a function gets shorter where what ends
 in several places is given up by `drop`, and where what is asserted of one row is a function of its own.
+
+What a function takes where all that it stands on is read is told by `--again`: the NUMBER functions that took longest in the last check, by their
+modules, are checked once more with one job, in one process. The first of them reads for all; of the others only what they take themselves is left,
+but that the first test of a crate also makes what all its tests are given, in the module `Instances`.
 
 Of wrong bodies it tells seconds of processors, and first those of a check in which nothing has changed: each wrong body costs that at least. The
 crate has to be proved before, since they begin with what its check kept.
@@ -99,6 +104,11 @@ def of_gate(lines):
                 last = stamps[-1]
 
 
+def of_module(crate, path):
+    """The name of the module of a crate that this file keeps, without what all of them begin with."""
+    return re.sub(rf"^Rattle-{crate}-(?:proofs|specs)\.(?:contracts\.)?", "", path.stem)
+
+
 def written_by(crate):
     """The seconds between the modules that the last check of a crate wrote, by function, and then by module; and the kilobytes of all, by module."""
     own = ROOT / "crates" / crate
@@ -111,13 +121,21 @@ def written_by(crate):
         raise SystemExit(f"no check of {crate} has kept anything")
     functions, modules, sizes, last = collections.Counter(), collections.Counter(), collections.Counter(), begun
     for at, path in sorted((at, path) for path, at in times.items() if path.suffix == ".oantt"):
-        name = re.sub(rf"^Rattle-{crate}-(?:proofs|specs)\.(?:contracts\.)?", "", path.stem)
+        name = of_module(crate, path)
         sizes[name] = path.stat().st_size / 1000
         if at >= begun:
             functions[PART.sub("", name)] += at - last
             modules[name] += at - last
             last = at
     return (functions, "s"), (modules, "s"), (sizes, "kB")
+
+
+def forget(crate, most):
+    """Removes what the last check of a crate kept of the functions that took longest in it."""
+    longest = {name for name, _ in written_by(crate)[0][0].most_common(most)}
+    for path in (ROOT / "crates" / crate / "out" / "incremental").rglob("*.oantt"):
+        if PART.sub("", of_module(crate, path)) in longest:
+            path.unlink()
 
 
 def copied(here, crate):
@@ -179,11 +197,14 @@ def tried(crate):
 
 def main(words):
     """Prints the longest of what the words name."""
-    option = words.pop(0) if words[:1] in (["--edits"], ["--modules"]) else None
+    option = words.pop(0) if words[:1] in (["--again"], ["--edits"], ["--modules"]) else None
     if not words:
         raise SystemExit(__doc__)
     most = int(words[1]) if len(words) > 1 else 10
-    if option == "--modules":
+    if option == "--again":
+        forget(words[0], most)
+        subprocess.run([*CHECK, "--test"], cwd=ROOT / "crates" / words[0], stdout=subprocess.DEVNULL, check=True)
+    if option in ("--again", "--modules"):
         lists = ["\n".join(f"{much:8.1f} {unit}  {name}" for name, much in part.most_common(most)) for part, unit in written_by(words[0])]
         print("\n\n".join(lists))
         return

@@ -1,6 +1,6 @@
 -- Frames that may come to a core.
-use Rattle.std.proofs.Common.{◌≡◌, ℕ, ◌<◌, List, [], ◌∷◌, ◌∙◌, Result, Ok, Err, IfOk, length, slice_index_or, subst, sym}
-use Rattle.std.proofs.lemmas.List.Elements.{All-cons, All-nil, All-same, All-weaker}
+use Rattle.std.proofs.Common.{◌≡◌, ℕ, ◌+◌, ◌<◌, List, [], ◌∷◌, ◌++◌, ◌∙◌, Result, Ok, Err, IfOk, drop, length, slice_index_or, subst, sym, take}
+use Rattle.std.proofs.lemmas.List.Elements.{All-append, All-cons, All-drop, All-nil, All-same, All-take, All-weaker}
 use Rattle.task_frames.specs.Cores.{CoreView}
 use Rattle.task_frames.specs.Frames.{FrameView}
 use Rattle.task_frames.specs.Resumes.{EndsOf, IsGivenBy, IsOpened, IsResumed}
@@ -51,6 +51,13 @@ came-so G of core after frame (resumed.Ended steps) plan run may is = tt
 came-so G of core after frame (resumed.Strange same foreign) plan run may is =
     subst (MayCome of.run after) (sym is.0) (still-comes of.run core after plan run frame may)
 came-so G of core after frame resumed.NoMemory plan run may is = tt
+
+-- those that may come without one of them
+pub others-come : {B L E : Type 0} (run : E → List ℕ) (core : CoreView B L) (frames others : List (FrameView B L E)) (index : ℕ)
+    → MayAllCome run core frames → others ≡ take index frames ++ drop (index + 1) frames → MayAllCome run core others
+others-come run core frames others index all is =
+    let may = MayCome run core in
+    All-same may others _ is (All-append may _ _ (All-take may index frames all) (All-drop may (index + 1) frames all))
 
 -- one of those that may come
 pub taken-comes : {B L E : Type 0} (run : E → List ℕ) (core : CoreView B L) (frames : List (FrameView B L E)) (index : ℕ) (frame : FrameView B L E)

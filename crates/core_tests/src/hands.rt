@@ -128,7 +128,13 @@ fn meets_end<B: Body, Q: Queues>(alloc: Global, workers: &mut Vec<Worker<B, Q>>)
     turn_of(alloc, workers, 0).is_last()
 }
 
-/// What closing a run answers, of which the first worker meets the end in its next turn.
+/// Gives up the workers of a run that goes on, and says so.
+fn given_up<B: Body, Q: Queues>(workers: Vec<Worker<B, Q>>) -> Fail {
+    drop(workers);
+    "the run goes on".into()
+}
+
+/// What closing a run answers, of which the first worker meets the end in its next turn. Err says that it doesn't.
 fn closed<B: Body, Q: Queues>(
     alloc: Global,
     workers: Vec<Worker<B, Q>>,
@@ -136,11 +142,27 @@ fn closed<B: Body, Q: Queues>(
     requires workers { AreWorkers (ends_of Q.Ends.LocalEnds) workers.items }
 {
     let mut workers = workers;
-    if !meets_end(alloc, &mut workers) {
-        drop(workers);
-        return Err("the run goes on".into());
+    if meets_end(alloc, &mut workers) {
+        Ok(close(alloc, workers))
+    } else {
+        Err(given_up(workers))
     }
-    Ok(close(alloc, workers))
+}
+
+/// These workers, if their turns came to what was said. Else they are given up, and Err is what the turns came to.
+fn workers_if<B: Body, Q: Queues>(
+    workers: Vec<Worker<B, Q>>,
+    came: Result<(), Fail>,
+) -> Result<Vec<Worker<B, Q>>, Fail>
+    ensures { IfOk result (λ it. it ≡ workers) }
+{
+    match came {
+        Ok(()) => Ok(workers),
+        Err(fail) => {
+            drop(workers);
+            Err(fail)
+        }
+    }
 }
 
 /// The workers of a run of this plan in this shape, after these turns.
@@ -153,11 +175,8 @@ fn workers_after<B: Body>(
     ensures { IfOk result (λ workers. AreWorkers (ends_of ⟦<NoEnds as LocalEnds>⟧) workers.items) }
 {
     let mut workers = open(alloc, plan, shape)?;
-    if let Err(fail) = take_turns(alloc, &mut workers, turns) {
-        drop(workers);
-        return Err(fail);
-    }
-    Ok(workers)
+    let came = take_turns(alloc, &mut workers, turns);
+    workers_if(workers, came)
 }
 
 /// The two texts of what a run of this plan in this shape leaves, by these turns.

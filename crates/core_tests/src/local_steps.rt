@@ -1,7 +1,7 @@
 // Frames that take steps by themselves: what a frame answers, call by call, over queues whose ends serve nothing.
 ghost use Rattle.std.specs.Prelude.{◌≡◌, IfOk};
 ghost use Rattle.task_frames.specs.Resumes.{IsOpened, ends_of};
-ghost use Rattle.core_tests.specs.Pools.{MayCome};
+ghost use Rattle.core_tests.specs.Pools.{MayAllCome, MayCome};
 
 use crate::plans::asks;
 use crate::runs::{frames_from, opened};
@@ -122,6 +122,20 @@ fn answers<B: Body, Q: Queues>(
     is_root(root, frame)
 }
 
+/// Takes the only one of these frames out. Err says that there is none, or that there are several.
+fn only_frame<B: Body, Q: Queues>(
+    core: &Core<B, Q>,
+    frames: &mut Vec<Frame<B, Q>>,
+) -> Result<Frame<B, Q>, Fail>
+    requires { MayAllCome Q.Ends.run core.now frames.old.items }
+    ensures { IfOk result (MayCome Q.Ends.run core.now) }
+{
+    if frames.len() != 1 {
+        return Err("no frame, or several".into());
+    }
+    Ok(frames.remove(0))
+}
+
 /// The only frame of a core that began with this one, after these turns.
 fn frame_after<B: Body, Q: Queues>(
     alloc: Global,
@@ -132,16 +146,13 @@ fn frame_after<B: Body, Q: Queues>(
 ) -> Result<Frame<B, Q>, Fail>
     requires body { body.now ≡ core.old.plan.body }
     requires begun { MayCome Q.Ends.run core.old begun }
-    ensures { IfOk result (λ frame. frame.task.plan ≡ core.old.plan) }
+    ensures frame { IfOk result (MayCome Q.Ends.run core.new) }
+    ensures plan { core.new.plan ≡ core.old.plan }
 {
     let mut frames = frames_from(alloc, core, body, begun, turns)?;
-    if frames.len() != 1 {
-        drop(frames);
-        return Err("no frame, or several".into());
-    }
-    let frame = frames.remove(0);
+    let frame = only_frame(core, &mut frames);
     drop(frames);
-    Ok(frame)
+    frame
 }
 
 /// The only frame of a core that began with this one of this root, after these turns, answers these calls so.

@@ -56,7 +56,14 @@ fn take_turn_by_chance<B: Body, Q: Queues>(
     take_turn(alloc, core, body, frames, frame, budget(chance))
 }
 
-/// Whether the core has found no memory, once this turn has come. Err says what is wrong with it.
+/// Gives up the frames.
+fn give_up<B: Body, Q: Queues>(core: &Core<B, Q>, frames: &mut Vec<Frame<B, Q>>)
+    ensures { MayAllCome Q.Ends.run core.now frames.new.items }
+{
+    frames.clear();
+}
+
+/// Whether want of memory was met, once this turn has come. Err says what is wrong with the turn.
 fn is_dead_after(turn: FrameTurn, is_dead: bool) -> Result<bool, Fail> {
     match turn {
         FrameTurn::Works(_, _) => Ok(is_dead),
@@ -64,6 +71,32 @@ fn is_dead_after(turn: FrameTurn, is_dead: bool) -> Result<bool, Fail> {
         FrameTurn::Strange(_, _) => Err("a frame is strange".into()),
         _ if is_dead => Err("a core without memory goes on".into()),
         _ => Ok(false),
+    }
+}
+
+/// Takes the turn of one of the frames, with a budget: both by this number. Where it is torn by want of memory in a step of its own, the others
+/// are given up. It answers whether want of memory was met by then. Err says what is wrong with the turn, or is want of memory to keep a frame.
+fn go_on<B: Body, Q: Queues>(
+    alloc: Global,
+    core: &mut Core<B, Q>,
+    body: &B,
+    frames: &mut Vec<Frame<B, Q>>,
+    chance: u64,
+    is_dead: bool,
+) -> Result<bool, Fail>
+    requires body { body.now ≡ core.old.plan.body }
+    requires frames { MayAllCome Q.Ends.run core.old frames.old.items }
+    requires some { 0 < length frames.old.items }
+    ensures frames { OnOk result (MayAllCome Q.Ends.run core.new frames.new.items) }
+    ensures plan { core.new.plan ≡ core.old.plan }
+{
+    match take_turn_by_chance(alloc, core, body, frames, chance) {
+        Ok(FrameTurn::Torn(_)) => {
+            give_up(core, frames);
+            Ok(true)
+        }
+        Ok(turn) => is_dead_after(turn, is_dead),
+        Err(none) => Err(none.into()),
     }
 }
 
@@ -88,11 +121,7 @@ pub fn take_turns_by_chance<B: Body, Q: Queues>(
             return ends_so(core, is_dead);
         }
         chance = next(chance);
-        let turn = take_turn_by_chance(alloc, core, body, frames, chance)?;
-        if matches!(turn, FrameTurn::Torn(_)) {
-            return ends_so(core, true);
-        }
-        is_dead = is_dead_after(turn, is_dead)?;
+        is_dead = go_on(alloc, core, body, frames, chance, is_dead)?;
     }
     Err("no end".into())
 }

@@ -1,5 +1,5 @@
 // Runs of plans, and what they leave.
-ghost use Rattle.std.specs.Prelude.{◌≡◌, ◌∷◌, [], IfOk, Ok, OnOk, true};
+ghost use Rattle.std.specs.Prelude.{◌≡◌, ◌∷◌, [], IfOk, OnOk, true};
 ghost use Rattle.task_frames.specs.Resumes.{IsOpened, ends_of};
 ghost use Rattle.core_tests.specs.Pools.{MayAllCome, MayCome};
 
@@ -56,13 +56,14 @@ pub fn alone<B: Body, Q: Queues>(
     Ok(frames)
 }
 
-/// These frames, where their turns came to what was said.
-fn frames_unless<B: Body, Q: Queues>(
+/// Frames that may come to the core, if their turns came to what was said. Else they are given up, and Err is what the turns came to.
+fn frames_if<B: Body, Q: Queues>(
+    core: &Core<B, Q>,
     frames: Vec<Frame<B, Q>>,
     came: Result<(), Fail>,
 ) -> Result<Vec<Frame<B, Q>>, Fail>
-    ensures frames { IfOk result (λ it. it ≡ frames) }
-    ensures came { OnOk result (came ≡ Ok tt) }
+    requires { OnOk came (MayAllCome Q.Ends.run core.now frames.items) }
+    ensures { IfOk result (λ it. MayAllCome Q.Ends.run core.now it.items) }
 {
     match came {
         Ok(()) => Ok(frames),
@@ -89,7 +90,7 @@ pub fn frames_from<B: Body, Q: Queues>(
 {
     let mut frames = alone(alloc, root)?;
     let came = take_turns(alloc, core, body, &mut frames, turns);
-    frames_unless(frames, came)
+    frames_if(core, frames, came)
 }
 
 /// Takes these turns, with this frame at first.
@@ -155,8 +156,8 @@ fn left<B: Body, Q: Queues>(alloc: Global, core: Core<B, Q>) -> Result<Option<Ou
     Ok(Some(taken(alloc, core)?))
 }
 
-/// What a run leaves whose turns have come to this.
-fn left_unless<B: Body, Q: Queues>(
+/// What a run leaves, if its turns came to what was said. Else it is given up, and Err is what they came to.
+fn left_if<B: Body, Q: Queues>(
     alloc: Global,
     core: Core<B, Q>,
     came: Result<(), Fail>,
@@ -185,7 +186,7 @@ fn left_by_turns<B: Body, Q: Queues>(
         root,
     } = opened;
     let came = take_by_turns(alloc, &mut core, &body, root, turns);
-    left_unless(alloc, core, came)
+    left_if(alloc, core, came)
 }
 
 /// What an opened run leaves in an order by chance.
@@ -203,7 +204,7 @@ fn left_by_chance<B: Body, Q: Queues>(
         root,
     } = opened;
     let came = take_by_chance(alloc, &mut core, &body, root, seed);
-    left_unless(alloc, core, came)
+    left_if(alloc, core, came)
 }
 
 /// What an opened run leaves on a stack, and None where it has met want of memory.

@@ -171,7 +171,28 @@ fn take_from<B: Body, Q: Queues>(
     take_all(alloc, core, body, &mut own, stale, turns)
 }
 
-/// The turns of an opened run, to whose core stale frames come, come to what is said.
+/// The turns of an opened run, to whose core these stale frames come, come to what is said.
+fn come_beside<B: Body, Q: Queues>(
+    alloc: Global,
+    opened: Opened<B, Q>,
+    stale: &mut Vec<Frame<B, Q>>,
+    turns: &Turns<'_>,
+) -> Result<(), Fail>
+    requires opened { IsOpened (ends_of Q.Ends.LocalEnds) opened.core opened.root }
+    requires body { opened.body.value ≡ opened.core.plan.body }
+    requires stale { MayAllCome Q.Ends.run opened.core stale.old.items }
+{
+    let Opened {
+        mut core,
+        body,
+        root,
+    } = opened;
+    let came = take_from(alloc, &mut core, &body, root, stale, turns);
+    drop(core);
+    came
+}
+
+/// The same, and gives up the stale frames.
 fn come_so<B: Body, Q: Queues>(
     alloc: Global,
     opened: Opened<B, Q>,
@@ -182,14 +203,8 @@ fn come_so<B: Body, Q: Queues>(
     requires body { opened.body.value ≡ opened.core.plan.body }
     requires stale { MayAllCome Q.Ends.run opened.core stale.items }
 {
-    let Opened {
-        mut core,
-        body,
-        root,
-    } = opened;
     let mut stale = stale;
-    let came = take_from(alloc, &mut core, &body, root, &mut stale, turns);
-    drop(core);
+    let came = come_beside(alloc, opened, &mut stale, turns);
     drop(stale);
     came
 }

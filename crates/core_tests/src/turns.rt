@@ -32,70 +32,71 @@ fn resumed<B: Body, Q: Queues>(
     core.resume(alloc, body, frame)
 }
 
-/// Keeps a frame behind the others, and answers what its turn came to.
+/// Keeps a frame behind the others. Err is want of memory for that.
 fn keep<B: Body, Q: Queues>(
     core: &Core<B, Q>,
     frames: &mut Vec<Frame<B, Q>>,
     frame: Frame<B, Q>,
-    turn: FrameTurn,
-) -> Result<FrameTurn, NoMemory>
+) -> Result<(), NoMemory>
     requires frames { MayAllCome Q.Ends.run core.now frames.old.items }
     requires frame { MayCome Q.Ends.run core.now frame }
     ensures { OnOk result (MayAllCome Q.Ends.run core.now frames.new.items) }
 {
-    frames.push(frame)?;
-    Ok(turn)
+    Ok(frames.push(frame)?)
 }
 
-/// Keeps a frame and its child behind the others, and answers what the frame's turn came to.
+/// Keeps a frame and its child behind the others. Err is want of memory for that.
 fn keep_both<B: Body, Q: Queues>(
     core: &Core<B, Q>,
     frames: &mut Vec<Frame<B, Q>>,
     parent: Frame<B, Q>,
     child: Frame<B, Q>,
-    turn: FrameTurn,
-) -> Result<FrameTurn, NoMemory>
+) -> Result<(), NoMemory>
     requires frames { MayAllCome Q.Ends.run core.now frames.old.items }
     requires parent { MayCome Q.Ends.run core.now parent }
     requires child { MayCome Q.Ends.run core.now child }
     ensures { OnOk result (MayAllCome Q.Ends.run core.now frames.new.items) }
 {
-    if let Err(NoMemory) = keep(core, frames, parent, turn) {
+    if let Err(NoMemory) = keep(core, frames, parent) {
         drop(child);
         return Err(NoMemory);
     }
-    keep(core, frames, child, turn)
+    keep(core, frames, child)
 }
 
-/// Keeps behind the others what came of a frame of this number, after so many steps that it took by itself, and answers what its turn came to.
+/// What the turn of a frame of this number came to, which took so many steps by itself before it came to the core.
+fn told<B: Body, Q: Queues>(came: &Resumed<B, Q>, number: u64, works: u64) -> FrameTurn {
+    match came {
+        Resumed::Runs(_, _) => FrameTurn::Runs(number, works),
+        Resumed::Spawned(_, child, _) => FrameTurn::Spawns(number, works, child.number()),
+        Resumed::Ended(_) => FrameTurn::Ends(number, works),
+        Resumed::Waits(_, waited) => FrameTurn::Waits(number, works, waited.wait()),
+        Resumed::Strange(_, _) => FrameTurn::Strange(number, works),
+        Resumed::NoMemory => FrameTurn::NoMemory(number, works),
+    }
+}
+
+/// Keeps behind the others the frames that came of one. Err is want of memory for that.
 fn keep_what_came<B: Body, Q: Queues>(
     core: &Core<B, Q>,
     frames: &mut Vec<Frame<B, Q>>,
     came: Resumed<B, Q>,
-    number: u64,
-    works: u64,
-) -> Result<FrameTurn, NoMemory>
+) -> Result<(), NoMemory>
     requires frames { MayAllCome Q.Ends.run core.now frames.old.items }
     requires came { CameSo Q.Ends.run core.now came }
     ensures { OnOk result (MayAllCome Q.Ends.run core.now frames.new.items) }
 {
     match came {
-        Resumed::Runs(next, _) => keep(core, frames, next, FrameTurn::Runs(number, works)),
-        Resumed::Spawned(parent, child, _) => {
-            let turn = FrameTurn::Spawns(number, works, child.number());
-            keep_both(core, frames, parent, child, turn)
-        }
-        Resumed::Ended(_) => Ok(FrameTurn::Ends(number, works)),
-        Resumed::Waits(same, waited) => {
-            let turn = FrameTurn::Waits(number, works, waited.wait());
-            keep(core, frames, same, turn)
-        }
-        Resumed::Strange(same, _) => keep(core, frames, same, FrameTurn::Strange(number, works)),
-        Resumed::NoMemory => Ok(FrameTurn::NoMemory(number, works)),
+        Resumed::Runs(next, _) => keep(core, frames, next),
+        Resumed::Spawned(parent, child, _) => keep_both(core, frames, parent, child),
+        Resumed::Waits(same, _) => keep(core, frames, same),
+        Resumed::Strange(same, _) => keep(core, frames, same),
+        Resumed::Ended(_) | Resumed::NoMemory => Ok(()),
     }
 }
 
-/// Gives a frame to the core, after so many steps that it took by itself, and keeps the frames that come of it.
+/// Gives a frame to the core, after so many steps that it took by itself, and keeps the frames that come of it. It answers what the turn came to.
+/// Err is want of memory to keep them.
 fn resume<B: Body, Q: Queues>(
     alloc: Global,
     core: &mut Core<B, Q>,
@@ -117,7 +118,33 @@ fn resume<B: Body, Q: Queues>(
 {
     let number = frame.number();
     let came = resumed(alloc, core, body, frame, frames);
-    keep_what_came(core, frames, came, number, works)
+    let turn = told(&came, number, works);
+    keep_what_came(core, frames, came)?;
+    Ok(turn)
+}
+
+/// Keeps a frame behind the others that took so many steps by itself, which were its budget. It answers what the turn came to. Err is want of
+/// memory to keep it.
+fn pause<B: Body, Q: Queues>(
+    core: &Core<B, Q>,
+    frames: &mut Vec<Frame<B, Q>>,
+    frame: Frame<B, Q>,
+    steps: u64,
+) -> Result<FrameTurn, NoMemory>
+    requires frames { MayAllCome Q.Ends.run core.now frames.old.items }
+    requires frame { MayCome Q.Ends.run core.now frame }
+    ensures { OnOk result (MayAllCome Q.Ends.run core.now frames.new.items) }
+{
+    let turn = FrameTurn::Works(frame.number(), steps);
+    keep(core, frames, frame)?;
+    Ok(turn)
+}
+
+/// Gives up a frame that found no memory for a step, and answers what its turn came to.
+fn torn<B: Body, Q: Queues>(frame: Frame<B, Q>) -> FrameTurn {
+    let turn = FrameTurn::Torn(frame.number());
+    frame.tear();
+    turn
 }
 
 /// Takes the turn of a frame: the steps that it takes by itself, up to so many, and the one that needs the core. The frames
@@ -140,17 +167,10 @@ pub fn take_turn<B: Body, Q: Queues>(
     ensures plan { core.new.plan ≡ core.old.plan }
     ensures run { core.new.run ≡ core.old.run }
 {
-    let number = frame.number();
     match frame.run_local(alloc, body, budget) {
         Paused::AtCore(steps) => resume(alloc, core, body, frames, frame, steps.count()),
-        Paused::Budget(steps) => {
-            let turn = FrameTurn::Works(number, steps.count());
-            keep(core, frames, frame, turn)
-        }
-        Paused::NoMemory => {
-            frame.tear();
-            Ok(FrameTurn::Torn(number))
-        }
+        Paused::Budget(steps) => pause(core, frames, frame, steps.count()),
+        Paused::NoMemory => Ok(torn(frame)),
     }
 }
 
@@ -195,6 +215,27 @@ fn came_to(came: FrameTurn, turn: FrameTurn, index: usize) -> Result<(), Fail> {
     Ok(())
 }
 
+/// Takes the turn of the first frame of a number, with this budget. It is None where there is no such frame. Err is want of memory.
+fn take_turn_of<B: Body, Q: Queues>(
+    alloc: Global,
+    core: &mut Core<B, Q>,
+    body: &B,
+    frames: &mut Vec<Frame<B, Q>>,
+    number: u64,
+    budget: u64,
+) -> Result<Option<FrameTurn>, NoMemory>
+    requires body { body.now ≡ core.old.plan.body }
+    requires frames { MayAllCome Q.Ends.run core.old frames.old.items }
+    ensures frames { OnOk result (MayAllCome Q.Ends.run core.new frames.new.items) }
+    ensures plan { core.new.plan ≡ core.old.plan }
+    ensures run { core.new.run ≡ core.old.run }
+{
+    match first_of(core, frames, number) {
+        Some(frame) => Ok(Some(take_turn(alloc, core, body, frames, frame, budget)?)),
+        None => Ok(None),
+    }
+}
+
 /// Takes this turn, which is the one of this index, of the first frame of its number. Err names it where it comes to something else.
 fn take_one<B: Body, Q: Queues>(
     alloc: Global,
@@ -210,11 +251,9 @@ fn take_one<B: Body, Q: Queues>(
     ensures plan { core.new.plan ≡ core.old.plan }
     ensures run { core.new.run ≡ core.old.run }
 {
-    let Some(frame) = first_of(core, frames, turn.frame()) else {
-        return Err(no_frame(index));
-    };
-    match take_turn(alloc, core, body, frames, frame, turn.budget()) {
-        Ok(came) => came_to(came, turn, index),
+    match take_turn_of(alloc, core, body, frames, turn.frame(), turn.budget()) {
+        Ok(Some(came)) => came_to(came, turn, index),
+        Ok(None) => Err(no_frame(index)),
         Err(none) => Err(none.into()),
     }
 }
@@ -234,7 +273,9 @@ pub fn take_turns<B: Body, Q: Queues>(
     ensures run { core.new.run ≡ core.old.run }
 {
     for index in 0..turns.len() {
-        take_one(alloc, core, body, frames, turns[index], index)?;
+        if let Err(fail) = take_one(alloc, core, body, frames, turns[index], index) {
+            return Err(fail);
+        }
     }
     Ok(())
 }
