@@ -3,7 +3,7 @@
     python3 bench/dearest.py CRATE [NUMBER]           runs the check of the crate with its tests, one job
     rt .. | python3 bench/dearest.py - [NUMBER]       reads what such a command writes
     python3 bench/dearest.py --modules CRATE [NUMBER] reads when the last check of the crate wrote each of its modules
-    python3 bench/dearest.py --again CRATE [NUMBER]   checks the longest of those once more in one process, and reads that
+    python3 bench/dearest.py --again CRATE [NUMBER]   checks the longest functions of those once more, and reads that
     python3 bench/dearest.py --edits CRATE [NUMBER]   tries each wrong body of the crate by a check of a copy, one job
     python3 bench/dearest.py LOG [NUMBER]             reads the log of a whole gate, as `bench/gate.py --whole LOG` writes it
 
@@ -23,8 +23,8 @@ which an owned value may end; `Proof` and `Tie` grow with what is left to show. 
 in several places is given up by `drop`, and where what is asserted of one row is a function of its own.
 
 What a function takes where all that it stands on is read is told by `--again`: the NUMBER functions that took longest in the last check, by their
-modules, are checked once more with one job, in one process. The first of them reads for all; of the others only what they take themselves is left,
-but that the first test of a crate also makes what all its tests are given, in the module `Instances`.
+modules, are checked once more with one job, some forty of them in one process. The first of them reads for all; of the others only what they take
+themselves is left, but that the first test of a crate also makes what all its tests are given, in the module `Instances`.
 
 Of wrong bodies it tells seconds of processors, and first those of a check in which nothing has changed: each wrong body costs that at least. The
 crate has to be proved before, since they begin with what its check kept.
