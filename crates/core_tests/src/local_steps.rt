@@ -136,7 +136,8 @@ fn only_frame<B: Body, Q: Queues>(
     Ok(frames.remove(0))
 }
 
-/// The only frame of a core that began with this one, after these turns.
+/// The only frame of a core that began with this one, after these turns. Err says that there is none, or that there are several, or is what the
+/// turns came to.
 fn frame_after<B: Body, Q: Queues>(
     alloc: Global,
     core: &mut Core<B, Q>,

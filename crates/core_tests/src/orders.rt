@@ -37,7 +37,7 @@ fn ends_so<B: Body, Q: Queues>(core: &Core<B, Q>, is_dead: bool) -> Result<(), F
     }
 }
 
-/// Takes the turn of one of the frames, with a budget: both by this number.
+/// Takes the turn of one of the frames, with a budget: both by this number. Err is want of memory to keep the frames that come of it.
 fn take_turn_by_chance<B: Body, Q: Queues>(
     alloc: Global,
     core: &mut Core<B, Q>,
@@ -63,7 +63,7 @@ fn give_up<B: Body, Q: Queues>(core: &Core<B, Q>, frames: &mut Vec<Frame<B, Q>>)
     frames.clear();
 }
 
-/// Whether want of memory was met, once this turn has come. Err says what is wrong with the turn.
+/// Whether want of memory was met, once this turn has come, which tore no frame. Err says what is wrong with the turn.
 fn is_dead_after(turn: FrameTurn, is_dead: bool) -> Result<bool, Fail> {
     match turn {
         FrameTurn::Works(_, _) => Ok(is_dead),

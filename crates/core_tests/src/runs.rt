@@ -156,7 +156,8 @@ fn left<B: Body, Q: Queues>(alloc: Global, core: Core<B, Q>) -> Result<Option<Ou
     Ok(Some(taken(alloc, core)?))
 }
 
-/// What a run leaves, if its turns came to what was said. Else it is given up, and Err is what they came to.
+/// What a run leaves, if its turns came to what was said, and None where its root hasn't ended. Else it is given up. Err is what the turns came
+/// to, or want of memory to take the outcome.
 fn left_if<B: Body, Q: Queues>(
     alloc: Global,
     core: Core<B, Q>,

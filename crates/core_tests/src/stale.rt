@@ -171,7 +171,7 @@ fn take_from<B: Body, Q: Queues>(
     take_all(alloc, core, body, &mut own, stale, turns)
 }
 
-/// The turns of an opened run, to whose core these stale frames come, come to what is said.
+/// The turns of an opened run, to whose core these stale frames come, come to what is said. Err is what they came to.
 fn come_beside<B: Body, Q: Queues>(
     alloc: Global,
     opened: Opened<B, Q>,

@@ -215,7 +215,8 @@ fn came_to(came: FrameTurn, turn: FrameTurn, index: usize) -> Result<(), Fail> {
     Ok(())
 }
 
-/// Takes the turn of the first frame of a number, with this budget. It is None where there is no such frame. Err is want of memory.
+/// Takes the turn of the first frame of a number, with this budget. It is None where there is no such frame. Err is want of memory to keep the
+/// frames that come of it.
 fn take_turn_of<B: Body, Q: Queues>(
     alloc: Global,
     core: &mut Core<B, Q>,
@@ -236,7 +237,8 @@ fn take_turn_of<B: Body, Q: Queues>(
     }
 }
 
-/// Takes this turn, which is the one of this index, of the first frame of its number. Err names it where it comes to something else.
+/// Takes this turn, which is the one of this index, of the first frame of its number. Err names it where there is no such frame or it comes to
+/// something else, or is want of memory to keep the frames that come of it.
 fn take_one<B: Body, Q: Queues>(
     alloc: Global,
     core: &mut Core<B, Q>,
