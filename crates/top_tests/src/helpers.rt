@@ -308,9 +308,11 @@ pub fn cut_at_space(text: &str) -> Result<(&str, &str), Fail> {
     Ok(text.split_once(' ').ok_or("no space")?)
 }
 
-/// A command and its words.
-fn words_after(alloc: Global, command: &str, words: &str) -> Result<String, AllocError> {
-    format!(in alloc; "{command} {words}")
+/// The words of a row behind its command, and what stands after them.
+fn row_words<'a>(alloc: Global, command: &str, row: &'a str) -> Result<(String, &'a str), Fail> {
+    let (words, wanted) = cut(row)?;
+    let words = format!(in alloc; "{command} {words}")?;
+    Ok((words, wanted))
 }
 
 /// Asserts that a text is this one, which has ~ for each line feed.
@@ -363,30 +365,11 @@ pub fn hold_row(
     command: &str,
     row: &str,
 ) -> Result<(), Fail> {
-    match cut(row) {
-        Ok((words, wanted)) => hold_after(rt, alloc, over, command, words, row, wanted),
+    match row_words(alloc, command, row) {
+        Ok((words, wanted)) => hold_words(rt, alloc, over, words.as_str(), row, wanted),
         Err(fail) => {
             drop(over);
             Err(fail)
-        }
-    }
-}
-
-/// The same of a row with these words, whose other parts are these.
-fn hold_after(
-    rt: &impl Machine,
-    alloc: Global,
-    over: Over,
-    command: &str,
-    words: &str,
-    row: &str,
-    wanted: &str,
-) -> Result<(), Fail> {
-    match words_after(alloc, command, words) {
-        Ok(words) => hold_words(rt, alloc, over, words.as_str(), row, wanted),
-        Err(error) => {
-            drop(over);
-            Err(error.into())
         }
     }
 }

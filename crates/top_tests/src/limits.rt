@@ -34,11 +34,17 @@ const FAILING_READS: &str = "\
 1 --version|swan 0.1.0~||0
 1 frob||usage~|2";
 
+// A job and two inputs, where the read of this number fails.
+fn over_files(alloc: Global, read_fails: u32) -> Result<Over, NoMemory> {
+    let mut over = Over::files(files_of(alloc, "b x y", &[LEAVES, "1", "2"])?);
+    over.read_fails = u64::from(read_fails);
+    Ok(over)
+}
+
 // Asserts a row of the failing reads.
 fn hold_failing_read(rt: &impl Machine, alloc: Global, row: &str) -> Result<(), Fail> {
-    let (number, row) = number_before(row)?;
-    let mut over = Over::files(files_of(alloc, "b x y", &[LEAVES, "1", "2"])?);
-    over.read_fails = u64::from(number);
+    let (read_fails, row) = number_before(row)?;
+    let over = over_files(alloc, read_fails)?;
     hold_row(rt, alloc, over, "", row)
 }
 
