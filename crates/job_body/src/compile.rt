@@ -5,7 +5,7 @@ ghost use Rattle.job_body.specs.Blocks.{innermost};
 ghost use Rattle.job_body.specs.declared.instruction.Action.TheVariants as action;
 ghost use Rattle.job_body.specs.Tasks.{before_task, roots, top_lines, var_kinds};
 
-use crate::block::BlockWithLine;
+use crate::block::{BlockWithLine, innermost};
 use crate::exit::Exit;
 use crate::exits::exits_of;
 use crate::instruction::{Action, Demand, Instruction, IntOp, Num, Operand, Work};
@@ -200,7 +200,7 @@ fn branch_of(job: &Source, scope: &Scope, a: &Atom, otherwise: u32) -> Result<Ac
 fn end_of(scope: &Scope) -> Action
     ensures { result ≡ end_action (innermost scope.now.blocks) }
 {
-    match scope.blocks.innermost() {
+    match innermost(&scope.blocks) {
         Some(_) => Action::Work(Work::Go),
         None => Action::Demand(Demand::Finish),
     }
@@ -272,7 +272,7 @@ fn next_of(job: &Source, scope: &Scope, exit: Exit, index: u32, line: &Line) -> 
 {
     match line {
         Line::Else => job.step_from(exit.after),
-        Line::End => after_end_of(job, index, scope.blocks.innermost()),
+        Line::End => after_end_of(job, index, innermost(&scope.blocks)),
         _ => job.step_from(index + 1),
     }
 }

@@ -1,104 +1,70 @@
 // How the blocks of a job go on.
-ghost use Rattle.std.specs.Prelude.{◌≡◌, ◌<◌, ◌≤◌, ◌∷◌, [], length, IfOk, OnOk};
+ghost use Rattle.std.specs.Prelude.{◌≡◌, ◌<◌, ◌≤◌, ◌∷◌, length, IfOk, OnOk};
 ghost use Rattle.job_body.specs.Blocks.{exits_with, first_exit, with_else, without_first};
 ghost use Rattle.job_body.specs.Compiled.{exits_of};
 
 use crate::exit::Exit;
 use job_reader::Line;
 use std::alloc::Global;
-use std::marker::Model;
-use swan_model::{GIVES_MOST, NoMemory};
+use swan_model::{GIVES_MOST, NoMemory, Stack};
 
-/// How the blocks go on that are open before some lines and are closed by them. Contracts see it as a
-/// list, the block that is closed first standing first.
-#[derive(Drop)]
-struct Open {
-    from_outside: Vec<Exit>,
+/// How the block goes on that is closed first, of those that are open before some lines and are closed by them; past all lines
+/// where there is none. In such a stack the block that is closed first is the top one.
+fn first(exits: &Stack<Exit>, end: u32) -> Exit
+    ensures { result ≡ first_exit end exits.now }
+{
+    match exits.top() {
+        Some(exit) => *exit,
+        None => Exit {
+            otherwise: end,
+            after: end,
+        },
+    }
 }
 
-impl Model for Open {
-    ghost use Rattle.std.specs.Prelude.{List, reverse};
-    ghost use Rattle.job_body.specs.declared.exit.Exit.{Exit};
-
-    ghost Value = { List Exit };
-
-    ghost view = { λ it. reverse it.from_outside.items };
-}
-
-impl Open {
-    fn new(alloc: Global) -> Open
-        ensures { result ≡ [] }
-    {
-        Open {
-            from_outside: Vec::new(alloc),
-        }
-    }
-
-    /// How the block goes on that is closed first; past all lines where there is none.
-    fn first(&self, end: u32) -> Exit
-        ensures { result ≡ first_exit end self.now }
-    {
-        match self.from_outside.last() {
-            Some(exit) => *exit,
-            None => Exit {
-                otherwise: end,
-                after: end,
-            },
-        }
-    }
-
-    /// Sets where the block goes on that is closed first.
-    fn set_otherwise(&mut self, index: u32) -> Result<(), NoMemory>
-        ensures { OnOk result (self.new ≡ with_else index self.old) }
-    {
-        if let Some(exit) = self.from_outside.pop() {
-            self.from_outside.push(Exit {
-                otherwise: index,
-                after: exit.after,
-            })?;
-        }
-        Ok(())
-    }
-
-    /// Leaves out the block that is closed first.
-    fn leave(&mut self)
-        ensures { self.new ≡ without_first self.old }
-    {
-        let _exit = self.from_outside.pop();
-    }
-
-    /// Leaves out all blocks.
-    fn clear(&mut self)
-        ensures { self.new ≡ [] }
-    {
-        self.from_outside.clear();
-    }
-
-    /// Adds the block that ends before this line.
-    fn add(&mut self, index: u32) -> Result<(), NoMemory>
-        ensures { OnOk result (self.new ≡ record { otherwise = index; after = index } ∷ self.old) }
-    {
-        self.from_outside.push(Exit {
+/// Sets where the block goes on that is closed first.
+fn set_otherwise(exits: &mut Stack<Exit>, index: u32) -> Result<(), NoMemory>
+    ensures { OnOk result (exits.new ≡ with_else index exits.old) }
+{
+    if let Some(exit) = exits.pop() {
+        exits.push(Exit {
             otherwise: index,
-            after: index,
+            after: exit.after,
         })?;
-        Ok(())
     }
+    Ok(())
+}
 
-    /// The same once the line with this index stands before the lines.
-    fn enter(&mut self, index: u32, line: &Line) -> Result<(), NoMemory>
-        requires { index < u32.MAX }
-        ensures { OnOk result (self.new ≡ exits_with index line.now self.old) }
-    {
-        match line {
-            Line::Task(_) => self.clear(),
-            Line::If(_) | Line::While(_) => self.leave(),
-            Line::Else => self.set_otherwise(index + 1)?,
-            Line::End => self.add(index + 1)?,
-            _ => {}
-        }
-        Ok(())
+/// Leaves out the block that is closed first.
+fn leave(exits: &mut Stack<Exit>)
+    ensures { exits.new ≡ without_first exits.old }
+{
+    let _exit = exits.pop();
+}
+
+/// Adds the block that ends before this line.
+fn add(exits: &mut Stack<Exit>, index: u32) -> Result<(), NoMemory>
+    ensures { OnOk result (exits.new ≡ record { otherwise = index; after = index } ∷ exits.old) }
+{
+    exits.push(Exit {
+        otherwise: index,
+        after: index,
+    })
+}
+
+/// How the blocks go on once the line with this index stands before the lines.
+fn enter(exits: &mut Stack<Exit>, index: u32, line: &Line) -> Result<(), NoMemory>
+    requires { index < u32.MAX }
+    ensures { OnOk result (exits.new ≡ exits_with index line.now exits.old) }
+{
+    match line {
+        Line::Task(_) => exits.clear(),
+        Line::If(_) | Line::While(_) => leave(exits),
+        Line::Else => set_otherwise(exits, index + 1)?,
+        Line::End => add(exits, index + 1)?,
+        _ => {}
     }
+    Ok(())
 }
 
 /// For each line, how the block goes on that the lines from it on close first: so for `if` and `while` the one that the
@@ -107,14 +73,14 @@ pub fn exits_of(alloc: Global, lines: &[Line]) -> Result<Vec<Exit>, NoMemory>
     requires few { length lines.now ≤ GIVES_MOST }
     ensures { IfOk result (λ all. all.items ≡ exits_of lines.now) }
 {
-    let mut open = Open::new(alloc);
+    let mut open = Stack::new(alloc);
     let mut all = Vec::new(alloc);
     let end = lines.len() as u32;
     let mut index = end;
     while index > 0 {
         index -= 1;
-        all.push(open.first(end))?;
-        open.enter(index, &lines[index as usize])?;
+        all.push(first(&open, end))?;
+        enter(&mut open, index, &lines[index as usize])?;
     }
     all.as_mut_slice().reverse();
     Ok(all)

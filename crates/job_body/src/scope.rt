@@ -2,13 +2,13 @@
 ghost use Rattle.std.specs.Prelude.{◌≡◌, ◌+◌, ◌<◌, ◌≤◌, ℕ, IfOk, IfSome};
 ghost use Rattle.job_body.specs.Names.{joined_slot};
 
-use crate::block::{BlockWithLine, BlocksWithLines};
+use crate::block::{BlockWithLine, close};
 use crate::instruction::Operand;
 use crate::name_table::{NAMES_MOST, NameTable};
 use job_reader::{Atom, Line};
 use privilege_check::is_main;
 use std::alloc::Global;
-use swan_model::{NoMemory, Word};
+use swan_model::{NoMemory, Stack, Word};
 
 /// What is known at a line of a task, by the lines before it.
 #[derive(Drop)]
@@ -26,7 +26,7 @@ pub struct Scope {
     /// The names of the queues and objects that it makes.
     pub made: NameTable,
     /// The open blocks.
-    pub blocks: BlocksWithLines,
+    pub blocks: Stack<BlockWithLine>,
 }
 
 // The place in two lists of names, one after the other, by the place in each and the number of names in
@@ -60,7 +60,7 @@ impl Scope {
             vars: NameTable::new(alloc),
             accesses: NameTable::new(alloc),
             made: NameTable::new(alloc),
-            blocks: BlocksWithLines::new(alloc),
+            blocks: Stack::new(alloc),
         }
     }
 
@@ -73,7 +73,7 @@ impl Scope {
         self.vars = NameTable::new(alloc);
         self.accesses = NameTable::new(alloc);
         self.made = NameTable::new(alloc);
-        self.blocks = BlocksWithLines::new(alloc);
+        self.blocks = Stack::new(alloc);
     }
 
     /// Goes on past a line with this index. An Err is want of memory, and what is known then tells nothing. `O(log names)`.
@@ -88,9 +88,9 @@ impl Scope {
             Line::Var(name, _) => self.vars.add(alloc, name)?,
             Line::Access(_, name, _) => self.accesses.add(alloc, name)?,
             Line::Queue(name, _) | Line::Object(name, _) => self.made.add(alloc, name)?,
-            Line::If(_) => self.blocks.open(BlockWithLine::If)?,
-            Line::While(_) => self.blocks.open(BlockWithLine::While(index))?,
-            Line::End => self.blocks.close(),
+            Line::If(_) => self.blocks.push(BlockWithLine::If)?,
+            Line::While(_) => self.blocks.push(BlockWithLine::While(index))?,
+            Line::End => close(&mut self.blocks),
             _ => {}
         }
         Ok(())

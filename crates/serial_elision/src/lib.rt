@@ -58,7 +58,6 @@ mod room_laws;
 mod roots;
 mod script_laws;
 mod spawn;
-mod stack;
 mod state;
 mod store;
 mod task_laws;
@@ -82,7 +81,6 @@ pub use script_laws::{
     nothing_comes_before_a_ripe_item, points_stand_in_serial_order, scripts_are_lawful,
     scripts_are_nested, times_of_a_task_rise,
 };
-use stack::Stack;
 use state::State;
 use store::Store;
 pub use task_laws::{

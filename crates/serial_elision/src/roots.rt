@@ -4,12 +4,12 @@ ghost use Rattle.swan_model.specs.Elision.{queue_holdings, first_queues, object_
 ghost use Rattle.swan_model.specs.declared.body.Answer.TheVariants as answer;
 ghost use Rattle.swan_model.specs.declared.plan.TheConstants.{ROOTS_MOST, FUEL_MOST};
 
-use crate::{Activation, Cell, Holding, Queue, Stack, State, Store};
+use crate::{Activation, Cell, Holding, Queue, State, Store};
 use std::alloc::Global;
 use std::collections::VecDeque;
 use swan_model::{
-    Answer, Faults, Mode, NoMemory, Origin, Path, PlanFuel, RootQueue, RootQueues, Roots, Value,
-    Values,
+    Answer, Faults, Mode, NoMemory, Origin, Path, PlanFuel, RootQueue, RootQueues, Roots, Stack,
+    Value, Values,
 };
 
 /// The state before the first step of the plan of these parts. `O(roots)`.

@@ -7,11 +7,11 @@ ghost use Rattle.serial_elision.specs.Effects.{as_ask, IsEffect, after_effect};
 ghost use Rattle.serial_elision.specs.Working.{after_steps};
 
 use crate::spawn::spawn;
-use crate::{Activation, Effect, OwnAsk, Reply, Stack, Store};
+use crate::{Activation, Effect, OwnAsk, Reply, Store};
 use std::alloc::Global;
 use std::marker::Model;
 use swan_model::{
-    Answer, Ask, Body, FUEL_MOST, Fault, FaultKind, Faults, NoMemory, Path, Stop, Worked,
+    Answer, Ask, Body, FUEL_MOST, Fault, FaultKind, Faults, NoMemory, Path, Stack, Stop, Worked,
 };
 
 /// The serial state. Contracts see it as the state of the definitions.
@@ -20,7 +20,7 @@ pub struct State<L> {
     /// How many steps were taken.
     pub steps: u64,
     /// The activations that haven't ended.
-    pub stack: Stack<L>,
+    pub stack: Stack<Activation<L>>,
     /// The objects and queues.
     pub store: Store,
     /// The faults so far.

@@ -30,6 +30,7 @@ mod record;
 mod rights;
 mod run_name;
 mod script;
+mod stack;
 mod text;
 mod value;
 
@@ -50,5 +51,6 @@ pub use record::{RECORD_MOST, Record, RecordAnswer};
 pub use rights::{GIVES_MOST, Give, Gives, Mode};
 pub use run_name::RunName;
 pub use script::{Deed, Entries, Entry, OriginGive, OriginGives, Script};
+pub use stack::Stack;
 pub use text::{Blob, Word, Words};
 pub use value::{Kind, Value, ValueLists, Values};
