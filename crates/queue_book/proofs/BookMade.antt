@@ -69,35 +69,35 @@ module _ (name : Option Script) (state after : QueueState) (frames : LiveFrames)
       lent = lent;
       own_chunks = λ q. ap is_some (at_own_chunk q) ∙ own_chunks_made kept frame (length state.makers) (record { key = key; is_maker = true; pushes = true }) agrees.own_chunks q
           ∙ sym (ap (λ rs. has_queue (record later { rights = rs }) q) rights);
-      made = λ q pl m at made is_maker. elim (cases_eq q (length state.makers)) [
+      made = λ q chunk m at made is_maker. elim (cases_eq q (length state.makers)) [
         | inl here ↦ path ∙ own_maker ∙ ap maker_path (sym (new_maker m (ap (λ k. slice_get after.makers k) (sym here) ∙ made)))
         | inr other ↦
             let old = sym (own_chunk_elsewhere kept (length state.makers) (record { key = key; is_maker = true; pushes = true }) q other) ∙ sym (at_own_chunk q) ∙ at in
-            let less = (is.plain.tree.held n q frame live (own_chunk_has state kept frame q pl agrees old)).0 in
-            path ∙ agrees.made q pl m old (old_maker q m less made) is_maker
+            let less = (is.plain.tree.held n q frame live (own_chunk_has state kept frame q chunk agrees old)).0 in
+            path ∙ agrees.made q chunk m old (old_maker q m less made) is_maker
       ];
-      given = λ q pl m at made not_maker. elim (cases_eq q (length state.makers)) [
+      given = λ q chunk m at made not_maker. elim (cases_eq q (length state.makers)) [
         | inl here ↦
             let its : own_chunk_in now_kept.own_chunks q ≡ Some (record { key = key; is_maker = true; pushes = true }) =
             ap (λ k. own_chunk_in now_kept.own_chunks k) here ∙ at_own_chunk (length state.makers) ∙ own_chunk_here kept (length state.makers) (record { key = key; is_maker = true; pushes = true }) in
-            let same : pl ≡ record { key = key; is_maker = true; pushes = true } = one_answer (own_chunk_in now_kept.own_chunks q) pl (record { key = key; is_maker = true; pushes = true }) at its in
+            let same : chunk ≡ record { key = key; is_maker = true; pushes = true } = one_answer (own_chunk_in now_kept.own_chunks q) chunk (record { key = key; is_maker = true; pushes = true }) at its in
             let never : true ≡ false = ap (λ (p : OwnChunk). p.is_maker) (sym same) ∙ not_maker in
             absurd (cc)
         | inr other ↦
             let old = sym (own_chunk_elsewhere kept (length state.makers) (record { key = key; is_maker = true; pushes = true }) q other) ∙ sym (at_own_chunk q) ∙ at in
-            let less = (is.plain.tree.held n q frame live (own_chunk_has state kept frame q pl agrees old)).0 in
-            λ is_own. agrees.given q pl m old (old_maker q m less made) not_maker (sym path ∙ is_own)
+            let less = (is.plain.tree.held n q frame live (own_chunk_has state kept frame q chunk agrees old)).0 in
+            λ is_own. agrees.given q chunk m old (old_maker q m less made) not_maker (sym path ∙ is_own)
       ];
-      pushers = λ q pl at. elim (cases_eq q (length state.makers)) [
+      pushers = λ q chunk at. elim (cases_eq q (length state.makers)) [
         | inl here ↦
             let its : own_chunk_in now_kept.own_chunks q ≡ Some own_chunk_now =
             ap (λ k. own_chunk_in now_kept.own_chunks k) here ∙ at_own_chunk (length state.makers) ∙ own_chunk_here kept (length state.makers) own_chunk_now in
-            let same : pl ≡ own_chunk_now = one_answer (own_chunk_in now_kept.own_chunks q) pl own_chunk_now at its in
+            let same : chunk ≡ own_chunk_now = one_answer (own_chunk_in now_kept.own_chunks q) chunk own_chunk_now at its in
             ap (λ (p : OwnChunk). p.pushes) same ∙ sym (later_holds q Push ∙ ap (λ k. holds_queue (with_made (length state.makers) frame) k Push) here ∙ pushes_made frame (length state.makers))
         | inr other ↦
             let old = sym (own_chunk_elsewhere kept (length state.makers) own_chunk_now q other) ∙ sym (at_own_chunk q) ∙ at in
-            let less = (is.plain.tree.held n q frame live (own_chunk_has state kept frame q pl agrees old)).0 in
-            agrees.pushers q pl old ∙ sym (later_holds q Push ∙ holds_before frame (length state.makers) q Push less)
+            let less = (is.plain.tree.held n q frame live (own_chunk_has state kept frame q chunk agrees old)).0 in
+            agrees.pushers q chunk old ∙ sym (later_holds q Push ∙ holds_before frame (length state.makers) q Push less)
       ];
     }
 
@@ -127,8 +127,8 @@ one_then a b c n kept change first second = record {
 
 module _ (name : Option Script) (state : QueueState) (frames : LiveFrames) (heads : List (Option ℕ)) (nodes : Slab Link) (turns : Frames) (is : IsBook name state frames heads nodes turns) where
   -- no frame has a chunk of a queue that isn't made
-  unplaced : (n q : ℕ) → q ≡ length heads → key_at frames n q ≡ None
-  unplaced n q new = key_none state frames is.live n q (λ frame live has. let less = (is.plain.tree.held n q frame live has).0 in absurd (omega (arith, is.count, new, less)))
+  chunkless : (n q : ℕ) → q ≡ length heads → key_at frames n q ≡ None
+  chunkless n q new = key_none state frames is.live n q (λ frame live has. let less = (is.plain.tree.held n q frame live has).0 in absurd (omega (arith, is.count, new, less)))
 
   pub book_create_root : (untouched : IsUntouched state) (first : List Value) → ((s : Script) → name ≡ Some s → slice_get s.queues (length state.makers) ≡ Some first)
       → (q : ℕ) → q ≡ length heads → (after_frames : LiveFrames) (after_heads : List (Option ℕ)) (after_nodes : Slab Link)
@@ -150,7 +150,7 @@ module _ (name : Option Script) (state : QueueState) (frames : LiveFrames) (head
       after_frames made.key kept (with_own_chunk i own_chunk kept) was.1 was.2 one was.2.deeds was.2.lent refl
       first after_heads after_nodes more (plain_create_root name state is.lines is.plain untouched first next)
       (keys_put frames after_frames 0 i own_chunk kept was.1 one)
-      (subst R at (made.chained is.lines is.chained (unplaced 0 q new)))
+      (subst R at (made.chained is.lines is.chained (chunkless 0 q new)))
 
   module _ (n : ℕ) (act : MayDo state n) (q : ℕ) (new : q ≡ length heads) (mid_frames : LiveFrames) (after_heads : List (Option ℕ)) (after_nodes : Slab Link)
       (made : IsMadeIn frames mid_frames n q [] heads nodes after_heads after_nodes) where
@@ -195,4 +195,4 @@ module _ (name : Option Script) (state : QueueState) (frames : LiveFrames) (head
         [] after_heads after_nodes more (plain_create name state is.lines is.plain n act next)
         (λ m p. keys_same mid_frames after_frames n (with_own_chunk i own_chunk kept) now_kept mid.changed (record { changed = one.changed; others = counted_one.others }) refl m p
         ∙ keys_put frames mid_frames n i own_chunk kept was.1 mid m p)
-        (subst R at (made.chained is.lines is.chained (unplaced n q new)))
+        (subst R at (made.chained is.lines is.chained (chunkless n q new)))

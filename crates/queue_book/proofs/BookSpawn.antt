@@ -22,7 +22,7 @@ use Rattle.queues.proofs.Above.{under_maker}
 use Rattle.queues.proofs.ActiveAfter.{one_child_more}
 use Rattle.queue_book.proofs.BookDeeds.{counted, lent_none, not_lent}
 use Rattle.queue_book.proofs.ChainChanges.{chained_same}
-use Rattle.queue_book.proofs.ChainEnds.{other_placed, own_placed}
+use Rattle.queue_book.proofs.ChainEnds.{own_keys_elsewhere, own_keys_here}
 use Rattle.queues.proofs.Gives.{gives_had}
 use Rattle.queue_book.proofs.LiveKept.{agrees_on, kept_live, key_none}
 use Rattle.queues.proofs.Match.{not_active}
@@ -156,14 +156,14 @@ module _ (name : Option Script) (state : QueueState) (frames : LiveFrames) (head
     keys_now m q = by (cases_eq m child) (cases_eq m p) where
       by : (m ≡ child) ⊎ (m ≢ child) → (m ≡ p) ⊎ (m ≢ p) → key_at after_frames m q ≡ own_keys child done.own_chunks (key_at done.middle) m q
       by (inl is_child) c =
-          ap (λ k. key_at after_frames k q) is_child ∙ ap (λ o. key_in o q) kept_child ∙ sym (own_placed child done.own_chunks (key_at done.middle) q)
+          ap (λ k. key_at after_frames k q) is_child ∙ ap (λ o. key_in o q) kept_child ∙ sym (own_keys_here child done.own_chunks (key_at done.middle) q)
           ∙ sym (ap (λ k. own_keys child done.own_chunks (key_at done.middle) k q) is_child)
       by (inr apart) (inl is_parent) =
           let was = kept_live state frames is.live p may.act.frame may.act.may.live in
           let now = kept_parent was.0 was.1 in
           ap (λ k. key_at after_frames k q) is_parent ∙ ap (λ o. key_in o q) now.2 ∙ sym (ap (λ o. key_in o q) now.1) ∙ sym (ap (λ k. key_at done.middle k q) is_parent)
-          ∙ sym (other_placed child done.own_chunks (key_at done.middle) m q apart)
-      by (inr apart) (inr other) = ap (λ o. key_in o q) (kept_other m other apart) ∙ sym (other_placed child done.own_chunks (key_at done.middle) m q apart)
+          ∙ sym (own_keys_elsewhere child done.own_chunks (key_at done.middle) m q apart)
+      by (inr apart) (inr other) = ap (λ o. key_in o q) (kept_other m other apart) ∙ sym (own_keys_elsewhere child done.own_chunks (key_at done.middle) m q apart)
 
     chained_now : AreChained (key_at after_frames) heads then_nodes (lines_after_gives p child gives is.lines)
     chained_now =

@@ -57,11 +57,11 @@ left_line number left all chunks = by left where
 abbrev pub left_lines : ℕ → (left all : OwnChunks) → (ℕ → Chunks) → ℕ → Chunks
 left_lines number left all lines queue = left_line number (own_chunk_in left queue) (own_chunk_in all queue) (lines queue)
 
-pub own_placed : (number : ℕ) (own_chunks : OwnChunks) (at : ℕ → ℕ → Option ℕ) (q : ℕ) → own_keys number own_chunks at number q ≡ option_map (λ (own_chunk : OwnChunk). own_chunk.key) (own_chunk_in own_chunks q)
-own_placed number own_chunks at q = ap (λ b. if b then option_map (λ (own_chunk : OwnChunk). own_chunk.key) (own_chunk_in own_chunks q) else at number q) (eq-eqb number number refl)
+pub own_keys_here : (number : ℕ) (own_chunks : OwnChunks) (at : ℕ → ℕ → Option ℕ) (q : ℕ) → own_keys number own_chunks at number q ≡ option_map (λ (own_chunk : OwnChunk). own_chunk.key) (own_chunk_in own_chunks q)
+own_keys_here number own_chunks at q = ap (λ b. if b then option_map (λ (own_chunk : OwnChunk). own_chunk.key) (own_chunk_in own_chunks q) else at number q) (eq-eqb number number refl)
 
-pub other_placed : (number : ℕ) (own_chunks : OwnChunks) (at : ℕ → ℕ → Option ℕ) (other q : ℕ) → other ≢ number → own_keys number own_chunks at other q ≡ at other q
-other_placed number own_chunks at other q apart =
+pub own_keys_elsewhere : (number : ℕ) (own_chunks : OwnChunks) (at : ℕ → ℕ → Option ℕ) (other q : ℕ) → other ≢ number → own_keys number own_chunks at other q ≡ at other q
+own_keys_elsewhere number own_chunks at other q apart =
     let test : (other == number) ≡ false = search rules in
     ap (λ b. if b then option_map (λ (own_chunk : OwnChunk). own_chunk.key) (own_chunk_in own_chunks q) else at other q) test
 
@@ -69,23 +69,23 @@ module _ (number queue : ℕ) (own_chunk : OwnChunk) (all own_chunks after : Own
     (here : own_chunk_in own_chunks queue ≡ Some own_chunk) (first : own_chunk_in all queue ≡ Some own_chunk) (gone : own_chunk_in after queue ≡ None)
     (others : (q : ℕ) → q ≢ queue → own_chunk_in after q ≡ own_chunk_in own_chunks q) where
   pub own_key : own_keys number own_chunks at number queue ≡ Some own_chunk.key
-  own_key = own_placed number own_chunks at queue ∙ ap (option_map (λ (p : OwnChunk). p.key)) here
+  own_key = own_keys_here number own_chunks at queue ∙ ap (option_map (λ (p : OwnChunk). p.key)) here
 
   pub alone_still : IsAlone number all at → IsAloneIn queue number own_chunk (own_keys number own_chunks at)
-  alone_still alone made top other apart = other_placed number own_chunks at other queue apart ∙ alone queue own_chunk first made top other apart
+  alone_still alone made top other apart = own_keys_elsewhere number own_chunks at other queue apart ∙ alone queue own_chunk first made top other apart
 
   keys : (m q : ℕ) → own_keys number after at m q ≡ put_at number queue None (own_keys number own_chunks at) m q
   keys m q = by (cases_eq m number) (cases_eq q queue) where
     by : (m ≡ number) ⊎ (m ≢ number) → (q ≡ queue) ⊎ (q ≢ queue) → own_keys number after at m q ≡ put_at number queue None (own_keys number own_chunks at) m q
     by (inl own) (inl same) =
-        ap (λ k. own_keys number after at k q) own ∙ ap (λ k. own_keys number after at number k) same ∙ own_placed number after at queue ∙ ap (option_map (λ (p : OwnChunk). p.key)) gone
+        ap (λ k. own_keys number after at k q) own ∙ ap (λ k. own_keys number after at number k) same ∙ own_keys_here number after at queue ∙ ap (option_map (λ (p : OwnChunk). p.key)) gone
         ∙ sym (put_same number queue None (own_keys number own_chunks at)) ∙ sym (ap (λ k. put_at number queue None (own_keys number own_chunks at) k queue) own)
         ∙ sym (ap (λ k. put_at number queue None (own_keys number own_chunks at) m k) same)
     by (inl own) (inr apart) =
-        ap (λ k. own_keys number after at k q) own ∙ own_placed number after at q ∙ ap (option_map (λ (p : OwnChunk). p.key)) (others q apart)
-        ∙ sym (own_placed number own_chunks at q) ∙ sym (ap (λ k. own_keys number own_chunks at k q) own) ∙ sym (put_other number queue None (own_keys number own_chunks at) m q (λ e same. apart same))
+        ap (λ k. own_keys number after at k q) own ∙ own_keys_here number after at q ∙ ap (option_map (λ (p : OwnChunk). p.key)) (others q apart)
+        ∙ sym (own_keys_here number own_chunks at q) ∙ sym (ap (λ k. own_keys number own_chunks at k q) own) ∙ sym (put_other number queue None (own_keys number own_chunks at) m q (λ e same. apart same))
     by (inr other) c =
-        other_placed number after at m q other ∙ sym (other_placed number own_chunks at m q other) ∙ sym (put_other number queue None (own_keys number own_chunks at) m q (λ e same. other e))
+        own_keys_elsewhere number after at m q other ∙ sym (own_keys_elsewhere number own_chunks at m q other) ∙ sym (put_other number queue None (own_keys number own_chunks at) m q (λ e same. other e))
 
   -- what is left after one more
   lines_now : (q : ℕ) → left_lines number after all lines q ≡ in_line queue (line_after_end number (Some own_chunk)) (left_lines number own_chunks all lines) q

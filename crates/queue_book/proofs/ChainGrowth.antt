@@ -39,7 +39,7 @@ not_among key other keys ne apart =
 module _ (at : ℕ → ℕ → Option ℕ) (heads : List (Option ℕ)) (nodes : Slab Link) (lines : ℕ → Chunks) (is : AreChained at heads nodes lines)
     (after : Slab Link) (key owner : ℕ) (items : List Value) (vacant : get nodes key ≡ None)
     (updates : Updates nodes after key (Some (record { queue = length heads; owner = Some owner; items = items; next = None })))
-    (unplaced : at owner (length heads) ≡ None) where
+    (chunkless : at owner (length heads) ≡ None) where
   abbrev made : Link
   made = record { queue = length heads; owner = Some owner; items = items; next = None }
 
@@ -96,7 +96,7 @@ module _ (at : ℕ → ℕ → Option ℕ) (heads : List (Option ℕ)) (nodes : 
           | inr apart ↦
               let was = is.placed k n l (sym (updates.others k apart) ∙ at_k) is_owner in
               put_other owner (length heads) (Some key) at n l.queue (λ n_is q_is.
-              let never : None ≡ Some k = sym unplaced ∙ ap (λ b. at owner b) (sym q_is) ∙ ap (λ a. at a l.queue) (sym n_is) ∙ was in
+              let never : None ≡ Some k = sym chunkless ∙ ap (λ b. at owner b) (sym q_is) ∙ ap (λ a. at a l.queue) (sym n_is) ∙ was in
               cc) ∙ was
         ];
   }
@@ -200,7 +200,7 @@ module _ (nodes after : Slab Link) (queue key new parent child : ℕ) (link : Li
 
 module _ (at : ℕ → ℕ → Option ℕ) (heads : List (Option ℕ)) (nodes after : Slab Link) (lines : ℕ → Chunks) (is : AreChained at heads nodes lines)
     (queue key new parent child : ℕ) (link : Link) (handed : IsHandedOn nodes after key new parent child link) (mine : at parent queue ≡ Some key)
-    (unplaced : at child queue ≡ None) (two : parent ≢ child) where
+    (chunkless : at child queue ≡ None) (two : parent ≢ child) where
   abbrev then_at : ℕ → ℕ → Option ℕ
   then_at = put_at parent queue (Some new) (put_at child queue (Some key) at)
 
@@ -292,5 +292,5 @@ module _ (at : ℕ → ℕ → Option ℕ) (heads : List (Option ℕ)) (nodes af
         let was = is.placed k n l (sym (handed.others k not_key not_new) ∙ at_k) is_owner in
         at_others n l.queue
         (λ is_parent same. not_key (one_answer (at parent queue) k key (ap (λ q. at parent q) (sym same) ∙ ap (λ a. at a l.queue) (sym is_parent) ∙ was) mine))
-        (λ is_child same. let never : None ≡ Some k = sym unplaced ∙ ap (λ q. at child q) (sym same) ∙ ap (λ a. at a l.queue) (sym is_child) ∙ was in cc)
+        (λ is_child same. let never : None ≡ Some k = sym chunkless ∙ ap (λ q. at child q) (sym same) ∙ ap (λ a. at a l.queue) (sym is_child) ∙ was in cc)
         ∙ was

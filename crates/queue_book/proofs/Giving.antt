@@ -18,7 +18,7 @@ use Rattle.queue_book.specs.Live.{kept_of, key_at, key_in, own_chunk_of, with_ow
 use Rattle.queue_book.specs.declared.live_frame.OwnChunk.{OwnChunk}
 use Rattle.queue_book.specs.declared.live_frames.LiveFrames.{LiveFrames}
 use Rattle.queue_book.proofs.ChainChanges.{chained_same, put_other, put_same}
-use Rattle.queue_book.proofs.ChainEnds.{other_placed, own_placed}
+use Rattle.queue_book.proofs.ChainEnds.{own_keys_elsewhere, own_keys_here}
 use Rattle.queue_book.proofs.ChainLoops.{line_is}
 use Rattle.queue_book.proofs.GivenPushes.{push_now, push_other}
 use Rattle.queue_book.proofs.LiveKept.{kept_changed, key_of}
@@ -90,7 +90,7 @@ module _ (before now after : LiveFrames) (parent child : ℕ) (gives : List Queu
         sym at ∙ ap (λ k. own_chunk_in then_own_chunks k) here ∙ ap (λ ps. own_chunk_in ps give.queue) handed.child_now
         ∙ at_inserted own_chunks give.queue (record { key = handed.own_chunk.key; is_maker = false; pushes = allows give.mode Push }) in
         let same : own_chunk ≡ record { key = handed.own_chunk.key; is_maker = false; pushes = allows give.mode Push } = cc in
-        ap (λ (pl : OwnChunk). pl.is_maker) same
+        ap (λ (chunk : OwnChunk). chunk.is_maker) same
     | inr other ↦
         is.fresh p own_chunk (sym (by_inserted own_chunks give.queue (record { key = handed.own_chunk.key; is_maker = false; pushes = allows give.mode Push }) p other)
         ∙ ap (λ ps. own_chunk_in ps p) (sym handed.child_now) ∙ at)
@@ -103,7 +103,7 @@ module _ (before now after : LiveFrames) (parent child : ℕ) (gives : List Queu
         sym at ∙ ap (λ k. own_chunk_in then_own_chunks k) here ∙ ap (λ ps. own_chunk_in ps give.queue) handed.child_now
         ∙ at_inserted own_chunks give.queue (record { key = handed.own_chunk.key; is_maker = false; pushes = allows give.mode Push }) in
         let same : own_chunk ≡ record { key = handed.own_chunk.key; is_maker = false; pushes = allows give.mode Push } = cc in
-        ap (λ (pl : OwnChunk). pl.pushes) same ∙ sym (ap (gives_push (gives ++ give ∷ [])) here ∙ push_now gives give fresh)
+        ap (λ (chunk : OwnChunk). chunk.pushes) same ∙ sym (ap (gives_push (gives ++ give ∷ [])) here ∙ push_now gives give fresh)
     | inr other ↦
         is.pushers p own_chunk (sym (by_inserted own_chunks give.queue (record { key = handed.own_chunk.key; is_maker = false; pushes = allows give.mode Push }) p other)
         ∙ ap (λ ps. own_chunk_in ps p) (sym handed.child_now) ∙ at) ∙ sym (push_other gives give p other)
@@ -116,10 +116,10 @@ module _ (before now after : LiveFrames) (parent child : ℕ) (gives : List Queu
       (λ r other. ap (λ b. if b then after_hand_on parent child (lines r) else lines r) (given_other gives give r other)) p)
 
   child_free : own_keys child own_chunks (key_at now) child give.queue ≡ None
-  child_free = own_placed child own_chunks (key_at now) give.queue ∙ ap (option_map (λ (pl : OwnChunk). pl.key)) (none_is (own_chunk_in own_chunks give.queue) (ap not (is.given give.queue ∙ fresh)))
+  child_free = own_keys_here child own_chunks (key_at now) give.queue ∙ ap (option_map (λ (chunk : OwnChunk). chunk.key)) (none_is (own_chunk_in own_chunks give.queue) (ap not (is.given give.queue ∙ fresh)))
 
   parent_key : own_keys child own_chunks (key_at now) parent give.queue ≡ Some handed.own_chunk.key
-  parent_key = other_placed child own_chunks (key_at now) parent give.queue two ∙ key_of now parent give.queue handed.own_chunk handed.was
+  parent_key = own_keys_elsewhere child own_chunks (key_at now) parent give.queue two ∙ key_of now parent give.queue handed.own_chunk handed.was
 
   keys_step : (m p : ℕ) → own_keys child then_own_chunks (key_at after) m p
       ≡ put_at parent give.queue (Some handed.new) (put_at child give.queue (Some handed.own_chunk.key) (own_keys child own_chunks (key_at now))) m p
@@ -140,7 +140,7 @@ module _ (before now after : LiveFrames) (parent child : ℕ) (gives : List Queu
               ∙ sym (put_same parent give.queue (Some handed.new) (put_at child give.queue (Some handed.own_chunk.key) (own_keys child own_chunks (key_at now))))
               ∙ sym (ap (λ j. put_at parent give.queue (Some handed.new) (put_at child give.queue (Some handed.own_chunk.key) (own_keys child own_chunks (key_at now))) parent j) here)
           | inr other ↦
-              put_other parent give.queue (Some handed.new) (key_at now) parent k (λ e same. other same) ∙ sym (other_placed child own_chunks (key_at now) parent k two)
+              put_other parent give.queue (Some handed.new) (key_at now) parent k (λ e same. other same) ∙ sym (own_keys_elsewhere child own_chunks (key_at now) parent k two)
               ∙ sym (put_other child give.queue (Some handed.own_chunk.key) (own_keys child own_chunks (key_at now)) parent k (λ e same. other same))
               ∙ sym (put_other parent give.queue (Some handed.new) (put_at child give.queue (Some handed.own_chunk.key) (own_keys child own_chunks (key_at now))) parent k (λ e same. other same))
         ])
@@ -149,24 +149,24 @@ module _ (before now after : LiveFrames) (parent child : ℕ) (gives : List Queu
         → own_keys child then_own_chunks (key_at after) m p
         ≡ put_at parent give.queue (Some handed.new) (put_at child give.queue (Some handed.own_chunk.key) (own_keys child own_chunks (key_at now))) m p
     by (inl is_child) ps (inl here) =
-        ap (λ k. own_keys child then_own_chunks (key_at after) k p) is_child ∙ own_placed child then_own_chunks (key_at after) p
-        ∙ ap (λ k. option_map (λ (pl : OwnChunk). pl.key) (own_chunk_in then_own_chunks k)) here ∙ ap (λ pls. option_map (λ (pl : OwnChunk). pl.key) (own_chunk_in pls give.queue)) handed.child_now
-        ∙ ap (option_map (λ (pl : OwnChunk). pl.key)) (at_inserted own_chunks give.queue (record { key = handed.own_chunk.key; is_maker = false; pushes = allows give.mode Push }))
+        ap (λ k. own_keys child then_own_chunks (key_at after) k p) is_child ∙ own_keys_here child then_own_chunks (key_at after) p
+        ∙ ap (λ k. option_map (λ (chunk : OwnChunk). chunk.key) (own_chunk_in then_own_chunks k)) here ∙ ap (λ chunks. option_map (λ (chunk : OwnChunk). chunk.key) (own_chunk_in chunks give.queue)) handed.child_now
+        ∙ ap (option_map (λ (chunk : OwnChunk). chunk.key)) (at_inserted own_chunks give.queue (record { key = handed.own_chunk.key; is_maker = false; pushes = allows give.mode Push }))
         ∙ sym (put_other parent give.queue (Some handed.new) (put_at child give.queue (Some handed.own_chunk.key) (own_keys child own_chunks (key_at now))) child give.queue (λ e same. two (sym e))
         ∙ put_same child give.queue (Some handed.own_chunk.key) (own_keys child own_chunks (key_at now)))
         ∙ sym (ap (λ k. put_at parent give.queue (Some handed.new) (put_at child give.queue (Some handed.own_chunk.key) (own_keys child own_chunks (key_at now))) k give.queue) is_child)
         ∙ sym (ap (λ k. put_at parent give.queue (Some handed.new) (put_at child give.queue (Some handed.own_chunk.key) (own_keys child own_chunks (key_at now))) m k) here)
     by (inl is_child) ps (inr other) =
-        ap (λ k. own_keys child then_own_chunks (key_at after) k p) is_child ∙ own_placed child then_own_chunks (key_at after) p
-        ∙ ap (λ pls. option_map (λ (pl : OwnChunk). pl.key) (own_chunk_in pls p)) handed.child_now
-        ∙ ap (option_map (λ (pl : OwnChunk). pl.key)) (by_inserted own_chunks give.queue (record { key = handed.own_chunk.key; is_maker = false; pushes = allows give.mode Push }) p other)
-        ∙ sym (own_placed child own_chunks (key_at now) p) ∙ sym (ap (λ k. own_keys child own_chunks (key_at now) k p) is_child)
+        ap (λ k. own_keys child then_own_chunks (key_at after) k p) is_child ∙ own_keys_here child then_own_chunks (key_at after) p
+        ∙ ap (λ chunks. option_map (λ (chunk : OwnChunk). chunk.key) (own_chunk_in chunks p)) handed.child_now
+        ∙ ap (option_map (λ (chunk : OwnChunk). chunk.key)) (by_inserted own_chunks give.queue (record { key = handed.own_chunk.key; is_maker = false; pushes = allows give.mode Push }) p other)
+        ∙ sym (own_keys_here child own_chunks (key_at now) p) ∙ sym (ap (λ k. own_keys child own_chunks (key_at now) k p) is_child)
         ∙ sym (elsewhere (λ e same. other same) (λ e same. other same))
     by (inr apart) (inl is_parent) ps =
-        other_placed child then_own_chunks (key_at after) m p apart ∙ ap (λ k. key_at after k p) is_parent ∙ parent_step p
+        own_keys_elsewhere child then_own_chunks (key_at after) m p apart ∙ ap (λ k. key_at after k p) is_parent ∙ parent_step p
         ∙ sym (ap (λ k. put_at parent give.queue (Some handed.new) (put_at child give.queue (Some handed.own_chunk.key) (own_keys child own_chunks (key_at now))) k p) is_parent)
     by (inr apart) (inr not_parent) ps =
-        other_placed child then_own_chunks (key_at after) m p apart ∙ ap (λ o. key_in o p) (handed.parent_now.others m not_parent) ∙ sym (other_placed child own_chunks (key_at now) m p apart)
+        own_keys_elsewhere child then_own_chunks (key_at after) m p apart ∙ ap (λ o. key_in o p) (handed.parent_now.others m not_parent) ∙ sym (own_keys_elsewhere child own_chunks (key_at now) m p apart)
         ∙ sym (elsewhere (λ e same. not_parent e) (λ e same. apart e))
 
   pub step_chained : (lines : ℕ → Chunks) → AreChained (key_at before) heads nodes lines → ((p : ℕ) → key_at before child p ≡ None)

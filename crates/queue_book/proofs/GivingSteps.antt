@@ -18,7 +18,7 @@ use Rattle.queue_book.specs.Spawned.{MayHandOn}
 use Rattle.queue_book.specs.declared.live_frame.OwnChunk.{OwnChunk}
 use Rattle.queue_book.specs.declared.live_frames.LiveFrames.{LiveFrames}
 use Rattle.queue_book.proofs.ChainChanges.{chained_same}
-use Rattle.queue_book.proofs.ChainEnds.{other_placed, own_placed}
+use Rattle.queue_book.proofs.ChainEnds.{own_keys_elsewhere, own_keys_here}
 use Rattle.queue_book.proofs.LiveKept.{key_of}
 use Rattle.swan_model.proofs.Elements.{some_of}
 use Rattle.queue_book.proofs.Giving.{step_chained, step_fresh, step_given, step_moved, step_others, step_pushers}
@@ -39,8 +39,8 @@ given_none before parent child all heads nodes turns may = record {
 } where
   keys : ((q : ℕ) → key_at before child q ≡ None) → (m q : ℕ) → own_keys child [] (key_at before) m q ≡ key_at before m q
   keys free m q = elim (cases_eq m child) [
-    | inl same ↦ ap (λ k. own_keys child [] (key_at before) k q) same ∙ own_placed child [] (key_at before) q ∙ sym (free q) ∙ sym (ap (λ k. key_at before k q) same)
-    | inr apart ↦ other_placed child [] (key_at before) m q apart
+    | inl same ↦ ap (λ k. own_keys child [] (key_at before) k q) same ∙ own_keys_here child [] (key_at before) q ∙ sym (free q) ∙ sym (ap (λ k. key_at before k q) same)
+    | inr apart ↦ own_keys_elsewhere child [] (key_at before) m q apart
   ]
 
 module _ (before now : LiveFrames) (parent child : ℕ) (all : List QueueRight) (i : ℕ) (give : QueueRight) (own_chunks : OwnChunks) (heads : List (Option ℕ)) (nodes now_nodes : Slab Link)
@@ -64,7 +64,7 @@ module _ (before now : LiveFrames) (parent child : ℕ) (all : List QueueRight) 
       → (own_chunk : OwnChunk) → own_chunk_at now parent give.queue ≡ Some own_chunk → ContainsKey now_nodes own_chunk.key
   stands_now lines chained free own_chunk found =
       let key : own_keys child own_chunks (key_at now) parent give.queue ≡ Some own_chunk.key =
-      other_placed child own_chunks (key_at now) parent give.queue two ∙ key_of now parent give.queue own_chunk found in
+      own_keys_elsewhere child own_chunks (key_at now) parent give.queue two ∙ key_of now parent give.queue own_chunk found in
       let node = (is.chained lines chained free).owned parent give.queue own_chunk.key key in
       subst IsSome (sym node.1) refl
 

@@ -26,16 +26,16 @@ own_chunk_elsewhere kept queue own_chunk q other = by_inserted kept.own_chunks q
 pub keys_put : (frames after : LiveFrames) (n queue : ℕ) (own_chunk : OwnChunk) (kept : KeptFrame) → kept_of frames n ≡ Some kept → IsOnlyChange (kept_of frames) (kept_of after) n (Some (with_own_chunk queue own_chunk kept))
     → (m q : ℕ) → key_at after m q ≡ put_at n queue (Some own_chunk.key) (key_at frames) m q
 keys_put frames after n queue own_chunk kept was one m q = by (cases_eq m n) (cases_eq q queue) where
-  own : (p : ℕ) → key_at after n p ≡ option_map (λ (pl : OwnChunk). pl.key) (own_chunk_in (with_own_chunk queue own_chunk kept).own_chunks p)
+  own : (p : ℕ) → key_at after n p ≡ option_map (λ (chunk : OwnChunk). chunk.key) (own_chunk_in (with_own_chunk queue own_chunk kept).own_chunks p)
   own p = ap (λ o. key_in o p) one.changed
 
   by : (m ≡ n) ⊎ (m ≢ n) → (q ≡ queue) ⊎ (q ≢ queue) → key_at after m q ≡ put_at n queue (Some own_chunk.key) (key_at frames) m q
   by (inl same) (inl here) =
-      ap (λ k. key_at after k q) same ∙ own q ∙ ap (λ p. option_map (λ (pl : OwnChunk). pl.key) (own_chunk_in (with_own_chunk queue own_chunk kept).own_chunks p)) here
-      ∙ ap (option_map (λ (pl : OwnChunk). pl.key)) (own_chunk_here kept queue own_chunk) ∙ sym (put_same n queue (Some own_chunk.key) (key_at frames))
+      ap (λ k. key_at after k q) same ∙ own q ∙ ap (λ p. option_map (λ (chunk : OwnChunk). chunk.key) (own_chunk_in (with_own_chunk queue own_chunk kept).own_chunks p)) here
+      ∙ ap (option_map (λ (chunk : OwnChunk). chunk.key)) (own_chunk_here kept queue own_chunk) ∙ sym (put_same n queue (Some own_chunk.key) (key_at frames))
       ∙ sym (ap (λ k. put_at n queue (Some own_chunk.key) (key_at frames) k queue) same) ∙ sym (ap (λ p. put_at n queue (Some own_chunk.key) (key_at frames) m p) here)
   by (inl same) (inr other) =
-      ap (λ k. key_at after k q) same ∙ own q ∙ ap (option_map (λ (pl : OwnChunk). pl.key)) (own_chunk_elsewhere kept queue own_chunk q other)
+      ap (λ k. key_at after k q) same ∙ own q ∙ ap (option_map (λ (chunk : OwnChunk). chunk.key)) (own_chunk_elsewhere kept queue own_chunk q other)
       ∙ sym (ap (λ o. key_in o q) was) ∙ sym (ap (λ k. key_at frames k q) same) ∙ sym (put_other n queue (Some own_chunk.key) (key_at frames) m q (λ e here. other here))
   by (inr apart) c = ap (λ o. key_in o q) (one.others m apart) ∙ sym (put_other n queue (Some own_chunk.key) (key_at frames) m q (λ e here. apart e))
 

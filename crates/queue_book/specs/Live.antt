@@ -24,7 +24,7 @@ abbrev pub own_chunk_of : Option KeptFrame → ℕ → Option OwnChunk
 own_chunk_of None queue = None
 own_chunk_of (Some kept) queue = own_chunk_in kept.own_chunks queue
 
--- where a frame's own chunk of a queue stands
+-- a frame's own chunk of a queue
 abbrev pub own_chunk_at : LiveFrames → ℕ → ℕ → Option OwnChunk
 own_chunk_at frames number queue = own_chunk_of (kept_of frames number) queue
 

@@ -43,7 +43,7 @@ impl Chains {
         }
     }
 
-    /// Makes a queue of one chunk, and answers where it stands. `O(1)` amortised. Err is want of memory.
+    /// Makes a queue of one chunk, and answers the key of its node. `O(1)` amortised. Err is want of memory.
     pub fn make(&mut self, queue: u32, owner: u64, items: Values) -> Result<usize, NoMemory>
         requires number { queue ≡ length self.old.heads.items }
         ensures more { OnOk result (length self.new.heads.items ≡ length self.old.heads.items + 1) }
@@ -68,7 +68,7 @@ impl Chains {
         Ok(())
     }
 
-    /// Gives a chunk to a child, and its old owner an empty one right behind; answers where that stands.
+    /// Gives a chunk to a child, and its old owner an empty one right behind; answers the key of its node.
     /// `O(1)` amortised. Err is want of memory.
     pub fn hand_on(
         &mut self,

@@ -8,7 +8,7 @@ use std::collections::BTreeMap;
 use std::marker::Model;
 use swan_model::NoMemory;
 
-/// Where a frame's own chunk of a queue stands.
+/// A frame's own chunk of a queue.
 #[derive(Clone, Copy)]
 pub struct OwnChunk {
     /// The key of its node.
@@ -50,7 +50,7 @@ impl QueueFrame {
         }
     }
 
-    /// Notes where the frame's own chunk of a queue stands. `O(log n)`. Err is want of memory.
+    /// Notes the frame's own chunk of a queue. `O(log n)`. Err is want of memory.
     pub fn put(&mut self, queue: u32, own_chunk: OwnChunk) -> Result<(), NoMemory>
         ensures { OnOk result (self.new ≡ with_own_chunk queue own_chunk self.old) }
     {
@@ -58,7 +58,7 @@ impl QueueFrame {
         Ok(())
     }
 
-    /// Where the frame's own chunk of a queue stands. `O(log n)`.
+    /// The frame's own chunk of a queue. `O(log n)`.
     pub fn own_chunk(&self, queue: u32) -> Option<OwnChunk>
         ensures { result ≡ own_chunk_in self.now.own_chunks queue }
     {

@@ -52,7 +52,7 @@ impl LiveFrames {
         }
     }
 
-    /// Where a frame's own chunk of a queue stands. `O(log n)`.
+    /// A frame's own chunk of a queue. `O(log n)`.
     pub fn own_chunk(&self, number: u64, queue: u32) -> Option<OwnChunk>
         ensures { result ≡ own_chunk_at self.now number queue }
     {
@@ -143,7 +143,7 @@ impl LiveFrames {
         }
     }
 
-    /// Notes where an active frame's own chunk of a queue stands. `O(log n)`. Err is want of memory.
+    /// Notes an active frame's own chunk of a queue. `O(log n)`. Err is want of memory.
     pub fn put(&mut self, number: u64, queue: u32, own_chunk: OwnChunk) -> Result<(), NoMemory>
         requires { IsSome (kept_of self.old number) }
         ensures { OnOk result (IsOnlyChange (kept_of self.old) (kept_of self.new) number (option_map (with_own_chunk queue own_chunk) (kept_of self.old number))) }

@@ -10,7 +10,7 @@ ghost use Rattle.queue_book.specs.Chains.{AreChained};
 ghost use Rattle.queue_book.specs.Handed.{IsHandedIn};
 ghost use Rattle.queue_book.specs.Live.{key_at, own_chunk_at};
 ghost use Rattle.queue_book.specs.Spawned.{MayHandOn, IsSpawnedIn};
-ghost use Rattle.queue_book.specs.declared.live_frame.OwnChunk.{OwnChunk as Held};
+ghost use Rattle.queue_book.specs.declared.live_frame.OwnChunk.{OwnChunk as KeptChunk};
 
 use crate::store::QueueStore;
 use crate::{OwnChunk, QueueFrame, QueueGive};
@@ -49,8 +49,8 @@ impl QueueStore {
         own_chunks: &mut BTreeMap<u32, OwnChunk>,
     ) -> Result<(), NoMemory>
         // what is given
-        requires has { (own_chunk : Held) × (own_chunk_at self.old.frames parent one.queue ≡ Some own_chunk) }
-        requires stands { (own_chunk : Held) → own_chunk_at self.old.frames parent one.queue ≡ Some own_chunk → ContainsKey self.old.chains.nodes own_chunk.key }
+        requires has { (own_chunk : KeptChunk) × (own_chunk_at self.old.frames parent one.queue ≡ Some own_chunk) }
+        requires stands { (own_chunk : KeptChunk) → own_chunk_at self.old.frames parent one.queue ≡ Some own_chunk → ContainsKey self.old.chains.nodes own_chunk.key }
         requires of_queues { IsTrue (is_queue_mode one.mode) }
 
         // who gets it

@@ -7,7 +7,7 @@ use Rattle.swan_model.proofs.Elements.{one_answer}
 use Rattle.queue_book.proofs.chains.Chains.hand_on.Goals as goal
 
 pub returns-clause-handed : goal.returns-clause-handed
-returns-clause-handed c at lines is queue mine unplaced =
+returns-clause-handed c at lines is queue mine chunkless =
     let heads = c.args.self.now.heads.items in
     let nodes = c.args.self.now.nodes in
     let inserted = c.insert.new.self in
@@ -31,4 +31,4 @@ returns-clause-handed c at lines is queue mine unplaced =
       behind = updates.others new (λ e. apart (sym e)) ∙ c.in_ok-new.ensures.updates.changed ∙ ap Some c.behind-behind.ensures;
       others = λ j not_key not_new. updates.others j not_key ∙ c.in_ok-new.ensures.updates.others j not_new;
     } in
-    chained_hand_on at heads nodes after lines is queue key new parent child link handed mine unplaced c.requires.two
+    chained_hand_on at heads nodes after lines is queue key new parent child link handed mine chunkless c.requires.two

@@ -6,7 +6,7 @@ use Rattle.queue_book.proofs.ChainGrowth.{chained_make}
 use Rattle.queue_book.proofs.chains.Chains.make.Goals as goal
 
 pub returns-clause-made : goal.returns-clause-made
-returns-clause-made c at lines is unplaced =
+returns-clause-made c at lines is chunkless =
     let heads = c.args.self.now.heads.items in
     let nodes = c.args.self.now.nodes in
     let after = c.insert.new.self in
@@ -20,4 +20,4 @@ returns-clause-made c at lines is unplaced =
     let S : List (Option ℕ) → Type 0 = λ hs. AreChained (put_at owner c.args.queue (Some key) at) hs after (in_line c.args.queue (λ old. own owner c.args.items ∷ []) lines) in
     subst S (sym c.in_ok-push.ensures.items)
     (subst R (sym c.requires.number) (chained_make at heads nodes lines is after key owner c.args.items c.in_ok-key.ensures.was_vacant
-    (subst P is_made c.in_ok-key.ensures.updates) (subst Q c.requires.number unplaced)))
+    (subst P is_made c.in_ok-key.ensures.updates) (subst Q c.requires.number chunkless)))
