@@ -4,8 +4,8 @@ use crate::FIRST_JOB;
 use crate::example_texts::{EVERY_LINE, JOBS};
 use crate::texts::{joined, made, number_of_word, three_parts_of, with_line_feeds};
 use job_reader::{
-    Job, JobFault, JobKind, Line, ReadJob, lines_are_pieces, literals_are_pieces, read_job,
-    text_reads_back, tokens_are_pieces, write_job,
+    Job, JobFault, JobKind, Line, ReadJob, limits_of_jobs, lines_are_pieces, literals_are_pieces,
+    read_job, text_reads_back, tokens_are_pieces, write_job,
 };
 use std::alloc::{AllocError, Global};
 use std::process::Abort;
@@ -163,7 +163,8 @@ fn a_job_with_every_kind_of_line_is_written_back(rt: HostRuntime) {
 
 /// The laws are calls that do nothing.
 #[test]
-fn laws(_rt: HostRuntime) {
+fn each_law_of_the_reader_can_be_called(_rt: HostRuntime) {
+    limits_of_jobs();
     lines_are_pieces();
     tokens_are_pieces();
     literals_are_pieces();
@@ -275,14 +276,13 @@ fn check_texts(rt: &impl Abort, alloc: Global, table: &str) {
 }
 
 #[test]
-fn texts(rt: HostRuntime) {
+fn whole_texts_are_read_or_refused_at_their_lines(rt: HostRuntime) {
     check_texts(&rt, rt.alloc(), TEXTS);
     check_texts(&rt, rt.alloc(), PREFIXES);
 }
 
-/// Bytes that may not stand in a line.
 #[test]
-fn bytes(rt: HostRuntime) {
+fn bytes_that_may_not_stand_in_a_line_are_refused(rt: HostRuntime) {
     for text in [
         "swan 1\n\t#\n",
         "swan 1\ninput\ta\n",

@@ -103,12 +103,20 @@ fn values_are_listed(rt: HostRuntime) {
     assert!(rt; is_listed);
 }
 
+/// Whether the copy of gives is made, and has this one alone.
+fn copy_has_one(gives: &Gives, alloc: Global, give: Give) -> bool {
+    match gives.copy(alloc) {
+        Ok(copy) => copy.len() == 1 && copy.get(0) == Some(&give),
+        Err(_) => false,
+    }
+}
+
 #[test]
 fn gives_are_listed(rt: HostRuntime) {
     let mut gives = Gives::new(rt.alloc());
     let mode = Mode::In;
-    let is_pushed = gives.push(Give { place: 0, mode }).is_ok();
-    let is_copied = gives.copy(rt.alloc()).is_ok();
+    let is_pushed = gives.push(Give { place: 3, mode }).is_ok();
+    let is_copied = copy_has_one(&gives, rt.alloc(), Give { place: 3, mode });
     drop(gives);
     assert!(rt; is_pushed);
     assert!(rt; is_copied);
@@ -121,8 +129,9 @@ fn roots_take_each(alloc: Global) -> bool {
     let mode = Mode::Pop;
     let has_queue = roots.push_queue(RootQueue { mode, items }).is_ok();
     let has_object = roots.push_object(Value::Int(1)).is_ok();
+    let has_one_of_each = roots.queues().len() == 1 && is_one(roots.objects());
     drop(roots);
-    has_queue && has_object
+    has_queue && has_object && has_one_of_each
 }
 
 #[test]

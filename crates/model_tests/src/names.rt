@@ -41,7 +41,7 @@ fn idle_plan(alloc: Global) -> Plan<Idle> {
 }
 
 #[test]
-fn a_plan_has_a_name(rt: HostRuntime) {
+fn the_name_of_a_plan_takes_no_bytes(rt: HostRuntime) {
     let plan = idle_plan(rt.alloc());
     drop(RunName::of(&plan));
     assert!(rt; size_of::<RunName>() == 0);

@@ -113,7 +113,7 @@ fn each_of_a_chain_adds_one(rt: HostRuntime) -> Result<(), Fail> {
 }
 
 #[test]
-fn the_last_of_many_writes_stays(rt: HostRuntime) -> Result<(), Fail> {
+fn the_last_of_three_writes_stays(rt: HostRuntime) -> Result<(), Fail> {
     run(
         rt.alloc(),
         &[

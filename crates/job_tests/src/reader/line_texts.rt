@@ -205,7 +205,7 @@ fn hold_line(rt: &impl Abort, alloc: Global, row: &str) {
 }
 
 #[test]
-fn lines(rt: HostRuntime) {
+fn each_line_is_read_or_refused_where_it_stands(rt: HostRuntime) {
     for row in LINES.lines() {
         hold_line(&rt, rt.alloc(), row);
     }
@@ -233,7 +233,7 @@ fn hold_literal_row(rt: &impl Abort, alloc: Global, row: &str) {
 }
 
 #[test]
-fn literals(rt: HostRuntime) {
+fn literals_are_written_in_the_one_canonical_form(rt: HostRuntime) {
     for row in LITERALS.lines() {
         hold_literal_row(&rt, rt.alloc(), row);
     }
