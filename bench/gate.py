@@ -1,7 +1,10 @@
 """What the gate costs, by crate.
 
     python3 bench/gate.py [CRATE..]      runs `rt ci CRATE` for each, the lowest first; all crates where none is named
-    python3 bench/gate.py --whole [LOG]  runs `rt ci --anew`, the whole gate from nothing, and nothing is taken of an earlier run
+    python3 bench/gate.py --whole [LOG]  runs the whole gate from nothing, and nothing is taken of an earlier run
+
+The whole from nothing is `rt ci --anew`, or plain `rt ci` with a kit that doesn't know that word, since such a kit keeps nothing
+of a gate. It has no `rt ci CRATE` either.
 
 Of the whole gate it prints when each part was done, in minutes from the start, and then what it took by the clock and of
 processors; begin it with `taskset -c 0,1` for what it takes on two of them. All lines of that run go to LOG, which lies outside
@@ -57,12 +60,20 @@ def spent():
     return usage.ru_utime + usage.ru_stime
 
 
+def from_nothing():
+    """The words by which the kit's gate proves all from nothing. Where there are no crates a kit says at once whether it knows them."""
+    words = ["rt", "ci", "--anew"]
+    with tempfile.TemporaryDirectory(prefix="swan-gate-") as nowhere:
+        said = subprocess.run(words, cwd=nowhere, stdout=subprocess.PIPE, stderr=subprocess.STDOUT, text=True).stdout
+    return words[:2] if said.startswith("usage: ") else words
+
+
 def whole(path):
     """Runs the whole gate from nothing, writes each of its lines with its two numbers to the log, and answers its status."""
     print(f"its log is {path}", flush=True)
     began = time.monotonic()
     with open(path, "w", buffering=1) as log, subprocess.Popen(
-        ["rt", "ci", "--anew"], cwd=ROOT, stdout=subprocess.PIPE, stderr=subprocess.STDOUT, text=True, errors="replace"
+        from_nothing(), cwd=ROOT, stdout=subprocess.PIPE, stderr=subprocess.STDOUT, text=True, errors="replace"
     ) as run:
         for line in run.stdout:
             minutes = (time.monotonic() - began) / 60

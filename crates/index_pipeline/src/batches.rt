@@ -9,7 +9,7 @@ use std::marker::Model;
 use swan_model::{NoMemory, Value};
 
 /// What records are made of, one after the other.
-pub trait Source: Drop {
+pub trait RecordSource: Drop {
     /// The records that are left to make, in order.
     ghost left: { Self → List Item };
 
@@ -28,12 +28,12 @@ pub trait Source: Drop {
 
 /// A batch, and what later records are made of.
 #[derive(Drop)]
-struct Ready<S: Source> {
+struct Ready<S: RecordSource> {
     batch: Batch,
     source: S,
 }
 
-impl<S: Source> Ready<S> {
+impl<S: RecordSource> Ready<S> {
     /// Writes records as long as there is one that has room.
     fn fill(&mut self, batch: &mut BatchWriter) -> Result<(), NoMemory>
         ensures records { OnOk result (batch.new ++ S.left self.new.source ≡ batch.old ++ S.left self.old.source) }
@@ -74,11 +74,11 @@ impl<S: Source> Ready<S> {
 /// Records that are left to push. Contracts see it as these, in order. They are made in batches, each in one buffer.
 /// It is small, since what a task keeps is moved at each of its steps.
 #[derive(Drop)]
-pub struct Batches<S: Source> {
+pub struct Batches<S: RecordSource> {
     ready: Box<Ready<S>>,
 }
 
-impl<S: Source> Model for Batches<S> {
+impl<S: RecordSource> Model for Batches<S> {
     ghost use Rattle.std.specs.Prelude.{List, ◌++◌};
     ghost use Rattle.swan_model.specs.declared.value.Value.{Value as Item};
 
@@ -87,7 +87,7 @@ impl<S: Source> Model for Batches<S> {
     ghost view = { λ left. left.ready.value.batch ++ S.left left.ready.value.source };
 }
 
-impl<S: Source> Batches<S> {
+impl<S: RecordSource> Batches<S> {
     /// All records of a source. It allocates once. `O(1)`.
     pub fn of(alloc: Global, source: S) -> Result<Batches<S>, NoMemory>
         ensures { IfOk result (λ left. left ≡ S.left source) }

@@ -4,7 +4,7 @@ ghost use Rattle.index_pipeline.specs.KeptPairs.{kept_pairs, pairs_from_word};
 ghost use Rattle.index_pipeline.specs.Records.{record_of};
 
 use crate::batch::BatchWriter;
-use crate::batches::{Batches, Source};
+use crate::batches::{Batches, RecordSource};
 use crate::key::Key;
 use crate::numbers::Numbers;
 use std::alloc::Global;
@@ -24,7 +24,7 @@ pub struct NumbersLeft {
     words: BTreeMap<Key, Numbers>,
 }
 
-impl Source for NumbersLeft {
+impl RecordSource for NumbersLeft {
     ghost left = { λ it. map record_of (pairs_from_word it.word (drop it.taken it.numbers) it.words.entries) };
 
     ghost word_len = { λ it. length it.word };

@@ -4,7 +4,7 @@ ghost use Rattle.index_pipeline.specs.Records.{block_records};
 ghost use Rattle.index_pipeline.specs.declared.word.TheConstants.{WORD_MOST};
 
 use crate::batch::BatchWriter;
-use crate::batches::{Batches, Source};
+use crate::batches::{Batches, RecordSource};
 use crate::line_left::LineLeft;
 use crate::word::WORD_MOST;
 use line_blocks::LineBlock;
@@ -20,7 +20,7 @@ pub struct LinesLeft {
     block: LineBlock,
 }
 
-impl Source for LinesLeft {
+impl RecordSource for LinesLeft {
     ghost left = { λ lines. lines.line ++ block_records lines.block };
 
     ghost word_len = { λ _. WORD_MOST };

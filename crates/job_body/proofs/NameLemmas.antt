@@ -3,7 +3,7 @@ use Rattle.std.proofs.Common.{◌≡◌, ℕ, suc, ◌+◌, Bool, true, false, O
 use Rattle.std.proofs.lemmas.Slice.Eq.{bytes_eq-Decides}
 use Rattle.std.specs.Map.{update}
 use Rattle.std.specs.Option.{option_or}
-use Rattle.job_body.specs.Names.{slot, joined_slot, with_place}
+use Rattle.job_body.specs.Names.{slot, joined_slot, with_name_at}
 
 abbrev pub last_slot : Bool → ℕ → Option ℕ
 last_slot true i = Some i
@@ -23,7 +23,7 @@ slot-push (first ∷ names) name other =
     ]
 
 -- the places of names once one more is added
-pub slot-with : (names : List (List ℕ)) (name other : List ℕ) → slot (names ++ name ∷ []) other ≡ with_place (slot names) name (length names) other
+pub slot-with : (names : List (List ℕ)) (name other : List ℕ) → slot (names ++ name ∷ []) other ≡ with_name_at (slot names) name (length names) other
 slot-with names name other =
     slot-push names name other
     ∙ at (bytes_eq name other) (bytes_eq-Decides name other).0 (slot names other) refl (slot names name) refl where
@@ -41,16 +41,16 @@ slot-with names name other =
 -- places that are those of names stay so
 pub places-with : (names : List (List ℕ)) (f g : List ℕ → Option ℕ) (name : List ℕ) (n : ℕ) → n ≡ length names
     → ((other : List ℕ) → f other ≡ slot names other)
-    → ((other : List ℕ) → g other ≡ with_place f name n other)
+    → ((other : List ℕ) → g other ≡ with_name_at f name n other)
     → (other : List ℕ) → g other ≡ slot (names ++ name ∷ []) other
 places-with names f g name n e finds all other =
     all other ∙ same (f name) (f other) (finds name) (finds other) ∙ sym (slot-with names name other) where
       same : (a b : Option ℕ) → a ≡ slot names name → b ≡ slot names other
-          → (if is_some a then b else (if bytes_eq name other then Some n else b)) ≡ with_place (slot names) name (length names) other
+          → (if is_some a then b else (if bytes_eq name other then Some n else b)) ≡ with_name_at (slot names) name (length names) other
       same a b p q = rw (p, q, e) refl
 
 -- a map that has one more key has it as its place
-pub placed : (f : List ℕ → Option ℕ) (name other : List ℕ) (n : ℕ) (r : Option ℕ) → is_some (f name) ≡ false → r ≡ update bytes_eq f name (Some n) other → r ≡ with_place f name n other
+pub placed : (f : List ℕ → Option ℕ) (name other : List ℕ) (n : ℕ) (r : Option ℕ) → is_some (f name) ≡ false → r ≡ update bytes_eq f name (Some n) other → r ≡ with_name_at f name n other
 placed f name other n r unknown e = e ∙ rw unknown refl
 
 -- the place in two lists of names

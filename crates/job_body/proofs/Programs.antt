@@ -10,7 +10,7 @@ use Rattle.swan_model.specs.declared.value.Value.{Value}
 use Rattle.job_body.specs.declared.instruction.Instruction.{Instruction}
 use Rattle.job_body.specs.declared.tasks.Task.{Task}
 use Rattle.job_body.specs.Blocks.{exit_at, exits, first_exit}
-use Rattle.job_body.specs.Compiled.{instruction_of, instructions_from, name_of_task, program_of, seen_at, task_at, task_named, tasks_from, tasks_of}
+use Rattle.job_body.specs.Compiled.{instruction_of, instructions_from, name_of_task, program_of, seen_at, task_at, task_of_name, tasks_from, tasks_of}
 use Rattle.job_body.specs.Names.{slot}
 use Rattle.job_body.specs.Runs.{begun_by, begun_in}
 use Rattle.job_body.specs.Steps.{begun}
@@ -84,7 +84,7 @@ find-task j (line.Task other ∷ lines) name =
 find-task j (line ∷ lines) name = skipped line lines j (position_or_len (begins name) lines) (found_from (j + 1) lines name) (find-task (j + 1) lines name)
 
 -- what the tasks of a job answer for a name
-pub task-found : (lines : List Line) (name : List ℕ) → IsFound lines 0 (task_index lines name) (task_named (tasks_of lines) name)
+pub task-found : (lines : List Line) (name : List ℕ) → IsFound lines 0 (task_index lines name) (task_of_name (tasks_of lines) name)
 task-found lines name = rw (task-from 0 lines name) (find-task 0 lines name)
 
 -- ---- how an activation begins
@@ -107,4 +107,4 @@ begun-found job p found values (at_line name h e) = begun-at-task job p name val
 begun-found job p found values (nowhere e f) = rw e (begun-past job values)
 
 pub begun-named : (job : List Line) (name : List ℕ) (values : List Value) → begun_in (program_of job) (task_index job name) values ≡ begun job (task_index job name) values
-begun-named job name values = begun-found job (task_index job name) (task_named (tasks_of job) name) values (task-found job name)
+begun-named job name values = begun-found job (task_index job name) (task_of_name (tasks_of job) name) values (task-found job name)

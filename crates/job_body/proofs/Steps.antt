@@ -23,7 +23,7 @@ use Rattle.job_reader.specs.declared.op.Op.{Op}
 use Rattle.job_reader.specs.declared.op.Op.TheVariants as op
 use Rattle.job_body.specs.Blocks.{blocks_at, exit_at, innermost}
 use Rattle.job_body.specs.Compiled as compiled
-use Rattle.job_body.specs.Compiled.{action_of, next_of, program_of, seen_at, task_named, tasks_of}
+use Rattle.job_body.specs.Compiled.{action_of, next_of, program_of, seen_at, task_of_name, tasks_of}
 use Rattle.job_body.specs.Names.{slot}
 use Rattle.job_body.specs.Operations.{operation, flag, is_true, number_of}
 use Rattle.job_body.specs.Steps.{is_kind}
@@ -153,7 +153,7 @@ done-line lines s fuel (line.Push q a) =
 done-line lines s fuel (line.Pop v q) = ap (λ place. (steps.after_move_on lines s, ask.Pop place)) (sym (place-name lines s.at q))
 done-line lines s fuel (line.Empty v q) = ap (λ place. (steps.after_move_on lines s, ask.Empty place)) (sym (place-name lines s.at q))
 done-line lines s fuel (line.Spawn a task args) =
-    spawn-found lines s fuel a (task_index lines task) (task_named (tasks_of lines) task) args (begun-named lines task) (task-found lines task)
+    spawn-found lines s fuel a (task_index lines task) (task_of_name (tasks_of lines) task) args (begun-named lines task) (task-found lines task)
     ∙ ap (λ value. steps.step_of_spawn lines s (number_of value) (task_index lines task) (zip (takes (lines_of_task lines (task_index lines task))) args)) (sym (value-operand lines s.at s.values a))
 done-line lines s fuel (line.Fuel v) = ap (λ values. (runs.after_go_with s (executed_from lines (s.at + 1)) values, ask.Work)) (sym (set-slot (steps.names_at lines s.at) s.values v (Int (pos (min fuel (2 ^ 63 - 1))))))
 done-line lines s fuel (line.Fail a) = ap (λ value. (s, ask.Fail (trouble.User (number_of value)))) (sym (value-operand lines s.at s.values a))
@@ -191,7 +191,7 @@ answered-line lines s (line.Pop v q) a = refl
 answered-line lines s (line.Empty v q) (answer.Flag is_empty) = received-is lines s v (flag is_empty)
 answered-line lines s (line.Empty v q) a = refl
 answered-line lines s line.End a = answered-end s.values (innermost (blocks_at lines s.before)) a
-answered-line lines s (line.Spawn fuel task args) a = answered-spawn lines s.values (seen_at lines s.before) fuel (task_named (tasks_of lines) task) args a
+answered-line lines s (line.Spawn fuel task args) a = answered-spawn lines s.values (seen_at lines s.before) fuel (task_of_name (tasks_of lines) task) args a
 answered-line lines s line a = refl
 
 -- ---- steps

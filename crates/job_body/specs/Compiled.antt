@@ -53,12 +53,12 @@ abbrev pub task_at : List Task → Option ℕ → Option Task
 task_at tasks None = None
 task_at tasks (Some i) = slice_get tasks i
 
-abbrev pub task_named : Tasks → List ℕ → Option Task
-task_named tasks name = task_at tasks.tasks (slot tasks.names name)
+abbrev pub task_of_name : Tasks → List ℕ → Option Task
+task_of_name tasks name = task_at tasks.tasks (slot tasks.names name)
 
 -- no task takes more than a spawn may give
 pub record TakeFew (tasks : Tasks) : Type 0 where
-  pub each : (name : List ℕ) (task : Task) → task_named tasks name ≡ Some task → length task.takes ≤ GIVES_MOST
+  pub each : (name : List ℕ) (task : Task) → task_of_name tasks name ≡ Some task → length task.takes ≤ GIVES_MOST
 
 -- how the block goes on that each line opens
 abbrev pub exits_from : ℕ → ℕ → List Line → List Exit
@@ -210,7 +210,7 @@ action_of lines tasks s exit i (line.Write o a) = action.Demand (demand.Write (p
 action_of lines tasks s exit i (line.Push q a) = action.Demand (demand.Push (place_in s q) (operand_of s a))
 action_of lines tasks s exit i (line.Pop v q) = action.Demand (demand.Pop (slot_in s v) (place_in s q))
 action_of lines tasks s exit i (line.Empty v q) = action.Demand (demand.Empty (slot_in s v) (place_in s q))
-action_of lines tasks s exit i (line.Spawn fuel task args) = spawn_action lines s fuel (task_named tasks task) args
+action_of lines tasks s exit i (line.Spawn fuel task args) = spawn_action lines s fuel (task_of_name tasks task) args
 action_of lines tasks s exit i line.Sync = action.Demand demand.Sync
 action_of lines tasks s exit i (line.Fuel v) = action.Work (work.Fuel (slot_in s v))
 action_of lines tasks s exit i (line.Fail a) = action.Demand (demand.Fail (operand_of s a))

@@ -16,8 +16,8 @@ joined_slot None count None = None
 joined_slot None count (Some i) = Some (count + i)
 
 -- the places where a name has this place, unless it has one
-abbrev pub with_place : (List ℕ → Option ℕ) → List ℕ → ℕ → List ℕ → Option ℕ
-with_place places name place other =
+abbrev pub with_name_at : (List ℕ → Option ℕ) → List ℕ → ℕ → List ℕ → Option ℕ
+with_name_at places name place other =
     if is_some (places name) then places other else (if bytes_eq name other then Some place else places other)
 
 -- a map that has the first place of each name

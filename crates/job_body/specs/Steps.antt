@@ -58,13 +58,13 @@ abbrev pub place_of_atom : List Line → ℕ → Atom → ℕ
 place_of_atom lines i (atom.Name name) = place_at lines i name
 place_of_atom lines i _ = length (places lines (so_far_at lines i))
 
--- What is received for the last ask. An answer that wasn't asked for is nothing, and a value of the
--- other kind leaves the variable as it is.
 abbrev pub is_kind : Kind → Kind → Bool
 is_kind kind.Int kind.Int = true
 is_kind kind.Bytes kind.Bytes = true
 is_kind _ _ = false
 
+-- What is received for the last ask. An answer that wasn't asked for is nothing, and a value of the
+-- other kind leaves the variable as it is.
 abbrev pub received : List Line → Standing → List ℕ → Value → List Value
 received lines s name new =
     if is_kind (kind_of (value_named (names_at lines s.before) s.values name)) (kind_of new)

@@ -1,6 +1,6 @@
 // From lines to instructions.
 ghost use Rattle.std.specs.Prelude.{◌≡◌, ◌<◌, ◌≤◌, ◌++◌, ◌∷◌, [], length, flat_map, slice_get, zip, IfOk, OnOk};
-ghost use Rattle.job_body.specs.Compiled.{TakeFew, after_end_of, action_of, assign_of, branch_of, end_action, exits_of, give_given, instruction_of, int_op, next_of, num_of, or_zero, param_given, program_of, scope_before, spawn_action, task_named, tasks_of};
+ghost use Rattle.job_body.specs.Compiled.{TakeFew, after_end_of, action_of, assign_of, branch_of, end_action, exits_of, give_given, instruction_of, int_op, next_of, num_of, or_zero, param_given, program_of, scope_before, spawn_action, task_of_name, tasks_of};
 ghost use Rattle.job_body.specs.Blocks.{innermost};
 ghost use Rattle.job_body.specs.declared.instruction.Action.TheVariants as action;
 ghost use Rattle.job_body.specs.Tasks.{before_task, roots, top_lines, var_kinds};
@@ -95,7 +95,7 @@ fn spawn_action(
 ) -> Result<Action, NoMemory>
     requires short { length lines.now ≤ GIVES_MOST }
     requires few { TakeFew tasks.now }
-    ensures { IfOk result (λ action. action ≡ spawn_action lines.now scope.now fuel.now (task_named tasks.now name.now) args.now) }
+    ensures { IfOk result (λ action. action ≡ spawn_action lines.now scope.now fuel.now (task_of_name tasks.now name.now) args.now) }
 {
     let fuel = scope.operand(fuel)?;
     let Some(task) = tasks.find(name) else {

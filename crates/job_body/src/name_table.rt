@@ -1,6 +1,6 @@
 // Names in order.
 ghost use Rattle.std.specs.Prelude.{◌≡◌, ◌∷◌, ◌++◌, ◌<◌, ◌≤◌, [], length, ℕ, List, IfOk, IfSome, OnErr, OnOk};
-ghost use Rattle.job_body.specs.Names.{slot, with_place};
+ghost use Rattle.job_body.specs.Names.{slot, with_name_at};
 ghost use Rattle.std.specs.BTreeMap.{get_by_text};
 
 use std::alloc::Global;
@@ -39,7 +39,7 @@ fn places_with(
     name: &str,
     place: u32,
 ) -> Result<BTreeMap<String, u32>, NoMemory>
-    ensures { IfOk result (λ all. (other : List ℕ) → get_by_text all other ≡ with_place (get_by_text places) name.now place other) }
+    ensures { IfOk result (λ all. (other : List ℕ) → get_by_text all other ≡ with_name_at (get_by_text places) name.now place other) }
 {
     if places.contains_key(name) {
         return Ok(places);

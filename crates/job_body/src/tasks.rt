@@ -51,7 +51,7 @@ impl Task {
 impl Tasks {
     ghost use Rattle.std.specs.Prelude.{◌≡◌, ◌∷◌, ◌++◌, ◌<◌, ◌≤◌, [], length, IfOk, OnOk};
     ghost use Rattle.std.specs.Option.{option_copied};
-    ghost use Rattle.job_body.specs.Compiled.{task_named, tasks_of};
+    ghost use Rattle.job_body.specs.Compiled.{task_of_name, tasks_of};
 
     /// Adds a task of this name after the others. An Err is want of memory, and the names tell nothing then.
     fn add(&mut self, alloc: Global, name: &Word, task: Task) -> Result<(), NoMemory>
@@ -92,7 +92,7 @@ impl Tasks {
 
     /// The task of this name, and None where there is none. `O(log tasks)`.
     pub fn find(&self, name: &Word) -> Option<&Task>
-        ensures { option_copied result ≡ task_named self.now name.now }
+        ensures { option_copied result ≡ task_of_name self.now name.now }
     {
         match self.names.place(name) {
             Some(place) => self.tasks.get(place as usize),

@@ -19,11 +19,11 @@ pub enum Block {
 
 /// The open blocks. Contracts see them as a list, the innermost first.
 #[derive(Drop)]
-pub struct Blocks {
+pub struct OpenBlocks {
     from_outside: Vec<Block>,
 }
 
-impl Model for Blocks {
+impl Model for OpenBlocks {
     ghost use Rattle.std.specs.Prelude.{List, reverse};
     ghost use Rattle.job_reader.specs.declared.block.Block.{Block};
 
@@ -32,12 +32,12 @@ impl Model for Blocks {
     ghost view = { λ it. reverse it.from_outside.items };
 }
 
-impl Blocks {
+impl OpenBlocks {
     /// No open block. It takes no memory. `O(1)`.
-    pub fn new(alloc: Global) -> Blocks
+    pub fn new(alloc: Global) -> OpenBlocks
         ensures { result ≡ [] }
     {
-        Blocks {
+        OpenBlocks {
             from_outside: Vec::new(alloc),
         }
     }

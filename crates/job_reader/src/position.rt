@@ -6,7 +6,7 @@ ghost use Rattle.job_reader.specs.LineShape.{is_first};
 ghost use Rattle.job_reader.specs.Positions.{after, after_declaration, after_else, after_end, after_outside, after_statement, after_top, is_open};
 
 use crate::Line;
-use crate::block::{Block, Blocks};
+use crate::block::{Block, OpenBlocks};
 use std::alloc::Global;
 use swan_model::NoMemory;
 
@@ -26,7 +26,7 @@ pub enum Position {
     /// In a task before its `do`.
     InTask,
     /// After the `do` of a task, with these blocks open.
-    InDo(Blocks),
+    InDo(OpenBlocks),
     /// After the `end` of a task.
     Outside,
 }
@@ -108,7 +108,7 @@ fn after_declaration(alloc: Global, line: &Line) -> Position
     ensures { result ≡ after_declaration line.now }
 {
     match line {
-        Line::Do => Position::InDo(Blocks::new(alloc)),
+        Line::Do => Position::InDo(OpenBlocks::new(alloc)),
         _ => Position::InTask,
     }
 }
@@ -124,7 +124,7 @@ fn after_outside(line: &Line) -> Position
 }
 
 /// The position after a statement where these blocks are open.
-fn after_statement(blocks: Blocks, line: &Line) -> Result<Position, NoMemory>
+fn after_statement(blocks: OpenBlocks, line: &Line) -> Result<Position, NoMemory>
     ensures { IfOk result (λ position. position ≡ after_statement blocks line.now) }
 {
     match line {
@@ -137,7 +137,7 @@ fn after_statement(blocks: Blocks, line: &Line) -> Result<Position, NoMemory>
 }
 
 /// The position inside a block that is opened where these are open.
-fn inside(mut blocks: Blocks, block: Block) -> Result<Position, NoMemory>
+fn inside(mut blocks: OpenBlocks, block: Block) -> Result<Position, NoMemory>
     ensures { IfOk result (λ position. position ≡ Position.InDo (block ∷ blocks)) }
 {
     blocks.open(block)?;
@@ -145,7 +145,7 @@ fn inside(mut blocks: Blocks, block: Block) -> Result<Position, NoMemory>
 }
 
 /// The position after an `else` where these blocks are open.
-fn after_else(mut blocks: Blocks) -> Result<Position, NoMemory>
+fn after_else(mut blocks: OpenBlocks) -> Result<Position, NoMemory>
     ensures { IfOk result (λ position. position ≡ after_else blocks) }
 {
     match blocks.close() {
@@ -155,7 +155,7 @@ fn after_else(mut blocks: Blocks) -> Result<Position, NoMemory>
 }
 
 /// The position after an `end` where these blocks are open.
-fn after_end(mut blocks: Blocks) -> Position
+fn after_end(mut blocks: OpenBlocks) -> Position
     ensures { result ≡ after_end blocks }
 {
     match blocks.close() {

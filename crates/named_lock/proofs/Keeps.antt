@@ -16,7 +16,7 @@ use Rattle.swan_model.proofs.Tables.{all_set, only_one}
 use Rattle.atomic_table.proofs.Lists.{at_set, at_snoc, at_longer, set_here, set_else, exchanged}
 use Rattle.atomic_table.specs.declared.shared.Seat.{Seat}
 use Rattle.named_lock.specs.declared.rule.View.{View}
-use Rattle.named_lock.specs.Rule.{lock_words, sign_of, sign_after_stop, seated, spent, rest_of, one_of, view_after_join, total, IsTrueView, IsLock, Kept, took, closed, gave, finished, stopped, looked}
+use Rattle.named_lock.specs.Rule.{lock_words, sign_of, sign_after_stop, seated, spent, rest_of, one_of, view_after_join, total, IsTrueView, IsLock, IsRuled, took, closed, gave, finished, stopped, looked}
 
 -- the sign of a word
 done_is : (k : ℕ) → is_done (sign_of k) ≡ true → k ≡ 1
@@ -79,7 +79,7 @@ module _ {S N : Type 0} where
 
 module _ {S N : Type 0} (name : S → N) (done : S → Bool) (n : N) (seats : ℕ) where
   abbrev Rule : State (Option S) (View N) → Type 0
-  Rule = Kept name done n seats
+  Rule = IsRuled name done n seats
 
   abbrev G : ℕ → ℕ → Maybe (Option S) → List (View N) → Type 0
   G = IsLock name done n seats

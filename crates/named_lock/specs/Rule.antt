@@ -68,8 +68,8 @@ module _ {S N : Type 0} (name : S → N) (done : S → Bool) where
     pub taken : word ≢ 0 → (v : View N) × (get_elem? views holder ≡ some v) × (v.holding ≡ true)
     pub each : (j : ℕ) (v : View N) → get_elem? views j ≡ some v → IsTrueView word sign named holder j v
 
-  abbrev pub Kept : N → ℕ → State (Option S) (View N) → Type 0
-  Kept named seats s = (word : ℕ) × (sign : ℕ) × (home : Maybe (Option S)) × (s.words ≡ lock_words word sign) × (s.homes ≡ home ∷ []) × IsLock named seats word sign home s.views
+  abbrev pub IsRuled : N → ℕ → State (Option S) (View N) → Type 0
+  IsRuled named seats s = (word : ℕ) × (sign : ℕ) × (home : Maybe (Option S)) × (s.words ≡ lock_words word sign) × (s.homes ≡ home ∷ []) × IsLock named seats word sign home s.views
 
   abbrev pub took : Step (Option S) → Me (Option S) (View N) → ℕ → Me (Option S) (View N) → Type 0
   took st m found m' =

@@ -41,9 +41,9 @@ pub struct Opening<S: Named> {
 pub struct LockRule;
 
 impl<S: Named> TableRule<Option<S>, View<S::Name>, Opening<S>> for LockRule {
-    ghost use Rattle.named_lock.specs.Rule.{Kept, seated};
+    ghost use Rattle.named_lock.specs.Rule.{IsRuled, seated};
 
-    ghost holds = { λ opening. Kept S.name S.done opening.name opening.seats };
+    ghost holds = { λ opening. IsRuled S.name S.done opening.name opening.seats };
 
     ghost first = { λ opening. seated opening.seats opening.name };
 }

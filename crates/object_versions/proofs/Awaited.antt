@@ -9,7 +9,7 @@ use Rattle.swan_model.specs.Versions.{Version, owed, owing as owing_of, Placed, 
 use Rattle.object_versions.specs.declared.node.Node.{Node}
 use Rattle.object_versions.specs.declared.placed_object.PlacedObject.{PlacedObject}
 use Rattle.object_versions.specs.Following.{MayWrite}
-use Rattle.object_versions.specs.Store.{Entries, place_at, version_at, object_at, given_of, placed_of, versions_of, uses}
+use Rattle.object_versions.specs.Store.{PlaceEntries, place_at, version_at, object_at, given_of, placed_of, versions_of, uses}
 use Rattle.object_versions.specs.Whole.{IsWhole, MayGetAt}
 use Rattle.object_versions.specs.Waiting.{AwaitsAt}
 use Rattle.object_versions.proofs.Differ.{owing_owed}
@@ -18,7 +18,7 @@ use Rattle.object_versions.proofs.Seeing.{seen_some, kept_of}
 
 -- ---- at one place
 
-given_key : (entries : Entries) (nodes : Slab Node) (frame place owing : ℕ) (has : PlacedObject) (o : Option ℕ) → has.given ≡ o → place_at entries frame place ≡ Some has
+given_key : (entries : PlaceEntries) (nodes : Slab Node) (frame place owing : ℕ) (has : PlacedObject) (o : Option ℕ) → has.given ≡ o → place_at entries frame place ≡ Some has
     → given_of nodes o ≡ Some owing → AwaitsAt entries nodes frame place owing
 given_key entries nodes frame place owing has None given stands owes = absurd (cc)
 given_key entries nodes frame place owing has (Some key) given stands owes =
@@ -28,21 +28,21 @@ given_key entries nodes frame place owing has (Some key) given stands owes =
 abbrev pub NoneOwes : Slab Node → PlacedObject → Type 0
 NoneOwes nodes has = given_of nodes has.given ≡ None
 
-pub awaits_here : (entries : Entries) (nodes : Slab Node) (frame place owing : ℕ) (has : PlacedObject) → place_at entries frame place ≡ Some has
+pub awaits_here : (entries : PlaceEntries) (nodes : Slab Node) (frame place owing : ℕ) (has : PlacedObject) → place_at entries frame place ≡ Some has
     → given_of nodes has.given ≡ Some owing → AwaitsAt entries nodes frame place owing
 awaits_here entries nodes frame place owing has stands owes = given_key entries nodes frame place owing has has.given refl stands owes
 
-pub awaits_none : (entries : Entries) (nodes : Slab Node) (frame place owing : ℕ) (waits : AwaitsAt entries nodes frame place owing) → NoneOwes nodes waits.has → ⊥
+pub awaits_none : (entries : PlaceEntries) (nodes : Slab Node) (frame place owing : ℕ) (waits : AwaitsAt entries nodes frame place owing) → NoneOwes nodes waits.has → ⊥
 awaits_none entries nodes frame place owing waits none = none-some owing (sym none ∙ ap (given_of nodes) waits.given ∙ ap owing_of waits.owes)
 
 -- ---- as contracts see it
 
-pub awaits_kept : (entries : Entries) (nodes : Slab Node) (made frame place owing : ℕ) → Awaits (versions_of entries nodes made) frame place owing → AwaitsAt entries nodes frame place owing
+pub awaits_kept : (entries : PlaceEntries) (nodes : Slab Node) (made frame place owing : ℕ) → Awaits (versions_of entries nodes made) frame place owing → AwaitsAt entries nodes frame place owing
 awaits_kept entries nodes made frame place owing waits =
     let kept = kept_of entries nodes made frame place waits.object waits.stands in
     given_key entries nodes frame place owing kept.has kept.has.given refl kept.stands (sym (ap (λ o. o.given) kept.is) ∙ waits.owes)
 
-pub awaits_seen : (entries : Entries) (nodes : Slab Node) (made frame place owing : ℕ) → AwaitsAt entries nodes frame place owing → Awaits (versions_of entries nodes made) frame place owing
+pub awaits_seen : (entries : PlaceEntries) (nodes : Slab Node) (made frame place owing : ℕ) → AwaitsAt entries nodes frame place owing → Awaits (versions_of entries nodes made) frame place owing
 awaits_seen entries nodes made frame place owing waits = record {
   object = placed_of nodes waits.has;
   stands = seen_some entries nodes made frame place waits.has waits.stands;
@@ -50,7 +50,7 @@ awaits_seen entries nodes made frame place owing waits = record {
 }
 
 -- and it may read the object there
-pub awaits_read : (entries : Entries) (nodes : Slab Node) (made frame place owing : ℕ) → IsWhole entries nodes made (λ _. 0) → AwaitsAt entries nodes frame place owing
+pub awaits_read : (entries : PlaceEntries) (nodes : Slab Node) (made frame place owing : ℕ) → IsWhole entries nodes made (λ _. 0) → AwaitsAt entries nodes frame place owing
     → (waits : Awaits (versions_of entries nodes made) frame place owing) × (allows waits.object.mode In ≡ true)
 unfolding awaits_seen
 awaits_read entries nodes made frame place owing whole waits =
@@ -58,7 +58,7 @@ awaits_read entries nodes made frame place owing whole waits =
 
 -- ---- who owes a version has the object too, and may write it
 
-module _ (entries : Entries) (nodes : Slab Node) (made : ℕ) (whole : IsWhole entries nodes made (λ _. 0)) where
+module _ (entries : PlaceEntries) (nodes : Slab Node) (made : ℕ) (whole : IsWhole entries nodes made (λ _. 0)) where
   writes : (key owing object : ℕ) → 0 < uses key entries → version_at nodes key ≡ owed owing → object_at nodes key ≡ object → MayWrite (versions_of entries nodes made) owing object
   writes key owing object some is same =
       let found = whole.owing key owing some is in
@@ -84,7 +84,7 @@ module _ (entries : Entries) (nodes : Slab Node) (made : ℕ) (whole : IsWhole e
       ((whole.fits frame place kept.has kept.stands).present ∙ sym (ap (λ o. o.object) kept.is))
 
 -- what is read of the node of what contracts see
-pub present_by : (entries : Entries) (nodes : Slab Node) (made frame place : ℕ) (has : PlacedObject) (version : Version)
+pub present_by : (entries : PlaceEntries) (nodes : Slab Node) (made frame place : ℕ) (has : PlacedObject) (version : Version)
     → place_at entries frame place ≡ Some has → version_at nodes has.present ≡ version
     → (object : Placed) → placed_at (versions_of entries nodes made) frame place ≡ Some object → object.present ≡ version
 present_by entries nodes made frame place has version stands reads object seen =
@@ -92,14 +92,14 @@ present_by entries nodes made frame place has version stands reads object seen =
     let this : kept.has ≡ has = same_Some kept.has has (sym kept.stands ∙ stands) in
     ap (λ o. o.present) kept.is ∙ ap (λ h. version_at nodes h.present) this ∙ reads
 
-pub absent : (entries : Entries) (nodes : Slab Node) (made frame place : ℕ) (object : Placed) → place_at entries frame place ≡ None
+pub absent : (entries : PlaceEntries) (nodes : Slab Node) (made frame place : ℕ) (object : Placed) → place_at entries frame place ≡ None
     → placed_at (versions_of entries nodes made) frame place ≡ Some object → ⊥
 absent entries nodes made frame place object none seen =
     let kept = kept_of entries nodes made frame place object seen in none-some kept.has (sym none ∙ kept.stands)
 
 -- ---- what a parent may give
 
-pub may_give : (entries : Entries) (nodes : Slab Node) (made parent pp child : ℕ) (mode : Mode) → (held : Holds (versions_of entries nodes made) parent pp mode)
+pub may_give : (entries : PlaceEntries) (nodes : Slab Node) (made parent pp child : ℕ) (mode : Mode) → (held : Holds (versions_of entries nodes made) parent pp mode)
     → ((object : Placed) → placed_at (versions_of entries nodes made) parent pp ≡ Some object → MayGet (versions_of entries nodes made) child object.object mode)
     → (object : PlacedObject) × (place_at entries parent pp ≡ Some object) × (allows object.mode mode ≡ true) × MayGetAt entries child object.object mode
 may_give entries nodes made parent pp child mode held alone =

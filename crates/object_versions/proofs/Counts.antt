@@ -11,7 +11,7 @@ use Rattle.slab.specs.Slab.{Slab, get, Updates}
 use Rattle.swan_model.specs.Versions.{place_cmp}
 use Rattle.object_versions.specs.declared.node.Node.{Node}
 use Rattle.object_versions.specs.declared.placed_object.PlacedObject.{PlacedObject}
-use Rattle.object_versions.specs.Store.{Entries, place_at, told_of, told_at, one, one_of, uses_of, uses, uses_in}
+use Rattle.object_versions.specs.Store.{PlaceEntries, place_at, told_of, told_at, one, one_of, uses_of, uses, uses_in}
 use Rattle.object_versions.specs.Whole.{IsCounted}
 use Rattle.object_versions.proofs.Lookups.{place_total}
 
@@ -61,31 +61,31 @@ used nodes f key counted some = by (get nodes key) refl where
 
 -- ---- places
 
-pub uses_inserted : (entries : Entries) (k frame place : ℕ) (has : PlacedObject) → IsStrictlySortedBy place_cmp (keys_of entries) → place_at entries frame place ≡ None
+pub uses_inserted : (entries : PlaceEntries) (k frame place : ℕ) (has : PlacedObject) → IsStrictlySortedBy place_cmp (keys_of entries) → place_at entries frame place ≡ None
     → uses k (insert_entry place_cmp entries (frame, place) has) ≡ uses k entries + uses_of k has
 uses_inserted entries k frame place has sorted free =
     let sums = sum_by-insert_entry (uses_of k) place_total entries (frame, place) has sorted in
     let none : unwrap_or (option_map (uses_of k) (place_at entries frame place)) 0 ≡ 0 = ap (λ o. unwrap_or (option_map (uses_of k) o) 0) free in
     omega (arith, sums, none)
 
-pub uses_changed : (entries : Entries) (k frame place : ℕ) (was changed : PlacedObject) → place_at entries frame place ≡ Some was
+pub uses_changed : (entries : PlaceEntries) (k frame place : ℕ) (was changed : PlacedObject) → place_at entries frame place ≡ Some was
     → uses k (set_value (is_at (place_cmp (frame, place))) entries changed) + uses_of k was ≡ uses k entries + uses_of k changed
 uses_changed entries k frame place was changed stands = sum_by-set_value (uses_of k) (is_at (place_cmp (frame, place))) entries was changed stands
 
-pub uses_set : (entries : Entries) (k frame place key : ℕ) (was : PlacedObject) → place_at entries frame place ≡ Some was
+pub uses_set : (entries : PlaceEntries) (k frame place key : ℕ) (was : PlacedObject) → place_at entries frame place ≡ Some was
     → uses k (set_value (is_at (place_cmp (frame, place))) entries (record was { present = key })) + one k was.present ≡ uses k entries + one k key
 uses_set entries k frame place key was stands =
     let sums = sum_by-set_value (uses_of k) (is_at (place_cmp (frame, place))) entries was (record was { present = key }) stands in
     omega (arith, sums)
 
-pub uses_without : (entries : Entries) (k frame place : ℕ) (has : PlacedObject) → place_at entries frame place ≡ Some has
+pub uses_without : (entries : PlaceEntries) (k frame place : ℕ) (has : PlacedObject) → place_at entries frame place ≡ Some has
     → uses k (remove_entry (is_at (place_cmp (frame, place))) entries) + uses_of k has ≡ uses k entries
 uses_without entries k frame place has stands =
     let sums = sum_by-remove_entry (uses_of k) (is_at (place_cmp (frame, place))) entries in
     let some : unwrap_or (option_map (uses_of k) (place_at entries frame place)) 0 ≡ uses_of k has = ap (λ o. unwrap_or (option_map (uses_of k) o) 0) stands in
     omega (arith, sums, some)
 
-pub uses_at : (entries : Entries) (k frame place : ℕ) (has : PlacedObject) → place_at entries frame place ≡ Some has → uses_of k has ≤ uses k entries
+pub uses_at : (entries : PlaceEntries) (k frame place : ℕ) (has : PlacedObject) → place_at entries frame place ≡ Some has → uses_of k has ≤ uses k entries
 uses_at entries k frame place has stands = let sums = uses_without entries k frame place has stands in omega (arith, sums)
 
 pub present_used : (has : PlacedObject) → 0 < uses_of has.present has

@@ -8,7 +8,7 @@ use Rattle.swan_model.specs.declared.value.Value.{Value}
 use Rattle.swan_model.specs.Versions.{Version, settled, owed, owing, Placed, Places, VersionState, settle, settle_placed, still_owing, left_by, stays, objects_after_finish}
 use Rattle.object_versions.specs.declared.node.Node.{Node}
 use Rattle.object_versions.specs.declared.placed_object.PlacedObject.{PlacedObject}
-use Rattle.object_versions.specs.Store.{Entries, place_at, version_at, object_at, given_of, placed_of, seen, versions_of, uses}
+use Rattle.object_versions.specs.Store.{PlaceEntries, place_at, version_at, object_at, given_of, placed_of, seen, versions_of, uses}
 use Rattle.object_versions.specs.Whole.{IsFit}
 use Rattle.object_versions.specs.Ending.{IsSettling, IsAllPaid, is_other, of_others, IsForgetting}
 use Rattle.object_versions.proofs.Counts.{uses_at, present_used, given_used}
@@ -35,7 +35,7 @@ unsettled state n o (owed m) none =
     apart true is never = absurd (never (grind (arith, nat_tests)))
     apart false is never = refl
 
-module _ (entries : Entries) (start now : Slab Node) (made n : ℕ) (begun : IsSettling entries start now made n) (paid : IsAllPaid entries now n) where
+module _ (entries : PlaceEntries) (start now : Slab Node) (made n : ℕ) (begun : IsSettling entries start now made n) (paid : IsAllPaid entries now n) where
   -- no version is owed by the frame any more
   pub owes_none : (k : ℕ) → 0 < uses k entries → version_at now k ≡ owed n → ⊥
   owes_none k h is = let owing = begun.whole.owing k n h is in (paid.paid owing.place owing.has owing.stands).settled k n owing.owes is
@@ -122,7 +122,7 @@ others_stay n (x ∷ xs) other =
     ap (λ b. cond (b || not (x.0.0 == n)) (x ∷ filter (stays n) xs) (filter (stays n) xs)) other
     ∙ ap (λ t. cond (not (x.0.0 == n)) (x ∷ t) t) (others_stay n xs other)
 
-module _ (entries : Entries) (start now : Slab Node) (made n : ℕ) (begun : IsSettling entries start now made n) (paid : IsAllPaid entries now n) where
+module _ (entries : PlaceEntries) (start now : Slab Node) (made n : ℕ) (begun : IsSettling entries start now made n) (paid : IsAllPaid entries now n) where
   abbrev before : VersionState
   before = versions_of entries start made
 
@@ -138,7 +138,7 @@ module _ (entries : Entries) (start now : Slab Node) (made n : ℕ) (begun : IsS
       λ i. record { places = places i; made = made }
 
   -- another frame's are forgotten
-  pub frame_finished : (n ≡ 0 → ⊥) → (later : Entries) (new : Slab Node) → IsForgetting entries later now new made n → ((place : ℕ) → place_at later n place ≡ None)
+  pub frame_finished : (n ≡ 0 → ⊥) → (later : PlaceEntries) (new : Slab Node) → IsForgetting entries later now new made n → ((place : ℕ) → place_at later n place ≡ None)
       → versions_of later new made ≡ objects_after_finish before n
   frame_finished other later new forgotten none =
       let left : later ≡ of_others n entries = sym (all_others n later none) ∙ forgotten.others in

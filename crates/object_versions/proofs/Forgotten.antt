@@ -12,7 +12,7 @@ use Rattle.swan_model.specs.declared.value.Value.{Value}
 use Rattle.swan_model.specs.Versions.{settled, owed, owing, place_cmp, after_access}
 use Rattle.object_versions.specs.declared.node.Node.{Node}
 use Rattle.object_versions.specs.declared.placed_object.PlacedObject.{PlacedObject}
-use Rattle.object_versions.specs.Store.{Entries, place_at, version_at, given_of, KeepsOwed, placed_of, seen, versions_of, one, one_of, uses_of, after_release}
+use Rattle.object_versions.specs.Store.{PlaceEntries, place_at, version_at, given_of, KeepsOwed, placed_of, seen, versions_of, one, one_of, uses_of, after_release}
 use Rattle.object_versions.specs.Whole.{IsFit, HasOwing, IsWhole}
 use Rattle.object_versions.proofs.Counts.{one_self, one_other, uses_at}
 use Rattle.object_versions.proofs.Steps.{change_in}
@@ -20,14 +20,14 @@ use Rattle.object_versions.proofs.References.{released_whole, released_same}
 use Rattle.object_versions.proofs.Seeing.{seen_set, seen_some, versions_same}
 use Rattle.swan_model.proofs.Elements.{some_is}
 
-module _ (entries later : Entries) (old new : Slab Node) (made f p key : ℕ) (was : PlacedObject) (value : Value) (whole : IsWhole entries old made (λ _. 0))
+module _ (entries later : PlaceEntries) (old new : Slab Node) (made f p key : ℕ) (was : PlacedObject) (value : Value) (whole : IsWhole entries old made (λ _. 0))
     (stands : place_at entries f p ≡ Some was) (given : was.given ≡ Some key) (reads : version_at old key ≡ settled value)
     (set : later ≡ set_value (is_at (place_cmp (f, p))) entries (record was { given = None })) (sorted : IsStrictlySortedBy place_cmp (keys_of later))
     (release : (node : Node) → get old key ≡ Some node → Updates old new key (after_release node)) where
   abbrev less : PlacedObject
   less = record was { given = None }
 
-  abbrev after : Entries
+  abbrev after : PlaceEntries
   after = set_value (is_at (place_cmp (f, p))) entries less
 
   fit : IsFit old made f less
@@ -47,7 +47,7 @@ module _ (entries later : Entries) (old new : Slab Node) (made f p key : ℕ) (w
 
   with_less : IsWhole after old made (λ k. one k key)
   with_less =
-      let Q : Entries → Type 0 = λ es. IsStrictlySortedBy place_cmp (keys_of es) in
+      let Q : PlaceEntries → Type 0 = λ es. IsStrictlySortedBy place_cmp (keys_of es) in
       change_in entries old made (λ _. 0) (λ k. one k key) f p was less whole stands refl refl refl fit owing_some
       (λ k. let here = one_given k in omega (arith, here)) (subst Q set sorted)
 
@@ -59,7 +59,7 @@ module _ (entries later : Entries) (old new : Slab Node) (made f p key : ℕ) (w
 
   pub forgotten_whole : IsWhole later new made (λ _. 0)
   forgotten_whole =
-      let P : Entries → Type 0 = λ es. IsWhole es new made (λ _. 0) in
+      let P : PlaceEntries → Type 0 = λ es. IsWhole es new made (λ _. 0) in
       subst P (sym set) (released_whole after old new made (λ k. one k key) (λ _. 0) key with_less some_held release last_held (λ k apart. sym (one_other k key apart)))
 
   placed : placed_of old less ≡ placed_of old was
@@ -97,13 +97,13 @@ left_owed E old new was left given_up kept = by (given_of old was.given) refl wh
 
 -- ---- and then the object is given to a child
 
-pub then_whole : {T E : Type 0} (r : Result T E) (a b c : Entries) (old own new : Slab Node)
+pub then_whole : {T E : Type 0} (r : Result T E) (a b c : PlaceEntries) (old own new : Slab Node)
     → ((made : ℕ) → IsWhole a old made (λ _. 0) → IsWhole b own made (λ _. 0))
     → OnOk r ((made : ℕ) → IsWhole b own made (λ _. 0) → IsWhole c new made (λ _. 0))
     → OnOk r ((made : ℕ) → IsWhole a old made (λ _. 0) → IsWhole c new made (λ _. 0))
 then_whole r a b c old own new first then = on_ok_weaker r (λ all made whole. all made (first made whole)) then
 
-pub then_given : {T E : Type 0} (r : Result T E) (a b c : Entries) (old own new : Slab Node) (parent place child child_place : ℕ) (mode same : Mode) → mode ≡ same
+pub then_given : {T E : Type 0} (r : Result T E) (a b c : PlaceEntries) (old own new : Slab Node) (parent place child child_place : ℕ) (mode same : Mode) → mode ≡ same
     → ((made : ℕ) → IsWhole a old made (λ _. 0) → IsWhole b own made (λ _. 0))
     → ((made : ℕ) → IsWhole a old made (λ _. 0) → versions_of b own made ≡ versions_of a old made)
     → OnOk r ((made : ℕ) → IsWhole b own made (λ _. 0) → versions_of c new made ≡ after_access (versions_of b own made) parent place child child_place mode)

@@ -11,7 +11,7 @@ use Rattle.swan_model.specs.Rights.{allows}
 use Rattle.swan_model.specs.Versions.{owed, VersionState, place_cmp, with_present, with_placed, after_access, given_from, got, left_with}
 use Rattle.object_versions.specs.declared.node.Node.{Node}
 use Rattle.object_versions.specs.declared.placed_object.PlacedObject.{PlacedObject}
-use Rattle.object_versions.specs.Store.{Entries, place_at, told_at, version_at, placed_of, seen, versions_of, one, uses_of, uses, after_release}
+use Rattle.object_versions.specs.Store.{PlaceEntries, place_at, told_at, version_at, placed_of, seen, versions_of, one, uses_of, uses, after_release}
 use Rattle.object_versions.specs.Whole.{IsFit, HasOwing, IsOwing, IsWhole, MayGetAt}
 use Rattle.object_versions.proofs.Commuting.{insert_set}
 use Rattle.object_versions.proofs.Lookups.{at_inserted, still_inserted}
@@ -22,7 +22,7 @@ use Rattle.object_versions.proofs.Seeing.{seen_insert, seen_present, seen_some, 
 use Rattle.object_versions.proofs.Differ.{owed_same}
 
 -- what stood at a place stands there once an object came to another
-pub still_stands : (entries with_child : Entries) (parent pp child cp : ℕ) (was gets : PlacedObject) → place_at entries parent pp ≡ Some was → place_at entries child cp ≡ None
+pub still_stands : (entries with_child : PlaceEntries) (parent pp child cp : ℕ) (was gets : PlacedObject) → place_at entries parent pp ≡ Some was → place_at entries child cp ≡ None
     → with_child ≡ insert_entry place_cmp entries (child, cp) gets → place_at with_child parent pp ≡ Some was
 still_stands entries with_child parent pp child cp was gets stands free put =
     ap (λ es. place_at es parent pp) put ∙ still_inserted entries (child, cp) gets (parent, pp) was free stands
@@ -38,7 +38,7 @@ owed_key middle child key gets told may owes k is =
       by = λ other h. sym (owed_same child other (sym (ap (λ t. t.1) told) ∙ ap (version_at middle) e ∙ h));
     }
 
-module _ (entries with_child later : Entries) (old middle new : Slab Node) (made parent pp child cp key : ℕ) (was gets : PlacedObject)
+module _ (entries with_child later : PlaceEntries) (old middle new : Slab Node) (made parent pp child cp key : ℕ) (was gets : PlacedObject)
     (differ : parent ≢ child)
     (whole : IsWhole entries middle made (λ k. one k key + uses_of k gets))
     (same : (k : ℕ) → 0 < uses k entries → told_at middle k ≡ told_at old k)
@@ -49,20 +49,20 @@ module _ (entries with_child later : Entries) (old middle new : Slab Node) (made
     (put : with_child ≡ insert_entry place_cmp entries (child, cp) gets) (sorted_child : IsStrictlySortedBy place_cmp (keys_of with_child))
     (set : later ≡ set_value (is_at (place_cmp (parent, pp))) with_child (record was { present = key })) (sorted : IsStrictlySortedBy place_cmp (keys_of later))
     (release : (node : Node) → get middle was.present ≡ Some node → Updates middle new was.present (after_release node)) where
-  abbrev come : Entries
+  abbrev come : PlaceEntries
   come = insert_entry place_cmp entries (child, cp) gets
 
-  abbrev after : Entries
+  abbrev after : PlaceEntries
   after = set_value (is_at (place_cmp (parent, pp))) come (record was { present = key })
 
   sorted_come : IsStrictlySortedBy place_cmp (keys_of come)
-  sorted_come = let Q : Entries → Type 0 = λ es. IsStrictlySortedBy place_cmp (keys_of es) in subst Q put sorted_child
+  sorted_come = let Q : PlaceEntries → Type 0 = λ es. IsStrictlySortedBy place_cmp (keys_of es) in subst Q put sorted_child
 
   is_after : later ≡ after
   is_after = set ∙ ap (λ es. set_value (is_at (place_cmp (parent, pp))) es (record was { present = key })) put
 
   sorted_after : IsStrictlySortedBy place_cmp (keys_of after)
-  sorted_after = let Q : Entries → Type 0 = λ es. IsStrictlySortedBy place_cmp (keys_of es) in subst Q is_after sorted
+  sorted_after = let Q : PlaceEntries → Type 0 = λ es. IsStrictlySortedBy place_cmp (keys_of es) in subst Q is_after sorted
 
   with_gets : IsWhole come middle made (λ k. one k key)
   with_gets = come_in entries middle made (λ k. one k key + uses_of k gets) (λ k. one k key) child cp gets whole free fit may owing (λ k. refl) sorted_come
@@ -87,7 +87,7 @@ module _ (entries with_child later : Entries) (old middle new : Slab Node) (made
 
   pub given_whole : IsWhole later new made (λ _. 0)
   given_whole =
-      let P : Entries → Type 0 = λ es. IsWhole es new made (λ _. 0) in
+      let P : PlaceEntries → Type 0 = λ es. IsWhole es new made (λ _. 0) in
       subst P (sym is_after)
       (released_whole after middle new made (λ k. one k was.present) (λ _. 0) was.present with_owed held release one_less (λ k apart. sym (one_other k was.present apart)))
 

@@ -11,21 +11,21 @@ use Rattle.swan_model.specs.declared.rights.Mode.TheVariants.{In}
 use Rattle.swan_model.specs.Versions.{owed, owing, place_cmp, after_access, given_from}
 use Rattle.object_versions.specs.declared.node.Node.{Node}
 use Rattle.object_versions.specs.declared.placed_object.PlacedObject.{PlacedObject}
-use Rattle.object_versions.specs.Store.{Entries, place_at, told_at, version_at, placed_of, seen, versions_of, one, uses_of, uses}
+use Rattle.object_versions.specs.Store.{PlaceEntries, place_at, told_at, version_at, placed_of, seen, versions_of, one, uses_of, uses}
 use Rattle.object_versions.specs.Whole.{IsFit, HasOwing, IsWhole, MayGetAt}
 use Rattle.object_versions.proofs.Counts.{one_self, one_other, uses_at, present_used}
 use Rattle.object_versions.proofs.Steps.{come_in}
 use Rattle.object_versions.proofs.References.{shared_whole, shared_told}
 use Rattle.object_versions.proofs.Seeing.{seen_same, seen_insert, seen_some}
 
-module _ (entries later : Entries) (old new : Slab Node) (made parent pp child cp : ℕ) (was : PlacedObject)
+module _ (entries later : PlaceEntries) (old new : Slab Node) (made parent pp child cp : ℕ) (was : PlacedObject)
     (whole : IsWhole entries old made (λ _. 0)) (stands : place_at entries parent pp ≡ Some was) (free : place_at entries child cp ≡ None)
     (may : MayGetAt entries child was.object In)
     (share : (node : Node) → get old was.present ≡ Some node → Updates old new was.present (Some (record node { uses = node.uses + 2 }))) where
   abbrev gets : PlacedObject
   gets = record { object = was.object; kind = was.kind; mode = In; given = Some was.present; present = was.present; owes = None }
 
-  abbrev after : Entries
+  abbrev after : PlaceEntries
   after = insert_entry place_cmp entries (child, cp) gets
 
   some_use : 0 < uses was.present entries
@@ -61,8 +61,8 @@ module _ (entries later : Entries) (old new : Slab Node) (made parent pp child c
   module _ (put : later ≡ after) (sorted : IsStrictlySortedBy place_cmp (keys_of later)) where
     pub read_whole : IsWhole later new made (λ _. 0)
     read_whole =
-        let P : Entries → Type 0 = λ es. IsWhole es new made (λ _. 0) in
-        let Q : Entries → Type 0 = λ es. IsStrictlySortedBy place_cmp (keys_of es) in
+        let P : PlaceEntries → Type 0 = λ es. IsWhole es new made (λ _. 0) in
+        let Q : PlaceEntries → Type 0 = λ es. IsStrictlySortedBy place_cmp (keys_of es) in
         subst P (sym put) (come_in entries new made (λ k. one k was.present + one k was.present) (λ _. 0) child cp gets with_shared free fit may owing_some
         (λ k. omega arith) (subst Q put sorted))
 

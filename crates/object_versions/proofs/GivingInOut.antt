@@ -11,14 +11,14 @@ use Rattle.swan_model.specs.Versions.{owed, owing, place_cmp, after_access, got}
 use Rattle.object_versions.specs.declared.node.Node.{Node}
 use Rattle.object_versions.specs.declared.node.NodeState.TheVariants.{Owed}
 use Rattle.object_versions.specs.declared.placed_object.PlacedObject.{PlacedObject}
-use Rattle.object_versions.specs.Store.{Entries, place_at, told_at, version_at, placed_of, versions_of, one, uses_of, uses, after_release}
+use Rattle.object_versions.specs.Store.{PlaceEntries, place_at, told_at, version_at, placed_of, versions_of, one, uses_of, uses, after_release}
 use Rattle.object_versions.specs.Whole.{IsFit, HasOwing, IsWhole, MayGetAt}
 use Rattle.object_versions.proofs.Counts.{one_self, one_other, told_here, uses_at, present_used, unused}
 use Rattle.object_versions.proofs.References.{shared_whole, shared_told, made_whole, made_told}
 use Rattle.object_versions.proofs.Given.{given_access, given_whole, owed_key}
 use Rattle.object_versions.proofs.Differ.{owed_same}
 
-module _ (entries with_child later : Entries) (old shared middle new : Slab Node) (made parent pp child cp key : ℕ) (was : PlacedObject)
+module _ (entries with_child later : PlaceEntries) (old shared middle new : Slab Node) (made parent pp child cp key : ℕ) (was : PlacedObject)
     (differ : parent ≢ child) (whole : IsWhole entries old made (λ _. 0)) (stands : place_at entries parent pp ≡ Some was) (free : place_at entries child cp ≡ None)
     (may : MayGetAt entries child was.object InOut)
     (share : (node : Node) → get old was.present ≡ Some node → Updates old shared was.present (Some (record node { uses = node.uses + 2 })))

@@ -12,14 +12,14 @@ use Rattle.swan_model.specs.Versions.{settled, owed, place_cmp, after_access, go
 use Rattle.object_versions.specs.declared.node.Node.{Node}
 use Rattle.object_versions.specs.declared.node.NodeState.TheVariants.{Settled, Owed}
 use Rattle.object_versions.specs.declared.placed_object.PlacedObject.{PlacedObject}
-use Rattle.object_versions.specs.Store.{Entries, place_at, told_at, version_at, placed_of, versions_of, one, uses_of, uses, after_release}
+use Rattle.object_versions.specs.Store.{PlaceEntries, place_at, told_at, version_at, placed_of, versions_of, one, uses_of, uses, after_release}
 use Rattle.object_versions.specs.Whole.{IsFit, HasOwing, IsWhole, MayGetAt}
 use Rattle.object_versions.proofs.Counts.{one_self, one_other, told_here, told_elsewhere, unused}
 use Rattle.object_versions.proofs.References.{made_whole, made_told}
 use Rattle.object_versions.proofs.Given.{given_access, given_whole, owed_key}
 use Rattle.object_versions.proofs.Differ.{owed_same, settled_not-owed}
 
-module _ (entries with_child later : Entries) (old first middle new : Slab Node) (made parent pp child cp key own : ℕ) (was : PlacedObject) (zero : Value)
+module _ (entries with_child later : PlaceEntries) (old first middle new : Slab Node) (made parent pp child cp key own : ℕ) (was : PlacedObject) (zero : Value)
     (differ : parent ≢ child) (whole : IsWhole entries old made (λ _. 0)) (stands : place_at entries parent pp ≡ Some was) (free : place_at entries child cp ≡ None)
     (may : MayGetAt entries child was.object Out) (is_zero : zero ≡ zero_of was.kind)
     (vacant_key : get old key ≡ None) (owes : Updates old first key (Some (record { object = was.object; state = Owed child; uses = 2 })))

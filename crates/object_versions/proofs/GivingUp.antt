@@ -9,7 +9,7 @@ use Rattle.swan_model.specs.declared.rights.Mode.{Mode}
 use Rattle.swan_model.specs.Versions.{Placed, VersionState, place_cmp, placed_at, after_access, given_from, got, left_with, with_present}
 use Rattle.object_versions.specs.declared.node.Node.{Node}
 use Rattle.object_versions.specs.declared.placed_object.PlacedObject.{PlacedObject}
-use Rattle.object_versions.specs.Store.{Entries, place_at, KeepsOwed, placed_of, versions_of}
+use Rattle.object_versions.specs.Store.{PlaceEntries, place_at, KeepsOwed, placed_of, versions_of}
 use Rattle.object_versions.specs.Whole.{IsWhole}
 use Rattle.object_versions.proofs.Lookups.{at_inserted, at_set, still_set}
 use Rattle.object_versions.proofs.Given.{still_stands}
@@ -18,7 +18,7 @@ use Rattle.object_versions.proofs.Seeing.{seen_some}
 
 -- ---- what stands at both places
 
-module _ (entries with_child : Entries) (parent pp child cp : ℕ) (was gets : PlacedObject) (stands : place_at entries parent pp ≡ Some was) (free : place_at entries child cp ≡ None)
+module _ (entries with_child : PlaceEntries) (parent pp child cp : ℕ) (was gets : PlacedObject) (stands : place_at entries parent pp ≡ Some was) (free : place_at entries child cp ≡ None)
     (put : with_child ≡ insert_entry place_cmp entries (child, cp) gets) where
   there : place_at with_child parent pp ≡ Some was
   there = still_stands entries with_child parent pp child cp was gets stands free put
@@ -32,7 +32,7 @@ module _ (entries with_child : Entries) (parent pp child cp : ℕ) (was gets : P
   pub put_shares : (has : PlacedObject) → place_at with_child child cp ≡ Some has → has.present ≡ gets.present
   put_shares has is = ap (λ o. o.present) (same_Some has gets (sym is ∙ came))
 
-  module _ (later : Entries) (key : ℕ) (set : later ≡ set_value (is_at (place_cmp (parent, pp))) with_child (record was { present = key })) where
+  module _ (later : PlaceEntries) (key : ℕ) (set : later ≡ set_value (is_at (place_cmp (parent, pp))) with_child (record was { present = key })) where
     pub set_keeps : (has : PlacedObject) → place_at later parent pp ≡ Some has → has.given ≡ was.given
     set_keeps has is =
         let changed : PlacedObject = record was { present = key } in
@@ -65,7 +65,7 @@ both_ok : {T E : Type 0} (r : Result T E) (P Q R : Type 0) → (P → Q → R) �
 both_ok (Ok x) P Q R f p q = f p q
 both_ok (Err e) P Q R f p q = tt
 
-module _ {T E : Type 0} (r : Result T E) (a b c : Entries) (old own new : Slab Node) (parent pp child cp : ℕ) (mode : Mode) (left : PlacedObject) (differ : parent ≢ child)
+module _ {T E : Type 0} (r : Result T E) (a b c : PlaceEntries) (old own new : Slab Node) (parent pp child cp : ℕ) (mode : Mode) (left : PlacedObject) (differ : parent ≢ child)
     (whole : (made : ℕ) → IsWhole a old made (λ _. 0) → IsWhole b own made (λ _. 0)) (stands : place_at b parent pp ≡ Some left) (owed : KeepsOwed own left.given)
     (given : OnOk r ((made : ℕ) → IsWhole b own made (λ _. 0) → versions_of c new made ≡ after_access (versions_of b own made) parent pp child cp mode))
     (keeps : OnOk r ((has : PlacedObject) → place_at c parent pp ≡ Some has → has.given ≡ left.given)) where

@@ -1,4 +1,4 @@
--- Entries by index.
+-- PlaceEntries by index.
 use Rattle.std.proofs.Common.{◌≡◌, ℕ, zero, suc, Bool, true, false, cond, ◌&&◌, ◌==◌, Some, List, [], ◌∷◌, map, find, slice_get, refl, sym, ap, ◌∙◌, ⊎_elim}
 use Rattle.std.proofs.lemmas.Option.{none-some, same_Some}
 use Rattle.std.proofs.lemmas.Bool.{false≢true, cases_eq, and_from, and_parts, eqb-true, eq-eqb}
@@ -15,12 +15,12 @@ use Rattle.swan_model.specs.Rights.{allows}
 use Rattle.swan_model.specs.Versions.{Version, settled, Placed, place_cmp, may_write, left_by}
 use Rattle.object_versions.specs.declared.node.Node.{Node}
 use Rattle.object_versions.specs.declared.placed_object.PlacedObject.{PlacedObject}
-use Rattle.object_versions.specs.Store.{Entries, place_at, version_at, seen, versions_of}
+use Rattle.object_versions.specs.Store.{PlaceEntries, place_at, version_at, seen, versions_of}
 use Rattle.object_versions.specs.Whole.{IsWhole}
 use Rattle.object_versions.proofs.Lookups.{place_total, equal_at}
 
 -- what stands at an index is what stands at its place
-pub place_of : (entries : Entries) (nodes : Slab Node) (made : ℕ) (held : ℕ → ℕ) → IsWhole entries nodes made held
+pub place_of : (entries : PlaceEntries) (nodes : Slab Node) (made : ℕ) (held : ℕ → ℕ) → IsWhole entries nodes made held
     → (i : ℕ) (e : (ℕ × ℕ) × PlacedObject) → slice_get entries i ≡ Some e → place_at entries e.0.0 e.0.1 ≡ Some e.1
 place_of entries nodes made held whole i e is =
     lookup_from_place (eq_by_cmp_equiv place_total) entries i e.0 e.1 (IsDistinct-from_sorted place_cmp (keys_of entries) whole.sorted) is
@@ -40,7 +40,7 @@ find_only {A} {B} p f g (y ∷ ys) v all (suc i) x is passes = by (p (g y)) refl
   by false e rest = rest
 
 -- what a frame leaves of an object is what it has where it may write it
-pub left_of : (entries : Entries) (nodes : Slab Node) (made : ℕ) (held : ℕ → ℕ) (n q : ℕ) (has : PlacedObject) (value : Value) → IsWhole entries nodes made held
+pub left_of : (entries : PlaceEntries) (nodes : Slab Node) (made : ℕ) (held : ℕ → ℕ) (n q : ℕ) (has : PlacedObject) (value : Value) → IsWhole entries nodes made held
     → place_at entries n q ≡ Some has → allows has.mode Out ≡ true → version_at nodes has.present ≡ settled value
     → left_by (versions_of entries nodes made) n has.object ≡ Some (settled value)
 left_of entries nodes made held n q has value whole stands may is =

@@ -13,7 +13,7 @@ use Rattle.swan_model.specs.Versions.{settled, owed, place_cmp, objects_after_cr
 use Rattle.object_versions.specs.declared.node.Node.{Node}
 use Rattle.object_versions.specs.declared.node.NodeState.TheVariants.{Settled}
 use Rattle.object_versions.specs.declared.placed_object.PlacedObject.{PlacedObject}
-use Rattle.object_versions.specs.Store.{Entries, place_at, told_at, version_at, placed_of, seen, versions_of, one, uses_of}
+use Rattle.object_versions.specs.Store.{PlaceEntries, place_at, told_at, version_at, placed_of, seen, versions_of, one, uses_of}
 use Rattle.object_versions.specs.Whole.{IsFit, HasOwing, IsWhole}
 use Rattle.object_versions.proofs.Counts.{one_self, one_other, told_here}
 use Rattle.object_versions.proofs.Steps.{more_made, come_in}
@@ -21,7 +21,7 @@ use Rattle.object_versions.proofs.References.{IsHeldNow, made_whole, made_told}
 use Rattle.object_versions.proofs.Seeing.{seen_same, seen_insert}
 use Rattle.object_versions.proofs.Differ.{settled_not-owed}
 
-module _ (entries : Entries) (old new : Slab Node) (made f p key : ℕ) (kind : Kind) (first : Value) (first_kind : kind ≡ kind_of first) (whole : IsWhole entries old made (λ _. 0))
+module _ (entries : PlaceEntries) (old new : Slab Node) (made f p key : ℕ) (kind : Kind) (first : Value) (first_kind : kind ≡ kind_of first) (whole : IsWhole entries old made (λ _. 0))
     (free : place_at entries f p ≡ None) (vacant : get old key ≡ None)
     (change : Updates old new key (Some (record { object = made; state = Settled first; uses = 1 }))) where
   abbrev node : Node
@@ -30,7 +30,7 @@ module _ (entries : Entries) (old new : Slab Node) (made f p key : ℕ) (kind : 
   abbrev pub created : PlacedObject
   created = record { object = made; kind = kind; mode = InOut; given = None; present = key; owes = None }
 
-  abbrev after : Entries
+  abbrev after : PlaceEntries
   after = insert_entry place_cmp entries (f, p) created
 
   told : told_at new key ≡ (made, settled first)
@@ -73,11 +73,11 @@ module _ (entries : Entries) (old new : Slab Node) (made f p key : ℕ) (kind : 
       seen_insert entries new f p created ∙ (λ i. insert_entry place_cmp (same i) (f, p) (placed i)) in
       λ i. record { places = places i; made = made + 1 }
 
-  module _ (later : Entries) (put : later ≡ after) where
+  module _ (later : PlaceEntries) (put : later ≡ after) where
     pub created_whole : IsStrictlySortedBy place_cmp (keys_of later) → IsWhole later new (made + 1) (λ _. 0)
     created_whole sorted =
-        let P : Entries → Type 0 = λ es. IsWhole es new (made + 1) (λ _. 0) in
-        let Q : Entries → Type 0 = λ es. IsStrictlySortedBy place_cmp (keys_of es) in
+        let P : PlaceEntries → Type 0 = λ es. IsWhole es new (made + 1) (λ _. 0) in
+        let Q : PlaceEntries → Type 0 = λ es. IsStrictlySortedBy place_cmp (keys_of es) in
         subst P (sym put) (whole_after (subst Q put sorted))
 
     pub created_seen : versions_of later new (made + 1) ≡ objects_after_create (versions_of entries old made) f p first

@@ -11,7 +11,7 @@ use Rattle.swan_model.specs.Versions.{settled, owed, owing, place_cmp, with_pres
 use Rattle.object_versions.specs.declared.node.Node.{Node}
 use Rattle.object_versions.specs.declared.node.NodeState.TheVariants.{Settled}
 use Rattle.object_versions.specs.declared.placed_object.PlacedObject.{PlacedObject}
-use Rattle.object_versions.specs.Store.{Entries, place_at, told_of, told_at, version_at, object_at, given_of, KeepsOwed, placed_of, seen, versions_of, one, one_of, uses, uses_in}
+use Rattle.object_versions.specs.Store.{PlaceEntries, place_at, told_of, told_at, version_at, object_at, given_of, KeepsOwed, placed_of, seen, versions_of, one, one_of, uses, uses_in}
 use Rattle.object_versions.specs.Whole.{IsWhole, HasOwn}
 use Rattle.object_versions.proofs.Counts.{HasNode, one_self, one_other, counted_after, told_here, told_elsewhere, used, uses_at, uses_set, present_used}
 use Rattle.object_versions.proofs.Seeing.{seen_same, seen_set, seen_some}
@@ -26,7 +26,7 @@ set_twice {X} test (e ∷ es) v w = by (test e.0) refl (set_twice test es v w) w
   by true is rest = ap (λ b. cond {A = List ((ℕ × ℕ) × X)} b ((e.0, w) ∷ es) ((e.0, v) ∷ set_value test es w)) is
   by false is rest = ap (λ b. cond {A = List ((ℕ × ℕ) × X)} b ((e.0, w) ∷ set_value test es v) (e ∷ set_value test (set_value test es v) w)) is ∙ ap (λ t. e ∷ t) rest
 
-module _ (entries : Entries) (old new : Slab Node) (made f p : ℕ) (was : PlacedObject) (value : Value) (whole : IsWhole entries old made (λ _. 0))
+module _ (entries : PlaceEntries) (old new : Slab Node) (made f p : ℕ) (was : PlacedObject) (value : Value) (whole : IsWhole entries old made (λ _. 0))
     (stands : place_at entries f p ≡ Some was)
     (alone : uses_in (get old was.present) ≡ 1)
     (change : (node : Node) → get old was.present ≡ Some node → Updates old new was.present (Some (record node { state = Settled value }))) where
@@ -88,7 +88,7 @@ module _ (entries : Entries) (old new : Slab Node) (made f p : ℕ) (was : Place
   }
 
   -- the places with another key at this one, so that nobody refers to the version
-  abbrev elsewhere : Entries
+  abbrev elsewhere : PlaceEntries
   elsewhere = set_value (is_at (place_cmp (f, p))) entries (record was { present = was.present + 1 })
 
   unused_there : uses was.present elsewhere ≡ 0

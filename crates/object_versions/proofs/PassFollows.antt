@@ -1,4 +1,4 @@
--- Entries that neither make nor write an object, and spawn no child, are done without a change of the objects.
+-- PlaceEntries that neither make nor write an object, and spawn no child, are done without a change of the objects.
 use Rattle.std.proofs.Common.{◌≡◌, false, Some, List, refl, ◌∙◌, arith}
 use Rattle.swan_model.specs.declared.origin.Origin.{Origin}
 use Rattle.swan_model.specs.declared.script.Deed.{Deed}

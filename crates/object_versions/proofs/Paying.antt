@@ -3,21 +3,21 @@ use Rattle.std.proofs.Common.{◌≡◌, ℕ, ◌<◌, Some, [], ◌∷◌, arit
 use Rattle.slab.specs.Slab.{Slab}
 use Rattle.object_versions.specs.declared.node.Node.{Node}
 use Rattle.object_versions.specs.declared.placed_object.PlacedObject.{PlacedObject}
-use Rattle.object_versions.specs.Store.{Entries, place_at, uses}
+use Rattle.object_versions.specs.Store.{PlaceEntries, place_at, uses}
 use Rattle.object_versions.specs.Ending.{IsSettling, OwesNoMore, IsPaid, IsAllPaid}
 use Rattle.object_versions.proofs.Counts.{uses_at, owes_used}
 use Rattle.object_versions.proofs.Walk.{IsWalk, ends, ends_at, goes_on}
 
 -- the version that is owed for a place has its value, where the frame began with a value at each place
-abbrev pub IsPaidThen : (entries : Entries) (start now : Slab Node) (frame : ℕ) → PlacedObject → Type 0
+abbrev pub IsPaidThen : (entries : PlaceEntries) (start now : Slab Node) (frame : ℕ) → PlacedObject → Type 0
 IsPaidThen entries start now frame has = (made : ℕ) → IsSettling entries start start made frame → IsPaid now has
 
 -- these entries are left of the walk over the frame's places, and the versions owed for the others have their values
-pub record IsUnderWay (entries left : Entries) (start now : Slab Node) (frame : ℕ) : Type 0 where
+pub record IsUnderWay (entries left : PlaceEntries) (start now : Slab Node) (frame : ℕ) : Type 0 where
   pub settling : (made : ℕ) → IsSettling entries start start made frame → IsSettling entries start now made frame
   pub walk : IsWalk entries left frame (IsPaidThen entries start now frame)
 
-module _ (entries left : Entries) (start now next : Slab Node) (frame : ℕ) (e : (ℕ × ℕ) × PlacedObject) (under : IsUnderWay entries (e ∷ left) start now frame) where
+module _ (entries left : PlaceEntries) (start now next : Slab Node) (frame : ℕ) (e : (ℕ × ℕ) × PlacedObject) (under : IsUnderWay entries (e ∷ left) start now frame) where
   pub next_under_way : ((made : ℕ) → IsSettling entries start now made frame → IsSettling entries start next made frame)
       → ((made : ℕ) → IsSettling entries start now made frame → OwesNoMore entries now next)
       → ((made : ℕ) → IsSettling entries start now made frame → IsPaid next e.1)
@@ -39,7 +39,7 @@ module _ (entries left : Entries) (start now next : Slab Node) (frame : ℕ) (e 
       record { paid = λ place has is. ends_at entries left frame (IsPaidThen entries start now frame) e under.walk apart place has is made begun }
 
 -- where nothing is left
-pub all_paid_at_end : (entries : Entries) (start now : Slab Node) (frame : ℕ) → IsUnderWay entries [] start now frame
+pub all_paid_at_end : (entries : PlaceEntries) (start now : Slab Node) (frame : ℕ) → IsUnderWay entries [] start now frame
     → (made : ℕ) → IsSettling entries start start made frame → IsAllPaid entries now frame
 all_paid_at_end entries start now frame under made begun =
     record { paid = λ place has is. ends entries frame (IsPaidThen entries start now frame) under.walk place has is made begun }

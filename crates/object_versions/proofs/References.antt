@@ -5,7 +5,7 @@ use Rattle.std.proofs.lemmas.Bool.{cases_eq}
 use Rattle.std.proofs.lemmas.Bool.Decides.{nat_tests}
 use Rattle.slab.specs.Slab.{Slab, get, Updates}
 use Rattle.object_versions.specs.declared.node.Node.{Node}
-use Rattle.object_versions.specs.Store.{Entries, told_of, told_at, uses, uses_in, after_release}
+use Rattle.object_versions.specs.Store.{PlaceEntries, told_of, told_at, uses, uses_in, after_release}
 use Rattle.object_versions.specs.Whole.{IsWhole}
 use Rattle.object_versions.proofs.Counts.{counted_after, told_elsewhere, told_here, told_still, unused, used, HasNode}
 use Rattle.object_versions.proofs.Steps.{moved_nodes}
@@ -17,7 +17,7 @@ pub record IsHeldNow (held later : ℕ → ℕ) (key now : ℕ) : Type 0 where
 
 -- ---- a new node
 
-module _ (entries : Entries) (old new : Slab Node) (made : ℕ) (held later : ℕ → ℕ) (key : ℕ) (node : Node) (whole : IsWhole entries old made held)
+module _ (entries : PlaceEntries) (old new : Slab Node) (made : ℕ) (held later : ℕ → ℕ) (key : ℕ) (node : Node) (whole : IsWhole entries old made held)
     (vacant : get old key ≡ None) (change : Updates old new key (Some node)) where
   no_use : uses key entries + held key ≡ 0
   no_use = unused old (λ k. uses k entries + held k) key whole.counted vacant
@@ -37,7 +37,7 @@ module _ (entries : Entries) (old new : Slab Node) (made : ℕ) (held later : �
 
 -- ---- one more who refers to a node
 
-module _ (entries : Entries) (old new : Slab Node) (made : ℕ) (held later : ℕ → ℕ) (key more : ℕ) (whole : IsWhole entries old made held)
+module _ (entries : PlaceEntries) (old new : Slab Node) (made : ℕ) (held later : ℕ → ℕ) (key more : ℕ) (whole : IsWhole entries old made held)
     (some : 0 < uses key entries + held key)
     (change : (node : Node) → get old key ≡ Some node → Updates old new key (Some (record node { uses = node.uses + more }))) where
   found : HasNode old key
@@ -84,7 +84,7 @@ released_told node some = by (nat_lt 1 node.uses) refl where
   by true is = refl
   by false is = absurd (grind (arith, nat_tests))
 
-module _ (entries : Entries) (old new : Slab Node) (made : ℕ) (held later : ℕ → ℕ) (key : ℕ) (whole : IsWhole entries old made held)
+module _ (entries : PlaceEntries) (old new : Slab Node) (made : ℕ) (held later : ℕ → ℕ) (key : ℕ) (whole : IsWhole entries old made held)
     (some : 0 < held key) (change : (node : Node) → get old key ≡ Some node → Updates old new key (after_release node))
     (here : held key ≡ later key + 1) (others : (k : ℕ) → k ≢ key → later k ≡ held k) where
   there : HasNode old key

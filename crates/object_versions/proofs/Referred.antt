@@ -6,7 +6,7 @@ use Rattle.swan_model.specs.declared.value.Value.{Value}
 use Rattle.swan_model.specs.Versions.{settled}
 use Rattle.object_versions.specs.declared.node.Node.{Node}
 use Rattle.object_versions.specs.declared.placed_object.PlacedObject.{PlacedObject}
-use Rattle.object_versions.specs.Store.{Entries, place_at, told_of, version_at, uses_of, uses}
+use Rattle.object_versions.specs.Store.{PlaceEntries, place_at, told_of, version_at, uses_of, uses}
 use Rattle.object_versions.specs.Whole.{IsWhole}
 use Rattle.object_versions.proofs.Counts.{used, uses_at, present_used, given_used, owes_used}
 use Rattle.swan_model.proofs.Elements.{some_is}
@@ -22,13 +22,13 @@ settled_there nodes key value is = by (get nodes key) refl where
   by (Some node) there = some_is (get nodes key) node there
 
 -- a version that someone refers to is there
-pub referred_there : (entries : Entries) (nodes : Slab Node) (made : ℕ) (held : ℕ → ℕ) (key : ℕ) → IsWhole entries nodes made held → 0 < uses key entries + held key
+pub referred_there : (entries : PlaceEntries) (nodes : Slab Node) (made : ℕ) (held : ℕ → ℕ) (key : ℕ) → IsWhole entries nodes made held → 0 < uses key entries + held key
     → IsSome (get nodes key)
 referred_there entries nodes made held key whole some =
     let found = used nodes (λ k. uses k entries + held k) key whole.counted some in
     some_is (get nodes key) found.node found.is
 
-module _ (entries : Entries) (nodes : Slab Node) (made frame place : ℕ) (has : PlacedObject) (whole : IsWhole entries nodes made (λ _. 0)) (stands : place_at entries frame place ≡ Some has) where
+module _ (entries : PlaceEntries) (nodes : Slab Node) (made frame place : ℕ) (has : PlacedObject) (whole : IsWhole entries nodes made (λ _. 0)) (stands : place_at entries frame place ≡ Some has) where
   used_there : (key : ℕ) → 0 < uses_of key has → IsSome (get nodes key)
   used_there key here = let most = uses_at entries key frame place has stands in referred_there entries nodes made (λ _. 0) key whole (omega (arith, most, here))
 

@@ -10,7 +10,7 @@ use Rattle.slab.specs.Slab.{Slab, get, Updates}
 use Rattle.swan_model.specs.Versions.{place_cmp}
 use Rattle.object_versions.specs.declared.node.Node.{Node}
 use Rattle.object_versions.specs.declared.placed_object.PlacedObject.{PlacedObject}
-use Rattle.object_versions.specs.Store.{Entries, place_at, one, one_of, uses_of, uses, after_release}
+use Rattle.object_versions.specs.Store.{PlaceEntries, place_at, one, one_of, uses_of, uses, after_release}
 use Rattle.object_versions.specs.Whole.{IsWhole}
 use Rattle.object_versions.specs.Ending.{IsReleased, is_other, of_others, IsForgetting}
 use Rattle.object_versions.proofs.Counts.{one_self, one_other, uses_without}
@@ -19,7 +19,7 @@ use Rattle.object_versions.proofs.Steps.{go_out}
 use Rattle.object_versions.proofs.References.{released_whole, released_same}
 use Rattle.object_versions.proofs.Referred.{referred_there}
 
-module _ (entries : Entries) (old new : Slab Node) (made : ℕ) (held later : ℕ → ℕ) (key : ℕ) (change : (node : Node) → get old key ≡ Some node → Updates old new key (after_release node))
+module _ (entries : PlaceEntries) (old new : Slab Node) (made : ℕ) (held later : ℕ → ℕ) (key : ℕ) (change : (node : Node) → get old key ≡ Some node → Updates old new key (after_release node))
     (whole : IsWhole entries old made held) (split : (k : ℕ) → held k ≡ later k + one k key) where
   here : held key ≡ later key + 1
   here = let self = one_self key in let count = split key in omega (arith, self, count)
@@ -36,20 +36,20 @@ module _ (entries : Entries) (old new : Slab Node) (made : ℕ) (held later : �
     same = released_same entries old new made held later key whole some change here others;
   }
 
-pub released_at : (entries : Entries) (old new : Slab Node) (made : ℕ) (held later : ℕ → ℕ) (o : Option ℕ) (key : ℕ) → o ≡ Some key
+pub released_at : (entries : PlaceEntries) (old new : Slab Node) (made : ℕ) (held later : ℕ → ℕ) (o : Option ℕ) (key : ℕ) → o ≡ Some key
     → ((node : Node) → get old key ≡ Some node → Updates old new key (after_release node))
     → IsWhole entries old made held → ((k : ℕ) → held k ≡ later k + one_of k o) → IsReleased entries old new made later
 released_at entries old new made held later o key is change whole split =
     released_one entries old new made held later key change whole (λ k. split k ∙ ap (λ p. later k + one_of k p) is)
 
-pub first_there : (entries : Entries) (nodes : Slab Node) (made : ℕ) (has : PlacedObject) → IsWhole entries nodes made (λ k. uses_of k has)
+pub first_there : (entries : PlaceEntries) (nodes : Slab Node) (made : ℕ) (has : PlacedObject) → IsWhole entries nodes made (λ k. uses_of k has)
     → (key : ℕ) → Some has.present ≡ Some key → IsSome (get nodes key)
 first_there entries nodes made has whole key is =
     let here : one_of key (Some has.present) ≡ one key key = ap (one_of key) is in
     let self = one_self key in
     referred_there entries nodes made (λ k. uses_of k has) key whole (omega (arith, self, here))
 
-pub second_there : (entries : Entries) (a b : Slab Node) (made : ℕ) (has : PlacedObject)
+pub second_there : (entries : PlaceEntries) (a b : Slab Node) (made : ℕ) (has : PlacedObject)
     → ((held later : ℕ → ℕ) → IsWhole entries a made held → ((k : ℕ) → held k ≡ later k + one k has.present) → IsReleased entries a b made later)
     → IsWhole entries a made (λ k. uses_of k has) → (key : ℕ) → has.given ≡ Some key → IsSome (get b key)
 second_there entries a b made has present whole key is =
@@ -58,7 +58,7 @@ second_there entries a b made has present whole key is =
     referred_there entries b made (λ k. one_of k has.given + one_of k has.owes) key first.whole (omega (arith, self, here))
 
 -- Three in a row: the place's present version, the given one and the owed one. Each is there when it is released.
-module _ (entries : Entries) (a b c : Slab Node) (made : ℕ) (has : PlacedObject)
+module _ (entries : PlaceEntries) (a b c : Slab Node) (made : ℕ) (has : PlacedObject)
     (present : (held later : ℕ → ℕ) → IsWhole entries a made held → ((k : ℕ) → held k ≡ later k + one k has.present) → IsReleased entries a b made later)
     (given : (held later : ℕ → ℕ) → IsWhole entries b made held → ((k : ℕ) → held k ≡ later k + one_of k has.given) → IsReleased entries b c made later)
     (whole : IsWhole entries a made (λ k. uses_of k has)) where
@@ -73,7 +73,7 @@ module _ (entries : Entries) (a b c : Slab Node) (made : ℕ) (has : PlacedObjec
       let self = one_self key in let here : one_of key has.owes ≡ one key key = ap (one_of key) is in
       referred_there entries c made (λ k. one_of k has.owes) key released_second.whole (omega (arith, self, here))
 
-pub released_all : (entries : Entries) (a b c d : Slab Node) (made : ℕ) (has : PlacedObject)
+pub released_all : (entries : PlaceEntries) (a b c d : Slab Node) (made : ℕ) (has : PlacedObject)
     → ((held later : ℕ → ℕ) → IsWhole entries a made held → ((k : ℕ) → held k ≡ later k + one k has.present) → IsReleased entries a b made later)
     → ((held later : ℕ → ℕ) → IsWhole entries b made held → ((k : ℕ) → held k ≡ later k + one_of k has.given) → IsReleased entries b c made later)
     → ((held later : ℕ → ℕ) → IsWhole entries c made held → ((k : ℕ) → held k ≡ later k + one_of k has.owes) → IsReleased entries c d made later)
@@ -92,7 +92,7 @@ released_all entries a b c d made has present given owes whole =
 own_is_none : (frame at : ℕ) (k : ℕ × ℕ) → is_at (place_cmp (frame, at)) k ≡ true → is_other frame k ≡ false
 own_is_none frame at k same = ap not (eq-eqb k.0 frame (ap (λ (n : ℕ × ℕ). n.0) (sym (equal_at (frame, at) k same))))
 
-pub others_without : (frame at : ℕ) (entries : Entries) → of_others frame (remove_entry (is_at (place_cmp (frame, at))) entries) ≡ of_others frame entries
+pub others_without : (frame at : ℕ) (entries : PlaceEntries) → of_others frame (remove_entry (is_at (place_cmp (frame, at))) entries) ≡ of_others frame entries
 others_without frame at [] = refl
 others_without frame at (e ∷ es) = by (is_at (place_cmp (frame, at)) e.0) refl (others_without frame at es) where
   keep : (b : Bool) → of_others frame (remove_entry (is_at (place_cmp (frame, at))) es) ≡ of_others frame es
@@ -107,7 +107,7 @@ others_without frame at (e ∷ es) = by (is_at (place_cmp (frame, at)) e.0) refl
   by false is rest = keep (is_other frame e.0) rest
 
 -- where a frame has no place, all entries are of other frames
-pub all_others : (frame : ℕ) (entries : Entries) → ((place : ℕ) → place_at entries frame place ≡ None) → of_others frame entries ≡ entries
+pub all_others : (frame : ℕ) (entries : PlaceEntries) → ((place : ℕ) → place_at entries frame place ≡ None) → of_others frame entries ≡ entries
 all_others frame [] none = refl
 all_others frame (e ∷ es) none = by (e.0.0 == frame) refl (all_others frame es (λ place. later place (is_at (place_cmp (frame, place)) e.0) refl (none place))) where
   later : (place : ℕ) (b : Bool) → is_at (place_cmp (frame, place)) e.0 ≡ b → cond b (Some e.1) (place_at es frame place) ≡ None → place_at es frame place ≡ None
@@ -127,20 +127,20 @@ all_others frame (e ∷ es) none = by (e.0.0 == frame) refl (all_others frame es
 -- ---- one place more is forgotten
 
 -- its versions are still referred to until they are released
-pub taken_out : (before now later : Entries) (old new : Slab Node) (made frame at : ℕ) (has : PlacedObject) → IsForgetting before now old new made frame
+pub taken_out : (before now later : PlaceEntries) (old new : Slab Node) (made frame at : ℕ) (has : PlacedObject) → IsForgetting before now old new made frame
     → place_at now frame at ≡ Some has → later ≡ remove_entry (is_at (place_cmp (frame, at))) now → IsStrictlySortedBy place_cmp (keys_of later)
     → IsWhole later new made (λ k. uses_of k has)
 taken_out before now later old new made frame at has forgetting stands without sorted =
-    let Q : Entries → Type 0 = λ es. IsStrictlySortedBy place_cmp (keys_of es) in
-    let W : Entries → Type 0 = λ es. IsWhole es new made (λ k. uses_of k has) in
+    let Q : PlaceEntries → Type 0 = λ es. IsStrictlySortedBy place_cmp (keys_of es) in
+    let W : PlaceEntries → Type 0 = λ es. IsWhole es new made (λ k. uses_of k has) in
     subst W (sym without)
     (go_out now new made (λ _. 0) (λ k. uses_of k has) frame at has forgetting.whole stands forgetting.owes_none (λ k. omega arith) (subst Q without sorted))
 
-pub forgot_one : (before now later : Entries) (old new next : Slab Node) (made frame at : ℕ) (has : PlacedObject) → IsForgetting before now old new made frame
+pub forgot_one : (before now later : PlaceEntries) (old new next : Slab Node) (made frame at : ℕ) (has : PlacedObject) → IsForgetting before now old new made frame
     → place_at now frame at ≡ Some has → later ≡ remove_entry (is_at (place_cmp (frame, at))) now → IsStrictlySortedBy place_cmp (keys_of later)
     → (IsWhole later new made (λ k. uses_of k has) → IsReleased later new next made (λ _. 0)) → IsForgetting before later old next made frame
 forgot_one before now later old new next made frame at has forgetting stands without sorted release =
-    let left : Entries = remove_entry (is_at (place_cmp (frame, at))) now in
+    let left : PlaceEntries = remove_entry (is_at (place_cmp (frame, at))) now in
     let done = release (taken_out before now later old new made frame at has forgetting stands without sorted) in
     let fewer : (k : ℕ) → uses k later ≤ uses k now = λ k.
     let sums = uses_without now k frame at has stands in

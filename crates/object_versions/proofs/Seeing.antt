@@ -10,7 +10,7 @@ use Rattle.slab.specs.Slab.{Slab}
 use Rattle.swan_model.specs.Versions.{Version, owing, Placed, place_cmp, placed_at}
 use Rattle.object_versions.specs.declared.node.Node.{Node}
 use Rattle.object_versions.specs.declared.placed_object.PlacedObject.{PlacedObject}
-use Rattle.object_versions.specs.Store.{Entries, place_at, told_at, version_at, given_of, placed_of, seen, versions_of, uses_of, uses}
+use Rattle.object_versions.specs.Store.{PlaceEntries, place_at, told_at, version_at, given_of, placed_of, seen, versions_of, uses_of, uses}
 use Rattle.object_versions.proofs.Commuting.{each_insert, each_set}
 use Rattle.object_versions.proofs.Counts.{uses_at, present_used, given_used}
 use Rattle.object_versions.proofs.Steps.{told_version}
@@ -33,31 +33,31 @@ placed_same old new has same = record_same (by has.given refl) where
     present = told_version _ _ (same has.present (present_used has)) i;
   }
 
-pub seen_same : (old new : Slab Node) (entries : Entries) → ((k : ℕ) → 0 < uses k entries → told_at new k ≡ told_at old k) → map (seen new) entries ≡ map (seen old) entries
+pub seen_same : (old new : Slab Node) (entries : PlaceEntries) → ((k : ℕ) → 0 < uses k entries → told_at new k ≡ told_at old k) → map (seen new) entries ≡ map (seen old) entries
 seen_same old new [] same = refl
 seen_same old new (e ∷ es) same =
     let first = placed_same old new e.1 (λ k h. let sums = sum_by-cons (uses_of k) e.1 (values_of es) in same k (omega (arith, sums))) in
     let rest = seen_same old new es (λ k h. let sums = sum_by-cons (uses_of k) e.1 (values_of es) in same k (omega (arith, sums))) in
     λ i. (e.0, first i) ∷ rest i
 
-pub versions_same : (old new : Slab Node) (entries : Entries) (made : ℕ) → ((k : ℕ) → 0 < uses k entries → told_at new k ≡ told_at old k)
+pub versions_same : (old new : Slab Node) (entries : PlaceEntries) (made : ℕ) → ((k : ℕ) → 0 < uses k entries → told_at new k ≡ told_at old k)
     → versions_of entries new made ≡ versions_of entries old made
 versions_same old new entries made same = let e = seen_same old new entries same in λ i. record { places = e i; made = made }
 
-pub seen_at : (entries : Entries) (nodes : Slab Node) (made frame place : ℕ) → placed_at (versions_of entries nodes made) frame place ≡ option_map (placed_of nodes) (place_at entries frame place)
+pub seen_at : (entries : PlaceEntries) (nodes : Slab Node) (made frame place : ℕ) → placed_at (versions_of entries nodes made) frame place ≡ option_map (placed_of nodes) (place_at entries frame place)
 seen_at entries nodes made frame place = lookup-map_values (placed_of nodes) (is_at (place_cmp (frame, place))) entries
 
-pub seen_some : (entries : Entries) (nodes : Slab Node) (made frame place : ℕ) (has : PlacedObject) → place_at entries frame place ≡ Some has
+pub seen_some : (entries : PlaceEntries) (nodes : Slab Node) (made frame place : ℕ) (has : PlacedObject) → place_at entries frame place ≡ Some has
     → placed_at (versions_of entries nodes made) frame place ≡ Some (placed_of nodes has)
 seen_some entries nodes made frame place has stands = seen_at entries nodes made frame place ∙ ap (option_map (placed_of nodes)) stands
 
 -- what is kept of what contracts see at a place
-pub record IsKept (entries : Entries) (nodes : Slab Node) (frame place : ℕ) (object : Placed) : Type 0 where
+pub record IsKept (entries : PlaceEntries) (nodes : Slab Node) (frame place : ℕ) (object : Placed) : Type 0 where
   pub has : PlacedObject
   pub stands : place_at entries frame place ≡ Some has
   pub is : object ≡ placed_of nodes has
 
-pub kept_of : (entries : Entries) (nodes : Slab Node) (made frame place : ℕ) (object : Placed) → placed_at (versions_of entries nodes made) frame place ≡ Some object
+pub kept_of : (entries : PlaceEntries) (nodes : Slab Node) (made frame place : ℕ) (object : Placed) → placed_at (versions_of entries nodes made) frame place ≡ Some object
     → IsKept entries nodes frame place object
 kept_of entries nodes made frame place object stands = by (place_at entries frame place) refl where
   by : (o : Option PlacedObject) → place_at entries frame place ≡ o → IsKept entries nodes frame place object
@@ -67,23 +67,23 @@ kept_of entries nodes made frame place object stands = by (place_at entries fram
       let e : object ≡ placed_of nodes has = cc in
       record { has = has; stands = is; is = e }
 
-pub free_of : (entries : Entries) (nodes : Slab Node) (made frame place : ℕ) → placed_at (versions_of entries nodes made) frame place ≡ None → place_at entries frame place ≡ None
+pub free_of : (entries : PlaceEntries) (nodes : Slab Node) (made frame place : ℕ) → placed_at (versions_of entries nodes made) frame place ≡ None → place_at entries frame place ≡ None
 free_of entries nodes made frame place free = by (place_at entries frame place) refl where
   by : (o : Option PlacedObject) → place_at entries frame place ≡ o → place_at entries frame place ≡ None
   by None is = is
   by (Some has) is = absurd (none-some (placed_of nodes has) (sym free ∙ seen_some entries nodes made frame place has is))
 
 -- an object comes to a place
-pub seen_insert : (entries : Entries) (nodes : Slab Node) (frame place : ℕ) (has : PlacedObject)
+pub seen_insert : (entries : PlaceEntries) (nodes : Slab Node) (frame place : ℕ) (has : PlacedObject)
     → map (seen nodes) (insert_entry place_cmp entries (frame, place) has) ≡ insert_entry place_cmp (map (seen nodes) entries) (frame, place) (placed_of nodes has)
 seen_insert entries nodes frame place has = each_insert (placed_of nodes) entries (frame, place) has
 
 -- a place has another version
-pub seen_set : (entries : Entries) (nodes : Slab Node) (frame place : ℕ) (has : PlacedObject)
+pub seen_set : (entries : PlaceEntries) (nodes : Slab Node) (frame place : ℕ) (has : PlacedObject)
     → map (seen nodes) (set_value (is_at (place_cmp (frame, place))) entries has) ≡ set_value (is_at (place_cmp (frame, place))) (map (seen nodes) entries) (placed_of nodes has)
 seen_set entries nodes frame place has = each_set (placed_of nodes) (is_at (place_cmp (frame, place))) entries has
 
-module _ (entries : Entries) (old new : Slab Node) (same : (k : ℕ) → 0 < uses k entries → told_at new k ≡ told_at old k) (f p : ℕ) (was : PlacedObject)
+module _ (entries : PlaceEntries) (old new : Slab Node) (same : (k : ℕ) → 0 < uses k entries → told_at new k ≡ told_at old k) (f p : ℕ) (was : PlacedObject)
     (stands : place_at entries f p ≡ Some was) where
   pub same_there : placed_of new was ≡ placed_of old was
   same_there = placed_same old new was (λ k h. let most = uses_at entries k f p was stands in same k (omega arith))

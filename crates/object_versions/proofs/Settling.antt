@@ -10,7 +10,7 @@ use Rattle.object_versions.specs.declared.node.Node.{Node}
 use Rattle.object_versions.specs.declared.node.NodeState.{NodeState}
 use Rattle.object_versions.specs.declared.node.NodeState.TheVariants.{Settled, Owed}
 use Rattle.object_versions.specs.declared.placed_object.PlacedObject.{PlacedObject}
-use Rattle.object_versions.specs.Store.{Entries, place_at, told_of, version_of, version_at, object_at, versions_of, uses, uses_in, state_after_settle}
+use Rattle.object_versions.specs.Store.{PlaceEntries, place_at, told_of, version_of, version_at, object_at, versions_of, uses, uses_in, state_after_settle}
 use Rattle.object_versions.specs.Whole.{IsFit, IsWhole}
 use Rattle.object_versions.specs.Ending.{IsSettling, OwesNoMore, IsPaid}
 use Rattle.object_versions.proofs.Counts.{counted_after, told_here, told_elsewhere, HasNode, used, uses_at, present_used, owes_used}
@@ -41,7 +41,7 @@ settles_so (Owed f) v state n o left by =
     sym (ap (λ b. cond b (unwrap_or (left_by state n o) (owed f)) (owed f)) test ∙ ap (λ l. unwrap_or l (owed f)) left)
 
 -- what a place's version was where the frame began to end is what it is
-module _ (entries : Entries) (start now : Slab Node) (made n : ℕ) (begun : IsSettling entries start now made n) (q : ℕ) (has : PlacedObject) (stands : place_at entries n q ≡ Some has) where
+module _ (entries : PlaceEntries) (start now : Slab Node) (made n : ℕ) (begun : IsSettling entries start now made n) (q : ℕ) (has : PlacedObject) (stands : place_at entries n q ≡ Some has) where
   present_use : 0 < uses has.present entries
   present_use = let most = uses_at entries has.present n q has stands in let here = present_used has in omega arith
 
@@ -54,7 +54,7 @@ module _ (entries : Entries) (start now : Slab Node) (made n : ℕ) (begun : IsS
   pub read_at_start : (value : Value) → version_at now has.present ≡ settled value → version_at start has.present ≡ settled value
   read_at_start value reads = began_with.1 ∙ sym (begun.stay has.present began_with.0 present_use began_with.1) ∙ reads
 
-module _ (entries : Entries) (start now next : Slab Node) (made n q : ℕ) (has : PlacedObject) (key : ℕ) (value : Value) (begun : IsSettling entries start now made n)
+module _ (entries : PlaceEntries) (start now next : Slab Node) (made n q : ℕ) (has : PlacedObject) (key : ℕ) (value : Value) (begun : IsSettling entries start now made n)
     (stands : place_at entries n q ≡ Some has) (owes : has.owes ≡ Some key) (reads : version_at now has.present ≡ settled value)
     (change : (node : Node) → get now key ≡ Some node → Updates now next key (Some (record node { state = state_after_settle node.state value }))) where
   owes_use : 0 < uses key entries
@@ -162,7 +162,7 @@ module _ (entries : Entries) (start now next : Slab Node) (made n q : ℕ) (has 
   }
 
 -- before the first step
-pub begins : (entries : Entries) (nodes : Slab Node) (made n : ℕ) → IsWhole entries nodes made (λ _. 0) → IsSettled (versions_of entries nodes made) n → IsSettling entries nodes nodes made n
+pub begins : (entries : PlaceEntries) (nodes : Slab Node) (made n : ℕ) → IsWhole entries nodes made (λ _. 0) → IsSettled (versions_of entries nodes made) n → IsSettling entries nodes nodes made n
 begins entries nodes made n whole ready = record {
   began = whole;
   ready = ready;

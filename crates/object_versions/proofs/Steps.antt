@@ -9,7 +9,7 @@ use Rattle.swan_model.specs.declared.rights.Mode.TheVariants.{In}
 use Rattle.swan_model.specs.Versions.{Version, owed, place_cmp}
 use Rattle.object_versions.specs.declared.node.Node.{Node}
 use Rattle.object_versions.specs.declared.placed_object.PlacedObject.{PlacedObject}
-use Rattle.object_versions.specs.Store.{Entries, place_at, told_at, version_at, object_at, one, uses_of, uses}
+use Rattle.object_versions.specs.Store.{PlaceEntries, place_at, told_at, version_at, object_at, one, uses_of, uses}
 use Rattle.object_versions.specs.Whole.{IsCounted, IsFit, HasOwing, IsWhole, MayGetAt}
 use Rattle.object_versions.proofs.Lookups.{here, IsNewEntry, IsOldEntry, after_insert, after_set, after_removal, at_inserted, at_set, still_inserted, still_set, still_without, cases_place}
 use Rattle.object_versions.proofs.Counts.{one_other, same_count, uses_inserted, uses_changed, uses_without, uses_at, present_used, given_used, owes_used}
@@ -36,7 +36,7 @@ moved_fit old new made frame has same fit = record {
   };
 }
 
-pub moved_nodes : (entries : Entries) (old new : Slab Node) (made : ℕ) (held later : ℕ → ℕ) → IsWhole entries old made held
+pub moved_nodes : (entries : PlaceEntries) (old new : Slab Node) (made : ℕ) (held later : ℕ → ℕ) → IsWhole entries old made held
     → IsCounted new (λ k. uses k entries + later k) → ((k : ℕ) → 0 < uses k entries → told_at new k ≡ told_at old k)
     → IsWhole entries new made later
 moved_nodes entries old new made held later whole counted same = record {
@@ -49,7 +49,7 @@ moved_nodes entries old new made held later whole counted same = record {
 }
 
 -- more objects were made
-pub more_made : (entries : Entries) (nodes : Slab Node) (made : ℕ) (held : ℕ → ℕ) → IsWhole entries nodes made held → IsWhole entries nodes (made + 1) held
+pub more_made : (entries : PlaceEntries) (nodes : Slab Node) (made : ℕ) (held : ℕ → ℕ) → IsWhole entries nodes made held → IsWhole entries nodes (made + 1) held
 more_made entries nodes made held whole = record {
   sorted = whole.sorted;
   counted = whole.counted;
@@ -66,9 +66,9 @@ more_made entries nodes made held whole = record {
 
 -- ---- an object comes to a place
 
-module _ (entries : Entries) (nodes : Slab Node) (made : ℕ) (held later : ℕ → ℕ) (f p : ℕ) (has : PlacedObject) (whole : IsWhole entries nodes made held)
+module _ (entries : PlaceEntries) (nodes : Slab Node) (made : ℕ) (held later : ℕ → ℕ) (f p : ℕ) (has : PlacedObject) (whole : IsWhole entries nodes made held)
     (free : place_at entries f p ≡ None) where
-  abbrev after : Entries
+  abbrev after : PlaceEntries
   after = insert_entry place_cmp entries (f, p) has
 
   owing_still : (key frame : ℕ) → HasOwing entries key frame → HasOwing after key frame
@@ -134,9 +134,9 @@ module _ (entries : Entries) (nodes : Slab Node) (made : ℕ) (held later : ℕ 
 
 -- ---- what is kept at a place changes
 
-module _ (entries : Entries) (nodes : Slab Node) (made : ℕ) (held later : ℕ → ℕ) (f p : ℕ) (was changed : PlacedObject) (whole : IsWhole entries nodes made held)
+module _ (entries : PlaceEntries) (nodes : Slab Node) (made : ℕ) (held later : ℕ → ℕ) (f p : ℕ) (was changed : PlacedObject) (whole : IsWhole entries nodes made held)
     (stands : place_at entries f p ≡ Some was) (same_object : changed.object ≡ was.object) (same_mode : changed.mode ≡ was.mode) (same_owes : changed.owes ≡ was.owes) where
-  abbrev with_changed : Entries
+  abbrev with_changed : PlaceEntries
   with_changed = set_value (is_at (place_cmp (f, p))) entries changed
 
   owing_kept : (k frame : ℕ) → HasOwing entries k frame → HasOwing with_changed k frame
@@ -205,7 +205,7 @@ module _ (entries : Entries) (nodes : Slab Node) (made : ℕ) (held later : ℕ 
   }
 
 -- a place has another version
-module _ (entries : Entries) (nodes : Slab Node) (made : ℕ) (held later : ℕ → ℕ) (f p key : ℕ) (was : PlacedObject) (whole : IsWhole entries nodes made held)
+module _ (entries : PlaceEntries) (nodes : Slab Node) (made : ℕ) (held later : ℕ → ℕ) (f p key : ℕ) (was : PlacedObject) (whole : IsWhole entries nodes made held)
     (stands : place_at entries f p ≡ Some was) where
   fit_now : object_at nodes key ≡ was.object → IsFit nodes made f (record was { present = key })
   fit_now same = let fit = whole.fits f p was stands in record {
@@ -231,9 +231,9 @@ module _ (entries : Entries) (nodes : Slab Node) (made : ℕ) (held later : ℕ 
 
 -- ---- what a frame has at a place goes out
 
-module _ (entries : Entries) (nodes : Slab Node) (made : ℕ) (held later : ℕ → ℕ) (f p : ℕ) (has : PlacedObject) (whole : IsWhole entries nodes made held)
+module _ (entries : PlaceEntries) (nodes : Slab Node) (made : ℕ) (held later : ℕ → ℕ) (f p : ℕ) (has : PlacedObject) (whole : IsWhole entries nodes made held)
     (stands : place_at entries f p ≡ Some has) where
-  abbrev left : Entries
+  abbrev left : PlaceEntries
   left = remove_entry (is_at (place_cmp (f, p))) entries
 
   pub go_out : ((key : ℕ) → 0 < uses key entries → version_at nodes key ≡ owed f → ⊥) → ((k : ℕ) → later k ≡ held k + uses_of k has)

@@ -13,31 +13,31 @@ use Rattle.std.specs.declared.cmp.Ordering.TheVariants.{Less}
 use Rattle.std.specs.declared.ops.Bound.TheVariants.{Included, Unbounded}
 use Rattle.swan_model.specs.Versions.{place_cmp}
 use Rattle.object_versions.specs.declared.placed_object.PlacedObject.{PlacedObject}
-use Rattle.object_versions.specs.Store.{Entries, place_at}
+use Rattle.object_versions.specs.Store.{PlaceEntries, place_at}
 use Rattle.swan_model.proofs.Lookups.{keys_filtered}
 use Rattle.object_versions.proofs.Lookups.{equal_at, tied}
 
 -- These entries are left of a walk over a frame's places: what is left stands in the map, in rising order and at no
 -- frame before this one; and each place of the frame is done or left.
-pub record IsWalk (entries left : Entries) (frame : ℕ) (Done : PlacedObject → Type 0) : Type 0 where
+pub record IsWalk (entries left : PlaceEntries) (frame : ℕ) (Done : PlacedObject → Type 0) : Type 0 where
   pub sorted : IsStrictlySortedBy place_cmp (keys_of left)
   pub from : (owner place : ℕ) (has : PlacedObject) → place_at left owner place ≡ Some has → frame ≤ owner
   pub there : (owner place : ℕ) (has : PlacedObject) → place_at left owner place ≡ Some has → place_at entries owner place ≡ Some has
   pub done : (place : ℕ) (has : PlacedObject) → place_at entries frame place ≡ Some has → Done has ⊎ (place_at left frame place ≡ Some has)
 
 -- what is true of all keys is true of one that is found
-all_found : (P : ℕ × ℕ → Type 0) (es : Entries) (n : ℕ × ℕ) (has : PlacedObject) → AllByRecursion P (keys_of es) → place_at es n.0 n.1 ≡ Some has → P n
+all_found : (P : ℕ × ℕ → Type 0) (es : PlaceEntries) (n : ℕ × ℕ) (has : PlacedObject) → AllByRecursion P (keys_of es) → place_at es n.0 n.1 ≡ Some has → P n
 all_found P [] n has all is = absurd (none-some has is)
 all_found P (e ∷ es) n has all is = by (is_at (place_cmp n) e.0) refl is (all_found P es n has all.1) where
   by : (b : Bool) → is_at (place_cmp n) e.0 ≡ b → cond b (Some e.1) (place_at es n.0 n.1) ≡ Some has → (place_at es n.0 n.1 ≡ Some has → P n) → P n
   by true same at rest = subst P (sym (equal_at n e.0 same)) all.0
   by false other at rest = rest at
 
-later_keys : (e : (ℕ × ℕ) × PlacedObject) (left : Entries) → IsStrictlySortedBy place_cmp (keys_of (e ∷ left)) → AllByRecursion (λ k. place_cmp e.0 k ≡ Less) (keys_of left)
+later_keys : (e : (ℕ × ℕ) × PlacedObject) (left : PlaceEntries) → IsStrictlySortedBy place_cmp (keys_of (e ∷ left)) → AllByRecursion (λ k. place_cmp e.0 k ≡ Less) (keys_of left)
 unfolding IsStrictlySortedBy
 later_keys e left sorted = sorted.0
 
-rest_sorted : (e : (ℕ × ℕ) × PlacedObject) (left : Entries) → IsStrictlySortedBy place_cmp (keys_of (e ∷ left)) → IsStrictlySortedBy place_cmp (keys_of left)
+rest_sorted : (e : (ℕ × ℕ) × PlacedObject) (left : PlaceEntries) → IsStrictlySortedBy place_cmp (keys_of (e ∷ left)) → IsStrictlySortedBy place_cmp (keys_of left)
 unfolding IsStrictlySortedBy
 rest_sorted e left sorted = sorted.1
 
@@ -46,7 +46,7 @@ never_itself k less = grind (arith, nat_tests)
 
 -- ---- the next entry
 
-module _ (entries left : Entries) (frame : ℕ) (Done : PlacedObject → Type 0) (e : (ℕ × ℕ) × PlacedObject) (walk : IsWalk entries (e ∷ left) frame Done) where
+module _ (entries left : PlaceEntries) (frame : ℕ) (Done : PlacedObject → Type 0) (e : (ℕ × ℕ) × PlacedObject) (walk : IsWalk entries (e ∷ left) frame Done) where
   first : place_at (e ∷ left) e.0.0 e.0.1 ≡ Some e.1
   first = ap (λ b. cond b (Some e.1) (place_at left e.0.0 e.0.1)) (tied e.0)
 
@@ -123,7 +123,7 @@ module _ (entries left : Entries) (frame : ℕ) (Done : PlacedObject → Type 0)
   }
 
 -- where nothing is left, all places are done
-pub ends : (entries : Entries) (frame : ℕ) (Done : PlacedObject → Type 0) → IsWalk entries [] frame Done → (place : ℕ) (has : PlacedObject) → place_at entries frame place ≡ Some has → Done has
+pub ends : (entries : PlaceEntries) (frame : ℕ) (Done : PlacedObject → Type 0) → IsWalk entries [] frame Done → (place : ℕ) (has : PlacedObject) → place_at entries frame place ≡ Some has → Done has
 ends entries frame Done walk place has is = elim (walk.done place has is) [
   | inl done ↦ done
   | inr still_left ↦ absurd (none-some has still_left)
@@ -148,7 +148,7 @@ kept true o has is = (refl, is)
 kept false o has is = absurd (none-some has is)
 
 -- the walk begins with all entries from the frame's first place on
-pub begins : (entries : Entries) (frame : ℕ) (Done : PlacedObject → Type 0) → IsStrictlySortedBy place_cmp (keys_of entries)
+pub begins : (entries : PlaceEntries) (frame : ℕ) (Done : PlacedObject → Type 0) → IsStrictlySortedBy place_cmp (keys_of entries)
     → IsWalk entries (entries_between place_cmp (Included (frame, 0)) Unbounded entries) frame Done
 begins entries frame Done sorted = record {
   sorted = keys_from;

@@ -10,7 +10,7 @@ use Rattle.swan_model.specs.Versions.{settled, place_cmp, with_present, after_wr
 use Rattle.object_versions.specs.declared.node.Node.{Node}
 use Rattle.object_versions.specs.declared.node.NodeState.TheVariants.{Settled}
 use Rattle.object_versions.specs.declared.placed_object.PlacedObject.{PlacedObject}
-use Rattle.object_versions.specs.Store.{Entries, place_at, told_at, given_of, KeepsOwed, placed_of, versions_of, one, uses, uses_in, after_release}
+use Rattle.object_versions.specs.Store.{PlaceEntries, place_at, told_at, given_of, KeepsOwed, placed_of, versions_of, one, uses, uses_in, after_release}
 use Rattle.object_versions.specs.Whole.{IsWhole, HasOwn}
 use Rattle.object_versions.proofs.Lookups.{at_set}
 use Rattle.object_versions.proofs.Counts.{one_self, one_other, told_here, used, HasNode, uses_at, present_used}
@@ -19,7 +19,7 @@ use Rattle.object_versions.proofs.References.{made_whole, made_told, released_wh
 use Rattle.object_versions.proofs.Seeing.{placed_same, same_there, seen_present, seen_some, versions_same}
 use Rattle.object_versions.proofs.Differ.{settled_not-owed}
 
-module _ (entries later : Entries) (old middle new : Slab Node) (made f p key : ℕ) (was : PlacedObject) (value : Value) (whole : IsWhole entries old made (λ _. 0))
+module _ (entries later : PlaceEntries) (old middle new : Slab Node) (made f p key : ℕ) (was : PlacedObject) (value : Value) (whole : IsWhole entries old made (λ _. 0))
     (stands : place_at entries f p ≡ Some was) (vacant : get old key ≡ None)
     (change : Updates old middle key (Some (record { object = was.object; state = Settled value; uses = 1 })))
     (set : later ≡ set_value (is_at (place_cmp (f, p))) entries (record was { present = key }))
@@ -28,7 +28,7 @@ module _ (entries later : Entries) (old middle new : Slab Node) (made f p key : 
   abbrev node : Node
   node = record { object = was.object; state = Settled value; uses = 1 }
 
-  abbrev after : Entries
+  abbrev after : PlaceEntries
   after = set_value (is_at (place_cmp (f, p))) entries (record was { present = key })
 
   told : told_at middle key ≡ (was.object, settled value)
@@ -40,7 +40,7 @@ module _ (entries later : Entries) (old middle new : Slab Node) (made f p key : 
 
   with_set : IsWhole after middle made (λ k. one k was.present)
   with_set =
-      let Q : Entries → Type 0 = λ es. IsStrictlySortedBy place_cmp (keys_of es) in
+      let Q : PlaceEntries → Type 0 = λ es. IsStrictlySortedBy place_cmp (keys_of es) in
       set_in entries middle made (λ k. one k key) (λ k. one k was.present) f p key was with_node stands
       (ap (λ t. t.0) told)
       (λ frame is. absurd (settled_not-owed value frame (sym (ap (λ t. t.1) told) ∙ is)))
@@ -54,7 +54,7 @@ module _ (entries later : Entries) (old middle new : Slab Node) (made f p key : 
       (let self = one_self was.present in omega (arith, self)) (λ k apart. sym (one_other k was.present apart))
 
   pub written_whole : IsWhole later new made (λ _. 0)
-  written_whole = let P : Entries → Type 0 = λ es. IsWhole es new made (λ _. 0) in subst P (sym set) whole_after
+  written_whole = let P : PlaceEntries → Type 0 = λ es. IsWhole es new made (λ _. 0) in subst P (sym set) whole_after
 
   told_old : (k : ℕ) → 0 < uses k entries → told_at middle k ≡ told_at old k
   told_old k h = made_told entries old middle made (λ _. 0) (λ k. one k key) key node whole vacant change k (omega arith)

@@ -12,11 +12,11 @@ use Rattle.object_versions.specs.declared.node.NodeState.TheVariants.{Settled, O
 use Rattle.object_versions.specs.declared.placed_object.PlacedObject.{PlacedObject}
 
 -- what is kept of each place, by frame and place in rising order
-abbrev pub Entries : Type 0
-Entries = List ((ℕ × ℕ) × PlacedObject)
+abbrev pub PlaceEntries : Type 0
+PlaceEntries = List ((ℕ × ℕ) × PlacedObject)
 
 -- what is kept of a frame's place
-abbrev pub place_at : Entries → ℕ → ℕ → Option PlacedObject
+abbrev pub place_at : PlaceEntries → ℕ → ℕ → Option PlacedObject
 place_at entries frame place = lookup (is_at (place_cmp (frame, place))) entries
 
 -- ---- what places and keys stand for
@@ -61,7 +61,7 @@ abbrev pub seen : Slab Node → (ℕ × ℕ) × PlacedObject → (ℕ × ℕ) ×
 seen nodes entry = (entry.0, placed_of nodes entry.1)
 
 -- the renamed objects that are kept so
-abbrev pub versions_of : Entries → Slab Node → ℕ → VersionState
+abbrev pub versions_of : PlaceEntries → Slab Node → ℕ → VersionState
 versions_of entries nodes made = record { places = map (seen nodes) entries; made = made }
 
 -- ---- how often places refer to a key
@@ -76,7 +76,7 @@ one_of key (Some other) = one key other
 abbrev pub uses_of : ℕ → PlacedObject → ℕ
 uses_of key place = one key place.present + (one_of key place.given + one_of key place.owes)
 
-abbrev pub uses : ℕ → Entries → ℕ
+abbrev pub uses : ℕ → PlaceEntries → ℕ
 uses key entries = sum_by (uses_of key) (values_of entries)
 
 abbrev pub uses_in : Option Node → ℕ

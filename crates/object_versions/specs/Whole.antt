@@ -10,7 +10,7 @@ use Rattle.swan_model.specs.Versions.{VersionState, owed, place_cmp}
 use Rattle.object_versions.specs.declared.node.Node.{Node}
 use Rattle.object_versions.specs.declared.placed_object.PlacedObject.{PlacedObject}
 use Rattle.object_versions.specs.declared.store.VersionStore.{VersionStore}
-use Rattle.object_versions.specs.Store.{Entries, place_at, version_at, object_at, KeepsOwed, uses, uses_in, versions_of}
+use Rattle.object_versions.specs.Store.{PlaceEntries, place_at, version_at, object_at, KeepsOwed, uses, uses_in, versions_of}
 
 -- Each version counts exactly those who refer to it, and is there only while someone does.
 pub record IsCounted (nodes : Slab Node) (count : ℕ → ℕ) : Type 0 where
@@ -33,14 +33,14 @@ pub record IsFit (nodes : Slab Node) (made frame : ℕ) (place : PlacedObject) :
   pub owes : (key : ℕ) → place.owes ≡ Some key → IsOwing nodes frame place key
 
 -- a place of a frame which owes a version
-pub record HasOwing (entries : Entries) (key frame : ℕ) : Type 0 where
+pub record HasOwing (entries : PlaceEntries) (key frame : ℕ) : Type 0 where
   pub place : ℕ
   pub has : PlacedObject
   pub stands : place_at entries frame place ≡ Some has
   pub owes : has.owes ≡ Some key
 
 -- All of it. In mid-call, `held` says how often the code itself refers to a key.
-pub record IsWhole (entries : Entries) (nodes : Slab Node) (made : ℕ) (held : ℕ → ℕ) : Type 0 where
+pub record IsWhole (entries : PlaceEntries) (nodes : Slab Node) (made : ℕ) (held : ℕ → ℕ) : Type 0 where
   pub sorted : IsStrictlySortedBy place_cmp (keys_of entries)
   pub counted : IsCounted nodes (λ key. uses key entries + held key)
   pub fits : (frame place : ℕ) (has : PlacedObject) → place_at entries frame place ≡ Some has → IsFit nodes made frame has
@@ -75,12 +75,12 @@ Becomes before after change = (made : ℕ) → IsAtRest before made → seen_of 
 -- ---- what a write and a gift ask
 
 -- At this place a frame has a version that nobody else has, and of what it was given it keeps only what is still owed.
-pub record HasOwn (entries : Entries) (nodes : Slab Node) (frame place : ℕ) : Type 0 where
+pub record HasOwn (entries : PlaceEntries) (nodes : Slab Node) (frame place : ℕ) : Type 0 where
   pub has : PlacedObject
   pub stands : place_at entries frame place ≡ Some has
   pub alone : uses_in (get nodes has.present) ≡ 1
   pub given : KeepsOwed nodes has.given
 
 -- a frame that has the object already may get it once more only to read, and only where it reads it there too
-pub record MayGetAt (entries : Entries) (child object : ℕ) (mode : Mode) : Type 0 where
+pub record MayGetAt (entries : PlaceEntries) (child object : ℕ) (mode : Mode) : Type 0 where
   pub alone : (place : ℕ) (has : PlacedObject) → place_at entries child place ≡ Some has → has.object ≡ object → (has.mode ≡ In) × (mode ≡ In)

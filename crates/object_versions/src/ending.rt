@@ -3,7 +3,7 @@ ghost use Rattle.std.specs.Prelude.{◌≡◌, ℕ, ◌+◌, Some, None, IsSome,
 ghost use Rattle.swan_model.specs.declared.value.Value.{Value};
 ghost use Rattle.swan_model.specs.Versions.{settled};
 ghost use Rattle.slab.specs.Slab.{get};
-ghost use Rattle.object_versions.specs.Store.{Entries, place_at, version_at, one_of, uses_of};
+ghost use Rattle.object_versions.specs.Store.{PlaceEntries, place_at, version_at, one_of, uses_of};
 ghost use Rattle.object_versions.specs.Whole.{IsWhole};
 ghost use Rattle.object_versions.specs.Ending.{IsSettling, OnSettling, OwesNoMore, IsPaid, IsAllPaid, IsReleased, IsForgetting};
 
@@ -61,7 +61,7 @@ pub fn settle_all(
 /// Counts one less who refers to a version, where there is one. `O(1)`; it takes no memory.
 fn release_one(nodes: &mut Slab<Node>, key: Option<usize>)
     requires { (is : ℕ) → key ≡ Some is → IsSome (get nodes.old is) }
-    ensures { (entries : Entries) (made : ℕ) (held later : ℕ → ℕ) → IsWhole entries nodes.old made held → ((k : ℕ) → held k ≡ later k + one_of k key)
+    ensures { (entries : PlaceEntries) (made : ℕ) (held later : ℕ → ℕ) → IsWhole entries nodes.old made held → ((k : ℕ) → held k ≡ later k + one_of k key)
         → IsReleased entries nodes.old nodes.new made later }
 {
     if let Some(key) = key {
@@ -71,8 +71,8 @@ fn release_one(nodes: &mut Slab<Node>, key: Option<usize>)
 
 /// Releases the versions to which a place referred. `O(1)`; it takes no memory.
 fn release_all(nodes: &mut Slab<Node>, place: &PlacedObject)
-    requires whole { (entries : Entries) × (made : ℕ) × IsWhole entries nodes.old made (λ k. uses_of k place.now) }
-    ensures { (entries : Entries) (made : ℕ) → IsWhole entries nodes.old made (λ k. uses_of k place.now) → IsReleased entries nodes.old nodes.new made (λ _. 0) }
+    requires whole { (entries : PlaceEntries) × (made : ℕ) × IsWhole entries nodes.old made (λ k. uses_of k place.now) }
+    ensures { (entries : PlaceEntries) (made : ℕ) → IsWhole entries nodes.old made (λ k. uses_of k place.now) → IsReleased entries nodes.old nodes.new made (λ _. 0) }
 {
     release_one(nodes, Some(place.present));
     release_one(nodes, place.given);

@@ -82,8 +82,8 @@ module _ {B L : Type 0} (G : Ghosts B L) where
   StandsNext at next = StandsAt G at.plan at.path (at.k + 1) next
 
   -- what the task holds, named by what made it
-  abbrev pub names_at : TaskStep B L → List (Option OriginGive)
-  names_at at = gives_at G at.plan at.path at.k at.top
+  abbrev pub names_on_step : TaskStep B L → List (Option OriginGive)
+  names_on_step at = gives_at G at.plan at.path at.k at.top
 
   -- the task goes on with this answer, and its step is this deed
   abbrev pub AnswersWith : AskStep B L → Answer → Deed → Type 0

@@ -30,7 +30,7 @@ ghost use Rattle.swan_model.specs.declared.plan.TheConstants.{FUEL_MOST, ROOTS_M
 ghost use Rattle.swan_model.specs.declared.rights.TheConstants.{GIVES_MOST};
 ghost use Rattle.swan_model.specs.declared.rights.Give.{Give};
 ghost use Rattle.serial_elision.specs.Laws.{AreEachOnce, AreInOrder, IsObjectOf, IsQueueOf};
-ghost use Rattle.serial_elision.specs.OnSteps.{AnswersWith, EndsBy, IsBounded, IsItemLeft, IsNoneLeft, MakesPlace, OnAsk, OnBoundedAsk, OnBoundedStep, OnSpawn, OnStep, OnUse, StandsNext, does_at, names_at};
+ghost use Rattle.serial_elision.specs.OnSteps.{AnswersWith, EndsBy, IsBounded, IsItemLeft, IsNoneLeft, MakesPlace, OnAsk, OnBoundedAsk, OnBoundedStep, OnSpawn, OnStep, OnUse, StandsNext, does_at, names_on_step};
 ghost use Rattle.serial_elision.specs.TaskSteps.{EndsTask, IsFaultOf, LacksRight, MayUseAt, Spawns};
 
 use swan_model::Body;
@@ -70,11 +70,11 @@ pub fn tasks_go_on<B: Body>()
 pub fn names_stay<B: Body>()
     // at a step, at each later time, and at the next step
     ensures named { OnBoundedStep B.Body (λ at. (place : ℕ) (holding : Holding) → slice_get at.top.holdings place ≡ Some holding
-        → (origin : Origin) × (slice_get (names_at B.Body at) place ≡ Some (Some (record { origin = origin; mode = holding.mode })))) }
+        → (origin : Origin) × (slice_get (names_on_step B.Body at) place ≡ Some (Some (record { origin = origin; mode = holding.mode })))) }
     ensures later { OnBoundedStep B.Body (λ at. (n : ℕ) → time (script B.Body at.plan) at.path at.k ≤ n
-        → map (give_of (serial B.Body at.plan n).store) at.top.holdings ≡ names_at B.Body at) }
+        → map (give_of (serial B.Body at.plan n).store) at.top.holdings ≡ names_on_step B.Body at) }
     ensures next { OnBoundedStep B.Body (λ at. (next : Activation B.Local) → StandsNext B.Body at next
-        → next.holdings ≡ at.top.holdings → gives_at B.Body at.plan at.path (at.k + 1) next ≡ names_at B.Body at) }
+        → next.holdings ≡ at.top.holdings → gives_at B.Body at.plan at.path (at.k + 1) next ≡ names_on_step B.Body at) }
 
     // what may be used
     ensures usable { OnBoundedStep B.Body (λ at. (place : ℕ) (holding : Holding) (mode : Mode) → slice_get at.top.holdings place ≡ Some holding

@@ -1,4 +1,5 @@
--- The book of the project. It is meant to be read from top to bottom, without any code beside it, and has two shelves.
+-- The book of the project. It is meant to be read from top to bottom, with no code beside it but the types of values, asks and plans
+-- in src/, and has two shelves.
 --
 -- The first shelf is what the headline speaks of: what a plan is, what its serial elision leaves, and what is printed of that.
 -- Who wants to know what is promised of the bytes that come out reads these eight files and no more; of the second shelf the headline

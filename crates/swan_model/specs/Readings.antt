@@ -19,13 +19,6 @@ end_time s path = time s path (length (times s path) - 1) + 1
 abbrev pub at_start : List Origin → List Origin → Reading
 at_start queues objects = record { frames = (record { number = 0; path = []; done = 0 }) ∷ []; queues = queues; objects = objects }
 
-abbrev pub one_more : ℕ → Progress → Progress
-one_more number frame = if frame.number == number then record frame { done = frame.done + 1 } else frame
-
--- the reading once the frame of this number has done one more entry
-abbrev pub gone_on : Reading → ℕ → Reading
-gone_on r number = record r { frames = map (one_more number) r.frames }
-
 -- what a frame is once the one of this number has done so many more entries
 abbrev pub more_by : (number many : ℕ) → Progress → Progress
 more_by number many frame = if frame.number == number then record frame { done = frame.done + many } else frame
@@ -33,6 +26,13 @@ more_by number many frame = if frame.number == number then record frame { done =
 -- the reading once the frame of this number has done so many more entries
 abbrev pub gone_on_by : Reading → (number many : ℕ) → Reading
 gone_on_by r number many = record r { frames = map (more_by number many) r.frames }
+
+-- and once it has done one more
+abbrev pub one_more : ℕ → Progress → Progress
+one_more number = more_by number 1
+
+abbrev pub gone_on : Reading → ℕ → Reading
+gone_on r number = gone_on_by r number 1
 
 -- the reading once a frame has done a spawn, whose child has this number
 abbrev pub reading_after_spawn : Script → Reading → Progress → ℕ → Reading

@@ -8,7 +8,7 @@
 //! of order: scripts and what they tell, serial time, rights counted from a script, how tasks lie in each
 //! other, ripe items, lawful scripts, readings, what renamed objects and hyperqueues keep of such a run,
 //! what a segment owes, and true frames.
-//! They are meant to be read in the order of `specs/Lib.antt`, without any code beside them. `RunName`
+//! They are meant to be read in the order of `specs/Lib.antt`, with no code beside them but the types here. `RunName`
 //! is a name that means a script.
 //!
 //! The crate runs nothing. Each of its calls is proved to answer exactly what its clauses say; the

@@ -3,11 +3,10 @@ use Rattle.std.proofs.Common.{◌≡◌, ◌≢◌, ℕ, suc, ◌+◌, Bool, tru
 use Rattle.std.proofs.lemmas.Bool.{eq-eqb, ne_eqb}
 use Rattle.std.specs.List.{find}
 use Rattle.std.specs.Option.{option_map}
-use Rattle.swan_model.specs.Readings.{gone_on, one_more}
 use Rattle.swan_model.specs.SerialTime.{Progress, Reading, frame_of}
-use Rattle.swan_model.specs.Readings.{gone_on_by, more_by}
+use Rattle.swan_model.specs.Readings.{gone_on, gone_on_by, more_by, one_more}
 use Rattle.swan_model.proofs.Elements.{find_map, found_before, found_last, found_unless}
-use Rattle.swan_model.proofs.MovedFrames.{frame_number, number_kept, other_stays, own_moves}
+use Rattle.swan_model.proofs.MovedFrames.{frame_number}
 
 -- a change of the frames that leaves their numbers, and one frame
 left-as-is : (g : Progress → Progress) (n : ℕ) (frames : List Progress) → ((f : Progress) → f.number ≡ n → g f ≡ f) → (found : Option Progress) → find (λ f. nat_eq f.number n) frames ≡ found → option_map g found ≡ found
@@ -23,15 +22,6 @@ other-moved g n frames kept same =
 own-moved : (g : Progress → Progress) (n : ℕ) (frames : List Progress) (p : Progress) → ((f : Progress) → (g f).number ≡ f.number) → find (λ f. nat_eq f.number n) frames ≡ Some p
     → find (λ f. nat_eq f.number n) (map g frames) ≡ Some (g p)
 own-moved g n frames p kept is = find_map (λ f. nat_eq f.number n) g (λ f. ap (λ k. nat_eq k n) (kept f)) frames ∙ ap (option_map g) is
-
--- ---- one entry more
-
-pub own-gone : (r : Reading) (number : ℕ) (p : Progress) → frame_of r number ≡ Some p → frame_of (gone_on r number) number ≡ Some (record p { done = p.done + 1 })
-own-gone r number p known = own-moved (one_more number) number r.frames p (number_kept number) known ∙ ap Some (own_moves number p (frame_number r.frames number p known))
-
-pub other-gone : (r : Reading) (number n : ℕ) → n ≢ number → frame_of (gone_on r number) n ≡ frame_of r n
-other-gone r number n apart =
-    other-moved (one_more number) n r.frames (number_kept number) (λ f own. other_stays number f (λ same. apart (sym own ∙ same)))
 
 -- ---- several entries more
 
@@ -50,6 +40,14 @@ pub other-gone_by : (r : Reading) (number many n : ℕ) → n ≢ number → fra
 other-gone_by r number many n apart =
     other-moved (more_by number many) n r.frames (number-by number many)
     (λ f own. ap (λ b. cond b (record f { done = f.done + many }) f) (ne_eqb f.number number (λ same. apart (sym own ∙ same))))
+
+-- ---- one entry more
+
+pub own-gone : (r : Reading) (number : ℕ) (p : Progress) → frame_of r number ≡ Some p → frame_of (gone_on r number) number ≡ Some (record p { done = p.done + 1 })
+own-gone r number = own-gone_by r number 1
+
+pub other-gone : (r : Reading) (number n : ℕ) → n ≢ number → frame_of (gone_on r number) n ≡ frame_of r n
+other-gone r number = other-gone_by r number 1
 
 -- none is the reading itself, and one more than many is many and then one
 none-more : (number : ℕ) (f : Progress) → more_by number 0 f ≡ f

@@ -1,5 +1,5 @@
 use Rattle.std.proofs.Common.{sym, subst, ◌∙◌}
-use Rattle.object_versions.specs.Store.{Entries}
+use Rattle.object_versions.specs.Store.{PlaceEntries}
 use Rattle.object_versions.proofs.Settling.{reads_value}
 use Rattle.object_versions.proofs.Referred.{owes_there}
 use Rattle.object_versions.proofs.Paying.{IsPaidThen, next_under_way, all_paid, all_paid_at_end}
@@ -11,7 +11,7 @@ loop-owner-init c =
     let entries = c.args.places.now.entries in
     let start = c.args.nodes.now in
     let Done = IsPaidThen entries start start c.args.frame in
-    let P : Entries → Type 0 = λ left. IsWalk entries left c.args.frame Done in (
+    let P : PlaceEntries → Type 0 = λ left. IsWalk entries left c.args.frame Done in (
       tt,
       tt,
       record {

@@ -1,5 +1,5 @@
 use Rattle.std.proofs.Common.{sym, subst, ◌∙◌}
-use Rattle.object_versions.specs.Store.{Entries}
+use Rattle.object_versions.specs.Store.{PlaceEntries}
 use Rattle.object_versions.proofs.Awaited.{NoneOwes, awaits_here, awaits_none}
 use Rattle.object_versions.proofs.Walk.{IsWalk, begins, stands, least, goes_on, ends_at, ends}
 use Rattle.object_versions.proofs.Referred.{given_there}
@@ -8,7 +8,7 @@ use Rattle.object_versions.proofs.waiting.first_awaited.Goals as goal
 pub loop-owner-init : goal.loop-owner-init
 loop-owner-init c =
     let entries = c.args.places.now.entries in
-    let P : Entries → Type 0 = λ left. IsWalk entries left c.args.frame (NoneOwes c.args.nodes.now) in (
+    let P : PlaceEntries → Type 0 = λ left. IsWalk entries left c.args.frame (NoneOwes c.args.nodes.now) in (
       tt,
       tt,
       subst P (sym (c.into_iter-owner-iterator.ensures.into_iter_gives ∙ c.range-owner-items.ensures.between tt))

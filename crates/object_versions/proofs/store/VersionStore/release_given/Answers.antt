@@ -1,6 +1,6 @@
 use Rattle.std.proofs.Common.{ℕ, None, ap, ◌∙◌}
 use Rattle.object_versions.specs.declared.placed_object.PlacedObject.{PlacedObject}
-use Rattle.object_versions.specs.Store.{Entries, place_at}
+use Rattle.object_versions.specs.Store.{PlaceEntries, place_at}
 use Rattle.object_versions.proofs.Lookups.{at_set, still_set}
 use Rattle.object_versions.proofs.Forgotten.{forgotten_whole, forgotten_seen}
 use Rattle.object_versions.proofs.Referred.{given_there}
@@ -10,13 +10,13 @@ use Rattle.object_versions.proofs.store.VersionStore.release_given.Goals as goal
 pub returns-clause-stands : goal.returns-clause-stands
 returns-clause-stands c =
     let less : PlacedObject = record c.args.object { given = None } in
-    ap (λ (es : Entries). place_at es c.args.frame c.args.place) (c.forget_given.ensures.set c.args.object c.requires.stands)
+    ap (λ (es : PlaceEntries). place_at es c.args.frame c.args.place) (c.forget_given.ensures.set c.args.object c.requires.stands)
     ∙ at_set c.args.self.now.places.entries (c.args.frame, c.args.place) c.args.object less c.requires.stands
 
 pub returns-clause-others : goal.returns-clause-others
 returns-clause-others c = λ other at apart.
     let less : PlacedObject = record c.args.object { given = None } in
-    ap (λ (es : Entries). place_at es other at) (c.forget_given.ensures.set c.args.object c.requires.stands)
+    ap (λ (es : PlaceEntries). place_at es other at) (c.forget_given.ensures.set c.args.object c.requires.stands)
     ∙ still_set c.args.self.now.places.entries (c.args.frame, c.args.place) c.args.object less (other, at) c.requires.stands (λ e. apart (ap (λ (n : ℕ × ℕ). n.0) e))
 
 pub returns-clause-whole : goal.returns-clause-whole

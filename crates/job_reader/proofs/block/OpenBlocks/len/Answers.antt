@@ -1,5 +1,5 @@
 use Rattle.std.proofs.Common.{arith}
-use Rattle.job_reader.proofs.block.Blocks.len.Goals as goal
+use Rattle.job_reader.proofs.block.OpenBlocks.len.Goals as goal
 
 pub returns-clause-small : goal.returns-clause-small
 returns-clause-small c =

@@ -1,7 +1,7 @@
 -- Nothing is written yet, and the words that are left are those that were left before.
 use Rattle.std.proofs.Common.{◌≡◌, ◌++◌, length}
 use Rattle.index_pipeline.specs.Records.{block_records}
-use Rattle.index_pipeline.proofs.words_left.LinesLeftSource.write_next.Given as goal
+use Rattle.index_pipeline.proofs.words_left.LinesLeftRecordSource.write_next.Given as goal
 
 abbrev pub invariant-loop-more : goal.invariant-loop-more
 invariant-loop-more l = record {

@@ -3,7 +3,7 @@ use Rattle.std.proofs.Common.{◌≡◌, ◌∙◌, ◌+◌, ◌∷◌, ◌++◌
 use Rattle.index_pipeline.specs.KeptPairs.{pairs_from_word}
 use Rattle.index_pipeline.specs.Records.{record_of}
 use Rattle.index_pipeline.proofs.KeptOrder.{paired}
-use Rattle.index_pipeline.proofs.pairs_left.NumbersLeftSource.write_next.Goals as goal
+use Rattle.index_pipeline.proofs.pairs_left.NumbersLeftRecordSource.write_next.Goals as goal
 
 pub overflow_add-self : goal.overflow_add-self
 overflow_add-self c =

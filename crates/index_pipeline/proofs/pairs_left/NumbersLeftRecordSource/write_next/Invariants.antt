@@ -1,7 +1,7 @@
 -- Nothing is written yet, and the pairs that are left are those that were left before.
 use Rattle.std.proofs.Common.{◌≡◌, length, drop}
 use Rattle.index_pipeline.specs.KeptPairs.{pairs_from_word}
-use Rattle.index_pipeline.proofs.pairs_left.NumbersLeftSource.write_next.Given as goal
+use Rattle.index_pipeline.proofs.pairs_left.NumbersLeftRecordSource.write_next.Given as goal
 
 abbrev pub invariant-loop-line : goal.invariant-loop-line
 invariant-loop-line l = record {
