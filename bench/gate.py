@@ -1,10 +1,10 @@
 """What the gate costs, by crate.
 
-    python3 bench/gate.py [CRATE..]      runs `rt ci CRATE` for each, the lowest first; all crates where none is named
     python3 bench/gate.py --whole [LOG]  runs the whole gate from nothing, and nothing is taken of an earlier run
+    python3 bench/gate.py [CRATE..]      runs `rt ci CRATE` for each, the lowest first; all crates where none is named
 
 The whole from nothing is `rt ci --anew`, or plain `rt ci` with a kit that doesn't know that word, since such a kit keeps nothing
-of a gate. It has no `rt ci CRATE` either.
+of a gate. It takes no crate's name either, and then there is nothing by crate to run.
 
 Of the whole gate it prints when each part was done, in minutes from the start, and then what it took by the clock and of
 processors; begin it with `taskset -c 0,1` for what it takes on two of them. All lines of that run go to LOG, which lies outside
@@ -87,6 +87,8 @@ def whole(path):
 def main(words):
     if words[:1] == ["--whole"] and len(words) <= 2:
         sys.exit(whole(words[1] if len(words) > 1 else f"{tempfile.mkdtemp(prefix='swan-gate-')}/log"))
+    if from_nothing() == ["rt", "ci"]:
+        sys.exit("the gate of this kit takes no crate's name: python3 bench/gate.py --whole")
     order = lowest_first(crates())
     unknown = [word for word in words if word not in order]
     if unknown:
