@@ -35,7 +35,7 @@ owed_key middle child key gets told may owes k is =
     record {
       same = ap (λ n. (told_at middle n).0) (sym e) ∙ ap (λ t. t.0) told;
       may = may;
-      by = λ other h. sym (owed_same child other (sym (ap (λ t. t.1) told) ∙ ap (version_at middle) e ∙ h));
+      by = ap (version_at middle) (sym e) ∙ ap (λ t. t.1) told;
     }
 
 module _ (entries with_child later : PlaceEntries) (old middle new : Slab Node) (made parent pp child cp key : ℕ) (was gets : PlacedObject)

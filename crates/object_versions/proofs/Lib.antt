@@ -15,6 +15,7 @@ pub mod References
 pub mod Commuting
 pub mod Seeing
 -- an object is made, one is written, and a version is given up
+pub mod GetsValue
 pub mod Making
 pub mod Writing
 pub mod Overwriting

@@ -39,11 +39,11 @@ find_only {A} {B} p f g (y ∷ ys) v all (suc i) x is passes = by (p (g y)) refl
   by true e rest = ap Some (all zero y refl e)
   by false e rest = rest
 
--- what a frame leaves of an object is what it has where it may write it
-pub left_of : (entries : PlaceEntries) (nodes : Slab Node) (made : ℕ) (held : ℕ → ℕ) (n q : ℕ) (has : PlacedObject) (value : Value) → IsWhole entries nodes made held
+-- what a frame leaves of an object is what it has where it may write it, where these places are whole with whatever versions
+pub left_of : (entries : PlaceEntries) (nodes other : Slab Node) (made : ℕ) (held : ℕ → ℕ) (n q : ℕ) (has : PlacedObject) (value : Value) → IsWhole entries other made held
     → place_at entries n q ≡ Some has → allows has.mode Out ≡ true → version_at nodes has.present ≡ settled value
     → left_by (versions_of entries nodes made) n has.object ≡ Some (settled value)
-left_of entries nodes made held n q has value whole stands may is =
+left_of entries nodes other made held n q has value whole stands may is =
     find_only (may_write n has.object) (λ (entry : (ℕ × ℕ) × Placed). entry.1.present) (seen nodes) entries (settled value) all at.0 (at.1, has) at.2 passes
   where
     at : (i : ℕ) × (k : ℕ × ℕ) × (slice_get entries i ≡ Some (k, has)) × (is_at (place_cmp (n, q)) k ≡ true)
@@ -63,7 +63,7 @@ left_of entries nodes made held n q has value whole stands may is =
         let second = and_parts (e.1.object == has.object) (allows e.1.mode Out) first.1 in
         let owner = eqb-true e.0.0 n first.0 in
         let object = eqb-true e.1.object has.object second.0 in
-        let here : place_at entries n e.0.1 ≡ Some e.1 = ap (λ m. place_at entries m e.0.1) (sym owner) ∙ place_of entries nodes made held whole i e there in
+        let here : place_at entries n e.0.1 ≡ Some e.1 = ap (λ m. place_at entries m e.0.1) (sym owner) ∙ place_of entries other made held whole i e there in
         ⊎_elim
         (λ same. let this : e.1 ≡ has = same_Some e.1 has (sym here ∙ ap (place_at entries n) same ∙ stands) in ap (λ o. version_at nodes o.present) this ∙ is)
         (λ apart. absurd (false≢true (sym (ap (λ m. allows m Out) (whole.alone n e.0.1 q e.1 has here stands apart object).0) ∙ second.1)))

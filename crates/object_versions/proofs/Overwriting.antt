@@ -1,21 +1,21 @@
 -- An object is written where one place alone refers to its version: the version gets the value.
 use Rattle.std.proofs.Common.{◌≡◌, ◌≢◌, ℕ, ◌+◌, ◌<◌, Bool, true, false, cond, Option, None, Some, IsSome, List, [], ◌∷◌, map, refl, sym, ap, ◌∙◌, subst, arith, ⊎_elim}
 use Rattle.std.proofs.lemmas.Option.{same_Some}
-use Rattle.std.proofs.lemmas.Bool.{cases_eq}
 use Rattle.std.proofs.lemmas.Map.Steps.{set_value_same}
 use Rattle.std.specs.BTreeMap.{is_at}
 use Rattle.std.specs.Map.{set_value}
 use Rattle.slab.specs.Slab.{Slab, get, Updates}
 use Rattle.swan_model.specs.declared.value.Value.{Value}
-use Rattle.swan_model.specs.Versions.{settled, owed, owing, place_cmp, with_present, after_write, written_at}
+use Rattle.swan_model.specs.Versions.{settled, owing, place_cmp, with_present, after_write, written_at}
 use Rattle.object_versions.specs.declared.node.Node.{Node}
 use Rattle.object_versions.specs.declared.node.NodeState.TheVariants.{Settled}
 use Rattle.object_versions.specs.declared.placed_object.PlacedObject.{PlacedObject}
-use Rattle.object_versions.specs.Store.{PlaceEntries, place_at, told_of, told_at, version_at, object_at, given_of, KeepsOwed, placed_of, seen, versions_of, one, one_of, uses, uses_in}
+use Rattle.object_versions.specs.Store.{PlaceEntries, place_at, given_of, KeepsOwed, placed_of, seen, versions_of, one, one_of, uses_of, uses, uses_in}
 use Rattle.object_versions.specs.Whole.{IsWhole, HasOwn}
-use Rattle.object_versions.proofs.Counts.{HasNode, one_self, one_other, counted_after, told_here, told_elsewhere, used, uses_at, uses_set, present_used}
+use Rattle.object_versions.proofs.Lookups.{here, at_set, still_set, cases_place}
+use Rattle.object_versions.proofs.Counts.{HasNode, one_self, one_other, used, uses_at, uses_set, present_used, owes_used}
+use Rattle.object_versions.proofs.GetsValue.{update, told_other, value_now, same_object, owed_before, counted_still}
 use Rattle.object_versions.proofs.Seeing.{seen_same, seen_set, seen_some}
-use Rattle.object_versions.proofs.Differ.{settled_not-owed}
 
 -- what is set twice has what was set last
 set_twice : {X : Type 0} (test : ℕ × ℕ → Bool) (es : List ((ℕ × ℕ) × X)) (v w : X) → set_value test (set_value test es v) w ≡ set_value test es w
@@ -39,53 +39,10 @@ module _ (entries : PlaceEntries) (old new : Slab Node) (made f p : ℕ) (was : 
   found : HasNode old was.present
   found = used old (λ k. uses k entries + 0) was.present whole.counted (let some = some_use in omega (arith, some))
 
-  update : Updates old new was.present (Some (record found.node { state = Settled value }))
-  update = change found.node found.is
-
   one_use : uses was.present entries ≡ 1
   one_use =
       let count : found.node.uses ≡ uses was.present entries + 0 = sym (ap uses_in found.is) ∙ whole.counted.exact was.present in
       let only : found.node.uses ≡ 1 = sym (ap uses_in found.is) ∙ alone in omega (arith, count, only)
-
-  told_key : told_at new was.present ≡ (object_at old was.present, settled value)
-  told_key = told_here old new was.present _ update ∙ ap (λ o. (o, settled value)) (sym (ap (λ o. (told_of o).0) found.is))
-
-  told_other : (k : ℕ) → k ≢ was.present → told_at new k ≡ told_at old k
-  told_other k apart = told_elsewhere old new was.present _ update k apart
-
-  same_object : (k : ℕ) → object_at new k ≡ object_at old k
-  same_object k = ⊎_elim
-      (λ e. ap (object_at new) e ∙ ap (λ t. t.0) told_key ∙ ap (object_at old) (sym e))
-      (λ apart. ap (λ t. t.0) (told_other k apart))
-      (cases_eq k was.present)
-
-  owed_before : (k m : ℕ) → version_at new k ≡ owed m → version_at old k ≡ owed m
-  owed_before k m is = ⊎_elim
-      (λ e. absurd (settled_not-owed value m (sym (ap (λ t. t.1) told_key) ∙ ap (version_at new) (sym e) ∙ is)))
-      (λ apart. sym (ap (λ t. t.1) (told_other k apart)) ∙ is)
-      (cases_eq k was.present)
-
-  pub overwritten_whole : IsWhole entries new made (λ _. 0)
-  overwritten_whole = record {
-    sorted = whole.sorted;
-    counted = counted_after old new was.present _ update (λ k. uses k entries + 0) (λ k. uses k entries + 0) whole.counted (λ k apart. refl)
-        (sym (ap uses_in found.is) ∙ whole.counted.exact was.present)
-        (λ other is. let P : Node → Type 0 = λ o. 0 < o.uses in
-        subst P (same_Some (record found.node { state = Settled value }) other is) (whole.counted.live was.present found.node found.is));
-    fits = λ frame place other is. let fit = whole.fits frame place other is in record {
-      known = fit.known;
-      present = same_object other.present ∙ fit.present;
-      given = λ k e. same_object k ∙ fit.given k e;
-      reads = fit.reads;
-      owes = λ k e. let owes = fit.owes k e in record {
-        same = same_object k ∙ owes.same;
-        may = owes.may;
-        by = λ m h. owes.by m (owed_before k m h);
-      };
-    };
-    owing = λ k m h is. whole.owing k m h (owed_before k m is);
-    alone = whole.alone;
-  }
 
   -- the places with another key at this one, so that nobody refers to the version
   abbrev elsewhere : PlaceEntries
@@ -99,8 +56,48 @@ module _ (entries : PlaceEntries) (old new : Slab Node) (made f p : ℕ) (was : 
       let one_only = one_use in
       omega (arith, sums, self, other, one_only)
 
+  -- so no place of those refers to it
+  unused_at : (frame place : ℕ) (has : PlacedObject) → place_at elsewhere frame place ≡ Some has → uses_of was.present has ≡ 0
+  unused_at frame place has stands_there =
+      let most = uses_at elsewhere was.present frame place has stands_there in let none = unused_there in omega (arith, most, none)
+
+  -- and nobody owes it
+  owes_apart : (frame place : ℕ) (has : PlacedObject) (k : ℕ) → place_at entries frame place ≡ Some has → has.owes ≡ Some k → k ≢ was.present
+  owes_apart frame place has k is owes e = ⊎_elim
+      (λ (same : (frame, place) ≡ (f, p)).
+      let this : Some has ≡ Some was = sym is ∙ ap (here entries) same ∙ stands in
+      let moved : PlacedObject = record was { present = was.present + 1 } in
+      let own : was.owes ≡ Some was.present = ap (λ o. o.owes) (sym (same_Some has was this)) ∙ owes ∙ ap Some e in
+      let some = owes_used moved was.present own in
+      let none = unused_at f p moved (at_set entries (f, p) was moved stands) in
+      omega (arith, some, none))
+      (λ apart.
+      let some = owes_used has was.present (owes ∙ ap Some e) in
+      let none = unused_at frame place has (still_set entries (f, p) was (record was { present = was.present + 1 }) (frame, place) stands apart ∙ is) in
+      omega (arith, some, none))
+      (cases_place (frame, place) (f, p))
+
+  pub overwritten_whole : IsWhole entries new made (λ _. 0)
+  overwritten_whole = record {
+    sorted = whole.sorted;
+    counted = counted_still old new was.present value found change (λ k. uses k entries + 0) (λ k. uses k entries + 0) whole.counted (λ k. refl);
+    fits = λ frame place other is. let fit = whole.fits frame place other is in record {
+      known = fit.known;
+      present = same_object old new was.present value found change other.present ∙ fit.present;
+      given = λ k e. same_object old new was.present value found change k ∙ fit.given k e;
+      reads = fit.reads;
+      owes = λ k e. let owes = fit.owes k e in record {
+        same = same_object old new was.present value found change k ∙ owes.same;
+        may = owes.may;
+        by = ap (λ t. t.1) (told_other old new was.present value found change k (owes_apart frame place other k is e)) ∙ owes.by;
+      };
+    };
+    owing = λ k m h is. whole.owing k m h (owed_before old new was.present value found change k m is);
+    alone = whole.alone;
+  }
+
   same_there : map (seen new) elsewhere ≡ map (seen old) elsewhere
-  same_there = seen_same old new elsewhere (λ k h. told_other k (λ e.
+  same_there = seen_same old new elsewhere (λ k h. told_other old new was.present value found change k (λ e.
       let P : ℕ → Type 0 = λ n. 0 < uses n elsewhere in
       let some = subst P e h in let none = unused_there in omega (arith, some, none)))
 
@@ -114,12 +111,12 @@ module _ (entries : PlaceEntries) (old new : Slab Node) (made f p : ℕ) (was : 
 
   same_given : (o : Option ℕ) → was.given ≡ o → given_of new was.given ≡ given_of old was.given
   same_given None is = ap (given_of new) is ∙ sym (ap (given_of old) is)
-  same_given (Some k) is = ap (given_of new) is ∙ ap owing (ap (λ t. t.1) (told_other k (given_apart k is))) ∙ sym (ap (given_of old) is)
+  same_given (Some k) is = ap (given_of new) is ∙ ap owing (ap (λ t. t.1) (told_other old new was.present value found change k (given_apart k is))) ∙ sym (ap (given_of old) is)
 
   placed_now : placed_of new was ≡ record (placed_of old was) { present = settled value }
   placed_now =
       let given = same_given was.given refl in
-      let version : version_at new was.present ≡ settled value = ap (λ t. t.1) told_key in
+      let version = value_now old new was.present value found change in
       λ i. record { object = was.object; kind = was.kind; mode = was.mode; given = given i; present = version i }
 
   places : map (seen new) entries ≡ set_value (is_at (place_cmp (f, p))) (map (seen old) entries) (record (placed_of old was) { present = settled value })
@@ -144,6 +141,6 @@ module _ (entries : PlaceEntries) (old new : Slab Node) (made f p : ℕ) (was : 
   overwritten_own keeps = record {
     has = was;
     stands = stands;
-    alone = ap uses_in update.changed ∙ sym (ap uses_in found.is) ∙ alone;
+    alone = ap uses_in (update old new was.present value found change).changed ∙ sym (ap uses_in found.is) ∙ alone;
     given = λ some. let P : Option ℕ → Type 0 = λ o. IsSome o in subst P (sym (same_given was.given refl)) (keeps some);
   }

@@ -1,45 +1,39 @@
--- All versions that a frame owes get their values, place by place.
-use Rattle.std.proofs.Common.{◌≡◌, ℕ, ◌<◌, Some, [], ◌∷◌, arith}
-use Rattle.slab.specs.Slab.{Slab}
-use Rattle.object_versions.specs.declared.node.Node.{Node}
+-- What a frame owes is paid place by place.
+use Rattle.std.proofs.Common.{◌≡◌, ℕ, ◌+◌, Option, None, Some, sym, ap, ◌∙◌, arith, ⊎_elim}
+use Rattle.std.proofs.lemmas.Map.Entries.{sum_by-set_value}
+use Rattle.std.specs.BTreeMap.{is_at}
+use Rattle.std.specs.List.{sum_by}
+use Rattle.std.specs.Map.{set_value, values_of}
+use Rattle.swan_model.specs.Versions.{place_cmp}
 use Rattle.object_versions.specs.declared.placed_object.PlacedObject.{PlacedObject}
-use Rattle.object_versions.specs.Store.{PlaceEntries, place_at, uses}
-use Rattle.object_versions.specs.Ending.{IsSettling, OwesNoMore, IsPaid, IsAllPaid}
-use Rattle.object_versions.proofs.Counts.{uses_at, owes_used}
-use Rattle.object_versions.proofs.Walk.{IsWalk, ends, ends_at, goes_on}
+use Rattle.object_versions.specs.Store.{PlaceEntries, place_at}
+use Rattle.object_versions.specs.Ending.{IsPaidBefore}
+use Rattle.object_versions.proofs.Lookups.{IsNewEntry, IsOldEntry, after_set}
 
--- the version that is owed for a place has its value, where the frame began with a value at each place
-abbrev pub IsPaidThen : (entries : PlaceEntries) (start now : Slab Node) (frame : ℕ) → PlacedObject → Type 0
-IsPaidThen entries start now frame has = (made : ℕ) → IsSettling entries start start made frame → IsPaid now has
+-- nothing is owed for this place
+abbrev pub IsPaid : PlacedObject → Type 0
+IsPaid has = has.owes ≡ None
 
--- these entries are left of the walk over the frame's places, and the versions owed for the others have their values
-pub record IsUnderWay (entries left : PlaceEntries) (start now : Slab Node) (frame : ℕ) : Type 0 where
-  pub settling : (made : ℕ) → IsSettling entries start start made frame → IsSettling entries start now made frame
-  pub walk : IsWalk entries left frame (IsPaidThen entries start now frame)
+abbrev one_if : Option ℕ → ℕ
+one_if None = 0
+one_if (Some key) = 1
 
-module _ (entries left : PlaceEntries) (start now next : Slab Node) (frame : ℕ) (e : (ℕ × ℕ) × PlacedObject) (under : IsUnderWay entries (e ∷ left) start now frame) where
-  pub next_under_way : ((made : ℕ) → IsSettling entries start now made frame → IsSettling entries start next made frame)
-      → ((made : ℕ) → IsSettling entries start now made frame → OwesNoMore entries now next)
-      → ((made : ℕ) → IsSettling entries start now made frame → IsPaid next e.1)
-      → IsUnderWay entries left start next frame
-  next_under_way settling no_more pays = record {
-    settling = λ made begun. settling made (under.settling made begun);
-    walk = goes_on entries left frame (IsPaidThen entries start now frame) e under.walk (IsPaidThen entries start next frame) keeps
-        (λ made begun. pays made (under.settling made begun));
-  } where
-    keeps : (place : ℕ) (has : PlacedObject) → place_at entries frame place ≡ Some has → IsPaidThen entries start now frame has → IsPaidThen entries start next frame has
-    keeps place has is paid made begun = record {
-      settled = λ k m owes later.
-          let some : 0 < uses k entries = let used = uses_at entries k frame place has is in let here = owes_used has k owes in omega arith in
-          (paid made begun).settled k m owes ((no_more made (under.settling made begun)).before k m some later);
-    }
+-- for how many places versions are owed
+abbrev pub debts : PlaceEntries → ℕ
+debts entries = sum_by (λ has. one_if has.owes) (values_of entries)
 
-  pub all_paid : (e.0.0 ≡ frame → ⊥) → (made : ℕ) → IsSettling entries start start made frame → IsAllPaid entries now frame
-  all_paid apart made begun =
-      record { paid = λ place has is. ends_at entries left frame (IsPaidThen entries start now frame) e under.walk apart place has is made begun }
+-- where one is paid
+module _ (now later : PlaceEntries) (f p key : ℕ) (was : PlacedObject) (stands : place_at now f p ≡ Some was) (owes : was.owes ≡ Some key)
+    (set : later ≡ set_value (is_at (place_cmp (f, p))) now (record was { owes = None })) where
+  pub one_debt_less : debts later + 1 ≡ debts now
+  one_debt_less =
+      let sums = sum_by-set_value (λ (has : PlacedObject). one_if has.owes) (is_at (place_cmp (f, p))) now was (record was { owes = None }) stands in
+      let there : one_if was.owes ≡ 1 = ap one_if owes in
+      let same = ap debts set in
+      omega (arith, sums, there, same)
 
--- where nothing is left
-pub all_paid_at_end : (entries : PlaceEntries) (start now : Slab Node) (frame : ℕ) → IsUnderWay entries [] start now frame
-    → (made : ℕ) → IsSettling entries start start made frame → IsAllPaid entries now frame
-all_paid_at_end entries start now frame under made begun =
-    record { paid = λ place has is. ends entries frame (IsPaidThen entries start now frame) under.walk place has is made begun }
+  pub paid_before : IsPaidBefore now f p → IsPaidBefore later f p
+  paid_before before place has less is = ⊎_elim
+      (λ (x : IsNewEntry (f, p) (f, place) (record was { owes = None }) has). ap (λ o. o.owes) x.is)
+      (λ (x : IsOldEntry now (f, p) (f, place) has). before place has less x.was)
+      (after_set now (f, p) was (record was { owes = None }) (f, place) has stands (ap (λ es. place_at es f place) (sym set) ∙ is))

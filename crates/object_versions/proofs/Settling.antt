@@ -1,172 +1,248 @@
--- A version that a frame owes gets the frame's value.
-use Rattle.std.proofs.Common.{◌≡◌, ℕ, ◌+◌, ◌<◌, true, cond, ◌==◌, Some, refl, sym, ap, ◌∙◌, subst, arith, ⊎_elim}
-use Rattle.std.proofs.lemmas.Option.{same_Some}
+-- A version that a frame owes gets the frame's value, and the frame owes it no more.
+use Rattle.std.proofs.Common.{◌≡◌, ◌≢◌, ℕ, ◌+◌, ◌<◌, true, cond, ◌==◌, None, Some, IsSome, map, refl, sym, ap, ◌∙◌, subst, arith, ⊎_elim}
+use Rattle.std.proofs.lemmas.Option.{none-some, same_Some}
 use Rattle.std.proofs.lemmas.Bool.{cases_eq, eq-eqb}
+use Rattle.std.proofs.lemmas.Map.Steps.{set_value_same}
+use Rattle.std.specs.BTreeMap.{is_at}
+use Rattle.std.specs.Map.{set_value, keys_of}
+use Rattle.std.specs.List.Sorted.{IsStrictlySortedBy}
 use Rattle.std.specs.Option.{unwrap_or}
 use Rattle.slab.specs.Slab.{Slab, get, Updates}
 use Rattle.swan_model.specs.declared.value.Value.{Value}
-use Rattle.swan_model.specs.Versions.{settled, owed, VersionState, settle, left_by, IsSettled}
+use Rattle.swan_model.specs.Versions.{VersionState, settled, owed, settle, left_by, IsSettled, place_cmp}
 use Rattle.object_versions.specs.declared.node.Node.{Node}
-use Rattle.object_versions.specs.declared.node.NodeState.{NodeState}
-use Rattle.object_versions.specs.declared.node.NodeState.TheVariants.{Settled, Owed}
+use Rattle.object_versions.specs.declared.node.NodeState.TheVariants.{Settled}
 use Rattle.object_versions.specs.declared.placed_object.PlacedObject.{PlacedObject}
-use Rattle.object_versions.specs.Store.{PlaceEntries, place_at, told_of, version_of, version_at, object_at, versions_of, uses, uses_in, state_after_settle}
-use Rattle.object_versions.specs.Whole.{IsFit, IsWhole}
-use Rattle.object_versions.specs.Ending.{IsSettling, OwesNoMore, IsPaid}
-use Rattle.object_versions.proofs.Counts.{counted_after, told_here, told_elsewhere, HasNode, used, uses_at, present_used, owes_used}
-use Rattle.object_versions.proofs.Seeing.{seen_some}
+use Rattle.object_versions.specs.Store.{PlaceEntries, place_at, told_at, version_at, object_at, placed_of, seen, versions_of, one, one_of, uses, after_release}
+use Rattle.object_versions.specs.Whole.{IsFit, HasOwing, IsWhole}
+use Rattle.object_versions.specs.Ending.{IsDebt, IsSettling}
+use Rattle.object_versions.proofs.Lookups.{here, IsNewEntry, IsOldEntry, after_set, still_set}
+use Rattle.object_versions.proofs.Counts.{HasNode, used, uses_at, uses_changed, one_self, one_other, present_used, owes_used}
+use Rattle.object_versions.proofs.GetsValue.{told_other, value_now, same_object, owed_apart, owed_before, counted_still}
+use Rattle.object_versions.proofs.Steps.{alone_set}
+use Rattle.swan_model.proofs.Elements.{some_is}
+use Rattle.object_versions.proofs.References.{released_whole, released_same}
+use Rattle.object_versions.proofs.Referred.{owes_there}
+use Rattle.object_versions.proofs.Seeing.{seen_set, seen_some}
 use Rattle.object_versions.proofs.Listing.{left_of}
-use Rattle.object_versions.proofs.Differ.{settled_not-owed}
+use Rattle.object_versions.proofs.Differ.{settled_not-owed, owed_same, writes_not-in}
 
 -- what has a value is not said to be owed
 pub reads_no_owing : (nodes : Slab Node) (key : ℕ) (value : Value) (frame : ℕ) → version_at nodes key ≡ settled value
     → version_at nodes key ≡ owed frame → ⊥
 reads_no_owing nodes key value frame reads owes = settled_not-owed value frame (sym reads ∙ owes)
 
--- ---- a state and the value that it gets
+-- ---- what a place's version was where the frame began to end is what it is
 
-never_owes : (s : NodeState) (v : Value) (m : ℕ) → version_of (state_after_settle s v) ≡ owed m → ⊥
-never_owes (Settled w) v m e = settled_not-owed w m e
-never_owes (Owed f) v m e = settled_not-owed v m e
+module _ (before now : PlaceEntries) (start nodes : Slab Node) (made n : ℕ) (begun : IsSettling before now start nodes made n) (q : ℕ) (has : PlacedObject) (stands : place_at now n q ≡ Some has) where
+  present_use : 0 < uses has.present now
+  present_use = let most = uses_at now has.present n q has stands in let here = present_used has in omega arith
 
-stays_settled : (s : NodeState) (v w : Value) → version_of s ≡ settled w → version_of (state_after_settle s v) ≡ settled w
-stays_settled (Settled u) v w e = e
-stays_settled (Owed f) v w e = absurd (settled_not-owed w f (sym e))
+  began_with : (v : Value) × (version_at start has.present ≡ settled v)
+  began_with =
+      let P : VersionState → Type 0 = λ state. IsSettled state n in
+      (subst P (sym begun.same) begun.ready).values q _ (seen_some now start made n q has stands)
 
-settles_so : (s : NodeState) (v : Value) (state : VersionState) (n o : ℕ) → left_by state n o ≡ Some (settled v) → ((m : ℕ) → version_of s ≡ owed m → m ≡ n)
-    → settle state n o (version_of (state_after_settle s v)) ≡ settle state n o (version_of s)
-settles_so (Settled u) v state n o left by = refl
-settles_so (Owed f) v state n o left by =
-    let test : (f == n) ≡ true = eq-eqb f n (by f refl) in
-    sym (ap (λ b. cond b (unwrap_or (left_by state n o) (owed f)) (owed f)) test ∙ ap (λ l. unwrap_or l (owed f)) left)
-
--- what a place's version was where the frame began to end is what it is
-module _ (entries : PlaceEntries) (start now : Slab Node) (made n : ℕ) (begun : IsSettling entries start now made n) (q : ℕ) (has : PlacedObject) (stands : place_at entries n q ≡ Some has) where
-  present_use : 0 < uses has.present entries
-  present_use = let most = uses_at entries has.present n q has stands in let here = present_used has in omega arith
-
-  pub began_with : (v : Value) × (version_at start has.present ≡ settled v)
-  began_with = begun.ready.values q _ (seen_some entries start made n q has stands)
-
-  pub reads_value : (value : Value) × (version_at now has.present ≡ settled value)
+  pub reads_value : (value : Value) × (version_at nodes has.present ≡ settled value)
   reads_value = (began_with.0, begun.stay has.present began_with.0 present_use began_with.1)
 
-  pub read_at_start : (value : Value) → version_at now has.present ≡ settled value → version_at start has.present ≡ settled value
+  pub read_at_start : (value : Value) → version_at nodes has.present ≡ settled value → version_at start has.present ≡ settled value
   read_at_start value reads = began_with.1 ∙ sym (begun.stay has.present began_with.0 present_use began_with.1) ∙ reads
 
-module _ (entries : PlaceEntries) (start now next : Slab Node) (made n q : ℕ) (has : PlacedObject) (key : ℕ) (value : Value) (begun : IsSettling entries start now made n)
-    (stands : place_at entries n q ≡ Some has) (owes : has.owes ≡ Some key) (reads : version_at now has.present ≡ settled value)
-    (change : (node : Node) → get now key ≡ Some node → Updates now next key (Some (record node { state = state_after_settle node.state value }))) where
-  owes_use : 0 < uses key entries
-  owes_use = let most = uses_at entries key n q has stands in let here = owes_used has key owes in omega arith
+-- ---- one that is owed is paid
 
-  found : HasNode now key
-  found = used now (λ k. uses k entries + 0) key begun.whole.counted (let some = owes_use in omega (arith, some))
+module _ (now later : PlaceEntries) (nodes middle next : Slab Node) (made f p : ℕ) (was : PlacedObject) (key : ℕ) (value : Value)
+    (whole : IsWhole now nodes made (λ _. 0)) (stands : place_at now f p ≡ Some was) (owes : was.owes ≡ Some key)
+    (change : (node : Node) → get nodes key ≡ Some node → Updates nodes middle key (Some (record node { state = Settled value })))
+    (set : later ≡ set_value (is_at (place_cmp (f, p))) now (record was { owes = None })) (sorted : IsStrictlySortedBy place_cmp (keys_of later))
+    (release : (node : Node) → get middle key ≡ Some node → Updates middle next key (after_release node)) where
+  abbrev paid : PlacedObject
+  paid = record was { owes = None }
 
-  node : Node
-  node = found.node
+  abbrev after : PlaceEntries
+  after = set_value (is_at (place_cmp (f, p))) now paid
 
-  after : Node
-  after = record found.node { state = state_after_settle found.node.state value }
+  owes_use : 0 < uses key now
+  owes_use = let most = uses_at now key f p was stands in let here = owes_used was key owes in omega arith
 
-  update : Updates now next key (Some (record found.node { state = state_after_settle found.node.state value }))
-  update = change found.node found.is
+  found : HasNode nodes key
+  found = used nodes (λ k. uses k now + 0) key whole.counted (let some = owes_use in omega (arith, some))
 
-  version_now : version_at now key ≡ version_of found.node.state
-  version_now = ap (λ o. (told_of o).1) found.is
+  gone : (k : ℕ) → uses k after + one k key ≡ uses k now
+  gone k =
+      let sums = uses_changed now k f p was paid stands in
+      let one_more : one_of k was.owes ≡ one k key = ap (one_of k) owes in
+      omega (arith, sums, one_more)
 
-  version_next : version_at next key ≡ version_of (state_after_settle found.node.state value)
-  version_next = ap (λ t. t.1) (told_here now next key _ update)
+  -- the frame owes it for this place alone
+  owes_apart : (frame place : ℕ) (other : PlacedObject) (k : ℕ) → (let n : ℕ × ℕ = (frame, place) in n ≢ (f, p)) → place_at now frame place ≡ Some other → other.owes ≡ Some k → k ≢ key
+  owes_apart frame place other k apart is owes_too e =
+      let mine = (whole.fits f p was stands).owes key owes in
+      let theirs = (whole.fits frame place other is).owes key (owes_too ∙ ap Some e) in
+      let same : frame ≡ f = owed_same frame f (sym theirs.by ∙ mine.by) in
+      let here : place_at now f place ≡ Some other = ap (λ m. place_at now m place) (sym same) ∙ is in
+      let elsewhere : place ≢ p = λ tie. apart (λ i. (same i, tie i)) in
+      writes_not-in other.mode theirs.may (whole.alone f place p other was here stands elsewhere (sym theirs.same ∙ mine.same)).0
 
-  same_object : (k : ℕ) → object_at next k ≡ object_at now k
-  same_object k = ⊎_elim
-      (λ e. ap (object_at next) e ∙ ap (λ t. t.0) (told_here now next key _ update) ∙ sym (ap (λ o. (told_of o).0) found.is) ∙ ap (object_at now) (sym e))
-      (λ apart. ap (λ t. t.0) (told_elsewhere now next key _ update k apart))
-      (cases_eq k key)
-
-  owed_before : (k m : ℕ) → version_at next k ≡ owed m → version_at now k ≡ owed m
-  owed_before k m is = ⊎_elim
-      (λ e. absurd (never_owes found.node.state value m (sym version_next ∙ ap (version_at next) (sym e) ∙ is)))
-      (λ apart. sym (ap (λ t. t.1) (told_elsewhere now next key _ update k apart)) ∙ is)
-      (cases_eq k key)
-
-  settled_still : (k : ℕ) (v : Value) → version_at now k ≡ settled v → version_at next k ≡ settled v
-  settled_still k v is = ⊎_elim
-      (λ e. ap (version_at next) e ∙ version_next ∙ stays_settled found.node.state value v (sym version_now ∙ ap (version_at now) (sym e) ∙ is))
-      (λ apart. ap (λ t. t.1) (told_elsewhere now next key _ update k apart) ∙ is)
-      (cases_eq k key)
-
-  owing : IsFit now made n has
-  owing = begun.whole.fits n q has stands
-
-  left : left_by (versions_of entries start made) n (object_at start key) ≡ Some (settled value)
-  left =
-      let object : object_at start key ≡ has.object = sym (begun.objects key owes_use) ∙ (owing.owes key owes).same in
-      ap (left_by (versions_of entries start made) n) object
-      ∙ left_of entries start made (λ _. 0) n q has value begun.began stands (owing.owes key owes).may (read_at_start entries start now made n begun q has stands value reads)
-
-  settles_same : (k : ℕ) → settle (versions_of entries start made) n (object_at start k) (version_at next k) ≡ settle (versions_of entries start made) n (object_at start k) (version_at now k)
-  settles_same k = ⊎_elim
-      (λ e.
-      let at_key : settle (versions_of entries start made) n (object_at start key) (version_at next key) ≡ settle (versions_of entries start made) n (object_at start key) (version_at now key) =
-      ap (settle (versions_of entries start made) n (object_at start key)) version_next
-      ∙ settles_so found.node.state value (versions_of entries start made) n (object_at start key) left (λ m is. (owing.owes key owes).by m (version_now ∙ is))
-      ∙ sym (ap (settle (versions_of entries start made) n (object_at start key)) version_now) in
-      let P : ℕ → Type 0 = λ j. settle (versions_of entries start made) n (object_at start j) (version_at next j) ≡ settle (versions_of entries start made) n (object_at start j) (version_at now j) in
-      subst P (sym e) at_key)
-      (λ apart. ap (λ t. settle (versions_of entries start made) n (object_at start k) t.1) (told_elsewhere now next key _ update k apart))
-      (cases_eq k key)
-
-  fit_next : (frame place : ℕ) (other : PlacedObject) → place_at entries frame place ≡ Some other → IsFit next made frame other
-  fit_next frame place other is = let fit = begun.whole.fits frame place other is in record {
+  fit_other : (frame place : ℕ) (other : PlacedObject) → (let n : ℕ × ℕ = (frame, place) in n ≢ (f, p)) → place_at now frame place ≡ Some other → IsFit middle made frame other
+  fit_other frame place other apart is = let fit = whole.fits frame place other is in record {
     known = fit.known;
-    present = same_object other.present ∙ fit.present;
-    given = λ k e. same_object k ∙ fit.given k e;
+    present = same_object nodes middle key value found change other.present ∙ fit.present;
+    given = λ k e. same_object nodes middle key value found change k ∙ fit.given k e;
     reads = fit.reads;
-    owes = λ k e. let was = fit.owes k e in record {
-      same = same_object k ∙ was.same;
-      may = was.may;
-      by = λ m h. was.by m (owed_before k m h);
+    owes = λ k e. let owing = fit.owes k e in record {
+      same = same_object nodes middle key value found change k ∙ owing.same;
+      may = owing.may;
+      by = ap (λ t. t.1) (told_other nodes middle key value found change k (owes_apart frame place other k apart is e)) ∙ owing.by;
     };
   }
 
-  whole_next : IsWhole entries next made (λ _. 0)
-  whole_next = record {
-    sorted = begun.whole.sorted;
-    counted = counted_after now next key _ update (λ k. uses k entries + 0) (λ k. uses k entries + 0) begun.whole.counted (λ k apart. refl)
-        (sym (ap uses_in found.is) ∙ begun.whole.counted.exact key)
-        (λ other is. let P : Node → Type 0 = λ o. 0 < o.uses in
-        subst P (same_Some (record found.node { state = state_after_settle found.node.state value }) other is) (begun.whole.counted.live key found.node found.is));
-    fits = fit_next;
-    owing = λ k m h is. begun.whole.owing k m h (owed_before k m is);
-    alone = begun.whole.alone;
+  fit_here : IsFit middle made f paid
+  fit_here = let fit = whole.fits f p was stands in record {
+    known = fit.known;
+    present = same_object nodes middle key value found change was.present ∙ fit.present;
+    given = λ k e. same_object nodes middle key value found change k ∙ fit.given k e;
+    reads = fit.reads;
+    owes = λ k e. absurd (none-some k e);
   }
 
-  pub settling_next : IsSettling entries start next made n
-  settling_next = record {
-    began = begun.began;
-    ready = begun.ready;
-    whole = whole_next;
-    objects = λ k h. same_object k ∙ begun.objects k h;
-    versions = λ k h. settles_same k ∙ begun.versions k h;
-    stay = λ k v h is. settled_still k v (begun.stay k v h is);
+  fit_after : (frame place : ℕ) (has : PlacedObject) → place_at after frame place ≡ Some has → IsFit middle made frame has
+  fit_after frame place has is = ⊎_elim
+      (λ (x : IsNewEntry (f, p) (frame, place) paid has).
+      let P : ℕ → Type 0 = λ m. IsFit middle made m has in
+      let Q : PlacedObject → Type 0 = λ o. IsFit middle made f o in
+      subst P (sym (ap (λ (k : ℕ × ℕ). k.0) x.same)) (subst Q (sym x.is) fit_here))
+      (λ (x : IsOldEntry now (f, p) (frame, place) has). fit_other frame place has x.apart x.was)
+      (after_set now (f, p) was paid (frame, place) has stands is)
+
+  owing_after : (k m : ℕ) → 0 < uses k after → version_at middle k ≡ owed m → HasOwing after k m
+  owing_after k m some is =
+      let sums = gone k in
+      let owing = whole.owing k m (omega (arith, some, sums)) (owed_before nodes middle key value found change k m is) in
+      let elsewhere : (m, owing.place) ≢ (f, p) = λ e.
+      let this : Some owing.has ≡ Some was = sym owing.stands ∙ ap (here now) e ∙ stands in
+      owed_apart nodes middle key value found change k m is
+      (same_Some k key (sym owing.owes ∙ ap (λ o. o.owes) (same_Some owing.has was this) ∙ owes)) in
+      record {
+        place = owing.place;
+        has = owing.has;
+        stands = still_set now (f, p) was paid (m, owing.place) stands elsewhere ∙ owing.stands;
+        owes = owing.owes;
+      }
+
+  sorted_after : IsStrictlySortedBy place_cmp (keys_of after)
+  sorted_after = let Q : PlaceEntries → Type 0 = λ es. IsStrictlySortedBy place_cmp (keys_of es) in subst Q set sorted
+
+  -- the code still refers to it, until it is released
+  whole_after : IsWhole after middle made (λ k. one k key)
+  whole_after = record {
+    sorted = sorted_after;
+    counted = counted_still nodes middle key value found change (λ k. uses k now + 0) (λ k. uses k after + one k key) whole.counted (λ k. let sums = gone k in omega (arith, sums));
+    fits = fit_after;
+    owing = owing_after;
+    alone = alone_set now f p was paid stands refl refl whole.alone;
   }
 
-  pub owes_no_more : OwesNoMore entries now next
-  owes_no_more = record { before = λ k m h is. owed_before k m is }
+  none_else : (k : ℕ) → k ≢ key → 0 ≡ one k key
+  none_else k apart = sym (one_other k key apart)
 
-  pub is_paid : IsPaid next has
-  is_paid = record {
-    settled = λ k m is e. never_owes found.node.state value m
-        (sym version_next ∙ ap (version_at next) (same_Some key k (sym owes ∙ is)) ∙ e);
-  }
+  held_one : 0 < one key key
+  held_one = let self = one_self key in omega (arith, self)
+
+  held_here : one key key ≡ 0 + 1
+  held_here = one_self key
+
+  whole_next : IsWhole after next made (λ _. 0)
+  whole_next = released_whole after middle next made (λ k. one k key) (λ _. 0) key whole_after held_one release held_here none_else
+
+  told_next : (k : ℕ) → 0 < uses k after → told_at next k ≡ told_at middle k
+  told_next k some = released_same after middle next made (λ k. one k key) (λ _. 0) key whole_after held_one release held_here none_else k (omega (arith, some))
+
+  module _ (before : PlaceEntries) (start : Slab Node) (begun : IsSettling before now start nodes made f) (reads : version_at nodes was.present ≡ settled value) where
+    abbrev state : VersionState
+    state = versions_of before start made
+
+    by_frame : version_at nodes key ≡ owed f
+    by_frame = ((whole.fits f p was stands).owes key owes).by
+
+    left : left_by state f (object_at start key) ≡ Some (settled value)
+    left =
+        let owing = (whole.fits f p was stands).owes key owes in
+        let object : object_at start key ≡ was.object = sym (begun.objects key owes_use) ∙ owing.same in
+        ap (left_by state f) object
+        ∙ ap (λ s. left_by s f was.object) (sym begun.same)
+        ∙ left_of now start nodes made (λ _. 0) f p was value whole stands owing.may (read_at_start before now start nodes made f begun p was stands value reads)
+
+    settles_key : settle state f (object_at start key) (version_at middle key) ≡ settle state f (object_at start key) (version_at nodes key)
+    settles_key =
+        let test : (f == f) ≡ true = eq-eqb f f refl in
+        let settles : settle state f (object_at start key) (owed f) ≡ settled value =
+        ap (λ b. cond b (unwrap_or (left_by state f (object_at start key)) (owed f)) (owed f)) test ∙ ap (λ l. unwrap_or l (owed f)) left in
+        ap (settle state f (object_at start key)) (value_now nodes middle key value found change) ∙ sym settles ∙ sym (ap (settle state f (object_at start key)) by_frame)
+
+    settles_same : (k : ℕ) → settle state f (object_at start k) (version_at middle k) ≡ settle state f (object_at start k) (version_at nodes k)
+    settles_same k = ⊎_elim
+        (λ e.
+        let P : ℕ → Type 0 = λ j. settle state f (object_at start j) (version_at middle j) ≡ settle state f (object_at start j) (version_at nodes j) in
+        subst P (sym e) settles_key)
+        (λ apart. ap (λ t. settle state f (object_at start k) t.1) (told_other nodes middle key value found change k apart))
+        (cases_eq k key)
+
+    still_used : (k : ℕ) → 0 < uses k after → 0 < uses k now
+    still_used k some = let sums = gone k in omega (arith, some, sums)
+
+    stays : (k : ℕ) (v : Value) → 0 < uses k after → version_at start k ≡ settled v → version_at next k ≡ settled v
+    stays k v some is =
+        let was_so = begun.stay k v (still_used k some) is in
+        let apart : k ≢ key = λ e. settled_not-owed v f (sym was_so ∙ ap (version_at nodes) e ∙ by_frame) in
+        ap (λ t. t.1) (told_next k some) ∙ ap (λ t. t.1) (told_other nodes middle key value found change k apart) ∙ was_so
+
+    same_places : map (seen start) after ≡ map (seen start) now
+    same_places = seen_set now start f p paid ∙ set_value_same (is_at (place_cmp (f, p))) (map (seen start) now) (placed_of start was) (seen_some now start made f p was stands)
+
+    settling_after : IsSettling before after start next made f
+    settling_after = record {
+      began = begun.began;
+      ready = begun.ready;
+      whole = whole_next;
+      same = (let e = same_places in λ i. record { places = e i; made = made }) ∙ begun.same;
+      fewer = λ k. let sums = gone k in let fewer = begun.fewer k in omega (arith, sums, fewer);
+      objects = λ k h. ap (λ t. t.0) (told_next k h) ∙ same_object nodes middle key value found change k ∙ begun.objects k (still_used k h);
+      versions = λ k h. ap (λ t. settle state f (object_at start k) t.1) (told_next k h) ∙ settles_same k ∙ begun.versions k (still_used k h);
+      stay = stays;
+    }
+
+    pub settling_next : IsSettling before later start next made f
+    settling_next = let P : PlaceEntries → Type 0 = λ es. IsSettling before es start next made f in subst P (sym set) settling_after
+
+-- ---- what a frame owes for a place, as it ends
+
+module _ (before now : PlaceEntries) (start nodes : Slab Node) (made n place present owed : ℕ) (begun : IsSettling before now start nodes made n) (debt : IsDebt now n place present owed) where
+  pub debt_reads : (value : Value) × (version_at nodes present ≡ settled value)
+  debt_reads =
+      let read = reads_value before now start nodes made n begun place debt.has debt.stands in
+      (read.0, ap (version_at nodes) (sym debt.shows) ∙ read.1)
+
+  pub debt_there : IsSome (get nodes owed)
+  debt_there = owes_there now nodes made n place debt.has begun.whole debt.stands owed debt.owes
+
+  pub debt_still_there : (middle : Slab Node) (value : Value) → ((node : Node) → get nodes owed ≡ Some node → Updates nodes middle owed (Some (record node { state = Settled value })))
+      → IsSome (get middle owed)
+  debt_still_there middle value change =
+      let most = uses_at now owed n place debt.has debt.stands in
+      let here = owes_used debt.has owed debt.owes in
+      let found = used nodes (λ k. uses k now + 0) owed begun.whole.counted (omega (arith, most, here)) in
+      some_is (get middle owed) _ (change found.node found.is).changed
 
 -- before the first step
-pub begins : (entries : PlaceEntries) (nodes : Slab Node) (made n : ℕ) → IsWhole entries nodes made (λ _. 0) → IsSettled (versions_of entries nodes made) n → IsSettling entries nodes nodes made n
+pub begins : (entries : PlaceEntries) (nodes : Slab Node) (made n : ℕ) → IsWhole entries nodes made (λ _. 0) → IsSettled (versions_of entries nodes made) n
+    → IsSettling entries entries nodes nodes made n
 begins entries nodes made n whole ready = record {
   began = whole;
   ready = ready;
   whole = whole;
+  same = refl;
+  fewer = λ k. omega arith;
   objects = λ k h. refl;
   versions = λ k h. refl;
   stay = λ k v h is. is;

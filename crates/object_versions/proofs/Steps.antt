@@ -32,7 +32,7 @@ moved_fit old new made frame has same fit = record {
   owes = λ key is. let owing = fit.owes key is in let told = same key (owes_used has key is) in record {
     same = told_object _ _ told ∙ owing.same;
     may = owing.may;
-    by = λ other h. owing.by other (sym (told_version _ _ told) ∙ h);
+    by = told_version _ _ told ∙ owing.by;
   };
 }
 
@@ -134,6 +134,36 @@ module _ (entries : PlaceEntries) (nodes : Slab Node) (made : ℕ) (held later :
 
 -- ---- what is kept at a place changes
 
+module _ (entries : PlaceEntries) (f p : ℕ) (was changed : PlacedObject) (stands : place_at entries f p ≡ Some was) (same_object : changed.object ≡ was.object) (same_mode : changed.mode ≡ was.mode) where
+  -- what a place has now has the object and the mode of what it had
+  record Had (n : ℕ × ℕ) (has : PlacedObject) : Type 0 where
+    before : PlacedObject
+    stood : here entries n ≡ Some before
+    object : before.object ≡ has.object
+    mode : before.mode ≡ has.mode
+
+  had : (n : ℕ × ℕ) (has : PlacedObject) → here (set_value (is_at (place_cmp (f, p))) entries changed) n ≡ Some has → Had n has
+  had n has is = ⊎_elim
+      (λ (x : IsNewEntry (f, p) n changed has). record {
+        before = was;
+        stood = ap (here entries) x.same ∙ stands;
+        object = sym same_object ∙ ap (λ o. o.object) (sym x.is);
+        mode = sym same_mode ∙ ap (λ o. o.mode) (sym x.is);
+      })
+      (λ (x : IsOldEntry entries (f, p) n has). record { before = has; stood = x.was; object = refl; mode = refl })
+      (after_set entries (f, p) was changed n has stands is)
+
+  -- so an object that stands at two places of a frame may still only be read there
+  pub alone_set : ((frame place other : ℕ) (a b : PlacedObject) → place_at entries frame place ≡ Some a → place_at entries frame other ≡ Some b
+      → place ≢ other → a.object ≡ b.object → (a.mode ≡ In) × (b.mode ≡ In))
+      → (frame place other : ℕ) (a b : PlacedObject) → place_at (set_value (is_at (place_cmp (f, p))) entries changed) frame place ≡ Some a
+      → place_at (set_value (is_at (place_cmp (f, p))) entries changed) frame other ≡ Some b → place ≢ other → a.object ≡ b.object → (a.mode ≡ In) × (b.mode ≡ In)
+  alone_set alone frame place other a b left right apart same =
+      let x = had (frame, place) a left in
+      let y = had (frame, other) b right in
+      let both = alone frame place other x.before y.before x.stood y.stood apart (x.object ∙ same ∙ sym y.object) in
+      (sym x.mode ∙ both.0, sym y.mode ∙ both.1)
+
 module _ (entries : PlaceEntries) (nodes : Slab Node) (made : ℕ) (held later : ℕ → ℕ) (f p : ℕ) (was changed : PlacedObject) (whole : IsWhole entries nodes made held)
     (stands : place_at entries f p ≡ Some was) (same_object : changed.object ≡ was.object) (same_mode : changed.mode ≡ was.mode) (same_owes : changed.owes ≡ was.owes) where
   abbrev with_changed : PlaceEntries
@@ -158,24 +188,6 @@ module _ (entries : PlaceEntries) (nodes : Slab Node) (made : ℕ) (held later :
       })
       (cases_place (frame, owing.place) (f, p))
 
-  -- what a place has now has the object and the mode of what it had
-  record Had (n : ℕ × ℕ) (has : PlacedObject) : Type 0 where
-    before : PlacedObject
-    stood : here entries n ≡ Some before
-    object : before.object ≡ has.object
-    mode : before.mode ≡ has.mode
-
-  had : (n : ℕ × ℕ) (has : PlacedObject) → here with_changed n ≡ Some has → Had n has
-  had n has is = ⊎_elim
-      (λ (x : IsNewEntry (f, p) n changed has). record {
-        before = was;
-        stood = ap (here entries) x.same ∙ stands;
-        object = sym same_object ∙ ap (λ o. o.object) (sym x.is);
-        mode = sym same_mode ∙ ap (λ o. o.mode) (sym x.is);
-      })
-      (λ (x : IsOldEntry entries (f, p) n has). record { before = has; stood = x.was; object = refl; mode = refl })
-      (after_set entries (f, p) was changed n has stands is)
-
   owing_now : ((k frame : ℕ) → 0 < uses_of k changed → version_at nodes k ≡ owed frame → HasOwing entries k frame)
       → (k frame : ℕ) → 0 < uses k with_changed → version_at nodes k ≡ owed frame → HasOwing with_changed k frame
   owing_now owing k frame h is = owing_kept k frame (by (uses k entries) refl) where
@@ -197,11 +209,7 @@ module _ (entries : PlaceEntries) (nodes : Slab Node) (made : ℕ) (held later :
         (λ (x : IsOldEntry entries (f, p) (frame, place) has). whole.fits frame place has x.was)
         (after_set entries (f, p) was changed (frame, place) has stands is);
     owing = owing_now owing;
-    alone = λ frame place other a b left right apart same.
-        let x = had (frame, place) a left in
-        let y = had (frame, other) b right in
-        let both = whole.alone frame place other x.before y.before x.stood y.stood apart (x.object ∙ same ∙ sym y.object) in
-        (sym x.mode ∙ both.0, sym y.mode ∙ both.1);
+    alone = alone_set entries f p was changed stands same_object same_mode whole.alone;
   }
 
 -- a place has another version

@@ -1,5 +1,5 @@
 -- One walk over the places of a frame, in rising order.
-use Rattle.std.proofs.Common.{◌≡◌, ◌≢◌, ◌⊎◌, inl, inr, ℕ, ◌≤◌, Bool, true, false, cond, Option, None, Some, List, [], ◌∷◌, refl, sym, ap, subst, ◌∙◌, arith}
+use Rattle.std.proofs.Common.{◌≡◌, ◌≢◌, ◌⊎◌, inl, inr, ℕ, ◌<◌, ◌≤◌, Bool, true, false, cond, nat_lt, Option, None, Some, List, [], ◌∷◌, refl, sym, ap, subst, ◌∙◌, arith}
 use Rattle.std.proofs.lemmas.Option.{none-some, same_Some}
 use Rattle.std.proofs.lemmas.Bool.Decides.{nat_tests}
 use Rattle.std.proofs.lemmas.List.Kept.{IsStrictlySortedBy-filter}
@@ -106,6 +106,16 @@ module _ (entries left : PlaceEntries) (frame : ℕ) (Done : PlacedObject → Ty
     ]
   ]
 
+  -- each place before the next entry's is done
+  pub done_before : e.0.0 ≡ frame → (place : ℕ) (has : PlacedObject) → place < e.0.1 → place_at entries frame place ≡ Some has → Done has
+  done_before same place has less is = elim (walk.done place has is) [
+    | inl done ↦ done
+    | inr still_left ↦ elim (found (frame, place) has still_left) [
+      | here tie at ↦ let own : place ≡ e.0.1 = ap (λ n. n.1) tie in absurd (omega (arith, own, less))
+      | after is ↦ let most = in_order e.0.0 e.0.1 place (later (frame, place) has is) same in absurd (omega (arith, most, less))
+    ]
+  ]
+
   -- the next entry is done
   pub goes_on : (Later : PlacedObject → Type 0) → ((place : ℕ) (has : PlacedObject) → place_at entries frame place ≡ Some has → Done has → Later has) → Later e.1
       → IsWalk entries left frame Later
@@ -131,41 +141,47 @@ ends entries frame Done walk place has is = elim (walk.done place has is) [
 
 -- ---- the first entry
 
--- whether a place is one of this frame or of a later one
-abbrev is_from : ℕ → ℕ × ℕ → Bool
-is_from frame k = range_contains place_cmp (Included (frame, 0)) Unbounded k
+-- whether a place is this one of a frame, or a later one
+abbrev is_from : (frame from : ℕ) → ℕ × ℕ → Bool
+is_from frame from k = range_contains place_cmp (Included (frame, from)) Unbounded k
 
-from_own : (frame place : ℕ) (k : ℕ × ℕ) → is_at (place_cmp (frame, place)) k ≡ true → is_from frame k ≡ true
-from_own frame place k same = ap (is_from frame) (sym (equal_at (frame, place) k same)) ∙ by where
-  by : is_from frame (frame, place) ≡ true
+from_own : (frame from place : ℕ) → from ≤ place → (k : ℕ × ℕ) → is_at (place_cmp (frame, place)) k ≡ true → is_from frame from k ≡ true
+from_own frame from place later k same = ap (is_from frame from) (sym (equal_at (frame, place) k same)) ∙ by where
+  by : is_from frame from (frame, place) ≡ true
   by = grind (arith, nat_tests)
 
-from_later : (frame owner place : ℕ) → is_from frame (owner, place) ≡ true → frame ≤ owner
-from_later frame owner place is = grind (arith, nat_tests)
+from_later : (frame from owner place : ℕ) → is_from frame from (owner, place) ≡ true → frame ≤ owner
+from_later frame from owner place is = grind (arith, nat_tests)
 
 kept : (b : Bool) (o : Option PlacedObject) (has : PlacedObject) → cond b o None ≡ Some has → (b ≡ true) × (o ≡ Some has)
 kept true o has is = (refl, is)
 kept false o has is = absurd (none-some has is)
 
--- the walk begins with all entries from the frame's first place on
-pub begins : (entries : PlaceEntries) (frame : ℕ) (Done : PlacedObject → Type 0) → IsStrictlySortedBy place_cmp (keys_of entries)
-    → IsWalk entries (entries_between place_cmp (Included (frame, 0)) Unbounded entries) frame Done
-begins entries frame Done sorted = record {
+-- the walk begins with all entries from one of the frame's places on, where those before it are done
+pub begins : (entries : PlaceEntries) (frame from : ℕ) (Done : PlacedObject → Type 0) → IsStrictlySortedBy place_cmp (keys_of entries)
+    → ((place : ℕ) (has : PlacedObject) → place < from → place_at entries frame place ≡ Some has → Done has)
+    → IsWalk entries (entries_between place_cmp (Included (frame, from)) Unbounded entries) frame Done
+begins entries frame from Done sorted before = record {
   sorted = keys_from;
-  from = λ owner place has is. from_later frame owner place (found owner place has is).0;
+  from = λ owner place has is. from_later frame from owner place (found owner place has is).0;
   there = λ owner place has is. (found owner place has is).1;
-  done = λ place has is. inr (of_frame place ∙ is);
+  done = λ place has is. by place has is (nat_lt place from) refl;
 } where
-  keys_from : IsStrictlySortedBy place_cmp (keys_of (entries_between place_cmp (Included (frame, 0)) Unbounded entries))
+  keys_from : IsStrictlySortedBy place_cmp (keys_of (entries_between place_cmp (Included (frame, from)) Unbounded entries))
   keys_from =
       let P : List (ℕ × ℕ) → Type 0 = λ keys. IsStrictlySortedBy place_cmp keys in
-      subst P (sym (keys_filtered (is_from frame) entries)) (IsStrictlySortedBy-filter place_cmp (is_from frame) (keys_of entries) sorted)
+      subst P (sym (keys_filtered (is_from frame from) entries)) (IsStrictlySortedBy-filter place_cmp (is_from frame from) (keys_of entries) sorted)
 
-  found : (owner place : ℕ) (has : PlacedObject) → place_at (entries_between place_cmp (Included (frame, 0)) Unbounded entries) owner place ≡ Some has
-      → (is_from frame (owner, place) ≡ true) × (place_at entries owner place ≡ Some has)
-  found owner place has is = kept (is_from frame (owner, place)) (place_at entries owner place) has
-      (sym (lookup-filter-keys (is_at (place_cmp (owner, place))) (is_from frame) (is_from frame (owner, place))
-      (λ k same. ap (is_from frame) (sym (equal_at (owner, place) k same))) entries) ∙ is)
+  found : (owner place : ℕ) (has : PlacedObject) → place_at (entries_between place_cmp (Included (frame, from)) Unbounded entries) owner place ≡ Some has
+      → (is_from frame from (owner, place) ≡ true) × (place_at entries owner place ≡ Some has)
+  found owner place has is = kept (is_from frame from (owner, place)) (place_at entries owner place) has
+      (sym (lookup-filter-keys (is_at (place_cmp (owner, place))) (is_from frame from) (is_from frame from (owner, place))
+      (λ k same. ap (is_from frame from) (sym (equal_at (owner, place) k same))) entries) ∙ is)
 
-  of_frame : (place : ℕ) → place_at (entries_between place_cmp (Included (frame, 0)) Unbounded entries) frame place ≡ place_at entries frame place
-  of_frame place = lookup-filter-keys (is_at (place_cmp (frame, place))) (is_from frame) true (from_own frame place) entries
+  of_frame : (place : ℕ) → from ≤ place → place_at (entries_between place_cmp (Included (frame, from)) Unbounded entries) frame place ≡ place_at entries frame place
+  of_frame place later = lookup-filter-keys (is_at (place_cmp (frame, place))) (is_from frame from) true (from_own frame from place later) entries
+
+  by : (place : ℕ) (has : PlacedObject) → place_at entries frame place ≡ Some has → (b : Bool) → nat_lt place from ≡ b
+      → Done has ⊎ (place_at (entries_between place_cmp (Included (frame, from)) Unbounded entries) frame place ≡ Some has)
+  by place has is true earlier = let less : place < from = grind (arith, nat_tests) in inl (before place has less is)
+  by place has is false later = let least : from ≤ place = grind (arith, nat_tests) in inr (of_frame place least ∙ is)

@@ -1,5 +1,5 @@
--- How versions are settled and forgotten where a frame ends.
-use Rattle.std.specs.Prelude.{◌≡◌, ℕ, ◌<◌, ◌+◌, ◌==◌, Bool, not, Some, filter}
+-- How what a frame owes is settled, and what it has is forgotten, where it ends.
+use Rattle.std.specs.Prelude.{◌≡◌, ℕ, ◌<◌, ◌≤◌, ◌+◌, ◌==◌, Bool, not, Some, None, filter}
 use Rattle.slab.specs.Slab.{Slab}
 use Rattle.swan_model.specs.declared.value.Value.{Value}
 use Rattle.swan_model.specs.Versions.{settled, owed, settle, IsSettled}
@@ -8,34 +8,37 @@ use Rattle.object_versions.specs.declared.placed_object.PlacedObject.{PlacedObje
 use Rattle.object_versions.specs.Store.{PlaceEntries, place_at, told_at, version_at, object_at, versions_of, uses}
 use Rattle.object_versions.specs.Whole.{IsWhole}
 
--- Some of the versions that a frame owes have got the frame's values.
-pub record IsSettling (entries : PlaceEntries) (start now : Slab Node) (made frame : ℕ) : Type 0 where
-  pub began : IsWhole entries start made (λ _. 0)
-  pub ready : IsSettled (versions_of entries start made) frame
-  pub whole : IsWhole entries now made (λ _. 0)
-  pub objects : (key : ℕ) → 0 < uses key entries → object_at now key ≡ object_at start key
-  pub versions : (key : ℕ) → 0 < uses key entries
-      → settle (versions_of entries start made) frame (object_at start key) (version_at now key)
-      ≡ settle (versions_of entries start made) frame (object_at start key) (version_at start key)
-  pub stay : (key : ℕ) (value : Value) → 0 < uses key entries → version_at start key ≡ settled value → version_at now key ≡ settled value
+-- ---- settling
 
--- what holds while a frame's versions are being settled, of what stands at one of its places
-abbrev pub OnSettling : (now : Slab Node) → PlacedObject → ((entries : PlaceEntries) → (start : Slab Node) → (made frame : ℕ) → Type 0) → Type 0
-OnSettling now place Holds =
-    (entries : PlaceEntries) (start : Slab Node) (made frame at : ℕ) → IsSettling entries start now made frame → place_at entries frame at ≡ Some place
-    → Holds entries start made frame
+-- for this place a frame owes a version, and has another one there
+pub record IsDebt (entries : PlaceEntries) (frame place present owed : ℕ) : Type 0 where
+  pub has : PlacedObject
+  pub stands : place_at entries frame place ≡ Some has
+  pub shows : has.present ≡ present
+  pub owes : has.owes ≡ Some owed
 
--- what is owed after a step was owed before it
-pub record OwesNoMore (entries : PlaceEntries) (old new : Slab Node) : Type 0 where
-  pub before : (key frame : ℕ) → 0 < uses key entries → version_at new key ≡ owed frame → version_at old key ≡ owed frame
+-- for no place before this one the frame owes a version
+abbrev pub IsPaidBefore : PlaceEntries → (frame from : ℕ) → Type 0
+IsPaidBefore entries frame from = (place : ℕ) (has : PlacedObject) → place < from → place_at entries frame place ≡ Some has → has.owes ≡ None
 
--- the version that is owed for a place has its value
-pub record IsPaid (nodes : Slab Node) (place : PlacedObject) : Type 0 where
-  pub settled : (key frame : ℕ) → place.owes ≡ Some key → version_at nodes key ≡ owed frame → ⊥
+-- and for no place at all
+abbrev pub IsAllPaid : PlaceEntries → (frame : ℕ) → Type 0
+IsAllPaid entries frame = (place : ℕ) (has : PlacedObject) → place_at entries frame place ≡ Some has → has.owes ≡ None
 
--- each version that a frame owes has its value
-pub record IsAllPaid (entries : PlaceEntries) (nodes : Slab Node) (frame : ℕ) : Type 0 where
-  pub paid : (place : ℕ) (has : PlacedObject) → place_at entries frame place ≡ Some has → IsPaid nodes has
+-- Some of the versions that a frame owed have got the frame's values, and it owes them no more. `before` and `start` are what was kept when it
+-- began to end.
+pub record IsSettling (before now : PlaceEntries) (start nodes : Slab Node) (made frame : ℕ) : Type 0 where
+  pub began : IsWhole before start made (λ _. 0)
+  pub ready : IsSettled (versions_of before start made) frame
+  pub whole : IsWhole now nodes made (λ _. 0)
+  -- of places nothing has changed but what they owe
+  pub same : versions_of now start made ≡ versions_of before start made
+  pub fewer : (key : ℕ) → uses key now ≤ uses key before
+  pub objects : (key : ℕ) → 0 < uses key now → object_at nodes key ≡ object_at start key
+  pub versions : (key : ℕ) → 0 < uses key now
+      → settle (versions_of before start made) frame (object_at start key) (version_at nodes key)
+      ≡ settle (versions_of before start made) frame (object_at start key) (version_at start key)
+  pub stay : (key : ℕ) (value : Value) → 0 < uses key now → version_at start key ≡ settled value → version_at nodes key ≡ settled value
 
 -- ---- forgetting
 

@@ -4,7 +4,6 @@ use Rattle.std.specs.Prelude.{ℕ, ◌+◌, ◌-◌, ◌==◌, nat_lt, Option, S
 use Rattle.std.specs.BTreeMap.{is_at}
 use Rattle.std.specs.Map.{lookup, values_of}
 use Rattle.slab.specs.Slab.{Slab, get}
-use Rattle.swan_model.specs.declared.value.Value.{Value}
 use Rattle.swan_model.specs.Versions.{Version, settled, owed, owing, Placed, VersionState, place_cmp}
 use Rattle.object_versions.specs.declared.node.Node.{Node}
 use Rattle.object_versions.specs.declared.node.NodeState.{NodeState}
@@ -88,8 +87,3 @@ uses_in (Some node) = node.uses
 -- with a use less, or given up
 abbrev pub after_release : Node → Option Node
 after_release node = if nat_lt 1 node.uses then Some (record node { uses = node.uses - 1 }) else None
-
--- an owed version gets its value, and a settled one keeps it
-abbrev pub state_after_settle : NodeState → Value → NodeState
-state_after_settle (Settled kept) value = Settled kept
-state_after_settle (Owed frame) value = Settled value

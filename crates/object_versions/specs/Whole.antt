@@ -21,7 +21,7 @@ pub record IsCounted (nodes : Slab Node) (count : ℕ → ℕ) : Type 0 where
 pub record IsOwing (nodes : Slab Node) (frame : ℕ) (place : PlacedObject) (key : ℕ) : Type 0 where
   pub same : object_at nodes key ≡ place.object
   pub may : allows place.mode Out ≡ true
-  pub by : (other : ℕ) → version_at nodes key ≡ owed other → other ≡ frame
+  pub by : version_at nodes key ≡ owed frame
 
 -- a place and its versions, which are all of its object
 pub record IsFit (nodes : Slab Node) (made frame : ℕ) (place : PlacedObject) : Type 0 where

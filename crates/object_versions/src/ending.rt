@@ -1,59 +1,103 @@
 // What a frame that ends leaves.
-ghost use Rattle.std.specs.Prelude.{◌≡◌, ℕ, ◌+◌, Some, None, IsSome, OnOk};
-ghost use Rattle.swan_model.specs.declared.value.Value.{Value};
-ghost use Rattle.swan_model.specs.Versions.{settled};
-ghost use Rattle.slab.specs.Slab.{get};
-ghost use Rattle.object_versions.specs.Store.{PlaceEntries, place_at, version_at, one_of, uses_of};
+ghost use Rattle.std.specs.Prelude.{◌≡◌, ℕ, ◌+◌, Some, None, IsSome, IfSome, IfNone, OnOk};
+ghost use Rattle.std.specs.BTreeMap.{is_at};
+ghost use Rattle.std.specs.Map.{set_value};
+ghost use Rattle.swan_model.specs.Versions.{place_cmp};
+ghost use Rattle.slab.specs.Slab.{Slab as TheSlab, get};
+ghost use Rattle.object_versions.specs.declared.node.Node.{Node as TheNode};
+ghost use Rattle.object_versions.specs.declared.placed_object.PlacedObject.{PlacedObject as ThePlacedObject};
+ghost use Rattle.object_versions.specs.Store.{PlaceEntries, place_at, one_of, uses_of};
 ghost use Rattle.object_versions.specs.Whole.{IsWhole};
-ghost use Rattle.object_versions.specs.Ending.{IsSettling, OnSettling, OwesNoMore, IsPaid, IsAllPaid, IsReleased, IsForgetting};
+ghost use Rattle.object_versions.specs.Ending.{IsDebt, IsPaidBefore, IsAllPaid, IsSettling, IsReleased, IsForgetting};
 
-use crate::nodes::{release, settle, value_at};
-use crate::places::{first_place, take_out};
+use crate::nodes::{overwrite, release, value_at};
+use crate::places::{first_place, forget_owed, take_out};
 use crate::{Node, PlacedObject};
 use slab::Slab;
 use std::collections::BTreeMap;
 use swan_model::NoMemory;
 
-/// Settles the version that a frame owes for a place, with the frame's value there. `O(1)`.
-fn settle_owed(nodes: &mut Slab<Node>, place: &PlacedObject) -> Result<(), NoMemory>
-    // the versions of the place
-    requires reads { (value : Value) × (version_at nodes.old place.now.present ≡ settled value) }
-    requires owed { (key : ℕ) → place.now.owes ≡ Some key → IsSome (get nodes.old key) }
+/// A version that a frame owes for a place, and the version that it has there.
+#[derive(Clone, Copy)]
+pub struct Debt {
+    /// The place.
+    pub place: u32,
+    /// The version that the frame has there.
+    pub present: usize,
+    /// The version that it owes.
+    pub owed: usize,
+}
+
+/// What a frame owes for the first of its places for which it owes a version, where it owes none for those before this
+/// one. `O(m + log n)` for the m places of the frame from this one to that, and n places of all frames; it takes no
+/// memory.
+fn next_debt(places: &BTreeMap<(u64, u32), PlacedObject>, frame: u64, from: u32) -> Option<Debt>
+    requires before { IsPaidBefore places.now.entries frame from }
+    ensures owes { IfSome result (λ debt. IsDebt places.now.entries frame debt.place debt.present debt.owed) }
+    ensures before { IfSome result (λ debt. IsPaidBefore places.now.entries frame debt.place) }
+    ensures none { IfNone result (IsAllPaid places.now.entries frame) }
+{
+    for (&(owner, place), object) in places.range((frame, from)..) {
+        if owner != frame {
+            return None;
+        }
+        if let Some(owed) = object.owes {
+            return Some(Debt {
+                place,
+                present: object.present,
+                owed,
+            });
+        }
+    }
+    None
+}
+
+/// Gives the version that a frame owes for a place the frame's value there, and the frame owes it no more.
+/// `O(log n)`.
+fn pay(
+    places: &mut BTreeMap<(u64, u32), PlacedObject>,
+    nodes: &mut Slab<Node>,
+    frame: u64,
+    debt: Debt,
+) -> Result<(), NoMemory>
+    // what it pays, as the frame ends
+    requires owes { IsDebt places.old.entries frame debt.place debt.present debt.owed }
+    requires began { (before : PlaceEntries) × (start : TheSlab TheNode) × (made : ℕ) × IsSettling before places.old.entries start nodes.old made frame }
 
     // what it leaves, with memory and without
-    ensures settling { OnSettling nodes.old place.now (λ entries start made frame. IsSettling entries start nodes.new made frame) }
-    ensures no_more { OnSettling nodes.old place.now (λ entries start made frame. OwesNoMore entries nodes.old nodes.new) }
+    ensures settling { (before : PlaceEntries) (start : TheSlab TheNode) (made : ℕ) → IsSettling before places.old.entries start nodes.old made frame
+        → IsSettling before places.new.entries start nodes.new made frame }
 
     // and with memory alone
-    ensures paid { OnOk result (OnSettling nodes.old place.now (λ entries start made frame. IsPaid nodes.new place.now)) }
+    ensures paid { OnOk result ((has : ThePlacedObject) → place_at places.old.entries frame debt.place ≡ Some has
+        → places.new.entries ≡ set_value (is_at (place_cmp (frame, debt.place))) places.old.entries (record has { owes = None })) }
 {
-    let Some(owed) = place.owes else {
-        return Ok(());
-    };
-    let value = match value_at(nodes, place.present) {
+    let value = match value_at(nodes, debt.present) {
         Ok(value) => value.copy()?,
         Err(_) => unreachable!(),
     };
-    settle(nodes, owed, value);
+    overwrite(nodes, debt.owed, value);
+    forget_owed(places, frame, debt.place);
+    release(nodes, debt.owed);
     Ok(())
 }
 
-/// Settles each version that a frame owes: one walk over the frame's places, `O(k + log n)` for k objects of
-/// the frame and n places of all frames.
+/// Settles each version that a frame owes, and then it owes none. `O(k + (d + 1) log n)` for k objects of the frame,
+/// for d of which it owes a version, and n places of all frames.
 pub fn settle_all(
-    places: &BTreeMap<(u64, u32), PlacedObject>,
+    places: &mut BTreeMap<(u64, u32), PlacedObject>,
     nodes: &mut Slab<Node>,
     frame: u64,
 ) -> Result<(), NoMemory>
-    requires began { (made : ℕ) × IsSettling places.now.entries nodes.old nodes.old made frame }
-    ensures settling { (made : ℕ) → IsSettling places.now.entries nodes.old nodes.old made frame → IsSettling places.now.entries nodes.old nodes.new made frame }
-    ensures paid { OnOk result ((made : ℕ) → IsSettling places.now.entries nodes.old nodes.old made frame → IsAllPaid places.now.entries nodes.new frame) }
+    requires began { (made : ℕ) × IsSettling places.old.entries places.old.entries nodes.old nodes.old made frame }
+    ensures settling { (made : ℕ) → IsSettling places.old.entries places.old.entries nodes.old nodes.old made frame
+        → IsSettling places.old.entries places.new.entries nodes.old nodes.new made frame }
+    ensures paid { OnOk result (IsAllPaid places.new.entries frame) }
 {
-    for (&(owner, _), place) in places.range((frame, 0)..) {
-        if owner != frame {
-            return Ok(());
-        }
-        settle_owed(nodes, place)?;
+    let mut from = 0;
+    while let Some(debt) = next_debt(places, frame, from) {
+        pay(places, nodes, frame, debt)?;
+        from = debt.place;
     }
     Ok(())
 }

@@ -6,7 +6,7 @@ ghost use Rattle.swan_model.specs.declared.rights.Mode.TheVariants.{In, Out, InO
 ghost use Rattle.swan_model.specs.Versions.{after_access};
 ghost use Rattle.object_versions.specs.Store.{KeepsOwed};
 ghost use Rattle.object_versions.specs.Whole.{Becomes, IsAtRest, MayGetAt, StaysAtRest, kept_at};
-ghost use Rattle.object_versions.specs.declared.placed_object.PlacedObject.{PlacedObject as Held};
+ghost use Rattle.object_versions.specs.declared.placed_object.PlacedObject.{PlacedObject as ThePlacedObject};
 
 use crate::nodes::{make, release, share};
 use crate::places::{put, set_present};
@@ -32,7 +32,7 @@ impl VersionStore {
     pub fn give(&mut self, gift: Gift, mode: Mode) -> Result<(), NoMemory>
         // what is given, and where it comes to
         requires differ { gift.parent ≢ gift.child }
-        requires stands { (object : Held) × (kept_at self.old gift.parent gift.parent_place ≡ Some object)
+        requires stands { (object : ThePlacedObject) × (kept_at self.old gift.parent gift.parent_place ≡ Some object)
             × (allows object.mode mode ≡ true) × MayGetAt self.old.places.entries gift.child object.object mode }
         requires of_objects { is_queue_mode mode ≡ false }
         requires free { kept_at self.old gift.child gift.child_place ≡ None }
@@ -44,8 +44,8 @@ impl VersionStore {
         // what is seen of it, and which versions the two have
         ensures given { OnOk result (Becomes self.old self.new (λ state. after_access state gift.parent gift.parent_place gift.child gift.child_place mode)) }
         ensures given_up { OnOk result ((made : ℕ) → IsAtRest self.old made
-            → (has : Held) → kept_at self.new gift.parent gift.parent_place ≡ Some has → KeepsOwed self.new.nodes has.given) }
-        ensures shares { OnOk result (allows mode In ≡ true → (object has : Held) → kept_at self.old gift.parent gift.parent_place ≡ Some object
+            → (has : ThePlacedObject) → kept_at self.new gift.parent gift.parent_place ≡ Some has → KeepsOwed self.new.nodes has.given) }
+        ensures shares { OnOk result (allows mode In ≡ true → (object has : ThePlacedObject) → kept_at self.old gift.parent gift.parent_place ≡ Some object
             → kept_at self.new gift.child gift.child_place ≡ Some has → has.present ≡ object.present) }
     {
         let Some(found) = self.places.get(&(gift.parent, gift.parent_place)) else {
@@ -77,8 +77,8 @@ impl VersionStore {
 
         // what is seen of it, and which versions the two have
         ensures given { OnOk result (Becomes self.old self.new (λ state. after_access state gift.parent gift.parent_place gift.child gift.child_place In)) }
-        ensures keeps { OnOk result ((has : Held) → kept_at self.new gift.parent gift.parent_place ≡ Some has → has.given ≡ object.now.given) }
-        ensures shares { OnOk result ((has : Held) → kept_at self.new gift.child gift.child_place ≡ Some has → has.present ≡ object.now.present) }
+        ensures keeps { OnOk result ((has : ThePlacedObject) → kept_at self.new gift.parent gift.parent_place ≡ Some has → has.given ≡ object.now.given) }
+        ensures shares { OnOk result ((has : ThePlacedObject) → kept_at self.new gift.child gift.child_place ≡ Some has → has.present ≡ object.now.present) }
     {
         let shared = object.present;
         // By the clause of `len` there are fewer than 2 ^ 63 places, so the count has room.
@@ -112,7 +112,7 @@ impl VersionStore {
 
         // what is seen of it, and which version the parent was given
         ensures given { OnOk result (Becomes self.old self.new (λ state. after_access state gift.parent gift.parent_place gift.child gift.child_place Out)) }
-        ensures keeps { OnOk result ((has : Held) → kept_at self.new gift.parent gift.parent_place ≡ Some has → has.given ≡ object.now.given) }
+        ensures keeps { OnOk result ((has : ThePlacedObject) → kept_at self.new gift.parent gift.parent_place ≡ Some has → has.given ≡ object.now.given) }
     {
         let zero = Value::zero(self.alloc, object.kind)?;
         let owed = make(
@@ -153,8 +153,8 @@ impl VersionStore {
 
         // what is seen of it, and which versions the two have
         ensures given { OnOk result (Becomes self.old self.new (λ state. after_access state gift.parent gift.parent_place gift.child gift.child_place InOut)) }
-        ensures keeps { OnOk result ((has : Held) → kept_at self.new gift.parent gift.parent_place ≡ Some has → has.given ≡ object.now.given) }
-        ensures shares { OnOk result ((has : Held) → kept_at self.new gift.child gift.child_place ≡ Some has → has.present ≡ object.now.present) }
+        ensures keeps { OnOk result ((has : ThePlacedObject) → kept_at self.new gift.parent gift.parent_place ≡ Some has → has.given ≡ object.now.given) }
+        ensures shares { OnOk result ((has : ThePlacedObject) → kept_at self.new gift.child gift.child_place ≡ Some has → has.present ≡ object.now.present) }
     {
         // By the clause of `len` there are fewer than 2 ^ 63 places, so the count has room.
         let _few = self.places.len();

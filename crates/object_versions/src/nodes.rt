@@ -2,7 +2,7 @@
 ghost use Rattle.std.specs.Prelude.{◌≡◌, ◌↔◌, ◌+◌, ◌<◌, ◌^◌, IsTrue, IfOk, IfErr, IsSome, Some, None};
 ghost use Rattle.slab.specs.Slab.{get, Updates};
 ghost use Rattle.swan_model.specs.Versions.{settled, owed};
-ghost use Rattle.object_versions.specs.Store.{version_at, uses_in, after_release, state_after_settle};
+ghost use Rattle.object_versions.specs.Store.{version_at, uses_in, after_release};
 ghost use Rattle.object_versions.specs.declared.node.Node.{Node as TheNode};
 ghost use Rattle.object_versions.specs.declared.node.NodeState.TheVariants.{Settled};
 
@@ -59,19 +59,6 @@ pub fn release(nodes: &mut Slab<Node>, key: usize)
     }
 }
 
-/// Gives a version its value where a frame owes it. `O(1)`; it takes no memory.
-pub fn settle(nodes: &mut Slab<Node>, key: usize, value: Value)
-    requires { IsSome (get nodes.old key) }
-    ensures { (node : TheNode) → get nodes.old key ≡ Some node → Updates nodes.old nodes.new key (Some (record node { state = state_after_settle node.state value })) }
-{
-    let Some(node) = nodes.get_mut(key) else {
-        unreachable!()
-    };
-    if let NodeState::Owed(_) = node.state {
-        node.state = NodeState::Settled(value);
-    }
-}
-
 /// Whether places refer to a version just once. `O(1)`; it takes no memory.
 pub fn is_alone(nodes: &Slab<Node>, key: usize) -> bool
     requires { IsSome (get nodes.now key) }
@@ -83,7 +70,7 @@ pub fn is_alone(nodes: &Slab<Node>, key: usize) -> bool
     }
 }
 
-/// Gives a version this value, whatever it is. `O(1)`; it takes no memory.
+/// Gives a version this value, whether it had one or a frame owes it. `O(1)`; it takes no memory.
 pub fn overwrite(nodes: &mut Slab<Node>, key: usize, value: Value)
     requires { IsSome (get nodes.old key) }
     ensures { (node : TheNode) → get nodes.old key ≡ Some node → Updates nodes.old nodes.new key (Some (record node { state = Settled value })) }

@@ -17,7 +17,7 @@ pub struct PlacedObject {
     pub given: Option<usize>,
     /// The version that the frame has now.
     pub present: usize,
-    /// The version that the frame owes: the one that it settles when it ends.
+    /// The version that the frame owes until it settles it, when it ends.
     pub owes: Option<usize>,
 }
 

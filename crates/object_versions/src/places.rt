@@ -5,7 +5,7 @@ ghost use Rattle.std.specs.Map.{keys_of, set_value, remove_entry};
 ghost use Rattle.std.specs.List.Sorted.{IsStrictlySortedBy};
 ghost use Rattle.swan_model.specs.Versions.{place_cmp};
 ghost use Rattle.object_versions.specs.Store.{place_at};
-ghost use Rattle.object_versions.specs.declared.placed_object.PlacedObject.{PlacedObject as Held};
+ghost use Rattle.object_versions.specs.declared.placed_object.PlacedObject.{PlacedObject as ThePlacedObject};
 
 use crate::PlacedObject;
 use std::collections::BTreeMap;
@@ -45,7 +45,7 @@ pub fn set_present(
     present: usize,
 )
     requires { IsSome (place_at places.old.entries frame place) }
-    ensures set { (object : Held) → place_at places.old.entries frame place ≡ Some object
+    ensures set { (object : ThePlacedObject) → place_at places.old.entries frame place ≡ Some object
         → places.new.entries ≡ set_value (is_at (place_cmp (frame, place))) places.old.entries (record object { present = present }) }
     ensures sorted { IsStrictlySortedBy place_cmp (keys_of places.new.entries) }
 {
@@ -58,7 +58,7 @@ pub fn set_present(
 /// Forgets which version a frame was given at a place. `O(log n)`; it takes no memory.
 pub fn forget_given(places: &mut BTreeMap<(u64, u32), PlacedObject>, frame: u64, place: u32)
     requires { IsSome (place_at places.old.entries frame place) }
-    ensures set { (object : Held) → place_at places.old.entries frame place ≡ Some object
+    ensures set { (object : ThePlacedObject) → place_at places.old.entries frame place ≡ Some object
         → places.new.entries ≡ set_value (is_at (place_cmp (frame, place))) places.old.entries (record object { given = None }) }
     ensures sorted { IsStrictlySortedBy place_cmp (keys_of places.new.entries) }
 {
@@ -66,6 +66,19 @@ pub fn forget_given(places: &mut BTreeMap<(u64, u32), PlacedObject>, frame: u64,
         unreachable!()
     };
     object.given = None;
+}
+
+/// Forgets which version a frame owes for a place. `O(log n)`; it takes no memory.
+pub fn forget_owed(places: &mut BTreeMap<(u64, u32), PlacedObject>, frame: u64, place: u32)
+    requires { IsSome (place_at places.old.entries frame place) }
+    ensures set { (object : ThePlacedObject) → place_at places.old.entries frame place ≡ Some object
+        → places.new.entries ≡ set_value (is_at (place_cmp (frame, place))) places.old.entries (record object { owes = None }) }
+    ensures sorted { IsStrictlySortedBy place_cmp (keys_of places.new.entries) }
+{
+    let Some(object) = places.get_mut(&(frame, place)) else {
+        unreachable!()
+    };
+    object.owes = None;
 }
 
 /// Takes out what a frame has at a place. `O(log n)`; it takes no memory.

@@ -217,9 +217,9 @@ impl Versions {
     /// Ends a frame: each version that it owes gets the frame's value, for all who have that version, and
     /// what the frame has is forgotten. What frame 0 has stays. It may be called where `ready` answers Ok and the
     /// frame's children have ended, for then each version of the frame has its value: the law
-    /// `ended_children_leave_all_settled`. Err is want of memory for a copy of a value. For k objects of the frame
-    /// settling is `O(k + log n)`, no matter how many others have the frame's versions, and forgetting is k
-    /// removals of `O(log n)` each.
+    /// `ended_children_leave_all_settled`. Err is want of memory for a copy of a value. For k objects of the frame,
+    /// for d of which it owes a version, settling is `O(k + (d + 1) log n)`, no matter how many others have these
+    /// versions, and forgetting is k removals of `O(log n)` each.
     pub fn finish(&mut self, frame: u64) -> Result<(), NoMemory>
         // what it has
         requires settled { IsSettled self.old frame }
@@ -234,7 +234,7 @@ impl Versions {
         ensures giving { OnOk result (OnMeanwhile self.old frame (λ s r ended giver child made left. ended.done ≡ length (times s ended.path)
             → IsGiving s r self.new giver child made left)) }
     {
-        match settle_all(&self.store.places, &mut self.store.nodes, frame) {
+        match settle_all(&mut self.store.places, &mut self.store.nodes, frame) {
             Ok(()) => {
                 let is_root = frame == 0;
                 if !is_root {

@@ -1,8 +1,13 @@
-use Rattle.object_versions.proofs.Paying.{IsUnderWay}
+use Rattle.std.proofs.Common.{ℕ}
+use Rattle.object_versions.specs.Ending.{IsPaidBefore, IsSettling}
+use Rattle.object_versions.proofs.Paying.{debts}
 use Rattle.object_versions.proofs.ending.settle_all.Given as goal
 
-abbrev pub invariant-loop-owner : goal.invariant-loop-owner
-invariant-loop-owner l =
-    (goal.iterator-loop-owner).can_next l.owner-iterator ×
-    (goal.iterator-loop-owner).is_finite l.owner-iterator ×
-    IsUnderWay l.places.entries l.owner-iterator l.fn.nodes l.nodes l.frame
+abbrev pub invariant-loop-debt : goal.invariant-loop-debt
+invariant-loop-debt l =
+    IsPaidBefore l.places.entries l.frame l.from
+    × ((made : ℕ) → IsSettling l.fn.places.entries l.fn.places.entries l.fn.nodes l.fn.nodes made l.frame
+    → IsSettling l.fn.places.entries l.places.entries l.fn.nodes l.nodes made l.frame)
+
+abbrev pub decreases-loop-debt : goal.decreases-loop-debt
+decreases-loop-debt l = debts l.places.entries

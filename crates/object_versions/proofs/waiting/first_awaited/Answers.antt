@@ -1,4 +1,4 @@
-use Rattle.std.proofs.Common.{sym, subst, ◌∙◌}
+use Rattle.std.proofs.Common.{sym, subst, ◌∙◌, arith}
 use Rattle.object_versions.specs.Store.{PlaceEntries}
 use Rattle.object_versions.proofs.Awaited.{NoneOwes, awaits_here, awaits_none}
 use Rattle.object_versions.proofs.Walk.{IsWalk, begins, stands, least, goes_on, ends_at, ends}
@@ -12,7 +12,7 @@ loop-owner-init c =
       tt,
       tt,
       subst P (sym (c.into_iter-owner-iterator.ensures.into_iter_gives ∙ c.range-owner-items.ensures.between tt))
-          (begins entries c.args.frame (NoneOwes c.args.nodes.now) c.range-owner-items.ensures.ordered),
+          (begins entries c.args.frame 0 (NoneOwes c.args.nodes.now) c.range-owner-items.ensures.ordered (λ place has less stands. absurd (omega (arith, less)))),
     )
 
 pub returns-then-owner-frame-clause-none : goal.returns-then-owner-frame-clause-none

@@ -22,9 +22,7 @@ invariant_of-self c =
     let entries = c.self.inside.store.places.entries in
     let made = c.self.inside.made in
     let begun = begins entries c.self.inside.store.nodes made c.args.frame c.self.invariant (subst P (sym c.self.view_is) c.requires.settled) in
-    let settling = c.in-Ok.ensures.settling made begun in
-    let paid = c.in-Ok.ensures.paid made begun in
-    (c.forget_all.ensures.forgotten made (not_begun entries c.self.inside.store.nodes c.settle_all.new.nodes made c.args.frame settling paid)).whole
+    (c.forget_all.ensures.forgotten made (not_begun _ _ _ _ made c.args.frame (c.in-Ok.ensures.settling made begun) c.in-Ok.ensures.paid)).whole
 
 pub returns-then-not-is_root-clause-ok : goal.returns-then-not-is_root-clause-ok
 returns-then-not-is_root-clause-ok c =
@@ -33,10 +31,8 @@ returns-then-not-is_root-clause-ok c =
     let made = c.self.inside.made in
     let begun = begins entries c.self.inside.store.nodes made c.args.frame c.self.invariant (subst P (sym c.self.view_is) c.requires.settled) in
     let settling = c.in-Ok.ensures.settling made begun in
-    let paid = c.in-Ok.ensures.paid made begun in
-    let forgotten = c.forget_all.ensures.forgotten made (not_begun entries c.self.inside.store.nodes c.settle_all.new.nodes made c.args.frame settling paid) in
-    frame_finished entries c.self.inside.store.nodes c.settle_all.new.nodes made c.args.frame settling paid c.if-not-is_root.true c.forget_all.new.places.entries c.forget_all.new.nodes
-    forgotten c.forget_all.ensures.none
+    let forgotten = c.forget_all.ensures.forgotten made (not_begun _ _ _ _ made c.args.frame settling c.in-Ok.ensures.paid) in
+    frame_finished _ _ _ _ made c.args.frame settling c.in-Ok.ensures.paid c.if-not-is_root.true c.forget_all.new.places.entries c.forget_all.new.nodes forgotten c.forget_all.ensures.none
     ∙ ap (λ state. objects_after_finish state c.args.frame) c.self.view_is
 
 pub returns-else-not-is_root-clause-ok : goal.returns-else-not-is_root-clause-ok
@@ -45,7 +41,7 @@ returns-else-not-is_root-clause-ok c =
     let entries = c.self.inside.store.places.entries in
     let made = c.self.inside.made in
     let begun = begins entries c.self.inside.store.nodes made c.args.frame c.self.invariant (subst P (sym c.self.view_is) c.requires.settled) in
-    root_finished entries c.self.inside.store.nodes c.settle_all.new.nodes made c.args.frame (c.in-Ok.ensures.settling made begun) (c.in-Ok.ensures.paid made begun) c.if-not-is_root.false
+    root_finished _ _ _ _ made c.args.frame (c.in-Ok.ensures.settling made begun) c.in-Ok.ensures.paid c.if-not-is_root.false
     ∙ ap (λ state. objects_after_finish state c.args.frame) c.self.view_is
 
 pub returns-then-not-is_root-clause-follows : goal.returns-then-not-is_root-clause-follows
@@ -66,9 +62,4 @@ forget_all-requires c =
     let entries = c.self.inside.store.places.entries in
     let made = c.self.inside.made in
     let begun = begins entries c.self.inside.store.nodes made c.args.frame c.self.invariant (subst P (sym c.self.view_is) c.requires.settled) in
-    record {
-      began = (
-        made,
-        not_begun entries c.self.inside.store.nodes c.settle_all.new.nodes made c.args.frame (c.in-Ok.ensures.settling made begun) (c.in-Ok.ensures.paid made begun),
-      );
-    }
+    record { began = (made, not_begun _ _ _ _ made c.args.frame (c.in-Ok.ensures.settling made begun) c.in-Ok.ensures.paid) }
