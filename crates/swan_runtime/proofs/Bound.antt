@@ -10,7 +10,7 @@ use Rattle.swan_model.proofs.Lists.{some_within}
 use Rattle.task_frames.specs.declared.resumed.Resumed.{Resumed}
 use Rattle.task_frames.specs.declared.resumed.Resumed.TheVariants as resumed
 use Rattle.task_frames.specs.Cores.{CoreView}
-use Rattle.task_frames.specs.Frames.{FrameView, IsAnyFrame, Task}
+use Rattle.task_frames.specs.Frames.{FrameView, IsAnyFrame, TaskView}
 use Rattle.task_frames.specs.Going.{Counts, IsSameFrame}
 use Rattle.task_frames.specs.Resumes.{EndsOf, IsResumed}
 use Rattle.swan_runtime.specs.Stacks.{AreStacked, IsStack, fuel_of, turns_left}
@@ -89,7 +89,7 @@ module _ {B L E : Type 0} (Q : Type 0) (G : Ghosts B L) (name : E → Option Scr
     frames = λ index it there. alone root it index frame there;
     few =
         let stage : fuel_of root.task.fuel root.stage ≡ root.task.fuel = ap (fuel_of root.task.fuel) is.begins in
-        let fuel : root.task.fuel ≡ opened.plan.fuel = ap (λ (t : Task B L). t.fuel) is.task in
+        let fuel : root.task.fuel ≡ opened.plan.fuel = ap (λ (t : TaskView B L). t.fuel) is.task in
         omega (arith, stage, fuel);
   }
   are-left opened _ _ _ (one_more turns before after stack then so_far turn) =

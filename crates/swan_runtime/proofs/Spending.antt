@@ -9,7 +9,7 @@ use Rattle.swan_model.specs.TrueFrames.{IsStageOf, StandsAt}
 use Rattle.queues.specs.Asks.{LentEnds}
 use Rattle.task_frames.specs.declared.stage.Stage.{Stage}
 use Rattle.task_frames.specs.declared.stage.Stage.TheVariants.{Ready, Asking}
-use Rattle.task_frames.specs.Frames.{FrameView, IsAnyFrame, Task, is_whole, stage_of}
+use Rattle.task_frames.specs.Frames.{FrameView, IsAnyFrame, TaskView, is_whole, stage_of}
 use Rattle.swan_runtime.specs.Stacks.{fuel_of, turns_left}
 
 -- one frame more has its own
@@ -23,7 +23,7 @@ module _ {B L : Type 0} (G : Ghosts B L) where
   stage-fuel plan top fuel (Asking local asks place) is = omega (arith, is.0, is.1)
 
   -- how a frame stands, and what fuel it has there
-  pub record HasFuel (task : Task B L) (fuel : ℕ) : Type 0 where
+  pub record HasFuel (task : TaskView B L) (fuel : ℕ) : Type 0 where
     pub top : Activation L
     pub stands : StandsAt G task.plan task.path task.done top
     pub is : fuel ≡ top.fuel

@@ -13,7 +13,7 @@ use Rattle.swan_model.proofs.Elements.{option_cases}
 use Rattle.queues.specs.Asks.{IsRecorded, LentEnds}
 use Rattle.queues.specs.declared.answers.WaitFor.{WaitFor}
 use Rattle.task_frames.specs.Cores.{CoreView, IsCoreView, IsGiven, IsOf, KeptView}
-use Rattle.task_frames.specs.Frames.{FrameView, Task}
+use Rattle.task_frames.specs.Frames.{FrameView, TaskView}
 use Rattle.task_frames.specs.Going.{Counts, IsSameFrame}
 use Rattle.task_frames.specs.Records.{live_at}
 use Rattle.task_frames.specs.Resumes.{EndsOf, HasNone, IsNewChildOf, IsGivenBy, IsOneOn, IsShownBy, OthersKept, deed_now, waited_for}
@@ -70,14 +70,14 @@ module _ {B L E : Type 0} (G : Ghosts B L) (name : E → Option Script) (run : E
     given = top-given of core stack top is.stacked
 
     number : moved.task.number ≡ top.task.number
-    number = ap (λ (t : Task B L). t.number) same.task
+    number = ap (λ (t : TaskView B L). t.number) same.task
 
     path : moved.task.path ≡ top.task.path
-    path = ap (λ (t : Task B L). t.path) same.task
+    path = ap (λ (t : TaskView B L). t.path) same.task
 
     -- after the steps that it took by itself it is still the one that the core gave
     pub moved-named : (moved.task.plan ≡ core.plan) × (run moved.ends ≡ core.run)
-    moved-named = (ap (λ (t : Task B L). t.plan) same.task ∙ given.plan, same.run_is ∙ given.run)
+    moved-named = (ap (λ (t : TaskView B L). t.plan) same.task ∙ given.plan, same.run_is ∙ given.run)
 
     moved-of : IsOf given.kept moved.task
     moved-of =
@@ -105,8 +105,8 @@ module _ {B L E : Type 0} (G : Ghosts B L) (name : E → Option Script) (run : E
       pub never-waits : (next : FrameView B L E) (wait_for : WaitFor) → IsGivenBy of after next
           → next.task ≡ record moved.task { since = moved.task.done; fuel = next.task.fuel } → IsShownBy G of core after moved next wait_for → ⊥
       never-waits next wait_for gives task shown =
-          let number-is : next.task.number ≡ top.task.number = ap (λ (t : Task B L). t.number) task ∙ number in
-          let path-is : next.task.path ≡ top.task.path = ap (λ (t : Task B L). t.path) task ∙ path in
+          let number-is : next.task.number ≡ top.task.number = ap (λ (t : TaskView B L). t.number) task ∙ number in
+          let path-is : next.task.path ≡ top.task.path = ap (λ (t : TaskView B L). t.path) task ∙ path in
           let live : live_at shown.kept.live (waited_for wait_for) ≡ Some shown.earlier.frame =
           ap (λ (k : KeptView). live_at k.live (waited_for wait_for)) shown.lent.after_is ∙ shown.earlier.live in
           none-before of core after stack top is plan run-is shown.kept shown.keeps (waited_for wait_for) shown.earlier.frame live stay-top next gives number-is path-is
@@ -114,7 +114,7 @@ module _ {B L E : Type 0} (G : Ghosts B L) (name : E → Option Script) (run : E
 
       pub stack-runs : (next : FrameView B L E) → IsGivenBy of after next → IsOneOn moved.task next.task → IsStack of after (stack ++ next ∷ [])
       stack-runs next gives one-on =
-          after-runs of core after stack top is plan run-is gives.kept gives.keeps next (ap (λ (t : Task B L). t.number) one-on ∙ number) (ap (λ (t : Task B L). t.path) one-on ∙ path)
+          after-runs of core after stack top is plan run-is gives.kept gives.keeps next (ap (λ (t : TaskView B L). t.number) one-on ∙ number) (ap (λ (t : TaskView B L). t.path) one-on ∙ path)
           gives stay-top
 
     pub stack-spawns : (after : CoreView B L) → after.plan ≡ core.plan → after.run ≡ core.run → (parent child : FrameView B L E) → IsGivenBy of after parent → IsGivenBy of after child
@@ -122,7 +122,7 @@ module _ {B L E : Type 0} (G : Ghosts B L) (name : E → Option Script) (run : E
         → OthersKept core after (λ other. (other ≢ moved.task.number) × (other ≢ child.task.number)) → IsStack of after ((stack ++ parent ∷ []) ++ child ∷ [])
     stack-spawns after plan run-is parent child gives begins one-on made none stay =
         after-spawns of core after stack top is plan run-is gives.kept gives.keeps parent child
-        (ap (λ (t : Task B L). t.number) one-on ∙ number) (ap (λ (t : Task B L). t.path) one-on ∙ path) gives
+        (ap (λ (t : TaskView B L). t.number) one-on ∙ number) (ap (λ (t : TaskView B L). t.path) one-on ∙ path) gives
         moved.task.children (made.path ∙ ap (λ p. p ++ moved.task.children ∷ []) path) begins none
         (subst (λ n. OthersKept core after (λ other. (other ≢ n) × (other ≢ child.task.number))) number stay)
 
@@ -142,9 +142,9 @@ module _ {B L E : Type 0} (G : Ghosts B L) (name : E → Option Script) (run : E
     pub fewer-runs : (next : FrameView B L E) → IsOneOn moved.task next.task → HasFuel G next.task (fuel_of next.task.fuel next.stage)
         → turns_left (stack ++ next ∷ []) < turns_left (stack ++ top ∷ [])
     fewer-runs next one-on has =
-        let plan-is : next.task.plan ≡ top.task.plan = ap (λ (t : Task B L). t.plan) one-on ∙ ap (λ (t : Task B L). t.plan) same.task in
-        let path-is : next.task.path ≡ top.task.path = ap (λ (t : Task B L). t.path) one-on ∙ ap (λ (t : Task B L). t.path) same.task in
-        let far : next.task.done ≡ top.task.done + suc steps = omega (arith, ap (λ (t : Task B L). t.done) one-on, done) in
+        let plan-is : next.task.plan ≡ top.task.plan = ap (λ (t : TaskView B L). t.plan) one-on ∙ ap (λ (t : TaskView B L). t.plan) same.task in
+        let path-is : next.task.path ≡ top.task.path = ap (λ (t : TaskView B L). t.path) one-on ∙ ap (λ (t : TaskView B L). t.path) same.task in
+        let far : next.task.done ≡ top.task.done + suc steps = omega (arith, ap (λ (t : TaskView B L). t.done) one-on, done) in
         let less = later-less G top.task.plan (suc steps) top.task.path top.task.done had.top has.top had.stands (stands-so has.top plan-is path-is far has.stands) in
         omega (arith, less, had.is, has.is, left-more stack next, left-more stack top)
 
@@ -153,10 +153,10 @@ module _ {B L E : Type 0} (G : Ghosts B L) (name : E → Option Script) (run : E
         → HasFuel G child.task (fuel_of child.task.fuel child.stage)
         → turns_left ((stack ++ parent ∷ []) ++ child ∷ []) < turns_left (stack ++ top ∷ [])
     fewer-spawns parent child one-on made spawn here goes begins =
-        let plan-was : moved.task.plan ≡ top.task.plan = ap (λ (t : Task B L). t.plan) same.task in
-        let path-was : moved.task.path ≡ top.task.path = ap (λ (t : Task B L). t.path) same.task in
+        let plan-was : moved.task.plan ≡ top.task.plan = ap (λ (t : TaskView B L). t.plan) same.task in
+        let path-was : moved.task.path ≡ top.task.path = ap (λ (t : TaskView B L). t.path) same.task in
         let less = later-less G top.task.plan steps top.task.path top.task.done had.top here.top had.stands (stands-so here.top plan-was path-was done here.stands) in
-        let next = stands-so goes.top (ap (λ (t : Task B L). t.plan) one-on) (ap (λ (t : Task B L). t.path) one-on) (ap (λ (t : Task B L). t.done) one-on) goes.stands in
+        let next = stands-so goes.top (ap (λ (t : TaskView B L). t.plan) one-on) (ap (λ (t : TaskView B L). t.path) one-on) (ap (λ (t : TaskView B L). t.done) one-on) goes.stands in
         let first-path : child.task.path ≡ moved.task.path ++ here.top.children ∷ [] = made.path ∙ ap (λ n. moved.task.path ++ n ∷ []) here.children in
         let first = stands-so begins.top made.plan first-path made.done begins.stands in
         let both = spawned-less G moved.task.plan moved.task.path moved.task.done here.top goes.top begins.top here.stands next spawn first in

@@ -31,7 +31,7 @@ use Rattle.task_frames.specs.declared.stage.Stage.TheVariants.{Ready, Asking}
 use Rattle.task_frames.specs.declared.row.AfterRow.{AfterRow}
 use Rattle.task_frames.specs.declared.stage.Stage.{Stage}
 use Rattle.queues.specs.Reads.{deeds_among}
-use Rattle.task_frames.specs.Frames.{AreEndsOf, AreLocal, IsFrame, Task, is_local}
+use Rattle.task_frames.specs.Frames.{AreEndsOf, AreLocal, IsFrame, TaskView, is_local}
 use Rattle.task_frames.specs.Going.{IsRow, IsRowTo, is_still}
 
 -- what holds of one stage holds of whatever the option has
@@ -39,7 +39,7 @@ pub for-one : {X : Type 0} (P : X → Type 0) (one : X) → P one → (x : X) �
 for-one P one is x same = subst P (same_Some one x same) is
 
 -- what the invariant of a frame says of its staged task, once that has this task and stands so
-pub at-stage : {B L : Type 0} (G : Ghosts B L) {name : Option Script} {ends : LentEnds} {since : ℕ} {mark : Bool} {staged : StagedTask B L} {task : Task B L}
+pub at-stage : {B L : Type 0} (G : Ghosts B L) {name : Option Script} {ends : LentEnds} {since : ℕ} {mark : Bool} {staged : StagedTask B L} {task : TaskView B L}
     {stage : Stage L} → staged ≡ record { task = task; stage = Some stage } → IsFrame G (record task { since = since }) name ends stage
     → ((x : Stage L) → staged.stage ≡ Some x → IsFrame G (record staged.task { since = since }) name ends x) × (mark ≡ true → is_some staged.stage ≡ true)
 at-stage {B = B} {L = L} G {name} {ends} {since} {mark} {staged} {task} {stage} so is =
@@ -48,10 +48,10 @@ at-stage {B = B} {L = L} G {name} {ends} {since} {mark} {staged} {task} {stage} 
 
 module _ {B L : Type 0} (G : Ghosts B L) (name : Option Script) where
   -- a task that has done and paid so much
-  abbrev pub with-steps : Task B L → (done fuel : ℕ) → Task B L
+  abbrev pub with-steps : TaskView B L → (done fuel : ℕ) → TaskView B L
   with-steps task done fuel = record task { done = done; fuel = fuel }
 
-  module _ (task : Task B L) (ends : LentEnds) where
+  module _ (task : TaskView B L) (ends : LentEnds) where
     -- its body says what it asks for
     pub asks : (local next : L) (said : Answer) (asked : Ask L) (place : ℕ) → IsFrame G task name ends (Ready local said) → 0 < task.fuel
         → (next, asked) ≡ G.next task.plan.body local said (task.fuel - 1) → place ≡ G.place_of task.plan.body local
@@ -161,11 +161,11 @@ module _ {B L : Type 0} (G : Ghosts B L) (name : Option Script) where
         refl (let n : ends.deeds ≡ ends.deeds + 0 = omega arith in ap (with_deeds ends) n)
 
   -- a task's steps are few
-  pub few : (task : Task B L) (ends : LentEnds) (stage : _) → IsFrame G task name ends stage → task.done + 1 ≤ 2 * FUEL_MOST + 2
+  pub few : (task : TaskView B L) (ends : LentEnds) (stage : _) → IsFrame G task name ends stage → task.done + 1 ≤ 2 * FUEL_MOST + 2
   few task ends stage is = let most = is.plan.fuel in omega (arith, is.alone.stands.left, few-times G task.plan task.path, most)
 
   -- so many steps of work in a row
-  pub worked-on : (task : Task B L) (ends : LentEnds) (local : L) (said : Answer) (n : ℕ) → IsFrame G task name ends (Ready local said) → 0 < task.done → n ≤ task.fuel
+  pub worked-on : (task : TaskView B L) (ends : LentEnds) (local : L) (said : Answer) (n : ℕ) → IsFrame G task name ends (Ready local said) → 0 < task.done → n ≤ task.fuel
       → AreWork (G.next task.plan.body) local said task.fuel n
       → IsFrame G (with-steps task (task.done + n) (task.fuel - n)) name ends (Ready (local_after (G.next task.plan.body) local said task.fuel n) (told_after said n))
   worked-on task ends local said zero is begun most are =
@@ -186,7 +186,7 @@ module _ {B L : Type 0} (G : Ghosts B L) (name : Option Script) where
       (subst (λ f. IsFrame G (with-steps task (task.done + n + 1) f) name ends (Ready step.0 answer.Nothing)) fuel then)
 
   -- work up to the budget, or with all the fuel
-  pub worked-all : (task : Task B L) (ends : LentEnds) (local after : L) (said : Answer) (n : ℕ) → IsFrame G task name ends (Ready local said) → 0 < task.done → n ≤ task.fuel → 0 < n
+  pub worked-all : (task : TaskView B L) (ends : LentEnds) (local after : L) (said : Answer) (n : ℕ) → IsFrame G task name ends (Ready local said) → 0 < task.done → n ≤ task.fuel → 0 < n
       → AreWork (G.next task.plan.body) local said task.fuel n → after ≡ local_after (G.next task.plan.body) local said task.fuel n
       → IsFrame G (with-steps task (task.done + n) (task.fuel - n)) name ends (Ready after answer.Nothing)
   worked-all task ends local after said zero is begun most some are after_is = absurd (omega arith)
@@ -195,7 +195,7 @@ module _ {B L : Type 0} (G : Ghosts B L) (name : Option Script) where
       (worked-on task ends local said (suc n) is begun most are)
 
   -- work up to a step that asks for something else
-  pub worked-to : (task : Task B L) (ends : LentEnds) (local after : L) (said : Answer) (asked : Ask L) (place n : ℕ) → IsFrame G task name ends (Ready local said) → 0 < task.done → n < task.fuel
+  pub worked-to : (task : TaskView B L) (ends : LentEnds) (local after : L) (said : Answer) (asked : Ask L) (place n : ℕ) → IsFrame G task name ends (Ready local said) → 0 < task.done → n < task.fuel
       → AreWork (G.next task.plan.body) local said task.fuel n → after ≡ local_after (G.next task.plan.body) local said task.fuel (suc n)
       → asked ≡ ask_after (G.next task.plan.body) local said task.fuel n → place ≡ G.place_of task.plan.body (local_after (G.next task.plan.body) local said task.fuel n)
       → IsFrame G (with-steps task (task.done + n) (task.fuel - n - 1)) name ends (Asking after asked place)
@@ -207,7 +207,7 @@ module _ {B L : Type 0} (G : Ghosts B L) (name : Option Script) where
       asks now ends here after (told_after said n) asked place (worked-on task ends local said n is begun (omega arith) are) (omega arith) both place_is
 
   -- a row of steps of work, however it ends
-  rowed-to : (task : Task B L) (ends : LentEnds) (local : L) (said : Answer) (budget works left : ℕ) (stage : Stage L) → IsFrame G task name ends (Ready local said)
+  rowed-to : (task : TaskView B L) (ends : LentEnds) (local : L) (said : Answer) (budget works left : ℕ) (stage : Stage L) → IsFrame G task name ends (Ready local said)
       → 0 < task.done → 0 < budget → 0 < task.fuel → AreWork (G.next task.plan.body) local said task.fuel works → IsRowTo G task.plan.body local said task.fuel budget works left stage
       → IsFrame G (with-steps task (task.done + works) left) name ends stage
   rowed-to task ends local said budget works left (Ready after told_is) is begun some full are to =
@@ -218,7 +218,7 @@ module _ {B L : Type 0} (G : Ghosts B L) (name : Option Script) where
       subst (λ f. IsFrame G (with-steps task (task.done + works) f) name ends (Asking after asked place)) (sym to.1)
       (worked-to task ends local after said asked place works is begun (omega (arith, to.0)) are to.2 to.3 to.4)
 
-  pub rowed : (task : Task B L) (ends : LentEnds) (body : B) (local : L) (said : Answer) (budget : ℕ) (row : AfterRow L) → IsFrame G task name ends (Ready local said)
+  pub rowed : (task : TaskView B L) (ends : LentEnds) (body : B) (local : L) (said : Answer) (budget : ℕ) (row : AfterRow L) → IsFrame G task name ends (Ready local said)
       → 0 < task.done → body ≡ task.plan.body → 0 < budget → 0 < task.fuel → IsRow G body local said task.fuel budget row
       → IsFrame G (with-steps task (task.done + row.works) row.fuel) name ends row.stage
   rowed task ends body local said budget row is begun same some full so =

@@ -12,8 +12,8 @@ use Rattle.task_frames.specs.declared.resumed.Resumed.TheVariants as resumed
 use Rattle.task_frames.specs.declared.step.Step.{Step}
 use Rattle.task_frames.specs.declared.step.Step.TheVariants as step
 use Rattle.task_frames.specs.declared.steps.Steps.{Steps}
-use Rattle.task_frames.specs.Cores.{MayBegin, AtCore, CoreView, HasIt, IsCore, KeptView, after_coming_in}
-use Rattle.task_frames.specs.Frames.{FrameView, Task}
+use Rattle.task_frames.specs.Cores.{MayBegin, FrameAtCoreView, CoreView, HasIt, IsCore, KeptView, after_coming_in}
+use Rattle.task_frames.specs.Frames.{FrameView, TaskView}
 use Rattle.task_frames.specs.Records.{HasNoLiveChild, IsLiveChild, come_at, live_at}
 use Rattle.task_frames.specs.Resumes.{MayStep, AreOfPlan, EndsOf, HasLent, HasNoChildAtCore, HaveCome, IsAnswered, IsNewChildOf, IsGivenAs, IsGivenBy, IsLast, IsLiveBefore, IsOneOn, IsResumed, IsShown, IsStep, OnGoneOn, OthersKept, OthersStay, waited_for}
 use Rattle.task_frames.proofs.Given.{given-stays, has-stays}
@@ -40,7 +40,7 @@ then-stay a b c IsOther first then = record {
 fewer-stay : (a b : KeptView) (IsOther IsToo : ℕ → Type 0) → ((n : ℕ) → IsToo n → IsOther n) → OthersStay a b IsOther → OthersStay a b IsToo
 fewer-stay a b IsOther IsToo of stay = record { live = λ other is. stay.live other (of other is); active_are = λ other is. stay.active_are other (of other is) }
 
-module _ {B L : Type 0} (G : Ghosts B L) (before middle : KeptView) (plan : Plan B L) (its : Step B L) (parent child : AtCore B L) (is : its ≡ step.Spawned parent child) (come : HaveCome G before its)
+module _ {B L : Type 0} (G : Ghosts B L) (before middle : KeptView) (plan : Plan B L) (its : Step B L) (parent child : FrameAtCoreView B L) (is : its ≡ step.Spawned parent child) (come : HaveCome G before its)
     (of_plan : AreOfPlan plan its) (core : IsCore G parent.task.plan middle) (lent : HasLent before middle parent.task.number) where
   both : HaveCome G before (step.Spawned parent child)
   both = subst (HaveCome G before) is come
@@ -61,7 +61,7 @@ module _ {B L : Type 0} (G : Ghosts B L) (before middle : KeptView) (plan : Plan
           mark = given.mark;
           run = given.run ∙ sym (lent-run middle after child.task.number then);
           given = given-stays G middle after (λ other. other ≢ child.task.number) (lent-others middle after child.task.number then) frame.task (of.ends frame.ends)
-              (λ same. both.2 (sym (sym (ap (λ (t : Task B L). t.number) given.task) ∙ same))) given.given;
+              (λ same. both.2 (sym (sym (ap (λ (t : TaskView B L). t.number) given.task) ∙ same))) given.given;
         },
         child_given,
         then-stay before middle after (λ other. (other ≢ parent.task.number) × (other ≢ child.task.number))
@@ -71,7 +71,7 @@ module _ {B L : Type 0} (G : Ghosts B L) (before middle : KeptView) (plan : Plan
             (lent-others middle after child.task.number then)),
       )
 
-pub runs-answered : {B L E : Type 0} (Q : Type 0) (of : EndsOf E) (before after : KeptView) (its : Step B L) (next : AtCore B L) (frame : FrameView B L E) (steps : Steps) → its ≡ step.Runs next → steps.count ≡ 1
+pub runs-answered : {B L E : Type 0} (Q : Type 0) (of : EndsOf E) (before after : KeptView) (its : Step B L) (next : FrameAtCoreView B L) (frame : FrameView B L E) (steps : Steps) → its ≡ step.Runs next → steps.count ≡ 1
     → IsGivenAs of after next frame → HasLent before after next.task.number → IsAnswered {Q = Q} of before after its (resumed.Runs frame steps)
 runs-answered Q of before after its next frame steps is one given lent =
     subst (λ x. IsAnswered {Q = Q} of before after x (resumed.Runs frame steps)) (sym is) (one, given, lent-others before after next.task.number lent)
@@ -81,7 +81,7 @@ runs-answered Q of before after its next frame steps is one given lent =
 all-stay : (a : KeptView) (IsOther : ℕ → Type 0) → OthersStay a a IsOther
 all-stay a IsOther = record { live = λ other is. refl; active_are = λ other is. refl }
 
-module _ {B L E : Type 0} (G : Ghosts B L) (of : EndsOf E) (before after : CoreView B L) (frame : FrameView B L E) (at : AtCore B L) (start taken stepped given : KeptView)
+module _ {B L E : Type 0} (G : Ghosts B L) (of : EndsOf E) (before after : CoreView B L) (frame : FrameView B L E) (at : FrameAtCoreView B L) (start taken stepped given : KeptView)
     (start_is : before.kept ≡ Some start) (given_is : after.kept ≡ Some given) (plan : frame.task.plan ≡ after.plan) (run : given.run ≡ after.run)
     (task : at.task ≡ record frame.task { since = frame.task.done }) (come : taken ≡ after_coming_in start frame.task (of.ends frame.ends))
     (others : OthersStay start taken (λ other. other ≢ frame.task.number)) where
@@ -89,20 +89,20 @@ module _ {B L E : Type 0} (G : Ghosts B L) (of : EndsOf E) (before after : CoreV
   n = frame.task.number
 
   number-is : at.task.number ≡ n
-  number-is = ap (λ (t : Task B L). t.number) task
+  number-is = ap (λ (t : TaskView B L). t.number) task
 
   kept-others : (IsOther : ℕ → Type 0) → OthersStay start given IsOther → OthersKept before after IsOther
   kept-others IsOther stay = λ x is y its.
       subst (λ k. OthersStay k y IsOther) (same_Some start x (sym start_is ∙ is)) (subst (λ k. OthersStay start k IsOther) (same_Some given y (sym given_is ∙ its)) stay)
 
-  given-by : (next : AtCore B L) (it : FrameView B L E) → next.task.plan ≡ frame.task.plan → IsGivenAs of given next it → IsGivenBy of after it
+  given-by : (next : FrameAtCoreView B L) (it : FrameView B L E) → next.task.plan ≡ frame.task.plan → IsGivenAs of given next it → IsGivenBy of after it
   given-by next it same so = record {
     kept = given;
     keeps = given_is;
     given = so.given;
     mark = so.mark;
     whole = ap is_some so.stage;
-    plan = ap (λ (t : Task B L). t.plan) so.task ∙ same ∙ plan;
+    plan = ap (λ (t : TaskView B L). t.plan) so.task ∙ same ∙ plan;
     run = so.run ∙ run;
   }
 
@@ -123,15 +123,15 @@ module _ {B L E : Type 0} (G : Ghosts B L) (of : EndsOf E) (before after : CoreV
   may-step may x is =
       subst (λ k. MayBegin (after_coming_in k frame.task (of.ends frame.ends)) n) (same_Some start x (sym start_is ∙ is)) (subst (λ k. MayBegin k n) come may)
 
-  abbrev t : Task B L
+  abbrev t : TaskView B L
   t = record frame.task { since = frame.task.done }
 
   resumed-cases : (Q : Type 0) (its : Step B L) (answer : Resumed B Q L E) → IsStep G taken stepped t its → IsAnswered {Q = Q} of stepped given its answer → IsResumed {Q = Q} G of before after frame answer
   resumed-cases Q (step.Runs next) (resumed.Runs it steps) so answered =
-      let own : next.task.number ≡ n = ap (λ (x : Task B L). x.number) so.1 in (
+      let own : next.task.number ≡ n = ap (λ (x : TaskView B L). x.number) so.1 in (
         answered.0,
-        given-by next it (ap (λ (x : Task B L). x.plan) so.1) answered.1,
-        ap (λ (x : Task B L). x) (answered.1.task ∙ so.1) ∙ same-rest next it answered.1.task,
+        given-by next it (ap (λ (x : TaskView B L). x.plan) so.1) answered.1,
+        ap (λ (x : TaskView B L). x) (answered.1.task ∙ so.1) ∙ same-rest next it answered.1.task,
         so.2,
         kept-others (λ other. other ≢ n) (from-start (λ other. other ≢ n) (λ m apart. apart) so.3
             (fewer-stay stepped given (λ other. other ≢ next.task.number) (λ other. other ≢ n) (λ m apart same. apart (same ∙ own)) answered.2)),
@@ -139,18 +139,18 @@ module _ {B L E : Type 0} (G : Ghosts B L) (of : EndsOf E) (before after : CoreV
         may-step so.5,
       )
     where
-      same-rest : (a : AtCore B L) (b : FrameView B L E) → b.task ≡ a.task
-          → ◌≡◌ {A = Task B L} (record frame.task { done = frame.task.done + 1; since = frame.task.done + 1; fuel = a.task.fuel; holdings = a.task.holdings; children = a.task.children })
+      same-rest : (a : FrameAtCoreView B L) (b : FrameView B L E) → b.task ≡ a.task
+          → ◌≡◌ {A = TaskView B L} (record frame.task { done = frame.task.done + 1; since = frame.task.done + 1; fuel = a.task.fuel; holdings = a.task.holdings; children = a.task.children })
           (record frame.task { done = frame.task.done + 1; since = frame.task.done + 1; fuel = b.task.fuel; holdings = b.task.holdings; children = b.task.children })
-      same-rest a b is = ap (λ (x : Task B L). let y : Task B L = record frame.task { done = frame.task.done + 1; since = frame.task.done + 1; fuel = x.fuel; holdings = x.holdings; children = x.children } in y) (sym is)
+      same-rest a b is = ap (λ (x : TaskView B L). let y : TaskView B L = record frame.task { done = frame.task.done + 1; since = frame.task.done + 1; fuel = x.fuel; holdings = x.holdings; children = x.children } in y) (sym is)
   resumed-cases Q (step.Spawned parent new) (resumed.Spawned it child steps) so answered =
-      let own : parent.task.number ≡ n = ap (λ (x : Task B L). x.number) so.2 in
+      let own : parent.task.number ≡ n = ap (λ (x : TaskView B L). x.number) so.2 in
       let IsOther : ℕ → Type 0 = λ other. (other ≢ n) × (other ≢ child.task.number) in
-      let child_own : child.task.number ≡ new.task.number = ap (λ (x : Task B L). x.number) answered.2.task in (
+      let child_own : child.task.number ≡ new.task.number = ap (λ (x : TaskView B L). x.number) answered.2.task in (
         answered.0,
-        given-by parent it (ap (λ (x : Task B L). x.plan) so.2) answered.1,
+        given-by parent it (ap (λ (x : TaskView B L). x.plan) so.2) answered.1,
         given-by new child so.3.plan answered.2,
-        answered.1.task ∙ so.2 ∙ ap (λ (x : Task B L). let y : Task B L = record frame.task { done = frame.task.done + 1; since = frame.task.done + 1; fuel = x.fuel; holdings = x.holdings; children = x.children } in y) (sym answered.1.task),
+        answered.1.task ∙ so.2 ∙ ap (λ (x : TaskView B L). let y : TaskView B L = record frame.task { done = frame.task.done + 1; since = frame.task.done + 1; fuel = x.fuel; holdings = x.holdings; children = x.children } in y) (sym answered.1.task),
         subst (IsNewChildOf frame.task) (sym answered.2.task) (record { plan = so.3.plan; path = so.3.path; done = so.3.done; other = so.3.other }),
         so.4,
         (λ x is. subst (λ (k : KeptView). live_at k.live child.task.number ≡ None) (same_Some start x (sym start_is ∙ is))
@@ -162,11 +162,11 @@ module _ {B L E : Type 0} (G : Ghosts B L) (of : EndsOf E) (before after : CoreV
       )
   resumed-cases Q (step.Waits same wait_for) (resumed.Waits it waited) so answered =
       let its_so = answered.1 in
-      let own : same.task.number ≡ n = ap (λ (x : Task B L). x.number) so.2 in
-      let its_own : same.task.number ≡ it.task.number = ap (λ (x : Task B L). x.number) (sym its_so.task) in
-      let path : frame.task.path ≡ it.task.path = sym (ap (λ (x : Task B L). x.path) so.2) ∙ ap (λ (x : Task B L). x.path) (sym its_so.task) in (
-        given-by same it (ap (λ (x : Task B L). x.plan) so.2) its_so,
-        its_so.task ∙ so.2 ∙ ap (λ (x : Task B L). let y : Task B L = record frame.task { since = frame.task.done; fuel = x.fuel } in y) (sym its_so.task),
+      let own : same.task.number ≡ n = ap (λ (x : TaskView B L). x.number) so.2 in
+      let its_own : same.task.number ≡ it.task.number = ap (λ (x : TaskView B L). x.number) (sym its_so.task) in
+      let path : frame.task.path ≡ it.task.path = sym (ap (λ (x : TaskView B L). x.path) so.2) ∙ ap (λ (x : TaskView B L). x.path) (sym its_so.task) in (
+        given-by same it (ap (λ (x : TaskView B L). x.plan) so.2) its_so,
+        its_so.task ∙ so.2 ∙ ap (λ (x : TaskView B L). let y : TaskView B L = record frame.task { since = frame.task.done; fuel = x.fuel } in y) (sym its_so.task),
         record {
           was = start;
           kept_was = start_is;
@@ -219,14 +219,14 @@ module _ {B L E : Type 0} (G : Ghosts B L) (of : EndsOf E) (before after : CoreV
 
 -- ---- steps that aren't the last
 
-not-last : {B L : Type 0} (G : Ghosts B L) (after : KeptView) (task : Task B L) (next : AtCore B L) → HasIt G after next → IsOneOn task next.task → ¬ IsLast G task
+not-last : {B L : Type 0} (G : Ghosts B L) (after : KeptView) (task : TaskView B L) (next : FrameAtCoreView B L) → HasIt G after next → IsOneOn task next.task → ¬ IsLast G task
 not-last {B} {L} G after task next has on last =
     let left : task.done + 1 < length (times (script G task.plan) task.path) =
-    subst (λ (t : Task B L). t.done < length (times (script G t.plan) t.path)) on has.is.alone.stands.left in
+    subst (λ (t : TaskView B L). t.done < length (times (script G t.plan) t.path)) on has.is.alone.stands.left in
     omega (arith, left, last)
 
 -- a step that leaves its task more of them isn't the last
-pub gone-on : {B L E : Type 0} (Q : Type 0) (G : Ghosts B L) (of : EndsOf E) (before after given : KeptView) (task : Task B L) (its : Step B L) (answer : Resumed B Q L E)
+pub gone-on : {B L E : Type 0} (Q : Type 0) (G : Ghosts B L) (of : EndsOf E) (before after given : KeptView) (task : TaskView B L) (its : Step B L) (answer : Resumed B Q L E)
     → IsStep G before after task its → IsAnswered of after given its answer → OnGoneOn answer (¬ IsLast G task)
 gone-on Q G of before after given task (step.Runs next) (resumed.Runs frame steps) so answered = not-last G after task next so.0 so.1
 gone-on Q G of before after given task (step.Spawned parent new) (resumed.Runs frame steps) so answered = absurd answered
@@ -242,8 +242,8 @@ gone-on Q G of before after given task its (resumed.Strange frame foreign) so an
 gone-on Q G of before after given task its resumed.NoMemory so answered = tt
 
 -- what a step leaves is still kept for the plan
-pub step-core : {B L : Type 0} (G : Ghosts B L) (before after : KeptView) (task : Task B L) (its : Step B L) → IsStep G before after task its → IsCore G task.plan after
-step-core G before after task (step.Runs next) so = subst (λ p. IsCore G p after) (ap (λ (t : Task _ _). t.plan) so.1) so.0.core
-step-core G before after task (step.Spawned parent new) so = subst (λ p. IsCore G p after) (ap (λ (t : Task _ _). t.plan) so.2) so.0.core
-step-core G before after task (step.Waits same wait_for) so = subst (λ p. IsCore G p after) (ap (λ (t : Task _ _). t.plan) so.2) so.0.core
+pub step-core : {B L : Type 0} (G : Ghosts B L) (before after : KeptView) (task : TaskView B L) (its : Step B L) → IsStep G before after task its → IsCore G task.plan after
+step-core G before after task (step.Runs next) so = subst (λ p. IsCore G p after) (ap (λ (t : TaskView _ _). t.plan) so.1) so.0.core
+step-core G before after task (step.Spawned parent new) so = subst (λ p. IsCore G p after) (ap (λ (t : TaskView _ _). t.plan) so.2) so.0.core
+step-core G before after task (step.Waits same wait_for) so = subst (λ p. IsCore G p after) (ap (λ (t : TaskView _ _). t.plan) so.2) so.0.core
 step-core G before after task step.Ended so = so.0

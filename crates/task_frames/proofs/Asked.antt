@@ -35,7 +35,7 @@ use Rattle.serial_elision.proofs.Held.{used-at}
 use Rattle.serial_elision.proofs.TaskSteps.{stands-one}
 use Rattle.task_frames.specs.declared.stage.Stage.TheVariants.{Ready}
 use Rattle.task_frames.specs.declared.step.Step.TheVariants as step
-use Rattle.task_frames.specs.Cores.{AtCore, HasIt, KeptView, MayBegin, Mid, asking, one_on}
+use Rattle.task_frames.specs.Cores.{FrameAtCoreView, HasIt, KeptView, MayBegin, Mid, asking, one_on}
 use Rattle.task_frames.specs.Records.{HasNoLiveChild, IsOnlyLive, LiveFrame, NumberedFrames, come_to, live_at}
 use Rattle.task_frames.specs.Resumes.{EndsTaskByFault, IsStep, MayNotUse}
 use Rattle.task_frames.proofs.Goings.{runs-quiet, runs-used, runs-written}
@@ -134,7 +134,7 @@ module _ {B L : Type 0} (G : Ghosts B L) (kept : KeptView) (mid : Mid B L) (asks
   -- ---- how it goes on
 
   module _ (begun : MayBegin kept mid.task.number) (said : Answer) (does : Deed) (goes : GoesOn G mid.task.plan mid.task.path mid.task.done top mid.local said does)
-      (after : KeptView) (next : AtCore B L) (next_is : next ≡ record { task = one_on mid.task; stage = Ready mid.local said })
+      (after : KeptView) (next : FrameAtCoreView B L) (next_is : next ≡ record { task = one_on mid.task; stage = Ready mid.local said })
       (only : IsOnlyLive kept.live after.live mid.task.number (option_map (come_to (mid.task.done + 1)) (live_at kept.live mid.task.number))) where
     abbrev n : ℕ
     n = mid.task.number

@@ -38,7 +38,7 @@ use Rattle.serial_elision.proofs.AskMakes.{makes-object, makes-queue}
 use Rattle.serial_elision.proofs.TaskSteps.{goes_on_next}
 use Rattle.task_frames.specs.declared.stage.Stage.TheVariants.{Ready}
 use Rattle.task_frames.specs.declared.step.Step.TheVariants as step
-use Rattle.task_frames.specs.Cores.{AtCore, HasIt, IsAtCore, IsCore, KeptView, MayBegin, Mid, asking, one_on}
+use Rattle.task_frames.specs.Cores.{FrameAtCoreView, HasIt, IsAtCore, IsCore, KeptView, MayBegin, Mid, asking, one_on}
 use Rattle.task_frames.specs.Records.{IsOnlyLive, NumberedFrames, come_to, holding_too, live_at}
 use Rattle.task_frames.specs.Resumes.{IsStep}
 use Rattle.task_frames.proofs.AtQueues.{a, a-back, a-live, asked, done-now, for-next, law, may-do, told}
@@ -107,14 +107,14 @@ object-kept base kept after m n place next value o versions reading same_kept sa
     ∙ ap {B = KeptView} (λ j. record kept { versions = objects_after_create kept.versions n j value; reading = with_object (gone_on_by kept.reading n 1) o; live = after.live; objects = kept.objects + 1 }) same_place
 
 -- the frame, which is told its new place
-pub told-more : {B L : Type 0} (mid with_more : Mid B L) (h g : Holding) (place : ℕ) (frame : AtCore B L) → frame ≡ record { task = one_on with_more.task; stage = Ready with_more.local (answer.Place place) }
+pub told-more : {B L : Type 0} (mid with_more : Mid B L) (h g : Holding) (place : ℕ) (frame : FrameAtCoreView B L) → frame ≡ record { task = one_on with_more.task; stage = Ready with_more.local (answer.Place place) }
     → with_more ≡ record mid { task = record mid.task { holdings = mid.task.holdings ++ h ∷ [] } } → place ≡ length mid.task.holdings → h ≡ g
     → frame ≡ record { task = record (one_on mid.task) { holdings = mid.task.holdings ++ g ∷ [] }; stage = Ready mid.local (answer.Place (length mid.task.holdings)) }
 told-more {B} {L} mid with_more h g place frame is more at held =
     is
-    ∙ ap {B = AtCore B L} (λ (m : Mid B L). record { task = one_on m.task; stage = Ready m.local (answer.Place place) }) more
-    ∙ ap {B = AtCore B L} (λ p. record { task = record (one_on mid.task) { holdings = mid.task.holdings ++ h ∷ [] }; stage = Ready mid.local (answer.Place p) }) at
-    ∙ ap {B = AtCore B L} (λ x. record { task = record (one_on mid.task) { holdings = mid.task.holdings ++ x ∷ [] }; stage = Ready mid.local (answer.Place (length mid.task.holdings)) }) held
+    ∙ ap {B = FrameAtCoreView B L} (λ (m : Mid B L). record { task = one_on m.task; stage = Ready m.local (answer.Place place) }) more
+    ∙ ap {B = FrameAtCoreView B L} (λ p. record { task = record (one_on mid.task) { holdings = mid.task.holdings ++ h ∷ [] }; stage = Ready mid.local (answer.Place p) }) at
+    ∙ ap {B = FrameAtCoreView B L} (λ x. record { task = record (one_on mid.task) { holdings = mid.task.holdings ++ x ∷ [] }; stage = Ready mid.local (answer.Place (length mid.task.holdings)) }) held
 
 -- ---- a place more
 
@@ -126,7 +126,7 @@ module _ {B L : Type 0} (G : Ghosts B L) (kept : KeptView) (mid : Mid B L) (asks
     abbrev next : Activation L
     next = with_place (after_next has.is.alone.top mid.local) (record { mode = mode; number = gets.number })
 
-    abbrev more : AtCore B L
+    abbrev more : FrameAtCoreView B L
     more = record { task = record (one_on mid.task) { holdings = mid.task.holdings ++ h ∷ [] }; stage = Ready mid.local (answer.Place (length mid.task.holdings)) }
 
     pub stands-next : StandsAt G mid.task.plan mid.task.path (mid.task.done + 1) next
@@ -249,7 +249,7 @@ module _ {B L : Type 0} (G : Ghosts B L) (kept : KeptView) (mid : Mid B L) (has 
           (with_deed (with_made (length kept.state.makers) own)) (one_goes_on kept.state mid.task.number own (λ x. with_deed (with_made (length kept.state.makers) x)) (λ x. refl) (a-live G kept mid ask.NewQueue has))
           (a-back G kept mid ask.NewQueue has) refl (λ same. absurd (cc)) begun
 
-  pub queue-runs : (after : KeptView) (next : AtCore B L) (queue : ℕ) (state : QueueState) → queue ≡ length kept.state.makers
+  pub queue-runs : (after : KeptView) (next : FrameAtCoreView B L) (queue : ℕ) (state : QueueState) → queue ≡ length kept.state.makers
       → next ≡ record { task = record (one_on mid.task) { holdings = mid.task.holdings ++ record { mode = PushPop; number = queue } ∷ [] }; stage = Ready mid.local (answer.Place (length mid.task.holdings)) }
       → OnActive kept.state mid.task.number (λ own. state ≡ after_create kept.state own)
       → IsOnlyLive kept.live after.live mid.task.number (option_map (come_to (mid.task.done + 1)) (option_map (holding_too (record { mode = PushPop; number = queue })) (live_at kept.live mid.task.number)))
@@ -258,7 +258,7 @@ module _ {B L : Type 0} (G : Ghosts B L) (kept : KeptView) (mid : Mid B L) (has 
   queue-runs after next queue state queue_is next_is state_is only is =
       let made : (m : ℕ) → Holding = λ m. record { mode = PushPop; number = m } in
       let same : next ≡ record { task = record (one_on mid.task) { holdings = mid.task.holdings ++ made (length kept.state.makers) ∷ [] }; stage = Ready mid.local (answer.Place (length mid.task.holdings)) } =
-      next_is ∙ ap {B = AtCore B L} (λ m. record { task = record (one_on mid.task) { holdings = mid.task.holdings ++ made m ∷ [] }; stage = Ready mid.local (answer.Place (length mid.task.holdings)) }) queue_is in
+      next_is ∙ ap {B = FrameAtCoreView B L} (λ m. record { task = record (one_on mid.task) { holdings = mid.task.holdings ++ made m ∷ [] }; stage = Ready mid.local (answer.Place (length mid.task.holdings)) }) queue_is in
       let only_now = held-more G kept mid ask.NewQueue has after.live (made (length kept.state.makers))
       (subst (λ m. IsOnlyLive kept.live after.live mid.task.number (option_map (come_to (mid.task.done + 1)) (option_map (holding_too (made m)) (live_at kept.live mid.task.number)))) queue_is only) in
       let all : after ≡ with-one-queue after.live = is ∙ ap {B = KeptView} (λ q. record kept {
@@ -333,7 +333,7 @@ module _ {B L : Type 0} (G : Ghosts B L) (kept : KeptView) (mid : Mid B L) (valu
           places G kept mid asks has InOut (deed.MakeObject value) object-gets (record { mode = InOut; number = kept.objects }) refl with-one-object only object-core
           own (record { changed = a-live G kept mid asks has; others = λ m other. refl }) (a-back G kept mid asks has) refl (λ same. absurd (cc)) begun
 
-  pub object-runs : (after : KeptView) (next : AtCore B L)
+  pub object-runs : (after : KeptView) (next : FrameAtCoreView B L)
       → next ≡ record { task = record (one_on mid.task) { holdings = mid.task.holdings ++ record { mode = InOut; number = kept.objects } ∷ [] }; stage = Ready mid.local (answer.Place (length mid.task.holdings)) }
       → IsOnlyLive kept.live after.live mid.task.number (option_map (come_to (mid.task.done + 1)) (option_map (holding_too (record { mode = InOut; number = kept.objects })) (live_at kept.live mid.task.number)))
       → after ≡ with-one-object after.live → IsStep G kept after mid.task (step.Runs next)

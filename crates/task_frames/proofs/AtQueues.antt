@@ -41,7 +41,7 @@ use Rattle.serial_elision.proofs.AskSteps.{pops-none, pops-on, pushes-on, tests-
 use Rattle.serial_elision.proofs.TaskSteps.{ends_last}
 use Rattle.task_frames.specs.declared.stage.Stage.TheVariants.{Ready}
 use Rattle.task_frames.specs.declared.step.Step.TheVariants as step
-use Rattle.task_frames.specs.Cores.{AtCore, HasIt, IsAsRead, KeptView, MayBegin, Mid, asking, one_on}
+use Rattle.task_frames.specs.Cores.{FrameAtCoreView, HasIt, IsAsRead, KeptView, MayBegin, Mid, asking, one_on}
 use Rattle.task_frames.specs.Records.{IsLiveChild, IsOnlyLive, come_to, live_at}
 use Rattle.task_frames.specs.Resumes.{AsksOf, IsLast, IsStep}
 use Rattle.task_frames.proofs.Asked.{pop-does, usable, used-so}
@@ -130,7 +130,7 @@ module _ {B L : Type 0} (G : Ghosts B L) (kept : KeptView) (mid : Mid B L) (asks
 
   -- ---- it waits for whom the queues name
 
-  pub waits : (after : KeptView) (same : AtCore B L) (queue : ℕ) (wait_for : WaitFor) → after ≡ kept → same ≡ asking mid asks → AsksOf (asking mid asks) queue
+  pub waits : (after : KeptView) (same : FrameAtCoreView B L) (queue : ℕ) (wait_for : WaitFor) → after ≡ kept → same ≡ asking mid asks → AsksOf (asking mid asks) queue
       → OnActive kept.state n (λ b. IsCause kept.name kept.state b queue wait_for) → IsStep G kept after mid.task (step.Waits same wait_for)
   waits after same queue wait_for after_is same_is about causes = waits-cause G kept (asking mid asks) has after same queue wait_for after_is same_is about (causes a a-live)
 
@@ -173,7 +173,7 @@ module _ {B L : Type 0} (G : Ghosts B L) (kept : KeptView) (mid : Mid B L) (plac
       push-goes.deed (a-back G kept mid (ask.Push place value) has) in
       (it.0, for-next G kept mid (ask.Push place value) has (λ s own. IsNextAbout (λ o. deed.Push o value) s kept.state own queue) it.1)
 
-  pub push-steps : MayBegin kept mid.task.number → (after : KeptView) (next : AtCore B L) → next ≡ record { task = one_on mid.task; stage = Ready mid.local answer.Nothing }
+  pub push-steps : MayBegin kept mid.task.number → (after : KeptView) (next : FrameAtCoreView B L) → next ≡ record { task = one_on mid.task; stage = Ready mid.local answer.Nothing }
       → IsOnlyLive kept.live after.live mid.task.number (option_map (come_to (mid.task.done + 1)) (live_at kept.live mid.task.number))
       → after ≡ record kept { state = after_deed kept.state mid.task.number; reading = gone_on_by kept.reading mid.task.number 1; live = after.live }
       → IsStep G kept after mid.task (step.Runs next)
@@ -237,7 +237,7 @@ module _ {B L : Type 0} (G : Ghosts B L) (kept : KeptView) (mid : Mid B L) (plac
 
   pub item-steps : MayBegin kept mid.task.number → (item : Value)
       → OnActive kept.state mid.task.number (λ own. OnQueue kept.name kept.state queue (λ s origin. (next_item s own origin ≡ Some item) × FindsItem own s origin))
-      → (after : KeptView) (next : AtCore B L) → next ≡ record { task = one_on mid.task; stage = Ready mid.local (answer.Item item) }
+      → (after : KeptView) (next : FrameAtCoreView B L) → next ≡ record { task = one_on mid.task; stage = Ready mid.local (answer.Item item) }
       → IsOnlyLive kept.live after.live mid.task.number (option_map (come_to (mid.task.done + 1)) (live_at kept.live mid.task.number))
       → after ≡ record kept { state = after_deed kept.state mid.task.number; reading = gone_on_by kept.reading mid.task.number 1; live = after.live }
       → IsStep G kept after mid.task (step.Runs next)
@@ -385,7 +385,7 @@ module _ {B L : Type 0} (G : Ghosts B L) (kept : KeptView) (mid : Mid B L) (plac
       mid.task.path mid.task.done has.is.alone.top has.of.path (done-now G kept mid (ask.Empty place) has) has.is.alone.stands kept.state kept.turns has.core.queues mine there test-used.0 it)
 
   pub test-steps : MayBegin kept mid.task.number → (empty : Bool) → IsToldOf kept mid.task.number queue empty
-      → (after : KeptView) (next : AtCore B L) → next ≡ record { task = one_on mid.task; stage = Ready mid.local (answer.Flag empty) }
+      → (after : KeptView) (next : FrameAtCoreView B L) → next ≡ record { task = one_on mid.task; stage = Ready mid.local (answer.Flag empty) }
       → IsOnlyLive kept.live after.live mid.task.number (option_map (come_to (mid.task.done + 1)) (live_at kept.live mid.task.number))
       → after ≡ record kept { state = after_deed kept.state mid.task.number; reading = gone_on_by kept.reading mid.task.number 1; live = after.live }
       → IsStep G kept after mid.task (step.Runs next)

@@ -19,7 +19,7 @@ use Rattle.swan_model.proofs.RootLists.{length-root_holdings}
 use Rattle.serial_elision.proofs.TaskSteps.{root_stands}
 use Rattle.task_frames.specs.declared.stage.Stage.TheVariants.{Ready}
 use Rattle.task_frames.specs.Cores.{AreBooked, AreFrames, AreObjects, AreQueues, HasIt, IsAtCore, IsCore, KeptView}
-use Rattle.task_frames.specs.Frames.{IsPlan, Task, root_task}
+use Rattle.task_frames.specs.Frames.{IsPlan, TaskView, root_task}
 use Rattle.task_frames.specs.Opened.{AreFirstObjects, AreFirstQueues, IsKeptAtFirst, roots_to}
 use Rattle.task_frames.specs.Records.{live_at}
 use Rattle.task_frames.proofs.Opening.{booked-open, frames-open, objects-open, queues-open}
@@ -108,7 +108,7 @@ module _ {B L : Type 0} (G : Ghosts B L) (plan : Plan B L) (sound : IsPlan plan)
           ap (λ (f : ActiveFrame). f.lent) (sym it) ∙ untouched.back;
     }
 
-    pub opened-has : (task : Task B L) (local : L) (fuel : ℕ) → fuel ≡ plan.fuel → task ≡ record (root_task plan (root_holdings plan.roots)) { fuel = fuel } → local ≡ plan.root_local
+    pub opened-has : (task : TaskView B L) (local : L) (fuel : ℕ) → fuel ≡ plan.fuel → task ≡ record (root_task plan (root_holdings plan.roots)) { fuel = fuel } → local ≡ plan.root_local
         → HasIt G kept (record { task = task; stage = Ready local answer.Start })
     opened-has task local fuel same is begins =
         subst (λ t. HasIt G kept (record { task = t; stage = Ready local answer.Start })) (sym is)

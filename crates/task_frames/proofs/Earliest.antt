@@ -20,7 +20,7 @@ use Rattle.task_frames.specs.declared.resumed.Resumed.{Resumed}
 use Rattle.task_frames.specs.declared.resumed.Resumed.TheVariants as resumed
 use Rattle.task_frames.specs.Cores.{CoreView, IsCore, IsCoreView, IsGiven, KeptView, is_over}
 use Rattle.task_frames.specs.Earliest.{IsEarliest, has_stepped, progress_of}
-use Rattle.task_frames.specs.Frames.{FrameView, Task}
+use Rattle.task_frames.specs.Frames.{FrameView, TaskView}
 use Rattle.task_frames.specs.Records.{LiveFrame, NumberedFrames, come_at, come_to, live_at}
 use Rattle.task_frames.specs.Resumes.{EndsOf, IsResumed, IsShownBy, waited_for}
 use Rattle.task_frames.proofs.Lives.{come-only}
@@ -199,7 +199,7 @@ module _ {B L E : Type 0} (of : EndsOf E) (kept : KeptView) (frame : FrameView B
     pub goes-on : {Q : Type 0} (result : Resumed B Q L E) → IsResumed {Q = Q} G of before after frame result → (has_stepped result ≡ true) ⊎ (result ≡ resumed.NoMemory)
     goes-on (resumed.Runs next steps) is = inl refl
     goes-on (resumed.Spawned parent new steps) is = inl refl
-    goes-on (resumed.Waits same waited) is = absurd (never-waits same waited.wait (ap (λ (t : Task B L). t.path) is.1) is.2)
+    goes-on (resumed.Waits same waited) is = absurd (never-waits same waited.wait (ap (λ (t : TaskView B L). t.path) is.1) is.2)
     goes-on (resumed.Ended steps) is = inl refl
     goes-on (resumed.Strange same foreign) is = absurd (is.3 kept keeps given)
     goes-on resumed.NoMemory is = inr refl

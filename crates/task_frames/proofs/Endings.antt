@@ -17,8 +17,8 @@ use Rattle.queues.specs.Asks.{MayJoin}
 use Rattle.swan_model.specs.Readings.{gone_on_by}
 use Rattle.queues.specs.Tree.{IsOnlyFrame}
 use Rattle.task_frames.specs.declared.step.Step.TheVariants as step
-use Rattle.task_frames.specs.Cores.{AreBooked, AreFrames, AreObjects, AreQueues, AtCore, HasIt, IsCore, KeptView, MayBegin}
-use Rattle.task_frames.specs.Frames.{Task}
+use Rattle.task_frames.specs.Cores.{AreBooked, AreFrames, AreObjects, AreQueues, FrameAtCoreView, HasIt, IsCore, KeptView, MayBegin}
+use Rattle.task_frames.specs.Frames.{TaskView}
 use Rattle.task_frames.specs.Records.{HasNoLiveChild, IsOldestChild, IsOnlyLive}
 use Rattle.task_frames.specs.Resumes.{IsLast, IsLiveBefore, IsStep, deed_now}
 use Rattle.queues.specs.declared.answers.WaitFor.TheVariants as wait
@@ -31,8 +31,8 @@ use Rattle.task_frames.proofs.Objects as objects
 use Rattle.task_frames.proofs.Queues as queues
 use Rattle.task_frames.proofs.Waiting as waiting
 
-module _ {B L : Type 0} (G : Ghosts B L) (kept : KeptView) (frame : AtCore B L) (has : HasIt G kept frame) where
-  abbrev task : Task B L
+module _ {B L : Type 0} (G : Ghosts B L) (kept : KeptView) (frame : FrameAtCoreView B L) (has : HasIt G kept frame) where
+  abbrev task : TaskView B L
   task = frame.task
 
   abbrev s : Script

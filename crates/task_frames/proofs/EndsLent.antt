@@ -20,11 +20,11 @@ use Rattle.queues.specs.Tells.{OnQueue}
 use Rattle.queues.proofs.Rereading.{fit_of}
 use Rattle.serial_elision.proofs.TaskSteps.{stands-one}
 use Rattle.task_frames.specs.Cores.{AreQueues, IsAsRead}
-use Rattle.task_frames.specs.Frames.{AreEndsOf, Task}
+use Rattle.task_frames.specs.Frames.{AreEndsOf, TaskView}
 use Rattle.task_frames.specs.Records.{LiveFrame}
 use Rattle.task_frames.proofs.Names.{name-at}
 
-module _ {B L : Type 0} (G : Ghosts B L) (task : Task B L) (lawful : IsLawful (script G task.plan)) (r : Reading) (state : QueueState) (turns : Frames) (queues : AreQueues (script G task.plan) r state turns)
+module _ {B L : Type 0} (G : Ghosts B L) (task : TaskView B L) (lawful : IsLawful (script G task.plan)) (r : Reading) (state : QueueState) (turns : Frames) (queues : AreQueues (script G task.plan) r state turns)
     (f : LiveFrame) (told : IsAsRead G task.plan r task.number f) (path : f.path ≡ task.path) (done : f.done ≡ task.done) (since : task.since ≡ task.done) (holdings : f.holdings ≡ task.holdings) where
   abbrev s : Script
   s = script G task.plan

@@ -12,7 +12,7 @@ use Rattle.queues.proofs.Frames.{active_number}
 use Rattle.queues.proofs.TurnsTold.{has_turn}
 use Rattle.swan_model.specs.declared.script.Deed.TheVariants as deed
 use Rattle.task_frames.specs.declared.step.Step.TheVariants as step
-use Rattle.task_frames.specs.Cores.{AtCore, HasIt, KeptView, MayBegin}
+use Rattle.task_frames.specs.Cores.{FrameAtCoreView, HasIt, KeptView, MayBegin}
 use Rattle.object_versions.specs.Following.{WaitsForNone}
 use Rattle.task_frames.specs.Records.{IsOldestChild, LiveFrame}
 use Rattle.task_frames.specs.Resumes.{AsksOf, IsLast, IsLiveBefore, IsShown, IsStep, deed_now, IsFirstToBlock, WaitsForTurn, WaitsForVersion, at_first, at_pop, at_start, waited_for}
@@ -26,7 +26,7 @@ not-less done not_so = elim (cases_lt 0 done) [
   | inr zero ↦ omega (arith, zero)
 ]
 
-module _ {B L : Type 0} (G : Ghosts B L) (kept : KeptView) (frame : AtCore B L) (has : HasIt G kept frame) where
+module _ {B L : Type 0} (G : Ghosts B L) (kept : KeptView) (frame : FrameAtCoreView B L) (has : HasIt G kept frame) where
   abbrev f : LiveFrame
   f = has.of.frame
 
@@ -93,15 +93,15 @@ module _ {B L : Type 0} (G : Ghosts B L) (kept : KeptView) (frame : AtCore B L) 
 
   -- ---- it waits
 
-  pub waits-so : (after : KeptView) (same : AtCore B L) (wait_for : WaitFor) → after ≡ kept → same ≡ frame → IsShown G kept frame wait_for → IsLiveBefore kept.live frame.task.path (waited_for wait_for)
+  pub waits-so : (after : KeptView) (same : FrameAtCoreView B L) (wait_for : WaitFor) → after ≡ kept → same ≡ frame → IsShown G kept frame wait_for → IsLiveBefore kept.live frame.task.path (waited_for wait_for)
       → IsStep G kept after frame.task (step.Waits same wait_for)
   waits-so after same wait_for after_is same_is shown before =
       subst (λ k. IsStep G kept k frame.task (step.Waits same wait_for)) (sym after_is)
       (subst (λ x. IsStep G kept kept frame.task (step.Waits x wait_for)) (sym same_is) (has, refl, refl, shown, before))
 
-  pub waits-cause : (after : KeptView) (same : AtCore B L) (queue : ℕ) (wait_for : WaitFor) → after ≡ kept → same ≡ frame → AsksOf frame queue → IsCause kept.name kept.state a queue wait_for → IsStep G kept after frame.task (step.Waits same wait_for)
+  pub waits-cause : (after : KeptView) (same : FrameAtCoreView B L) (queue : ℕ) (wait_for : WaitFor) → after ≡ kept → same ≡ frame → AsksOf frame queue → IsCause kept.name kept.state a queue wait_for → IsStep G kept after frame.task (step.Waits same wait_for)
   waits-cause after same queue wait_for after_is same_is asks cause = waits-so after same wait_for after_is same_is (cause-shown queue wait_for asks cause) (cause-before queue wait_for cause)
 
-  pub waits-oldest : (after : KeptView) (same : AtCore B L) (child : ℕ) → after ≡ kept → same ≡ frame → IsOldestChild kept.live frame.task.number child → (deed_now G frame.task ≡ deed.Sync) ⊎ IsLast G frame.task
+  pub waits-oldest : (after : KeptView) (same : FrameAtCoreView B L) (child : ℕ) → after ≡ kept → same ≡ frame → IsOldestChild kept.live frame.task.number child → (deed_now G frame.task ≡ deed.Sync) ⊎ IsLast G frame.task
       → IsStep G kept after frame.task (step.Waits same (wait.Child child))
   waits-oldest after same child after_is same_is oldest why = waits-so after same (wait.Child child) after_is same_is (oldest, why) (child-before G kept frame has child oldest)

@@ -4,16 +4,16 @@ use Rattle.swan_model.specs.declared.body.Body.{Ghosts}
 use Rattle.swan_model.specs.declared.script.Script.{Script}
 use Rattle.swan_model.specs.QueueState.{ActiveFrame, QueueState, active}
 use Rattle.queues.specs.Asks.{LentEnds, OnNext}
-use Rattle.task_frames.specs.Cores.{AtCore, HasIt, IsCore, IsGiven, IsOf, KeptView}
-use Rattle.task_frames.specs.Frames.{Task}
+use Rattle.task_frames.specs.Cores.{FrameAtCoreView, HasIt, IsCore, IsGiven, IsOf, KeptView}
+use Rattle.task_frames.specs.Frames.{TaskView}
 use Rattle.task_frames.specs.Resumes.{OthersStay}
 
 module _ {B L : Type 0} (G : Ghosts B L) (before after : KeptView) (IsOther : ℕ → Type 0) (stay : OthersStay before after IsOther) where
-  pub of-stays : (task : Task B L) → IsOther task.number → IsOf before task → IsOf after task
+  pub of-stays : (task : TaskView B L) → IsOther task.number → IsOf before task → IsOf after task
   of-stays task other of = record { frame = of.frame; live = stay.live task.number other ∙ of.live; path = of.path; done = of.done; holdings = of.holdings }
 
   -- a frame that was given before
-  pub given-stays : (task : Task B L) (ends : LentEnds) → IsOther task.number → IsGiven before task ends → IsGiven after task ends
+  pub given-stays : (task : TaskView B L) (ends : LentEnds) → IsOther task.number → IsGiven before task ends → IsGiven after task ends
   given-stays task ends other given = record {
     of = of-stays task other given.of;
     lent = record {
@@ -28,7 +28,7 @@ module _ {B L : Type 0} (G : Ghosts B L) (before after : KeptView) (IsOther : �
   }
 
   -- a frame that is at the core
-  pub has-stays : (frame : AtCore B L) → IsOther frame.task.number → IsCore G frame.task.plan after → HasIt G before frame → HasIt G after frame
+  pub has-stays : (frame : FrameAtCoreView B L) → IsOther frame.task.number → IsCore G frame.task.plan after → HasIt G before frame → HasIt G after frame
   has-stays frame other core has = record {
     core = core;
     is = has.is;

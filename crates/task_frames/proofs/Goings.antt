@@ -34,8 +34,8 @@ use Rattle.serial_elision.proofs.Lawful as elision
 use Rattle.serial_elision.proofs.TaskSteps.{goes_on_next, stands-one}
 use Rattle.task_frames.specs.declared.stage.Stage.TheVariants.{Ready}
 use Rattle.task_frames.specs.declared.step.Step.TheVariants as step
-use Rattle.task_frames.specs.Cores.{AreBooked, AreFrames, AreObjects, AreQueues, AtCore, HasIt, IsAtCore, IsCore, IsAsRead, KeptView, MayBegin, Mid, asking, one_on}
-use Rattle.task_frames.specs.Frames.{Task}
+use Rattle.task_frames.specs.Cores.{AreBooked, AreFrames, AreObjects, AreQueues, FrameAtCoreView, HasIt, IsAtCore, IsCore, IsAsRead, KeptView, MayBegin, Mid, asking, one_on}
+use Rattle.task_frames.specs.Frames.{TaskView}
 use Rattle.task_frames.specs.Records.{HasNoLiveChild, IsOnlyLive, LiveFrame, live_at}
 use Rattle.task_frames.specs.Resumes.{IsStep}
 use Rattle.task_frames.proofs.Booked as booked
@@ -45,8 +45,8 @@ use Rattle.task_frames.proofs.Queues as queues
 
 -- ---- a frame at the core, as the core has it
 
-module _ {B L : Type 0} (G : Ghosts B L) (kept : KeptView) (frame : AtCore B L) (has : HasIt G kept frame) where
-  abbrev task : Task B L
+module _ {B L : Type 0} (G : Ghosts B L) (kept : KeptView) (frame : FrameAtCoreView B L) (has : HasIt G kept frame) where
+  abbrev task : TaskView B L
   task = frame.task
 
   abbrev s : Script
@@ -104,7 +104,7 @@ module _ {B L : Type 0} (G : Ghosts B L) (kept : KeptView) (mid : Mid B L) (asks
     abbrev next : Activation L
     next = with_answer (after_next has.is.alone.top mid.local) said
 
-    abbrev after-task : Task B L
+    abbrev after-task : TaskView B L
     after-task = one_on mid.task
 
     pub stands-next : StandsAt G mid.task.plan mid.task.path (mid.task.done + 1) next

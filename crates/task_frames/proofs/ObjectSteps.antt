@@ -26,7 +26,7 @@ use Rattle.serial_elision.specs.TaskSteps.{GoesOn, MayUseAt}
 use Rattle.serial_elision.proofs.AskSteps.{reads, writes}
 use Rattle.task_frames.specs.declared.stage.Stage.TheVariants.{Ready}
 use Rattle.task_frames.specs.declared.step.Step.TheVariants as step
-use Rattle.task_frames.specs.Cores.{AtCore, HasIt, KeptView, MayBegin, Mid, asking, one_on}
+use Rattle.task_frames.specs.Cores.{FrameAtCoreView, HasIt, KeptView, MayBegin, Mid, asking, one_on}
 use Rattle.task_frames.specs.Records.{IsOnlyLive, come_to, live_at}
 use Rattle.task_frames.specs.Resumes.{IsStep, at_read}
 use Rattle.task_frames.proofs.Asked.{quiet-so, usable, written-so}
@@ -63,7 +63,7 @@ module _ {B L : Type 0} (G : Ghosts B L) (kept : KeptView) (mid : Mid B L) (plac
   pub read-runs : (begun : MayBegin kept mid.task.number) (value : Value)
       → ((s : Script) (r : Reading) (reader : Progress) (object : Placed) → ObjectsFollow s r kept.versions → frame_of r mid.task.number ≡ Some reader
       → placed_at kept.versions mid.task.number place ≡ Some object → version s r object.object reader ≡ Some value)
-      → (after : KeptView) (next : AtCore B L) → next ≡ record { task = one_on mid.task; stage = Ready mid.local (answer.Item value) }
+      → (after : KeptView) (next : FrameAtCoreView B L) → next ≡ record { task = one_on mid.task; stage = Ready mid.local (answer.Item value) }
       → IsOnlyLive kept.live after.live mid.task.number (option_map (come_to (mid.task.done + 1)) (live_at kept.live mid.task.number))
       → after ≡ record kept { reading = gone_on_by kept.reading mid.task.number 1; live = after.live } → IsStep G kept after mid.task (step.Runs next)
   read-runs begun value follows after next next_is only after_is =
@@ -85,7 +85,7 @@ module _ {B L : Type 0} (G : Ghosts B L) (kept : KeptView) (mid : Mid B L) (plac
       quiet-so G kept mid asks has begun (answer.Item value) (deed.Read may.0) goes after next next_is only after_is refl refl refl (λ same. absurd (cc))
 
   pub read-waits : (owing : ℕ) → ((object : Placed) → placed_at kept.versions mid.task.number place ≡ Some object → object.present ≡ owed owing)
-      → (after : KeptView) (same : AtCore B L) → after ≡ kept → same ≡ asking mid (ask.Read place) → IsStep G kept after mid.task (step.Waits same (wait.Version owing))
+      → (after : KeptView) (same : FrameAtCoreView B L) → after ≡ kept → same ≡ asking mid (ask.Read place) → IsStep G kept after mid.task (step.Waits same (wait.Version owing))
   read-waits owing owes after same after_is same_is =
       let there = object-there G kept mid (ask.Read place) has place number In refl at in
       waits-so G kept (asking mid (ask.Read place)) has after same (wait.Version owing) after_is same_is
@@ -93,7 +93,7 @@ module _ {B L : Type 0} (G : Ghosts B L) (kept : KeptView) (mid : Mid B L) (plac
 
 module _ {B L : Type 0} (G : Ghosts B L) (kept : KeptView) (mid : Mid B L) (place number : ℕ) (value : Value) (has : HasIt G kept (asking mid (ask.Write place value)))
     (at : number_at mid.task.holdings place Out ≡ Some number) where
-  pub write-runs : (begun : MayBegin kept mid.task.number) (after : KeptView) (next : AtCore B L) → next ≡ record { task = one_on mid.task; stage = Ready mid.local answer.Nothing }
+  pub write-runs : (begun : MayBegin kept mid.task.number) (after : KeptView) (next : FrameAtCoreView B L) → next ≡ record { task = one_on mid.task; stage = Ready mid.local answer.Nothing }
       → IsOnlyLive kept.live after.live mid.task.number (option_map (come_to (mid.task.done + 1)) (live_at kept.live mid.task.number))
       → after ≡ record kept { versions = after_write kept.versions mid.task.number place value; reading = gone_on_by kept.reading mid.task.number 1; live = after.live }
       → IsStep G kept after mid.task (step.Runs next)

@@ -10,7 +10,7 @@ use Rattle.queues.specs.Asks.{LentEnds, has_end, with_deeds}
 use Rattle.queues.specs.Ends.{EndCounts}
 use Rattle.task_frames.specs.declared.stage.Stage.{Stage}
 use Rattle.task_frames.specs.declared.stage.Stage.TheVariants.{Ready, Asking}
-use Rattle.task_frames.specs.Frames.{FrameView, Task}
+use Rattle.task_frames.specs.Frames.{FrameView, TaskView}
 use Rattle.task_frames.specs.Going.{AreLater, Counts, IsBeyond, IsLater, IsNotServed, IsSameFrame, NeedsCore, WasEmptySince, WasFullSince, at_first, beyond, counted, full}
 use Rattle.task_frames.proofs.Shown.{same-later, then-later}
 
@@ -84,7 +84,7 @@ module _ {B L E : Type 0} (name : E → Option Script) (run : E → List ℕ) (e
 
   pub same-then : (before between after : FrameView B L E) → Same before between → Same between after → Same before after
   same-then before between after one two = record {
-    task = two.task ∙ ap (λ (t : Task B L). record t { done = after.task.done; fuel = after.task.fuel }) one.task;
+    task = two.task ∙ ap (λ (t : TaskView B L). record t { done = after.task.done; fuel = after.task.fuel }) one.task;
     name_is = two.name_is ∙ one.name_is;
     run_is = two.run_is ∙ one.run_is;
     ends_are = two.ends_are ∙ ap (λ e. with_deeds e (ends after.ends).deeds) one.ends_are;

@@ -40,7 +40,7 @@ use Rattle.serial_elision.proofs.Held.{IsUsed, used-at}
 use Rattle.serial_elision.proofs.Lawful.{lawful}
 use Rattle.task_frames.specs.declared.stage.Stage.TheVariants.{Asking, Ready}
 use Rattle.queues.specs.Reads.{deeds_among}
-use Rattle.task_frames.specs.Frames.{IsFrame, Task}
+use Rattle.task_frames.specs.Frames.{IsFrame, TaskView}
 use Rattle.task_frames.specs.Going.{IsServedAnswer, IsNextDeed, deeds_of}
 use Rattle.task_frames.proofs.Amid.{goes-on, is-asking, with-steps, worked}
 use Rattle.swan_model.proofs.Uses.{same_kind}
@@ -73,7 +73,7 @@ end-queue : (queue : ℕ) (is_producer : Bool) (end : LentEnd) → is_end_of que
 end-queue queue true end is = eqb-true end.queue queue (both-true (nat_eq end.queue queue) end.is_producer is)
 end-queue queue false end is = eqb-true end.queue queue (both-true (nat_eq end.queue queue) (not end.is_producer) is)
 
-module _ {B L : Type 0} (G : Ghosts B L) (task : Task B L) (name : Option Script) (ends : LentEnds) (local : L) (asked : Ask L) (before : ℕ)
+module _ {B L : Type 0} (G : Ghosts B L) (task : TaskView B L) (name : Option Script) (ends : LentEnds) (local : L) (asked : Ask L) (before : ℕ)
     (is : IsFrame G task name ends (Asking local asked before)) where
   abbrev s : Script
   s = script G task.plan
@@ -190,7 +190,7 @@ module _ {B L : Type 0} (G : Ghosts B L) (task : Task B L) (name : Option Script
       (subst (λ v. GoesOn G task.plan task.path task.done top local (answer.Item v) (deed.Pop has.origin)) (same_Some value item (sym found ∙ there.0)) goes) refl refl)
 
 -- what the frame asks its ends for is its next queue deed
-pub next-ask : {B L : Type 0} (G : Ghosts B L) (task : Task B L) (name : Option Script) (ends : LentEnds) (local : L) (asked : Ask L) (before : ℕ)
+pub next-ask : {B L : Type 0} (G : Ghosts B L) (task : TaskView B L) (name : Option Script) (ends : LentEnds) (local : L) (asked : Ask L) (before : ℕ)
     → IsFrame G task name ends (Asking local asked before) → IsNextDeed name task.holdings ends asked
 next-ask G task name ends local ask.Work before is = tt
 next-ask G task name ends local (ask.Read place) before is = tt
@@ -208,7 +208,7 @@ next-ask G task name ends local ask.Finish before is = tt
 next-ask G task name ends local (ask.Fail trouble) before is = tt
 
 -- and once they have served it, the frame goes on
-served-so : {B L : Type 0} (G : Ghosts B L) (task : Task B L) (name : Option Script) (ends : LentEnds) (local : L) (asked : Ask L) (before : ℕ) (said : Answer)
+served-so : {B L : Type 0} (G : Ghosts B L) (task : TaskView B L) (name : Option Script) (ends : LentEnds) (local : L) (asked : Ask L) (before : ℕ) (said : Answer)
     → IsFrame G task name ends (Asking local asked before) → 0 < task.done → IsServedAnswer name task.holdings ends asked said
     → IsFrame G (with-steps G name task (task.done + 1) task.fuel) name (with_deeds ends (ends.deeds + deeds_of asked)) (Ready local said)
 served-so G task name ends local ask.Work before said is begun says =
@@ -233,7 +233,7 @@ served-so G task name ends local ask.Sync before said is begun says = absurd say
 served-so G task name ends local ask.Finish before said is begun says = absurd says
 served-so G task name ends local (ask.Fail trouble) before said is begun says = absurd says
 
-module _ {B L : Type 0} (G : Ghosts B L) (task : Task B L) (name : Option Script) (ends : LentEnds) (local : L) (asked : Ask L) (before : ℕ) where
+module _ {B L : Type 0} (G : Ghosts B L) (task : TaskView B L) (name : Option Script) (ends : LentEnds) (local : L) (asked : Ask L) (before : ℕ) where
   -- whatever ends are the same to contracts
   pub served : (said : Answer) (then_name : Option Script) (then_ends : LentEnds) → IsFrame G task name ends (Asking local asked before) → 0 < task.done → IsServedAnswer name task.holdings ends asked said
       → then_name ≡ name → then_ends ≡ with_deeds ends (ends.deeds + deeds_of asked)

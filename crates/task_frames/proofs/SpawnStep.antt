@@ -41,8 +41,8 @@ use Rattle.serial_elision.proofs.TaskSteps.{spawns_child, spawns_next, top_path}
 use Rattle.task_frames.specs.declared.stage.Stage.TheVariants.{Ready}
 use Rattle.task_frames.specs.declared.step.Step.{Step}
 use Rattle.task_frames.specs.declared.step.Step.TheVariants as step
-use Rattle.task_frames.specs.Cores.{AreBooked, AreFrames, AreObjects, AreQueues, AtCore, HasIt, IsAtCore, IsCore, KeptView, MayBegin, Mid, asking}
-use Rattle.task_frames.specs.Frames.{Task}
+use Rattle.task_frames.specs.Cores.{AreBooked, AreFrames, AreObjects, AreQueues, FrameAtCoreView, HasIt, IsAtCore, IsCore, KeptView, MayBegin, Mid, asking}
+use Rattle.task_frames.specs.Frames.{TaskView}
 use Rattle.task_frames.specs.Giving.{AreMade, GivesObjects, queue_rights}
 use Rattle.task_frames.specs.Records.{LiveFrame, come_to, live_at}
 use Rattle.task_frames.specs.Resumes.{EndsTaskByFault, IsStep}
@@ -86,7 +86,7 @@ given-some items found held all is some = sym is ∙ ap (option_map items) some
 
 module _ {B L : Type 0} (G : Ghosts B L) (kept : KeptView) (mid : Mid B L) (child : Child L) (has : HasIt G kept (asking mid (ask.Spawn child))) (hs : List Holding)
     (given_is : given mid.task.holdings child.gives ≡ Some hs) where
-  abbrev task : Task B L
+  abbrev task : TaskView B L
   task = mid.task
 
   abbrev plan : Plan B L
@@ -110,9 +110,9 @@ module _ {B L : Type 0} (G : Ghosts B L) (kept : KeptView) (mid : Mid B L) (chil
   -- ---- why it is refused
 
   -- told by the frame and by the place that were taken out
-  pub ends-so : (at : AtCore B L) (place : ℕ) (fault : FaultKind) → at ≡ asking mid (ask.Spawn child) → place ≡ mid.at → EndsTaskByFault G task mid.at fault → EndsTaskByFault G at.task place fault
+  pub ends-so : (at : FrameAtCoreView B L) (place : ℕ) (fault : FaultKind) → at ≡ asking mid (ask.Spawn child) → place ≡ mid.at → EndsTaskByFault G task mid.at fault → EndsTaskByFault G at.task place fault
   ends-so at place fault at_is place_is ends =
-      subst (λ (x : AtCore B L). EndsTaskByFault G x.task place fault) (sym at_is) (subst (λ k. EndsTaskByFault G task k fault) (sym place_is) ends)
+      subst (λ (x : FrameAtCoreView B L). EndsTaskByFault G x.task place fault) (sym at_is) (subst (λ k. EndsTaskByFault G task k fault) (sym place_is) ends)
 
   pub alias-so : is_aliased child.gives ≡ true → EndsTaskByFault G task mid.at kind.Alias
   alias-so twice = ends-by G kept mid (ask.Spawn child) has kind.Alias (aliased G plan task.path task.done top mid.local child asks-so top-given.0 top-given.1 twice)
@@ -227,10 +227,10 @@ module _ {B L : Type 0} (G : Ghosts B L) (kept : KeptView) (mid : Mid B L) (chil
 
         -- ---- what it leaves
 
-        abbrev pub parent-task : Task B L
+        abbrev pub parent-task : TaskView B L
         parent-task = record task { done = task.done + 1; since = task.done + 1; fuel = task.fuel - child.fuel; children = task.children + 1 }
 
-        abbrev pub child-task : Task B L
+        abbrev pub child-task : TaskView B L
         child-task = record { plan = plan; number = kept.frames; path = task.path ++ task.children ∷ []; done = 0; since = 0; fuel = child.fuel; holdings = hs; children = 0 }
 
         abbrev pub new-frame : Progress

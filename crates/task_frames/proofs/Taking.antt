@@ -20,8 +20,8 @@ use Rattle.queues.specs.Tree.{IsOnlyFrame}
 use Rattle.queues.proofs.ActiveAfter.{one_changed, one_goes_on}
 use Rattle.serial_elision.proofs.Lawful as elision
 use Rattle.task_frames.specs.declared.stage.Stage.{Stage}
-use Rattle.task_frames.specs.Cores.{AtCore, HasIt, IsCore, IsGiven, IsOf, KeptView, after_coming_in}
-use Rattle.task_frames.specs.Frames.{AreEndsOf, AreLocal, FrameView, IsFrame, Task}
+use Rattle.task_frames.specs.Cores.{FrameAtCoreView, HasIt, IsCore, IsGiven, IsOf, KeptView, after_coming_in}
+use Rattle.task_frames.specs.Frames.{AreEndsOf, AreLocal, FrameView, IsFrame, TaskView}
 use Rattle.task_frames.specs.Records.{IsOnlyLive, LiveFrame, NumberedFrames, come_at, come_to, live_at}
 use Rattle.task_frames.specs.Resumes.{EndsOf, HasLent, IsGivenAs, OthersStay}
 use Rattle.task_frames.proofs.Booked as booked
@@ -34,7 +34,7 @@ use Rattle.task_frames.proofs.Queues as queues
 
 -- ---- it comes back
 
-module _ {B L : Type 0} (G : Ghosts B L) (kept : KeptView) (task : Task B L) (core : IsCore G task.plan kept) (of : IsOf kept task) where
+module _ {B L : Type 0} (G : Ghosts B L) (kept : KeptView) (task : TaskView B L) (core : IsCore G task.plan kept) (of : IsOf kept task) where
   abbrev s : Script
   s = script G task.plan
 
@@ -125,7 +125,7 @@ module _ {B L : Type 0} (G : Ghosts B L) (kept : KeptView) (task : Task B L) (co
 
 -- ---- it is given
 
-module _ {B L : Type 0} (G : Ghosts B L) (kept : KeptView) (at : AtCore B L) (has : HasIt G kept at) where
+module _ {B L : Type 0} (G : Ghosts B L) (kept : KeptView) (at : FrameAtCoreView B L) (has : HasIt G kept at) where
   abbrev a : ActiveFrame
   a = (own G kept at has).0
 
@@ -194,7 +194,7 @@ module _ {B L : Type 0} (G : Ghosts B L) (kept : KeptView) (at : AtCore B L) (ha
 pub by-number : (state : QueueState) (n m : ℕ) (P : ℕ → ActiveFrame → Type 0) → n ≡ m → ((x : ActiveFrame) → active state n ≡ Some x → P n x) → (x : ActiveFrame) → active state m ≡ Some x → P m x
 by-number state n m P same holds = subst (λ k. (x : ActiveFrame) → active state k ≡ Some x → P k x) same holds
 
-module _ {B L : Type 0} (G : Ghosts B L) (kept : KeptView) (at : AtCore B L) (has : HasIt G kept at) (name : Option Script) (ends : LentEnds) (named : name ≡ kept.name)
+module _ {B L : Type 0} (G : Ghosts B L) (kept : KeptView) (at : FrameAtCoreView B L) (has : HasIt G kept at) (name : Option Script) (ends : LentEnds) (named : name ≡ kept.name)
     (are : (x : ActiveFrame) → active kept.state at.task.number ≡ Some x → ends ≡ record { frame = at.task.number; path = x.path; before = x.deeds; deeds = x.deeds; list = ends.list }) where
   abbrev given-state : KeptView
   given-state = record kept { state = after_lend kept.state (a G kept at has) ends.list }
@@ -234,7 +234,7 @@ module _ {B L : Type 0} (G : Ghosts B L) (kept : KeptView) (at : AtCore B L) (ha
 
 -- ---- a frame that comes back, as its call has it
 
-module _ {B L : Type 0} (G : Ghosts B L) (kept : KeptView) (task : Task B L) (core : IsCore G task.plan kept) (of : IsOf kept task) (stage : Stage L) (name : Option Script) (ends : LentEnds)
+module _ {B L : Type 0} (G : Ghosts B L) (kept : KeptView) (task : TaskView B L) (core : IsCore G task.plan kept) (of : IsOf kept task) (stage : Stage L) (name : Option Script) (ends : LentEnds)
     (is : IsFrame G task name ends stage) (then_name : Option Script) (then_run : List ℕ) (then_state : QueueState) (then_reading : Reading) (then_live : NumberedFrames) (done many : ℕ)
     (same_name : then_name ≡ kept.name) (same_run : then_run ≡ kept.run) (state_is : then_state ≡ after_back kept.state task.number ends.deeds)
     (reading_is : then_reading ≡ gone_on_by kept.reading task.number many) (many_is : many ≡ task.done - task.since) (done_is : done ≡ task.done)
@@ -254,7 +254,7 @@ module _ {B L : Type 0} (G : Ghosts B L) (kept : KeptView) (task : Task B L) (co
   ends-so : IsLawful (script G task.plan) → AreByEnds (script G task.plan) (active-so G kept task core of).0.path (active-so G kept task core of).0.deeds ends.deeds
   ends-so law = by_ends (script G task.plan) core.name (active-so G kept task core of).0 (active-so G kept task core of).1 law
 
-  pub has-taken : (at : AtCore B L) → at.task ≡ record task { since = task.done } → at.stage ≡ stage → HasIt G then-taken at
+  pub has-taken : (at : FrameAtCoreView B L) → at.task ≡ record task { since = task.done } → at.stage ≡ stage → HasIt G then-taken at
   has-taken at task_is stage_is =
       subst (λ t. HasIt G then-taken (record { task = t; stage = at.stage })) (sym task_is)
       (subst (λ x. HasIt G then-taken (record { task = record task { since = task.done }; stage = x })) (sym stage_is)
@@ -264,7 +264,7 @@ module _ {B L : Type 0} (G : Ghosts B L) (kept : KeptView) (task : Task B L) (co
   taken-stay = taken-others G kept task core of stage name ends is then-taken only-is taken-is ends-so
 
 -- a frame in the record as it stands there
-pub stands-so : {B L : Type 0} (kept : KeptView) (task : Task B L) (frame : LiveFrame) → live_at kept.live task.number ≡ Some frame
+pub stands-so : {B L : Type 0} (kept : KeptView) (task : TaskView B L) (frame : LiveFrame) → live_at kept.live task.number ≡ Some frame
     → (frame.path ≡ task.path) × (frame.done ≡ task.since) × (frame.holdings ≡ task.holdings) → IsOf kept task
 stands-so kept task frame live same = record { frame = frame; live = live; path = same.0; done = same.1; holdings = same.2 }
 
@@ -273,7 +273,7 @@ pub stay-from : (before same after : KeptView) (number : ℕ) → before ≡ sam
 stay-from before same after number are stays = subst (λ k. OthersStay k after (λ other. other ≢ number)) are stays
 
 -- what is kept once a frame has come in, as its call has it
-pub come-so : {B L : Type 0} (kept now : KeptView) (task : Task B L) (ends : LentEnds) (number done since : ℕ) (name : Option Script) (run : List ℕ) (state : QueueState) (reading : Reading) (live : NumberedFrames)
+pub come-so : {B L : Type 0} (kept now : KeptView) (task : TaskView B L) (ends : LentEnds) (number done since : ℕ) (name : Option Script) (run : List ℕ) (state : QueueState) (reading : Reading) (live : NumberedFrames)
     → kept ≡ now → number ≡ task.number → done ≡ task.done → since ≡ task.since → name ≡ kept.name → run ≡ kept.run → state ≡ after_back kept.state task.number ends.deeds
     → reading ≡ gone_on_by kept.reading number (done - since) → live ≡ come_at kept.live number done (live_at kept.live number)
     → ◌≡◌ {A = KeptView} (record kept { name = name; run = run; state = state; reading = reading; live = live }) (after_coming_in now task ends)

@@ -25,8 +25,8 @@ use Rattle.serial_elision.proofs.TaskSteps.{ends_last, stands-one}
 use Rattle.task_frames.specs.declared.stage.Stage.TheVariants.{Ready}
 use Rattle.task_frames.specs.declared.step.Step.{Step}
 use Rattle.task_frames.specs.declared.step.Step.TheVariants as step
-use Rattle.task_frames.specs.Cores.{AtCore, HasIt, KeptView, MayBegin, Mid, asking}
-use Rattle.task_frames.specs.Frames.{Task}
+use Rattle.task_frames.specs.Cores.{FrameAtCoreView, HasIt, KeptView, MayBegin, Mid, asking}
+use Rattle.task_frames.specs.Frames.{TaskView}
 use Rattle.task_frames.specs.Records.{IsLiveChild, IsOnlyLive}
 use Rattle.task_frames.specs.Resumes.{EndsTaskByFault, IsLast, IsStep, deed_now}
 use Rattle.task_frames.proofs.Goings.{done-is, lawful, own}
@@ -35,7 +35,7 @@ use Rattle.task_frames.proofs.MayEnd as ending
 module _ {B L : Type 0} (G : Ghosts B L) (kept : KeptView) where
   -- ---- before the body is asked
 
-  module _ (task : Task B L) (local : L) (said : Answer) (has : HasIt G kept (record { task = task; stage = Ready local said })) where
+  module _ (task : TaskView B L) (local : L) (said : Answer) (has : HasIt G kept (record { task = task; stage = Ready local said })) where
     pub dry-ends : (place : ℕ) → task.fuel ≡ 0 → place ≡ G.place_of task.plan.body local → EndsTaskByFault G task place kind.Fuel
     dry-ends place none at other stands =
         let top = has.is.alone.top in
@@ -74,7 +74,7 @@ module _ {B L : Type 0} (G : Ghosts B L) (kept : KeptView) where
 
   -- ---- ends
 
-  module _ (frame : AtCore B L) (has : HasIt G kept frame) where
+  module _ (frame : FrameAtCoreView B L) (has : HasIt G kept frame) where
     pub fault-last : (place : ℕ) (fault : FaultKind) → EndsTaskByFault G frame.task place fault → IsLast G frame.task
     fault-last place fault is =
         let top = has.is.alone.top in
@@ -183,7 +183,7 @@ booked-kept kept now faults fault is same =
     ap {B = KeptView} (λ f. record kept { faults = f }) is ∙ ap {B = KeptView} (λ (k : KeptView). record k { faults = k.faults ++ fault ∷ [] }) same
 
 -- a step is the same whether or not its unit of fuel is taken
-pub paid-step : {B L : Type 0} (G : Ghosts B L) (before after : KeptView) (task : Task B L) (fuel : ℕ) (its : Step B L) → IsStep G before after (record task { fuel = fuel }) its → IsStep G before after task its
+pub paid-step : {B L : Type 0} (G : Ghosts B L) (before after : KeptView) (task : TaskView B L) (fuel : ℕ) (its : Step B L) → IsStep G before after (record task { fuel = fuel }) its → IsStep G before after task its
 paid-step G before after task fuel (step.Runs next) so = so
 paid-step G before after task fuel (step.Spawned parent new) so = (so.0, so.1, so.2, record { plan = so.3.plan; path = so.3.path; done = so.3.done; other = so.3.other }, so.4, so.5, so.6, so.7)
 paid-step G before after task fuel (step.Waits same wait_for) so = so

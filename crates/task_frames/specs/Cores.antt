@@ -28,7 +28,7 @@ use Rattle.serial_elision.specs.TaskSteps.{IsFaultOf}
 use Rattle.object_versions.specs.Following.{WaitsForNone}
 use Rattle.task_frames.specs.declared.stage.Stage.{Stage}
 use Rattle.task_frames.specs.declared.stage.Stage.TheVariants.{Asking}
-use Rattle.task_frames.specs.Frames.{IsPlan, Task, state_of}
+use Rattle.task_frames.specs.Frames.{IsPlan, TaskView, state_of}
 use Rattle.task_frames.specs.Records.{LiveFrame, NumberedFrames, come_at, live_at}
 
 -- what a core keeps until want of memory
@@ -170,7 +170,7 @@ IsCoreView G core = ForSome core.kept (λ kept. IsCore G core.plan kept × (kept
 -- ---- frames that come to it
 
 -- The frame stands in the record as it was given last.
-pub record IsOf {B L : Type 0} (kept : KeptView) (task : Task B L) : Type 0 where
+pub record IsOf {B L : Type 0} (kept : KeptView) (task : TaskView B L) : Type 0 where
   pub frame : LiveFrame
   pub live : live_at kept.live task.number ≡ Some frame
   pub path : frame.path ≡ task.path
@@ -178,12 +178,12 @@ pub record IsOf {B L : Type 0} (kept : KeptView) (task : Task B L) : Type 0 wher
   pub holdings : frame.holdings ≡ task.holdings
 
 -- The frame is the one that the core gave last under its number, but for what it did by itself since.
-pub record IsGiven {B L : Type 0} (kept : KeptView) (task : Task B L) (ends : LentEnds) : Type 0 where
+pub record IsGiven {B L : Type 0} (kept : KeptView) (task : TaskView B L) (ends : LentEnds) : Type 0 where
   pub of : IsOf kept task
   pub lent : IsRecorded kept.state task.number ends
 
 -- What is kept once a frame has come in: its ends are back, and all that it did by itself is done.
-abbrev pub after_coming_in : {B L : Type 0} → KeptView → Task B L → LentEnds → KeptView
+abbrev pub after_coming_in : {B L : Type 0} → KeptView → TaskView B L → LentEnds → KeptView
 after_coming_in kept task ends = record kept {
   state = after_back kept.state task.number ends.deeds;
   reading = gone_on_by kept.reading task.number (task.done - task.since);
@@ -196,33 +196,33 @@ pub record MayBegin (kept : KeptView) (number : ℕ) : Type 0 where
   pub ready : WaitsForNone kept.versions number
 
 -- a frame that is at the core: its ends are back, and what it did with them is known
-pub record AtCore (B L : Type 0) : Type 0 where
-  pub task : Task B L
+pub record FrameAtCoreView (B L : Type 0) : Type 0 where
+  pub task : TaskView B L
   pub stage : Stage L
 
 -- such a frame in the middle of a step, but for what its body asks for
 pub record Mid (B L : Type 0) : Type 0 where
-  pub task : Task B L
+  pub task : TaskView B L
   pub local : L
   pub at : ℕ
 
-abbrev pub asking : {B L : Type 0} → Mid B L → Ask L → AtCore B L
+abbrev pub asking : {B L : Type 0} → Mid B L → Ask L → FrameAtCoreView B L
 asking mid asks = record { task = mid.task; stage = Asking mid.local asks mid.at }
 
 -- a task with one step more done
-abbrev pub one_on : {B L : Type 0} → Task B L → Task B L
+abbrev pub one_on : {B L : Type 0} → TaskView B L → TaskView B L
 one_on task = record task { done = task.done + 1; since = task.done + 1 }
 
 module _ {B L : Type 0} (G : Ghosts B L) where
   -- it is true for its plan, in the middle of a step too
-  pub record IsAtCore (frame : AtCore B L) : Type 0 where
+  pub record IsAtCore (frame : FrameAtCoreView B L) : Type 0 where
     pub plan : IsPlan frame.task.plan
     pub alone : IsTrueAlone G frame.task.plan (state_of frame.task frame.stage)
     pub within : IsWithin (length frame.task.holdings) frame.task.children alone.top.fuel
     pub since : frame.task.since ≡ frame.task.done
 
   -- and the core has it, with its ends
-  pub record HasIt (kept : KeptView) (frame : AtCore B L) : Type 0 where
+  pub record HasIt (kept : KeptView) (frame : FrameAtCoreView B L) : Type 0 where
     pub core : IsCore G frame.task.plan kept
     pub is : IsAtCore frame
     pub of : IsOf kept frame.task

@@ -25,7 +25,7 @@ use Rattle.task_frames.specs.declared.stage.Stage.{Stage}
 use Rattle.task_frames.specs.declared.stage.Stage.TheVariants.{Ready, Asking}
 
 -- a frame's task, as far as the frame has come
-pub record Task (B L : Type 0) : Type 0 where
+pub record TaskView (B L : Type 0) : Type 0 where
   pub plan : Plan B L
   pub number : ℕ
   pub path : List ℕ
@@ -39,12 +39,12 @@ pub record Task (B L : Type 0) : Type 0 where
   pub children : ℕ
 
 -- the root's task before its first step, with what it holds
-abbrev pub root_task : {B L : Type 0} → Plan B L → List Holding → Task B L
+abbrev pub root_task : {B L : Type 0} → Plan B L → List Holding → TaskView B L
 root_task plan holdings = record { plan = plan; number = 0; path = []; done = 0; since = 0; fuel = plan.fuel; holdings = holdings; children = 0 }
 
 -- a frame, as contracts see it
 pub record FrameView (B L E : Type 0) : Type 0 where
-  pub task : Task B L
+  pub task : TaskView B L
   -- how it stands to its next step; none after want of memory
   pub stage : Option (Stage L)
   -- whether its next step was found to need the core
@@ -60,7 +60,7 @@ abbrev pub stage_of : {L : Type 0} → Stage L → true_frames.Stage L
 stage_of (Ready local answer) = true_frames.ready local answer
 stage_of (Asking local ask place) = true_frames.asking local ask place
 
-abbrev pub state_of : {B L : Type 0} → Task B L → Stage L → FrameState L
+abbrev pub state_of : {B L : Type 0} → TaskView B L → Stage L → FrameState L
 state_of task stage = record { path = task.path; done = task.done; fuel = task.fuel; holdings = task.holdings; children = task.children; stage = stage_of stage }
 
 -- a plan as it was made: its lists and its fuel are within their bounds
@@ -83,7 +83,7 @@ pub record AreLocal (s : Script) (path : List ℕ) (from to : ℕ) : Type 0 wher
 module _ {B L : Type 0} (G : Ghosts B L) where
   -- Ends that were lent to a frame: they have its run and its task, and its queue deeds then and now; and each end is one of
   -- the queue that the frame holds by that number.
-  pub record AreEndsOf (task : Task B L) (name : Option Script) (ends : LentEnds) : Type 0 where
+  pub record AreEndsOf (task : TaskView B L) (name : Option Script) (ends : LentEnds) : Type 0 where
     pub named : name ≡ Some (script G task.plan)
     pub own : ends.frame ≡ task.number
     pub path : ends.path ≡ task.path
@@ -97,7 +97,7 @@ module _ {B L : Type 0} (G : Ghosts B L) where
 
   -- What holds of each frame that has its local: it is true for its plan, in the middle of a step too; its ends are its own;
   -- and all that it did since it was given are steps that need no core. Given with no step taken, it did nothing.
-  pub record IsFrame (task : Task B L) (name : Option Script) (ends : LentEnds) (stage : Stage L) : Type 0 where
+  pub record IsFrame (task : TaskView B L) (name : Option Script) (ends : LentEnds) (stage : Stage L) : Type 0 where
     pub plan : IsPlan task.plan
     pub alone : IsTrueAlone G task.plan (state_of task stage)
     -- by the fuel that it has before its next step

@@ -34,9 +34,9 @@ use Rattle.task_frames.specs.declared.resumed.Resumed.{Resumed}
 use Rattle.task_frames.specs.declared.resumed.Resumed.TheVariants as resumed
 use Rattle.task_frames.specs.declared.step.Step.{Step}
 use Rattle.task_frames.specs.declared.step.Step.TheVariants as step
-use Rattle.task_frames.specs.Cores.{MayBegin, AtCore, CoreView, HasIt, IsCore, IsGiven, KeptView, after_coming_in}
+use Rattle.task_frames.specs.Cores.{MayBegin, FrameAtCoreView, CoreView, HasIt, IsCore, IsGiven, KeptView, after_coming_in}
 use Rattle.object_versions.specs.Following.{WaitsForNone}
-use Rattle.task_frames.specs.Frames.{FrameView, Task, is_whole, root_task}
+use Rattle.task_frames.specs.Frames.{FrameView, TaskView, is_whole, root_task}
 use Rattle.task_frames.specs.Records.{HasNoLiveChild, IsOldestChild, LiveFrame, NumberedFrames, live_at}
 
 -- ---- waits
@@ -55,7 +55,7 @@ pub record IsLiveBefore (frames : NumberedFrames) (path : List ℕ) (number : �
   pub earlier : comes_before frame.path path ≡ true
 
 -- a frame asks to pop from a queue that it may pop, or whether that is empty
-pub data AsksOf {B L : Type 0} (frame : AtCore B L) (queue : ℕ) : Type 0 where
+pub data AsksOf {B L : Type 0} (frame : FrameAtCoreView B L) (queue : ℕ) : Type 0 where
   to_pop : (local : L) (place at : ℕ) → frame.stage ≡ Asking local (ask.Pop place) at
       → number_at frame.task.holdings place Pop ≡ Some queue → AsksOf frame queue
   to_test : (local : L) (place at : ℕ) → frame.stage ≡ Asking local (ask.Empty place) at
@@ -67,7 +67,7 @@ pub record IsFirstToBlock (turns : Frames) (number older : ℕ) : Type 0 where
   pub oldest : (other : ℕ) → Blocks turns number other → older ≤ other
 
 -- what the queues answered a frame about the queue of which it asks
-pub record IsToldToWait {B L : Type 0} (kept : KeptView) (frame : AtCore B L) (wait_for : WaitFor) : Type 0 where
+pub record IsToldToWait {B L : Type 0} (kept : KeptView) (frame : FrameAtCoreView B L) (wait_for : WaitFor) : Type 0 where
   pub own : ActiveFrame
   pub active_is : active kept.state frame.task.number ≡ Some own
   pub queue : ℕ
@@ -76,20 +76,20 @@ pub record IsToldToWait {B L : Type 0} (kept : KeptView) (frame : AtCore B L) (w
 
 module _ {B L : Type 0} (G : Ghosts B L) where
   -- the deed of a task's next step
-  abbrev pub deed_now : Task B L → Deed
+  abbrev pub deed_now : TaskView B L → Deed
   deed_now task = let s = script G task.plan in deed_at s (time s task.path task.done)
 
   -- it ends the task by this fault, at this place of the program, and does nothing else
-  abbrev pub EndsTaskByFault : Task B L → (place : ℕ) → FaultKind → Type 0
+  abbrev pub EndsTaskByFault : TaskView B L → (place : ℕ) → FaultKind → Type 0
   EndsTaskByFault task place kind =
       (top : Activation L) → StandsAt G task.plan task.path task.done top
       → MeetsFault G task.plan task.path task.done top kind deed.Quiet × (place ≡ G.place_of task.plan.body top.local)
 
   -- it is the task's last one
-  abbrev pub IsLast : Task B L → Type 0
+  abbrev pub IsLast : TaskView B L → Type 0
   IsLast task = task.done + 1 ≡ length (times (script G task.plan) task.path)
 
-  module _ (kept : KeptView) (frame : AtCore B L) where
+  module _ (kept : KeptView) (frame : FrameAtCoreView B L) where
     -- A version is waited for where it was given to the frame to read, before the first step; or where the frame asks to read it.
     pub data WaitsForVersion (number : ℕ) : Type 0 where
       at_first : (place : ℕ) → frame.task.done ≡ 0 → Awaits kept.versions frame.task.number place number → WaitsForVersion number
@@ -127,17 +127,17 @@ pub record OthersStay (before after : KeptView) (IsOther : ℕ → Type 0) : Typ
   pub active_are : (other : ℕ) → IsOther other → active after.state other ≡ active before.state other
 
 -- the same task with one step more done
-abbrev pub IsOneOn : {B L : Type 0} → (before after : Task B L) → Type 0
+abbrev pub IsOneOn : {B L : Type 0} → (before after : TaskView B L) → Type 0
 IsOneOn before after = after ≡ record before { done = before.done + 1; since = before.done + 1; fuel = after.fuel; holdings = after.holdings; children = after.children }
 
 -- a child of this task that has done nothing
-pub record IsNewChildOf {B L : Type 0} (parent child : Task B L) : Type 0 where
+pub record IsNewChildOf {B L : Type 0} (parent child : TaskView B L) : Type 0 where
   pub plan : child.plan ≡ parent.plan
   pub path : child.path ≡ parent.path ++ parent.children ∷ []
   pub done : child.done ≡ 0
   pub other : child.number ≢ parent.number
 
-module _ {B L : Type 0} (G : Ghosts B L) (before after : KeptView) (task : Task B L) where
+module _ {B L : Type 0} (G : Ghosts B L) (before after : KeptView) (task : TaskView B L) where
   -- What a step at the core leaves: the frame one step on; or with its child; or as it was, but for the ask of its body, with what it
   -- waits for; or it has ended. A wait for all children is over only where there is none, and so is the frame. No step is taken of a
   -- frame that may not begin.
@@ -170,7 +170,7 @@ abbrev pub ends_of : {E : Type 0} → EndsMeaning E → EndsOf E
 ends_of meaning = record { run = meaning.run; ends = meaning.ends }
 
 -- A frame was given as it stood at the core.
-pub record IsGivenAs {B L E : Type 0} (of : EndsOf E) (kept : KeptView) (at : AtCore B L) (frame : FrameView B L E) : Type 0 where
+pub record IsGivenAs {B L E : Type 0} (of : EndsOf E) (kept : KeptView) (at : FrameAtCoreView B L) (frame : FrameView B L E) : Type 0 where
   pub task : frame.task ≡ at.task
   pub stage : frame.stage ≡ Some at.stage
   pub mark : frame.mark ≡ false
@@ -229,7 +229,7 @@ module _ {B L E : Type 0} (of : EndsOf E) (core : CoreView B L) (frame : FrameVi
 pub record IsShownBy {B L E : Type 0} (G : Ghosts B L) (of : EndsOf E) (before after : CoreView B L) (frame same : FrameView B L E) (wait_for : WaitFor) : Type 0 where
   pub was : KeptView
   pub kept_was : before.kept ≡ Some was
-  pub at : AtCore B L
+  pub at : FrameAtCoreView B L
   pub task : at.task ≡ same.task
   pub stage : same.stage ≡ Some at.stage
   pub shows : IsShown G (after_coming_in was frame.task (of.ends frame.ends)) at wait_for

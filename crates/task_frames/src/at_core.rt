@@ -1,7 +1,7 @@
 // Frames that are at the core, without their ends.
 ghost use Rattle.std.specs.Prelude.{◌≡◌, ℕ, ◌+◌, ◌-◌, ◌<◌, ◌≤◌, Some, IfOk};
 ghost use Rattle.swan_model.specs.SerialStep.{number_at};
-ghost use Rattle.swan_model.specs.declared.body.Ask.{Ask as Asked};
+ghost use Rattle.swan_model.specs.declared.body.Ask.{Ask as TheAsk};
 ghost use Rattle.swan_model.specs.Values.{COUNT_MOST};
 ghost use Rattle.task_frames.specs.declared.stage.Stage.TheVariants.{Asking, Ready};
 ghost use Rattle.task_frames.specs.Cores.{asking, one_on};
@@ -32,9 +32,9 @@ pub struct TaskAtCore<B: Body> {
 }
 
 impl<B: Body> Model for TaskAtCore<B> {
-    ghost use Rattle.task_frames.specs.Frames.{Task};
+    ghost use Rattle.task_frames.specs.Frames.{TaskView};
 
-    ghost Value = { Task B B.Local };
+    ghost Value = { TaskView B B.Local };
 
     ghost view = { λ t. record {
       plan = t.plan.means;
@@ -137,7 +137,7 @@ impl<B: Body> StagedTask<B> {
     /// Takes the step in whose middle it is, and is told this. `O(1)`.
     pub fn is_told(&mut self, answer: Answer)
         requires few { self.old.task.done < COUNT_MOST }
-        ensures { (local : B.Local) (ask : Asked B.Local) (at : ℕ) → self.old.stage ≡ Some (Asking local ask at)
+        ensures { (local : B.Local) (ask : TheAsk B.Local) (at : ℕ) → self.old.stage ≡ Some (Asking local ask at)
             → self.new ≡ record self.old { task = one_on self.old.task; stage = Some (Ready local answer) } }
     {
         match self.stage.take() {
@@ -166,9 +166,9 @@ impl<B: Body> Model for FrameAtCore<B> {
     ghost use Rattle.std.specs.Option.{unwrap_or};
     ghost use Rattle.swan_model.specs.declared.body.Answer.TheVariants.{Start};
     ghost use Rattle.task_frames.specs.declared.stage.Stage.TheVariants.{Ready};
-    ghost use Rattle.task_frames.specs.Cores.{AtCore};
+    ghost use Rattle.task_frames.specs.Cores.{FrameAtCoreView};
 
-    ghost Value = { AtCore B B.Local };
+    ghost Value = { FrameAtCoreView B B.Local };
 
     // The invariant says that it has a stage, so the other value of unwrap_or is never seen.
     ghost view = { λ frame. record {

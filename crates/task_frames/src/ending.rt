@@ -6,7 +6,7 @@ ghost use Rattle.swan_model.specs.QueueState.{after_finish};
 ghost use Rattle.swan_model.specs.Versions.{IsSettled, objects_after_finish};
 ghost use Rattle.pop_order.specs.Frames.{HasNoChild, without};
 ghost use Rattle.queues.specs.Asks.{IsOnTurn, MayJoin, OnNext};
-ghost use Rattle.swan_model.specs.Readings.{gone_on_by};
+ghost use Rattle.swan_model.specs.Readings.{gone_on};
 ghost use Rattle.task_frames.specs.Cores.{HasIt, MayBegin, asking};
 ghost use Rattle.task_frames.specs.Records.{IsOnlyLive, live_at};
 ghost use Rattle.task_frames.specs.Resumes.{EndsTaskByFault, IsStep, MayNotUse};
@@ -100,7 +100,7 @@ impl<Q: Queues> Kept<Q> {
           run = self.new.run;
           state = after_finish self.old.state number;
           versions = objects_after_finish self.old.versions number;
-          reading = gone_on_by self.old.reading number 1;
+          reading = gone_on self.old.reading number;
           live = self.new.live;
           turns = without self.old.turns number;
         }) }

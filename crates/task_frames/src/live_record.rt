@@ -1,7 +1,7 @@
 // The record of live frames.
 ghost use Rattle.std.specs.Prelude.{◌≡◌, ℕ, Some, None, [], IsSome, OnOk, OnErr, IfSome, IfNone};
 ghost use Rattle.std.specs.Option.{option_map};
-ghost use Rattle.task_frames.specs.Records.{HasChildren, IsLiveChild, IsOldestChild, IsOnlyLive, LiveFrame as Live, come_at, come_to, holding_too, live_at};
+ghost use Rattle.task_frames.specs.Records.{HasChildren, IsLiveChild, IsOldestChild, IsOnlyLive, LiveFrame as TheLiveFrame, come_at, come_to, holding_too, live_at};
 
 use crate::Holding;
 use crate::frames_by_number::FramesByNumber;
@@ -24,9 +24,9 @@ pub struct LiveFrame {
 }
 
 impl Model for LiveFrame {
-    ghost use Rattle.task_frames.specs.Records.{LiveFrame as Live};
+    ghost use Rattle.task_frames.specs.Records.{LiveFrame as TheLiveFrame};
 
-    ghost Value = { Live };
+    ghost Value = { TheLiveFrame };
 
     ghost view = { λ frame. record {
       parent = frame.parent;
@@ -141,7 +141,7 @@ impl LiveRecord {
     #[tactic(auto, using(crate::proofs::Lives::come_same, crate::proofs::Lives::only_same))]
     pub fn come_on(&mut self, number: u64, since: u64, done: u64)
         requires live { IsSome (live_at self.old number) }
-        requires since { (live : Live) → live_at self.old number ≡ Some live → live.done ≡ since }
+        requires since { (live : TheLiveFrame) → live_at self.old number ≡ Some live → live.done ≡ since }
         ensures come { self.new ≡ come_at self.old number done (live_at self.old number) }
         ensures only { IsOnlyLive self.old self.new number (option_map (come_to done) (live_at self.old number)) }
     {

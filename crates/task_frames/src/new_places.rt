@@ -3,7 +3,7 @@ ghost use Rattle.std.specs.Prelude.{◌≡◌, ◌+◌, ◌<◌, ◌≤◌, ◌�
 ghost use Rattle.std.specs.Option.{option_map};
 ghost use Rattle.swan_model.specs.declared.body.Ask.TheVariants as ask;
 ghost use Rattle.swan_model.specs.declared.origin.Origin.TheVariants as origin;
-ghost use Rattle.swan_model.specs.Readings.{with_object, with_queue, gone_on_by};
+ghost use Rattle.swan_model.specs.Readings.{with_object, with_queue, gone_on};
 ghost use Rattle.swan_model.specs.Script.{script};
 ghost use Rattle.swan_model.specs.SerialTime.{time};
 ghost use Rattle.swan_model.specs.QueueState.{PLACES_MOST};
@@ -37,7 +37,7 @@ impl<B: Body> MidStep<B> {
 
     /// The reading after its step, which makes a queue. `O(1)`.
     fn makes_queue(&self, reading: &KeptReading) -> KeptReading
-        ensures { result ≡ with_queue (gone_on_by reading.now self.now.task.number 1)
+        ensures { result ≡ with_queue (gone_on reading.now self.now.task.number)
             (origin.Step (time (script B.Body self.now.task.plan) self.now.task.path self.now.task.done)) }
     {
         reading.gone_on_by(self.staged.task.number, 1).with_queue(
@@ -49,7 +49,7 @@ impl<B: Body> MidStep<B> {
 
     /// The reading after its step, which makes an object. `O(1)`.
     fn makes_object(&self, reading: &KeptReading) -> KeptReading
-        ensures { result ≡ with_object (gone_on_by reading.now self.now.task.number 1)
+        ensures { result ≡ with_object (gone_on reading.now self.now.task.number)
             (origin.Step (time (script B.Body self.now.task.plan) self.now.task.path self.now.task.done)) }
     {
         reading.gone_on_by(self.staged.task.number, 1).with_object(

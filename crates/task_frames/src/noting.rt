@@ -1,7 +1,7 @@
 // What each step leaves in the record and in the reading.
 ghost use Rattle.std.specs.Prelude.{◌≡◌, ◌+◌, ◌<◌, IsSome};
 ghost use Rattle.std.specs.Option.{option_map};
-ghost use Rattle.swan_model.specs.Readings.{gone_on_by};
+ghost use Rattle.swan_model.specs.Readings.{gone_on};
 ghost use Rattle.swan_model.specs.Values.{COUNT_MOST};
 ghost use Rattle.task_frames.specs.Records.{IsOnlyLive, come_to, live_at};
 
@@ -13,7 +13,7 @@ impl<Q: Queues> Kept<Q> {
     pub fn note_step(&mut self, number: u64, done: u64)
         requires few { done < COUNT_MOST }
         requires live { IsSome (live_at self.old.live number) }
-        ensures same { self.new ≡ record self.old { reading = gone_on_by self.old.reading number 1; live = self.new.live } }
+        ensures same { self.new ≡ record self.old { reading = gone_on self.old.reading number; live = self.new.live } }
         ensures live { IsOnlyLive self.old.live self.new.live number (option_map (come_to (done + 1)) (live_at self.old.live number)) }
     {
         self.reading = self.reading.gone_on_by(number, 1);

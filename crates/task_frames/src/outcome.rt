@@ -12,9 +12,9 @@ pub struct Ran {
 }
 
 impl Model for Ran {
-    ghost use Rattle.swan_model.specs.declared.script.Script.{Script as Told};
+    ghost use Rattle.swan_model.specs.declared.script.Script.{Script as TheScript};
 
-    ghost Value = { Told };
+    ghost Value = { TheScript };
 
     ghost view = { λ ran. ran.script.means };
 }

@@ -11,7 +11,7 @@ ghost use Rattle.swan_model.specs.Values.{COUNT_MOST};
 ghost use Rattle.swan_model.specs.Rights.{is_aliased};
 ghost use Rattle.swan_model.specs.SerialStep.{given};
 ghost use Rattle.queues.specs.Asks.{IsOnTurn, MaySpawn, OnActive, OnNext};
-ghost use Rattle.swan_model.specs.Readings.{gone_on_by};
+ghost use Rattle.swan_model.specs.Readings.{gone_on};
 ghost use Rattle.queues.specs.Turned.{AreApart, AreGivenTurns, AreOlder};
 ghost use Rattle.task_frames.specs.declared.stage.Stage.TheVariants.{Ready};
 ghost use Rattle.task_frames.specs.declared.step.Step.TheVariants as step;
@@ -270,7 +270,7 @@ impl<Q: Queues> Kept<Q> {
         ensures others { OnOk result ((other : ℕ) → other ≢ parent → other ≢ self.old.frames → live_at self.new.live other ≡ live_at self.old.live other) }
         ensures same { OnOk result (self.new ≡ record self.old {
           reading = record self.old.reading {
-            frames = (gone_on_by self.old.reading parent 1).frames ++ (record { number = self.old.frames; path = path.now; done = 0 }) ∷ [];
+            frames = (gone_on self.old.reading parent).frames ++ (record { number = self.old.frames; path = path.now; done = 0 }) ∷ [];
           };
           live = self.new.live;
           frames = self.old.frames + 1;

@@ -3,7 +3,7 @@ use Rattle.swan_model.specs.Lawful.{IsLawful}
 use Rattle.swan_model.specs.QueueFollows.{AreByEnds}
 use Rattle.swan_model.specs.QueueState.{active}
 use Rattle.queues.specs.Asks.{OnNext}
-use Rattle.task_frames.specs.Frames.{FrameView, IsFrame, Task}
+use Rattle.task_frames.specs.Frames.{FrameView, IsFrame, TaskView}
 use Rattle.std.specs.Option.{unwrap_or}
 use Rattle.swan_model.specs.declared.body.Answer.TheVariants.{Start}
 use Rattle.task_frames.specs.declared.stage.Stage.TheVariants.{Ready}
@@ -21,7 +21,7 @@ back-requires-clause-path g c = λ s named own live.
 
 pub invariant_of-result-in-Err : goal.invariant_of-result-in-Err
 invariant_of-result-in-Err g c =
-    let task : Task g.row.B.Denot g.row.B-Local.Denot = record c.self.inside.staged.value.task { since = c.self.inside.since } in (
+    let task : TaskView g.row.B.Denot g.row.B-Local.Denot = record c.self.inside.staged.value.task { since = c.self.inside.since } in (
       (λ x is. subst (λ e. IsFrame g.B.Body task (g.Q.Ends.LocalEnds.name e) (g.Q.Ends.LocalEnds.ends e) x) (sym c.in-Err.ensures.handed_back) (c.self.invariant.0 x is)),
       c.self.invariant.1,
     )

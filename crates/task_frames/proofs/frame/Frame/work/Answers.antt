@@ -3,7 +3,7 @@ use Rattle.std.proofs.lemmas.Bool.{false≢true}
 use Rattle.std.specs.Option.{is_some}
 use Rattle.task_frames.specs.declared.at_core.StagedTask.{StagedTask}
 use Rattle.task_frames.specs.declared.stage.Stage.TheVariants.{Asking, Ready}
-use Rattle.task_frames.specs.Frames.{FrameView, IsFrame, Task}
+use Rattle.task_frames.specs.Frames.{FrameView, IsFrame, TaskView}
 use Rattle.task_frames.specs.Going.{IsRow}
 use Rattle.task_frames.proofs.Amid.{at-stage, few, rowed}
 use Rattle.task_frames.proofs.frame.Frame.work.Goals as goal
@@ -43,7 +43,7 @@ invariant_of-self-2 g c =
     (Ready c.in-Some-Ready.local c.in-Some-Ready.answer)) (sym is) (c.self.invariant.0 _ (sym (ap (λ (st : StagedTask g.row.B.Denot g.row.B-Local.Denot). st.stage) is) ∙ was)) in
     let row = subst (λ f. IsRow g.B.Body c.args.body.now c.in-Some-Ready.local c.in-Some-Ready.answer f c.args.budget c.in_ok-row-in-Some-Ready.row) c.fuel-fuel.ensures c.in_ok-row-in-Some-Ready.ensures in
     let then = rowed g.B.Body _ _ _ _ c.in-Some-Ready.local c.in-Some-Ready.answer _ _ own (search rules) (search rules) (search rules) (search (rules, arith)) row in
-    let last = subst (λ (t : Task g.row.B.Denot g.row.B-Local.Denot). IsFrame g.B.Body (record t { since = c.self.inside.since }) (g.Q.Ends.LocalEnds.name c.self.inside.ends) (g.Q.Ends.LocalEnds.ends c.self.inside.ends) c.in_ok-row-in-Some-Ready.row.stage) (sym c.goes_on.ensures) then in
+    let last = subst (λ (t : TaskView g.row.B.Denot g.row.B-Local.Denot). IsFrame g.B.Body (record t { since = c.self.inside.since }) (g.Q.Ends.LocalEnds.name c.self.inside.ends) (g.Q.Ends.LocalEnds.ends c.self.inside.ends) c.in_ok-row-in-Some-Ready.row.stage) (sym c.goes_on.ensures) then in
     at-stage g.B.Body c.stands-in-Some-Ready.ensures last
 
 pub invariant_of-self : goal.invariant_of-self

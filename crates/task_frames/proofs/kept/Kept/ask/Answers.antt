@@ -1,7 +1,7 @@
 use Rattle.std.proofs.Common.{rules, sym, subst, ap, ◌∙◌, ◌-◌, arith}
-use Rattle.task_frames.specs.Cores.{AtCore, HasIt, asking}
+use Rattle.task_frames.specs.Cores.{FrameAtCoreView, HasIt, asking}
 use Rattle.task_frames.specs.declared.at_core.StagedTask.{StagedTask}
-use Rattle.task_frames.specs.Frames.{Task}
+use Rattle.task_frames.specs.Frames.{TaskView}
 use Rattle.std.proofs.lemmas.Result.{IfOk-weaker}
 use Rattle.std.specs.Prelude.{IfOk}
 use Rattle.swan_model.specs.declared.fault.FaultKind.TheVariants as kind
@@ -12,7 +12,7 @@ use Rattle.task_frames.proofs.kept.Kept.ask.Goals as goal
 pub fault-requires-clause-faults : goal.fault-requires-clause-faults
 fault-requires-clause-faults g c κs within =
     let fuel = c.fuel-fuel.ensures ∙ ap (λ (st : StagedTask g.row.B.Denot g.row.B-Local.Denot). st.task.fuel) c.deref.ensures in
-    subst (λ (f : AtCore g.row.B.Denot g.row.B-Local.Denot). EndsTaskByFault g.B.Body f.task c.place-at.result kind.Fuel) (sym c.of.ensures)
+    subst (λ (f : FrameAtCoreView g.row.B.Denot g.row.B-Local.Denot). EndsTaskByFault g.B.Body f.task c.place-at.result kind.Fuel) (sym c.of.ensures)
     (dry-ends g.B.Body c.args.self.now c.args.staged.value.task c.args.local c.args.answer c.requires.has c.place-at.result
     (sym fuel ∙ c.if-fuel-eq0.true)
     (c.place-at.ensures ∙ ap (λ b. g.B.Body.place_of b c.args.local) c.requires.body))
@@ -29,7 +29,7 @@ take-requires-clause-has g c κs within =
 
 pub returns-then-fuel-eq0-clause-step : goal.returns-then-fuel-eq0-clause-step
 returns-then-fuel-eq0-clause-step g c =
-    subst (λ (t : Task g.row.B.Denot g.row.B-Local.Denot). IfOk c.fault.result (IsStep g.B.Body c.args.self.now c.fault.new.self t)) (ap (λ (f : AtCore g.row.B.Denot g.row.B-Local.Denot). f.task) c.of.ensures) c.fault.ensures.step
+    subst (λ (t : TaskView g.row.B.Denot g.row.B-Local.Denot). IfOk c.fault.result (IsStep g.B.Body c.args.self.now c.fault.new.self t)) (ap (λ (f : FrameAtCoreView g.row.B.Denot g.row.B-Local.Denot). f.task) c.of.ensures) c.fault.ensures.step
 
 pub returns-clause-step : goal.returns-clause-step
 returns-clause-step g c =

@@ -8,7 +8,7 @@ use Rattle.task_frames.specs.declared.stage.Stage.TheVariants.{Ready}
 use Rattle.swan_model.specs.declared.rights.Mode.TheVariants.{In}
 use Rattle.swan_model.specs.Versions.{Placed, owed, placed_at}
 use Rattle.swan_model.specs.Values.{COUNT_MOST}
-use Rattle.task_frames.specs.Cores.{AtCore, one_on}
+use Rattle.task_frames.specs.Cores.{FrameAtCoreView, one_on}
 use Rattle.task_frames.specs.Records.{live_at}
 use Rattle.task_frames.proofs.Goings.{live-here}
 use Rattle.swan_model.proofs.Elements.{some_of}
@@ -39,7 +39,7 @@ pub returns-in_ok-item-in-Ok-clause-step : goal.returns-in_ok-item-in-Ok-clause-
 returns-in_ok-item-in-Ok-clause-step g c =
     let at = some_of _ c.if-is_none.ensures in
     let noted = noted-so c.args.self.now _ _ _ _ _ _ refl c.number-number.ensures c.done.ensures c.note_step.ensures.same c.note_step.ensures.live in
-    let told = ap (λ (v : Value). let a : AtCore g.row.B.Denot g.row.B-Local.Denot = record { task = one_on c.args.mid.task; stage = Ready c.args.mid.local (answer.Item v) } in a) c.in_ok-item-in-Ok.ensures in
+    let told = ap (λ (v : Value). let a : FrameAtCoreView g.row.B.Denot g.row.B-Local.Denot = record { task = one_on c.args.mid.task; stage = Ready c.args.mid.local (answer.Item v) } in a) c.in_ok-item-in-Ok.ensures in
     read-runs g.B.Body _ _ c.args.place at.0 c.requires.has (sym c.number_at.ensures ∙ at.1) c.requires.begun c.in-Ok.value.now
     (over (λ k n. (s : Script) (r : Reading) (reader : Progress) (object : Placed) → ObjectsFollow s r k.versions → frame_of r n ≡ Some reader → placed_at k.versions n c.args.place ≡ Some object
     → version s r object.object reader ≡ Some c.in-Ok.value.now) _ _ _ _ (sym c.self.view_is) (sym c.number-number.ensures) c.in-Ok.ensures.follows)

@@ -1,7 +1,7 @@
 use Rattle.std.proofs.Common.{arith, sym, subst, ap, ◌∙◌}
 use Rattle.std.specs.Prelude.{IfOk}
 use Rattle.swan_model.specs.Rights.{is_aliased}
-use Rattle.task_frames.specs.Cores.{AtCore}
+use Rattle.task_frames.specs.Cores.{FrameAtCoreView}
 use Rattle.task_frames.specs.Resumes.{IsStep}
 use Rattle.task_frames.proofs.SpawnStep.{alias-so, depth-so, ends-so, fuel-so, given-some}
 use Rattle.task_frames.proofs.kept.Kept.spawn.Goals as goal
@@ -28,12 +28,12 @@ fault-requires-then-fuel-child-clause-faults g c κs within =
 
 pub returns-then-branch-clause-step : goal.returns-then-branch-clause-step
 returns-then-branch-clause-step g c =
-    subst (λ (f : AtCore g.row.B.Denot g.row.B-Local.Denot). IfOk c.fault.result (IsStep g.B.Body c.args.self.now c.fault.new.self f.task)) c.asks.ensures c.fault.ensures.step
+    subst (λ (f : FrameAtCoreView g.row.B.Denot g.row.B-Local.Denot). IfOk c.fault.result (IsStep g.B.Body c.args.self.now c.fault.new.self f.task)) c.asks.ensures c.fault.ensures.step
 
 pub returns-then-depth-ge-PATH_MOST-clause-step : goal.returns-then-depth-ge-PATH_MOST-clause-step
 returns-then-depth-ge-PATH_MOST-clause-step g c =
-    subst (λ (f : AtCore g.row.B.Denot g.row.B-Local.Denot). IfOk c.fault-then-depth-ge-PATH_MOST.result (IsStep g.B.Body c.args.self.now c.fault-then-depth-ge-PATH_MOST.new.self f.task)) c.asks-then-depth-ge-PATH_MOST.ensures c.fault-then-depth-ge-PATH_MOST.ensures.step
+    subst (λ (f : FrameAtCoreView g.row.B.Denot g.row.B-Local.Denot). IfOk c.fault-then-depth-ge-PATH_MOST.result (IsStep g.B.Body c.args.self.now c.fault-then-depth-ge-PATH_MOST.new.self f.task)) c.asks-then-depth-ge-PATH_MOST.ensures c.fault-then-depth-ge-PATH_MOST.ensures.step
 
 pub returns-then-fuel-child-clause-step : goal.returns-then-fuel-child-clause-step
 returns-then-fuel-child-clause-step g c =
-    subst (λ (f : AtCore g.row.B.Denot g.row.B-Local.Denot). IfOk c.fault-then-fuel-child.result (IsStep g.B.Body c.args.self.now c.fault-then-fuel-child.new.self f.task)) c.asks-then-fuel-child.ensures c.fault-then-fuel-child.ensures.step
+    subst (λ (f : FrameAtCoreView g.row.B.Denot g.row.B-Local.Denot). IfOk c.fault-then-fuel-child.result (IsStep g.B.Body c.args.self.now c.fault-then-fuel-child.new.self f.task)) c.asks-then-fuel-child.ensures c.fault-then-fuel-child.ensures.step

@@ -5,7 +5,7 @@ use Rattle.swan_model.specs.Readings.{gone_on_by}
 use Rattle.swan_model.proofs.Elements.{some_is, some_of}
 use Rattle.task_frames.specs.Cores.{IsCore, KeptView}
 use Rattle.task_frames.specs.Records.{IsOnlyLive, LiveFrame, come_to, live_at}
-use Rattle.task_frames.specs.Frames.{Task}
+use Rattle.task_frames.specs.Frames.{TaskView}
 use Rattle.task_frames.proofs.Taking.{come-so, has-taken, path-so, stands-so, stay-from, taken-stay}
 use Rattle.task_frames.proofs.kept.Kept.take_in.Goals as goal
 
@@ -28,7 +28,7 @@ returns-in-Ok-clause-has g c =
     let core = subst (λ k. IsCore g.B.Body c.args.frame.task.plan k) (sym c.self.view_is) c.requires.core in
     let number = c.number-number.ensures.number in
     let of = stands-so _ c.args.frame.task c.in-Some.live.now (subst (λ n. live_at c.self.inside.live n ≡ Some c.in-Some.live.now) number c.in-Some.ensures.some) (c.stands_as.ensures.yes c.if-not-stands_as.false) in
-    let done = c.done-done.ensures ∙ ap (λ (t : Task g.row.B.Denot g.row.B-Local.Denot). t.done) c.in-Ok.ensures.task in
+    let done = c.done-done.ensures ∙ ap (λ (t : TaskView g.row.B.Denot g.row.B-Local.Denot). t.done) c.in-Ok.ensures.task in
     has-taken g.B.Body _ c.args.frame.task core of _ _ _ c.in-Ok.ensures.is _ _ _ _ _ _ _ c.in-Ok.ensures.same.0 c.in-Ok.ensures.same.1 c.in-Ok.ensures.ok (subst (λ n. c.gone_on_by.result ≡ gone_on_by c.self.inside.reading n (c.done-done.result - c.live.inside.done)) number c.gone_on_by.ensures)
     (ap (λ k. k - c.live.inside.done) done ∙ ap (λ k. c.args.frame.task.done - k) (ap (λ (l : LiveFrame). l.done) c.live.view_is ∙ (c.stands_as.ensures.yes c.if-not-stands_as.false).1)) done
     (subst (λ n. IsOnlyLive c.self.inside.live c.come_on.new.self n (option_map (come_to c.done-done.result) (live_at c.self.inside.live n))) number c.come_on.ensures.only) c.in-Ok.ensures.by_ends
@@ -39,7 +39,7 @@ returns-in-Ok-clause-others g c =
     let core = subst (λ k. IsCore g.B.Body c.args.frame.task.plan k) (sym c.self.view_is) c.requires.core in
     let number = c.number-number.ensures.number in
     let of = stands-so _ c.args.frame.task c.in-Some.live.now (subst (λ n. live_at c.self.inside.live n ≡ Some c.in-Some.live.now) number c.in-Some.ensures.some) (c.stands_as.ensures.yes c.if-not-stands_as.false) in
-    let done = c.done-done.ensures ∙ ap (λ (t : Task g.row.B.Denot g.row.B-Local.Denot). t.done) c.in-Ok.ensures.task in
+    let done = c.done-done.ensures ∙ ap (λ (t : TaskView g.row.B.Denot g.row.B-Local.Denot). t.done) c.in-Ok.ensures.task in
     stay-from _ _ _ _ c.self.view_is
     (taken-stay g.B.Body _ c.args.frame.task core of _ _ _ c.in-Ok.ensures.is _ _ _ _ _ _ _ c.in-Ok.ensures.same.0 c.in-Ok.ensures.same.1 c.in-Ok.ensures.ok (subst (λ n. c.gone_on_by.result ≡ gone_on_by c.self.inside.reading n (c.done-done.result - c.live.inside.done)) number c.gone_on_by.ensures)
     (ap (λ k. k - c.live.inside.done) done ∙ ap (λ k. c.args.frame.task.done - k) (ap (λ (l : LiveFrame). l.done) c.live.view_is ∙ (c.stands_as.ensures.yes c.if-not-stands_as.false).1)) done
@@ -48,7 +48,7 @@ returns-in-Ok-clause-others g c =
 pub returns-in-Ok-clause-come : goal.returns-in-Ok-clause-come
 returns-in-Ok-clause-come g c =
     let number = c.number-number.ensures.number in
-    let done = c.done-done.ensures ∙ ap (λ (t : Task g.row.B.Denot g.row.B-Local.Denot). t.done) c.in-Ok.ensures.task in
+    let done = c.done-done.ensures ∙ ap (λ (t : TaskView g.row.B.Denot g.row.B-Local.Denot). t.done) c.in-Ok.ensures.task in
     let since = ap (λ (l : LiveFrame). l.done) c.live.view_is ∙ (c.stands_as.ensures.yes c.if-not-stands_as.false).1 in
     come-so _ _ c.args.frame.task (g.Q.Ends.LocalEnds.ends c.args.frame.ends) _ _ _ _ _ _ _ _ c.self.view_is number done since c.in-Ok.ensures.same.0 c.in-Ok.ensures.same.1 c.in-Ok.ensures.ok c.gone_on_by.ensures c.come_on.ensures.come
 

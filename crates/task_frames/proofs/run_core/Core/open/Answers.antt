@@ -6,7 +6,7 @@ use Rattle.swan_model.specs.Elision.{object_holdings, queue_holdings, root_holdi
 use Rattle.swan_model.specs.Script.{script}
 use Rattle.swan_model.specs.SerialState.{Holding}
 use Rattle.task_frames.specs.Cores.{HasIt, KeptView}
-use Rattle.task_frames.specs.Frames.{IsPlan, Task, root_task}
+use Rattle.task_frames.specs.Frames.{IsPlan, TaskView, root_task}
 use Rattle.task_frames.specs.Opened.{IsKeptAtFirst}
 use Rattle.task_frames.proofs.Beginning.{opened-has}
 use Rattle.task_frames.proofs.run_core.Core.open.Goals as goal
@@ -29,10 +29,10 @@ give-root-requires-clause-has g c κs within =
     (subst (λ (qs : List RootQueue). IsKeptAtFirst (script g.B.Body plan) (length qs) (length c.into_lists-root_queues.result.1) c.as_slice.result.now kept) queues-are
     (subst (λ (p : Plan g.row.B.Denot g.row.B-Local.Denot). IsKeptAtFirst (script g.B.Body p) (length c.into_lists-root_queues.result.0) (length c.into_lists-root_queues.result.1) c.as_slice.result.now kept)
     means c.in_ok-kept.ensures.kept))) in
-    let task : Task g.row.B.Denot g.row.B-Local.Denot = c.root_task-task.result in
+    let task : TaskView g.row.B.Denot g.row.B-Local.Denot = c.root_task-task.result in
     let task-is : task ≡ record (root_task plan (root_holdings plan.roots)) { fuel = c.units-fuel.result } =
     c.root_task-task.ensures
-    ∙ ap {B = Task g.row.B.Denot g.row.B-Local.Denot} (λ (p : Plan g.row.B.Denot g.row.B-Local.Denot). record (root_task p c.in_ok-holdings.holdings.items) { fuel = c.units-fuel.result }) means
-    ∙ ap {B = Task g.row.B.Denot g.row.B-Local.Denot} (λ (hs : List Holding). record (root_task plan hs) { fuel = c.units-fuel.result }) held in
+    ∙ ap {B = TaskView g.row.B.Denot g.row.B-Local.Denot} (λ (p : Plan g.row.B.Denot g.row.B-Local.Denot). record (root_task p c.in_ok-holdings.holdings.items) { fuel = c.units-fuel.result }) means
+    ∙ ap {B = TaskView g.row.B.Denot g.row.B-Local.Denot} (λ (hs : List Holding). record (root_task plan hs) { fuel = c.units-fuel.result }) held in
     subst (HasIt g.B.Body _) (sym c.in-Ok.ensures)
     (opened-has g.B.Body plan sound _ first task plan.root_local c.units-fuel.result c.units-fuel.ensures.units task-is refl)

@@ -1,6 +1,6 @@
 use Rattle.std.proofs.Common.{refl, sym, subst, ap, ◌∙◌, Some}
 use Rattle.task_frames.specs.Cores.{CoreView, IsCore}
-use Rattle.task_frames.specs.Frames.{Task}
+use Rattle.task_frames.specs.Frames.{TaskView}
 use Rattle.task_frames.specs.Resumes.{IsLast, OnGoneOn, ends_of}
 use Rattle.task_frames.proofs.Answered.{gone-on, resumed-so, step-core}
 use Rattle.task_frames.proofs.run_core.Core.resume.Goals as goal
@@ -24,7 +24,7 @@ invariant_of-self-in-Err g c =
 pub answer-resumed-requires-clause-core : goal.answer-resumed-requires-clause-core
 answer-resumed-requires-clause-core g c κs within =
     let View : Type 0 = CoreView g.row.B.Denot g.row.B-Local.Denot in
-    let plan = ap (λ (t : Task g.row.B.Denot g.row.B-Local.Denot). t.plan) c.in-Ok.ensures.task ∙ c.requires.name.0 ∙ ap (λ (v : View). v.plan) (sym c.self.view_is) in
+    let plan = ap (λ (t : TaskView g.row.B.Denot g.row.B-Local.Denot). t.plan) c.in-Ok.ensures.task ∙ c.requires.name.0 ∙ ap (λ (v : View). v.plan) (sym c.self.view_is) in
     subst (λ p. IsCore g.B.Body p c.step.new.self) plan (step-core g.B.Body _ _ _ c.in-Ok-step.step c.in-Ok-step.ensures.step)
 
 pub returns-in-Ok-step-clause-resumed : goal.returns-in-Ok-step-clause-resumed
