@@ -15,7 +15,7 @@ use Rattle.object_versions.specs.Ending.{IsSettling, IsAllPaid, is_other, of_oth
 use Rattle.object_versions.proofs.Counts.{uses_at, present_used, given_used}
 use Rattle.object_versions.proofs.Listing.{place_of, left_of}
 use Rattle.object_versions.proofs.Seeing.{seen_same, seen_some}
-use Rattle.object_versions.proofs.Releasing.{all_others}
+use Rattle.object_versions.proofs.Releasing.{all_others, paid_owes_none}
 
 -- two ways to see each item of a list are the same
 map_same : {A B C : Type 0} (f : A → C) (g : A → B) (h : B → C) (xs : List A) → ((i : ℕ) (x : A) → slice_get xs i ≡ Some x → f x ≡ h (g x)) → map f xs ≡ map h (map g xs)
@@ -37,11 +37,11 @@ unsettled state n o (owed m) none =
 
 module _ (before entries : PlaceEntries) (start now : Slab Node) (made n : ℕ) (begun : IsSettling before entries start now made n) (paid : IsAllPaid entries n) where
   -- no version is owed by the frame any more
-  pub owes_none : (k : ℕ) → 0 < uses k entries → version_at now k ≡ owed n → ⊥
-  owes_none k h is = let owing = begun.whole.owing k n h is in none-some k (sym (paid owing.place owing.has owing.stands) ∙ owing.owes)
+  owes_none : (k : ℕ) → 0 < uses k entries → version_at now k ≡ owed n → ⊥
+  owes_none = paid_owes_none entries now made n begun.whole paid
 
   pub not_begun : IsForgetting entries entries now now made n
-  not_begun = record { whole = begun.whole; owes_none = owes_none; others = refl; same = λ k h. refl }
+  not_begun = record { whole = begun.whole; paid = paid; others = refl; same = λ k h. refl }
 
   abbrev state : VersionState
   state = versions_of before start made
@@ -126,14 +126,11 @@ others_stay n (x ∷ xs) other =
     ∙ ap (λ t. cond (not (x.0.0 == n)) (x ∷ t) t) (others_stay n xs other)
 
 module _ (before entries : PlaceEntries) (start now : Slab Node) (made n : ℕ) (begun : IsSettling before entries start now made n) (paid : IsAllPaid entries n) where
-  abbrev state_before : VersionState
-  state_before = versions_of before start made
-
   abbrev each_ended : Places → Places
-  each_ended places = map (λ (entry : (ℕ × ℕ) × Placed). (entry.0, settle_placed state_before n entry.1)) places
+  each_ended places = map (λ (entry : (ℕ × ℕ) × Placed). (entry.0, settle_placed (versions_of before start made) n entry.1)) places
 
   -- the root's places stay
-  pub root_finished : n ≡ 0 → versions_of entries now made ≡ objects_after_finish state_before n
+  pub root_finished : n ≡ 0 → versions_of entries now made ≡ objects_after_finish (versions_of before start made) n
   root_finished root =
       let stay = all_stay n (map (seen start) before) (eq-eqb n 0 root) in
       let places : map (seen now) entries ≡ each_ended (filter (stays n) (map (seen start) before)) =
@@ -142,7 +139,7 @@ module _ (before entries : PlaceEntries) (start now : Slab Node) (made n : ℕ) 
 
   -- another frame's are forgotten
   pub frame_finished : (n ≡ 0 → ⊥) → (later : PlaceEntries) (new : Slab Node) → IsForgetting entries later now new made n → ((place : ℕ) → place_at later n place ≡ None)
-      → versions_of later new made ≡ objects_after_finish state_before n
+      → versions_of later new made ≡ objects_after_finish (versions_of before start made) n
   frame_finished other later new forgotten none =
       let left : later ≡ of_others n entries = sym (all_others n later none) ∙ forgotten.others in
       let same = seen_same now new later forgotten.same in
@@ -151,7 +148,7 @@ module _ (before entries : PlaceEntries) (start now : Slab Node) (made n : ℕ) 
       same ∙ ap (map (seen now)) left
       ∙ filter_kept {B = Placed} (is_other n) entries (seen now) (λ x. refl)
       ∙ ap (filter (λ x. is_other n x.0)) (seen_settled before entries start now made n begun paid)
-      ∙ sym (filter_kept {B = Placed} (is_other n) (map (seen start) before) (λ entry. (entry.0, settle_placed state_before n entry.1)) (λ x. refl))
+      ∙ sym (filter_kept {B = Placed} (is_other n) (map (seen start) before) (λ entry. (entry.0, settle_placed (versions_of before start made) n entry.1)) (λ x. refl))
       ∙ sym (ap each_ended stay) in
       λ i. record { places = places i; made = made }
     where

@@ -7,8 +7,9 @@ use Rattle.swan_model.specs.declared.value.Value.{Value}
 use Rattle.swan_model.specs.Versions.{settled, owed}
 use Rattle.object_versions.specs.declared.node.Node.{Node}
 use Rattle.object_versions.specs.declared.node.NodeState.TheVariants.{Settled}
+use Rattle.object_versions.specs.declared.placed_object.PlacedObject.{PlacedObject}
 use Rattle.object_versions.specs.Store.{told_of, told_at, version_at, object_at, uses_in}
-use Rattle.object_versions.specs.Whole.{IsCounted}
+use Rattle.object_versions.specs.Whole.{IsCounted, IsFit}
 use Rattle.object_versions.proofs.Counts.{HasNode, counted_after, told_here, told_elsewhere}
 use Rattle.object_versions.proofs.Differ.{settled_not-owed}
 
@@ -17,7 +18,7 @@ module _ (old new : Slab Node) (key : ℕ) (value : Value) (found : HasNode old 
   pub update : Updates old new key (Some (record found.node { state = Settled value }))
   update = change found.node found.is
 
-  pub told_key : told_at new key ≡ (object_at old key, settled value)
+  told_key : told_at new key ≡ (object_at old key, settled value)
   told_key = told_here old new key _ update ∙ ap (λ o. (o, settled value)) (sym (ap (λ o. (told_of o).0) found.is))
 
   pub told_other : (k : ℕ) → k ≢ key → told_at new k ≡ told_at old k
@@ -45,3 +46,17 @@ module _ (old new : Slab Node) (key : ℕ) (value : Value) (found : HasNode old 
       (sym (ap uses_in found.is) ∙ counted.exact key ∙ sym (same key))
       (λ other is. let P : Node → Type 0 = λ o. 0 < o.uses in
       subst P (same_Some (record found.node { state = Settled value }) other is) (counted.live key found.node found.is))
+
+  -- a place that owes another version fits as it did
+  pub fit_still : (made frame : ℕ) (has : PlacedObject) → ((k : ℕ) → has.owes ≡ Some k → k ≢ key) → IsFit old made frame has → IsFit new made frame has
+  fit_still made frame has apart fit = record {
+    known = fit.known;
+    present = same_object has.present ∙ fit.present;
+    given = λ k e. same_object k ∙ fit.given k e;
+    reads = fit.reads;
+    owes = λ k e. let owing = fit.owes k e in record {
+      same = same_object k ∙ owing.same;
+      may = owing.may;
+      by = ap (λ t. t.1) (told_other k (apart k e)) ∙ owing.by;
+    };
+  }

@@ -14,7 +14,7 @@ pub mod Steps
 pub mod References
 pub mod Commuting
 pub mod Seeing
--- an object is made, one is written, and a version is given up
+-- a version gets its value, an object is made, one is written, and a version is given up
 pub mod GetsValue
 pub mod Making
 pub mod Writing
@@ -32,7 +32,7 @@ pub mod Order
 pub mod Walk
 pub mod Listing
 pub mod Settling
-pub mod Paying
+pub mod Debts
 pub mod Releasing
 pub mod Finishing
 -- what objects have is right by a script and a reading, as frames go on

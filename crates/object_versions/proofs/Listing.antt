@@ -39,7 +39,7 @@ find_only {A} {B} p f g (y ∷ ys) v all (suc i) x is passes = by (p (g y)) refl
   by true e rest = ap Some (all zero y refl e)
   by false e rest = rest
 
--- what a frame leaves of an object is what it has where it may write it, where these places are whole with whatever versions
+-- what a frame leaves of an object is what it has where it may write it; the places need only be whole with some versions, not with these
 pub left_of : (entries : PlaceEntries) (nodes other : Slab Node) (made : ℕ) (held : ℕ → ℕ) (n q : ℕ) (has : PlacedObject) (value : Value) → IsWhole entries other made held
     → place_at entries n q ≡ Some has → allows has.mode Out ≡ true → version_at nodes has.present ≡ settled value
     → left_by (versions_of entries nodes made) n has.object ≡ Some (settled value)

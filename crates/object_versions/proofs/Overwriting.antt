@@ -14,7 +14,7 @@ use Rattle.object_versions.specs.Store.{PlaceEntries, place_at, given_of, KeepsO
 use Rattle.object_versions.specs.Whole.{IsWhole, HasOwn}
 use Rattle.object_versions.proofs.Lookups.{here, at_set, still_set, cases_place}
 use Rattle.object_versions.proofs.Counts.{HasNode, one_self, one_other, used, uses_at, uses_set, present_used, owes_used}
-use Rattle.object_versions.proofs.GetsValue.{update, told_other, value_now, same_object, owed_before, counted_still}
+use Rattle.object_versions.proofs.GetsValue.{update, told_other, value_now, owed_before, counted_still, fit_still}
 use Rattle.object_versions.proofs.Seeing.{seen_same, seen_set, seen_some}
 
 -- what is set twice has what was set last
@@ -81,17 +81,7 @@ module _ (entries : PlaceEntries) (old new : Slab Node) (made f p : ℕ) (was : 
   overwritten_whole = record {
     sorted = whole.sorted;
     counted = counted_still old new was.present value found change (λ k. uses k entries + 0) (λ k. uses k entries + 0) whole.counted (λ k. refl);
-    fits = λ frame place other is. let fit = whole.fits frame place other is in record {
-      known = fit.known;
-      present = same_object old new was.present value found change other.present ∙ fit.present;
-      given = λ k e. same_object old new was.present value found change k ∙ fit.given k e;
-      reads = fit.reads;
-      owes = λ k e. let owes = fit.owes k e in record {
-        same = same_object old new was.present value found change k ∙ owes.same;
-        may = owes.may;
-        by = ap (λ t. t.1) (told_other old new was.present value found change k (owes_apart frame place other k is e)) ∙ owes.by;
-      };
-    };
+    fits = λ frame place other is. fit_still old new was.present value found change made frame other (λ k e. owes_apart frame place other k is e) (whole.fits frame place other is);
     owing = λ k m h is. whole.owing k m h (owed_before old new was.present value found change k m is);
     alone = whole.alone;
   }

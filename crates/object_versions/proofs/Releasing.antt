@@ -7,14 +7,14 @@ use Rattle.std.specs.BTreeMap.{is_at}
 use Rattle.std.specs.Map.{remove_entry, keys_of}
 use Rattle.std.specs.List.Sorted.{IsStrictlySortedBy}
 use Rattle.slab.specs.Slab.{Slab, get, Updates}
-use Rattle.swan_model.specs.Versions.{place_cmp}
+use Rattle.swan_model.specs.Versions.{owed, place_cmp}
 use Rattle.object_versions.specs.declared.node.Node.{Node}
 use Rattle.object_versions.specs.declared.placed_object.PlacedObject.{PlacedObject}
-use Rattle.object_versions.specs.Store.{PlaceEntries, place_at, one, one_of, uses_of, uses, after_release}
+use Rattle.object_versions.specs.Store.{PlaceEntries, place_at, version_at, one, one_of, uses_of, uses, after_release}
 use Rattle.object_versions.specs.Whole.{IsWhole}
-use Rattle.object_versions.specs.Ending.{IsReleased, is_other, of_others, IsForgetting}
+use Rattle.object_versions.specs.Ending.{IsPaid, IsAllPaid, IsReleased, is_other, of_others, IsForgetting}
 use Rattle.object_versions.proofs.Counts.{one_self, one_other, uses_without}
-use Rattle.object_versions.proofs.Lookups.{equal_at, tied}
+use Rattle.object_versions.proofs.Lookups.{after_removal, equal_at, tied}
 use Rattle.object_versions.proofs.Steps.{go_out}
 use Rattle.object_versions.proofs.References.{released_whole, released_same}
 use Rattle.object_versions.proofs.Referred.{referred_there}
@@ -57,34 +57,17 @@ second_there entries a b made has present whole key is =
     let self = one_self key in let here : one_of key has.given ≡ one key key = ap (one_of key) is in
     referred_there entries b made (λ k. one_of k has.given + one_of k has.owes) key first.whole (omega (arith, self, here))
 
--- Three in a row: the place's present version, the given one and the owed one. Each is there when it is released.
-module _ (entries : PlaceEntries) (a b c : Slab Node) (made : ℕ) (has : PlacedObject)
-    (present : (held later : ℕ → ℕ) → IsWhole entries a made held → ((k : ℕ) → held k ≡ later k + one k has.present) → IsReleased entries a b made later)
-    (given : (held later : ℕ → ℕ) → IsWhole entries b made held → ((k : ℕ) → held k ≡ later k + one_of k has.given) → IsReleased entries b c made later)
-    (whole : IsWhole entries a made (λ k. uses_of k has)) where
-  released_first : IsReleased entries a b made (λ k. one_of k has.given + one_of k has.owes)
-  released_first = present (λ k. uses_of k has) (λ k. one_of k has.given + one_of k has.owes) whole (λ k. omega arith)
-
-  released_second : IsReleased entries b c made (λ k. one_of k has.owes)
-  released_second = given (λ k. one_of k has.given + one_of k has.owes) (λ k. one_of k has.owes) released_first.whole (λ k. omega arith)
-
-  pub third_there : (key : ℕ) → has.owes ≡ Some key → IsSome (get c key)
-  third_there key is =
-      let self = one_self key in let here : one_of key has.owes ≡ one key key = ap (one_of key) is in
-      referred_there entries c made (λ k. one_of k has.owes) key released_second.whole (omega (arith, self, here))
-
-pub released_all : (entries : PlaceEntries) (a b c d : Slab Node) (made : ℕ) (has : PlacedObject)
+-- two in a row, where nothing is owed for the place: its present version, and the given one
+pub released_all : (entries : PlaceEntries) (a b c : Slab Node) (made : ℕ) (has : PlacedObject) → IsPaid has
     → ((held later : ℕ → ℕ) → IsWhole entries a made held → ((k : ℕ) → held k ≡ later k + one k has.present) → IsReleased entries a b made later)
     → ((held later : ℕ → ℕ) → IsWhole entries b made held → ((k : ℕ) → held k ≡ later k + one_of k has.given) → IsReleased entries b c made later)
-    → ((held later : ℕ → ℕ) → IsWhole entries c made held → ((k : ℕ) → held k ≡ later k + one_of k has.owes) → IsReleased entries c d made later)
-    → IsWhole entries a made (λ k. uses_of k has) → IsReleased entries a d made (λ _. 0)
-released_all entries a b c d made has present given owes whole =
-    let first = released_first entries a b c made has present given whole in
-    let second = released_second entries a b c made has present given whole in
-    let third = owes (λ k. one_of k has.owes) (λ _. 0) second.whole (λ k. omega arith) in
+    → IsWhole entries a made (λ k. uses_of k has) → IsReleased entries a c made (λ _. 0)
+released_all entries a b c made has paid present given whole =
+    let first = present (λ k. uses_of k has) (λ k. one_of k has.given) whole (λ k. let none : one_of k has.owes ≡ 0 = ap (one_of k) paid in omega (arith, none)) in
+    let second = given (λ k. one_of k has.given) (λ _. 0) first.whole (λ k. omega arith) in
     record {
-      whole = third.whole;
-      same = λ k h. third.same k h ∙ second.same k (omega arith) ∙ first.same k (omega arith);
+      whole = second.whole;
+      same = λ k h. second.same k h ∙ first.same k (omega arith);
     }
 
 -- ---- the entries of the other frames
@@ -126,6 +109,12 @@ all_others frame (e ∷ es) none = by (e.0.0 == frame) refl (all_others frame es
 
 -- ---- one place more is forgotten
 
+-- of a frame that owes nothing no version is owed by it
+pub paid_owes_none : (entries : PlaceEntries) (nodes : Slab Node) (made frame : ℕ) → IsWhole entries nodes made (λ _. 0) → IsAllPaid entries frame
+    → (k : ℕ) → 0 < uses k entries → version_at nodes k ≡ owed frame → ⊥
+paid_owes_none entries nodes made frame whole paid k h is =
+    let owing = whole.owing k frame h is in none-some k (sym (paid owing.place owing.has owing.stands) ∙ owing.owes)
+
 -- its versions are still referred to until they are released
 pub taken_out : (before now later : PlaceEntries) (old new : Slab Node) (made frame at : ℕ) (has : PlacedObject) → IsForgetting before now old new made frame
     → place_at now frame at ≡ Some has → later ≡ remove_entry (is_at (place_cmp (frame, at))) now → IsStrictlySortedBy place_cmp (keys_of later)
@@ -134,7 +123,7 @@ taken_out before now later old new made frame at has forgetting stands without s
     let Q : PlaceEntries → Type 0 = λ es. IsStrictlySortedBy place_cmp (keys_of es) in
     let W : PlaceEntries → Type 0 = λ es. IsWhole es new made (λ k. uses_of k has) in
     subst W (sym without)
-    (go_out now new made (λ _. 0) (λ k. uses_of k has) frame at has forgetting.whole stands forgetting.owes_none (λ k. omega arith) (subst Q without sorted))
+    (go_out now new made (λ _. 0) (λ k. uses_of k has) frame at has forgetting.whole stands (paid_owes_none now new made frame forgetting.whole forgetting.paid) (λ k. omega arith) (subst Q without sorted))
 
 pub forgot_one : (before now later : PlaceEntries) (old new next : Slab Node) (made frame at : ℕ) (has : PlacedObject) → IsForgetting before now old new made frame
     → place_at now frame at ≡ Some has → later ≡ remove_entry (is_at (place_cmp (frame, at))) now → IsStrictlySortedBy place_cmp (keys_of later)
@@ -147,8 +136,9 @@ forgot_one before now later old new next made frame at has forgetting stands wit
     let same : uses k later ≡ uses k left = ap (uses k) without in omega (arith, sums, same) in
     record {
       whole = done.whole;
-      owes_none = λ k h is. let less = fewer k in
-          forgetting.owes_none k (omega (arith, less)) (sym (ap (λ t. t.1) (done.same k (omega arith))) ∙ is);
+      paid = λ place other is.
+          let gone : place_at left frame place ≡ Some other = ap (λ es. place_at es frame place) (sym without) ∙ is in
+          forgetting.paid place other (after_removal now (frame, at) (frame, place) other forgetting.whole.sorted gone).was;
       others = ap (of_others frame) without ∙ others_without frame at now ∙ forgetting.others;
       same = λ k h. let less = fewer k in done.same k (omega arith) ∙ forgetting.same k (omega (arith, less));
     }

@@ -18,8 +18,8 @@ use Rattle.object_versions.specs.Whole.{IsFit, HasOwing, IsWhole}
 use Rattle.object_versions.specs.Ending.{IsDebt, IsSettling}
 use Rattle.object_versions.proofs.Lookups.{here, IsNewEntry, IsOldEntry, after_set, still_set}
 use Rattle.object_versions.proofs.Counts.{HasNode, used, uses_at, uses_changed, one_self, one_other, present_used, owes_used}
-use Rattle.object_versions.proofs.GetsValue.{told_other, value_now, same_object, owed_apart, owed_before, counted_still}
-use Rattle.object_versions.proofs.Steps.{alone_set}
+use Rattle.object_versions.proofs.GetsValue.{told_other, value_now, same_object, owed_apart, owed_before, counted_still, fit_still}
+use Rattle.object_versions.proofs.Steps.{alone_set, fits_set}
 use Rattle.swan_model.proofs.Elements.{some_is}
 use Rattle.object_versions.proofs.References.{released_whole, released_same}
 use Rattle.object_versions.proofs.Referred.{owes_there}
@@ -84,36 +84,18 @@ module _ (now later : PlaceEntries) (nodes middle next : Slab Node) (made f p : 
       let elsewhere : place ≢ p = λ tie. apart (λ i. (same i, tie i)) in
       writes_not-in other.mode theirs.may (whole.alone f place p other was here stands elsewhere (sym theirs.same ∙ mine.same)).0
 
-  fit_other : (frame place : ℕ) (other : PlacedObject) → (let n : ℕ × ℕ = (frame, place) in n ≢ (f, p)) → place_at now frame place ≡ Some other → IsFit middle made frame other
-  fit_other frame place other apart is = let fit = whole.fits frame place other is in record {
+  fit_paid : IsFit nodes made f paid
+  fit_paid = let fit = whole.fits f p was stands in record {
     known = fit.known;
-    present = same_object nodes middle key value found change other.present ∙ fit.present;
-    given = λ k e. same_object nodes middle key value found change k ∙ fit.given k e;
-    reads = fit.reads;
-    owes = λ k e. let owing = fit.owes k e in record {
-      same = same_object nodes middle key value found change k ∙ owing.same;
-      may = owing.may;
-      by = ap (λ t. t.1) (told_other nodes middle key value found change k (owes_apart frame place other k apart is e)) ∙ owing.by;
-    };
-  }
-
-  fit_here : IsFit middle made f paid
-  fit_here = let fit = whole.fits f p was stands in record {
-    known = fit.known;
-    present = same_object nodes middle key value found change was.present ∙ fit.present;
-    given = λ k e. same_object nodes middle key value found change k ∙ fit.given k e;
+    present = fit.present;
+    given = fit.given;
     reads = fit.reads;
     owes = λ k e. absurd (none-some k e);
   }
 
   fit_after : (frame place : ℕ) (has : PlacedObject) → place_at after frame place ≡ Some has → IsFit middle made frame has
-  fit_after frame place has is = ⊎_elim
-      (λ (x : IsNewEntry (f, p) (frame, place) paid has).
-      let P : ℕ → Type 0 = λ m. IsFit middle made m has in
-      let Q : PlacedObject → Type 0 = λ o. IsFit middle made f o in
-      subst P (sym (ap (λ (k : ℕ × ℕ). k.0) x.same)) (subst Q (sym x.is) fit_here))
-      (λ (x : IsOldEntry now (f, p) (frame, place) has). fit_other frame place has x.apart x.was)
-      (after_set now (f, p) was paid (frame, place) has stands is)
+  fit_after = fits_set now middle made f p was paid stands (fit_still nodes middle key value found change made f paid (λ k e. absurd (none-some k e)) fit_paid)
+      (λ frame place has apart is. fit_still nodes middle key value found change made frame has (λ k e. owes_apart frame place has k apart is e) (whole.fits frame place has is))
 
   owing_after : (k m : ℕ) → 0 < uses k after → version_at middle k ≡ owed m → HasOwing after k m
   owing_after k m some is =
@@ -221,7 +203,7 @@ module _ (before now : PlaceEntries) (start nodes : Slab Node) (made n place pre
   pub debt_reads : (value : Value) × (version_at nodes present ≡ settled value)
   debt_reads =
       let read = reads_value before now start nodes made n begun place debt.has debt.stands in
-      (read.0, ap (version_at nodes) (sym debt.shows) ∙ read.1)
+      (read.0, ap (version_at nodes) (sym debt.has_present) ∙ read.1)
 
   pub debt_there : IsSome (get nodes owed)
   debt_there = owes_there now nodes made n place debt.has begun.whole debt.stands owed debt.owes

@@ -134,6 +134,18 @@ module _ (entries : PlaceEntries) (nodes : Slab Node) (made : ℕ) (held later :
 
 -- ---- what is kept at a place changes
 
+-- where what stands there now fits, and each other place does, all do
+pub fits_set : (entries : PlaceEntries) (nodes : Slab Node) (made f p : ℕ) (was changed : PlacedObject) → place_at entries f p ≡ Some was → IsFit nodes made f changed
+    → ((frame place : ℕ) (has : PlacedObject) → (let n : ℕ × ℕ = (frame, place) in n ≢ (f, p)) → place_at entries frame place ≡ Some has → IsFit nodes made frame has)
+    → (frame place : ℕ) (has : PlacedObject) → place_at (set_value (is_at (place_cmp (f, p))) entries changed) frame place ≡ Some has → IsFit nodes made frame has
+fits_set entries nodes made f p was changed stands fit others frame place has is = ⊎_elim
+    (λ (x : IsNewEntry (f, p) (frame, place) changed has).
+    let P : ℕ → Type 0 = λ n. IsFit nodes made n has in
+    let Q : PlacedObject → Type 0 = λ o. IsFit nodes made f o in
+    subst P (sym (ap (λ (k : ℕ × ℕ). k.0) x.same)) (subst Q (sym x.is) fit))
+    (λ (x : IsOldEntry entries (f, p) (frame, place) has). others frame place has x.apart x.was)
+    (after_set entries (f, p) was changed (frame, place) has stands is)
+
 module _ (entries : PlaceEntries) (f p : ℕ) (was changed : PlacedObject) (stands : place_at entries f p ≡ Some was) (same_object : changed.object ≡ was.object) (same_mode : changed.mode ≡ was.mode) where
   -- what a place has now has the object and the mode of what it had
   record Had (n : ℕ × ℕ) (has : PlacedObject) : Type 0 where
@@ -201,13 +213,7 @@ module _ (entries : PlaceEntries) (nodes : Slab Node) (made : ℕ) (held later :
     sorted = sorted;
     counted = same_count nodes (λ k. uses k entries + held k) (λ k. uses k with_changed + later k) whole.counted
         (λ k. let sums = uses_changed entries k f p was changed stands in let count = counts k in omega (arith, sums, count));
-    fits = λ frame place has is. ⊎_elim
-        (λ (x : IsNewEntry (f, p) (frame, place) changed has).
-        let P : ℕ → Type 0 = λ n. IsFit nodes made n has in
-        let Q : PlacedObject → Type 0 = λ o. IsFit nodes made f o in
-        subst P (sym (ap (λ (k : ℕ × ℕ). k.0) x.same)) (subst Q (sym x.is) fit))
-        (λ (x : IsOldEntry entries (f, p) (frame, place) has). whole.fits frame place has x.was)
-        (after_set entries (f, p) was changed (frame, place) has stands is);
+    fits = fits_set entries nodes made f p was changed stands fit (λ frame place has apart is. whole.fits frame place has is);
     owing = owing_now owing;
     alone = alone_set entries f p was changed stands same_object same_mode whole.alone;
   }

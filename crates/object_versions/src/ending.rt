@@ -8,7 +8,7 @@ ghost use Rattle.object_versions.specs.declared.node.Node.{Node as TheNode};
 ghost use Rattle.object_versions.specs.declared.placed_object.PlacedObject.{PlacedObject as ThePlacedObject};
 ghost use Rattle.object_versions.specs.Store.{PlaceEntries, place_at, one_of, uses_of};
 ghost use Rattle.object_versions.specs.Whole.{IsWhole};
-ghost use Rattle.object_versions.specs.Ending.{IsDebt, IsPaidBefore, IsAllPaid, IsSettling, IsReleased, IsForgetting};
+ghost use Rattle.object_versions.specs.Ending.{IsDebt, IsPaid, IsPaidBelow, IsAllPaid, IsSettling, IsReleased, IsForgetting};
 
 use crate::nodes::{overwrite, release, value_at};
 use crate::places::{first_place, forget_owed, take_out};
@@ -28,13 +28,12 @@ pub struct Debt {
     pub owed: usize,
 }
 
-/// What a frame owes for the first of its places for which it owes a version, where it owes none for those before this
-/// one. `O(m + log n)` for the m places of the frame from this one to that, and n places of all frames; it takes no
-/// memory.
+/// The first debt of a frame at its places from this one on, where it owes nothing for the lower ones; None comes exactly
+/// where it owes nothing. `O(m + log n)` for the m places that it looks at, and n places of all frames; it takes no memory.
 fn next_debt(places: &BTreeMap<(u64, u32), PlacedObject>, frame: u64, from: u32) -> Option<Debt>
-    requires before { IsPaidBefore places.now.entries frame from }
+    requires below { IsPaidBelow places.now.entries frame from }
     ensures owes { IfSome result (λ debt. IsDebt places.now.entries frame debt.place debt.present debt.owed) }
-    ensures before { IfSome result (λ debt. IsPaidBefore places.now.entries frame debt.place) }
+    ensures below { IfSome result (λ debt. IsPaidBelow places.now.entries frame debt.place) }
     ensures none { IfNone result (IsAllPaid places.now.entries frame) }
 {
     for (&(owner, place), object) in places.range((frame, from)..) {
@@ -52,8 +51,8 @@ fn next_debt(places: &BTreeMap<(u64, u32), PlacedObject>, frame: u64, from: u32)
     None
 }
 
-/// Gives the version that a frame owes for a place the frame's value there, and the frame owes it no more.
-/// `O(log n)`.
+/// Gives the version that a frame owes for a place the frame's value there, and the frame owes it no more. Err is want of
+/// memory for a copy of the value. `O(log n)`.
 fn pay(
     places: &mut BTreeMap<(u64, u32), PlacedObject>,
     nodes: &mut Slab<Node>,
@@ -113,17 +112,17 @@ fn release_one(nodes: &mut Slab<Node>, key: Option<usize>)
     }
 }
 
-/// Releases the versions to which a place referred. `O(1)`; it takes no memory.
+/// Releases the versions to which a place referred for which nothing is owed. `O(1)`; it takes no memory.
 fn release_all(nodes: &mut Slab<Node>, place: &PlacedObject)
     requires whole { (entries : PlaceEntries) × (made : ℕ) × IsWhole entries nodes.old made (λ k. uses_of k place.now) }
+    requires paid { IsPaid place.now }
     ensures { (entries : PlaceEntries) (made : ℕ) → IsWhole entries nodes.old made (λ k. uses_of k place.now) → IsReleased entries nodes.old nodes.new made (λ _. 0) }
 {
     release_one(nodes, Some(place.present));
     release_one(nodes, place.given);
-    release_one(nodes, place.owes);
 }
 
-/// Forgets all places of a frame. `O(k log n)` for k objects of the frame; it takes no memory.
+/// Forgets all places of a frame that owes nothing. `O(k log n)` for k objects of the frame; it takes no memory.
 pub fn forget_all(
     places: &mut BTreeMap<(u64, u32), PlacedObject>,
     nodes: &mut Slab<Node>,

@@ -1,5 +1,5 @@
 // Laws of renamed objects, and of those that follow a reading.
-ghost use Rattle.std.specs.Prelude.{◌≡◌, ◌≢◌, ◌⊎◌, ℕ, ◌<◌, IsTrue, List, [], ◌∷◌, ◌++◌, false, filter, length, Some, None};
+ghost use Rattle.std.specs.Prelude.{◌≡◌, ◌≢◌, ◌⊎◌, ℕ, ◌<◌, IsTrue, List, [], false, filter, length, Some, None};
 ghost use Rattle.std.specs.Option.{option_map};
 ghost use Rattle.swan_model.specs.declared.origin.Origin.{Origin};
 ghost use Rattle.swan_model.specs.declared.rights.Mode.{Mode};
@@ -15,7 +15,7 @@ ghost use Rattle.swan_model.specs.PathOrder.{comes_before};
 ghost use Rattle.swan_model.specs.Readings.{gone_on, next_deed, reading_after_spawn};
 ghost use Rattle.swan_model.specs.SerialTime.{Progress, Reading, frame_of, is_earlier, times};
 ghost use Rattle.swan_model.specs.Values.{kind_of};
-ghost use Rattle.swan_model.specs.Versions.{settled, owed, Awaits, IsSettled, Placed, VersionState, after_access, objects_after_create, objects_after_finish, after_write, got, left_with, placed_at, settle_placed};
+ghost use Rattle.swan_model.specs.Versions.{settled, owed, IsSettled, Placed, VersionState, after_access, objects_after_create, objects_after_finish, after_write, got, left_with, placed_at, settle_placed};
 ghost use Rattle.swan_model.specs.VersionsFollow.{Access, ObjectsFollow, IsGiving, IsNewFrame, NextSpawnGivesObjects, is_object_deed, is_object_give};
 ghost use Rattle.object_versions.specs.Following.{ChildrenHaveNone, IsElsewhere, OnAwaited, WaitsForNone};
 

@@ -1,6 +1,6 @@
 use Rattle.std.proofs.Common.{sym, subst, ◌∙◌}
 use Rattle.object_versions.specs.Store.{PlaceEntries}
-use Rattle.object_versions.proofs.Paying.{IsPaid}
+use Rattle.object_versions.specs.Ending.{IsPaid}
 use Rattle.object_versions.proofs.Walk.{IsWalk, begins, goes_on, ends_at, done_before}
 use Rattle.object_versions.proofs.ending.next_debt.Goals as goal
 
@@ -11,7 +11,7 @@ loop-owner-init c =
       tt,
       tt,
       subst P (sym (c.into_iter-owner-iterator.ensures.into_iter_gives ∙ c.range-owner-items.ensures.between tt))
-          (begins entries c.args.frame c.args.from IsPaid c.range-owner-items.ensures.ordered c.requires.before),
+          (begins entries c.args.frame c.args.from IsPaid c.range-owner-items.ensures.ordered c.requires.below),
     )
 
 pub returns-then-owner-frame-clause-none : goal.returns-then-owner-frame-clause-none
@@ -19,8 +19,8 @@ returns-then-owner-frame-clause-none c =
     let walk = rw c.in-Some.ensures.steps at c.loop-owner.invariant.2 in
     ends_at _ _ _ _ _ walk c.if-owner-frame.true
 
-pub returns-in-Some-owes-clause-before : goal.returns-in-Some-owes-clause-before
-returns-in-Some-owes-clause-before c = λ place has less is.
+pub returns-in-Some-owes-clause-below : goal.returns-in-Some-owes-clause-below
+returns-in-Some-owes-clause-below c = λ place has less is.
     let walk = rw c.in-Some.ensures.steps at c.loop-owner.invariant.2 in
     done_before _ _ _ _ _ walk c.if-owner-frame.false place has less is
 

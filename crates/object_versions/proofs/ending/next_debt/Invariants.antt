@@ -1,4 +1,4 @@
-use Rattle.object_versions.proofs.Paying.{IsPaid}
+use Rattle.object_versions.specs.Ending.{IsPaid}
 use Rattle.object_versions.proofs.Walk.{IsWalk}
 use Rattle.object_versions.proofs.ending.next_debt.Given as goal
 

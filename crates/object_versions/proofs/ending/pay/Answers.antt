@@ -28,4 +28,4 @@ returns-clause-settling c = λ before start made begun.
     let debt = c.requires.owes in
     settling_next _ _ _ _ _ made c.args.frame c.args.debt.place debt.has c.args.debt.owed _ begun.whole debt.stands debt.owes c.overwrite.ensures
     (c.forget_owed.ensures.set debt.has debt.stands) c.forget_owed.ensures.sorted c.release.ensures before start begun
-    (ap (version_at c.args.nodes.now) debt.shows ∙ c.in-Ok.ensures.ok ∙ ap settled (sym c.in_ok-value-in-Ok.ensures))
+    (ap (version_at c.args.nodes.now) debt.has_present ∙ c.in-Ok.ensures.ok ∙ ap settled (sym c.in_ok-value-in-Ok.ensures))

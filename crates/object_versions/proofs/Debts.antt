@@ -1,4 +1,4 @@
--- What a frame owes is paid place by place.
+-- For how many places versions are owed, and for which none is any more.
 use Rattle.std.proofs.Common.{◌≡◌, ℕ, ◌+◌, Option, None, Some, sym, ap, ◌∙◌, arith, ⊎_elim}
 use Rattle.std.proofs.lemmas.Map.Entries.{sum_by-set_value}
 use Rattle.std.specs.BTreeMap.{is_at}
@@ -7,13 +7,10 @@ use Rattle.std.specs.Map.{set_value, values_of}
 use Rattle.swan_model.specs.Versions.{place_cmp}
 use Rattle.object_versions.specs.declared.placed_object.PlacedObject.{PlacedObject}
 use Rattle.object_versions.specs.Store.{PlaceEntries, place_at}
-use Rattle.object_versions.specs.Ending.{IsPaidBefore}
+use Rattle.object_versions.specs.Ending.{IsPaidBelow}
 use Rattle.object_versions.proofs.Lookups.{IsNewEntry, IsOldEntry, after_set}
 
--- nothing is owed for this place
-abbrev pub IsPaid : PlacedObject → Type 0
-IsPaid has = has.owes ≡ None
-
+-- one where there is one
 abbrev one_if : Option ℕ → ℕ
 one_if None = 0
 one_if (Some key) = 1
@@ -32,8 +29,8 @@ module _ (now later : PlaceEntries) (f p key : ℕ) (was : PlacedObject) (stands
       let same = ap debts set in
       omega (arith, sums, there, same)
 
-  pub paid_before : IsPaidBefore now f p → IsPaidBefore later f p
-  paid_before before place has less is = ⊎_elim
+  pub paid_below : IsPaidBelow now f p → IsPaidBelow later f p
+  paid_below before place has less is = ⊎_elim
       (λ (x : IsNewEntry (f, p) (f, place) (record was { owes = None }) has). ap (λ o. o.owes) x.is)
       (λ (x : IsOldEntry now (f, p) (f, place) has). before place has less x.was)
       (after_set now (f, p) was (record was { owes = None }) (f, place) has stands (ap (λ es. place_at es f place) (sym set) ∙ is))
