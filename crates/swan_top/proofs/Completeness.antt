@@ -19,7 +19,7 @@ use Rattle.swan_outside.specs.Told.{Tells}
 use Rattle.swan_outside.specs.declared.files.TheConstants.{FILE_MOST}
 use Rattle.swan_top.specs.Command.{Command, help, version, check, elide, run, index, convert, bulk}
 use Rattle.swan_top.specs.Completeness.{IsTold, AreTold, NothingFailed, RunsInOrder, ChecksInOrder, TextInOrder, InOrder, GeneratedInOrder, Completes, CompletesWell, EndsWell}
-use Rattle.swan_top.specs.Decision.{Verdict, prints, refuses, Next, reads, settled, next, files_of, unread, unless_unread, accepted, checked, generated, ran, printed, unless_refused, unless_unfit, next_of_check, next_of_job, next_of_run, next_of_text}
+use Rattle.swan_top.specs.Decision.{Verdict, prints, refuses, Decision, reads, settled, decision, files_of, unread, unless_unread, accepted, checked, generated, ran, printed, unless_refused, unless_unfit, decision_of_check, decision_of_job, decision_of_run, decision_of_text}
 use Rattle.swan_top.specs.Elisions.{Elisions, cheapest, conversion_end, index_end}
 use Rattle.swan_top.specs.Headline.{CallSeen, FilesSeen, SinkSeen, Answers, WereRead, WasRead, Ends, FailedToWrite, Follows, ReadRefused, Settles, Wrote, status_of_verdict, usage}
 use Rattle.swan_top.specs.declared.status.Status.{Status}
@@ -71,13 +71,13 @@ not_refused files file text verdict told well (inr longer) =
     omega arith
 
 module _ (files : FilesSeen) (well : ¬ Rose files.faults_before files.faults_after) (verdict verdict' : Verdict) where
-  check_settles : (job text : List ℕ) (read : List (List ℕ)) → IsTold (files.content job) text → ChecksInOrder text verdict → WereRead files.content (job ∷ []) read → Follows files (next_of_check job read) verdict' → verdict' ≡ verdict
+  check_settles : (job text : List ℕ) (read : List (List ℕ)) → IsTold (files.content job) text → ChecksInOrder text verdict → WereRead files.content (job ∷ []) read → Follows files (decision_of_check job read) verdict' → verdict' ≡ verdict
   check_settles job text [] told order is follows = absurd (not_refused files job text verdict' told well follows)
   check_settles job text (x ∷ xs) told order is follows =
       let same : x ≡ text = told_text (files.content job) text x told is.0 in
       follows.0 ∙ ap (λ t. checked (accepted t)) same ∙ ap checked order.is_accepted ∙ sym order.prints_text
 
-  text_settles : (end_over : List ℕ → RunEnd) (input text : List ℕ) (read : List (List ℕ)) → IsTold (files.content input) text → TextInOrder end_over text verdict → WereRead files.content (input ∷ []) read → Follows files (next_of_text end_over input read) verdict' → verdict' ≡ verdict
+  text_settles : (end_over : List ℕ → RunEnd) (input text : List ℕ) (read : List (List ℕ)) → IsTold (files.content input) text → TextInOrder end_over text verdict → WereRead files.content (input ∷ []) read → Follows files (decision_of_text end_over input read) verdict' → verdict' ≡ verdict
   text_settles end_over input text [] told order is follows = absurd (not_refused files input text verdict' told well follows)
   text_settles end_over input text (x ∷ xs) told order is follows =
       let same : x ≡ text = told_text (files.content input) text x told is.0 in
@@ -86,9 +86,9 @@ module _ (files : FilesSeen) (well : ¬ Rose files.faults_before files.faults_af
 
   module _ (end_of : Plan (List Line) Standing → RunEnd) where
     -- a job and inputs that are at hand
-    at_hand : (fuel : ℕ) (text : List ℕ) (inputs : List (List ℕ)) → RunsInOrder end_of fuel text inputs verdict → Follows files (next_of_job end_of fuel [] (accepted text) inputs) verdict' → verdict' ≡ verdict
+    at_hand : (fuel : ℕ) (text : List ℕ) (inputs : List (List ℕ)) → RunsInOrder end_of fuel text inputs verdict → Follows files (decision_of_job end_of fuel [] (accepted text) inputs) verdict' → verdict' ≡ verdict
     at_hand fuel text inputs order follows =
-        let P : Result (List Line) JobFault → Type 0 = λ r. Follows files (next_of_job end_of fuel [] r inputs) verdict' in
+        let P : Result (List Line) JobFault → Type 0 = λ r. Follows files (decision_of_job end_of fuel [] r inputs) verdict' in
         let comes = subst P order.is_accepted follows in
         comes.0 ∙ ap (λ why. unless_refused end_of order.lines inputs fuel why) order.none_refused ∙ sym order.prints_outcome
 
@@ -96,11 +96,11 @@ module _ (files : FilesSeen) (well : ¬ Rose files.faults_before files.faults_af
     unfolding generated GeneratedInOrder
     generated_settles number size = at_hand (bulk_fuel size) (bulk_job size) (bulk_input number size ∷ [])
 
-    run_settles : (fuel : ℕ) (job text : List ℕ) (names inputs read : List (List ℕ)) → IsTold (files.content job) text → AreTold files.content names inputs → RunsInOrder end_of fuel text inputs verdict → WereRead files.content (job ∷ names) read → Follows files (next_of_run end_of fuel job names read) verdict' → verdict' ≡ verdict
+    run_settles : (fuel : ℕ) (job text : List ℕ) (names inputs read : List (List ℕ)) → IsTold (files.content job) text → AreTold files.content names inputs → RunsInOrder end_of fuel text inputs verdict → WereRead files.content (job ∷ names) read → Follows files (decision_of_run end_of fuel job names read) verdict' → verdict' ≡ verdict
     run_settles fuel job text names inputs [] told all order is follows = absurd (not_refused files job text verdict' told well follows)
     run_settles fuel job text names inputs (x ∷ xs) told all order is follows =
         let same : accepted x ≡ Ok order.lines = ap (λ t. accepted t) (told_text (files.content job) text x told is.0) ∙ order.is_accepted in
-        let P : Result (List Line) JobFault → Type 0 = λ r. Follows files (next_of_job end_of fuel names r xs) verdict' in
+        let P : Result (List Line) JobFault → Type 0 = λ r. Follows files (decision_of_job end_of fuel names r xs) verdict' in
         let Q : List (List ℕ) → Option (List ℕ) → Type 0 = λ inputs' file. Follows files (unless_unread file (ran end_of order.lines inputs' fuel)) verdict' in
         let comes : Q xs (unread names xs) = subst P same follows in
         elim (front_told files.content names inputs xs all is.1) [
@@ -183,12 +183,12 @@ module _ (end_of : Plan (List Line) Standing → RunEnd) where
   unless_unread_ends None verdict v never is ends = let same : verdict ≡ v = cc in never (ap status_of_verdict same ∙ ends)
   unless_unread_ends (Some file) verdict v never is ends = cc
 
-  job_ends : (fuel : ℕ) (names : List (List ℕ)) (job : Result (List Line) JobFault) (inputs : List (List ℕ)) (v : Verdict) → next_of_job end_of fuel names job inputs ≡ settled v → status_of_verdict v ≡ status.ReadFailed → ⊥
+  job_ends : (fuel : ℕ) (names : List (List ℕ)) (job : Result (List Line) JobFault) (inputs : List (List ℕ)) (v : Verdict) → decision_of_job end_of fuel names job inputs ≡ settled v → status_of_verdict v ≡ status.ReadFailed → ⊥
   job_ends fuel names (Ok lines) inputs v is ends =
       unless_unread_ends (unread names inputs) (ran end_of lines inputs fuel) v (ran_ends lines inputs fuel (refusal_of_plan lines inputs)) is ends
   job_ends fuel names (Err fault) inputs v is ends = cc
 
-  run_ends : (fuel : ℕ) (job : List ℕ) (names texts : List (List ℕ)) (v : Verdict) → next_of_run end_of fuel job names texts ≡ settled v → status_of_verdict v ≡ status.ReadFailed → ⊥
+  run_ends : (fuel : ℕ) (job : List ℕ) (names texts : List (List ℕ)) (v : Verdict) → decision_of_run end_of fuel job names texts ≡ settled v → status_of_verdict v ≡ status.ReadFailed → ⊥
   run_ends fuel job names [] v is ends = cc
   run_ends fuel job names (text ∷ inputs) v is ends = job_ends fuel names (accepted text) inputs v is ends
 
@@ -200,7 +200,7 @@ unfit_ends : (why : Option LinesAnswer) (end : RunEnd) → status_of_verdict (un
 unfit_ends None end is = status_ends end.how (has_fault end.outcome) is
 unfit_ends (Some why) end is = cc
 
-text_ends : (end_over : List ℕ → RunEnd) (input : List ℕ) (texts : List (List ℕ)) (v : Verdict) → next_of_text end_over input texts ≡ settled v → status_of_verdict v ≡ status.ReadFailed → ⊥
+text_ends : (end_over : List ℕ → RunEnd) (input : List ℕ) (texts : List (List ℕ)) (v : Verdict) → decision_of_text end_over input texts ≡ settled v → status_of_verdict v ≡ status.ReadFailed → ⊥
 text_ends end_over input [] v is ends = cc
 text_ends end_over input (text ∷ texts) v is ends =
     let same : unless_unfit (refusal_of text) (printed text_names (end_over text)) ≡ v = cc in
@@ -221,11 +221,11 @@ module _ (end_of : Plan (List Line) Standing → RunEnd) where
   unless_unread_among names texts verdict file None same is = cc
   unless_unread_among names texts verdict file (Some name) same is = unread_among names texts file (cc)
 
-  job_among : (fuel : ℕ) (names : List (List ℕ)) (accepted : Result (List Line) JobFault) (inputs : List (List ℕ)) (file : List ℕ) → next_of_job end_of fuel names accepted inputs ≡ reads file → Contains names file
+  job_among : (fuel : ℕ) (names : List (List ℕ)) (accepted : Result (List Line) JobFault) (inputs : List (List ℕ)) (file : List ℕ) → decision_of_job end_of fuel names accepted inputs ≡ reads file → Contains names file
   job_among fuel names (Ok lines) inputs file is = unless_unread_among names inputs (ran end_of lines inputs fuel) file (unread names inputs) refl is
   job_among fuel names (Err fault) inputs file is = cc
 
-  run_among : (fuel : ℕ) (job : List ℕ) (names texts : List (List ℕ)) (file : List ℕ) → next_of_run end_of fuel job names texts ≡ reads file → Contains (job ∷ names) file
+  run_among : (fuel : ℕ) (job : List ℕ) (names texts : List (List ℕ)) (file : List ℕ) → decision_of_run end_of fuel job names texts ≡ reads file → Contains (job ∷ names) file
   run_among fuel job names [] file is = the_file file job names is
   run_among fuel job names (text ∷ inputs) file is =
       let rest : Contains names file = job_among fuel names (accepted text) inputs file is in (suc rest.0, omega arith, rest.2)
@@ -235,33 +235,33 @@ module _ (end_of : Plan (List Line) Standing → RunEnd) where
   generated_among number size = job_among (bulk_fuel size) [] (accepted (bulk_job size)) (bulk_input number size ∷ [])
 
 module _ (elisions : Elisions) where
-  next_ends : (command : Command) (texts : List (List ℕ)) (v : Verdict) → next elisions command texts ≡ settled v → status_of_verdict v ≡ status.ReadFailed → ⊥
-  next_ends (help) texts v is ends = cc
-  next_ends (version) texts v is ends = cc
-  next_ends (check job) [] v is ends = cc
-  next_ends (check job) (text ∷ texts) v is ends =
+  decision_ends : (command : Command) (texts : List (List ℕ)) (v : Verdict) → decision elisions command texts ≡ settled v → status_of_verdict v ≡ status.ReadFailed → ⊥
+  decision_ends (help) texts v is ends = cc
+  decision_ends (version) texts v is ends = cc
+  decision_ends (check job) [] v is ends = cc
+  decision_ends (check job) (text ∷ texts) v is ends =
       let same : checked (accepted text) ≡ v = cc in checked_ends (accepted text) (ap status_of_verdict same ∙ ends)
-  next_ends (elide fuel job names) texts v is ends = run_ends (elisions.of_job way.Elide) fuel job names texts v is ends
-  next_ends (run workers fuel job names) texts v is ends = run_ends (elisions.of_job (way.Run workers)) fuel job names texts v is ends
-  next_ends (index workers input) texts v is ends = text_ends (index_end elisions workers) input texts v is ends
-  next_ends (convert workers input) texts v is ends = text_ends (conversion_end elisions workers) input texts v is ends
-  next_ends (bulk number size workers) texts v is ends = generated_ends (elisions.of_job (cheapest workers)) number size v is ends
+  decision_ends (elide fuel job names) texts v is ends = run_ends (elisions.of_job way.Elide) fuel job names texts v is ends
+  decision_ends (run workers fuel job names) texts v is ends = run_ends (elisions.of_job (way.Run workers)) fuel job names texts v is ends
+  decision_ends (index workers input) texts v is ends = text_ends (index_end elisions workers) input texts v is ends
+  decision_ends (convert workers input) texts v is ends = text_ends (conversion_end elisions workers) input texts v is ends
+  decision_ends (bulk number size workers) texts v is ends = generated_ends (elisions.of_job (cheapest workers)) number size v is ends
 
-  next_reads : (command : Command) (texts : List (List ℕ)) (file : List ℕ) → next elisions command texts ≡ reads file → Contains (files_of command) file
-  next_reads (help) texts file is = cc
-  next_reads (version) texts file is = cc
-  next_reads (check job) [] file is = the_file file job [] is
-  next_reads (check job) (text ∷ texts) file is = cc
-  next_reads (elide fuel job names) texts file is = run_among (elisions.of_job way.Elide) fuel job names texts file is
-  next_reads (run workers fuel job names) texts file is = run_among (elisions.of_job (way.Run workers)) fuel job names texts file is
-  next_reads (index workers input) [] file is = the_file file input [] is
-  next_reads (index workers input) (text ∷ texts) file is = cc
-  next_reads (convert workers input) [] file is = the_file file input [] is
-  next_reads (convert workers input) (text ∷ texts) file is = cc
-  next_reads (bulk number size workers) texts file is = generated_among (elisions.of_job (cheapest workers)) number size file is
+  decision_reads : (command : Command) (texts : List (List ℕ)) (file : List ℕ) → decision elisions command texts ≡ reads file → Contains (files_of command) file
+  decision_reads (help) texts file is = cc
+  decision_reads (version) texts file is = cc
+  decision_reads (check job) [] file is = the_file file job [] is
+  decision_reads (check job) (text ∷ texts) file is = cc
+  decision_reads (elide fuel job names) texts file is = run_among (elisions.of_job way.Elide) fuel job names texts file is
+  decision_reads (run workers fuel job names) texts file is = run_among (elisions.of_job (way.Run workers)) fuel job names texts file is
+  decision_reads (index workers input) [] file is = the_file file input [] is
+  decision_reads (index workers input) (text ∷ texts) file is = cc
+  decision_reads (convert workers input) [] file is = the_file file input [] is
+  decision_reads (convert workers input) (text ∷ texts) file is = cc
+  decision_reads (bulk number size workers) texts file is = generated_among (elisions.of_job (cheapest workers)) number size file is
 
   module _ (seen : CallSeen) (well : NothingFailed seen) where
-    read_refused : (command : Command) (n : Next) (verdict : Verdict) → ((v : Verdict) → n ≡ settled v → status_of_verdict v ≡ status.ReadFailed → ⊥) → ((file : List ℕ) → n ≡ reads file → Contains (files_of command) file) → Follows seen.files n verdict → status.ReadFailed ≡ status_of_verdict verdict → Wrote seen.out seen.report verdict → EndsWell seen (Some command) status.ReadFailed
+    read_refused : (command : Command) (n : Decision) (verdict : Verdict) → ((v : Verdict) → n ≡ settled v → status_of_verdict v ≡ status.ReadFailed → ⊥) → ((file : List ℕ) → n ≡ reads file → Contains (files_of command) file) → Follows seen.files n verdict → status.ReadFailed ≡ status_of_verdict verdict → Wrote seen.out seen.report verdict → EndsWell seen (Some command) status.ReadFailed
     read_refused command (settled v) verdict never among follows ends wrote = absurd (never v refl (sym (ends ∙ ap status_of_verdict follows.0)))
     read_refused command (reads file) verdict never among (inl failed) ends wrote = absurd (well.files_well failed.1)
     read_refused command (reads file) verdict never among (inr longer) ends wrote =
@@ -274,7 +274,7 @@ module _ (elisions : Elisions) where
     ends_well None status.ReadFailed is = let bad : status.ReadFailed ≡ status.Usage = is.0.0 in cc
     ends_well (Some command) status.WriteFailed is = absurd (no_failed_write seen.out seen.report is.0 well.out_well well.report_well is.2)
     ends_well (Some command) status.ReadFailed is =
-        read_refused command (next elisions command is.1.texts) is.0 (next_ends command is.1.texts) (next_reads command is.1.texts) is.1.follows is.2.0 is.2.1
+        read_refused command (decision elisions command is.1.texts) is.0 (decision_ends command is.1.texts) (decision_reads command is.1.texts) is.1.follows is.2.0 is.2.1
     ends_well asked (status.Done how) is = tt
     ends_well asked (status.Faulted how) is = tt
     ends_well asked status.Usage is = tt

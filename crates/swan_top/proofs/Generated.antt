@@ -14,7 +14,7 @@ use Rattle.swan_model.specs.Texts.{has_fault}
 use Rattle.swan_model.specs.declared.plan.Plan.{Plan}
 use Rattle.swan_top.specs.Command.{Command, IsWithinLimits, help, version, check, elide, run, index, convert, bulk}
 use Rattle.swan_top.specs.Completeness.{GeneratedInOrder, RunsInOrder}
-use Rattle.swan_top.specs.Decision.{Verdict, Next, settled, accepted, accepted_lines, generated, next_of_job, ran, unless_fault, unless_refused}
+use Rattle.swan_top.specs.Decision.{Verdict, Decision, settled, accepted, accepted_lines, generated, decision_of_job, ran, unless_fault, unless_refused}
 use Rattle.swan_top.specs.Elisions.{Elisions, cheapest}
 use Rattle.swan_top.specs.Generated.{NeverRefused}
 use Rattle.swan_top.specs.Headline.{Answers, CallSeen, Ends, FilesSeen, Follows, NoReadFailed, NoneTooLong, Settles, status_of_verdict}
@@ -30,15 +30,15 @@ use Rattle.swan_top.proofs.TextsRead.{Stops-map}
 module _ (end_of : Plan (List Line) Standing → RunEnd) where
   -- a verdict that the run of a text over inputs comes to, where both are at hand
   abbrev Comes : (fuel : ℕ) (text : List ℕ) (inputs : List (List ℕ)) → Verdict → Type 0
-  Comes fuel text inputs verdict = next_of_job end_of fuel [] (accepted text) inputs ≡ settled verdict
+  Comes fuel text inputs verdict = decision_of_job end_of fuel [] (accepted text) inputs ≡ settled verdict
 
   refused_comes : (fuel : ℕ) (text : List ℕ) (inputs : List (List ℕ)) (verdict : Verdict) → IsRefused text verdict → Comes fuel text inputs verdict
   refused_comes fuel text inputs verdict refused =
-      ap (λ r. next_of_job end_of fuel [] r inputs) refused.first ∙ ap settled (sym refused.refused)
+      ap (λ r. decision_of_job end_of fuel [] r inputs) refused.first ∙ ap settled (sym refused.refused)
 
   ran_comes : (fuel : ℕ) (text : List ℕ) (inputs : List (List ℕ)) (verdict : Verdict) (lines : List Line) → accepted text ≡ Ok lines → verdict ≡ ran end_of lines inputs fuel → Comes fuel text inputs verdict
   ran_comes fuel text inputs verdict lines is ended =
-      ap (λ r. next_of_job end_of fuel [] r inputs) is ∙ ap settled (sym ended)
+      ap (λ r. decision_of_job end_of fuel [] r inputs) is ∙ ap settled (sym ended)
 
   module _ (number size : ℕ) where
     abbrev pub Generates : Verdict → Type 0
@@ -60,10 +60,10 @@ module _ (end_of : Plan (List Line) Standing → RunEnd) where
 
   module _ (files : FilesSeen) where
     in_order : (fuel : ℕ) (text : List ℕ) (inputs : List (List ℕ)) (lines : List Line) (verdict : Verdict) → job_of text ≡ Ok lines → first_fault lines ≡ None → refusal_of_plan lines inputs ≡ None
-        → Follows files (next_of_job end_of fuel [] (accepted text) inputs) verdict → RunsInOrder end_of fuel text inputs verdict
+        → Follows files (decision_of_job end_of fuel [] (accepted text) inputs) verdict → RunsInOrder end_of fuel text inputs verdict
     in_order fuel text inputs lines verdict reads checks plans follows =
         let is : accepted text ≡ Ok lines = ap accepted_lines reads ∙ ap (unless_fault lines) checks in
-        let P : Result (List Line) JobFault → Type 0 = λ r. Follows files (next_of_job end_of fuel [] r inputs) verdict in
+        let P : Result (List Line) JobFault → Type 0 = λ r. Follows files (decision_of_job end_of fuel [] r inputs) verdict in
         record {
           lines = lines;
           is_accepted = is;
@@ -79,7 +79,7 @@ module _ (end_of : Plan (List Line) Standing → RunEnd) where
 -- where no read was refused, that is what the command comes to
 pub leads_bulk : (elisions : Elisions) (files : FilesSeen) (number size workers : ℕ) → NoReadFailed files → NoneTooLong files → (verdict : Verdict) → Generates (elisions.of_job (cheapest workers)) number size verdict → Settles elisions files (bulk number size workers) verdict
 leads_bulk elisions files number size workers read short verdict is =
-    let P : Next → Type 0 = λ n. Follows files n verdict in
+    let P : Decision → Type 0 = λ n. Follows files n verdict in
     record { texts = []; are_read = tt; follows = subst P (sym is) (refl, read, short) }
 
 -- what is printed in order ends as a run

@@ -27,7 +27,7 @@ use Rattle.swan_model.specs.declared.outcome.Outcome.{Outcome}
 use Rattle.swan_model.specs.declared.value.Value.{Value}
 use Rattle.swan_model.specs.declared.value.Value.TheVariants.{Bytes}
 use Rattle.swan_top.specs.Command.{Command, help, version, check, elide, run, index, convert, bulk}
-use Rattle.swan_top.specs.Decision.{Verdict, prints, next_of_text, printed, status_of, unless_unfit}
+use Rattle.swan_top.specs.Decision.{Verdict, prints, decision_of_text, printed, status_of, unless_unfit}
 use Rattle.swan_top.specs.Elisions.{cheapest, elisions, end_by}
 use Rattle.swan_top.specs.Headline.{Answers, CallSeen, WereRead, FilesSeen, Follows, WasRead, Leads, SinkSeen, Took, Wrote, status_of_verdict}
 use Rattle.swan_top.specs.Pipelines.{WroteOfText, conversion_faults, pipeline_report}
@@ -67,7 +67,7 @@ abbrev pub ConversionLaw : Ghosts RecordBody RecordLocal → Type 0
 ConversionLaw record_ghosts = (text : List ℕ) → length text ≤ TEXT_MOST → IsConverted text (outcome record_ghosts (record_plan text))
 
 module _ (files : FilesSeen) (out report : SinkSeen) (input : List ℕ) where
-  read_of : (end_over : List ℕ → RunEnd) (verdict : Verdict) (texts : List (List ℕ)) → is_run (status_of_verdict verdict) ≡ true → WereRead files.content (input ∷ []) texts → Follows files (next_of_text end_over input texts) verdict
+  read_of : (end_over : List ℕ → RunEnd) (verdict : Verdict) (texts : List (List ℕ)) → is_run (status_of_verdict verdict) ≡ true → WereRead files.content (input ∷ []) texts → Follows files (decision_of_text end_over input texts) verdict
       → (text : List ℕ) × WasRead (files.content input) text × (refusal_of text ≡ None) × (verdict ≡ printed text_names (end_over text))
   read_of end_over verdict [] runs read (inl failed) = let bad : is_run (status_of_verdict verdict) ≡ false = ap (λ w. is_run (status_of_verdict w)) failed.0 in absurd (cc)
   read_of end_over verdict [] runs read (inr longer) = let bad : is_run (status_of_verdict verdict) ≡ false = ap (λ w. is_run (status_of_verdict w)) longer.0 in absurd (cc)
@@ -93,7 +93,7 @@ module _ (files : FilesSeen) (out report : SinkSeen) (input : List ℕ) where
       (w.0, w.1.0, w.1.1)
 
   module _ (verdict : Verdict) (ends : Status) (runs : is_run (status_of_verdict verdict) ≡ true) (same : ends ≡ status_of_verdict verdict) (wrote : Wrote out report verdict) where
-    indexed : (index_ghosts : Ghosts IndexBody IndexLocal) (taken : Way) → IndexLaw index_ghosts → Leads files (input ∷ []) (next_of_text (λ t. end_by index_ghosts taken (index_plan t)) input) verdict
+    indexed : (index_ghosts : Ghosts IndexBody IndexLocal) (taken : Way) → IndexLaw index_ghosts → Leads files (input ∷ []) (decision_of_text (λ t. end_by index_ghosts taken (index_plan t)) input) verdict
         → (text : List ℕ) × WasRead (files.content input) text × (refusal_of text ≡ None) × ((how : How) × (ends ≡ status.Done how)) × Took out (index_of text) × Took report (pipeline_report [])
     indexed index_ghosts taken index_law leads =
         let r = read_of (λ t. end_by index_ghosts taken (index_plan t)) verdict leads.texts runs leads.are_read leads.follows in
@@ -102,7 +102,7 @@ module _ (files : FilesSeen) (out report : SinkSeen) (input : List ℕ) where
         let t = told_of end (map Bytes (index_records (lines r.0))) [] (index_of r.0) verdict ends law.outcome_is law.output r.3 same wrote in
         (r.0, r.1, r.2, (end.how, t.0), t.1, t.2)
 
-    converted : (record_ghosts : Ghosts RecordBody RecordLocal) (taken : Way) → ConversionLaw record_ghosts → Leads files (input ∷ []) (next_of_text (λ t. end_by record_ghosts taken (record_plan t)) input) verdict
+    converted : (record_ghosts : Ghosts RecordBody RecordLocal) (taken : Way) → ConversionLaw record_ghosts → Leads files (input ∷ []) (decision_of_text (λ t. end_by record_ghosts taken (record_plan t)) input) verdict
         → (text : List ℕ) × WasRead (files.content input) text × (refusal_of text ≡ None) × ((how : How) × (ends ≡ ends_by how (is_some_fault (conversion_faults text)))) × Took out (convert_of text) × Took report (pipeline_report (conversion_faults text))
     converted record_ghosts taken conversion_law leads =
         let r = read_of (λ t. end_by record_ghosts taken (record_plan t)) verdict leads.texts runs leads.are_read leads.follows in

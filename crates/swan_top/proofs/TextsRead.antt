@@ -6,7 +6,7 @@ use Rattle.swan_outside.specs.Counts.{Rose}
 use Rattle.swan_outside.specs.Reads.{IsTooLong}
 use Rattle.swan_top.specs.Decision.{Verdict, unread}
 use Rattle.swan_top.specs.Headline.{WereRead, FilesSeen, WasRead, NoReadFailed, NoneTooLong, ReadRefused, files_seen}
-use Rattle.swan_top.specs.Settled.{Is, StopsOver, StopsWith, InputRefused, verdict_of}
+use Rattle.swan_top.specs.Settled.{Is, StopsOver, StopsWith, InputUnread, verdict_of}
 use Rattle.swan_top.specs.declared.verdict.WhyStopped.{WhyStopped}
 use Rattle.swan_top.specs.declared.verdict.WhyStopped.TheVariants as stop
 
@@ -52,9 +52,9 @@ module _ (content mid : List ℕ → Option (List ℕ)) (f0 f1 f2 l0 l1 l2 : ℕ
   pub unrefused_since : Unrefused (files_seen mid f1 f2 l1 l2) → Unrefused (files_seen content f0 f2 l0 l2)
   unrefused_since kept = (kept.0 ∙ faults, kept.1 ∙ long)
 
-  pub input_refused : (names texts : List (List ℕ)) (file : List ℕ) → WereRead content names texts → unread names texts ≡ Some file → (why : WhyStopped) → StopsOver (files_seen mid f1 f2 l1 l2) (ReadRefused (files_seen mid f1 f2 l1 l2) file) why → StopsOver (files_seen content f0 f2 l0 l2) (InputRefused (files_seen content f0 f2 l0 l2) names) why
-  input_refused names texts file read is_next =
-      Stops-map (Unrefused (files_seen mid f1 f2 l1 l2)) (Unrefused (files_seen content f0 f2 l0 l2)) (ReadRefused (files_seen mid f1 f2 l1 l2) file) (InputRefused (files_seen content f0 f2 l0 l2) names) (unrefused_since)
+  pub input_unread : (names texts : List (List ℕ)) (file : List ℕ) → WereRead content names texts → unread names texts ≡ Some file → (why : WhyStopped) → StopsOver (files_seen mid f1 f2 l1 l2) (ReadRefused (files_seen mid f1 f2 l1 l2) file) why → StopsOver (files_seen content f0 f2 l0 l2) (InputUnread (files_seen content f0 f2 l0 l2) names) why
+  input_unread names texts file read is_next =
+      Stops-map (Unrefused (files_seen mid f1 f2 l1 l2)) (Unrefused (files_seen content f0 f2 l0 l2)) (ReadRefused (files_seen mid f1 f2 l1 l2) file) (InputUnread (files_seen content f0 f2 l0 l2) names) (unrefused_since)
       (λ verdict refused. record { texts = texts; are_read = read; file = file; is_next = is_next; refused = ReadRefused-since file verdict refused })
 
 pub Is-map : (P Q : Verdict → Type 0) → ((verdict : Verdict) → P verdict → Q verdict) → (verdict : Settled) → Is P verdict → Is Q verdict

@@ -4,7 +4,7 @@ use Rattle.std.specs.Prelude.{ℕ, ◌≤◌, ℤ, pos, nat_le, Bool, true, fals
 use Rattle.std.specs.List.{list_all}
 use Rattle.bulk_workload.specs.declared.texts.TheConstants.{BULK_MOST}
 use Rattle.job_reader.specs.Atoms.{number}
-use Rattle.swan_top.specs.declared.command.Command.{Command as Asked}
+use Rattle.swan_top.specs.declared.command.Command.{Command as TheCommand}
 use Rattle.swan_top.specs.declared.command.Command.TheVariants as code
 use Rattle.swan_runtime.specs.declared.shape.TheConstants.{WORKERS_MOST}
 use Rattle.swan_top.specs.declared.command.TheConstants.{FUEL_WORD_MOST, NUMBER_WORD_MOST}
@@ -94,7 +94,7 @@ command (word ∷ words) =
     else None
 
 -- a command as the code keeps it
-abbrev pub command_of : Asked → Command
+abbrev pub command_of : TheCommand → Command
 command_of code.Help = help
 command_of code.Version = version
 command_of (code.Check job) = check job.now

@@ -35,9 +35,10 @@ pub data Verdict : Type 0 where
   prints : (out : List ℕ) (report : List ℕ) → Status → Verdict
   refuses : (line : List ℕ) → Status → Verdict
 
-pub data Next : Type 0 where
-  reads : (file : List ℕ) → Next
-  settled : Verdict → Next
+-- What is done next: a file is read, or the call is settled.
+pub data Decision : Type 0 where
+  reads : (file : List ℕ) → Decision
+  settled : Verdict → Decision
 
 abbrev pub job_kind_text : JobKind → List ℕ
 job_kind_text kind.BadByte = codes "BadByte"
@@ -98,13 +99,13 @@ unread [] texts = None
 unread (file ∷ files) [] = Some file
 unread (file ∷ files) (text ∷ texts) = unread files texts
 
-abbrev pub unless_unread : Option (List ℕ) → Verdict → Next
+abbrev pub unless_unread : Option (List ℕ) → Verdict → Decision
 unless_unread (Some file) verdict = reads file
 unless_unread None verdict = settled verdict
 
-abbrev pub next_of_check : List ℕ → (texts : List (List ℕ)) → Next
-next_of_check job [] = reads job
-next_of_check job (text ∷ texts) = settled (checked (accepted text))
+abbrev pub decision_of_check : List ℕ → (texts : List (List ℕ)) → Decision
+decision_of_check job [] = reads job
+decision_of_check job (text ∷ texts) = settled (checked (accepted text))
 
 -- A text that a pipeline runs over is refused as an input is, or this is settled.
 abbrev pub unless_unfit : Option LinesAnswer → Verdict → Verdict
@@ -112,9 +113,9 @@ unless_unfit None verdict = verdict
 unless_unfit (Some why) verdict = refuses (input_line (of_input 1 why)) status.InputRefused
 
 -- a pipeline over a file: what is settled once its text was read
-abbrev pub next_of_text : (List ℕ → RunEnd) → List ℕ → (texts : List (List ℕ)) → Next
-next_of_text end_over input [] = reads input
-next_of_text end_over input (text ∷ texts) = settled (unless_unfit (refusal_of text) (printed text_names (end_over text)))
+abbrev pub decision_of_text : (List ℕ → RunEnd) → List ℕ → (texts : List (List ℕ)) → Decision
+decision_of_text end_over input [] = reads input
+decision_of_text end_over input (text ∷ texts) = settled (unless_unfit (refusal_of text) (printed text_names (end_over text)))
 
 -- How the run of a plan ends is an argument: `end_of`.
 module _ (end_of : Plan (List Line) Standing → RunEnd) where
@@ -127,27 +128,27 @@ module _ (end_of : Plan (List Line) Standing → RunEnd) where
   ran job inputs fuel = unless_refused job inputs fuel (refusal_of_plan job inputs)
 
   -- a run, by whether its job is accepted, and by the inputs that were read
-  abbrev pub next_of_job : ℕ → (files : List (List ℕ)) → Result (List Line) JobFault → (inputs : List (List ℕ)) → Next
-  next_of_job fuel files (Ok job) inputs = unless_unread (unread files inputs) (ran job inputs fuel)
-  next_of_job fuel files (Err fault) inputs = settled (job_refused fault)
+  abbrev pub decision_of_job : ℕ → (files : List (List ℕ)) → Result (List Line) JobFault → (inputs : List (List ℕ)) → Decision
+  decision_of_job fuel files (Ok job) inputs = unless_unread (unread files inputs) (ran job inputs fuel)
+  decision_of_job fuel files (Err fault) inputs = settled (job_refused fault)
 
-  abbrev pub next_of_run : ℕ → List ℕ → (files : List (List ℕ)) → (texts : List (List ℕ)) → Next
-  next_of_run fuel job files [] = reads job
-  next_of_run fuel job files (text ∷ inputs) = next_of_job fuel files (accepted text) inputs
+  abbrev pub decision_of_run : ℕ → List ℕ → (files : List (List ℕ)) → (texts : List (List ℕ)) → Decision
+  decision_of_run fuel job files [] = reads job
+  decision_of_run fuel job files (text ∷ inputs) = decision_of_job fuel files (accepted text) inputs
 
   -- the run of the generated job over its input, for which no file is read
-  unfoldable pub generated : (number size : ℕ) → Next
-  generated number size = next_of_job (bulk_fuel size) [] (accepted (bulk_job size)) (bulk_input number size ∷ [])
+  unfoldable pub generated : (number size : ℕ) → Decision
+  generated number size = decision_of_job (bulk_fuel size) [] (accepted (bulk_job size)) (bulk_input number size ∷ [])
 
-abbrev pub next : Elisions → Command → (texts : List (List ℕ)) → Next
-next elisions help texts = settled (prints HELP.now [] (status.Done how.Plain))
-next elisions version texts = settled (prints VERSION.now [] (status.Done how.Plain))
-next elisions (check job) texts = next_of_check job texts
-next elisions (elide fuel job inputs) texts = next_of_run (elisions.of_job way.Elide) fuel job inputs texts
-next elisions (run workers fuel job inputs) texts = next_of_run (elisions.of_job (way.Run workers)) fuel job inputs texts
-next elisions (index workers input) texts = next_of_text (index_end elisions workers) input texts
-next elisions (convert workers input) texts = next_of_text (conversion_end elisions workers) input texts
-next elisions (bulk number size workers) texts = generated (elisions.of_job (cheapest workers)) number size
+abbrev pub decision : Elisions → Command → (texts : List (List ℕ)) → Decision
+decision elisions help texts = settled (prints HELP.now [] (status.Done how.Plain))
+decision elisions version texts = settled (prints VERSION.now [] (status.Done how.Plain))
+decision elisions (check job) texts = decision_of_check job texts
+decision elisions (elide fuel job inputs) texts = decision_of_run (elisions.of_job way.Elide) fuel job inputs texts
+decision elisions (run workers fuel job inputs) texts = decision_of_run (elisions.of_job (way.Run workers)) fuel job inputs texts
+decision elisions (index workers input) texts = decision_of_text (index_end elisions workers) input texts
+decision elisions (convert workers input) texts = decision_of_text (conversion_end elisions workers) input texts
+decision elisions (bulk number size workers) texts = generated (elisions.of_job (cheapest workers)) number size
 
 -- the files of a command, in the order in which they are read
 abbrev pub files_of : Command → List (List ℕ)

@@ -3,13 +3,13 @@ use Rattle.std.specs.Prelude.{◌≡◌, ℕ, ◌≤◌, true, false, ◌&&◌, 
 use Rattle.std.specs.List.{list_all}
 use Rattle.std.specs.Borrow.{Bor}
 use Rattle.swan_top.specs.Command.{Command, command_of, elide, fueled, is_file, manned, one_input, over_input, run, IsWithinLimits}
-use Rattle.swan_top.specs.declared.command.Command.{Command as Asked}
+use Rattle.swan_top.specs.declared.command.Command.{Command as TheCommand}
 use Rattle.swan_top.specs.declared.command.JobWords.{JobWords}
 use Rattle.swan_top.specs.declared.command.TheConstants.{FUEL_WORD_MOST}
 use Rattle.swan_top.specs.declared.command.Usage.{Usage}
 
 -- what the words are was answered
-abbrev pub ReadsWords : Option Command → Result Asked Usage → Type 0
+abbrev pub ReadsWords : Option Command → Result TheCommand Usage → Type 0
 ReadsWords wanted (Ok command) = (wanted ≡ Some (command_of command)) × IsWithinLimits (command_of command)
 ReadsWords wanted (Err usage) = wanted ≡ None
 

@@ -7,7 +7,7 @@ use Rattle.swan_outside.specs.declared.files.Files.{Ghosts as FilesMeaning}
 use Rattle.swan_outside.specs.declared.files.TheConstants.{FILE_MOST}
 use Rattle.swan_outside.specs.declared.sink.Sink.{Ghosts as SinkMeaning}
 use Rattle.swan_top.specs.Command.{Command}
-use Rattle.swan_top.specs.Decision.{Verdict, prints, refuses, Next, reads, settled, next, files_of}
+use Rattle.swan_top.specs.Decision.{Verdict, prints, refuses, Decision, reads, settled, decision, files_of}
 use Rattle.swan_top.specs.Elisions.{Elisions}
 use Rattle.swan_top.specs.Refusals.{file_line}
 use Rattle.swan_top.specs.declared.status.Status.{Status}
@@ -120,19 +120,19 @@ ReadRefused files file verdict =
     × Rose files.long_before files.long_after × NoReadFailed files × IsTooLong (files.content file))
 
 -- A verdict that is settled comes only where no read was refused.
-abbrev pub Follows : FilesSeen → Next → Verdict → Type 0
+abbrev pub Follows : FilesSeen → Decision → Verdict → Type 0
 Follows files (settled verdict) verdict' = (verdict' ≡ verdict) × NoReadFailed files × NoneTooLong files
 Follows files (reads file) verdict = ReadRefused files file verdict
 
 -- The verdict is what comes of these files, by texts that were read of them in their order.
-pub record Leads (files : FilesSeen) (names : List (List ℕ)) (next_of : List (List ℕ) → Next) (verdict : Verdict) : Type 0 where
+pub record Leads (files : FilesSeen) (names : List (List ℕ)) (decision_of : List (List ℕ) → Decision) (verdict : Verdict) : Type 0 where
   pub texts : List (List ℕ)
   pub are_read : WereRead files.content names texts
-  pub follows : Follows files (next_of texts) verdict
+  pub follows : Follows files (decision_of texts) verdict
 
 -- the verdict is what comes of a command
 abbrev pub Settles : Elisions → FilesSeen → Command → Verdict → Type 0
-Settles elisions files command = Leads files (files_of command) (next elisions command)
+Settles elisions files command = Leads files (files_of command) (decision elisions command)
 
 -- what words that are no command lead to
 abbrev pub usage : Verdict

@@ -49,7 +49,7 @@ abbrev pub StopsOver : FilesSeen → (Verdict → Type 0) → WhyStopped → Typ
 StopsOver files P = StopsWith (NoReadFailed files × NoneTooLong files) P
 
 -- An input couldn't be read, and those before it were.
-pub record InputRefused (files : FilesSeen) (names : List (List ℕ)) (verdict : Verdict) : Type 0 where
+pub record InputUnread (files : FilesSeen) (names : List (List ℕ)) (verdict : Verdict) : Type 0 where
   pub texts : List (List ℕ)
   pub are_read : WereRead files.content names texts
   pub file : List ℕ

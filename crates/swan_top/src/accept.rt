@@ -4,7 +4,7 @@ ghost use Rattle.swan_top.specs.Decision.{accepted, job_line, job_refused, job_k
 ghost use Rattle.swan_top.specs.Settled.{Stops, IsRefused};
 
 use crate::Status;
-use crate::verdict::{Settled, WhyStopped};
+use crate::verdict::WhyStopped;
 use job_reader::{JobFault, JobKind, ReadJob, read_job};
 use privilege_check::{CheckJob, CheckedJob, check};
 use std::alloc::{AllocError, Global};
@@ -48,10 +48,7 @@ fn refuse_job(alloc: Global, fault: JobFault) -> WhyStopped
     ensures { Stops (λ verdict. verdict ≡ job_refused fault) result }
 {
     match refusal_line(alloc, fault) {
-        Ok(line) => WhyStopped::Settled(Settled::Refuses {
-            line,
-            ends: Status::JobRefused,
-        }),
+        Ok(line) => WhyStopped::refused(line, Status::JobRefused),
         Err(_) => WhyStopped::NoMemory,
     }
 }

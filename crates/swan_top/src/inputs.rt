@@ -2,7 +2,7 @@
 ghost use Rattle.std.specs.Prelude.{◌≡◌, ℕ, List, Some, None, IfOk, OnOk, IfErr};
 ghost use Rattle.swan_top.specs.Decision.{unread};
 ghost use Rattle.swan_top.specs.Headline.{WereRead, ReadRefused, files_over};
-ghost use Rattle.swan_top.specs.Settled.{StopsOver, InputRefused};
+ghost use Rattle.swan_top.specs.Settled.{StopsOver, InputUnread};
 
 use crate::read::read_file;
 use crate::verdict::WhyStopped;
@@ -19,7 +19,7 @@ pub(crate) fn read_inputs<F: Files>(
     ensures read { IfOk result (λ inputs. WereRead (F.content files.old) names.now inputs.items) }
     ensures all { IfOk result (λ inputs. unread names.now inputs.items ≡ None) }
     ensures refused { let seen = files_over F.Files files.old files.new in
-        IfErr result (λ stop. StopsOver seen (InputRefused seen names.now) stop) }
+        IfErr result (λ stop. StopsOver seen (InputUnread seen names.now) stop) }
     ensures no_fault { OnOk result (F.faults files.new ≡ F.faults files.old) }
     ensures no_long_read { OnOk result (F.long_reads files.new ≡ F.long_reads files.old) }
 {

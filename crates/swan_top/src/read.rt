@@ -7,7 +7,7 @@ ghost use Rattle.swan_top.specs.Settled.{StopsOver, StopsWith};
 ghost use Rattle.swan_top.specs.declared.status.Status.TheVariants as status;
 
 use crate::Status;
-use crate::verdict::{Settled, WhyStopped};
+use crate::verdict::WhyStopped;
 use std::alloc::{AllocError, Global};
 use swan_model::{Blob, Word};
 use swan_outside::{Files, ReadAnswer};
@@ -40,10 +40,7 @@ fn refuse_read(line: Vec<u8>, what: &str, file: &Word) -> WhyStopped
     requires room { 13 + length file.now ≤ vec_capacity line }
     ensures { StopsWith ⊥ (λ verdict. verdict ≡ refuses (file_line what.now file.now) status.ReadFailed) result }
 {
-    WhyStopped::Settled(Settled::Refuses {
-        line: file_line(line, what, file),
-        ends: Status::ReadFailed,
-    })
+    WhyStopped::refused(file_line(line, what, file), Status::ReadFailed)
 }
 
 // Reads a whole file, or settles that it can't be read. The room for a refusal is made before the read, so a read

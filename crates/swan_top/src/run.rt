@@ -1,5 +1,5 @@
 // Running plans.
-ghost use Rattle.std.specs.Prelude.{◌≡◌, ◌<◌, ◌≤◌, IfOk, IfErr, IfSome, IfNone, length};
+ghost use Rattle.std.specs.Prelude.{◌≡◌, ◌≢◌, ◌<◌, ◌≤◌, IfOk, IfErr, IfSome, IfNone, length};
 ghost use Rattle.job_body.specs.NamesOfJob.{IsNaming};
 ghost use Rattle.job_body.specs.PlanOfJob.{of_input};
 ghost use Rattle.swan_top.specs.Elisions.{elisions, end_by};
@@ -38,6 +38,7 @@ const RING: u32 = 16;
 
 // The line of a refusal of inputs.
 fn input_line(alloc: Global, why: PlanAnswer) -> Result<Blob, AllocError>
+    requires { why ≢ plan.NoMemory }
     ensures { IfOk result (λ line. line ≡ input_line why) }
 {
     let text = match why {
@@ -46,7 +47,7 @@ fn input_line(alloc: Global, why: PlanAnswer) -> Result<Blob, AllocError>
             "long line {input} {line}\n"
         )?,
         PlanAnswer::TooManyRecords { input } => format!(in alloc; "too many lines {input}\n")?,
-        PlanAnswer::NoMemory => String::new(alloc),
+        PlanAnswer::NoMemory => unreachable!(),
     };
     Ok(Blob::new(text.into_bytes()))
 }
@@ -192,13 +193,11 @@ pub(crate) fn run_job<T: Threads + Wait + Clock + Sync, G: Gate>(
 
 // A refusal of inputs.
 fn refuse_inputs(alloc: Global, why: PlanAnswer) -> WhyStopped
+    requires { why ≢ plan.NoMemory }
     ensures { Stops (λ verdict. verdict ≡ refuses (input_line why) status.InputRefused) result }
 {
     match input_line(alloc, why) {
-        Ok(line) => WhyStopped::Settled(Settled::Refuses {
-            line,
-            ends: Status::InputRefused,
-        }),
+        Ok(line) => WhyStopped::refused(line, Status::InputRefused),
         Err(_) => WhyStopped::NoMemory,
     }
 }

@@ -3,7 +3,7 @@ ghost use Rattle.std.specs.Prelude.{◌≡◌, ◌≤◌, ◌∷◌, [], IfOk, I
 ghost use Rattle.bulk_workload.specs.declared.texts.TheConstants.{BULK_MOST};
 ghost use Rattle.swan_model.specs.declared.plan.TheConstants.{FUEL_MOST};
 ghost use Rattle.swan_top.specs.Command.{command_of, IsWithinLimits};
-ghost use Rattle.swan_top.specs.Decision.{checked, generated, settled, next_of_check, next_of_run, next_of_text, prints};
+ghost use Rattle.swan_top.specs.Decision.{checked, generated, settled, decision_of_check, decision_of_run, decision_of_text, prints};
 ghost use Rattle.swan_top.specs.Elisions.{cheapest, conversion_end, elisions, index_end};
 ghost use Rattle.swan_top.specs.Headline.{Leads, Settles, files_over};
 ghost use Rattle.swan_top.specs.Settled.{Is, Stops, StopsOver, verdict_of};
@@ -58,9 +58,9 @@ fn settle_checked(alloc: Global, job: &CheckedJob) -> Result<Settled, WhyStopped
 // What the check of a job leads to.
 fn settle_check<F: Files>(alloc: Global, files: &mut F, job: &Word) -> Result<Settled, WhyStopped>
     ensures ok { IfOk result (Is (Leads (files_over F.Files files.old files.new)
-        (job.now ∷ []) (next_of_check job.now))) }
+        (job.now ∷ []) (decision_of_check job.now))) }
     ensures err { let seen = files_over F.Files files.old files.new in
-        IfErr result (StopsOver seen (Leads seen (job.now ∷ []) (next_of_check job.now))) }
+        IfErr result (StopsOver seen (Leads seen (job.now ∷ []) (decision_of_check job.now))) }
 {
     let text = read_file(alloc, files, job)?;
     let job = accept(alloc, text)?;
@@ -78,10 +78,10 @@ fn settle_run<T: Threads + Wait + Clock + Sync, F: Files, G: Gate>(
 ) -> Result<Settled, WhyStopped>
     requires { fuel ≤ FUEL_MOST }
     ensures ok { IfOk result (Is (Leads (files_over F.Files files.old files.new)
-        (job.now ∷ inputs.now) (next_of_run (elisions.of_job way) fuel job.now inputs.now))) }
+        (job.now ∷ inputs.now) (decision_of_run (elisions.of_job way) fuel job.now inputs.now))) }
     ensures err { let seen = files_over F.Files files.old files.new in
         IfErr result (StopsOver seen (Leads seen (job.now ∷ inputs.now)
-        (next_of_run (elisions.of_job way) fuel job.now inputs.now))) }
+        (decision_of_run (elisions.of_job way) fuel job.now inputs.now))) }
 {
     let text = read_file(engine.alloc, files, job)?;
     let job = accept(engine.alloc, text)?;
@@ -97,10 +97,10 @@ fn settle_index<T: Threads + Wait + Clock + Sync, F: Files, G: Gate>(
     input: &Word,
 ) -> Result<Settled, WhyStopped>
     ensures ok { IfOk result (Is (Leads (files_over F.Files files.old files.new)
-        (input.now ∷ []) (next_of_text (index_end elisions workers) input.now))) }
+        (input.now ∷ []) (decision_of_text (index_end elisions workers) input.now))) }
     ensures err { let seen = files_over F.Files files.old files.new in
         IfErr result (StopsOver seen (Leads seen (input.now ∷ [])
-        (next_of_text (index_end elisions workers) input.now))) }
+        (decision_of_text (index_end elisions workers) input.now))) }
 {
     let text = read_file(engine.alloc, files, input)?;
     let names = index_names(engine.alloc)?;
@@ -117,10 +117,10 @@ fn settle_convert<T: Threads + Wait + Clock + Sync, F: Files, G: Gate>(
     input: &Word,
 ) -> Result<Settled, WhyStopped>
     ensures ok { IfOk result (Is (Leads (files_over F.Files files.old files.new)
-        (input.now ∷ []) (next_of_text (conversion_end elisions workers) input.now))) }
+        (input.now ∷ []) (decision_of_text (conversion_end elisions workers) input.now))) }
     ensures err { let seen = files_over F.Files files.old files.new in
         IfErr result (StopsOver seen (Leads seen (input.now ∷ [])
-        (next_of_text (conversion_end elisions workers) input.now))) }
+        (decision_of_text (conversion_end elisions workers) input.now))) }
 {
     let text = read_file(engine.alloc, files, input)?;
     let names = record_names(engine.alloc)?;

@@ -1,5 +1,6 @@
 // What is settled, and what stops the reading.
 ghost use Rattle.std.specs.Prelude.{◌≡◌};
+ghost use Rattle.swan_top.specs.declared.verdict.Settled.TheVariants as settled;
 ghost use Rattle.swan_top.specs.declared.verdict.WhyStopped.TheVariants as stop;
 
 use crate::Status;
@@ -34,6 +35,15 @@ pub enum WhyStopped {
     Settled(Settled),
     /// Memory ran out.
     NoMemory,
+}
+
+impl WhyStopped {
+    /// It is refused by this line, and the call ends so. It takes no memory. `O(1)`.
+    pub fn refused(line: Blob, ends: Status) -> WhyStopped
+        ensures { result ≡ stop.Settled (settled.Refuses line ends) }
+    {
+        WhyStopped::Settled(Settled::Refuses { line, ends })
+    }
 }
 
 impl From<NoMemory> for WhyStopped {

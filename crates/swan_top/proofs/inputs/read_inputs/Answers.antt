@@ -1,6 +1,6 @@
 use Rattle.std.proofs.Common.{◌≡◌, ◌∙◌, length, get_or, ap, sym, arith, length-append}
 use Rattle.std.proofs.lemmas.Result.{err_from_is_err_and}
-use Rattle.swan_top.proofs.TextsRead.{AreRead-push, unread_next, unread_none, input_refused}
+use Rattle.swan_top.proofs.TextsRead.{AreRead-push, unread_next, unread_none, input_unread}
 use Rattle.swan_top.specs.Headline.{WasRead}
 use Rattle.swan_top.proofs.inputs.read_inputs.Goals as goal
 
@@ -12,7 +12,7 @@ returns-in_err-text-clause-refused g c =
     let inputs = c.loop-name.inputs.items in
     let at : get_or names (length inputs) c.name-item.result ≡ c.name-item.result =
     ap (λ i. get_or names i c.name-item.result) keeps.count ∙ sym c.name-item.is in
-    rw (p.1, p.2) (input_refused (g.F.Files.content c.args.files.now) (g.F.Files.content c.loop-name.files) _ _ _ _ _ _ keeps.no_fault keeps.no_long_read keeps.contents names inputs c.name-item.result keeps.read (unread_next names inputs c.name-item.result (omega arith) at) _ c.in_err-text.ensures.refused)
+    rw (p.1, p.2) (input_unread (g.F.Files.content c.args.files.now) (g.F.Files.content c.loop-name.files) _ _ _ _ _ _ keeps.no_fault keeps.no_long_read keeps.contents names inputs c.name-item.result keeps.read (unread_next names inputs c.name-item.result (omega arith) at) _ c.in_err-text.ensures.refused)
 
 pub loop-name-preserved : goal.loop-name-preserved
 loop-name-preserved g c =
