@@ -1,10 +1,11 @@
 -- All workers of an opening, as they take turns.
-use Rattle.std.proofs.Common.{◌≡◌, ℕ, ◌<◌, Bool, true, false, true≢false, IsTrue, IfOk, Result, Ok, Err, List, [], ◌∷◌, ◌++◌, All, arith, ap, drop, length, refl, set, slice_get, slice_index_or, subst, sym, take, ◌∙◌}
+use Rattle.std.proofs.Common.{◌≡◌, ◌||◌, ⊎_elim, ℕ, ◌<◌, Bool, true, false, true≢false, Some, IsTrue, IfOk, Result, Ok, Err, List, [], ◌∷◌, ◌++◌, All, arith, ap, drop, length, refl, set, slice_get, slice_index_or, subst, sym, take, ◌∙◌}
 use Rattle.std.specs.Arc.{arc_value}
 use Rattle.std.proofs.Math.Seq.{take-append_seam}
 use Rattle.std.proofs.lemmas.List.{length-set}
+use Rattle.std.proofs.lemmas.Option.{get_or_from_slice_get, slice_get_within}
 use Rattle.std.proofs.lemmas.List.Elements.{All-same, All-set}
-use Rattle.named_lock.specs.Seats.{IsSeatOf, knows, lock_name, lock_seats}
+use Rattle.named_lock.specs.Seats.{IsSeatOf, any_saw_done, knows, lock_name, lock_seats}
 use Rattle.named_lock.specs.declared.seat.LockSeat.{LockSeat}
 use Rattle.named_lock.specs.declared.lock.NamedLock.{NamedLock}
 use Rattle.swan_model.proofs.Lists.{get-set_same}
@@ -13,12 +14,15 @@ use Rattle.task_frames.specs.declared.run.PlanRun.{PlanRun}
 use Rattle.task_frames.specs.Resumes.{EndsOf}
 use Rattle.swan_runtime.specs.declared.worker.Worker.{Worker}
 use Rattle.swan_runtime.specs.Shared.{SharedView}
-use Rattle.swan_runtime.specs.Workers.{AreDriven, AreWorkersOfPlan, AreWorkers, IsSameWorker, IsWorker, IsWorkerOf, OneHasMet, has_met, own_of}
+use Rattle.swan_runtime.specs.Workers.{AreDriven, AreWorkersOfPlan, AreWorkers, IsSameWorker, IsWorker, IsWorkerOf, OneHasMet, has_met, own_of, saw_done, saw_stopped}
 
 -- what was written over the whole of a list
 pub written : {X : Type 0} (xs ys : List X) (n : ℕ) → n ≡ length xs → length ys ≡ length xs → take n (ys ++ drop (length ys) xs) ≡ ys
 written xs ys n whole same =
     ap (λ (k : ℕ). take k (ys ++ drop (length ys) xs)) (whole ∙ sym same) ∙ take-append_seam ys (drop (length ys) xs)
+
+all_at : {X : Type 0} (P : X → Type 0) (xs : List X) (i : ℕ) (x : X) → slice_get xs i ≡ Some x → All P xs → P x
+all_at P xs i x stands all = subst P (get_or_from_slice_get xs i x x stands) (all i x (slice_get_within xs i x stands))
 
 none_here : (n : ℕ) → 0 < n → 0 ≡ n → ⊥
 none_here n some same = omega (arith, some, same)
@@ -29,6 +33,32 @@ unseen false Found found again told isnt = refl
 unseen true Found true again told isnt = absurd (true≢false isnt)
 unseen true Found false again told isnt = absurd (true≢false (sym (told (again refl))))
 
+pub not_either : (a b : Bool) → (a || b) ≡ false → a ≡ false
+not_either true b is = absurd (true≢false is)
+not_either false b is = refl
+
+nor_other : (a b : Bool) → (a || b) ≡ false → b ≡ false
+nor_other true b is = absurd (true≢false is)
+nor_other false b is = is
+
+pub one_saw_done : (saw : Bool) → (saw ≡ false → ⊥) → saw ≡ true
+one_saw_done true some = refl
+one_saw_done false some = absurd (some refl)
+
+neither : (a b : Bool) → a ≡ false → b ≡ false → (a || b) ≡ false
+neither a b left right = ap (λ x. x || b) left ∙ right
+
+-- where no seat of a list and a further one has seen the run done, none of the list has, nor has that one
+none_saw_both : {S N : Type 0} (seats : List (LockSeat S N)) (seat : LockSeat S N) → any_saw_done (seats ++ seat ∷ []) ≡ false → (any_saw_done seats ≡ false) × ((knows seat).saw_done ≡ false)
+none_saw_both [] seat none = (refl, not_either (knows seat).saw_done false none)
+none_saw_both (first ∷ seats) seat none =
+    let rest = none_saw_both seats seat (nor_other (knows first).saw_done _ none) in
+    (neither (knows first).saw_done (any_saw_done seats) (not_either (knows first).saw_done _ none) rest.0, rest.1)
+
+pub none_saw : {S N : Type 0} (seats more : List (LockSeat S N)) (seat : LockSeat S N) → more ≡ seats ++ seat ∷ [] → any_saw_done more ≡ false
+    → (any_saw_done seats ≡ false) × ((knows seat).saw_done ≡ false)
+none_saw seats more seat is none = none_saw_both seats seat (ap any_saw_done (sym is) ∙ none)
+
 -- a seat that doesn't hold the state doesn't after a look either
 pub still_free : {S N : Type 0} (lock other : NamedLock S N) (old new : LockSeat S N) → other ≡ lock → IsSeatOf lock false old → IsSeatOf other (knows old).holding new
     → IsSeatOf lock false new
@@ -37,6 +67,15 @@ still_free {S = S} {N = N} lock other old new same was is = subst (λ (b : Bool)
 module _ {B Q L E : Type 0} (of : EndsOf E) where
   pub seat_of_worker : (lock : NamedLock (SharedView B L E) (PlanRun B L)) (worker : Worker B Q L E) → IsWorkerOf of lock worker → IsSeatOf lock false (own_of worker).seat
   seat_of_worker lock worker is = subst (λ (l : NamedLock (SharedView B L E) (PlanRun B L)). IsSeatOf l false (own_of worker).seat) is.lock_is is.own.seat
+
+  -- where one of them has met the end and none has seen the run stopped, not all have seen nothing
+  pub not_unseen : (lock : NamedLock (SharedView B L E) (PlanRun B L)) (workers : List (Worker B Q L E)) → All (IsWorkerOf of lock) workers → OneHasMet workers
+      → All (λ worker. saw_stopped worker ≡ false) workers → All (λ worker. saw_done worker ≡ false) workers → ⊥
+  not_unseen lock workers are one unstopped undone =
+      let is = all_at (IsWorkerOf of lock) workers one.index one.worker one.stands are in
+      let stopped = all_at (λ worker. saw_stopped worker ≡ false) workers one.index one.worker one.stands unstopped in
+      let done = all_at (λ worker. saw_done worker ≡ false) workers one.index one.worker one.stands undone in
+      ⊎_elim (λ saw. true≢false (sym saw ∙ done)) (λ saw. true≢false (sym saw ∙ stopped)) (is.own.met one.met)
 
   -- turns change neither whose they are, nor how many
   pub driven_workers : (before after : List (Worker B Q L E)) → AreWorkers of before → length after ≡ length before → AreDriven of before after → AreWorkers of after

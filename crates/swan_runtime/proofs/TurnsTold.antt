@@ -30,9 +30,11 @@ module _ {N : Type 0} (before after : View N) where
 
   -- A frame was tried in a hold, by a seat that then saw the run go on, or done where that was the answer.
   pub told_turn : (local : Steps) (tried answer : Turn) → MayBeAnsweredWith local tried answer → MayBeAnswered tried → before.holds < after.holds → before.saw_stopped ≡ false
-      → after.saw_stopped ≡ before.saw_stopped → (tried ≡ turn.Done → after.saw_done ≡ true) → IsWorkersTurn before after answer
-  told_turn local tried answer told is held runs same done = record {
+      → after.saw_stopped ≡ before.saw_stopped → (tried ≡ turn.Done → after.saw_done ≡ true) → (before.saw_done ≡ true → after.saw_done ≡ true)
+      → IsWorkersTurn before after answer
+  told_turn local tried answer told is held runs same done lasts_done = record {
     shown = shown_so local tried answer told is held done;
     stopped = λ stopped. absurd (true≢false (sym stopped ∙ same ∙ runs));
     lasts = λ stopped. absurd (true≢false (sym stopped ∙ runs));
+    lasts_done = lasts_done;
   }

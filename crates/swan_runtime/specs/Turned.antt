@@ -1,5 +1,5 @@
 -- What a worker's turn answers, and what shows it.
-use Rattle.std.specs.Prelude.{◌≡◌, ◌==◌, ◌+◌, ◌<◌, ◌≤◌, Bool, true, false, if◌then◌else◌}
+use Rattle.std.specs.Prelude.{◌≡◌, ◌⊎◌, ◌==◌, ◌+◌, ◌<◌, ◌≤◌, Bool, true, false, if◌then◌else◌}
 use Rattle.named_lock.specs.declared.rule.View.{View}
 use Rattle.named_lock.specs.declared.sign.Sign.TheVariants.{Stopped}
 use Rattle.task_frames.specs.declared.steps.Steps.{Steps}
@@ -43,11 +43,16 @@ module _ {N : Type 0} where
   IsShownBySeat before after turn.NoMemory = (after.sign ≡ Stopped) × (after.saw_stopped ≡ true)
 
   -- A turn was taken: it is shown by the seat. One that has seen the run stopped, in this turn or before, sees it so for good, and is answered
-  -- nothing but want of memory.
+  -- nothing but want of memory. One that has seen it done sees it so for good too.
   pub record IsWorkersTurn (before after : View N) (answer : Turn) : Type 0 where
     pub shown : IsShownBySeat before after answer
     pub stopped : after.saw_stopped ≡ true → answer ≡ turn.NoMemory
     pub lasts : before.saw_stopped ≡ true → after.saw_stopped ≡ true
+    pub lasts_done : before.saw_done ≡ true → after.saw_done ≡ true
+
+  -- The seat has seen the run done, or stopped.
+  abbrev pub HasSeenEnd : View N → Type 0
+  HasSeenEnd view = (view.saw_done ≡ true) ⊎ (view.saw_stopped ≡ true)
 
 -- whether a turn is a worker's last one
 abbrev pub is_last : Turn → Bool

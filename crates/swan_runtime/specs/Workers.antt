@@ -12,6 +12,7 @@ use Rattle.swan_runtime.specs.declared.shape.TheConstants.{RING_MOST, WORKERS_MO
 use Rattle.swan_runtime.specs.declared.worker.Own.{Own}
 use Rattle.swan_runtime.specs.declared.worker.Worker.{Worker}
 use Rattle.swan_runtime.specs.Shared.{IsOfRun, SharedView}
+use Rattle.swan_runtime.specs.Turned.{HasSeenEnd}
 
 module _ {B Q L E : Type 0} where
   -- whose a worker is: the run, and the plan
@@ -30,15 +31,20 @@ module _ {B Q L E : Type 0} where
   abbrev pub has_met : Worker B Q L E → Bool
   has_met worker = (own_of worker).met
 
-  -- whether it has seen the run stopped
+  -- whether it has seen the run done, or stopped
+  abbrev pub saw_done : Worker B Q L E → Bool
+  saw_done worker = (seat_of worker).saw_done
+
   abbrev pub saw_stopped : Worker B Q L E → Bool
   saw_stopped worker = (seat_of worker).saw_stopped
 
-  -- What one worker has for itself belongs together: its seat is one of the lock, its frame one of the run, and it has the plan's body.
+  -- What one worker has for itself belongs together: its seat is one of the lock, its frame one of the run, and it has the plan's body. Where a
+  -- turn of its own met the end of the run, its seat has seen that.
   pub record IsOwn (of : EndsOf E) (own : Own B Q L E) : Type 0 where
     pub seat : IsSeatOf (arc_value own.lock) false own.seat
     pub frame : IfSome own.frame (IsOfRun of (name_of own).plan (name_of own).run)
     pub body : arc_value own.body ≡ (name_of own).plan.body
+    pub met : own.met ≡ true → HasSeenEnd (knows own.seat)
 
   abbrev pub IsWorker : EndsOf E → Worker B Q L E → Type 0
   IsWorker of worker = IsOwn of (own_of worker)

@@ -7,9 +7,9 @@ ghost use Rattle.swan_model.specs.Script.{script};
 ghost use Rattle.named_lock.specs.declared.lock.NamedLock.{NamedLock as TheLock};
 ghost use Rattle.task_frames.specs.declared.run.PlanRun.{PlanRun};
 ghost use Rattle.swan_runtime.specs.Shared.{SharedView};
-ghost use Rattle.named_lock.specs.Seats.{IsNewSeatOf, IsSeatOf, lock_name, lock_seats};
+ghost use Rattle.named_lock.specs.Seats.{IsNewSeatOf, IsSeatOf, any_saw_done, lock_name, lock_seats};
 ghost use Rattle.task_frames.specs.Resumes.{IsOpened, ends_of};
-ghost use Rattle.swan_runtime.specs.Workers.{AreWorkers, IsWorkerOf, OneHasMet, AreWorkersOfPlan, has_met, saw_stopped};
+ghost use Rattle.swan_runtime.specs.Workers.{AreWorkers, IsWorkerOf, OneHasMet, AreWorkersOfPlan, has_met, saw_done, saw_stopped};
 
 use crate::shared::SharedRun;
 use crate::worker::Own;
@@ -136,6 +136,7 @@ fn seats_of<B: Body, Q: Queues>(
     ensures count { IfOk result (λ seats. vec_len seats ≡ vec_len workers) }
     ensures seats { IfOk result (λ seats. All (IsSeatOf (arc_value lock.now) false) seats.items) }
     ensures stopped { OnOk result (All (λ worker. saw_stopped worker ≡ false) workers.items) }
+    ensures done { IfOk result (λ seats. any_saw_done seats.items ≡ false → All (λ worker. saw_done worker ≡ false) workers.items) }
 {
     let mut workers = workers;
     let mut seats = Vec::new(alloc);
@@ -149,9 +150,9 @@ fn seats_of<B: Body, Q: Queues>(
     Ok(seats)
 }
 
-/// Closes a run, by all its workers, of which one has met its end: the outcome of the plan, where the run is done. Err is want of memory:
-/// of this call, or of the run, which was stopped then; it comes where one of the workers has seen the run stopped. `O(workers)`, and what the
-/// outcome takes.
+/// Closes a run, by all its workers, of which one has met its end, so that it is done or stopped: the outcome of the plan. Err is want of
+/// memory: of this call, or of the run, which was stopped then; it comes where one of the workers has seen the run stopped. `O(workers)`, and
+/// what the outcome takes.
 pub fn close<B: Body, Q: Queues>(
     alloc: Global,
     workers: Vec<Worker<B, Q>>,
@@ -168,10 +169,5 @@ pub fn close<B: Body, Q: Queues>(
 {
     let lock = lock_of(&workers)?;
     let seats = seats_of(alloc, &lock, workers)?;
-    let shared = lock.close(seats);
-    if shared.is_done() {
-        shared.into_core().take_outcome(alloc)
-    } else {
-        Err(NoMemory)
-    }
+    lock.close(seats).into_core().take_outcome(alloc)
 }

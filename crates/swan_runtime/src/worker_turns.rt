@@ -110,6 +110,7 @@ fn settle<B: Body, Q: Queues>(
 
     // what the seat knows by the answer, and what it owes
     ensures yes { result ≡ true → (knows seat.new).saw_stopped ≡ (knows seat.old).saw_stopped }
+    ensures lasts { (knows seat.old).saw_done ≡ true → (knows seat.new).saw_done ≡ true }
     ensures done { result ≡ true → held.old.state.core.is_done ≡ true → (knows seat.new).saw_done ≡ true }
     ensures no { result ≡ false → ((knows seat.new).sign ≡ Stopped) × ((knows seat.new).saw_stopped ≡ true) }
     ensures owes { (knows seat.new).owes_done ≡ true → held.old.state.core.is_done ≡ true }

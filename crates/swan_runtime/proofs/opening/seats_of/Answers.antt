@@ -2,8 +2,8 @@ use Rattle.std.proofs.Common.{rules, ◌≡◌, ◌∙◌, ap, false, subst, sym
 use Rattle.std.specs.Arc.{arc_value}
 use Rattle.named_lock.specs.Seats.{IsSeatOf, knows}
 use Rattle.task_frames.specs.Resumes.{ends_of}
-use Rattle.swan_runtime.specs.Workers.{IsWorkerOf, saw_stopped}
-use Rattle.swan_runtime.proofs.Crews.{seat_of_worker, still_free, unseen}
+use Rattle.swan_runtime.specs.Workers.{IsWorkerOf, saw_done, saw_stopped}
+use Rattle.swan_runtime.proofs.Crews.{none_saw, not_either, seat_of_worker, still_free, unseen}
 use Rattle.swan_model.proofs.Elements.{all_popped, all_pushed}
 use Rattle.swan_runtime.proofs.opening.seats_of.Goals as goal
 
@@ -19,5 +19,9 @@ loop-worker-preserved g c =
       popped.0,
       λ rest. c.loop-worker.invariant.3 (all_pushed (λ worker. saw_stopped worker ≡ false) c.pop.new.self.items c.loop-worker.workers.items c.in-Some.worker c.in-Some.ensures.items rest
           (ap (λ o. (knows o.seat).saw_stopped) (sym c.into_inner-seat.ensures) ∙ unseen _ _ _ c.is_stopped.ensures.again.1 c.is_stopped.ensures.sign.1 (search rules))),
+      λ none rest.
+          let before = none_saw c.loop-worker.seats.items c.push.new.self.items c.is_stopped.new.seat c.in_ok-push.ensures.items none in
+          c.loop-worker.invariant.4 before.0 (all_pushed (λ worker. saw_done worker ≡ false) c.pop.new.self.items c.loop-worker.workers.items c.in-Some.worker c.in-Some.ensures.items rest
+          (ap (λ o. (knows o.seat).saw_done) (sym c.into_inner-seat.ensures) ∙ not_either _ _ (ap (λ v. v.saw_done) (sym c.is_stopped.ensures.knows) ∙ before.1))),
       search rules,
     )

@@ -1,8 +1,8 @@
 use Rattle.std.proofs.Common.{◌≡◌, ◌+◌, false, All, vec_len}
 use Rattle.std.specs.Arc.{arc_value}
-use Rattle.named_lock.specs.Seats.{IsSeatOf}
+use Rattle.named_lock.specs.Seats.{IsSeatOf, any_saw_done}
 use Rattle.task_frames.specs.Resumes.{ends_of}
-use Rattle.swan_runtime.specs.Workers.{IsWorkerOf, saw_stopped}
+use Rattle.swan_runtime.specs.Workers.{IsWorkerOf, saw_done, saw_stopped}
 use Rattle.swan_runtime.proofs.opening.seats_of.Given as goal
 
 abbrev pub invariant-loop-worker : goal.invariant-loop-worker
@@ -11,6 +11,7 @@ invariant-loop-worker g l =
     × All (IsSeatOf (arc_value l.lock) false) l.seats.items
     × All (IsWorkerOf (ends_of g.Q.Ends.LocalEnds) (arc_value l.lock)) l.workers.items
     × (All (λ worker. saw_stopped worker ≡ false) l.workers.items → All (λ worker. saw_stopped worker ≡ false) l.fn.workers.items)
+    × (any_saw_done l.seats.items ≡ false → All (λ worker. saw_done worker ≡ false) l.workers.items → All (λ worker. saw_done worker ≡ false) l.fn.workers.items)
     × (l.lock ≡ l.fn.lock)
 
 abbrev pub decreases-loop-worker : goal.decreases-loop-worker
