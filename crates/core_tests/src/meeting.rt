@@ -70,9 +70,9 @@ struct Meeting {
 
 impl Model for Meeting {
     ghost use Rattle.std.specs.Prelude.{List, ℕ};
-    ghost use Rattle.swan_model.specs.declared.body.Ask.{Ask as Asked};
+    ghost use Rattle.swan_model.specs.declared.body.Ask.{Ask as TheAsk};
 
-    ghost Value = { List (Asked ℕ) };
+    ghost Value = { List (TheAsk ℕ) };
 
     ghost view = { λ meeting. meeting.list };
 }

@@ -25,9 +25,9 @@ struct Shared {
 
 impl Model for Shared {
     ghost use Rattle.std.specs.Prelude.{List, ℕ};
-    ghost use Rattle.swan_model.specs.declared.body.Ask.{Ask as Asked};
+    ghost use Rattle.swan_model.specs.declared.body.Ask.{Ask as TheAsk};
 
-    ghost Value = { List (Asked ℕ) };
+    ghost Value = { List (TheAsk ℕ) };
 
     ghost view = { λ shared. shared.list.value };
 }

@@ -22,9 +22,9 @@ pub struct AskList {
 
 impl Model for AskList {
     ghost use Rattle.std.specs.Prelude.{List, ℕ};
-    ghost use Rattle.swan_model.specs.declared.body.Ask.{Ask as Asked};
+    ghost use Rattle.swan_model.specs.declared.body.Ask.{Ask as TheAsk};
 
-    ghost Value = { List (Asked ℕ) };
+    ghost Value = { List (TheAsk ℕ) };
 
     ghost view = { λ list. list.asks.items };
 }

@@ -40,10 +40,10 @@ impl Model for BatchWriter {
     ghost use Rattle.std.specs.Prelude.{List, ◌≡◌, ◌≤◌, ◌⊎◌, length};
     ghost use Rattle.std.specs.List.{sum};
     ghost use Rattle.swan_model.specs.declared.record.TheConstants.{RECORD_MOST};
-    ghost use Rattle.swan_model.specs.declared.value.Value.{Value as Item};
+    ghost use Rattle.swan_model.specs.declared.value.Value.{Value as TheValue};
     ghost use Rattle.index_pipeline.specs.Batches.{cuts};
 
-    ghost Value = { List Item };
+    ghost Value = { List TheValue };
 
     ghost view = { λ writer. cuts writer.lens.items writer.bytes.items };
 
@@ -145,10 +145,10 @@ impl Model for Batch {
     ghost use Rattle.std.specs.Prelude.{List, ◌≤◌, ◌+◌, drop, length};
     ghost use Rattle.std.specs.List.{sum};
     ghost use Rattle.swan_model.specs.declared.record.TheConstants.{RECORD_MOST};
-    ghost use Rattle.swan_model.specs.declared.value.Value.{Value as Item};
+    ghost use Rattle.swan_model.specs.declared.value.Value.{Value as TheValue};
     ghost use Rattle.index_pipeline.specs.Batches.{cuts};
 
-    ghost Value = { List Item };
+    ghost Value = { List TheValue };
 
     ghost view = { λ batch. cuts (drop batch.next batch.lens.items) (drop batch.taken batch.bytes) };
 

@@ -1,6 +1,6 @@
 // Records that are pushed one by one, and made in batches.
 ghost use Rattle.std.specs.Prelude.{◌≡◌, ℕ, ◌<◌, ◌∷◌, ◌++◌, ◌⊎◌, [], List, length, true, false, IfOk, OnOk, MatchOption};
-ghost use Rattle.swan_model.specs.declared.value.Value.{Value as Item};
+ghost use Rattle.swan_model.specs.declared.value.Value.{Value as TheValue};
 ghost use Rattle.index_pipeline.specs.Batches.{has_room};
 
 use crate::batch::{Batch, BatchWriter};
@@ -11,7 +11,7 @@ use swan_model::{NoMemory, Value};
 /// What records are made of, one after the other.
 pub trait RecordSource: Drop {
     /// The records that are left to make, in order.
-    ghost left: { Self → List Item };
+    ghost left: { Self → List TheValue };
 
     /// The length of a word for whose record it wants room in a batch.
     ghost word_len: { Self → ℕ };
@@ -80,9 +80,9 @@ pub struct Batches<S: RecordSource> {
 
 impl<S: RecordSource> Model for Batches<S> {
     ghost use Rattle.std.specs.Prelude.{List, ◌++◌};
-    ghost use Rattle.swan_model.specs.declared.value.Value.{Value as Item};
+    ghost use Rattle.swan_model.specs.declared.value.Value.{Value as TheValue};
 
-    ghost Value = { List Item };
+    ghost Value = { List TheValue };
 
     ghost view = { λ left. left.ready.value.batch ++ S.left left.ready.value.source };
 }

@@ -23,11 +23,11 @@ pub struct LineLeft {
 
 impl Model for LineLeft {
     ghost use Rattle.std.specs.Prelude.{List, ◌≤◌, drop, length};
-    ghost use Rattle.swan_model.specs.declared.value.Value.{Value as Item};
+    ghost use Rattle.swan_model.specs.declared.value.Value.{Value as TheValue};
     ghost use Rattle.swan_model.specs.Values.{bytes_of};
     ghost use Rattle.index_pipeline.specs.Records.{line_records};
 
-    ghost Value = { List Item };
+    ghost Value = { List TheValue };
 
     ghost view = { λ left. line_records left.number (drop left.taken (bytes_of left.line)) };
 

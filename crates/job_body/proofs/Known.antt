@@ -6,7 +6,7 @@ use Rattle.std.proofs.lemmas.Option.{slice_get_within}
 use Rattle.job_reader.specs.declared.line.Line.{Line}
 use Rattle.job_reader.specs.declared.line.Line.TheVariants as line
 use Rattle.job_body.specs.declared.block.BlockWithLine.{BlockWithLine}
-use Rattle.job_body.specs.declared.scope.Scope.{Scope as Known}
+use Rattle.job_body.specs.declared.scope.Scope.{Scope}
 use Rattle.job_body.specs.Blocks.{blocks_after, blocks_at, blocks_from}
 use Rattle.job_body.specs.Compiled.{scope_past, seen_at}
 use Rattle.job_body.specs.Tasks.{TaskSoFar, access_name_of, made_of, param_of, roots, so_far_after, so_far_at, so_far_from, top_lines, var_of}
@@ -14,7 +14,7 @@ use Rattle.privilege_check.specs.Names.{is_main}
 use Rattle.swan_model.proofs.Lists.{take_next}
 
 -- what a task so far and its open blocks say
-abbrev seen : List (List ℕ) → TaskSoFar → List BlockWithLine → Known
+abbrev seen : List (List ℕ) → TaskSoFar → List BlockWithLine → Scope
 seen names so_far blocks = record {
   roots = names;
   is_main = is_main so_far.name;

@@ -7,7 +7,7 @@ use Rattle.job_reader.specs.Jobs.{IsPlaced, may_stand}
 use Rattle.job_reader.specs.Positions as positions
 use Rattle.job_reader.specs.Positions.{is_open}
 use Rattle.job_reader.specs.declared.atom.Atom.{Atom}
-use Rattle.job_reader.specs.declared.block.Block.{Block as Opened}
+use Rattle.job_reader.specs.declared.block.Block.{Block}
 use Rattle.job_reader.specs.declared.block.Block.TheVariants as opened
 use Rattle.job_reader.specs.declared.line.Line.{Line}
 use Rattle.job_reader.specs.declared.line.Line.TheVariants as line
@@ -16,7 +16,7 @@ use Rattle.job_reader.specs.declared.position.Position.TheVariants.{First, Top, 
 use Rattle.job_body.specs.declared.block.BlockWithLine.{BlockWithLine}
 use Rattle.job_body.specs.declared.block.BlockWithLine.TheVariants as block
 use Rattle.job_body.specs.declared.exit.Exit.{Exit}
-use Rattle.job_body.specs.declared.scope.Scope.{Scope as Known}
+use Rattle.job_body.specs.declared.scope.Scope.{Scope}
 use Rattle.job_body.specs.Blocks.{blocks_after_end, blocks_after, blocks_at, exit_at, exits, exits_with, first_exit}
 use Rattle.job_body.specs.Compiled.{scope_past, seen_at}
 use Rattle.job_body.proofs.Known.{seen-next}
@@ -29,7 +29,7 @@ use Rattle.swan_model.proofs.Lists.{past_none}
 -- ---- statements
 
 -- a statement opens no task and makes nothing
-pub statement : (inside : List Opened) (line : Line) → may_stand (InDo inside) line ≡ true → (is_task line ≡ false) × (made_entry line ≡ [])
+pub statement : (inside : List Block) (line : Line) → may_stand (InDo inside) line ≡ true → (is_task line ≡ false) × (made_entry line ≡ [])
 statement inside line.Header stands = absurd (false≢true stands)
 statement inside (line.Input name) stands = absurd (false≢true stands)
 statement inside (line.Output name kind) stands = absurd (false≢true stands)
@@ -50,7 +50,7 @@ LoopsStand job held [] = Unit {0}
 LoopsStand job held (block.If ∷ blocks) = LoopsStand job held blocks
 LoopsStand job held (block.While i ∷ blocks) = Stands job i held × LoopsStand job held blocks
 
-abbrev pub BlocksStand : List Line → List Mode → List Opened → List BlockWithLine → Type 0
+abbrev pub BlocksStand : List Line → List Mode → List Block → List BlockWithLine → Type 0
 BlocksStand job held inside blocks = (length blocks ≡ length inside) × LoopsStand job held blocks
 
 -- the blocks that are open at a place are as many as the place says
@@ -59,13 +59,13 @@ BlocksAt InTask job held blocks = blocks ≡ []
 BlocksAt (InDo inside) job held blocks = BlocksStand job held inside blocks
 BlocksAt _ job held blocks = Unit {0}
 
-entered-blocks : (i : ℕ) (s : Known) (line : Line) → (scope_past i s line).blocks ≡ blocks_after i s.blocks line
+entered-blocks : (i : ℕ) (s : Scope) (line : Line) → (scope_past i s line).blocks ≡ blocks_after i s.blocks line
 entered-blocks i s line.End = refl
 entered-blocks i s line = refl
 
 blocks-next : (job : List Line) (i : ℕ) (line : Line) → slice_get job i ≡ Some line → blocks_at job (i + 1) ≡ blocks_after i (blocks_at job i) line
 blocks-next job i line is =
-    ap (λ (s : Known). s.blocks) (sym (seen-next job i line is)) ∙ entered-blocks i (seen_at job i) line
+    ap (λ (s : Scope). s.blocks) (sym (seen-next job i line is)) ∙ entered-blocks i (seen_at job i) line
 
 declared-blocks : (job : List Line) (held : List Mode) (i : ℕ) (blocks : List BlockWithLine) (line : Line) → may_stand InTask line ≡ true → blocks ≡ [] → BlocksAt (positions.after InTask line) job held (blocks_after i blocks line)
 declared-blocks job held i blocks (line.Note text) stands none = none
@@ -77,7 +77,7 @@ declared-blocks job held i blocks (line.Object name kind) stands none = none
 declared-blocks job held i blocks line.Do stands none = subst (BlocksStand job held []) (sym none) (refl, tt)
 declared-blocks job held i blocks line stands none = absurd (false≢true stands)
 
-else-blocks : (job : List Line) (held : List Mode) (inside : List Opened) (blocks : List BlockWithLine) → positions.takes_else inside ≡ true → BlocksStand job held inside blocks → BlocksAt (positions.after_else inside) job held blocks
+else-blocks : (job : List Line) (held : List Mode) (inside : List Block) (blocks : List BlockWithLine) → positions.takes_else inside ≡ true → BlocksStand job held inside blocks → BlocksAt (positions.after_else inside) job held blocks
 else-blocks job held [] blocks stands b = absurd (false≢true stands)
 else-blocks job held (innermost ∷ inside) blocks stands b = b
 
@@ -85,13 +85,13 @@ end-loops : (job : List Line) (held : List Mode) (block : BlockWithLine) (blocks
 end-loops job held block.If blocks loops = loops
 end-loops job held (block.While i) blocks loops = loops.1
 
-end-blocks : (job : List Line) (held : List Mode) (inside : List Opened) (blocks : List BlockWithLine) → BlocksStand job held inside blocks → BlocksAt (positions.after_end inside) job held (blocks_after_end blocks)
+end-blocks : (job : List Line) (held : List Mode) (inside : List Block) (blocks : List BlockWithLine) → BlocksStand job held inside blocks → BlocksAt (positions.after_end inside) job held (blocks_after_end blocks)
 end-blocks job held [] blocks b = tt
 end-blocks job held (innermost ∷ inside) [] b = absurd (cc)
 end-blocks job held (innermost ∷ inside) (block ∷ blocks) b =
     (omega (arith, b.0), end-loops job held block blocks b.1)
 
-done-blocks : (job : List Line) (held : List Mode) (i : ℕ) (inside : List Opened) (blocks : List BlockWithLine) (line : Line) → may_stand (InDo inside) line ≡ true → Stands job i held → BlocksStand job held inside blocks → BlocksAt (positions.after_statement inside line) job held (blocks_after i blocks line)
+done-blocks : (job : List Line) (held : List Mode) (i : ℕ) (inside : List Block) (blocks : List BlockWithLine) (line : Line) → may_stand (InDo inside) line ≡ true → Stands job i held → BlocksStand job held inside blocks → BlocksAt (positions.after_statement inside line) job held (blocks_after i blocks line)
 done-blocks job held i inside blocks (line.If a) stands at b = (ap suc b.0, b.1)
 done-blocks job held i inside blocks (line.While a) stands at b = (ap suc b.0, (at, b.1))
 done-blocks job held i inside blocks line.Else stands at b = else-blocks job held inside blocks stands b
@@ -138,7 +138,7 @@ blocks-stand job placed =
 -- ---- exits
 
 -- each block goes on at lines where the same is held
-abbrev pub ExitsStand : List Line → List Mode → List Opened → List Exit → Type 0
+abbrev pub ExitsStand : List Line → List Mode → List Block → List Exit → Type 0
 ExitsStand job held [] exits = Unit {0}
 ExitsStand job held (innermost ∷ inside) [] = ⊥
 ExitsStand job held (innermost ∷ inside) (exit ∷ exits) = Stands job exit.otherwise held × Stands job exit.after held × ExitsStand job held inside exits
@@ -147,20 +147,20 @@ abbrev pub ExitsAt : Position → List Line → List Mode → List Exit → Type
 ExitsAt (InDo inside) job held exits = ExitsStand job held inside exits
 ExitsAt _ job held exits = Unit {0}
 
-if-exits : (job : List Line) (held : List Mode) (innermost : Opened) (inside : List Opened) (i : ℕ) (a : Atom) (exits : List Exit) → ExitsStand job held (innermost ∷ inside) exits → ExitsStand job held inside (exits_with i (line.If a) exits)
+if-exits : (job : List Line) (held : List Mode) (innermost : Block) (inside : List Block) (i : ℕ) (a : Atom) (exits : List Exit) → ExitsStand job held (innermost ∷ inside) exits → ExitsStand job held inside (exits_with i (line.If a) exits)
 if-exits job held innermost inside i a [] e = absurd e
 if-exits job held innermost inside i a (exit ∷ exits) e = e.2
 
-else-exits : (job : List Line) (held : List Mode) (inside : List Opened) (i : ℕ) (exits : List Exit) → positions.takes_else inside ≡ true → (is_open (positions.after_else inside) ≡ true → Stands job (i + 1) held) → ExitsAt (positions.after_else inside) job held exits → ExitsStand job held inside (exits_with i line.Else exits)
+else-exits : (job : List Line) (held : List Mode) (inside : List Block) (i : ℕ) (exits : List Exit) → positions.takes_else inside ≡ true → (is_open (positions.after_else inside) ≡ true → Stands job (i + 1) held) → ExitsAt (positions.after_else inside) job held exits → ExitsStand job held inside (exits_with i line.Else exits)
 else-exits job held [] i exits stands next e = tt
 else-exits job held (innermost ∷ inside) i [] stands next e = absurd e
 else-exits job held (innermost ∷ inside) i (exit ∷ exits) stands next e = (next refl, e.1, e.2)
 
-end-exits : (job : List Line) (held : List Mode) (inside : List Opened) (i : ℕ) (exits : List Exit) → (is_open (positions.after_end inside) ≡ true → Stands job (i + 1) held) → ExitsAt (positions.after_end inside) job held exits → ExitsStand job held inside (exits_with i line.End exits)
+end-exits : (job : List Line) (held : List Mode) (inside : List Block) (i : ℕ) (exits : List Exit) → (is_open (positions.after_end inside) ≡ true → Stands job (i + 1) held) → ExitsAt (positions.after_end inside) job held exits → ExitsStand job held inside (exits_with i line.End exits)
 end-exits job held [] i exits next e = tt
 end-exits job held (innermost ∷ inside) i exits next e = (next refl, next refl, e)
 
-done-exits : (job : List Line) (held : List Mode) (inside : List Opened) (i : ℕ) (line : Line) (exits : List Exit) → may_stand (InDo inside) line ≡ true → (is_open (positions.after_statement inside line) ≡ true → Stands job (i + 1) held) → ExitsAt (positions.after_statement inside line) job held exits → ExitsStand job held inside (exits_with i line exits)
+done-exits : (job : List Line) (held : List Mode) (inside : List Block) (i : ℕ) (line : Line) (exits : List Exit) → may_stand (InDo inside) line ≡ true → (is_open (positions.after_statement inside line) ≡ true → Stands job (i + 1) held) → ExitsAt (positions.after_statement inside line) job held exits → ExitsStand job held inside (exits_with i line exits)
 done-exits job held inside i (line.If a) exits stands next e = if-exits job held opened.If inside i a exits e
 done-exits job held inside i (line.While a) exits stands next e = if-exits job held opened.While inside i a exits e
 done-exits job held inside i line.Else exits stands next e = else-exits job held inside i exits stands next e
@@ -198,12 +198,12 @@ exits-stand job placed (line ∷ lines) i rest =
     let is = item_of_drop job i line lines rest in
     exits-step job i line lines (position_at job i) refl is (stands_here job i line placed is) (exits-stand job placed lines (i + 1) (rest_of_drop job i line lines rest))
 
-first-stands : (job : List Line) (held : List Mode) (innermost : Opened) (inside : List Opened) (exits : List Exit) (end : ℕ) → ExitsStand job held (innermost ∷ inside) exits → Stands job (first_exit end exits).otherwise held × Stands job (first_exit end exits).after held
+first-stands : (job : List Line) (held : List Mode) (innermost : Block) (inside : List Block) (exits : List Exit) (end : ℕ) → ExitsStand job held (innermost ∷ inside) exits → Stands job (first_exit end exits).otherwise held × Stands job (first_exit end exits).after held
 first-stands job held innermost inside [] end e = absurd e
 first-stands job held innermost inside (exit ∷ exits) end e = (e.0, e.1)
 
 -- how the block goes on that is open after a line
-pub exit-stands : (job : List Line) (i : ℕ) (innermost : Opened) (inside : List Opened) (held : List Mode) → IsPlaced First job → position_at job (i + 1) ≡ InDo (innermost ∷ inside) → modes (held_at job (i + 1)) ≡ held → Stands job (exit_at job i).otherwise held × Stands job (exit_at job i).after held
+pub exit-stands : (job : List Line) (i : ℕ) (innermost : Block) (inside : List Block) (held : List Mode) → IsPlaced First job → position_at job (i + 1) ≡ InDo (innermost ∷ inside) → modes (held_at job (i + 1)) ≡ held → Stands job (exit_at job i).otherwise held × Stands job (exit_at job i).after held
 exit-stands job i innermost inside held placed at same =
     first-stands job held innermost inside (exits (i + 1) (drop (i + 1) job)) (length job)
     (subst (λ h. ExitsStand job h (innermost ∷ inside) (exits (i + 1) (drop (i + 1) job))) same

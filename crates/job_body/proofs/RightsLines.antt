@@ -10,7 +10,7 @@ use Rattle.job_reader.specs.Jobs.{IsPlaced, may_stand}
 use Rattle.job_reader.specs.Positions as positions
 use Rattle.job_reader.specs.Positions.{is_open}
 use Rattle.job_reader.specs.declared.atom.Atom.{Atom}
-use Rattle.job_reader.specs.declared.block.Block.{Block as Opened}
+use Rattle.job_reader.specs.declared.block.Block.{Block}
 use Rattle.job_reader.specs.declared.fault.JobKind.{JobKind}
 use Rattle.job_reader.specs.declared.fault.JobKind.TheVariants as fault
 use Rattle.job_reader.specs.declared.line.Line.{Line}
@@ -50,7 +50,7 @@ is_statement line.End = true
 is_statement _ = false
 
 -- a statement of a task stands after its `do`
-pub in-do : (place : Position) (line : Line) → is_open place ≡ true → may_stand place line ≡ true → is_statement line ≡ true → (inside : List Opened) × (place ≡ InDo inside)
+pub in-do : (place : Position) (line : Line) → is_open place ≡ true → may_stand place line ≡ true → is_statement line ≡ true → (inside : List Block) × (place ≡ InDo inside)
 in-do First line within stands e = absurd (false≢true within)
 in-do (Top n) line within stands e = absurd (false≢true within)
 in-do Outside line within stands e = absurd (false≢true within)
@@ -71,7 +71,7 @@ is_past (InDo inside) = true
 is_past Outside = true
 is_past _ = false
 
-past-statement : (inside : List Opened) (line : Line) → is_past (positions.after_statement inside line) ≡ true
+past-statement : (inside : List Block) (line : Line) → is_past (positions.after_statement inside line) ≡ true
 past-statement inside (line.If a) = refl
 past-statement inside (line.While a) = refl
 past-statement [] line.Else = refl
@@ -116,7 +116,7 @@ takes-nothing (line ∷ lines) Outside past placed = absurd (false≢true placed
 -- ---- a statement
 
 pub record IsStatementAt (job : List Line) (i : ℕ) (held : List Mode) : Type 0 where
-  pub inside : List Opened
+  pub inside : List Block
   pub at : position_at job i ≡ InDo inside
   pub task : (before_at job i).open_task ≡ Some (so_far_at job i).name
   pub names : (query : List ℕ) → mode_of (entries job (so_far_at job i)) query ≡ mode_known (known (before_at job i) query)

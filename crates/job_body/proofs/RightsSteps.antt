@@ -18,7 +18,7 @@ use Rattle.job_reader.specs.Jobs.{IsPlaced, may_stand}
 use Rattle.job_reader.specs.Positions as positions
 use Rattle.job_reader.specs.Positions.{is_open}
 use Rattle.job_reader.specs.declared.atom.Atom.{Atom}
-use Rattle.job_reader.specs.declared.block.Block.{Block as Opened}
+use Rattle.job_reader.specs.declared.block.Block.{Block}
 use Rattle.job_reader.specs.declared.block.Block.TheVariants as opened
 use Rattle.job_reader.specs.declared.fault.JobKind.{JobKind}
 use Rattle.job_reader.specs.declared.line.Line.{Line}
@@ -140,7 +140,7 @@ branch-fits job n store a true x y first second = work-fits job n store (after_n
 branch-fits job n store a false x y first second = work-fits job n store (after_next a y) second
 
 -- the `end` of a block, or of the task
-ended-fits : (job : List Line) (n : ℕ) (store : Store) (a : Activation Standing) (s : Standing) (step : Step job store a s line.End) (inside : List Opened) (blocks : List BlockWithLine) → position_at job s.at ≡ InDo inside → BlocksStand job (held_modes_of a.holdings) inside blocks → StepFits job n store a (steps.ended job s blocks)
+ended-fits : (job : List Line) (n : ℕ) (store : Store) (a : Activation Standing) (s : Standing) (step : Step job store a s line.End) (inside : List Block) (blocks : List BlockWithLine) → position_at job s.at ≡ InDo inside → BlocksStand job (held_modes_of a.holdings) inside blocks → StepFits job n store a (steps.ended job s blocks)
 ended-fits job n store a s step inside [] at b = tt
 ended-fits job n store a s step [] (block ∷ blocks) at b = absurd (let e = b.0 in cc)
 ended-fits job n store a s step (innermost ∷ inside) (block.If ∷ blocks) at b =
@@ -158,7 +158,7 @@ end-fits job n store a s step =
     (subst (λ p. BlocksAt p job (modes (held_at job s.at)) (blocks_at job s.at)) d.at (blocks-stand job step.placed s.at)))
 
 -- a line that opens a block, or goes past it
-opens-fits : (job : List Line) (store : Store) (a : Activation Standing) (s : Standing) (line : Line) (step : Step job store a s line) (innermost : Opened) (inside : List Opened) → is_task line ≡ false → made_entry line ≡ [] → positions.after (position_at job s.at) line ≡ InDo (innermost ∷ inside) → Stands job (exit_at job s.at).otherwise (held_modes_of a.holdings) × Stands job (exit_at job s.at).after (held_modes_of a.holdings)
+opens-fits : (job : List Line) (store : Store) (a : Activation Standing) (s : Standing) (line : Line) (step : Step job store a s line) (innermost : Block) (inside : List Block) → is_task line ≡ false → made_entry line ≡ [] → positions.after (position_at job s.at) line ≡ InDo (innermost ∷ inside) → Stands job (exit_at job s.at).otherwise (held_modes_of a.holdings) × Stands job (exit_at job s.at).after (held_modes_of a.holdings)
 opens-fits job store a s line step innermost inside plain none at =
     exit-stands job s.at innermost inside (held_modes_of a.holdings) step.placed (place-next job s.at line step.is ∙ at)
     (ap modes (held-same job s.at line step.is plain none) ∙ sym step.stands.holds)
@@ -177,7 +177,7 @@ while-fits job n store a s c step b =
     branch-fits job n store a b (steps.after_move_on job s) (steps.after_move_to job s (exit_at job s.at).after)
     (on-fits job store a s (line.While c) step refl refl refl) (to-fits job store a s (line.While c) step (exit_at job s.at).after out.1)
 
-after-else : (inside : List Opened) → positions.takes_else inside ≡ true → (others : List Opened) × (positions.after_else inside ≡ InDo (opened.Else ∷ others))
+after-else : (inside : List Block) → positions.takes_else inside ≡ true → (others : List Block) × (positions.after_else inside ≡ InDo (opened.Else ∷ others))
 after-else [] e = absurd (false≢true e)
 after-else (innermost ∷ inside) e = (inside, refl)
 

@@ -14,9 +14,9 @@ pub struct QueueHolding {
 }
 
 impl Model for QueueHolding {
-    ghost use Rattle.swan_model.specs.SerialState.{Holding as Held};
+    ghost use Rattle.swan_model.specs.SerialState.{Holding as TheHolding};
 
-    ghost Value = { Held };
+    ghost Value = { TheHolding };
 
     ghost view = { λ holding. record { mode = holding.mode; number = holding.queue } };
 

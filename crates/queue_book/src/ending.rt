@@ -8,7 +8,7 @@ ghost use Rattle.queue_book.specs.KeptFrames.{own_chunk_in};
 ghost use Rattle.queue_book.specs.Lines.{HaveLines};
 ghost use Rattle.queue_book.specs.Live.{kept_of, OnKept};
 ghost use Rattle.pop_order.specs.OneChange.{IsOnlyChange};
-ghost use Rattle.queue_book.specs.declared.live_frame.OwnChunk.{OwnChunk as KeptChunk};
+ghost use Rattle.queue_book.specs.declared.live_frame.OwnChunk.{OwnChunk as TheOwnChunk};
 
 use crate::OwnChunk;
 use crate::chains::Chains;
@@ -25,7 +25,7 @@ impl QueueStore {
         requires childless { HasNoChild self.old.turns number }
 
         // where its chunks stand
-        requires known { OnKept self.old.frames number (λ kept. (queue : ℕ) (own_chunk : KeptChunk) → own_chunk_in kept.own_chunks queue ≡ Some own_chunk
+        requires known { OnKept self.old.frames number (λ kept. (queue : ℕ) (own_chunk : TheOwnChunk) → own_chunk_in kept.own_chunks queue ≡ Some own_chunk
             → queue < length self.old.chains.heads.items) }
         requires owned { OnKept self.old.frames number (λ kept. HaveOwn self.old.chains.heads.items self.old.chains.nodes number kept.own_chunks) }
 
@@ -50,7 +50,7 @@ impl QueueStore {
 /// Closes the chunks of a frame that has ended, and gives up the queues that it made where it isn't the root.
 /// `O(log n)` for each of its queues, and `O(1)` for each chunk and item that is given up.
 fn end_chunks(chains: &mut Chains, number: u64, mut own_chunks: BTreeMap<u32, OwnChunk>)
-    requires known { (queue : ℕ) (own_chunk : KeptChunk) → own_chunk_in own_chunks.entries queue ≡ Some own_chunk → queue < length chains.old.heads.items }
+    requires known { (queue : ℕ) (own_chunk : TheOwnChunk) → own_chunk_in own_chunks.entries queue ≡ Some own_chunk → queue < length chains.old.heads.items }
     requires owned { HaveOwn chains.old.heads.items chains.old.nodes number own_chunks.entries }
     ensures same { length chains.new.heads.items ≡ length chains.old.heads.items }
     ensures ended { (at : ℕ → ℕ → Option ℕ) (lines : ℕ → Chunks)

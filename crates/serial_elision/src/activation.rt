@@ -27,11 +27,11 @@ pub struct Activation<L> {
 }
 
 impl<L> Model for Activation<L> {
-    ghost use Rattle.swan_model.specs.SerialState.{Activation as Active};
+    ghost use Rattle.swan_model.specs.SerialState.{Activation as TheActivation};
     ghost use Rattle.std.specs.Prelude.{length};
     ghost use Rattle.serial_elision.specs.Bounds.{IsWithin};
 
-    ghost Value = { Active L };
+    ghost Value = { TheActivation L };
 
     ghost view = { λ a. record {
       path = a.path;

@@ -14,9 +14,9 @@ pub struct Cell {
 }
 
 impl Model for Cell {
-    ghost use Rattle.swan_model.specs.SerialState.{Cell as Object};
+    ghost use Rattle.swan_model.specs.SerialState.{Cell as TheCell};
 
-    ghost Value = { Object };
+    ghost Value = { TheCell };
 
     ghost view = { λ cell. record { origin = cell.origin; kind = cell.kind; value = cell.value } };
 }

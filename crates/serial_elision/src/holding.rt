@@ -16,9 +16,9 @@ pub struct Holding {
 }
 
 impl Model for Holding {
-    ghost use Rattle.swan_model.specs.SerialState.{Holding as Held};
+    ghost use Rattle.swan_model.specs.SerialState.{Holding as TheHolding};
 
-    ghost Value = { Held };
+    ghost Value = { TheHolding };
 
     ghost view = { λ holding. record { mode = holding.mode; number = holding.number } };
 

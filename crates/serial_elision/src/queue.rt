@@ -18,9 +18,9 @@ pub struct Queue {
 }
 
 impl Model for Queue {
-    ghost use Rattle.swan_model.specs.SerialState.{Queue as Listed};
+    ghost use Rattle.swan_model.specs.SerialState.{Queue as TheQueue};
 
-    ghost Value = { Listed };
+    ghost Value = { TheQueue };
 
     ghost view = { λ queue. record { origin = queue.origin; items = queue.items.items } };
 }

@@ -28,9 +28,9 @@ pub struct State<L> {
 }
 
 impl<L> Model for State<L> {
-    ghost use Rattle.swan_model.specs.SerialState.{State as Serial};
+    ghost use Rattle.swan_model.specs.SerialState.{State as TheState};
 
-    ghost Value = { Serial L };
+    ghost Value = { TheState L };
 
     ghost view = { λ state. record {
       steps = state.steps;

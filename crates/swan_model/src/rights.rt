@@ -69,10 +69,10 @@ pub struct Gives {
 
 impl Model for Gives {
     ghost use Rattle.std.specs.Prelude.{List, ◌≤◌, length};
-    ghost use Rattle.swan_model.specs.declared.rights.Give.{Give as Item};
+    ghost use Rattle.swan_model.specs.declared.rights.Give.{Give as TheGive};
     ghost use Rattle.swan_model.specs.declared.rights.TheConstants.{GIVES_MOST};
 
-    ghost Value = { List Item };
+    ghost Value = { List TheGive };
 
     ghost view = { λ gives. gives.items };
 

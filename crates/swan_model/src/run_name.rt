@@ -21,10 +21,10 @@ pub struct RunName {
 impl Model for RunName {
     ghost use Rattle.std.specs.Prelude.{Option, ◌≤◌, length};
     ghost use Rattle.std.specs.Option.{ForSome};
-    ghost use Rattle.swan_model.specs.declared.script.Script.{Script as Told};
+    ghost use Rattle.swan_model.specs.declared.script.Script.{Script as TheScript};
     ghost use Rattle.swan_model.specs.declared.run_name.TheConstants.{ENTRIES_MOST};
 
-    ghost Value = { Option Told };
+    ghost Value = { Option TheScript };
 
     ghost view = { λ name. name.meaning.means };
 
