@@ -4,7 +4,6 @@ ghost use Rattle.job_body.specs.Operations.{number_of, flag, fitting_number, quo
 ghost use Rattle.job_body.specs.Runs.{int_operation, valued};
 ghost use Rattle.swan_model.specs.declared.value.Value.TheVariants.{Int, Bytes};
 ghost use Rattle.job_reader.specs.Atoms.{number};
-ghost use Rattle.std.specs.Fmt.{signed_decimal};
 
 use crate::instruction::IntOp;
 use job_reader::read_number;
@@ -236,16 +235,5 @@ pub fn numbered(bytes: &[u8]) -> Result<Value, Trouble>
     match read_number(bytes) {
         Some(number) => Ok(Value::Int(number)),
         None => Err(Trouble::BadNumber),
-    }
-}
-
-/// The decimal text of a number.
-pub fn text(alloc: Global, number: i64) -> Result<Value, NoMemory>
-    ensures { IfOk result (λ it. it ≡ Bytes (signed_decimal number)) }
-{
-    let text = format!(in alloc; "{number}")?;
-    match Record::of(alloc, text.as_bytes()) {
-        Ok(it) => Ok(Value::Bytes(it)),
-        Err(_) => Err(NoMemory),
     }
 }

@@ -6,7 +6,7 @@ ghost use Rattle.job_body.specs.Runs.{int_operation, value_of};
 
 use crate::JobLocal;
 use crate::instruction::{IntOp, Operand};
-use crate::operation::{byte_at, flag, found, joined, length_of, numbered, part, reckoned, text};
+use crate::operation::{byte_at, flag, found, joined, length_of, numbered, part, reckoned};
 use job_reader::Op;
 use std::alloc::Global;
 use swan_model::{NoMemory, Record, Trouble, Value};
@@ -34,10 +34,7 @@ fn slice(
 {
     match local.record(a) {
         Some(record) => part(record, i, j),
-        None => match Record::of(alloc, &[]) {
-            Ok(empty) => part(&empty, i, j),
-            Err(_) => Err(NoMemory),
-        },
+        None => part(&Record::empty(), i, j),
     }
 }
 
@@ -83,6 +80,6 @@ pub fn outcome_of(
         Op::Cat => joined(alloc, local.bytes(a), local.bytes(b)),
         Op::Find => Ok(found(local.bytes(a), local.number(b), local.number(c))),
         Op::Num => Ok(numbered(local.bytes(a))),
-        Op::Text => Ok(Ok(text(alloc, local.number(a))?)),
+        Op::Text => Ok(Ok(Value::Bytes(Record::decimal(alloc, local.number(a))?))),
     }
 }

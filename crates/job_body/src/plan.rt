@@ -49,11 +49,11 @@ fn with_queue(mut roots: Roots, mode: Mode, items: Values) -> Result<Roots, NoMe
 }
 
 /// The roots with one more object, at the zero of its kind.
-fn with_object(alloc: Global, mut roots: Roots, kind: Kind) -> Result<Roots, NoMemory>
+fn with_object(mut roots: Roots, kind: Kind) -> Result<Roots, NoMemory>
     requires room { length roots.queues + length roots.objects < ROOTS_MOST }
     ensures { IfOk result (λ all. all ≡ record roots { objects = roots.objects ++ zero_of kind ∷ [] }) }
 {
-    match roots.push_object(Value::zero(alloc, kind)?) {
+    match roots.push_object(Value::zero(kind)) {
         Ok(()) => Ok(roots),
         Err(_) => Err(NoMemory),
     }
@@ -96,7 +96,7 @@ fn fill(alloc: Global, lines: &[Line], inputs: &[Blob]) -> Result<Roots, PlanAns
                 next += 1;
             }
             Line::Output(_, _) => roots = with_queue(roots, Mode::Push, Values::new(alloc))?,
-            Line::Object(_, kind) => roots = with_object(alloc, roots, *kind)?,
+            Line::Object(_, kind) => roots = with_object(roots, *kind)?,
             _ => {}
         }
     }

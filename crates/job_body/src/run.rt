@@ -15,11 +15,11 @@ use std::alloc::Global;
 use swan_model::{Answer, Ask, Child, Gives, Kind, Listed, NoMemory, Stop, Trouble, Value, Worked};
 
 /// The values, and after them the zeros of these kinds.
-fn with_zeros(alloc: Global, mut values: Vec<Value>, kinds: &[Kind]) -> Result<Vec<Value>, NoMemory>
+fn with_zeros(mut values: Vec<Value>, kinds: &[Kind]) -> Result<Vec<Value>, NoMemory>
     ensures { IfOk result (λ all. all.items ≡ values.items ++ map zero_of kinds.now) }
 {
     for kind in kinds {
-        values.push(Value::zero(alloc, *kind)?)?;
+        values.push(Value::zero(*kind))?;
     }
     Ok(values)
 }
@@ -36,7 +36,7 @@ pub fn begin(
     let index = task.index();
     if let Some(instruction) = program.get(index as usize) {
         if let Action::Demand(Demand::Begin(kinds)) = &instruction.action {
-            let values = with_zeros(alloc, values, kinds.as_slice())?;
+            let values = with_zeros(values, kinds.as_slice())?;
             return Ok(JobLocal::new(index, instruction.next, values));
         }
     }
@@ -107,11 +107,7 @@ fn do_demand(
     match demand {
         Demand::Begin(_) | Demand::Finish => Ok(Ask::Finish),
         Demand::NewQueue => Ok(go_and_ask(local, to, Ask::NewQueue)),
-        Demand::NewObject(kind) => Ok(go_and_ask(
-            local,
-            to,
-            Ask::NewObject(Value::zero(alloc, *kind)?),
-        )),
+        Demand::NewObject(kind) => Ok(go_and_ask(local, to, Ask::NewObject(Value::zero(*kind)))),
         Demand::Read(_, place) => Ok(go_and_ask(local, to, Ask::Read(*place))),
         Demand::Write(place, a) => {
             let value = local.value(a)?;

@@ -74,18 +74,10 @@ fn copy_is(value: &Value, kind: Kind, size: i64) -> bool {
     }
 }
 
-/// Whether the zero of a kind is made, is of this size, and is copied.
-fn zero_is_copied(alloc: Global, kind: Kind, size: i64) -> bool {
-    match Value::zero(alloc, kind) {
-        Ok(zero) => copy_is(&zero, kind, size),
-        Err(_) => false,
-    }
-}
-
 #[test]
 fn zeros_are_made_and_copied(rt: HostRuntime) {
-    assert!(rt; zero_is_copied(rt.alloc(), Kind::Int, -1));
-    assert!(rt; zero_is_copied(rt.alloc(), Kind::Bytes, 0));
+    assert!(rt; copy_is(&Value::zero(Kind::Int), Kind::Int, -1));
+    assert!(rt; copy_is(&Value::zero(Kind::Bytes), Kind::Bytes, 0));
 }
 
 /// Whether one value is listed.

@@ -114,7 +114,7 @@ impl VersionStore {
         ensures given { OnOk result (Becomes self.old self.new (λ state. after_access state gift.parent gift.parent_place gift.child gift.child_place Out)) }
         ensures keeps { OnOk result ((has : ThePlacedObject) → kept_at self.new gift.parent gift.parent_place ≡ Some has → has.given ≡ object.now.given) }
     {
-        let zero = Value::zero(self.alloc, object.kind)?;
+        let zero = Value::zero(object.kind);
         let owed = make(
             &mut self.nodes,
             &object.object,

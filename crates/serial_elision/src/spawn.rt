@@ -1,7 +1,7 @@
 // Spawns.
 ghost use Rattle.std.specs.Prelude.{◌≡◌, ℕ, ◌<◌, ◌≤◌, List, [], ◌∷◌, ◌++◌, Some, length, IfOk, IfSome, IfNone, OnOk};
 ghost use Rattle.std.specs.Option.{option_map};
-ghost use Rattle.swan_model.specs.SerialState.{Holding as Held, Store as Things};
+ghost use Rattle.swan_model.specs.SerialState.{Holding as TheHolding, Store as TheStore};
 ghost use Rattle.swan_model.specs.SerialStep.{given, effect, spawn_effect, cells_with_zeros};
 ghost use Rattle.swan_model.specs.SerialStep.Effect.{faults, spawns};
 ghost use Rattle.swan_model.specs.declared.body.Ask.TheVariants as ask;
@@ -33,7 +33,7 @@ pub fn spawn<L: Drop>(
     };
     match fault_of(alloc, parent, &child)? {
         Some(kind) => Ok(Effect::Faulted(kind)),
-        None => Ok(Effect::Spawned(begin(alloc, store, parent, child, holdings)?)),
+        None => Ok(Effect::Spawned(begin(store, parent, child, holdings)?)),
     }
 }
 
@@ -69,9 +69,9 @@ fn fault_of<L>(
     child: &Child<L>,
 ) -> Result<Option<FaultKind>, NoMemory>
     // what the effect is, where the child holds this
-    ensures fault { IfOk result (λ fault. IfSome fault (λ kind. (store : Things) (holdings : List Held)
+    ensures fault { IfOk result (λ fault. IfSome fault (λ kind. (store : TheStore) (holdings : List TheHolding)
         → spawn_effect store parent.now child.now (Some holdings) ≡ faults kind)) }
-    ensures none { IfOk result (λ fault. IfNone fault ((store : Things) (holdings : List Held)
+    ensures none { IfOk result (λ fault. IfNone fault ((store : TheStore) (holdings : List TheHolding)
         → spawn_effect store parent.now child.now (Some holdings)
         ≡ spawns (parent_activation parent.now child.now) (child_activation parent.now child.now holdings)
         (record store { cells = cells_with_zeros store.cells holdings }))) }
@@ -94,7 +94,6 @@ fn fault_of<L>(
 
 /// Begins a child that holds this, where the spawn is no fault. `O(holdings + d)` for a path of `d` parts.
 fn begin<L: Drop>(
-    alloc: Global,
     store: &mut Store,
     parent: &mut Activation<L>,
     child: Child<L>,
@@ -112,7 +111,7 @@ fn begin<L: Drop>(
     ensures store { OnOk result (store.new ≡ record store.old { cells = cells_with_zeros store.old.cells holdings.items }) }
     ensures path { parent.new.path ≡ parent.old.path }
 {
-    let path = next_path(alloc, store, parent, holdings.as_slice())?;
+    let path = next_path(store, parent, holdings.as_slice())?;
     charge(parent, &child);
     Ok(Activation {
         path,
@@ -127,7 +126,6 @@ fn begin<L: Drop>(
 /// The path of the parent's next child, once each object that the child holds by Out has its zero. `O(holdings + d)` for a
 /// path of `d` parts.
 fn next_path<L>(
-    alloc: Global,
     store: &mut Store,
     parent: &Activation<L>,
     holdings: &[Holding],
@@ -137,7 +135,7 @@ fn next_path<L>(
     ensures store { OnOk result (store.new ≡ record store.old { cells = cells_with_zeros store.old.cells holdings.now }) }
 {
     let path = parent.path.child(parent.children)?;
-    store.zero(alloc, holdings)?;
+    store.zero(holdings);
     Ok(path)
 }
 

@@ -27,9 +27,9 @@ pub struct Store {
 }
 
 impl Model for Store {
-    ghost use Rattle.swan_model.specs.SerialState.{Store as Things};
+    ghost use Rattle.swan_model.specs.SerialState.{Store as TheStore};
 
-    ghost Value = { Things };
+    ghost Value = { TheStore };
 
     ghost view = { λ store. record { cells = store.cells.items; queues = store.queues.items } };
 }
@@ -183,37 +183,34 @@ impl Store {
     }
 
     /// Gives each object that is held by Out its zero. `O(holdings)`.
-    pub fn zero(&mut self, alloc: Global, holdings: &[Holding]) -> Result<(), NoMemory>
-        ensures { OnOk result (self.new ≡ record self.old { cells = cells_with_zeros self.old.cells holdings.now }) }
+    pub fn zero(&mut self, holdings: &[Holding])
+        ensures { self.new ≡ record self.old { cells = cells_with_zeros self.old.cells holdings.now } }
     {
         for holding in holdings {
-            self.zero_held(alloc, holding)?;
+            self.zero_held(holding);
         }
-        Ok(())
     }
 
     /// Gives the object that is held by Out its zero, and changes nothing for another mode. `O(1)`.
-    fn zero_held(&mut self, alloc: Global, holding: &Holding) -> Result<(), NoMemory>
-        ensures { OnOk result (self.new ≡ record self.old {
+    fn zero_held(&mut self, holding: &Holding)
+        ensures { self.new ≡ record self.old {
           cells = zeroed_by holding.now.mode self.old.cells holding.now.number;
-        }) }
+        } }
     {
         match holding.mode {
-            Mode::Out => self.zero_cell(alloc, holding.number),
-            _ => Ok(()),
+            Mode::Out => self.zero_cell(holding.number),
+            _ => {}
         }
     }
 
     /// Gives the object of this number its zero. `O(1)`.
-    fn zero_cell(&mut self, alloc: Global, number: usize) -> Result<(), NoMemory>
-        ensures { OnOk result (self.new ≡ record self.old {
+    fn zero_cell(&mut self, number: usize)
+        ensures { self.new ≡ record self.old {
           cells = zero_cell self.old.cells number (slice_get self.old.cells number);
-        }) }
+        } }
     {
-        let Some(cell) = self.cells.get_mut(number) else {
-            return Ok(());
-        };
-        cell.value = Value::zero(alloc, cell.kind)?;
-        Ok(())
+        if let Some(cell) = self.cells.get_mut(number) {
+            cell.value = Value::zero(cell.kind);
+        }
     }
 }

@@ -1,5 +1,6 @@
 // Records of bytes.
-ghost use Rattle.std.specs.Prelude.{◌≡◌, ◌<◌, ◌≤◌, length, slice_range, IfOk};
+ghost use Rattle.std.specs.Prelude.{◌≡◌, ◌<◌, ◌≤◌, [], length, slice_range, IfOk};
+ghost use Rattle.std.specs.Fmt.{signed_decimal};
 ghost use Rattle.swan_model.specs.declared.record.RecordAnswer.TheVariants as answer;
 
 use crate::NoMemory;
@@ -73,6 +74,27 @@ impl Record {
         match Bytes::from_vec(bytes) {
             Ok(bytes) => Ok(Record { bytes }),
             Err(_) => Err(RecordAnswer::NoMemory),
+        }
+    }
+
+    /// The record without bytes. It takes no memory. `O(1)`.
+    pub fn empty() -> Record
+        ensures { result ≡ [] }
+    {
+        Record {
+            bytes: Bytes::new(),
+        }
+    }
+
+    /// The decimal text of a number, with `-` before it where it is negative. `O(length)`.
+    pub fn decimal(alloc: Global, number: i64) -> Result<Record, NoMemory>
+        ensures { IfOk result (λ it. it ≡ signed_decimal number) }
+    {
+        let text = format!(in alloc; "{number}")?;
+        match Record::of(alloc, text.as_bytes()) {
+            Ok(it) => Ok(it),
+            Err(RecordAnswer::TooLong) => unreachable!(),
+            Err(RecordAnswer::NoMemory) => Err(NoMemory),
         }
     }
 

@@ -2,8 +2,7 @@
 ghost use Rattle.std.specs.Prelude.{◌≡◌, IfOk};
 ghost use Rattle.swan_model.specs.Values.{zero_of, kind_of};
 
-use crate::{Listed, NoMemory, Record, RecordAnswer};
-use std::alloc::Global;
+use crate::{Listed, NoMemory, Record};
 
 /// What a value is: a number or bytes.
 #[derive(Clone, Copy, Debug, PartialEq, Eq)]
@@ -30,16 +29,13 @@ pub type Values = Listed<Value>;
 pub type ValueLists = Listed<Values>;
 
 impl Value {
-    /// The zero of a kind: the number 0, or the empty record. `O(1)`.
-    pub fn zero(alloc: Global, kind: Kind) -> Result<Value, NoMemory>
-        ensures { IfOk result (λ value. value ≡ zero_of kind) }
+    /// The zero of a kind: the number 0, or the empty record. It takes no memory. `O(1)`.
+    pub fn zero(kind: Kind) -> Value
+        ensures { result ≡ zero_of kind }
     {
         match kind {
-            Kind::Int => Ok(Value::Int(0)),
-            Kind::Bytes => match Record::of(alloc, &[]) {
-                Ok(empty) => Ok(Value::Bytes(empty)),
-                Err(_) => Err(NoMemory),
-            },
+            Kind::Int => Value::Int(0),
+            Kind::Bytes => Value::Bytes(Record::empty()),
         }
     }
 

@@ -56,15 +56,12 @@ pub struct BlockFold {
 }
 
 /// The record of a line, which is empty for a number. `O(1)`.
-fn record_of(alloc: Global, line: Value) -> Result<Record, NoMemory>
-    ensures { IfOk result (λ it. it ≡ bytes_of line) }
+fn record_of(line: Value) -> Record
+    ensures { result ≡ bytes_of line }
 {
     match line {
-        Value::Bytes(record) => Ok(record),
-        Value::Int(_) => match Record::of(alloc, &[]) {
-            Ok(empty) => Ok(empty),
-            Err(_) => Err(NoMemory),
-        },
+        Value::Bytes(record) => record,
+        Value::Int(_) => Record::empty(),
     }
 }
 
@@ -157,7 +154,7 @@ pub trait Reducer: Drop {
         };
         let mut number = block.number();
         while let Some(line) = block.take() {
-            fold = self.with_line(alloc, fold, number, &record_of(alloc, line)?)?;
+            fold = self.with_line(alloc, fold, number, &record_of(line))?;
             number = block.number();
         }
         Ok(fold)

@@ -1,6 +1,5 @@
 // The reducer of sums.
 ghost use Rattle.std.specs.Prelude.{◌≡◌, ◌≤◌, ◌+ℤ◌, pos, None, option_map, length, map, IfOk};
-ghost use Rattle.std.specs.Fmt.{signed_decimal};
 ghost use Rattle.std.specs.Int.{int_wrap, w128};
 ghost use Rattle.std.specs.Option.{option_or};
 ghost use Rattle.swan_model.specs.Values.{bytes_of};
@@ -12,7 +11,7 @@ use crate::{BlockFold, EndAnswer, LineAnswer, Reducer};
 use job_reader::read_number;
 use line_blocks::{LineBlock, bytes_of};
 use std::alloc::Global;
-use swan_model::{NoMemory, Record, Trouble};
+use swan_model::{NoMemory, Record, RecordAnswer, Trouble};
 
 /// How many bytes a part has.
 const PART_BYTES: usize = 16;
@@ -51,7 +50,8 @@ fn record_of(alloc: Global, bytes: &[u8]) -> Result<Record, NoMemory>
 {
     match Record::of(alloc, bytes) {
         Ok(record) => Ok(record),
-        Err(_) => Err(NoMemory),
+        Err(RecordAnswer::TooLong) => unreachable!(),
+        Err(RecordAnswer::NoMemory) => Err(NoMemory),
     }
 }
 
@@ -122,17 +122,6 @@ fn narrowed(sum: i128) -> Option<i64>
     i64::try_from(sum).ok()
 }
 
-/// The decimal text of a number.
-fn decimal(alloc: Global, number: i64) -> Result<Record, NoMemory>
-    ensures { IfOk result (λ it. it ≡ signed_decimal number) }
-{
-    let text = format!(in alloc; "{number}")?;
-    match Record::of(alloc, text.as_bytes()) {
-        Ok(record) => Ok(record),
-        Err(_) => Err(NoMemory),
-    }
-}
-
 impl Reducer for SumReducer {
     ghost use Rattle.std.specs.Prelude.{pos};
     ghost use Rattle.swan_reducers.specs.SumLaws.{sums_are_lawful};
@@ -173,7 +162,7 @@ impl Reducer for SumReducer {
 
     fn end(&self, alloc: Global, whole: &Record) -> Result<Record, EndAnswer> {
         match narrowed(sum_of(whole.as_slice())) {
-            Some(sum) => Ok(decimal(alloc, sum)?),
+            Some(sum) => Ok(Record::decimal(alloc, sum)?),
             None => Err(EndAnswer::Trouble(Trouble::Overflow)),
         }
     }

@@ -8,8 +8,8 @@ use Rattle.object_versions.proofs.store.VersionStore.give_to_write.Goals as goal
 pub returns-clause-whole : goal.returns-clause-whole
 returns-clause-whole c = λ made whole.
     out_whole c.args.self.now.places.entries c.put.new.places.entries c.set_present.new.places.entries c.args.self.now.nodes c.make.new.nodes c.make-2.new.nodes c.release.new.nodes made
-    c.args.gift.parent c.args.gift.parent_place c.args.gift.child c.args.gift.child_place c.in_ok-owed.owed c.in_ok-own.own c.args.object.now c.in_ok-zero.zero
-    c.requires.differ whole c.requires.stands c.requires.free c.requires.alone c.in_ok-zero.ensures
+    c.args.gift.parent c.args.gift.parent_place c.args.gift.child c.args.gift.child_place c.in_ok-owed.owed c.in_ok-own.own c.args.object.now c.zero-zero.result
+    c.requires.differ whole c.requires.stands c.requires.free c.requires.alone c.zero-zero.ensures
     c.in_ok-owed.ensures.vacant c.in_ok-owed.ensures.made c.in_ok-own.ensures.vacant c.in_ok-own.ensures.made
     (rw c.again.ensures at c.in_ok-put.ensures.put) c.put.ensures.sorted
     (c.set_present.ensures.set c.args.object.now (still_stands c.args.self.now.places.entries c.put.new.places.entries c.args.gift.parent c.args.gift.parent_place c.args.gift.child c.args.gift.child_place
@@ -19,8 +19,8 @@ returns-clause-whole c = λ made whole.
 pub returns-clause-given : goal.returns-clause-given
 returns-clause-given c = λ made whole.
     out_seen c.args.self.now.places.entries c.put.new.places.entries c.set_present.new.places.entries c.args.self.now.nodes c.make.new.nodes c.make-2.new.nodes c.release.new.nodes made
-    c.args.gift.parent c.args.gift.parent_place c.args.gift.child c.args.gift.child_place c.in_ok-owed.owed c.in_ok-own.own c.args.object.now c.in_ok-zero.zero
-    c.requires.differ whole c.requires.stands c.requires.free c.requires.alone c.in_ok-zero.ensures
+    c.args.gift.parent c.args.gift.parent_place c.args.gift.child c.args.gift.child_place c.in_ok-owed.owed c.in_ok-own.own c.args.object.now c.zero-zero.result
+    c.requires.differ whole c.requires.stands c.requires.free c.requires.alone c.zero-zero.ensures
     c.in_ok-owed.ensures.vacant c.in_ok-owed.ensures.made c.in_ok-own.ensures.vacant c.in_ok-own.ensures.made
     (rw c.again.ensures at c.in_ok-put.ensures.put) c.put.ensures.sorted
     (c.set_present.ensures.set c.args.object.now (still_stands c.args.self.now.places.entries c.put.new.places.entries c.args.gift.parent c.args.gift.parent_place c.args.gift.child c.args.gift.child_place
