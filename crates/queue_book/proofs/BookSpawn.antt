@@ -24,7 +24,7 @@ use Rattle.queue_book.proofs.BookDeeds.{counted, lent_none, not_lent}
 use Rattle.queue_book.proofs.ChainChanges.{chained_same}
 use Rattle.queue_book.proofs.ChainEnds.{own_keys_elsewhere, own_keys_here}
 use Rattle.queues.proofs.Gives.{gives_had}
-use Rattle.queue_book.proofs.LiveKept.{agrees_on, kept_live, key_none}
+use Rattle.queue_book.proofs.LiveKept.{agrees_on, kept_live, kept_none}
 use Rattle.queues.proofs.Match.{not_active}
 use Rattle.queue_book.proofs.PlainSpawned.{plain_spawn}
 use Rattle.queues.proofs.TurnsSpawned.{child_live, other_live, parent_live, turns_older, turns_spawned}
@@ -35,8 +35,8 @@ module _ (name : Option Script) (state : QueueState) (frames : LiveFrames) (head
   free : active state child ≡ None
   free = not_active state is.plain.tree child may.newest
 
-  pub child_keys : (q : ℕ) → key_at frames child q ≡ None
-  child_keys q = key_none state frames is.live child q (λ frame live has. let never : None ≡ Some frame = sym free ∙ live in absurd (cc))
+  pub child_free : kept_of frames child ≡ None
+  child_free = kept_none state frames is.live child free
 
   rising : p < child
   rising = let old = is.plain.tree.latest p may.act.frame may.act.may.live in let newest = may.newest in omega arith
@@ -168,7 +168,7 @@ module _ (name : Option Script) (state : QueueState) (frames : LiveFrames) (head
     chained_now : AreChained (key_at after_frames) heads then_nodes (lines_after_gives p child gives is.lines)
     chained_now =
         chained_same (own_keys child done.own_chunks (key_at done.middle)) (key_at after_frames) heads then_nodes (lines_after_gives p child gives is.lines) (lines_after_gives p child gives is.lines)
-        keys_now (λ q. refl) (done.given.chained is.lines is.chained child_keys)
+        keys_now (λ q. refl) (done.given.chained is.lines is.chained (λ q. ap (λ kept. key_in kept q) child_free))
 
     pub book_spawn : OnNext name state p (λ s g. NextSpawnGivesQueues s state g gives) → IsOnTurn name state p
         → IsBook name (after_spawn state may.act.frame child gives) after_frames heads then_nodes then_turns

@@ -75,6 +75,14 @@ key_has state frames live n queue key e = by_kept (kept_of frames n) refl e wher
   by_kept None none h = let never : None ≡ Some key = h in absurd (cc)
   by_kept (Some one) is h = by_own_chunk one is (own_chunk_in one.own_chunks queue) refl h
 
+pub kept_none : (state : QueueState) (frames : LiveFrames) → AreLive state frames → (n : ℕ) → active state n ≡ None → kept_of frames n ≡ None
+kept_none state frames live n none = by_kept (kept_of frames n) refl where
+  by_kept : (o : Option KeptFrame) → kept_of frames n ≡ o → o ≡ None
+  by_kept None e = refl
+  by_kept (Some one) e =
+      let frame = live_kept state frames live n one e in
+      let never : None ≡ Some frame.0 = sym none ∙ frame.1 in absurd (cc)
+
 pub key_none : (state : QueueState) (frames : LiveFrames) → AreLive state frames → (n queue : ℕ)
     → ((frame : ActiveFrame) → active state n ≡ Some frame → has_queue frame queue ≡ true → ⊥) → key_at frames n queue ≡ None
 key_none state frames live n queue none = by_key (key_at frames n queue) refl where

@@ -1,10 +1,8 @@
 // The active frames by number.
-ghost use Rattle.std.specs.Prelude.{◌≡◌, ◌≢◌, ℕ, ◌+◌, ◌<◌, Some, None, IsSome, [], OnOk, true, false};
-ghost use Rattle.std.specs.Option.{option_copied, option_map};
-ghost use Rattle.swan_model.specs.Values.{COUNT_MOST};
-ghost use Rattle.queue_book.specs.Live.{is_lent_with, kept_of, own_chunk_at, with_own_chunk};
-ghost use Rattle.pop_order.specs.OneChange.{IsOnlyChange};
-ghost use Rattle.queue_book.specs.KeptFrames.{KeptFrame};
+ghost use Rattle.std.specs.Prelude.{◌≡◌, None};
+ghost use Rattle.std.specs.BTreeMap.{is_at};
+ghost use Rattle.std.specs.Map.{lookup};
+ghost use Rattle.std.specs.Ordering.{nat_cmp};
 
 use crate::{OwnChunk, QueueFrame};
 use std::alloc::Global;
@@ -21,11 +19,19 @@ pub struct LiveFrames {
     pub newest_number: u64,
     /// That frame, where it is active.
     pub newest: Option<QueueFrame>,
-    /// The others.
+    /// The others. They have none under the newest one's number.
     pub others: BTreeMap<u64, QueueFrame>,
+    ghost apart: { lookup (is_at (nat_cmp newest_number)) others.entries ≡ None },
 }
 
 impl LiveFrames {
+    ghost use Rattle.std.specs.Prelude.{◌≡◌, ◌≢◌, ℕ, ◌+◌, ◌<◌, Some, None, IsSome, [], OnOk, true, false};
+    ghost use Rattle.std.specs.Option.{option_copied, option_map};
+    ghost use Rattle.swan_model.specs.Values.{COUNT_MOST};
+    ghost use Rattle.queue_book.specs.Live.{is_lent_with, kept_of, own_chunk_at, with_own_chunk};
+    ghost use Rattle.pop_order.specs.OneChange.{IsOnlyChange};
+    ghost use Rattle.queue_book.specs.KeptFrames.{KeptFrame};
+
     /// The root alone, which has done nothing and has no queue. It takes no memory. `O(1)`.
     pub fn new(alloc: Global) -> LiveFrames
         ensures root { kept_of result 0 ≡ Some (record { deeds = 0; is_lent = false; own_chunks = [] }) }
@@ -169,19 +175,14 @@ impl LiveFrames {
         Ok(())
     }
 
-    /// Adds a frame, which is the newest then. `O(log n)`. Err is want of memory.
+    /// Adds a frame of a number that isn't there, which is the newest then. `O(log n)`. Err is want of memory.
     pub fn add(&mut self, number: u64, frame: QueueFrame) -> Result<(), NoMemory>
         requires other { number ≢ 0 }
+        requires free { kept_of self.old number ≡ None }
         ensures { OnOk result (IsOnlyChange (kept_of self.old) (kept_of self.new) number (Some frame)) }
     {
-        match self.newest.take() {
-            Some(before) => {
-                self.others.insert(self.newest_number, before)?;
-            }
-            // The newest frame is gone, which hid an entry of its number among the others. It must not show once another one is newest.
-            None => {
-                self.others.remove(&self.newest_number);
-            }
+        if let Some(before) = self.newest.take() {
+            self.others.insert(self.newest_number, before)?;
         }
         self.newest_number = number;
         self.newest = Some(frame);

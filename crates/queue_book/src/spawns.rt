@@ -8,9 +8,9 @@ ghost use Rattle.queues.specs.Chunks.{Chunks};
 ghost use Rattle.queues.specs.Turned.{holding_of};
 ghost use Rattle.queue_book.specs.Chains.{AreChained};
 ghost use Rattle.queue_book.specs.Handed.{IsHandedIn};
-ghost use Rattle.queue_book.specs.Live.{key_at, own_chunk_at};
+ghost use Rattle.queue_book.specs.Live.{key_at, kept_of, own_chunk_at};
 ghost use Rattle.queue_book.specs.Spawned.{MayHandOn, IsSpawnedIn};
-ghost use Rattle.queue_book.specs.declared.live_frame.OwnChunk.{OwnChunk as KeptChunk};
+ghost use Rattle.queue_book.specs.declared.live_frame.OwnChunk.{OwnChunk as TheOwnChunk};
 
 use crate::store::QueueStore;
 use crate::{OwnChunk, QueueFrame, QueueGive};
@@ -25,7 +25,7 @@ impl QueueStore {
 
         // where chunks stand
         requires stand { (lines : ℕ → Chunks) × AreChained (key_at self.old.frames) self.old.chains.heads.items self.old.chains.nodes lines }
-        requires free { (queue : ℕ) → key_at self.old.frames child queue ≡ None }
+        requires free { kept_of self.old.frames child ≡ None }
 
         // what it leaves
         ensures heads { OnOk result (self.new.chains.heads.items ≡ self.old.chains.heads.items) }
@@ -49,8 +49,8 @@ impl QueueStore {
         own_chunks: &mut BTreeMap<u32, OwnChunk>,
     ) -> Result<(), NoMemory>
         // what is given
-        requires has { (own_chunk : KeptChunk) × (own_chunk_at self.old.frames parent one.queue ≡ Some own_chunk) }
-        requires stands { (own_chunk : KeptChunk) → own_chunk_at self.old.frames parent one.queue ≡ Some own_chunk → ContainsKey self.old.chains.nodes own_chunk.key }
+        requires has { (own_chunk : TheOwnChunk) × (own_chunk_at self.old.frames parent one.queue ≡ Some own_chunk) }
+        requires stands { (own_chunk : TheOwnChunk) → own_chunk_at self.old.frames parent one.queue ≡ Some own_chunk → ContainsKey self.old.chains.nodes own_chunk.key }
         requires of_queues { IsTrue (is_queue_mode one.mode) }
 
         // who gets it

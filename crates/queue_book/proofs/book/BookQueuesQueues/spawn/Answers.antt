@@ -5,7 +5,7 @@ use Rattle.queues.specs.Asks.{MaySpawn, IsOnTurn, OnNext}
 use Rattle.queue_book.specs.BookView.{BookView}
 use Rattle.queue_book.specs.Whole.{IsBook}
 use Rattle.queue_book.proofs.BookLent.{called}
-use Rattle.queue_book.proofs.BookSpawn.{book_spawn, child_keys, spawn_may}
+use Rattle.queue_book.proofs.BookSpawn.{book_spawn, child_free, spawn_may}
 use Rattle.queue_book.proofs.book.BookQueuesQueues.spawn.Goals as goal
 
 pub spawn-requires : goal.spawn-requires
@@ -25,7 +25,7 @@ spawn-requires c =
     record {
       may = spawn_may name state frames heads nodes turns is p child gives may;
       stand = (is.lines, is.chained);
-      free = child_keys name state frames heads nodes turns is p child gives may;
+      free = child_free name state frames heads nodes turns is p child gives may;
     }
 
 pub invariant_of-self : goal.invariant_of-self

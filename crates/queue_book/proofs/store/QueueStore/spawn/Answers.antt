@@ -1,4 +1,4 @@
-use Rattle.std.proofs.Common.{◌≡◌, ℕ, ◌+◌, ◌<◌, false, Option, Some, List, [], ◌∷◌, ◌++◌, take, length, refl, sym, ap, subst, ◌∙◌, arith}
+use Rattle.std.proofs.Common.{◌≡◌, ℕ, ◌+◌, ◌<◌, ◌≢◌, false, Option, Some, List, [], ◌∷◌, ◌++◌, take, length, refl, sym, ap, subst, ◌∙◌, arith}
 use Rattle.std.proofs.lemmas.List.{take_more, take_all}
 use Rattle.std.proofs.lemmas.Option.{slice_get-get_or}
 use Rattle.std.specs.Prelude.{slice_get}
@@ -7,7 +7,7 @@ use Rattle.swan_model.specs.QueueState.{QueueRight}
 use Rattle.swan_model.specs.Rights.{allows}
 use Rattle.queue_book.specs.Handed.{AreGiven, IsHandedIn}
 use Rattle.queue_book.specs.KeptFrames.{KeptFrame, OwnChunks}
-use Rattle.queue_book.specs.Live.{kept_of}
+use Rattle.queue_book.specs.Live.{kept_of, key_in}
 use Rattle.pop_order.specs.OneChange.{IsOnlyChange}
 use Rattle.queue_book.proofs.GivingSteps.{given_more, given_none, has_now, may_get_now, newest_now, stands_now}
 use Rattle.queues.proofs.GivingTurns.{queue_mode_at}
@@ -45,7 +45,7 @@ give-requires-clause-stands c =
     let within : i < length all = omega arith in
     let at : slice_get all i ≡ Some give = slice_get-get_or all i give within ∙ ap Some (sym c.one-item.is) in
     stands_now c.args.self.now.frames c.loop-one.self.frames c.args.parent c.args.child all i give c.loop-one.frame-inside.own_chunks.entries c.args.self.now.chains.heads.items c.args.self.now.chains.nodes
-    c.loop-one.self.chains.nodes c.args.self.now.turns c.loop-one.self.turns c.requires.may at c.loop-one.invariant.given c.requires.stand.0 c.requires.stand.1 c.requires.free
+    c.loop-one.self.chains.nodes c.args.self.now.turns c.loop-one.self.turns c.requires.may at c.loop-one.invariant.given c.requires.stand.0 c.requires.stand.1 (λ q. ap (λ kept. key_in kept q) c.requires.free)
 
 pub give-requires-clause-newest : goal.give-requires-clause-newest
 give-requires-clause-newest c =
@@ -112,6 +112,11 @@ count_deed-requires c =
           let room = may.room in
           omega (arith, room, deeds);
     }
+
+pub add-requires-clause-free : goal.add-requires-clause-free
+add-requires-clause-free c =
+    let other : c.args.child ≢ c.args.parent = λ same. let rising = c.requires.may.rising in omega (arith, rising, same) in
+    c.count_deed.ensures.others c.args.child other ∙ c.loop-one.invariant.given.others c.args.child other ∙ c.requires.free
 
 pub returns-clause-spawned : goal.returns-clause-spawned
 returns-clause-spawned c =
