@@ -16,7 +16,7 @@ use Rattle.object_versions.specs.declared.placed_object.PlacedObject.{PlacedObje
 use Rattle.object_versions.specs.Store.{PlaceEntries, place_at, told_at, version_at, object_at, placed_of, seen, versions_of, one, one_of, uses, after_release}
 use Rattle.object_versions.specs.Whole.{IsFit, HasOwing, IsWhole}
 use Rattle.object_versions.specs.Ending.{IsDebt, IsSettling}
-use Rattle.object_versions.proofs.Lookups.{here, IsNewEntry, IsOldEntry, after_set, still_set}
+use Rattle.object_versions.proofs.Lookups.{here, still_set}
 use Rattle.object_versions.proofs.Counts.{HasNode, used, uses_at, uses_changed, one_self, one_other, present_used, owes_used}
 use Rattle.object_versions.proofs.GetsValue.{told_other, value_now, same_object, owed_apart, owed_before, counted_still, fit_still}
 use Rattle.object_versions.proofs.Steps.{alone_set, fits_set}
