@@ -9,7 +9,7 @@ ghost use Rattle.task_frames.specs.declared.run.PlanRun.{PlanRun};
 ghost use Rattle.swan_runtime.specs.Shared.{SharedView};
 ghost use Rattle.named_lock.specs.Seats.{IsNewSeatOf, IsSeatOf, any_saw_done, lock_name, lock_seats};
 ghost use Rattle.task_frames.specs.Resumes.{IsOpened, ends_of};
-ghost use Rattle.swan_runtime.specs.Workers.{AreWorkers, IsWorkerOf, OneHasMet, AreWorkersOfPlan, has_met, saw_done, saw_stopped};
+ghost use Rattle.swan_runtime.specs.Workers.{AreWorkers, IsWorkerOf, OneHasMet, AreWorkersOfPlan, has_met, own_of, saw_done, saw_stopped};
 
 use crate::shared::SharedRun;
 use crate::worker::Own;
@@ -50,6 +50,7 @@ fn worker_of<B: Body, Q: Queues>(
     requires seat { IsNewSeatOf (arc_value lock) seat }
     requires body { arc_value body ≡ (lock_name (arc_value lock)).plan.body }
     ensures worker { IsWorkerOf (ends_of Q.Ends.LocalEnds) (arc_value lock) result }
+    ensures number { (own_of result).number ≡ number }
     ensures met { has_met result ≡ false }
 {
     Worker {
