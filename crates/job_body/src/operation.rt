@@ -1,8 +1,8 @@
 // Operations on values.
 ghost use Rattle.std.specs.Prelude.{◌≡◌, ◌≤◌, ◌+ℤ◌, ◌-ℤ◌, ◌*ℤ◌, ◌++◌, ◌==◌, pos, length, drop, position, IfOk};
-ghost use Rattle.job_body.specs.Operations.{number_of, flag, fitting_number, quotient, rest, is_equal, is_true, byte_at, part, found, fitting_bytes, numbered, up_to, place_after};
+ghost use Rattle.job_body.specs.Operations.{number_of, flag, fitting_number, quotient, rest, is_true, byte_at, part, found, fitting_bytes, numbered, up_to, place_after};
 ghost use Rattle.job_body.specs.Runs.{int_operation, valued};
-ghost use Rattle.swan_model.specs.declared.value.Value.TheVariants.{Int, Bytes};
+ghost use Rattle.swan_model.specs.declared.value.Value.TheVariants.{Int};
 ghost use Rattle.job_reader.specs.Atoms.{number};
 
 use crate::instruction::IntOp;

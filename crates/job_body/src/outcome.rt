@@ -23,13 +23,7 @@ fn is_equal(local: &JobLocal, a: &Operand, b: &Operand) -> bool
 }
 
 /// The part of what an operand means. A number has no bytes.
-fn slice(
-    alloc: Global,
-    local: &JobLocal,
-    a: &Operand,
-    i: i64,
-    j: i64,
-) -> Result<Result<Value, Trouble>, NoMemory>
+fn slice(local: &JobLocal, a: &Operand, i: i64, j: i64) -> Result<Result<Value, Trouble>, NoMemory>
     ensures { IfOk result (λ it. it ≡ part (bytes_of (value_of local.now.values a.now)) i j) }
 {
     match local.record(a) {
@@ -76,7 +70,7 @@ pub fn outcome_of(
         Op::Not => Ok(of_numbers(local, IntOp::Not, a, b)),
         Op::Len => Ok(Ok(length_of(local.bytes(a)))),
         Op::At => Ok(byte_at(local.bytes(a), local.number(b))),
-        Op::Slice => slice(alloc, local, a, local.number(b), local.number(c)),
+        Op::Slice => slice(local, a, local.number(b), local.number(c)),
         Op::Cat => joined(alloc, local.bytes(a), local.bytes(b)),
         Op::Find => Ok(found(local.bytes(a), local.number(b), local.number(c))),
         Op::Num => Ok(numbered(local.bytes(a))),

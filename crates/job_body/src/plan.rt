@@ -1,8 +1,8 @@
 // Plans of jobs.
-ghost use Rattle.std.specs.Prelude.{◌≡◌, ◌+◌, ◌<◌, ◌≤◌, ◌⊎◌, IsTrue, ◌++◌, ◌∷◌, [], length, filter, IfOk, IfErr, Some, None, Option};
-ghost use Rattle.job_body.specs.PlanOfJob.{first_refused, input_count, is_input, items_of, or_refused, plan_of_job, refusal_of_plan, root_objects, root_queues};
+ghost use Rattle.std.specs.Prelude.{◌≡◌, ◌+◌, ◌<◌, ◌≤◌, ◌⊎◌, IsTrue, ◌++◌, ◌∷◌, [], length, IfOk, IfErr, Some, None, Option};
+ghost use Rattle.job_body.specs.PlanOfJob.{first_refused, input_count, items_of, or_refused, plan_of_job, refusal_of_plan, root_objects, root_queues};
 ghost use Rattle.job_body.specs.RightsKept.{KeepsRights};
-ghost use Rattle.job_body.specs.Tasks.{before_task, top_lines};
+ghost use Rattle.job_body.specs.Tasks.{top_lines};
 ghost use Rattle.job_body.specs.declared.answer.PlanAnswer.{PlanAnswer};
 ghost use Rattle.job_body.specs.declared.answer.PlanAnswer.TheVariants as answer;
 ghost use Rattle.swan_model.specs.Lines.{refusal_of};

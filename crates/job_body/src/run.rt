@@ -26,7 +26,6 @@ fn with_zeros(mut values: Vec<Value>, kinds: &[Kind]) -> Result<Vec<Value>, NoMe
 
 /// An activation of the task at a line, by the values of its `param` lines. `O(variables)`.
 pub fn begin(
-    alloc: Global,
     program: &Listed<Instruction>,
     task: &TaskIndex,
     values: Vec<Value>,
@@ -75,7 +74,7 @@ fn spawn(
     };
     let values = values_of(alloc, local, params.as_slice())?;
     let child = Child {
-        local: begin(alloc, program, task, values)?,
+        local: begin(program, task, values)?,
         gives: gives.copy(alloc)?,
         fuel,
     };

@@ -10,16 +10,16 @@ ghost use Rattle.job_reader.specs.Pieces.{AreLines, AreTokens, StandsFor};
 ghost use Rattle.job_reader.specs.Tokens.{tokens};
 ghost use Rattle.job_reader.specs.declared.atom.TheConstants.{NAME_MOST};
 ghost use Rattle.job_reader.specs.declared.job.TheConstants.{JOB_LINES_MOST};
-ghost use Rattle.job_reader.specs.declared.line.Line.{Line as TheLine};
+ghost use Rattle.job_reader.specs.declared.line.Line.{Line};
 ghost use Rattle.job_reader.specs.declared.position.TheConstants.{BLOCKS_MOST, INPUTS_MOST};
 ghost use Rattle.job_reader.specs.declared.read.TheConstants.{LINE_MOST};
 
 /// What a text reads as is a job (`IsJob`). It is read again from its canonical text, and written a second time it has
 /// the same bytes.
 pub fn text_reads_back()
-    ensures back { (text : List ℕ) (job : List TheLine) → job_of text ≡ Ok job → job_of (text_of job) ≡ Ok job }
-    ensures again { (text : List ℕ) (job second : List TheLine) → job_of text ≡ Ok job → job_of (text_of job) ≡ Ok second → text_of second ≡ text_of job }
-    ensures job { (text : List ℕ) (job : List TheLine) → job_of text ≡ Ok job → IsJob job }
+    ensures back { (text : List ℕ) (job : List Line) → job_of text ≡ Ok job → job_of (text_of job) ≡ Ok job }
+    ensures again { (text : List ℕ) (job second : List Line) → job_of text ≡ Ok job → job_of (text_of job) ≡ Ok second → text_of second ≡ text_of job }
+    ensures job { (text : List ℕ) (job : List Line) → job_of text ≡ Ok job → IsJob job }
 {}
 
 /// The lines of a text are its pieces between line feeds, the last one only where it isn't empty, and there

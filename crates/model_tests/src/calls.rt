@@ -80,6 +80,21 @@ fn zeros_are_made_and_copied(rt: HostRuntime) {
     assert!(rt; copy_is(&Value::zero(Kind::Bytes), Kind::Bytes, 0));
 }
 
+/// Whether the record of a number has this text.
+fn decimal_is(alloc: Global, number: i64, text: &str) -> bool {
+    match Record::decimal(alloc, number) {
+        Ok(record) => record.as_slice() == text.as_bytes(),
+        Err(_) => false,
+    }
+}
+
+#[test]
+fn numbers_are_written_as_decimal_records(rt: HostRuntime) {
+    assert!(rt; decimal_is(rt.alloc(), 0, "0"));
+    assert!(rt; decimal_is(rt.alloc(), 65_535, "65535"));
+    assert!(rt; decimal_is(rt.alloc(), i64::MIN, "-9223372036854775808"));
+}
+
 /// Whether one value is listed.
 fn is_one(values: &Values) -> bool {
     values.len() == 1 && values.get(0).is_some() && values.get(1).is_none()

@@ -17,8 +17,6 @@ use swan_model::{Mode, NoMemory, Value};
 /// In costs, n counts the places of all frames. After want of memory nothing is said of what is kept.
 #[derive(Drop)]
 pub struct VersionStore {
-    /// Where memory comes from.
-    pub alloc: Global,
     /// What each frame has at its places, by frame and place.
     pub places: BTreeMap<(u64, u32), PlacedObject>,
     /// The versions, by key.
@@ -32,7 +30,6 @@ impl VersionStore {
         ensures whole { (made : ℕ) → IsAtRest result made }
     {
         VersionStore {
-            alloc,
             places: BTreeMap::new(alloc),
             nodes: Slab::new(alloc),
         }

@@ -35,9 +35,9 @@ pub struct TurnFrame {
 }
 
 impl Model for TurnFrame {
-    ghost use Rattle.pop_order.specs.Frames.{TurnFrame as Active};
+    ghost use Rattle.pop_order.specs.Frames.{TurnFrame as TheTurnFrame};
 
-    ghost Value = { Active };
+    ghost Value = { TheTurnFrame };
 
     ghost view = { λ frame. record {
       parent = frame.parent;

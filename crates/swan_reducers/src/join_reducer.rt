@@ -1,5 +1,5 @@
 // The reducer of joins.
-ghost use Rattle.std.specs.Prelude.{◌≡◌, ◌≤◌, [], ◌++◌, true, length, map, IfOk};
+ghost use Rattle.std.specs.Prelude.{◌≡◌, ◌≤◌, [], ◌++◌, length, map, IfOk};
 ghost use Rattle.swan_model.specs.Values.{bytes_of};
 ghost use Rattle.swan_reducers.specs.Joins.{bytes_joined, fitting_part, is_too_long, line_part, passes, too_long};
 ghost use Rattle.swan_reducers.specs.LineFolds.{joined_lines};

@@ -2,6 +2,7 @@
 use Rattle.std.proofs.Common.{◌≡◌, ◌||◌, ⊎_elim, ℕ, ◌<◌, Bool, true, false, true≢false, Some, IsTrue, IfOk, Result, Ok, Err, List, [], ◌∷◌, ◌++◌, All, arith, ap, drop, length, refl, set, slice_get, slice_index_or, subst, sym, take, ◌∙◌}
 use Rattle.std.specs.Arc.{arc_value}
 use Rattle.std.proofs.Math.Seq.{take-append_seam}
+use Rattle.std.proofs.lemmas.Bool.{or_from, or_parts}
 use Rattle.std.proofs.lemmas.List.{length-set}
 use Rattle.std.proofs.lemmas.Option.{get_or_from_slice_get, slice_get_within}
 use Rattle.std.proofs.lemmas.List.Elements.{All-same, All-set}
@@ -33,27 +34,13 @@ unseen false Found found again told isnt = refl
 unseen true Found true again told isnt = absurd (true≢false isnt)
 unseen true Found false again told isnt = absurd (true≢false (sym (told (again refl))))
 
-pub not_either : (a b : Bool) → (a || b) ≡ false → a ≡ false
-not_either true b is = absurd (true≢false is)
-not_either false b is = refl
-
-nor_other : (a b : Bool) → (a || b) ≡ false → b ≡ false
-nor_other true b is = absurd (true≢false is)
-nor_other false b is = is
-
-pub one_saw_done : (saw : Bool) → (saw ≡ false → ⊥) → saw ≡ true
-one_saw_done true some = refl
-one_saw_done false some = absurd (some refl)
-
-neither : (a b : Bool) → a ≡ false → b ≡ false → (a || b) ≡ false
-neither a b left right = ap (λ x. x || b) left ∙ right
-
 -- where no seat of a list and a further one has seen the run done, none of the list has, nor has that one
 none_saw_both : {S N : Type 0} (seats : List (LockSeat S N)) (seat : LockSeat S N) → any_saw_done (seats ++ seat ∷ []) ≡ false → (any_saw_done seats ≡ false) × ((knows seat).saw_done ≡ false)
-none_saw_both [] seat none = (refl, not_either (knows seat).saw_done false none)
+none_saw_both [] seat none = (refl, (or_parts (knows seat).saw_done false none).0)
 none_saw_both (first ∷ seats) seat none =
-    let rest = none_saw_both seats seat (nor_other (knows first).saw_done _ none) in
-    (neither (knows first).saw_done (any_saw_done seats) (not_either (knows first).saw_done _ none) rest.0, rest.1)
+    let parts = or_parts (knows first).saw_done _ none in
+    let rest = none_saw_both seats seat parts.1 in
+    (or_from (knows first).saw_done (any_saw_done seats) parts.0 rest.0, rest.1)
 
 pub none_saw : {S N : Type 0} (seats more : List (LockSeat S N)) (seat : LockSeat S N) → more ≡ seats ++ seat ∷ [] → any_saw_done more ≡ false
     → (any_saw_done seats ≡ false) × ((knows seat).saw_done ≡ false)

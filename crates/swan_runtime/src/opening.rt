@@ -1,13 +1,13 @@
 // Opening and closing runs of workers.
-ghost use Rattle.std.specs.Prelude.{◌≡◌, ◌<◌, false, true, All, IfOk, OnOk, length, vec_len};
+ghost use Rattle.std.specs.Prelude.{◌≡◌, ◌<◌, false, All, IfOk, OnOk, length, vec_len};
 ghost use Rattle.std.specs.Arc.{arc_value};
 ghost use Rattle.swan_model.specs.declared.plan.Plan.{Plan as ThePlan};
 ghost use Rattle.swan_model.specs.Elision.{outcome};
 ghost use Rattle.swan_model.specs.Script.{script};
-ghost use Rattle.named_lock.specs.declared.lock.NamedLock.{NamedLock as TheLock};
+ghost use Rattle.named_lock.specs.declared.lock.NamedLock.{NamedLock as TheNamedLock};
 ghost use Rattle.task_frames.specs.declared.run.PlanRun.{PlanRun};
 ghost use Rattle.swan_runtime.specs.Shared.{SharedView};
-ghost use Rattle.named_lock.specs.Seats.{IsNewSeatOf, IsSeatOf, any_saw_done, lock_name, lock_seats};
+ghost use Rattle.named_lock.specs.Seats.{IsNewSeatOf, IsSeatOf, any_saw_done, lock_name};
 ghost use Rattle.task_frames.specs.Resumes.{IsOpened, ends_of};
 ghost use Rattle.swan_runtime.specs.Workers.{AreWorkers, IsWorkerOf, OneHasMet, AreWorkersOfPlan, has_met, own_of, saw_done, saw_stopped};
 
@@ -119,7 +119,7 @@ fn lock_of<B: Body, Q: Queues>(
     workers: &Vec<Worker<B, Q>>,
 ) -> Result<Arc<NamedLock<SharedRun<B, Q>>>, NoMemory>
     requires some { 0 < vec_len workers.now }
-    ensures lock { (lock : TheLock (SharedView B B.Local Q.Ends) (PlanRun B B.Local)) → All (IsWorkerOf (ends_of Q.Ends.LocalEnds) lock) workers.now.items
+    ensures lock { (lock : TheNamedLock (SharedView B B.Local Q.Ends) (PlanRun B B.Local)) → All (IsWorkerOf (ends_of Q.Ends.LocalEnds) lock) workers.now.items
         → IfOk result (λ own. arc_value own ≡ lock) }
     ensures plan { (plan : ThePlan B B.Local) → AreWorkersOfPlan plan workers.now.items → IfOk result (λ own. (lock_name (arc_value own)).plan ≡ plan) }
 {

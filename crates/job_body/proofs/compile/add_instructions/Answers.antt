@@ -1,4 +1,4 @@
-use Rattle.std.proofs.Common.{◌≡◌, ◌<◌, ◌+◌, ◌++◌, ◌∷◌, [], Some, length, drop, get_or, slice_get, arith, rules, subst, sym, ap, ◌∙◌, append_assoc, refl}
+use Rattle.std.proofs.Common.{◌≡◌, ◌<◌, ◌+◌, ◌++◌, ◌∷◌, [], Some, length, drop, get_or, slice_get, arith, subst, sym, ap, ◌∙◌, append_assoc, refl}
 use Rattle.std.proofs.lemmas.Option.{slice_get_read}
 use Rattle.job_body.specs.Blocks.{exit_at}
 use Rattle.job_body.specs.Compiled.{KnowsFew, TakeFew, scope_past, instruction_of, instructions_from, seen_at, tasks_of}

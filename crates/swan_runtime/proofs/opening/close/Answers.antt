@@ -1,4 +1,5 @@
 use Rattle.std.proofs.Common.{rules, ◌≡◌, ◌∙◌, false, All, IfOk, ap, length, subst, sym, vec_len}
+use Rattle.std.proofs.lemmas.Bool.{true_from_ne_false}
 use Rattle.std.specs.Arc.{arc_value}
 use Rattle.swan_model.specs.Elision.{outcome}
 use Rattle.swan_model.specs.Script.{script}
@@ -8,7 +9,7 @@ use Rattle.task_frames.specs.declared.run.PlanRun.{PlanRun}
 use Rattle.swan_runtime.specs.Shared.{SharedView}
 use Rattle.task_frames.specs.Resumes.{ends_of}
 use Rattle.swan_runtime.specs.Workers.{IsWorkerOf}
-use Rattle.swan_runtime.proofs.Crews.{not_unseen, one_saw_done}
+use Rattle.swan_runtime.proofs.Crews.{not_unseen}
 use Rattle.swan_runtime.proofs.opening.close.Goals as goal
 
 pub seats_of-requires-clause-workers : goal.seats_of-requires-clause-workers
@@ -43,5 +44,5 @@ returns-clause-script g c = λ plan run.
 pub take_outcome-requires-clause-done : goal.take_outcome-requires-clause-done
 take_outcome-requires-clause-done g c κs within =
     let core : c.into_core.result ≡ c.close.result.core = search rules in
-    ap (λ k. k.is_done) core ∙ c.close.ensures.done (one_saw_done (any_saw_done c.in_ok-seats.seats.items) (λ none.
+    ap (λ k. k.is_done) core ∙ c.close.ensures.done (true_from_ne_false (any_saw_done c.in_ok-seats.seats.items) (λ none.
     not_unseen (ends_of g.Q.Ends.LocalEnds) c.requires.workers.lock c.args.workers.items c.requires.workers.each c.requires.met c.in_ok-seats.ensures.stopped (c.in_ok-seats.ensures.done none)))

@@ -1,9 +1,10 @@
 use Rattle.std.proofs.Common.{rules, ◌≡◌, ◌∙◌, ap, false, subst, sym}
+use Rattle.std.proofs.lemmas.Bool.{or_parts}
 use Rattle.std.specs.Arc.{arc_value}
 use Rattle.named_lock.specs.Seats.{IsSeatOf, knows}
 use Rattle.task_frames.specs.Resumes.{ends_of}
 use Rattle.swan_runtime.specs.Workers.{IsWorkerOf, saw_done, saw_stopped}
-use Rattle.swan_runtime.proofs.Crews.{none_saw, not_either, seat_of_worker, still_free, unseen}
+use Rattle.swan_runtime.proofs.Crews.{none_saw, seat_of_worker, still_free, unseen}
 use Rattle.swan_model.proofs.Elements.{all_popped, all_pushed}
 use Rattle.swan_runtime.proofs.opening.seats_of.Goals as goal
 
@@ -22,6 +23,6 @@ loop-worker-preserved g c =
       λ none rest.
           let before = none_saw c.loop-worker.seats.items c.push.new.self.items c.is_stopped.new.seat c.in_ok-push.ensures.items none in
           c.loop-worker.invariant.4 before.0 (all_pushed (λ worker. saw_done worker ≡ false) c.pop.new.self.items c.loop-worker.workers.items c.in-Some.worker c.in-Some.ensures.items rest
-          (ap (λ o. (knows o.seat).saw_done) (sym c.into_inner-seat.ensures) ∙ not_either _ _ (ap (λ v. v.saw_done) (sym c.is_stopped.ensures.knows) ∙ before.1))),
+          (ap (λ o. (knows o.seat).saw_done) (sym c.into_inner-seat.ensures) ∙ (or_parts _ _ (ap (λ v. v.saw_done) (sym c.is_stopped.ensures.knows) ∙ before.1)).0)),
       search rules,
     )
