@@ -2,7 +2,6 @@
 ghost use Rattle.std.specs.Prelude.{◌≡◌, ◌+◌, ◌∷◌, ◌++◌, [], true, length, nat_le, slice_get, IfOk, OnOk, MatchOption};
 ghost use Rattle.swan_model.specs.declared.record.TheConstants.{RECORD_MOST};
 ghost use Rattle.index_pipeline.specs.Batches.{has_room};
-ghost use Rattle.index_pipeline.specs.Pairs.{Pair};
 ghost use Rattle.index_pipeline.specs.Records.{record_of};
 ghost use Rattle.index_pipeline.specs.Words.{word_of};
 ghost use Rattle.index_pipeline.specs.declared.batch.TheConstants.{NUMBER_MOST};

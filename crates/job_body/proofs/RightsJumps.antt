@@ -8,13 +8,13 @@ use Rattle.job_reader.specs.Positions as positions
 use Rattle.job_reader.specs.Positions.{is_open}
 use Rattle.job_reader.specs.declared.atom.Atom.{Atom}
 use Rattle.job_reader.specs.declared.block.Block.{Block}
-use Rattle.job_reader.specs.declared.block.Block.TheVariants as opened
+use Rattle.job_reader.specs.declared.block.Block.TheVariants as block
 use Rattle.job_reader.specs.declared.line.Line.{Line}
 use Rattle.job_reader.specs.declared.line.Line.TheVariants as line
 use Rattle.job_reader.specs.declared.position.Position.{Position}
 use Rattle.job_reader.specs.declared.position.Position.TheVariants.{First, Top, InTask, InDo, Outside}
 use Rattle.job_body.specs.declared.block.BlockWithLine.{BlockWithLine}
-use Rattle.job_body.specs.declared.block.BlockWithLine.TheVariants as block
+use Rattle.job_body.specs.declared.block.BlockWithLine.TheVariants as opened
 use Rattle.job_body.specs.declared.exit.Exit.{Exit}
 use Rattle.job_body.specs.declared.scope.Scope.{Scope}
 use Rattle.job_body.specs.Blocks.{blocks_after_end, blocks_after, blocks_at, exit_at, exits, exits_with, first_exit}
@@ -47,8 +47,8 @@ statement inside line stands = (refl, refl)
 -- each loop goes back to a line where the same is held
 abbrev pub LoopsStand : List Line → List Mode → List BlockWithLine → Type 0
 LoopsStand job held [] = Unit {0}
-LoopsStand job held (block.If ∷ blocks) = LoopsStand job held blocks
-LoopsStand job held (block.While i ∷ blocks) = Stands job i held × LoopsStand job held blocks
+LoopsStand job held (opened.If ∷ blocks) = LoopsStand job held blocks
+LoopsStand job held (opened.While i ∷ blocks) = Stands job i held × LoopsStand job held blocks
 
 abbrev pub BlocksStand : List Line → List Mode → List Block → List BlockWithLine → Type 0
 BlocksStand job held inside blocks = (length blocks ≡ length inside) × LoopsStand job held blocks
@@ -82,8 +82,8 @@ else-blocks job held [] blocks stands b = absurd (false≢true stands)
 else-blocks job held (innermost ∷ inside) blocks stands b = b
 
 end-loops : (job : List Line) (held : List Mode) (block : BlockWithLine) (blocks : List BlockWithLine) → LoopsStand job held (block ∷ blocks) → LoopsStand job held blocks
-end-loops job held block.If blocks loops = loops
-end-loops job held (block.While i) blocks loops = loops.1
+end-loops job held opened.If blocks loops = loops
+end-loops job held (opened.While i) blocks loops = loops.1
 
 end-blocks : (job : List Line) (held : List Mode) (inside : List Block) (blocks : List BlockWithLine) → BlocksStand job held inside blocks → BlocksAt (positions.after_end inside) job held (blocks_after_end blocks)
 end-blocks job held [] blocks b = tt
@@ -161,8 +161,8 @@ end-exits job held [] i exits next e = tt
 end-exits job held (innermost ∷ inside) i exits next e = (next refl, next refl, e)
 
 done-exits : (job : List Line) (held : List Mode) (inside : List Block) (i : ℕ) (line : Line) (exits : List Exit) → may_stand (InDo inside) line ≡ true → (is_open (positions.after_statement inside line) ≡ true → Stands job (i + 1) held) → ExitsAt (positions.after_statement inside line) job held exits → ExitsStand job held inside (exits_with i line exits)
-done-exits job held inside i (line.If a) exits stands next e = if-exits job held opened.If inside i a exits e
-done-exits job held inside i (line.While a) exits stands next e = if-exits job held opened.While inside i a exits e
+done-exits job held inside i (line.If a) exits stands next e = if-exits job held block.If inside i a exits e
+done-exits job held inside i (line.While a) exits stands next e = if-exits job held block.While inside i a exits e
 done-exits job held inside i line.Else exits stands next e = else-exits job held inside i exits stands next e
 done-exits job held inside i line.End exits stands next e = end-exits job held inside i exits next e
 done-exits job held inside i (line.Task name) exits stands next e = absurd (false≢true stands)

@@ -19,7 +19,7 @@ use Rattle.job_reader.specs.Positions as positions
 use Rattle.job_reader.specs.Positions.{is_open}
 use Rattle.job_reader.specs.declared.atom.Atom.{Atom}
 use Rattle.job_reader.specs.declared.block.Block.{Block}
-use Rattle.job_reader.specs.declared.block.Block.TheVariants as opened
+use Rattle.job_reader.specs.declared.block.Block.TheVariants as block
 use Rattle.job_reader.specs.declared.fault.JobKind.{JobKind}
 use Rattle.job_reader.specs.declared.line.Line.{Line}
 use Rattle.job_reader.specs.declared.line.Line.TheVariants as line
@@ -30,7 +30,7 @@ use Rattle.privilege_check.specs.Names.{KnownNames, before_first_line, known}
 use Rattle.privilege_check.specs.Spawns.{lent}
 use Rattle.privilege_check.specs.Uses.{held, value, variable}
 use Rattle.job_body.specs.declared.block.BlockWithLine.{BlockWithLine}
-use Rattle.job_body.specs.declared.block.BlockWithLine.TheVariants as block
+use Rattle.job_body.specs.declared.block.BlockWithLine.TheVariants as opened
 use Rattle.job_body.specs.declared.take.Take.{Take}
 use Rattle.job_body.specs.Blocks.{blocks_at, exit_at}
 use Rattle.job_body.specs.Standing.{Standing}
@@ -143,11 +143,11 @@ branch-fits job n store a false x y first second = work-fits job n store (after_
 ended-fits : (job : List Line) (n : ℕ) (store : Store) (a : Activation Standing) (s : Standing) (step : Step job store a s line.End) (inside : List Block) (blocks : List BlockWithLine) → position_at job s.at ≡ InDo inside → BlocksStand job (held_modes_of a.holdings) inside blocks → StepFits job n store a (steps.ended job s blocks)
 ended-fits job n store a s step inside [] at b = tt
 ended-fits job n store a s step [] (block ∷ blocks) at b = absurd (let e = b.0 in cc)
-ended-fits job n store a s step (innermost ∷ inside) (block.If ∷ blocks) at b =
+ended-fits job n store a s step (innermost ∷ inside) (opened.If ∷ blocks) at b =
     let within : is_open (positions.after (position_at job s.at) line.End) ≡ true = ap (λ p. is_open (positions.after p line.End)) at in
     let next = stands-on job s.at line.End (held_modes_of a.holdings) step.is refl refl within step.stands in
     work-fits job n store (after_next a (steps.after_move_on job s)) (to-fits job store a s line.End step (s.at + 1) next)
-ended-fits job n store a s step (innermost ∷ inside) (block.While i ∷ blocks) at b =
+ended-fits job n store a s step (innermost ∷ inside) (opened.While i ∷ blocks) at b =
     work-fits job n store (after_next a (steps.after_move_to job s i)) (to-fits job store a s line.End step i b.1.0)
 
 end-fits : (job : List Line) (n : ℕ) (store : Store) (a : Activation Standing) (s : Standing) (step : Step job store a s line.End) → StepFits job n store a (steps.ended job s (blocks_at job s.at))
@@ -166,18 +166,18 @@ opens-fits job store a s line step innermost inside plain none at =
 if-fits : (job : List Line) (n : ℕ) (store : Store) (a : Activation Standing) (s : Standing) (c : Atom) (step : Step job store a s (line.If c)) (b : Bool) → StepFits job n store a ((if b then steps.after_move_on job s else steps.after_move_to job s (exit_at job s.at).otherwise), ask.Work)
 if-fits job n store a s c step b =
     let d = doing job store a s (line.If c) step refl in
-    let out = opens-fits job store a s (line.If c) step opened.If d.inside refl refl (ap (λ p. positions.after p (line.If c)) d.at) in
+    let out = opens-fits job store a s (line.If c) step block.If d.inside refl refl (ap (λ p. positions.after p (line.If c)) d.at) in
     branch-fits job n store a b (steps.after_move_on job s) (steps.after_move_to job s (exit_at job s.at).otherwise)
     (on-fits job store a s (line.If c) step refl refl refl) (to-fits job store a s (line.If c) step (exit_at job s.at).otherwise out.0)
 
 while-fits : (job : List Line) (n : ℕ) (store : Store) (a : Activation Standing) (s : Standing) (c : Atom) (step : Step job store a s (line.While c)) (b : Bool) → StepFits job n store a ((if b then steps.after_move_on job s else steps.after_move_to job s (exit_at job s.at).after), ask.Work)
 while-fits job n store a s c step b =
     let d = doing job store a s (line.While c) step refl in
-    let out = opens-fits job store a s (line.While c) step opened.While d.inside refl refl (ap (λ p. positions.after p (line.While c)) d.at) in
+    let out = opens-fits job store a s (line.While c) step block.While d.inside refl refl (ap (λ p. positions.after p (line.While c)) d.at) in
     branch-fits job n store a b (steps.after_move_on job s) (steps.after_move_to job s (exit_at job s.at).after)
     (on-fits job store a s (line.While c) step refl refl refl) (to-fits job store a s (line.While c) step (exit_at job s.at).after out.1)
 
-after-else : (inside : List Block) → positions.takes_else inside ≡ true → (others : List Block) × (positions.after_else inside ≡ InDo (opened.Else ∷ others))
+after-else : (inside : List Block) → positions.takes_else inside ≡ true → (others : List Block) × (positions.after_else inside ≡ InDo (block.Else ∷ others))
 after-else [] e = absurd (false≢true e)
 after-else (innermost ∷ inside) e = (inside, refl)
 
@@ -186,7 +186,7 @@ else-fits job n store a s step =
     let d = doing job store a s line.Else step refl in
     let may : positions.takes_else d.inside ≡ true = subst (λ p. may_stand p line.Else ≡ true) d.at (at-line job store a s line.Else step).stands in
     let others = after-else d.inside may in
-    let out = opens-fits job store a s line.Else step opened.Else others.0 refl refl (ap (λ p. positions.after p line.Else) d.at ∙ others.1) in
+    let out = opens-fits job store a s line.Else step block.Else others.0 refl refl (ap (λ p. positions.after p line.Else) d.at ∙ others.1) in
     work-fits job n store (after_next a (steps.after_move_to job s (exit_at job s.at).after)) (to-fits job store a s line.Else step (exit_at job s.at).after out.1)
 
 -- ---- spawns

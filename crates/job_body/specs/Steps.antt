@@ -20,7 +20,7 @@ use Rattle.swan_model.specs.declared.value.Value.{Value}
 use Rattle.swan_model.specs.declared.value.Value.TheVariants.{Int, Bytes}
 use Rattle.swan_model.specs.Values.{kind_of, zero_of}
 use Rattle.job_body.specs.declared.block.BlockWithLine.{BlockWithLine}
-use Rattle.job_body.specs.declared.block.BlockWithLine.TheVariants as block
+use Rattle.job_body.specs.declared.block.BlockWithLine.TheVariants as opened
 use Rattle.job_body.specs.declared.take.Take.{Take}
 use Rattle.job_body.specs.declared.take.Take.TheVariants as given
 use Rattle.job_body.specs.Blocks.{blocks_at, exit_at}
@@ -128,8 +128,8 @@ step_of_spawn lines s (pos fuel) index given =
 -- the end of the innermost of these blocks, or of the task where there is none
 abbrev pub ended : List Line → Standing → List BlockWithLine → Standing × Ask Standing
 ended lines s [] = (s, ask.Finish)
-ended lines s (block.If ∷ blocks) = (after_move_on lines s, ask.Work)
-ended lines s (block.While i ∷ blocks) = (after_move_to lines s i, ask.Work)
+ended lines s (opened.If ∷ blocks) = (after_move_on lines s, ask.Work)
+ended lines s (opened.While i ∷ blocks) = (after_move_to lines s i, ask.Work)
 
 -- The step of a line. The number is the fuel that is left after the step's own unit. It is a number of
 -- the language, since a run has less fuel than a number can say.

@@ -1,5 +1,5 @@
 // Activations: the tasks of the serial elision.
-ghost use Rattle.std.specs.Prelude.{◌≡◌, ◌+◌, ◌-◌, ◌<◌, ◌≤◌, ◌++◌, ◌∷◌, [], length, IfOk, OnOk};
+ghost use Rattle.std.specs.Prelude.{◌≡◌, ◌+◌, ◌-◌, ◌<◌, ◌++◌, ◌∷◌, [], length, IfOk, OnOk};
 ghost use Rattle.swan_model.specs.SerialStep.{after_next, with_answer, number_at};
 ghost use Rattle.swan_model.specs.declared.body.Answer.TheVariants as answer;
 
