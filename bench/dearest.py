@@ -3,7 +3,8 @@
     python3 bench/dearest.py CRATE [NUMBER]           runs the check of the crate with its tests, one job
     rt .. | python3 bench/dearest.py - [NUMBER]       reads what such a command writes
     python3 bench/dearest.py --modules CRATE [NUMBER] reads when the last check of the crate wrote each of its modules
-    python3 bench/dearest.py --again CRATE [NUMBER]   checks the longest functions of those once more, and reads that
+    python3 bench/dearest.py --again CRATE [NUMBER [FUNCTION ..]]
+                                                      checks the longest functions of those, and these, once more, and reads that
     python3 bench/dearest.py --edits CRATE [NUMBER]   tries each wrong body of the crate by a check of a copy, one job
     python3 bench/dearest.py LOG [NUMBER]             reads the log of a whole gate, as `bench/gate.py --whole LOG` writes it
 
@@ -23,8 +24,10 @@ which an owned value may end; `Proof` and `Tie` grow with what is left to show. 
 in several places is given up by `drop`, and where what is asserted of one row is a function of its own.
 
 What a function takes where all that it stands on is read is told by `--again`: the NUMBER functions that took longest in the last check, by their
-modules, are checked once more with one job, some forty of them in one process. The first of them reads for all; of the others only what they take
-themselves is left, but that the first test of a crate also makes what all its tests are given, in the module `Instances`.
+modules, are checked once more with one job, some forty of them in one process. What they stand on is read when the first of them needs it, most of it
+in that one's `Tie` and `Code.Mir`. So a function that is told to take long there, and alone is given some large type, is checked once more together
+with a FUNCTION that is given the same and comes before it, such as one that it calls, by the name that the lists have. The first test of a crate also
+makes what all its tests are given, in the module `Instances`.
 
 Of wrong bodies it tells seconds of processors, and first those of a check in which nothing has changed: each wrong body costs that at least. The
 crate has to be proved before, since they begin with what its check kept.
@@ -130,11 +133,16 @@ def written_by(crate):
     return (functions, "s"), (modules, "s"), (sizes, "kB")
 
 
-def forget(crate, most):
-    """Removes what the last check of a crate kept of the functions that took longest in it."""
-    longest = {name for name, _ in written_by(crate)[0][0].most_common(most)}
+def forget(crate, most, others):
+    """Removes what is kept of the functions that took longest in the last check of a crate, and of these others."""
+    (functions, _), _, (sizes, _) = written_by(crate)
+    kept = {PART.sub("", module) for module in sizes}
+    for name in others:
+        if name not in kept:
+            raise SystemExit(f"no check of {crate} has kept a {name}")
+    names = {name for name, _ in functions.most_common(most)}.union(others)
     for path in (ROOT / "crates" / crate / "out" / "incremental").rglob("*.oantt"):
-        if PART.sub("", of_module(crate, path)) in longest:
+        if PART.sub("", of_module(crate, path)) in names:
             path.unlink()
 
 
@@ -200,9 +208,12 @@ def main(words):
     option = words.pop(0) if words[:1] in (["--again"], ["--edits"], ["--modules"]) else None
     if not words:
         raise SystemExit(__doc__)
-    most = int(words[1]) if len(words) > 1 else 10
+    most, others = int(words[1]) if len(words) > 1 else 10, words[2:]
+    if others and option != "--again":
+        raise SystemExit(__doc__)
     if option == "--again":
-        forget(words[0], most)
+        forget(words[0], most, others)
+        most += len(others)
         subprocess.run([*CHECK, "--test"], cwd=ROOT / "crates" / words[0], stdout=subprocess.DEVNULL, check=True)
     if option in ("--again", "--modules"):
         lists = ["\n".join(f"{much:8.1f} {unit}  {name}" for name, much in part.most_common(most)) for part, unit in written_by(words[0])]
