@@ -1,5 +1,4 @@
 // Two tasks that wait for each other, so that both are under way at once.
-
 use crate::plans::asks;
 use crate::runs::{outcome_of, shape_of};
 use elision_tests::AskList;
