@@ -4,13 +4,14 @@
     rt .. | python3 bench/dearest.py - [NUMBER]       reads what such a command writes
     python3 bench/dearest.py --modules CRATE [NUMBER] reads when the last check of the crate wrote each of its modules
     python3 bench/dearest.py --again CRATE [NUMBER [FUNCTION ..]]
-                                                      checks the longest functions of those, and these, once more, and reads that
+                                                      checks the longest of the last check and each FUNCTION once more, and reads that
     python3 bench/dearest.py --edits CRATE [NUMBER]   tries each wrong body of the crate by a check of a copy, one job
     python3 bench/dearest.py LOG [NUMBER]             reads the log of a whole gate, as `bench/gate.py --whole LOG` writes it
 
-Prints the NUMBER longest, ten where none is said. Of functions and tests it tells seconds of processors, from one line of the check to the
-next: they grow on a machine that does other work too, but less than those by the clock, which it tells of lines from a pipe. What an earlier
-check kept isn't checked again, also one in another checkout on this machine: where all is to be measured, no checkout may have an `out/` of the crate.
+Prints the NUMBER longest, ten where none is said, and one more for each FUNCTION. Of functions and tests it tells seconds of processors, from one
+line of the check to the next: they grow on a machine that does other work too, but less than those by the clock, which it tells of lines from a pipe.
+What an earlier check kept isn't checked again, also one in another checkout on this machine: where all is to be measured, no checkout may have an
+`out/` of the crate.
 
 What a function stands on is read when the first function needs it, and counts with that one. A large crate is checked some functions at a time,
 each time in a new process, which reads again; so does the gate for what wrong bodies begin with, but it proves a crate in one process.
@@ -23,11 +24,11 @@ new process reads counts with the first module that it writes. The module `Lts` 
 which an owned value may end; `Proof` and `Tie` grow with what is left to show. So the check of a function gets shorter where what ends
 in several places is given up by `drop`, and where what is asserted of one row is a function of its own.
 
-What a function takes where all that it stands on is read is told by `--again`: the NUMBER functions that took longest in the last check, by their
-modules, are checked once more with one job, some forty of them in one process. What they stand on is read when the first of them needs it, most of it
-in that one's `Tie` and `Code.Mir`. So a function that is told to take long there, and alone is given some large type, is checked once more together
-with a FUNCTION that is given the same and comes before it, such as one that it calls, by the name that the lists have. The first test of a crate also
-makes what all its tests are given, in the module `Instances`.
+What a function takes itself is told better still by `--again`: the NUMBER functions that took longest in the last check, by their modules, are
+checked once more with one job, some forty of them in one process. What they stand on is read when the first of them needs it, most of it in that
+one's `Tie` and `Code.Mir`. So one that takes long there, and alone is given some large type, is checked once more together with a FUNCTION that is
+given the same and is checked before it, as those are that it calls: by its name in the first of the lists, and no more than those forty in all. The
+first test of a crate also makes what all its tests are given, in the module `Instances`.
 
 Of wrong bodies it tells seconds of processors, and first those of a check in which nothing has changed: each wrong body costs that at least. The
 crate has to be proved before, since they begin with what its check kept.
@@ -208,9 +209,10 @@ def main(words):
     option = words.pop(0) if words[:1] in (["--again"], ["--edits"], ["--modules"]) else None
     if not words:
         raise SystemExit(__doc__)
-    most, others = int(words[1]) if len(words) > 1 else 10, words[2:]
-    if others and option != "--again":
+    number, others = words[1] if len(words) > 1 else "10", words[2:]
+    if not number.isdigit() or (others and option != "--again"):
         raise SystemExit(__doc__)
+    most = int(number)
     if option == "--again":
         forget(words[0], most, others)
         most += len(others)
