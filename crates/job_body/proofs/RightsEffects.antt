@@ -14,7 +14,7 @@ use Rattle.swan_model.specs.declared.value.Value.{Value}
 use Rattle.swan_model.specs.Rights.{is_aliased, is_queue_mode}
 use Rattle.swan_model.specs.SerialState.{Activation, Cell, Holding, Queue, Store}
 use Rattle.swan_model.specs.SerialStep as serial
-use Rattle.swan_model.specs.SerialStep.{Effect, goes_on, spawns, ends, faults, effect, number_at, on_cell, on_list, on_object, on_queue, popped, spawn_effect, with_answer, zero_cell, cells_with_zeros, zeroed_by}
+use Rattle.swan_model.specs.SerialStep.{Effect, goes_on, spawns, ends, faults, effect, number_at, on_cell, on_list, on_object, on_queue, popped, spawn_effect, with_answer, cells_with_zeros}
 use Rattle.swan_model.specs.Values.{kind_of}
 use Rattle.job_reader.specs.declared.line.Line.{Line}
 use Rattle.job_body.specs.RightsKept.{is_of_rights}

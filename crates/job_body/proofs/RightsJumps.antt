@@ -81,15 +81,15 @@ else-blocks : (job : List Line) (held : List Mode) (inside : List Block) (blocks
 else-blocks job held [] blocks stands b = absurd (false≢true stands)
 else-blocks job held (innermost ∷ inside) blocks stands b = b
 
-end-loops : (job : List Line) (held : List Mode) (block : BlockWithLine) (blocks : List BlockWithLine) → LoopsStand job held (block ∷ blocks) → LoopsStand job held blocks
+end-loops : (job : List Line) (held : List Mode) (first : BlockWithLine) (blocks : List BlockWithLine) → LoopsStand job held (first ∷ blocks) → LoopsStand job held blocks
 end-loops job held opened.If blocks loops = loops
 end-loops job held (opened.While i) blocks loops = loops.1
 
 end-blocks : (job : List Line) (held : List Mode) (inside : List Block) (blocks : List BlockWithLine) → BlocksStand job held inside blocks → BlocksAt (positions.after_end inside) job held (blocks_after_end blocks)
 end-blocks job held [] blocks b = tt
 end-blocks job held (innermost ∷ inside) [] b = absurd (cc)
-end-blocks job held (innermost ∷ inside) (block ∷ blocks) b =
-    (omega (arith, b.0), end-loops job held block blocks b.1)
+end-blocks job held (innermost ∷ inside) (first ∷ blocks) b =
+    (omega (arith, b.0), end-loops job held first blocks b.1)
 
 done-blocks : (job : List Line) (held : List Mode) (i : ℕ) (inside : List Block) (blocks : List BlockWithLine) (line : Line) → may_stand (InDo inside) line ≡ true → Stands job i held → BlocksStand job held inside blocks → BlocksAt (positions.after_statement inside line) job held (blocks_after i blocks line)
 done-blocks job held i inside blocks (line.If a) stands at b = (ap suc b.0, b.1)

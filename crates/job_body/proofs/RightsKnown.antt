@@ -18,7 +18,7 @@ use Rattle.job_reader.specs.declared.position.Position.{Position}
 use Rattle.job_reader.specs.declared.position.Position.TheVariants.{First, Top, InTask, InDo, Outside}
 use Rattle.privilege_check.specs.FirstFault.{check_line, fresh}
 use Rattle.privilege_check.specs.Names as checks
-use Rattle.privilege_check.specs.Names.{Before, before_first_line, after_declare, after_declare_in, known, known_in, after_open, after_declare_taken, taken_by, with_name, with_taken, is_main}
+use Rattle.privilege_check.specs.Names.{Before, before_first_line, after_declare, after_declare_in, known, known_in, after_open, after_declare_taken, taken_by, with_name, is_main}
 use Rattle.privilege_check.specs.declared.declaration.Declaration.{Declaration}
 use Rattle.privilege_check.specs.declared.declaration.Declaration.TheVariants.{Variable, Held}
 use Rattle.job_body.specs.Tasks.{TaskSoFar, before_task, so_far_after, so_far_from, top_lines}

@@ -142,7 +142,7 @@ branch-fits job n store a false x y first second = work-fits job n store (after_
 -- the `end` of a block, or of the task
 ended-fits : (job : List Line) (n : ℕ) (store : Store) (a : Activation Standing) (s : Standing) (step : Step job store a s line.End) (inside : List Block) (blocks : List BlockWithLine) → position_at job s.at ≡ InDo inside → BlocksStand job (held_modes_of a.holdings) inside blocks → StepFits job n store a (steps.ended job s blocks)
 ended-fits job n store a s step inside [] at b = tt
-ended-fits job n store a s step [] (block ∷ blocks) at b = absurd (let e = b.0 in cc)
+ended-fits job n store a s step [] (first ∷ blocks) at b = absurd (let e = b.0 in cc)
 ended-fits job n store a s step (innermost ∷ inside) (opened.If ∷ blocks) at b =
     let within : is_open (positions.after (position_at job s.at) line.End) ≡ true = ap (λ p. is_open (positions.after p line.End)) at in
     let next = stands-on job s.at line.End (held_modes_of a.holdings) step.is refl refl within step.stands in

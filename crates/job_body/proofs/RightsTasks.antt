@@ -13,7 +13,7 @@ use Rattle.job_reader.specs.declared.line.Line.{Line}
 use Rattle.job_reader.specs.declared.line.Line.TheVariants as line
 use Rattle.privilege_check.specs.FirstFault.{check_line, fault_from, fresh, has_main, or_later, outside_main}
 use Rattle.privilege_check.specs.Names as checks
-use Rattle.privilege_check.specs.Names.{Before, before_first_line, after_declare, after_declare_in, is_main, known, after_open, after_declare_taken, taken_by, with_next, with_taken}
+use Rattle.privilege_check.specs.Names.{Before, after_declare, after_declare_in, is_main, known, after_open, after_declare_taken, taken_by, with_next}
 use Rattle.privilege_check.specs.declared.declaration.Declaration.{Declaration}
 use Rattle.privilege_check.specs.declared.declaration.Declaration.TheVariants.{Variable, Held}
 use Rattle.job_body.specs.declared.take.Take.{Take}

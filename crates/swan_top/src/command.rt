@@ -1,5 +1,5 @@
 // The command that words are.
-ghost use Rattle.std.specs.Prelude.{◌≡◌, ◌^◌, ◌<◌, ◌∷◌, [], bytes_eq, IfOk, OnErr, Some, None};
+ghost use Rattle.std.specs.Prelude.{◌≡◌, ◌<◌, ◌∷◌, [], bytes_eq, IfOk, OnErr, Some, None};
 ghost use Rattle.swan_runtime.specs.declared.shape.TheConstants.{WORKERS_MOST};
 ghost use Rattle.swan_top.specs.Command.{command, number_within, is_file, alone, command_of, job_alone, fueled, manned, over_input, elide, run, index, convert, three_numbers, IsWithinLimits};
 ghost use Rattle.swan_top.specs.Forms.{ReadsWords, elide_or_run, FilesOf, JobOf, WorkersOf, InputOf};

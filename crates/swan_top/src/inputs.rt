@@ -1,7 +1,7 @@
 // Reading the inputs of a job.
-ghost use Rattle.std.specs.Prelude.{◌≡◌, ℕ, List, Some, None, IfOk, OnOk, IfErr};
+ghost use Rattle.std.specs.Prelude.{◌≡◌, None, IfOk, OnOk, IfErr};
 ghost use Rattle.swan_top.specs.Decision.{unread};
-ghost use Rattle.swan_top.specs.Headline.{WereRead, ReadRefused, files_over};
+ghost use Rattle.swan_top.specs.Headline.{WereRead, files_over};
 ghost use Rattle.swan_top.specs.Settled.{StopsOver, InputUnread};
 
 use crate::read::read_file;

@@ -1,5 +1,5 @@
 // Reading files.
-ghost use Rattle.std.specs.Prelude.{◌≡◌, ◌+◌, ◌≤◌, ℕ, List, [], length, vec_capacity, Some, None, IfOk, OnOk, IfErr};
+ghost use Rattle.std.specs.Prelude.{◌≡◌, ◌+◌, ◌≤◌, ℕ, List, [], length, vec_capacity, IfOk, OnOk, IfErr};
 ghost use Rattle.swan_top.specs.Decision.{refuses};
 ghost use Rattle.swan_top.specs.Headline.{WasRead, ReadRefused, files_over};
 ghost use Rattle.swan_top.specs.Refusals.{file_line};

@@ -1,12 +1,12 @@
 // What a command leads to.
-ghost use Rattle.std.specs.Prelude.{◌≡◌, ◌≤◌, ◌∷◌, [], IfOk, IfErr, Ok, Some};
+ghost use Rattle.std.specs.Prelude.{◌≡◌, ◌≤◌, ◌∷◌, [], IfOk, IfErr, Ok};
 ghost use Rattle.bulk_workload.specs.declared.texts.TheConstants.{BULK_MOST};
 ghost use Rattle.swan_model.specs.declared.plan.TheConstants.{FUEL_MOST};
 ghost use Rattle.swan_top.specs.Command.{command_of, IsWithinLimits};
 ghost use Rattle.swan_top.specs.Decision.{checked, generated, settled, decision_of_check, decision_of_run, decision_of_text, prints};
 ghost use Rattle.swan_top.specs.Elisions.{cheapest, conversion_end, elisions, index_end};
 ghost use Rattle.swan_top.specs.Headline.{Leads, Settles, files_over};
-ghost use Rattle.swan_top.specs.Settled.{Is, Stops, StopsOver, verdict_of};
+ghost use Rattle.swan_top.specs.Settled.{Is, Stops, StopsOver};
 ghost use Rattle.swan_top.specs.declared.how.How.TheVariants as how;
 ghost use Rattle.swan_top.specs.declared.status.Status.TheVariants as status;
 

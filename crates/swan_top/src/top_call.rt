@@ -1,5 +1,5 @@
 // The top call.
-ghost use Rattle.std.specs.Prelude.{◌≡◌, IfSome};
+ghost use Rattle.std.specs.Prelude.{IfSome};
 ghost use Rattle.swan_top.specs.Command.{command, IsWithinLimits};
 ghost use Rattle.swan_top.specs.Completeness.{Completes};
 ghost use Rattle.swan_top.specs.Elisions.{elisions};

@@ -1,5 +1,4 @@
 // Writing what was settled.
-ghost use Rattle.std.specs.Prelude.{◌≡◌};
 ghost use Rattle.swan_top.specs.Decision.{prints, refuses};
 ghost use Rattle.swan_top.specs.Headline.{Ends, sink_over};
 ghost use Rattle.swan_top.specs.Settled.{EndsSo, IsEnd, verdict_of};
