@@ -219,18 +219,29 @@ fn left_alone<B: Body, Q: Queues>(alloc: Global, opened: Opened<B, Q>) -> Option
     }
 }
 
+/// What an opened run leaves in this order, and None where its root hasn't ended.
+fn left_in<B: Body, Q: Queues>(
+    alloc: Global,
+    opened: Opened<B, Q>,
+    order: Order<'_>,
+) -> Result<Option<Outcome>, Fail>
+    requires opened { IsOpened (ends_of Q.Ends.LocalEnds) opened.core opened.root }
+    requires body { opened.body.value ≡ opened.core.plan.body }
+{
+    match order {
+        Order::Turns(turns) => left_by_turns(alloc, opened, turns),
+        Order::Chance(seed) => left_by_chance(alloc, opened, seed),
+        Order::Stack => Ok(left_alone(alloc, opened)),
+    }
+}
+
 /// What a run of a plan leaves, and None where its root hasn't ended.
 fn left_of<B: Body>(
     alloc: Global,
     plan: Plan<B>,
     order: Order<'_>,
 ) -> Result<Option<Outcome>, Fail> {
-    let opened = opened(alloc, plan)?;
-    match order {
-        Order::Turns(turns) => left_by_turns(alloc, opened, turns),
-        Order::Chance(seed) => left_by_chance(alloc, opened, seed),
-        Order::Stack => Ok(left_alone(alloc, opened)),
-    }
+    left_in(alloc, opened(alloc, plan)?, order)
 }
 
 /// The two texts of what a run of a plan leaves.

@@ -219,16 +219,30 @@ fn opened_over(alloc: Global, list: &Arc<AskList>) -> Result<Opened<Shared, Book
     Ok(opened(alloc, plan_of(alloc, Arc::try_clone(list)?))?)
 }
 
-/// The turns of two runs of the plan that goes through these asks come to what is said.
-fn come_over(alloc: Global, list: &Arc<AskList>, turns: &Turns<'_>) -> Result<(), Fail> {
-    let stale = frames_after(alloc, opened_over(alloc, list)?, turns.second)?;
-    match opened_over(alloc, list) {
+/// The turns of a run, if it was opened, to whose core these stale frames come, come to what is said. Else they are given up.
+fn come_if<B: Body, Q: Queues>(
+    alloc: Global,
+    opened: Result<Opened<B, Q>, Fail>,
+    stale: Vec<Frame<B, Q>>,
+    turns: &Turns<'_>,
+) -> Result<(), Fail>
+    requires opened { IfOk opened (λ it. IsOpened (ends_of Q.Ends.LocalEnds) it.core it.root) }
+    requires body { IfOk opened (λ it. it.body.value ≡ it.core.plan.body) }
+    requires stale { IfOk opened (λ it. MayAllCome Q.Ends.run it.core stale.items) }
+{
+    match opened {
         Ok(opened) => come_so(alloc, opened, stale, turns),
         Err(fail) => {
             drop(stale);
             Err(fail)
         }
     }
+}
+
+/// The turns of two runs of the plan that goes through these asks come to what is said.
+fn come_over(alloc: Global, list: &Arc<AskList>, turns: &Turns<'_>) -> Result<(), Fail> {
+    let stale = frames_after(alloc, opened_over(alloc, list)?, turns.second)?;
+    come_if(alloc, opened_over(alloc, list), stale, turns)
 }
 
 /// The turns of two runs of these tasks, of which the first is the root, come to what is said.
