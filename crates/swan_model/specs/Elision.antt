@@ -39,7 +39,7 @@ abbrev pub first_store : RootLists → Store
 first_store roots = record { cells = first_cells 0 roots.objects; queues = first_queues 0 roots.queues }
 
 abbrev pub root : {B L : Type 0} → Plan B L → Activation L
-root plan = record { path = []; local = plan.root_local; answer = answer.Start; fuel = plan.fuel; holdings = root_holdings plan.roots; children = 0 }
+root plan = record { path = []; local = plan.root_local; answer = answer.Start; fuel = plan.fuel; holdings = root_holdings plan.roots; children = 0; failed = 0 }
 
 -- the state before the first step
 abbrev pub start : {B L : Type 0} → Plan B L → State L

@@ -73,9 +73,10 @@ pub record NextSpawnGivesQueues (s : Script) (state : QueueState) (parent : Acti
 abbrev pub is_by_end : Deed → Bool
 is_by_end (deed.Push queue value) = true
 is_by_end (deed.Pop queue) = true
+is_by_end (deed.Test queue) = true
 is_by_end _ = false
 
--- A task's queue deeds, from one number up to another, are all pushes and pops.
+-- A task's queue deeds, from one number up to another, are all pushes, pops and tests.
 pub record AreByEnds (s : Script) (path : List ℕ) (from to : ℕ) : Type 0 where
   pub order : from ≤ to
   pub each : (k : ℕ) → from ≤ k → k < to → (d : Deed) × (next_queue_deed s path k ≡ Some d) × (is_by_end d ≡ true)

@@ -24,6 +24,8 @@ pub record Activation (L : Type 0) : Type 0 where
   pub holdings : List Holding
   -- how many children it has spawned
   pub children : ℕ
+  -- how many of them ended by a fault since its last Sync, or since its start
+  pub failed : ℕ
 
 -- An object. Its zero is that of the kind of its first value, whatever is written later.
 pub record Cell : Type 0 where

@@ -79,6 +79,10 @@ with_answer a answer = record a { answer = answer }
 abbrev pub with_place : {L : Type 0} → Activation L → Holding → Activation L
 with_place a holding = record a { answer = answer.Place (length a.holdings); holdings = a.holdings ++ holding ∷ [] }
 
+-- the activation at a Sync: it is told how many of its children failed, and counts anew
+abbrev pub synced : {L : Type 0} → Activation L → Activation L
+synced a = record a { answer = answer.Caught a.failed; failed = 0 }
+
 -- a pop: the first item leaves the queue, and an empty queue is a fault
 abbrev pub popped : {L : Type 0} → Store → Activation L → ℕ → Queue → List Value → Effect L
 popped store a number queue [] = faults kind.PopEmpty
@@ -121,7 +125,7 @@ spawn_effect store a child (Some holdings) =
     else if nat_lt a.fuel child.fuel then faults kind.Fuel
     else spawns
     (record a { answer = answer.Nothing; fuel = a.fuel - child.fuel; children = a.children + 1 })
-    (record { path = a.path ++ a.children ∷ []; local = child.local; answer = answer.Start; fuel = child.fuel; holdings = holdings; children = 0 })
+    (record { path = a.path ++ a.children ∷ []; local = child.local; answer = answer.Start; fuel = child.fuel; holdings = holdings; children = 0; failed = 0 })
     (record store { cells = cells_with_zeros store.cells holdings })
 
 -- The effect of an ask at the step of this number, where the activation has paid for the step.
@@ -144,18 +148,24 @@ effect n store a (ask.NewObject value) =
     goes_on (with_place a (record { mode = InOut; number = length store.cells }))
     (record store { cells = store.cells ++ (record { origin = origin.Step n; kind = kind_of value; value = value }) ∷ [] })
 effect n store a (ask.Spawn child) = spawn_effect store a child (given a.holdings child.gives)
-effect n store a ask.Sync = goes_on (with_answer a answer.Nothing) store
+effect n store a ask.Sync = goes_on (synced a) store
 effect n store a ask.Finish = ends
 effect n store a (ask.Fail trouble) = faults (kind.Trouble trouble)
 
+-- The activations below one that ended by a fault: its parent, the first of them, has one more failed child. The root has
+-- no parent.
+abbrev pub with_failed : {L : Type 0} → List (Activation L) → List (Activation L)
+with_failed [] = []
+with_failed (parent ∷ rest) = record parent { failed = parent.failed + 1 } ∷ rest
+
 -- The state after an effect. The activations below the top stay. A fault is booked with the path and with
--- the place before the step, and ends its activation and nothing else: what it wrote and pushed stays, its
--- parent and its siblings go on. What an ended activation had left of fuel is gone.
+-- the place before the step, and ends its activation; it adds one to its parent's failed children, and does nothing else: what
+-- the activation wrote and pushed stays, its parent and its siblings go on. What an ended activation had left of fuel is gone.
 abbrev pub state_after : {L : Type 0} → State L → List (Activation L) → List ℕ → ℕ → Effect L → State L
 state_after s below path place (goes_on a store) = record { steps = s.steps + 1; stack = a ∷ below; store = store; faults = s.faults }
 state_after s below path place (spawns parent child store) = record { steps = s.steps + 1; stack = child ∷ parent ∷ below; store = store; faults = s.faults }
 state_after s below path place ends = record { steps = s.steps + 1; stack = below; store = s.store; faults = s.faults }
-state_after s below path place (faults kind) = record { steps = s.steps + 1; stack = below; store = s.store; faults = s.faults ++ (record { path = path; place = place; kind = kind }) ∷ [] }
+state_after s below path place (faults kind) = record { steps = s.steps + 1; stack = with_failed below; store = s.store; faults = s.faults ++ (record { path = path; place = place; kind = kind }) ∷ [] }
 
 -- the activation once its body has answered a step
 abbrev pub after_next : {L : Type 0} → Activation L → L → Activation L

@@ -41,7 +41,7 @@ pub enum Ask<L> {
     NewObject(Value),
     /// A child.
     Spawn(Child<L>),
-    /// That all children have ended.
+    /// That all children have ended. It is told how many of them ended by a fault since the task's last wait of this kind.
     Sync,
     /// To end.
     Finish,
@@ -88,6 +88,8 @@ pub enum Answer {
     Flag(bool),
     /// The place of a new queue or object.
     Place(u32),
+    /// To Sync: how many children ended by a fault since the last one, or since the task began.
+    Caught(u64),
 }
 
 /// A step that asked for something other than work.

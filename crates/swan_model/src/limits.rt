@@ -12,7 +12,7 @@ ghost use Rattle.swan_model.specs.declared.run_name.TheConstants.{ENTRIES_MOST};
 /// `QueueState`.)
 pub fn limits_of_values_and_plans()
     // of values, lines and paths
-    ensures record { RECORD_MOST ≡ 65535 }
+    ensures record { RECORD_MOST ≡ 1048576 }
     ensures lines { LINES_MOST ≡ 1000000 }
     ensures path { PATH_MOST ≡ 64 }
 

@@ -9,7 +9,7 @@ use std::alloc::{AllocError, Global};
 use std::marker::Model;
 
 /// The largest number of bytes of a record.
-pub const RECORD_MOST: usize = 65_535;
+pub const RECORD_MOST: usize = 1_048_576;
 
 /// At most `RECORD_MOST` bytes, which all copies share. Contracts see it as the list of its bytes.
 #[derive(Drop)]
