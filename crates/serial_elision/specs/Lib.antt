@@ -4,6 +4,8 @@
 pub mod Laws
 pub mod TaskSteps
 pub mod OnSteps
+-- How many of a task's children failed.
+pub mod Caught
 -- Why the numbers of an activation fit, and of whatever goes on as one does.
 pub mod Bounds
 -- The state some steps later, by which the crate above says what a whole run is too.

@@ -18,7 +18,7 @@ use Rattle.swan_model.specs.SerialStep.{Effect, given}
 use Rattle.swan_model.specs.SerialTime.{time}
 use Rattle.swan_model.specs.Told.{count, taken}
 use Rattle.swan_model.specs.TrueFrames.{StandsAt, effect_at, gives_at}
-use Rattle.serial_elision.specs.TaskSteps.{MeetsFault, GetsPlace, GoesOn, IsAsking, MayUseAt}
+use Rattle.serial_elision.specs.TaskSteps.{MeetsFault, GetsPlace, GoesOn, IsAsking, MayUseAt, Syncs}
 
 -- the plan's lists are within their bounds, as those of each plan that is made are
 abbrev pub IsBounded : {B L : Type 0} → Plan B L → Type 0
@@ -88,6 +88,10 @@ module _ {B L : Type 0} (G : Ghosts B L) where
   -- the task goes on with this answer, and its step is this deed
   abbrev pub AnswersWith : AskStep B L → Answer → Deed → Type 0
   AnswersWith at said does = GoesOn G at.of.plan at.of.path at.of.k at.of.top at.local said does
+
+  -- the task goes on by a Sync, and is told how many of its children failed since the last one
+  abbrev pub SyncsHere : AskStep B L → Type 0
+  SyncsHere at = Syncs G at.of.plan at.of.path at.of.k at.of.top at.local
 
   -- the task gets one place more, which it holds by this mode, and its step is this deed
   abbrev pub MakesPlace : AskStep B L → Mode → Deed → Type 0

@@ -21,7 +21,7 @@ use Rattle.swan_model.specs.declared.script.OriginGive.{OriginGive}
 use Rattle.swan_model.specs.Rights.{allows}
 use Rattle.swan_model.specs.Script.{script}
 use Rattle.swan_model.specs.SerialState.{Activation, Holding, Store}
-use Rattle.swan_model.specs.SerialStep.{goes_on, spawns, ends, faults, given, after_next, number_at, with_answer, with_place}
+use Rattle.swan_model.specs.SerialStep.{goes_on, spawns, ends, faults, given, after_next, number_at, synced, with_answer, with_place}
 use Rattle.swan_model.specs.SerialTime.{time, times}
 use Rattle.swan_model.specs.Told.{deed_at}
 use Rattle.swan_model.specs.TrueFrames.{StandsAt, effect_at, gives_at}
@@ -32,7 +32,7 @@ parent_activation a child = record a { answer = answer.Nothing; fuel = a.fuel - 
 
 -- the child as it begins, with what it is given
 abbrev pub child_activation : {L : Type 0} → Activation L → Child L → List Holding → Activation L
-child_activation a child holdings = record { path = a.path ++ a.children ∷ []; local = child.local; answer = answer.Start; fuel = child.fuel; holdings = holdings; children = 0 }
+child_activation a child holdings = record { path = a.path ++ a.children ∷ []; local = child.local; answer = answer.Start; fuel = child.fuel; holdings = holdings; children = 0; failed = 0 }
 
 module _ {B L : Type 0} (G : Ghosts B L) (plan : Plan B L) (path : List ℕ) (k : ℕ) (top : Activation L) where
   -- The task stands at this step and has fuel for it; its body leaves this local, and asks for this.
@@ -62,12 +62,20 @@ module _ {B L : Type 0} (G : Ghosts B L) (plan : Plan B L) (path : List ℕ) (k 
   abbrev pub Does : Deed → Type 0
   Does does = deed_at (script G plan) (time (script G plan) path k) ≡ does
 
-  -- The step leaves the task with this local and this answer; it holds the same.
-  pub record GoesOn (local : L) (said : Answer) (does : Deed) : Type 0 where
+  -- The step leaves the task so, and it holds the same.
+  pub record GoesOnAs (next : Activation L) (does : Deed) : Type 0 where
     pub store : Store
-    pub effect : effect_at G plan path k top ≡ goes_on (with_answer (after_next top local) said) store
+    pub effect : effect_at G plan path k top ≡ goes_on next store
     pub deed : Does does
-    pub names : gives_at G plan path (k + 1) (with_answer (after_next top local) said) ≡ gives_at G plan path k top
+    pub names : gives_at G plan path (k + 1) next ≡ gives_at G plan path k top
+
+  -- The step leaves the task with this local and this answer; it holds the same.
+  abbrev pub GoesOn : (local : L) (said : Answer) (does : Deed) → Type 0
+  GoesOn local said does = GoesOnAs (with_answer (after_next top local) said) does
+
+  -- The step is a Sync: it leaves the task with this local. The task is told how many of its children failed, and counts anew.
+  abbrev pub Syncs : (local : L) → Type 0
+  Syncs local = GoesOnAs (synced (after_next top local)) deed.Sync
 
   -- The step gives the task one place more, for what the step made, and the task is told which place it is.
   pub record GetsPlace (local : L) (mode : Mode) (does : Deed) : Type 0 where
@@ -88,7 +96,7 @@ module _ {B L : Type 0} (G : Ghosts B L) (plan : Plan B L) (path : List ℕ) (k 
     pub effect : effect_at G plan path k top ≡ faults kind
     pub deed : Does does
 
-  -- The step spawns this child. The child holds the gives, each named by what made what stands at the give's place.
+  -- The step spawns this child; once it has ended, its parent goes on so, but for its failed children. The child holds the gives, each named by what made what stands at the give's place.
   pub record Spawns (local : L) (child : Child L) : Type 0 where
     pub holdings : List Holding
     pub held : given top.holdings child.gives ≡ Some holdings

@@ -85,5 +85,6 @@ use state::State;
 use store::Store;
 pub use task_laws::{
     a_plan_makes_what_its_fuel_pays, a_spawn_makes_its_child, asks_are_answered,
-    faults_are_those_of_last_steps, names_stay, some_steps_end_their_task, tasks_go_on,
+    caught_are_counted, faults_are_those_of_last_steps, names_stay, some_steps_end_their_task,
+    tasks_go_on,
 };

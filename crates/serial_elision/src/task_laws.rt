@@ -30,15 +30,16 @@ ghost use Rattle.swan_model.specs.declared.plan.TheConstants.{FUEL_MOST, ROOTS_M
 ghost use Rattle.swan_model.specs.declared.rights.TheConstants.{GIVES_MOST};
 ghost use Rattle.swan_model.specs.declared.rights.Give.{Give};
 ghost use Rattle.serial_elision.specs.Laws.{AreEachOnce, AreInOrder, IsObjectOf, IsQueueOf};
-ghost use Rattle.serial_elision.specs.OnSteps.{AnswersWith, EndsBy, IsBounded, IsItemLeft, IsNoneLeft, MakesPlace, OnAsk, OnBoundedAsk, OnBoundedStep, OnSpawn, OnStep, OnUse, StandsNext, does_at, names_on_step};
+ghost use Rattle.serial_elision.specs.OnSteps.{AnswersWith, EndsBy, IsBounded, IsItemLeft, IsNoneLeft, MakesPlace, OnAsk, OnBoundedAsk, OnBoundedStep, OnSpawn, OnStep, OnUse, StandsNext, SyncsHere, does_at, names_on_step};
+ghost use Rattle.serial_elision.specs.Caught.{children_by, children_by_sync, failed_children, once_ended};
 ghost use Rattle.serial_elision.specs.TaskSteps.{EndsTask, IsFaultOf, LacksRight, MayUseAt, Spawns};
 
 use swan_model::Body;
 
 /// The law that a task goes on by its own steps. The root stands at its first step. Where a task stands at a
 /// step of its own, and the step neither ends it nor spawns, it stands at its next step as this step left it;
-/// after a spawn it does so once the child has ended, as the spawn left it, and the child stands at its first
-/// step as it was made. A step that ends a task is its last one. A task stands at each step that it has, as one
+/// after a spawn it does so once the child has ended, as the spawn left it, but for one more failed child where
+/// the child ended by a fault; and the child stands at its first step as it was made. A step that ends a task is its last one. A task stands at each step that it has, as one
 /// activation alone, and at a later step as the one before has left it. So what a task is at a step depends on
 /// nothing but its own steps, and on what they were told.
 pub fn tasks_go_on<B: Body>()
@@ -47,7 +48,8 @@ pub fn tasks_go_on<B: Body>()
 
     // what each step leaves
     ensures goes_on { OnStep B.Body (λ at. (next : Activation B.Local) (store : Store) → does_at B.Body at ≡ goes_on next store → StandsNext B.Body at next) }
-    ensures spawns { OnStep B.Body (λ at. (parent child : Activation B.Local) (store : Store) → does_at B.Body at ≡ spawns parent child store → StandsNext B.Body at parent) }
+    ensures spawns { OnStep B.Body (λ at. (parent child : Activation B.Local) (store : Store) → does_at B.Body at ≡ spawns parent child store
+        → StandsNext B.Body at (once_ended (outcome B.Body at.plan).faults parent child)) }
     ensures begins { OnStep B.Body (λ at. (parent child : Activation B.Local) (store : Store) → does_at B.Body at ≡ spawns parent child store → StandsAt B.Body at.plan child.path 0 child) }
     ensures ends { OnStep B.Body (λ at. is_end (does_at B.Body at) ≡ true → at.k + 1 ≡ length (times (script B.Body at.plan) at.path)) }
 
@@ -60,7 +62,18 @@ pub fn tasks_go_on<B: Body>()
         → StandsAt B.Body plan path (k + 1) top
         → (before : Activation B.Local) × (store : Store) × StandsAt B.Body plan path k before
         × ((effect_at B.Body plan path k before ≡ goes_on top store)
-        ⊎ ((child : Activation B.Local) × (effect_at B.Body plan path k before ≡ spawns top child store))) }
+        ⊎ ((parent child : Activation B.Local) × (effect_at B.Body plan path k before ≡ spawns parent child store)
+        × (top ≡ once_ended (outcome B.Body plan).faults parent child))) }
+{}
+
+/// The law of failed children. A task's children are those that the script has it spawn before its step. Its failed children
+/// are those among the children since its last Sync that ended by a fault: each such child has a fault in what is left, and
+/// no other one has. So what a Sync is told can be counted by faults, whatever has become of them by then.
+pub fn caught_are_counted<B: Body>()
+    ensures children { OnStep B.Body (λ at. at.top.children ≡ children_by (script B.Body at.plan) at.path at.k) }
+    ensures failed { OnStep B.Body (λ at.
+        at.top.failed ≡ failed_children (outcome B.Body at.plan).faults at.path
+            (children_by_sync (script B.Body at.plan) at.path at.k) at.top.children) }
 {}
 
 /// The law that what is held keeps its name. Whatever a task holds at a step has a name, by what made it, and
@@ -87,8 +100,8 @@ pub fn names_stay<B: Body>()
         → slice_get (gives_at B.Body plan [] 0 (root plan)) (length plan.roots.queues + i) ≡ Some (Some (record { origin = Root i; mode = InOut })) }
 {}
 
-/// The law of what each ask is answered, and of the deed that the script has for it. Work and the wait for
-/// children are answered with nothing; a read with the value that the script tells of the object at this time; a
+/// The law of what each ask is answered, and of the deed that the script has for it. Work is answered with nothing, and the wait
+/// for children with how many of them failed since the last one; a read with the value that the script tells of the object at this time; a
 /// write and a push with nothing; a pop with the queue's next item, where one is left; the test of a queue with
 /// whether none is left; and who makes a queue or an object is told its new place. Whoever is answered holds the
 /// same as before, by the same names, and a maker one place more, which has the name of this step. Asked is that the
@@ -96,7 +109,7 @@ pub fn names_stay<B: Body>()
 pub fn asks_are_answered<B: Body>()
     // what changes nothing for others
     ensures work { OnBoundedAsk B.Body ask.Work (λ at. AnswersWith B.Body at answer.Nothing deed.Quiet) }
-    ensures sync { OnBoundedAsk B.Body ask.Sync (λ at. AnswersWith B.Body at answer.Nothing deed.Sync) }
+    ensures sync { OnBoundedAsk B.Body ask.Sync (λ at. SyncsHere B.Body at) }
 
     // objects
     ensures read { (place : ℕ) → OnUse B.Body (ask.Read place) place In (λ at object. let s = script B.Body at.of.plan in
