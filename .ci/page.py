@@ -52,7 +52,7 @@ def tables_of(lines):
     tables, block, job, table = [], None, None, None
     for line in lines:
         if line.startswith("```"):
-            if block is not None and block[:1] == ["swan 1"]:
+            if block is not None and block[:1] in (["swan 1"], ["swan 2"]):
                 job = block
             block = [] if block is None else None
             table = None

@@ -8,7 +8,7 @@ if exists("b:current_syntax")
 endif
 syntax case match
 
-syntax match swanHeader /\%^\s*swan\s\+1\s*$/
+syntax match swanHeader /\%^\s*swan\s\+[12]\s*$/
 syntax match swanNote /^\s*#.*$/
 syntax region swanLiteral start=/"/ skip=/\\./ end=/"/ end=/$/ contains=swanEscape
 syntax match swanEscape /\\\([\\"nt]\|x\x\x\)/ contained
@@ -17,7 +17,7 @@ syntax match swanNumber /\s\zs\(0\|-\?[1-9]\d*\)\ze\(\s\|$\)/
 syntax match swanTask /^\s*\(task\|do\|end\)\>\(\s\+=\)\@!/
 syntax match swanTop /^\s*\(input\|output\)\>\(\s\+=\)\@!/
 syntax match swanDeclaration /^\s*\(param\|inout\|in\|out\|pushpop\|var\|queue\|object\)\>\(\s\+=\)\@!/
-syntax match swanStatement /^\s*\(read\|write\|push\|pop\|empty\|spawn\|sync\|fuel\|fail\)\>\(\s\+=\)\@!/
+syntax match swanStatement /^\s*\(read\|write\|push\|pop\|empty\|spawn\|sync\|fuel\|caught\|fail\)\>\(\s\+=\)\@!/
 syntax match swanDeclaration /^\s*\(push\|pop\)\ze\s\+\h\w*\s\+\(int\|bytes\)\s*$/
 syntax match swanBlock /^\s*\(if\|else\|while\)\>\(\s\+=\)\@!/
 syntax match swanOperation /\s=\s\+\zs\(set\|add\|sub\|mul\|div\|rem\|lt\|le\|eq\|and\|or\|not\|len\|at\|slice\|cat\|find\|num\|text\)\>/

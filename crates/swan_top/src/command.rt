@@ -11,7 +11,7 @@ use swan_model::Word;
 use swan_runtime::WORKERS_MOST;
 
 /// The largest fuel that words can ask for.
-pub const FUEL_WORD_MOST: u64 = 10_000_000;
+pub const FUEL_WORD_MOST: u64 = 1_000_000_000;
 
 /// The largest NUMBER of `bulk`, from which a generated input begins.
 pub const NUMBER_WORD_MOST: u64 = 1_000_000_000;
@@ -283,8 +283,8 @@ fn bulk_command(words: &[Word]) -> Result<Command<'_>, Usage>
     }
 }
 
-/// The command that words are. Usage comes exactly where they are none. FUEL is 1 to 10,000,000, WORKERS 1
-/// to 64, NUMBER 0 to 1,000,000,000 and SIZE 0 to 300,000. It takes no memory, and goes over the words once.
+/// The command that words are. Usage comes exactly where they are none. FUEL is 1 to 1,000,000,000, WORKERS 1
+/// to 256, NUMBER 0 to 1,000,000,000 and SIZE 0 to 300,000. It takes no memory, and goes over the words once.
 pub fn read_words(words: &[Word]) -> Result<Command<'_>, Usage>
     ensures command { IfOk result (λ command'. command words.now ≡ Some (command_of command')) }
     ensures usage { OnErr result (command words.now ≡ None) }

@@ -18,7 +18,7 @@ elision of the job writes, in which each spawn is an ordinary call.
       writes the index of a text: each word with the number of each line on which it stands
   swan convert WORKERS INPUT
       writes the fields of each line, which TAB bytes part, as netstrings; a line with another number
-      of fields than the first one, or with netstrings of more than 65535 bytes, is a fault
+      of fields than the first one, or with netstrings of more than 1048576 bytes, is a fault
   swan bulk NUMBER SIZE WORKERS
       runs a generated job over SIZE generated lines, each a number below 1000, from NUMBER mod 1000
       on; it writes their sum and how many they are
@@ -27,7 +27,7 @@ elision of the job writes, in which each spawn is an ordinary call.
   swan --version
       writes the version
 
-FUEL is 1 to 10000000, and WORKERS 1 to 64. NUMBER is 0 to 1000000000, and SIZE 0 to 300000. Numbers
+FUEL is 1 to 1000000000, and WORKERS 1 to 256. NUMBER is 0 to 1000000000, and SIZE 0 to 300000. Numbers
 have no sign and no leading zero. The texts are the same for every number of workers.
 JOB and each INPUT name a file.
 The items that are left in the job's outputs go to standard output. A report goes to standard error:

@@ -9,7 +9,7 @@
 //! ends as its command says (`specs/Completeness.antt`). The law `honest_calls_end_well` says how calls end over files and
 //! sinks that never fail, and `honest_call` is such a call, with the same as its clauses.
 //!
-//! `run` runs its plan by the runtime, with 1 to 64 workers, and `elide` by the elision; `index`, `convert` and `bulk` go by the
+//! `run` runs its plan by the runtime, with 1 to 256 workers, and `elide` by the elision; `index`, `convert` and `bulk` go by the
 //! elision with one worker and by the runtime with several. Reading, refusals, texts and writes are one road for all
 //! ways. A status that says that a run ended shows which one it went (`How`): that a core ran the plan to its end shows a
 //! `Ran`, which only the outcome of a core gives.

@@ -7,7 +7,7 @@ ghost use Rattle.swan_top.specs.declared.command.TheConstants.{FUEL_WORD_MOST, N
 /// without it another number would change what words mean. The limit of lines of a generated input is told by
 /// `bulk_workload::limit_of_bulk`.
 pub fn limits_of_words()
-    ensures fuel { FUEL_WORD_MOST ≡ 10000000 }
+    ensures fuel { FUEL_WORD_MOST ≡ 1000000000 }
     ensures number { NUMBER_WORD_MOST ≡ 1000000000 }
-    ensures workers { WORKERS_MOST ≡ 64 }
+    ensures workers { WORKERS_MOST ≡ 256 }
 {}

@@ -21,10 +21,11 @@ bulk 7 300001 1||usage~|2
 bulk 1000000001 3 1||usage~|2
 bulk 7 3 2|402~3~|object total int 402~object count int 3~left lines 0~faults 0~|0
 bulk 7 3 64|402~3~|object total int 402~object count int 3~left lines 0~faults 0~|0
+bulk 7 3 256|402~3~|object total int 402~object count int 3~left lines 0~faults 0~|0
 bulk 7 0 4|0~0~|object total int 0~object count int 0~left lines 0~faults 0~|0
 bulk 7 200000 8|99900000~200000~|object total int 99900000~object count int 200000~left lines 0~faults 0~|0
 bulk 7 3 0||usage~|2
-bulk 7 3 65||usage~|2
+bulk 7 3 257||usage~|2
 bulk 7 3 01||usage~|2
 bulk 7 3 +1||usage~|2
 bulk 7 03 1||usage~|2

@@ -6,10 +6,10 @@ pub const LEAVES: &str = "swan 1\ninput text\ntask main\n  do\nend\n";
 
 /// The names of the files, in order.
 pub const NAMES: &str =
-    "a b c d e f g h i j k least zero l m once n empty five three frob int minus over hex tab big range much word user";
+    "a b c d e f g h i j k least zero l m once n empty five three frob int minus over hex tab big range much word user p p1 p2";
 
 /// Their contents.
-pub const TEXTS: [&str; 31] = [
+pub const TEXTS: [&str; 34] = [
     FIRST_JOB,
     LEAVES,
     "swan 1\noutput out int\ntask count\n  param n int\n  param base int\n  push out int\n  var i int\n  var go int\n  do\n  go = lt i n\n  while go\n    i = add i 1\n    go = lt i n\n  end\n  push out base\n  i = add base 1\n  push out i\nend\ntask main\n  do\n  spawn 1000 count 200 10 out\n  spawn 1000 count 0 20 out\nend\n",
@@ -38,7 +38,10 @@ pub const TEXTS: [&str; 31] = [
     "swan 1\noutput out bytes\ntask main\n\tdo\n  push out \"hi\"\nend\n",
     "swan 1\noutput out int\ntask main\n  do\n  push out 9223372036854775808\nend\n",
     "swan 1\ntask main\n  var s bytes\n  do\n  s = slice \"abc\" 2 4\nend\n",
-    "swan 1\ntask main\n  var s bytes\n  do\n  s = set \"x\"\n  s = cat s s\n  s = cat s s\n  s = cat s s\n  s = cat s s\n  s = cat s s\n  s = cat s s\n  s = cat s s\n  s = cat s s\n  s = cat s s\n  s = cat s s\n  s = cat s s\n  s = cat s s\n  s = cat s s\n  s = cat s s\n  s = cat s s\n  s = cat s s\nend\n",
+    "swan 1\ntask main\n  var s bytes\n  do\n  s = set \"x\"\n  s = cat s s\n  s = cat s s\n  s = cat s s\n  s = cat s s\n  s = cat s s\n  s = cat s s\n  s = cat s s\n  s = cat s s\n  s = cat s s\n  s = cat s s\n  s = cat s s\n  s = cat s s\n  s = cat s s\n  s = cat s s\n  s = cat s s\n  s = cat s s\n  s = cat s s\n  s = cat s s\n  s = cat s s\n  s = cat s s\n  s = cat s s\nend\n",
     "swan 1\ntask main\n  var n int\n  do\n  n = num \"1x\"\nend\n",
     "swan 1\ntask main\n  do\n  fail -3\nend\n",
+    "swan 2\noutput out int\ntask bad\n  param a int\n  do\n  fail a\nend\ntask fine\n  do\nend\ntask main\n  var n int\n  do\n  spawn 5 bad 7\n  spawn 5 fine\n  spawn 5 bad 8\n  sync\n  caught n\n  push out n\n  sync\n  caught n\n  push out n\nend\n",
+    "swan 1\noutput out int\ntask bad\n  param a int\n  do\n  fail a\nend\ntask fine\n  do\nend\ntask main\n  var n int\n  do\n  spawn 5 bad 7\n  spawn 5 fine\n  spawn 5 bad 8\n  sync\n  caught n\n  push out n\n  sync\n  caught n\n  push out n\nend\n",
+    "swan 2\noutput out int\ntask bad\n  param a int\n  do\n  fail a\nend\ntask fine\n  do\nend\ntask main\n  var n int\n  do\n  spawn 5 bad 7\n  spawn 5 fine\n  spawn 5 bad 8\n  sync\n  caught out\n  push out n\n  sync\n  caught n\n  push out n\nend\n",
 ];

@@ -170,9 +170,9 @@ fn each_front_of_a_job_is_refused_at_its_line(rt: HostRuntime) -> Result<(), Fai
 /// An input as its first bytes, then so many copies of some, and its last bytes; then the report and
 /// the code, with ~ for each line feed.
 const INPUTS: &str = "\
-|x|65535|~|left text 1~faults 0~|0
-|x|65536|~|long line 1 1~|7
-a~|x|65536|~b|long line 1 2~|7
+|x|1048576|~|left text 1~faults 0~|0
+|x|1048577|~|long line 1 1~|7
+a~|x|1048577|~b|long line 1 2~|7
 |~|1000000||left text 1000000~faults 0~|0
 |~|1000000|~|too many lines 1~|7";
 
@@ -257,12 +257,12 @@ pub fn hold_inputs(rt: &impl Machine, alloc: Global, words: &str, table: &str) -
     Ok(())
 }
 
-/// As many lines as a full file has, of as many bytes as a line may have.
-const FULL_LINES: u32 = 1_024;
+/// As many lines as a full file has, of one byte less than a line may have.
+const FULL_LINES: u32 = 64;
 
-// A file as long as one may be, in lines as long as they may be, and these last bytes.
+// A file as long as one may be, in lines of one byte less than they may have, and these last bytes.
 fn full_text(alloc: Global, last: &str) -> Result<String, AllocError> {
-    let mut line = "x".repeat(alloc, 65_535)?;
+    let mut line = "x".repeat(alloc, 1_048_575)?;
     line.push_str("\n")?;
     let mut text = line.repeat(alloc, FULL_LINES as usize)?;
     text.push_str(last)?;
@@ -299,7 +299,7 @@ fn hold_full(
 #[test]
 fn a_full_input_is_read_and_one_byte_more_is_too_long(rt: HostRuntime) -> Result<(), Fail> {
     for words in ["elide 5 b x", "run 1 5 b x"] {
-        let report = "left text 1024\nfaults 0\n";
+        let report = "left text 64\nfaults 0\n";
         hold_full(&rt, rt.alloc(), words, "", report, "0")?;
     }
     Ok(())
@@ -351,7 +351,7 @@ fn full_fault(alloc: Global, number: u32) -> Result<String, AllocError> {
 
 // The report of the conversion of a full text: the netstring of each line is too long.
 fn full_faults(alloc: Global) -> Result<String, AllocError> {
-    let mut report = String::from_str(alloc, "left input 0\nfaults 1024\n")?;
+    let mut report = String::from_str(alloc, "left input 0\nfaults 64\n")?;
     for number in 0..FULL_LINES {
         report.push_str(full_fault(alloc, number)?.as_str())?;
     }

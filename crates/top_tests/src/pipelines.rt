@@ -53,7 +53,7 @@ index 1||usage~|2
 index 1 -||usage~|2
 index 1 cats words||usage~|2
 index 0 cats||usage~|2
-index 65 cats||usage~|2
+index 257 cats||usage~|2
 index 01 cats||usage~|2
 index +1 cats||usage~|2
 index cats||usage~|2
@@ -63,7 +63,7 @@ convert 1||usage~|2
 convert 1 -||usage~|2
 convert 1 tabs tabs||usage~|2
 convert 0 tabs||usage~|2
-convert 65 tabs||usage~|2
+convert 257 tabs||usage~|2
 convert 01 tabs||usage~|2
 convert +1 tabs||usage~|2";
 
@@ -75,16 +75,16 @@ fn other_words_are_no_index_and_no_conversion(rt: HostRuntime) -> Result<(), Fai
 /// A text as its first bytes, then so many copies of some, and its last bytes; then the report and the code of its
 /// index, with ~ for each line feed.
 const UNFIT: &str = "\
-|,|65535|~|left input 0~faults 0~|0
-|,|65536|~|long line 1 1~|7
-~|,|65536|~,|long line 1 2~|7
+|,|1048576|~|left input 0~faults 0~|0
+|,|1048577|~|long line 1 1~|7
+~|,|1048577|~,|long line 1 2~|7
 |~|1000000||left input 0~faults 0~|0
 |~|1000000|~|too many lines 1~|7";
 
 /// The same of a conversion.
 const UNFIT_TO_CONVERT: &str = "\
-|x|65535|~|left input 0~faults 1~fault /0/0 1 TooLong~|1
-|x|65536|~|long line 1 1~|7
+|x|1048576|~|left input 0~faults 1~fault /0/0 1 TooLong~|1
+|x|1048577|~|long line 1 1~|7
 |~|1000000|~|too many lines 1~|7";
 
 #[test]

@@ -23,7 +23,7 @@ const RUNS: &str = "\
 9 zero||object x int 0~faults 1~fault / 6 DivideByZero~|1
 1002 n||faults 1~fault /0/0/0/0/0/0/0/0/0/0/0/0/0/0/0/0/0/0/0/0/0/0/0/0/0/0/0/0/0/0/0/0/0/0/0/0/0/0/0/0/0/0/0/0/0/0/0/0/0/0/0/0/0/0/0/0/0/0/0/0/0/0/0/0 7 Depth~|1
 9 range||faults 1~fault / 5 Range~|1
-20 much||faults 1~fault / 21 TooLong~|1
+30 much||faults 1~fault / 26 TooLong~|1
 9 word||faults 1~fault / 5 BadNumber~|1
 9 user||faults 1~fault / 4 User -3~|1
 5 b three||left text 3~faults 0~|0
@@ -32,12 +32,15 @@ const RUNS: &str = "\
 9 over||faults 1~fault / 6 Overflow~|1
 5 b three three||inputs 1 2~|7
 5 b||inputs 1 0~|7
+25 p|2~0~|faults 2~fault /0 6 User 7~fault /2 6 User 8~|1
+5 p1||refused 18 BadLine~|3
+5 p2||refused 18 Kind~|3
 5 frob||refused 2 BadLine~|3
 5 int||refused 5 Kind~|3
 5 missing||read failed missing~|4
 5 b missing||read failed missing~|4
-10000000 a|hi~|faults 0~|0
-10000001 a||usage~|2
+1000000000 a|hi~|faults 0~|0
+1000000001 a||usage~|2
 0 a||usage~|2
 05 a||usage~|2
 +5 a||usage~|2
@@ -63,6 +66,9 @@ fn elide_writes_the_same(rt: HostRuntime) -> Result<(), Fail> {
 const COMMANDS: &str = "\
 check l||refused 9 Privilege~|3
 check m||refused 17 Alias~|3
+check p|swan 2~output out int~task bad~  param a int~  do~  fail a~end~task fine~  do~end~task main~  var n int~  do~  spawn 5 bad 7~  spawn 5 fine~  spawn 5 bad 8~  sync~  caught n~  push out n~  sync~  caught n~  push out n~end~|checked~|0
+check p1||refused 18 BadLine~|3
+check p2||refused 18 Kind~|3
 check once|swan 1~task two~  push a int~  push b int~  do~end~task both~  in a int~  in b int~  do~end~task main~  queue q int~  object x int~  do~  spawn 1 both x x~end~|checked~|0
 check empty||refused 1 BadHeader~|3
 check frob||refused 2 BadLine~|3
@@ -78,8 +84,10 @@ Check a||usage~|2
 run||usage~|2
 run 1||usage~|2
 run 64 5 a|hi~|faults 0~|0
+run 256 5 a|hi~|faults 0~|0
+run 256 2003 c|10~11~20~21~|faults 0~|0
 run 0 5 a||usage~|2
-run 65 5 a||usage~|2
+run 257 5 a||usage~|2
 run 01 5 a||usage~|2
 run +1 5 a||usage~|2
 run -1 5 a||usage~|2
@@ -101,11 +109,11 @@ elide FUEL JOB INPUT*
 run WORKERS FUEL JOB INPUT*
 index WORKERS INPUT
 convert WORKERS INPUT
-of fields than the first one, or with netstrings of more than 65535 bytes, is a fault
+of fields than the first one, or with netstrings of more than 1048576 bytes, is a fault
 bulk NUMBER SIZE WORKERS
 --help
 --version
-FUEL is 1 to 10000000, and WORKERS 1 to 64.
+FUEL is 1 to 1000000000, and WORKERS 1 to 256.
 NUMBER is 0 to 1000000000, and SIZE 0 to 300000.
 0 where the run has no fault
 1 where it has one

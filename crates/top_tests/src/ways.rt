@@ -12,6 +12,7 @@ run 1 100 a|a core
 run 1 1 a|a core
 run 2 100 a|a core
 run 64 1 a|a core
+run 256 1 a|a core
 index 1 five|no core
 convert 1 five|no core
 bulk 7 3 1|no core
