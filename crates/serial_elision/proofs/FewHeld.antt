@@ -16,7 +16,8 @@ use Rattle.swan_model.specs.Script.{script}
 use Rattle.serial_elision.proofs.Ends.{IsWithinFuel, effect-within}
 use Rattle.serial_elision.proofs.Granting.{Grants, IsMadeByStep}
 use Rattle.serial_elision.proofs.RightsTold.{step-grants}
-use Rattle.serial_elision.proofs.TaskSteps.{HasStood, stands-one, stood-before}
+use Rattle.serial_elision.proofs.Onward.{HasStood, stood-before}
+use Rattle.serial_elision.proofs.TaskSteps.{stands-one}
 use Rattle.serial_elision.proofs.Turns.{FitsDeed, next_deed, step-fits}
 
 -- an effect leaves less fuel than this
@@ -97,9 +98,9 @@ module _ {B L : Type 0} (G : Ghosts B L) (plan : Plan B L) where
               let given : Grants t s.store before does (goes_on top stood.store) = subst (Grants t s.store before does) goes grants in
               placed-less t stood.store before top does given left
           | inr made ↦
-              let left : LeavesLess before.fuel (spawns top made.0 stood.store) = subst (LeavesLess before.fuel) made.1 less in
-              let given : Grants t s.store before does (spawns top made.0 stood.store) = subst (Grants t s.store before does) made.1 grants in
-              omega (arith, left, ap length given.0)
+              let left : LeavesLess before.fuel (spawns made.0 made.1 stood.store) = subst (LeavesLess before.fuel) made.2 less in
+              let given : Grants t s.store before does (spawns made.0 made.1 stood.store) = subst (Grants t s.store before does) made.2 grants in
+              omega (arith, left, ap length given.0, ap (λ (a : Activation L). length a.holdings + a.fuel) made.3)
         ],
       )
 
