@@ -175,7 +175,10 @@ fn a_line_past_the_bound_is_too_many_bytes(rt: HostRuntime) {
     let faults = "faults 1\nfault /1 0 TooLong\n";
     for bytes in [65_536, 1_048_576] {
         let text = repeated(&rt, alloc, b"a", bytes);
-        assert!(rt; leaves(&rt, alloc, JoinReducer, &text, b"", faults), "at {bytes}");
+        assert!(rt;
+            leaves(&rt, alloc, JoinReducer, &text, b"", faults),
+            "at {bytes}"
+        );
     }
 }
 
@@ -343,8 +346,14 @@ fn record_of(rt: &impl Abort, alloc: Global, bytes: &[u8]) -> Record {
 fn hold_is_part(rt: &impl Abort, alloc: Global, bytes: &[u8], of_sum: bool, of_join: bool) {
     let record = record_of(rt, alloc, bytes);
     let length = bytes.len();
-    assert!(rt; SumReducer.is_part(&record) == of_sum, "a sum of {length} bytes");
-    assert!(rt; JoinReducer.is_part(&record) == of_join, "a join of {length} bytes");
+    assert!(rt;
+        SumReducer.is_part(&record) == of_sum,
+        "a sum of {length} bytes"
+    );
+    assert!(rt;
+        JoinReducer.is_part(&record) == of_join,
+        "a join of {length} bytes"
+    );
 }
 
 #[test]

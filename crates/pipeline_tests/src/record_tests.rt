@@ -50,18 +50,18 @@ fn blocks_have_64_lines(rt: HostRuntime) {
     hold_lines(&rt, alloc, 128, "faults 1\nfault /2/0 129 User 1\n");
 }
 
-/// Whether a text of 65528 bytes is converted to one field.
+/// Whether a text of 1048567 bytes is converted to one field.
 fn is_one_field(rt: &impl Abort, alloc: Global, text: &[u8]) -> bool {
-    let mut out = in_turn(rt, alloc, b"65528:", 1, text, 1);
+    let mut out = in_turn(rt, alloc, b"1048567:", 1, text, 1);
     add(rt, &mut out, b",\n");
     leaves(rt, alloc, text, &out, "faults 0\n")
 }
 
 #[test]
 fn long_records_are_left_out(rt: HostRuntime) {
-    let mut text = repeated(&rt, rt.alloc(), b"a", 65_528);
-    assert!(rt; is_one_field(&rt, rt.alloc(), &text), "at 65528");
+    let mut text = repeated(&rt, rt.alloc(), b"a", 1_048_567);
+    assert!(rt; is_one_field(&rt, rt.alloc(), &text), "at 1048567");
     add(&rt, &mut text, b"a");
     let faults = "faults 1\nfault /0/0 1 TooLong\n";
-    assert!(rt; leaves(&rt, rt.alloc(), &text, b"", faults), "at 65529");
+    assert!(rt; leaves(&rt, rt.alloc(), &text, b"", faults), "at 1048568");
 }

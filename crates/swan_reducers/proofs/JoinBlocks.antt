@@ -34,20 +34,20 @@ ends_long part line ls whole is =
     ap (λ v. joined_lines line_part bytes_joined v ls) (one_more part line whole ∙ part_many (whole.bytes ++ line) more) ∙ stays ls
 
 -- any other line is put behind the bytes
+stays_few : (part line : List ℕ) (whole : IsWhole part) → passes part line ≡ false → length (whole.bytes ++ line) ≤ JOIN_MOST
+stays_few part line whole is =
+    let fits : length part + length line ≤ JOIN_MOST + 1 = search (rules, tests) in
+    omega (arith, fits, ap length whole.is, length-append whole.bytes line)
+
 pub keeps_whole : (part line : List ℕ) → IsWhole part → passes part line ≡ false → IsWhole (part ++ line)
 keeps_whole part line whole is =
-    let fits : length part + length line ≤ JOIN_MOST + 1 = search (rules, tests) in
-    record {
-      bytes = whole.bytes ++ line;
-      is = ap (λ v. v ++ line) whole.is;
-      few = omega (arith, fits, ap length whole.is, length-append whole.bytes line);
-    }
+    record { bytes = whole.bytes ++ line; is = ap (λ v. v ++ line) whole.is; few = stays_few part line whole is }
 
 pub goes_on : (part line : List ℕ) (ls : List (List ℕ)) → IsWhole part → passes part line ≡ false
     → joined_lines line_part bytes_joined part (line ∷ ls) ≡ joined_lines line_part bytes_joined (part ++ line) ls
 goes_on part line ls whole is =
-    let now = keeps_whole part line whole is in
-    ap (λ v. joined_lines line_part bytes_joined v ls) (one_more part line whole ∙ part_few now.bytes now.few ∙ sym now.is)
+    ap (λ v. joined_lines line_part bytes_joined v ls)
+    (one_more part line whole ∙ part_few (whole.bytes ++ line) (stays_few part line whole is) ∙ ap (λ v. v ++ line) (sym whole.is))
 
 -- so few bytes are a record
 pub whole_few : (part : List ℕ) → IsWhole part → length part ≤ JOIN_MOST + 1

@@ -1,9 +1,9 @@
 -- The reducer of joins keeps the laws.
-use Rattle.std.proofs.Common.{◌≡◌, ◌⊎◌, inl, inr, ℕ, ◌+◌, ◌≤◌, ◌<◌, Bool, true, false, cond, nat_eq, nat_le, nat_lt, ◌&&◌, ◌||◌, Some, List, [], ◌∷◌, ◌++◌, drop, length, refl, sym, ap, ◌∙◌, append_assoc, arith, rules, tests, length-append}
+use Rattle.std.proofs.Common.{◌≡◌, ◌⊎◌, inl, inr, ℕ, ◌≤◌, ◌<◌, Bool, true, false, cond, nat_eq, nat_le, nat_lt, ◌&&◌, ◌||◌, Some, List, [], ◌∷◌, ◌++◌, drop, length, refl, sym, ap, ◌∙◌, append_assoc, arith, rules, tests, length-append}
 use Rattle.std.proofs.Math.Bool.{or-true}
 use Rattle.std.proofs.lemmas.List.{append-nil}
 use Rattle.swan_reducers.specs.declared.join_reducer.TheConstants.{JOIN_MOST}
-use Rattle.swan_reducers.specs.Joins.{bytes_joined, bytes_part, is_join_part, is_too_long, is_whole, line_part, too_long}
+use Rattle.swan_reducers.specs.Joins.{bytes_joined, bytes_part, is_join_part, is_too_long, line_part, too_long}
 use Rattle.swan_reducers.specs.Lawful.{IsLawfulReducer}
 
 pub part_few : (bytes : List ℕ) → length bytes ≤ JOIN_MOST → bytes_part bytes ≡ 0 ∷ bytes

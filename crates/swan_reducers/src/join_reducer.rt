@@ -144,7 +144,11 @@ impl Reducer for JoinReducer {
         if is_too_long(left.as_slice()) || is_too_long(right.as_slice()) {
             return too_long(alloc);
         }
-        part_of_both(alloc, joined_in(left.as_slice()), joined_in(right.as_slice()))
+        part_of_both(
+            alloc,
+            joined_in(left.as_slice()),
+            joined_in(right.as_slice()),
+        )
     }
 
     fn end(&self, alloc: Global, whole: &Record) -> Result<Record, EndAnswer> {
