@@ -1,6 +1,7 @@
 -- The lines of the generated job, where its last task is given this fuel.
 use Rattle.std.specs.Prelude.{ℕ, pos, List, [], ◌∷◌, codes}
 use Rattle.job_reader.specs.declared.atom.Atom.TheVariants as atom
+use Rattle.job_reader.specs.declared.line.Edition.TheVariants.{One}
 use Rattle.job_reader.specs.declared.line.Line.{Line}
 use Rattle.job_reader.specs.declared.line.Line.TheVariants as line
 use Rattle.job_reader.specs.declared.op.Op.TheVariants as op
@@ -9,7 +10,7 @@ use Rattle.swan_model.specs.declared.value.Kind.TheVariants as kind
 
 abbrev pub bulk_lines : ℕ → List Line
 bulk_lines fuel =
-    line.Header
+    line.Header One
     ∷ line.Input (codes "lines")
     ∷ line.Output (codes "summary") kind.Int
     ∷ line.Object (codes "total") kind.Int

@@ -13,13 +13,14 @@ use Rattle.swan_model.specs.Texts.{line}
 use Rattle.job_reader.specs.Atoms.{atom as atom_of}
 use Rattle.job_reader.specs.Characters.{is_allowed}
 use Rattle.job_reader.specs.Faults.{◌>>=◌}
-use Rattle.job_reader.specs.FirstFault.{and_others, balanced, is_one_too_many, is_past_limit, job_from, job_of, job_of_lines, line_alone, or_fault}
+use Rattle.job_reader.specs.FirstFault.{and_others, balanced, edition_after, is_one_too_many, is_past_limit, job_from, job_of, job_of_lines, line_alone, or_fault}
 use Rattle.job_reader.specs.LineShape.{formed, shape}
 use Rattle.job_reader.specs.Positions.{after}
 use Rattle.job_reader.specs.Tokens.{tokens, trimmed}
 use Rattle.job_reader.specs.declared.atom.Atom.TheVariants as atom
 use Rattle.job_reader.specs.declared.fault.JobFault.{JobFault}
 use Rattle.job_reader.specs.declared.fault.JobKind.TheVariants as fault
+use Rattle.job_reader.specs.declared.line.Edition.TheVariants.{One}
 use Rattle.job_reader.specs.declared.line.Line.{Line}
 use Rattle.job_reader.specs.declared.line.Line.TheVariants as job_line
 use Rattle.job_reader.specs.declared.position.Position.TheVariants.{First, InDo}
@@ -83,11 +84,11 @@ alone n byte bytes are =
       ),
     )
 
-statement_is : (n : ℕ) (digits : List ℕ) → bytes_eq digits (codes "=") ≡ false → atom_of digits ≡ Ok (atom.Int (pos n)) → formed (InDo []) (words digits) ≡ Ok (spawns n)
+statement_is : (n : ℕ) (digits : List ℕ) → bytes_eq digits (codes "=") ≡ false → atom_of digits ≡ Ok (atom.Int (pos n)) → formed One (InDo []) (words digits) ≡ Ok (spawns n)
 statement_is n digits isnt is = rw (isnt, is) refl
 
 fold_read : (n byte : ℕ) (bytes : List ℕ) → AreDigits n byte bytes → length (byte ∷ bytes) ≤ 20 → n < 2 ^ 63
-    → line_alone 78 (InDo []) (codes "  spawn " ++ ((byte ∷ bytes) ++ codes " fold nums total count summary")) ≡ Ok (spawns n)
+    → line_alone One 78 (InDo []) (codes "  spawn " ++ ((byte ∷ bytes) ++ codes " fold nums total count summary")) ≡ Ok (spawns n)
 fold_read n byte bytes are short fits =
     let digits = byte ∷ bytes in
     let text = join_with_byte 32 (words digits) in
@@ -98,9 +99,9 @@ fold_read n byte bytes are short fits =
     let size : nat_lt 4096 (length text) ≡ false = le-ltb 4096 (length text) (omega (arith, short, length-append digits (codes " fold nums total count summary"))) in
     let limit : is_past_limit 78 (InDo []) text ≡ false = ap (λ b. b || is_one_too_many (InDo []) (tokens text)) size ∙ ap (is_one_too_many (InDo [])) ts in
     cond-false (not (list_all is_allowed whole)) _ _ (ap not allowed)
-    ∙ ap (λ t. cond (is_past_limit 78 (InDo []) t) (Err fault.Limit) (shape (InDo []) t)) trim
+    ∙ ap (λ t. cond (is_past_limit 78 (InDo []) t) (Err fault.Limit) (shape One (InDo []) t)) trim
     ∙ cond-false (is_past_limit 78 (InDo []) text) _ _ limit
-    ∙ ap (formed (InDo [])) ts
+    ∙ ap (formed One (InDo [])) ts
     ∙ statement_is n digits (isnt_equals n byte bytes are) (is_atom n byte bytes are fits)
 
 -- ---- the job
@@ -113,7 +114,7 @@ all_before (l ∷ ls) others = and_others l (all_before ls others)
 abbrev front : List Line
 front = take 77 (bulk_lines 0)
 
-front_reads : (text : List ℕ) (texts : List (List ℕ)) → job_from 1 First (lines_before ++ text ∷ texts) ≡ all_before front (job_from 78 (InDo []) (text ∷ texts))
+front_reads : (text : List ℕ) (texts : List (List ℕ)) → job_from One 1 First (lines_before ++ text ∷ texts) ≡ all_before front (job_from One 78 (InDo []) (text ∷ texts))
 front_reads text texts = refl
 
 job_reads : (n : ℕ) → 0 < n → n < 10 ^ 7 → job_of (flat_map line lines_before ++ (line (fold_line n) ++ line (codes "end"))) ≡ Ok (bulk_lines n)
@@ -127,11 +128,11 @@ job_reads n above most =
     all_lines lines_before (line whole ++ line (codes "end")) refl
     ∙ ap (λ more. lines_before ++ more) (next_line whole (line (codes "end")) may)
     ∙ ap (λ more. lines_before ++ whole ∷ more) (next_line (codes "end") [] refl) in
-    let read : line_alone 78 (InDo []) whole ≡ Ok (spawns n) =
-    ap (λ ds. line_alone 78 (InDo []) (codes "  spawn " ++ (ds ++ codes " fold nums total count summary"))) d.2 ∙ fold_read n d.0 d.1 d.3 few (omega arith) in
+    let read : line_alone One 78 (InDo []) whole ≡ Ok (spawns n) =
+    ap (λ ds. line_alone One 78 (InDo []) (codes "  spawn " ++ (ds ++ codes " fold nums total count summary"))) d.2 ∙ fold_read n d.0 d.1 d.3 few (omega arith) in
     ap job_of_lines are
     ∙ front_reads whole (codes "end" ∷ [])
-    ∙ ap (λ r. all_before front (or_fault 78 (r >>= balanced false (InDo [])) (λ l. and_others l (job_from 79 (after (InDo []) l) (codes "end" ∷ []))))) read
+    ∙ ap (λ r. all_before front (or_fault 78 (r >>= balanced false (InDo [])) (λ l. and_others l (job_from (edition_after One l) 79 (after (InDo []) l) (codes "end" ∷ []))))) read
 
 checked : (n : ℕ) → first_fault (bulk_lines n) ≡ None
 checked n = refl

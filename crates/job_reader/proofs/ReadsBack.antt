@@ -8,7 +8,7 @@ use Rattle.swan_model.proofs.FirstLine.{line_ended}
 use Rattle.job_reader.specs.CanonicalText.{indentation, line_text, text_from, text_of, whole_line}
 use Rattle.job_reader.specs.Characters.{is_allowed}
 use Rattle.job_reader.specs.Faults.{◌>>=◌}
-use Rattle.job_reader.specs.FirstFault.{and_others, balanced, is_nothing, is_one_too_many, is_past_limit, is_unbalanced, job_from, job_of, job_of_lines, line_alone, line_at, or_fault}
+use Rattle.job_reader.specs.FirstFault.{and_others, balanced, edition_after, is_nothing, is_one_too_many, is_past_limit, is_unbalanced, job_from, job_of, job_of_lines, line_alone, line_at, or_fault}
 use Rattle.job_reader.specs.LineShape.{formed, is_first, is_note, shape}
 use Rattle.job_reader.specs.Positions.{after}
 use Rattle.job_reader.specs.Tokens.{tokens, tokens_from, trimmed, with_byte, without_end_spaces, without_front_spaces, before_trimmed}
@@ -16,6 +16,8 @@ use Rattle.job_reader.specs.declared.fault.JobFault.{JobFault}
 use Rattle.job_reader.specs.declared.fault.JobKind.{JobKind}
 use Rattle.job_reader.specs.declared.fault.JobKind.TheVariants as kind
 use Rattle.job_reader.specs.declared.job.TheConstants.{JOB_LINES_MOST}
+use Rattle.job_reader.specs.declared.line.Edition.{Edition}
+use Rattle.job_reader.specs.declared.line.Edition.TheVariants.{One}
 use Rattle.job_reader.specs.declared.line.Line.{Line}
 use Rattle.job_reader.specs.declared.line.Line.TheVariants as line
 use Rattle.job_reader.specs.declared.position.Position.{Position}
@@ -111,20 +113,20 @@ joined_is_note [] alone = refl
 joined_is_note (token ∷ ts) alone = joined_note token ts alone.0.some
 
 -- a line of a job, by what was read of it
-record Reads (number : ℕ) (position : Position) (text : List ℕ) (l : Line) : Type 0 where
+record Reads (e : Edition) (number : ℕ) (position : Position) (text : List ℕ) (l : Line) : Type 0 where
   allowed : list_all is_allowed text ≡ true
   fits : is_past_limit number position text ≡ false
-  shaped : shape position text ≡ Ok l
+  shaped : shape e position text ≡ Ok l
 
-alone_again : (number : ℕ) (position : Position) (bytes text : List ℕ) (l : Line) → list_all is_allowed bytes ≡ true → trimmed bytes ≡ text → Reads number position text l → line_alone number position bytes ≡ Ok l
-alone_again number position bytes text l allowed is reads =
+alone_again : (e : Edition) (number : ℕ) (position : Position) (bytes text : List ℕ) (l : Line) → list_all is_allowed bytes ≡ true → trimmed bytes ≡ text → Reads e number position text l → line_alone e number position bytes ≡ Ok l
+alone_again e number position bytes text l allowed is reads =
     cond-false (not (list_all is_allowed bytes)) _ _ (ap not allowed)
-    ∙ ap (λ t. cond (is_past_limit number position t) (Err kind.Limit) (shape position t)) is
+    ∙ ap (λ t. cond (is_past_limit number position t) (Err kind.Limit) (shape e position t)) is
     ∙ cond-false (is_past_limit number position text) _ _ reads.fits
     ∙ reads.shaped
 
-pub was_read : (number : ℕ) (position : Position) (bytes : List ℕ) (l : Line) → line_alone number position bytes ≡ Ok l → (list_all is_allowed bytes ≡ true) × (is_past_limit number position (trimmed bytes) ≡ false) × (shape position (trimmed bytes) ≡ Ok l)
-was_read number position bytes l is = by_tests (list_all is_allowed bytes) (is_past_limit number position (trimmed bytes)) (shape position (trimmed bytes)) is
+pub was_read : (e : Edition) (number : ℕ) (position : Position) (bytes : List ℕ) (l : Line) → line_alone e number position bytes ≡ Ok l → (list_all is_allowed bytes ≡ true) × (is_past_limit number position (trimmed bytes) ≡ false) × (shape e position (trimmed bytes) ≡ Ok l)
+was_read e number position bytes l is = by_tests (list_all is_allowed bytes) (is_past_limit number position (trimmed bytes)) (shape e position (trimmed bytes)) is
   where
     by_tests : (a b : Bool) (r : Result Line JobKind) → cond (not a) (Err kind.BadByte) (cond b (Err kind.Limit) r) ≡ Ok l → (a ≡ true) × (b ≡ false) × (r ≡ Ok l)
     by_tests true false r is = (refl, refl, is)
@@ -132,16 +134,16 @@ was_read number position bytes l is = by_tests (list_all is_allowed bytes) (is_p
     by_tests false _ r is = cc
 
 -- the canonical text of a line is read as the line
-record Again (number : ℕ) (position : Position) (text : List ℕ) (l : Line) : Type 0 where
-  reads : Reads number position text l
+record Again (e : Edition) (number : ℕ) (position : Position) (text : List ℕ) (l : Line) : Type 0 where
+  reads : Reads e number position text l
   begins : without_front_spaces text ≡ text
   ends : without_end_spaces text ≡ text
 
-formed_again : (number : ℕ) (position : Position) (text : List ℕ) (l : Line) → BeginsWell text → list_all is_allowed text ≡ true → is_past_limit number position text ≡ false → (is_note text && not (is_first position)) ≡ false → formed position (tokens text) ≡ Ok l → Again number position (line_text l) l
-formed_again number position text l well allowed fits isnt is =
+formed_again : (e : Edition) (number : ℕ) (position : Position) (text : List ℕ) (l : Line) → BeginsWell text → list_all is_allowed text ≡ true → is_past_limit number position text ≡ false → (is_note text && not (is_first position)) ≡ false → formed e position (tokens text) ≡ Ok l → Again e number position (line_text l) l
+formed_again e number position text l well allowed fits isnt is =
     let ts = tokens text in
     let may = line_may text allowed in
-    let written = formed_written position ts l is in
+    let written = formed_written e position ts l is in
     let alone = all_alone ts (are_tokens text) written.1 may in
     let limits = or_parts (nat_lt JOB_LINES_MOST number || nat_lt LINE_MOST (length text)) (is_one_too_many position ts) fits in
     let sizes = or_parts (nat_lt JOB_LINES_MOST number) (nat_lt LINE_MOST (length text)) limits.0 in
@@ -149,7 +151,7 @@ formed_again number position text l well allowed fits isnt is =
     let shorter = text_short text may in
     let same = tokens_joined (map canon ts) alone in
     let note : is_note (join_with_byte 32 (map canon ts)) ≡ is_note text = joined_is_note (map canon ts) alone ∙ canon_note ts ∙ tokens_note text well in
-    subst (λ t. Again number position t l) (sym (ap (join_with_byte 32) written.0)) (record {
+    subst (λ t. Again e number position t l) (sym (ap (join_with_byte 32) written.0)) (record {
       reads = record {
         allowed = join_may (map canon ts) (canon_may ts may);
         fits = or_from (nat_lt JOB_LINES_MOST number || nat_lt LINE_MOST (length (join_with_byte 32 (map canon ts)))) (is_one_too_many position (tokens (join_with_byte 32 (map canon ts))))
@@ -157,34 +159,34 @@ formed_again number position text l well allowed fits isnt is =
             (ap (is_one_too_many position) same ∙ limit_same position ts ∙ limits.1);
         shaped =
             cond-false (is_note (join_with_byte 32 (map canon ts)) && not (is_first position)) _ _ (ap (λ b. b && not (is_first position)) note ∙ isnt)
-            ∙ ap (formed position) same ∙ formed_same position ts may ∙ is;
+            ∙ ap (formed e position) same ∙ formed_same e position ts may ∙ is;
       };
       begins = begins_joined (map canon ts) alone;
       ends = ends_joined (map canon ts) alone;
     })
 
-note_again : (number : ℕ) (position : Position) (text : List ℕ) (l : Line) → Reads number position text l → without_front_spaces text ≡ text → without_end_spaces text ≡ text → line.Note text ≡ l → Again number position (line_text l) l
-note_again number position text l reads front end is =
-    subst (λ x. Again number position (line_text x) l) is (record { reads = reads; begins = front; ends = end })
+note_again : (e : Edition) (number : ℕ) (position : Position) (text : List ℕ) (l : Line) → Reads e number position text l → without_front_spaces text ≡ text → without_end_spaces text ≡ text → line.Note text ≡ l → Again e number position (line_text l) l
+note_again e number position text l reads front end is =
+    subst (λ x. Again e number position (line_text x) l) is (record { reads = reads; begins = front; ends = end })
 
-line_again : (number : ℕ) (position : Position) (bytes : List ℕ) (l : Line) → line_alone number position bytes ≡ Ok l → Again number position (line_text l) l
-line_again number position bytes l is =
-    let read = was_read number position bytes l is in
+line_again : (e : Edition) (number : ℕ) (position : Position) (bytes : List ℕ) (l : Line) → line_alone e number position bytes ≡ Ok l → Again e number position (line_text l) l
+line_again e number position bytes l is =
+    let read = was_read e number position bytes l is in
     let text = trimmed bytes in
     let well = trimmed_begins bytes in
     let allowed = trimmed_may bytes read.0 in
     ⊎_elim
     (λ (note : (is_note text && not (is_first position)) ≡ true).
     let made : Ok (line.Note text) ≡ Ok l = sym (cond-true (is_note text && not (is_first position)) _ _ note) ∙ read.2 in
-    note_again number position text l (record { allowed = allowed; fits = read.1; shaped = read.2 }) (no_front_of text well) (no_end (without_front_spaces bytes)) cc)
+    note_again e number position text l (record { allowed = allowed; fits = read.1; shaped = read.2 }) (no_front_of text well) (no_end (without_front_spaces bytes)) cc)
     (λ (isnt : (is_note text && not (is_first position)) ≡ false).
-    formed_again number position text l well allowed read.1 isnt (sym (cond-false (is_note text && not (is_first position)) _ _ isnt) ∙ read.2))
+    formed_again e number position text l well allowed read.1 isnt (sym (cond-false (is_note text && not (is_first position)) _ _ isnt) ∙ read.2))
     (cases_Bool (is_note text && not (is_first position)))
 
-indented_again : (number k : ℕ) (position : Position) (bytes : List ℕ) (l : Line) → line_alone number position bytes ≡ Ok l → line_alone number position (replicate k 32 ++ line_text l) ≡ Ok l
-indented_again number k position bytes l is =
-    let again = line_again number position bytes l is in
-    alone_again number position (replicate k 32 ++ line_text l) (line_text l) l (all_joined is_allowed (replicate k 32) (line_text l) (spaces_may k) again.reads.allowed) (trimmed_again k (line_text l) again.begins again.ends) again.reads
+indented_again : (e : Edition) (number k : ℕ) (position : Position) (bytes : List ℕ) (l : Line) → line_alone e number position bytes ≡ Ok l → line_alone e number position (replicate k 32 ++ line_text l) ≡ Ok l
+indented_again e number k position bytes l is =
+    let again = line_again e number position bytes l is in
+    alone_again e number position (replicate k 32 ++ line_text l) (line_text l) l (all_joined is_allowed (replicate k 32) (line_text l) (spaces_may k) again.reads.allowed) (trimmed_again k (line_text l) again.begins again.ends) again.reads
 
 -- bytes that may stand in a line are no line feeds
 no_feed : (text : List ℕ) → list_all is_allowed text ≡ true → list_all (λ byte. not (byte == 10)) text ≡ true
@@ -208,18 +210,18 @@ kept last position l m is = by_test (is_unbalanced last position l) is
     by_test false is = cc
 
 -- what was read of the first line, and of the others
-pub record Split (number : ℕ) (last : Bool) (position : Position) (bytes : List ℕ) (more : List (List ℕ)) (ls : List Line) : Type 0 where
+pub record Split (e : Edition) (number : ℕ) (last : Bool) (position : Position) (bytes : List ℕ) (more : List (List ℕ)) (ls : List Line) : Type 0 where
   pub first : Line
   pub rest : List Line
-  pub read : line_at number last position bytes ≡ Ok first
-  pub others : job_from (number + 1) (after position first) more ≡ Ok rest
+  pub read : line_at e number last position bytes ≡ Ok first
+  pub others : job_from (edition_after e first) (number + 1) (after position first) more ≡ Ok rest
   pub joined : first ∷ rest ≡ ls
 
-pub split : (number : ℕ) (last : Bool) (position : Position) (bytes : List ℕ) (more : List (List ℕ)) (ls : List Line) (r : Result Line JobKind) → line_at number last position bytes ≡ r → or_fault number r (λ l. and_others l (job_from (number + 1) (after position l) more)) ≡ Ok ls → Split number last position bytes more ls
-split number last position bytes more ls (Err k) read is = cc
-split number last position bytes more ls (Ok l) read is = with_others (job_from (number + 1) (after position l) more) refl is
+pub split : (e : Edition) (number : ℕ) (last : Bool) (position : Position) (bytes : List ℕ) (more : List (List ℕ)) (ls : List Line) (r : Result Line JobKind) → line_at e number last position bytes ≡ r → or_fault number r (λ l. and_others l (job_from (edition_after e l) (number + 1) (after position l) more)) ≡ Ok ls → Split e number last position bytes more ls
+split e number last position bytes more ls (Err k) read is = cc
+split e number last position bytes more ls (Ok l) read is = with_others (job_from (edition_after e l) (number + 1) (after position l) more) refl is
   where
-    with_others : (o : Result (List Line) JobFault) → job_from (number + 1) (after position l) more ≡ o → and_others l o ≡ Ok ls → Split number last position bytes more ls
+    with_others : (o : Result (List Line) JobFault) → job_from (edition_after e l) (number + 1) (after position l) more ≡ o → and_others l o ≡ Ok ls → Split e number last position bytes more ls
     with_others (Ok rest) others is = record { first = l; rest = rest; read = read; others = others; joined = cc }
     with_others (Err fault) others is = cc
 
@@ -227,36 +229,36 @@ whole_is : (position : Position) (l : Line) (rest : List ℕ) → whole_line pos
 whole_is position l rest = append_assoc (replicate (2 * indentation position l) 32 ++ line_text l) (10 ∷ []) rest
 
 -- lines that were read are read again from their canonical text
-record Same (number : ℕ) (position : Position) (raw : List (List ℕ)) (ls : List Line) : Type 0 where
-  read : job_from number position (lines (text_from position ls)) ≡ Ok ls
+record Same (e : Edition) (number : ℕ) (position : Position) (raw : List (List ℕ)) (ls : List Line) : Type 0 where
+  read : job_from e number position (lines (text_from position ls)) ≡ Ok ls
   left : is_nothing (lines (text_from position ls)) ≡ is_nothing raw
 
-same_line : (number : ℕ) (last : Bool) (position : Position) (bytes : List ℕ) (l : Line) (k : ℕ) → line_at number last position bytes ≡ Ok l → (line_at number last position (replicate k 32 ++ line_text l) ≡ Ok l) × (list_all is_allowed (replicate k 32 ++ line_text l) ≡ true)
-same_line number last position bytes l k is =
-    let found = bind_ok (line_alone number position bytes) (balanced last position) l is in
+same_line : (e : Edition) (number : ℕ) (last : Bool) (position : Position) (bytes : List ℕ) (l : Line) (k : ℕ) → line_at e number last position bytes ≡ Ok l → (line_at e number last position (replicate k 32 ++ line_text l) ≡ Ok l) × (list_all is_allowed (replicate k 32 ++ line_text l) ≡ true)
+same_line e number last position bytes l k is =
+    let found = bind_ok (line_alone e number position bytes) (balanced last position) l is in
     let same = kept last position found.0 l found.2 in
-    let alone : line_alone number position bytes ≡ Ok l = found.1 ∙ ap (λ x. Ok x) same in
-    let again = line_again number position bytes l alone in (
-      ap (λ r. r >>= balanced last position) (indented_again number k position bytes l alone) ∙ ap (balanced last position) (sym same) ∙ found.2,
+    let alone : line_alone e number position bytes ≡ Ok l = found.1 ∙ ap (λ x. Ok x) same in
+    let again = line_again e number position bytes l alone in (
+      ap (λ r. r >>= balanced last position) (indented_again e number k position bytes l alone) ∙ ap (balanced last position) (sym same) ∙ found.2,
       all_joined is_allowed (replicate k 32) (line_text l) (spaces_may k) again.reads.allowed,
     )
 
-job_again : (raw : List (List ℕ)) (number : ℕ) (position : Position) (ls : List Line) → job_from number position raw ≡ Ok ls → Same number position raw ls
-job_again [] number position ls is = let none : [] ≡ ls = cc in subst (Same number position []) none (record { read = refl; left = refl })
-job_again (bytes ∷ more) number position ls is =
-    let parts = split number (is_nothing more) position bytes more ls (line_at number (is_nothing more) position bytes) refl is in
+job_again : (raw : List (List ℕ)) (e : Edition) (number : ℕ) (position : Position) (ls : List Line) → job_from e number position raw ≡ Ok ls → Same e number position raw ls
+job_again [] e number position ls is = let none : [] ≡ ls = cc in subst (Same e number position []) none (record { read = refl; left = refl })
+job_again (bytes ∷ more) e number position ls is =
+    let parts = split e number (is_nothing more) position bytes more ls (line_at e number (is_nothing more) position bytes) refl is in
     let l = parts.first in
     let rest = parts.rest in
-    let others = job_again more (number + 1) (after position l) rest parts.others in
+    let others = job_again more (edition_after e l) (number + 1) (after position l) rest parts.others in
     let k = 2 * indentation position l in
-    let line_same = same_line number (is_nothing more) position bytes l k parts.read in
+    let line_same = same_line e number (is_nothing more) position bytes l k parts.read in
     let text = replicate k 32 ++ line_text l in
     let cut : lines (text_from position (l ∷ rest)) ≡ text ∷ lines (text_from (after position l) rest) = ap lines (whole_is position l (text_from (after position l) rest)) ∙ line_break text (text_from (after position l) rest) line_same.1 in
-    subst (Same number position (bytes ∷ more)) parts.joined (record {
+    subst (Same e number position (bytes ∷ more)) parts.joined (record {
       read =
-          ap (job_from number position) cut
-          ∙ ap (λ b. or_fault number (line_at number b position text) (λ x. and_others x (job_from (number + 1) (after position x) (lines (text_from (after position l) rest))))) others.left
-          ∙ ap (λ r. or_fault number r (λ x. and_others x (job_from (number + 1) (after position x) (lines (text_from (after position l) rest))))) line_same.0
+          ap (job_from e number position) cut
+          ∙ ap (λ b. or_fault number (line_at e number b position text) (λ x. and_others x (job_from (edition_after e x) (number + 1) (after position x) (lines (text_from (after position l) rest))))) others.left
+          ∙ ap (λ r. or_fault number r (λ x. and_others x (job_from (edition_after e x) (number + 1) (after position x) (lines (text_from (after position l) rest))))) line_same.0
           ∙ ap (and_others l) others.read;
       left = ap is_nothing cut;
     })
@@ -264,7 +266,7 @@ job_again (bytes ∷ more) number position ls is =
 back_of : (raw : List (List ℕ)) (ls : List Line) → job_of_lines raw ≡ Ok ls → job_of (text_of ls) ≡ Ok ls
 back_of [] ls is = cc
 back_of (bytes ∷ more) ls is =
-    let same = job_again (bytes ∷ more) 1 First ls is in
+    let same = job_again (bytes ∷ more) One 1 First ls is in
     of_lines (lines (text_of ls)) same.left ∙ same.read
 
 -- a job that a text is, is also what its canonical text is

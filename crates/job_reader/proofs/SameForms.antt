@@ -9,11 +9,12 @@ use Rattle.job_reader.specs.Atoms.{as_list, atom, atoms, name}
 use Rattle.job_reader.specs.Characters.{is_allowed}
 use Rattle.job_reader.specs.Faults.{both, ◌>>=◌}
 use Rattle.job_reader.specs.FirstFault.{is_one_too_many, opens_block}
-use Rattle.job_reader.specs.LineShape.{after_equals, assigned, assignment, do_form, form, formed, header, is_assignment, or_bad_line, name_and_atom, name_and_kind, nothing, one_atom, one_name, outside_form, spawned, statement, task_form, top_form, two_names}
-use Rattle.job_reader.specs.Words.{arity, do_named, kind_named, op_named, task_named, top_named}
+use Rattle.job_reader.specs.LineShape.{after_equals, assigned, assignment, do_form, form, formed, headed, header, is_assignment, or_bad_line, name_and_atom, name_and_kind, nothing, one_atom, one_name, outside_form, spawned, statement, task_form, top_form, two_names}
+use Rattle.job_reader.specs.Words.{arity, do_named, edition_named, has_caught, kind_named, op_named, task_named, top_named}
 use Rattle.job_reader.specs.Tokens.{next, tokens, tokens_from, with_byte}
 use Rattle.job_reader.specs.declared.fault.JobKind.{JobKind}
 use Rattle.job_reader.specs.declared.fault.JobKind.TheVariants as kind
+use Rattle.job_reader.specs.declared.line.Edition.{Edition}
 use Rattle.job_reader.specs.declared.line.Line.{Line}
 use Rattle.job_reader.specs.declared.line.Line.TheVariants as line
 use Rattle.job_reader.specs.declared.op.Op.{Op}
@@ -126,20 +127,21 @@ task_same task.Queue ts may = declared_same _ ts may
 task_same task.Object ts may = declared_same _ ts may
 task_same task.Do ts may = nothing_same line.Do ts
 
-do_same : (w : DoWord) (ts : List (List ℕ)) → MayStand ts → do_form w (map canon ts) ≡ do_form w ts
-do_same step.Read ts may = ap (λ r. r >>= λ p. Ok (line.Read p.0 p.1)) (two_names_same ts may)
-do_same step.Write ts may = ap (λ r. r >>= λ p. Ok (line.Write p.0 p.1)) (name_and_atom_same ts may)
-do_same step.Push ts may = ap (λ r. r >>= λ p. Ok (line.Push p.0 p.1)) (name_and_atom_same ts may)
-do_same step.Pop ts may = ap (λ r. r >>= λ p. Ok (line.Pop p.0 p.1)) (two_names_same ts may)
-do_same step.Empty ts may = ap (λ r. r >>= λ p. Ok (line.Empty p.0 p.1)) (two_names_same ts may)
-do_same step.Spawn ts may = ap (λ r. r >>= λ p. Ok (line.Spawn p.0 p.1.0 p.1.1)) (spawned_same ts may)
-do_same step.Sync ts may = nothing_same line.Sync ts
-do_same step.Fuel ts may = ap (λ r. r >>= λ n. Ok (line.Fuel n)) (one_name_same ts may)
-do_same step.Fail ts may = ap (λ r. r >>= λ a. Ok (line.Fail a)) (one_atom_same ts may)
-do_same step.If ts may = ap (λ r. r >>= λ a. Ok (line.If a)) (one_atom_same ts may)
-do_same step.Else ts may = nothing_same line.Else ts
-do_same step.While ts may = ap (λ r. r >>= λ a. Ok (line.While a)) (one_atom_same ts may)
-do_same step.End ts may = nothing_same line.End ts
+do_same : (e : Edition) (w : DoWord) (ts : List (List ℕ)) → MayStand ts → do_form e w (map canon ts) ≡ do_form e w ts
+do_same e step.Read ts may = ap (λ r. r >>= λ p. Ok (line.Read p.0 p.1)) (two_names_same ts may)
+do_same e step.Write ts may = ap (λ r. r >>= λ p. Ok (line.Write p.0 p.1)) (name_and_atom_same ts may)
+do_same e step.Push ts may = ap (λ r. r >>= λ p. Ok (line.Push p.0 p.1)) (name_and_atom_same ts may)
+do_same e step.Pop ts may = ap (λ r. r >>= λ p. Ok (line.Pop p.0 p.1)) (two_names_same ts may)
+do_same e step.Empty ts may = ap (λ r. r >>= λ p. Ok (line.Empty p.0 p.1)) (two_names_same ts may)
+do_same e step.Spawn ts may = ap (λ r. r >>= λ p. Ok (line.Spawn p.0 p.1.0 p.1.1)) (spawned_same ts may)
+do_same e step.Sync ts may = nothing_same line.Sync ts
+do_same e step.Caught ts may = ap (λ r. cond (has_caught e) (r >>= λ n. Ok (line.Caught n)) (Err kind.BadLine)) (one_name_same ts may)
+do_same e step.Fuel ts may = ap (λ r. r >>= λ n. Ok (line.Fuel n)) (one_name_same ts may)
+do_same e step.Fail ts may = ap (λ r. r >>= λ a. Ok (line.Fail a)) (one_atom_same ts may)
+do_same e step.If ts may = ap (λ r. r >>= λ a. Ok (line.If a)) (one_atom_same ts may)
+do_same e step.Else ts may = nothing_same line.Else ts
+do_same e step.While ts may = ap (λ r. r >>= λ a. Ok (line.While a)) (one_atom_same ts may)
+do_same e step.End ts may = nothing_same line.End ts
 
 equal_same : (token word : List ℕ) → ((x y : List ℕ) → bytes_eq (34 ∷ x) word ≡ bytes_eq (34 ∷ y) word) → bytes_eq (canon token) word ≡ bytes_eq token word
 equal_same token word same = same_of_canon (λ t. bytes_eq t word) same token
@@ -148,8 +150,8 @@ header_same : (ts : List (List ℕ)) → header (map canon ts) ≡ header ts
 header_same [] = refl
 header_same (a ∷ []) = refl
 header_same (a ∷ b ∷ []) =
-    ap (λ x. cond (x && bytes_eq (canon b) (codes "1")) (Ok line.Header) (Err kind.BadHeader)) (equal_same a (codes "swan") (λ x y. refl))
-    ∙ ap (λ x. cond (bytes_eq a (codes "swan") && x) (Ok line.Header) (Err kind.BadHeader)) (equal_same b (codes "1") (λ x y. refl))
+    ap (λ x. cond x (headed (edition_named (canon b))) (Err kind.BadHeader)) (equal_same a (codes "swan") (λ x y. refl))
+    ∙ ap (λ x. cond (bytes_eq a (codes "swan")) (headed x) (Err kind.BadHeader)) (same_of_canon edition_named (λ x y. refl) b)
 header_same (a ∷ b ∷ c ∷ ts) = refl
 
 length_same : (ts : List (List ℕ)) → length (map canon ts) ≡ length ts
@@ -180,30 +182,30 @@ after_equals_may : (ts : List (List ℕ)) → MayStand ts → MayStand (after_eq
 after_equals_may [] may = may
 after_equals_may (token ∷ ts) may = (first_may token ts may).1
 
-statement_same : (v : List ℕ) (ts : List (List ℕ)) → list_all is_allowed v ≡ true → MayStand ts → statement (canon v) (map canon ts) ≡ statement v ts
-statement_same v ts allowed may =
-    ap (λ b. cond b (assignment (canon v) (after_equals (map canon ts))) (or_bad_line (do_named (canon v)) >>= λ w. do_form w (map canon ts))) (is_assignment_same ts)
-    ∙ ap (λ x. cond (is_assignment ts) (assignment (canon v) x) (or_bad_line (do_named (canon v)) >>= λ w. do_form w (map canon ts))) (after_equals_same ts)
-    ∙ ap (λ x. cond (is_assignment ts) x (or_bad_line (do_named (canon v)) >>= λ w. do_form w (map canon ts))) (assignment_same v (after_equals ts) allowed (after_equals_may ts may))
-    ∙ ap (λ x. cond (is_assignment ts) (assignment v (after_equals ts)) (or_bad_line x >>= λ w. do_form w (map canon ts))) (same_of_canon do_named (λ x y. refl) v)
-    ∙ ap (λ x. cond (is_assignment ts) (assignment v (after_equals ts)) x) (then_same (or_bad_line (do_named v)) (λ w. do_form w (map canon ts)) (λ w. do_form w ts) (λ w. do_same w ts may))
+statement_same : (e : Edition) (v : List ℕ) (ts : List (List ℕ)) → list_all is_allowed v ≡ true → MayStand ts → statement e (canon v) (map canon ts) ≡ statement e v ts
+statement_same e v ts allowed may =
+    ap (λ b. cond b (assignment (canon v) (after_equals (map canon ts))) (or_bad_line (do_named (canon v)) >>= λ w. do_form e w (map canon ts))) (is_assignment_same ts)
+    ∙ ap (λ x. cond (is_assignment ts) (assignment (canon v) x) (or_bad_line (do_named (canon v)) >>= λ w. do_form e w (map canon ts))) (after_equals_same ts)
+    ∙ ap (λ x. cond (is_assignment ts) x (or_bad_line (do_named (canon v)) >>= λ w. do_form e w (map canon ts))) (assignment_same v (after_equals ts) allowed (after_equals_may ts may))
+    ∙ ap (λ x. cond (is_assignment ts) (assignment v (after_equals ts)) (or_bad_line x >>= λ w. do_form e w (map canon ts))) (same_of_canon do_named (λ x y. refl) v)
+    ∙ ap (λ x. cond (is_assignment ts) (assignment v (after_equals ts)) x) (then_same (or_bad_line (do_named v)) (λ w. do_form e w (map canon ts)) (λ w. do_form e w ts) (λ w. do_same e w ts may))
 
-form_same : (position : Position) (first : List ℕ) (ts : List (List ℕ)) → MayStand (first ∷ ts) → form position (canon first) (map canon ts) ≡ form position first ts
-form_same First first ts may = header_same (first ∷ ts)
-form_same (Top n) first ts may =
+form_same : (e : Edition) (position : Position) (first : List ℕ) (ts : List (List ℕ)) → MayStand (first ∷ ts) → form e position (canon first) (map canon ts) ≡ form e position first ts
+form_same e First first ts may = header_same (first ∷ ts)
+form_same e (Top n) first ts may =
     ap (λ x. or_bad_line x >>= λ w. top_form w (map canon ts)) (same_of_canon top_named (λ x y. refl) first)
     ∙ then_same (or_bad_line (top_named first)) (λ w. top_form w (map canon ts)) (λ w. top_form w ts) (λ w. top_same w ts (first_may first ts may).1)
-form_same InTask first ts may =
+form_same e InTask first ts may =
     ap (λ x. or_bad_line x >>= λ w. task_form w (map canon ts)) (same_of_canon task_named (λ x y. refl) first)
     ∙ then_same (or_bad_line (task_named first)) (λ w. task_form w (map canon ts)) (λ w. task_form w ts) (λ w. task_same w ts (first_may first ts may).1)
-form_same (InDo blocks) first ts may = let parts = first_may first ts may in statement_same first ts parts.0 parts.1
-form_same Outside first ts may =
+form_same e (InDo blocks) first ts may = let parts = first_may first ts may in statement_same e first ts parts.0 parts.1
+form_same e Outside first ts may =
     ap (λ x. or_bad_line x >>= λ w. outside_form w (map canon ts)) (same_of_canon top_named (λ x y. refl) first)
     ∙ then_same (or_bad_line (top_named first)) (λ w. outside_form w (map canon ts)) (λ w. outside_form w ts) (λ w. outside_same w ts (first_may first ts may).1)
 
-pub formed_same : (position : Position) (ts : List (List ℕ)) → MayStand ts → formed position (map canon ts) ≡ formed position ts
-formed_same position [] may = refl
-formed_same position (first ∷ ts) may = form_same position first ts may
+pub formed_same : (e : Edition) (position : Position) (ts : List (List ℕ)) → MayStand ts → formed e position (map canon ts) ≡ formed e position ts
+formed_same e position [] may = refl
+formed_same e position (first ∷ ts) may = form_same e position first ts may
 
 opens_same : (first : List ℕ) (ts : List (List ℕ)) → opens_block (canon first) (map canon ts) ≡ opens_block first ts
 opens_same first ts =

@@ -1,5 +1,5 @@
 -- A line is written as the canonical tokens of its text.
-use Rattle.std.proofs.Common.{◌≡◌, ℕ, Bool, true, false, cond, List, [], ◌∷◌, length, Result, Ok, Err, refl, sym, ap, ◌∙◌}
+use Rattle.std.proofs.Common.{◌≡◌, ℕ, Bool, true, false, cond, List, [], ◌∷◌, length, Option, Some, None, Result, Ok, Err, refl, sym, ap, ◌∙◌}
 use Rattle.std.specs.Prelude.{◌==◌, ◌&&◌, map, bytes_eq, codes}
 use Rattle.std.specs.List.{list_all}
 use Rattle.std.proofs.lemmas.Bool.{and_from}
@@ -9,11 +9,13 @@ use Rattle.swan_model.specs.declared.value.Kind.{Kind}
 use Rattle.job_reader.specs.Atoms.{atom, atoms, name}
 use Rattle.job_reader.specs.CanonicalText.{atom_text, line_tokens}
 use Rattle.job_reader.specs.Faults.{both, ◌>>=◌}
-use Rattle.job_reader.specs.LineShape.{after_equals, assigned, assignment, do_form, form, formed, header, is_assignment, or_bad_line, name_and_atom, name_and_kind, nothing, one_atom, one_name, outside_form, spawned, task_form, top_form, two_names}
-use Rattle.job_reader.specs.Words.{arity, do_named, do_text, kind_named, kind_text, op_named, op_text, ops, do_words, task_named, task_text, task_words, top_named, top_text, top_words}
+use Rattle.job_reader.specs.LineShape.{after_equals, assigned, assignment, caught_form, do_form, form, formed, headed, header, is_assignment, or_bad_line, name_and_atom, name_and_kind, nothing, one_atom, one_name, outside_form, spawned, task_form, top_form, two_names}
+use Rattle.job_reader.specs.Words.{arity, do_named, do_text, edition_named, edition_text, editions, kind_named, kind_text, op_named, op_text, ops, do_words, task_named, task_text, task_words, top_named, top_text, top_words}
 use Rattle.job_reader.specs.declared.atom.Atom.{Atom}
 use Rattle.job_reader.specs.declared.fault.JobKind.{JobKind}
 use Rattle.job_reader.specs.declared.fault.JobKind.TheVariants as kind
+use Rattle.job_reader.specs.declared.line.Edition.{Edition}
+use Rattle.job_reader.specs.declared.line.Edition.TheVariants as edition
 use Rattle.job_reader.specs.declared.line.Line.{Line}
 use Rattle.job_reader.specs.declared.line.Line.TheVariants as line
 use Rattle.job_reader.specs.declared.op.Op.{Op}
@@ -135,24 +137,33 @@ given rest make word so l is = made rest (name_and_atom rest) make (λ p. p.0 �
 valued : (rest : List (List ℕ)) (make : Atom → Line) (word : List ℕ) → ((a : Atom) → line_tokens (make a) ≡ word ∷ atom_text a ∷ []) → (l : Line) → (one_atom rest >>= λ a. Ok (make a)) ≡ Ok l → LineIs l word rest
 valued rest make word so l is = made rest (one_atom rest) make (λ a. atom_text a ∷ []) word (one_atom_written rest) so l is
 
-do_written : (w : DoWord) (rest : List (List ℕ)) (l : Line) → do_form w rest ≡ Ok l → LineIs l (do_text w) rest
-do_written step.Read rest l is = paired rest (λ p. line.Read p.0 p.1) (codes "read") (λ p. refl) l is
-do_written step.Write rest l is = given rest (λ p. line.Write p.0 p.1) (codes "write") (λ p. refl) l is
-do_written step.Push rest l is = given rest (λ p. line.Push p.0 p.1) (codes "push") (λ p. refl) l is
-do_written step.Pop rest l is = paired rest (λ p. line.Pop p.0 p.1) (codes "pop") (λ p. refl) l is
-do_written step.Empty rest l is = paired rest (λ p. line.Empty p.0 p.1) (codes "empty") (λ p. refl) l is
-do_written step.Spawn rest l is = made rest (spawned rest) (λ p. line.Spawn p.0 p.1.0 p.1.1) (λ p. atom_text p.0 ∷ p.1.0 ∷ map atom_text p.1.1) (codes "spawn") (spawned_written rest) (λ p. refl) l is
-do_written step.Sync rest l is = bare rest line.Sync (codes "sync") refl l is
-do_written step.Fuel rest l is = made rest (one_name rest) (λ n. line.Fuel n) (λ n. n ∷ []) (codes "fuel") (one_name_written rest) (λ n. refl) l is
-do_written step.Fail rest l is = valued rest (λ a. line.Fail a) (codes "fail") (λ a. refl) l is
-do_written step.If rest l is = valued rest (λ a. line.If a) (codes "if") (λ a. refl) l is
-do_written step.Else rest l is = bare rest line.Else (codes "else") refl l is
-do_written step.While rest l is = valued rest (λ a. line.While a) (codes "while") (λ a. refl) l is
-do_written step.End rest l is = bare rest line.End (codes "end") refl l is
+caught_written : (e : Edition) (rest : List (List ℕ)) (l : Line) → caught_form e rest ≡ Ok l → LineIs l (codes "caught") rest
+caught_written edition.One rest l is = cc
+caught_written edition.Two rest l is = made rest (one_name rest) (λ n. line.Caught n) (λ n. n ∷ []) (codes "caught") (one_name_written rest) (λ n. refl) l is
+
+do_written : (e : Edition) (w : DoWord) (rest : List (List ℕ)) (l : Line) → do_form e w rest ≡ Ok l → LineIs l (do_text w) rest
+do_written e step.Read rest l is = paired rest (λ p. line.Read p.0 p.1) (codes "read") (λ p. refl) l is
+do_written e step.Write rest l is = given rest (λ p. line.Write p.0 p.1) (codes "write") (λ p. refl) l is
+do_written e step.Push rest l is = given rest (λ p. line.Push p.0 p.1) (codes "push") (λ p. refl) l is
+do_written e step.Pop rest l is = paired rest (λ p. line.Pop p.0 p.1) (codes "pop") (λ p. refl) l is
+do_written e step.Empty rest l is = paired rest (λ p. line.Empty p.0 p.1) (codes "empty") (λ p. refl) l is
+do_written e step.Spawn rest l is = made rest (spawned rest) (λ p. line.Spawn p.0 p.1.0 p.1.1) (λ p. atom_text p.0 ∷ p.1.0 ∷ map atom_text p.1.1) (codes "spawn") (spawned_written rest) (λ p. refl) l is
+do_written e step.Sync rest l is = bare rest line.Sync (codes "sync") refl l is
+do_written e step.Caught rest l is = caught_written e rest l is
+do_written e step.Fuel rest l is = made rest (one_name rest) (λ n. line.Fuel n) (λ n. n ∷ []) (codes "fuel") (one_name_written rest) (λ n. refl) l is
+do_written e step.Fail rest l is = valued rest (λ a. line.Fail a) (codes "fail") (λ a. refl) l is
+do_written e step.If rest l is = valued rest (λ a. line.If a) (codes "if") (λ a. refl) l is
+do_written e step.Else rest l is = bare rest line.Else (codes "else") refl l is
+do_written e step.While rest l is = valued rest (λ a. line.While a) (codes "while") (λ a. refl) l is
+do_written e step.End rest l is = bare rest line.End (codes "end") refl l is
 
 -- a word is its own canonical token
 abbrev Stays : List ℕ → Type 0
 Stays word = (canon word ≡ word) × (is_fine word ≡ true)
+
+edition_stays : (e : Edition) → Stays (edition_text e)
+edition_stays edition.One = (refl, refl)
+edition_stays edition.Two = (refl, refl)
 
 top_stays : (w : TopWord) → Stays (top_text w)
 top_stays top.Input = (refl, refl)
@@ -181,6 +192,7 @@ do_stays step.Pop = (refl, refl)
 do_stays step.Empty = (refl, refl)
 do_stays step.Spawn = (refl, refl)
 do_stays step.Sync = (refl, refl)
+do_stays step.Caught = (refl, refl)
 do_stays step.Fuel = (refl, refl)
 do_stays step.Fail = (refl, refl)
 do_stays step.If = (refl, refl)
@@ -219,21 +231,22 @@ worded first word rest l is stays line = (
   and_from (is_fine first) (list_all is_fine rest) (ap is_fine is ∙ stays.1) line.1,
 )
 
-header_test : (first second : List ℕ) (b c : Bool) (l : Line) → bytes_eq first (codes "swan") ≡ b → bytes_eq second (codes "1") ≡ c → cond (b && c) (Ok line.Header) (Err kind.BadHeader) ≡ Ok l → IsWritten l (first ∷ second ∷ [])
-header_test first second true true l b c is =
-    let same : line.Header ≡ l = cc in
-    let swan = (bytes_eq-Decides first (codes "swan")).0 b in
-    let one = (bytes_eq-Decides second (codes "1")).0 c in (
-      sym (ap line_tokens same) ∙ ap (λ t. canon t ∷ codes "1" ∷ []) (sym swan) ∙ ap (λ t. canon first ∷ canon t ∷ []) (sym one),
-      and_from (is_fine first) (is_fine second && true) (ap is_fine swan) (and_from (is_fine second) true (ap is_fine one) refl),
+header_test : (first second : List ℕ) (b : Bool) (found : Option Edition) (l : Line) → bytes_eq first (codes "swan") ≡ b → edition_named second ≡ found → cond b (headed found) (Err kind.BadHeader) ≡ Ok l → IsWritten l (first ∷ second ∷ [])
+header_test first second true (Some e) l b c is =
+    let same : line.Header e ≡ l = cc in
+    let number = found_text edition_text editions second e c in
+    let stays = edition_stays e in
+    worded first (codes "swan") (second ∷ []) l ((bytes_eq-Decides first (codes "swan")).0 b) (refl, refl) (
+      sym (ap line_tokens same) ∙ ap (λ t. codes "swan" ∷ t ∷ []) (sym stays.0 ∙ ap canon (sym number)),
+      and_from (is_fine second) true (ap is_fine number ∙ stays.1) refl,
     )
-header_test first second true false l b c is = cc
+header_test first second true None l b c is = cc
 header_test first second false _ l b c is = cc
 
 header_written : (tokens : List (List ℕ)) (l : Line) → header tokens ≡ Ok l → IsWritten l tokens
 header_written [] l is = cc
 header_written (first ∷ []) l is = cc
-header_written (first ∷ second ∷ []) l is = header_test first second (bytes_eq first (codes "swan")) (bytes_eq second (codes "1")) l refl refl is
+header_written (first ∷ second ∷ []) l is = header_test first second (bytes_eq first (codes "swan")) (edition_named second) l refl refl is
 header_written (first ∷ second ∷ third ∷ rest) l is = cc
 
 assigned_written : (v : List ℕ) (o : Op) (args : List (List ℕ)) (b : Bool) (l : Line) → cond b (both (name v) (atoms args) >>= λ p. Ok (line.Assign p.0 o p.1)) (Err kind.BadLine) ≡ Ok l → (line_tokens l ≡ canon v ∷ codes "=" ∷ op_text o ∷ map canon args) × (is_fine v ≡ true) × (list_all is_fine args ≡ true)
@@ -259,25 +272,25 @@ assignment_written v (token ∷ first ∷ args) l equals is =
       and_from (is_fine v) (is_fine token && (is_fine first && list_all is_fine args)) written.1 (and_from (is_fine token) (is_fine first && list_all is_fine args) (ap is_fine sign) (and_from (is_fine first) (list_all is_fine args) (ap is_fine word ∙ (op_stays o).1) written.2)),
     )
 
-statement_written : (first : List ℕ) (rest : List (List ℕ)) (b : Bool) (l : Line) → is_assignment rest ≡ b → cond b (assignment first (after_equals rest)) (or_bad_line (do_named first) >>= λ w. do_form w rest) ≡ Ok l → IsWritten l (first ∷ rest)
-statement_written first rest true l equals is = assignment_written first rest l equals is
-statement_written first rest false l equals is =
-    let found = bind_ok (or_bad_line (do_named first)) (λ w. do_form w rest) l is in
-    worded first (do_text found.0) rest l (found_text do_text do_words first found.0 (known_some (do_named first) found.0 found.1)) (do_stays found.0) (do_written found.0 rest l found.2)
+statement_written : (e : Edition) (first : List ℕ) (rest : List (List ℕ)) (b : Bool) (l : Line) → is_assignment rest ≡ b → cond b (assignment first (after_equals rest)) (or_bad_line (do_named first) >>= λ w. do_form e w rest) ≡ Ok l → IsWritten l (first ∷ rest)
+statement_written e first rest true l equals is = assignment_written first rest l equals is
+statement_written e first rest false l equals is =
+    let found = bind_ok (or_bad_line (do_named first)) (λ w. do_form e w rest) l is in
+    worded first (do_text found.0) rest l (found_text do_text do_words first found.0 (known_some (do_named first) found.0 found.1)) (do_stays found.0) (do_written e found.0 rest l found.2)
 
-form_written : (position : Position) (first : List ℕ) (rest : List (List ℕ)) (l : Line) → form position first rest ≡ Ok l → IsWritten l (first ∷ rest)
-form_written First first rest l is = header_written (first ∷ rest) l is
-form_written (Top n) first rest l is =
+form_written : (e : Edition) (position : Position) (first : List ℕ) (rest : List (List ℕ)) (l : Line) → form e position first rest ≡ Ok l → IsWritten l (first ∷ rest)
+form_written e First first rest l is = header_written (first ∷ rest) l is
+form_written e (Top n) first rest l is =
     let found = bind_ok (or_bad_line (top_named first)) (λ w. top_form w rest) l is in
     worded first (top_text found.0) rest l (found_text top_text top_words first found.0 (known_some (top_named first) found.0 found.1)) (top_stays found.0) (top_written found.0 rest l found.2)
-form_written InTask first rest l is =
+form_written e InTask first rest l is =
     let found = bind_ok (or_bad_line (task_named first)) (λ w. task_form w rest) l is in
     worded first (task_text found.0) rest l (found_text task_text task_words first found.0 (known_some (task_named first) found.0 found.1)) (task_stays found.0) (task_written found.0 rest l found.2)
-form_written (InDo blocks) first rest l is = statement_written first rest (is_assignment rest) l refl is
-form_written Outside first rest l is =
+form_written e (InDo blocks) first rest l is = statement_written e first rest (is_assignment rest) l refl is
+form_written e Outside first rest l is =
     let found = bind_ok (or_bad_line (top_named first)) (λ w. outside_form w rest) l is in
     worded first (top_text found.0) rest l (found_text top_text top_words first found.0 (known_some (top_named first) found.0 found.1)) (top_stays found.0) (outside_written found.0 rest l found.2)
 
-pub formed_written : (position : Position) (tokens : List (List ℕ)) (l : Line) → formed position tokens ≡ Ok l → IsWritten l tokens
-formed_written position [] l is = cc
-formed_written position (first ∷ rest) l is = form_written position first rest l is
+pub formed_written : (e : Edition) (position : Position) (tokens : List (List ℕ)) (l : Line) → formed e position tokens ≡ Ok l → IsWritten l tokens
+formed_written e position [] l is = cc
+formed_written e position (first ∷ rest) l is = form_written e position first rest l is

@@ -9,7 +9,7 @@ use Rattle.swan_model.specs.declared.rights.Mode.{Mode}
 use Rattle.swan_model.specs.declared.rights.Mode.TheVariants.{In, Out, InOut, Push, Pop, PushPop}
 use Rattle.job_reader.specs.Characters.{tab, line_feed, space, quote, backslash, letter_n, letter_t, letter_x, is_allowed}
 use Rattle.job_reader.specs.Positions.{after}
-use Rattle.job_reader.specs.Words.{kind_text, op_text}
+use Rattle.job_reader.specs.Words.{edition_text, kind_text, op_text}
 use Rattle.job_reader.specs.declared.atom.Atom.{Atom}
 use Rattle.job_reader.specs.declared.atom.Atom.TheVariants as atom
 use Rattle.job_reader.specs.declared.line.Line.{Line}
@@ -46,7 +46,7 @@ mode_text PushPop = codes "pushpop"
 -- the tokens of a line; a note is one piece
 abbrev pub line_tokens : Line → List (List ℕ)
 line_tokens (line.Note text) = text ∷ []
-line_tokens line.Header = codes "swan" ∷ codes "1" ∷ []
+line_tokens (line.Header edition) = codes "swan" ∷ edition_text edition ∷ []
 line_tokens (line.Input name) = codes "input" ∷ name ∷ []
 line_tokens (line.Output name k) = codes "output" ∷ name ∷ kind_text k ∷ []
 line_tokens (line.Object name k) = codes "object" ∷ name ∷ kind_text k ∷ []
@@ -64,6 +64,7 @@ line_tokens (line.Pop v q) = codes "pop" ∷ v ∷ q ∷ []
 line_tokens (line.Empty v q) = codes "empty" ∷ v ∷ q ∷ []
 line_tokens (line.Spawn fuel task given) = codes "spawn" ∷ atom_text fuel ∷ task ∷ map atom_text given
 line_tokens line.Sync = codes "sync" ∷ []
+line_tokens (line.Caught v) = codes "caught" ∷ v ∷ []
 line_tokens (line.Fuel v) = codes "fuel" ∷ v ∷ []
 line_tokens (line.Fail a) = codes "fail" ∷ atom_text a ∷ []
 line_tokens (line.If a) = codes "if" ∷ atom_text a ∷ []

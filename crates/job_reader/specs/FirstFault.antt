@@ -12,6 +12,8 @@ use Rattle.job_reader.specs.declared.fault.JobFault.{JobFault}
 use Rattle.job_reader.specs.declared.fault.JobKind.{JobKind}
 use Rattle.job_reader.specs.declared.fault.JobKind.TheVariants as kind
 use Rattle.job_reader.specs.declared.job.TheConstants.{JOB_LINES_MOST}
+use Rattle.job_reader.specs.declared.line.Edition.{Edition}
+use Rattle.job_reader.specs.declared.line.Edition.TheVariants.{One}
 use Rattle.job_reader.specs.declared.line.Line.{Line}
 use Rattle.job_reader.specs.declared.line.Line.TheVariants as line
 use Rattle.job_reader.specs.declared.position.Position.{Position}
@@ -46,16 +48,16 @@ is_unbalanced is_last position line = is_stray_else position line || (is_last &&
 abbrev pub balanced : Bool → Position → Line → Result Line JobKind
 balanced is_last position line = if is_unbalanced is_last position line then Err kind.Unbalanced else Ok line
 
--- The line that bytes are, or the first kind of fault that they have, at a position and by their number in
--- the text. Balance comes last.
-abbrev pub line_alone : ℕ → Position → List ℕ → Result Line JobKind
-line_alone number position bytes =
+-- The line that bytes are, or the first kind of fault that they have, in a job of an edition, by their
+-- number in the text and at a position. Balance comes last.
+abbrev pub line_alone : Edition → ℕ → Position → List ℕ → Result Line JobKind
+line_alone edition number position bytes =
     if not (list_all is_allowed bytes) then Err kind.BadByte
     else (if is_past_limit number position (trimmed bytes) then Err kind.Limit
-    else shape position (trimmed bytes))
+    else shape edition position (trimmed bytes))
 
-abbrev pub line_at : ℕ → Bool → Position → List ℕ → Result Line JobKind
-line_at number is_last position bytes = line_alone number position bytes >>= balanced is_last position
+abbrev pub line_at : Edition → ℕ → Bool → Position → List ℕ → Result Line JobKind
+line_at edition number is_last position bytes = line_alone edition number position bytes >>= balanced is_last position
 
 -- a line, and the position after it
 abbrev pub with_position : Position → Result Line JobKind → Result (Line × Position) JobKind
@@ -76,17 +78,24 @@ abbrev pub or_fault : ℕ → Result Line JobKind → (Line → Result (List Lin
 or_fault number (Ok line) f = f line
 or_fault number (Err k) f = Err (record { line = number; kind = k })
 
--- the job that lines are, the first of which has this number and stands at this position
-abbrev pub job_from : ℕ → Position → List (List ℕ) → Result (List Line) JobFault
-job_from number position [] = Ok []
-job_from number position (bytes ∷ more) =
-    or_fault number (line_at number (is_nothing more) position bytes)
-    (λ line. and_others line (job_from (number + 1) (after position line) more))
+-- The edition by which the lines after a line are read: the one that the first line names. That line is read
+-- alike in all editions.
+abbrev pub edition_after : Edition → Line → Edition
+edition_after edition (line.Header named) = named
+edition_after edition _ = edition
+
+-- the job that lines are, the first of which is read by this edition, has this number and stands at this
+-- position
+abbrev pub job_from : Edition → ℕ → Position → List (List ℕ) → Result (List Line) JobFault
+job_from edition number position [] = Ok []
+job_from edition number position (bytes ∷ more) =
+    or_fault number (line_at edition number (is_nothing more) position bytes)
+    (λ line. and_others line (job_from (edition_after edition line) (number + 1) (after position line) more))
 
 -- a text without lines has no header
 abbrev pub job_of_lines : List (List ℕ) → Result (List Line) JobFault
 job_of_lines [] = Err (record { line = 1; kind = kind.BadHeader })
-job_of_lines (bytes ∷ more) = job_from 1 First (bytes ∷ more)
+job_of_lines (bytes ∷ more) = job_from One 1 First (bytes ∷ more)
 
 abbrev pub job_of : List ℕ → Result (List Line) JobFault
 job_of text = job_of_lines (lines text)

@@ -1,4 +1,4 @@
--- The line that a text is at a position, by its tokens, or what is wrong with it: BadHeader, BadLine,
+-- The line that a text is at a position in a job of an edition, by its tokens, or what is wrong with it: BadHeader, BadLine,
 -- BadName or BadNumber.
 use Rattle.std.specs.Prelude.{ℕ, ◌==◌, Bool, true, false, not, ◌&&◌, Option, Some, None, Result, Ok, Err, List, [], ◌∷◌, length, codes, bytes_eq, if◌then◌else◌}
 use Rattle.swan_model.specs.declared.rights.Mode.TheVariants as mode
@@ -7,10 +7,11 @@ use Rattle.job_reader.specs.Atoms.{atom, atoms, name}
 use Rattle.job_reader.specs.Characters.{hash}
 use Rattle.job_reader.specs.Faults.{both, ◌>>=◌}
 use Rattle.job_reader.specs.Tokens.{tokens}
-use Rattle.job_reader.specs.Words.{arity, kind_named, op_named, top_named, task_named, do_named}
+use Rattle.job_reader.specs.Words.{arity, edition_named, has_caught, kind_named, op_named, top_named, task_named, do_named}
 use Rattle.job_reader.specs.declared.atom.Atom.{Atom}
 use Rattle.job_reader.specs.declared.fault.JobKind.{JobKind}
 use Rattle.job_reader.specs.declared.fault.JobKind.TheVariants as kind
+use Rattle.job_reader.specs.declared.line.Edition.{Edition}
 use Rattle.job_reader.specs.declared.line.Line.{Line}
 use Rattle.job_reader.specs.declared.line.Line.TheVariants as line
 use Rattle.job_reader.specs.declared.op.Op.{Op}
@@ -59,10 +60,13 @@ abbrev pub spawned : List (List ℕ) → Result (Atom × (List ℕ × List Atom)
 spawned (fuel ∷ task ∷ given) = both (atom fuel) (both (name task) (atoms given))
 spawned _ = Err kind.BadLine
 
--- the first line
+-- The first line: the word `swan` and the number of an edition.
+abbrev pub headed : Option Edition → Result Line JobKind
+headed (Some edition) = Ok (line.Header edition)
+headed None = Err kind.BadHeader
+
 abbrev pub header : List (List ℕ) → Result Line JobKind
-header (first ∷ second ∷ []) =
-    if bytes_eq first (codes "swan") && bytes_eq second (codes "1") then Ok line.Header else Err kind.BadHeader
+header (first ∷ second ∷ []) = if bytes_eq first (codes "swan") then headed (edition_named second) else Err kind.BadHeader
 header _ = Err kind.BadHeader
 
 -- a line at the top level before the first task
@@ -91,21 +95,26 @@ task_form task.Queue rest = name_and_kind rest >>= λ d. Ok (line.Queue d.0 d.1)
 task_form task.Object rest = name_and_kind rest >>= λ d. Ok (line.Object d.0 d.1)
 task_form task.Do rest = nothing line.Do rest
 
+-- a `caught`, which the first edition doesn't have
+abbrev pub caught_form : Edition → List (List ℕ) → Result Line JobKind
+caught_form edition rest = if has_caught edition then (one_name rest >>= λ n. Ok (line.Caught n)) else Err kind.BadLine
+
 -- a statement that isn't an assignment
-abbrev pub do_form : DoWord → List (List ℕ) → Result Line JobKind
-do_form step.Read rest = two_names rest >>= λ p. Ok (line.Read p.0 p.1)
-do_form step.Write rest = name_and_atom rest >>= λ p. Ok (line.Write p.0 p.1)
-do_form step.Push rest = name_and_atom rest >>= λ p. Ok (line.Push p.0 p.1)
-do_form step.Pop rest = two_names rest >>= λ p. Ok (line.Pop p.0 p.1)
-do_form step.Empty rest = two_names rest >>= λ p. Ok (line.Empty p.0 p.1)
-do_form step.Spawn rest = spawned rest >>= λ p. Ok (line.Spawn p.0 p.1.0 p.1.1)
-do_form step.Sync rest = nothing line.Sync rest
-do_form step.Fuel rest = one_name rest >>= λ n. Ok (line.Fuel n)
-do_form step.Fail rest = one_atom rest >>= λ a. Ok (line.Fail a)
-do_form step.If rest = one_atom rest >>= λ a. Ok (line.If a)
-do_form step.Else rest = nothing line.Else rest
-do_form step.While rest = one_atom rest >>= λ a. Ok (line.While a)
-do_form step.End rest = nothing line.End rest
+abbrev pub do_form : Edition → DoWord → List (List ℕ) → Result Line JobKind
+do_form edition step.Read rest = two_names rest >>= λ p. Ok (line.Read p.0 p.1)
+do_form edition step.Write rest = name_and_atom rest >>= λ p. Ok (line.Write p.0 p.1)
+do_form edition step.Push rest = name_and_atom rest >>= λ p. Ok (line.Push p.0 p.1)
+do_form edition step.Pop rest = two_names rest >>= λ p. Ok (line.Pop p.0 p.1)
+do_form edition step.Empty rest = two_names rest >>= λ p. Ok (line.Empty p.0 p.1)
+do_form edition step.Spawn rest = spawned rest >>= λ p. Ok (line.Spawn p.0 p.1.0 p.1.1)
+do_form edition step.Sync rest = nothing line.Sync rest
+do_form edition step.Caught rest = caught_form edition rest
+do_form edition step.Fuel rest = one_name rest >>= λ n. Ok (line.Fuel n)
+do_form edition step.Fail rest = one_atom rest >>= λ a. Ok (line.Fail a)
+do_form edition step.If rest = one_atom rest >>= λ a. Ok (line.If a)
+do_form edition step.Else rest = nothing line.Else rest
+do_form edition step.While rest = one_atom rest >>= λ a. Ok (line.While a)
+do_form edition step.End rest = nothing line.End rest
 
 -- An assignment: the variable, and an operation with as many atoms as it takes.
 abbrev pub assigned : List ℕ → Op → List (List ℕ) → Result Line JobKind
@@ -127,22 +136,22 @@ abbrev pub after_equals : List (List ℕ) → List (List ℕ)
 after_equals [] = []
 after_equals (token ∷ tokens) = tokens
 
-abbrev pub statement : List ℕ → List (List ℕ) → Result Line JobKind
-statement first rest =
+abbrev pub statement : Edition → List ℕ → List (List ℕ) → Result Line JobKind
+statement edition first rest =
     if is_assignment rest then assignment first (after_equals rest)
-    else or_bad_line (do_named first) >>= λ w. do_form w rest
+    else or_bad_line (do_named first) >>= λ w. do_form edition w rest
 
 -- the line that the tokens of a text that isn't a note make at a position
-abbrev pub form : Position → List ℕ → List (List ℕ) → Result Line JobKind
-form First first rest = header (first ∷ rest)
-form (Top inputs_left) first rest = or_bad_line (top_named first) >>= λ w. top_form w rest
-form InTask first rest = or_bad_line (task_named first) >>= λ w. task_form w rest
-form (InDo blocks) first rest = statement first rest
-form Outside first rest = or_bad_line (top_named first) >>= λ w. outside_form w rest
+abbrev pub form : Edition → Position → List ℕ → List (List ℕ) → Result Line JobKind
+form edition First first rest = header (first ∷ rest)
+form edition (Top inputs_left) first rest = or_bad_line (top_named first) >>= λ w. top_form w rest
+form edition InTask first rest = or_bad_line (task_named first) >>= λ w. task_form w rest
+form edition (InDo blocks) first rest = statement edition first rest
+form edition Outside first rest = or_bad_line (top_named first) >>= λ w. outside_form w rest
 
-abbrev pub formed : Position → List (List ℕ) → Result Line JobKind
-formed position [] = Err kind.BadHeader
-formed position (first ∷ rest) = form position first rest
+abbrev pub formed : Edition → Position → List (List ℕ) → Result Line JobKind
+formed edition position [] = Err kind.BadHeader
+formed edition position (first ∷ rest) = form edition position first rest
 
 -- A text without outer spaces that is empty or begins with # is a note, but on the first line.
 abbrev pub is_note : List ℕ → Bool
@@ -153,5 +162,6 @@ abbrev pub is_first : Position → Bool
 is_first First = true
 is_first _ = false
 
-abbrev pub shape : Position → List ℕ → Result Line JobKind
-shape position text = if is_note text && not (is_first position) then Ok (line.Note text) else formed position (tokens text)
+abbrev pub shape : Edition → Position → List ℕ → Result Line JobKind
+shape edition position text =
+    if is_note text && not (is_first position) then Ok (line.Note text) else formed edition position (tokens text)

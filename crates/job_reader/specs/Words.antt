@@ -1,7 +1,9 @@
--- The words of the language: its operations, kinds, and the words that lines begin with.
-use Rattle.std.specs.Prelude.{ℕ, Option, List, [], ◌∷◌, codes, bytes_eq, find}
+-- The words of the language: its editions, operations, kinds, and the words that lines begin with.
+use Rattle.std.specs.Prelude.{ℕ, Bool, true, false, Option, List, [], ◌∷◌, codes, bytes_eq, find}
 use Rattle.swan_model.specs.declared.value.Kind.{Kind}
 use Rattle.swan_model.specs.declared.value.Kind.TheVariants as kind
+use Rattle.job_reader.specs.declared.line.Edition.{Edition}
+use Rattle.job_reader.specs.declared.line.Edition.TheVariants as edition
 use Rattle.job_reader.specs.declared.op.Op.{Op}
 use Rattle.job_reader.specs.declared.op.Op.TheVariants as op
 use Rattle.job_reader.specs.declared.words.TopWord.{TopWord}
@@ -10,6 +12,16 @@ use Rattle.job_reader.specs.declared.words.TaskWord.{TaskWord}
 use Rattle.job_reader.specs.declared.words.TaskWord.TheVariants as task
 use Rattle.job_reader.specs.declared.words.DoWord.{DoWord}
 use Rattle.job_reader.specs.declared.words.DoWord.TheVariants as step
+
+-- the number of an edition, as the first line has it
+abbrev pub edition_text : Edition → List ℕ
+edition_text edition.One = codes "1"
+edition_text edition.Two = codes "2"
+
+-- whether an edition has the statement `caught`
+abbrev pub has_caught : Edition → Bool
+has_caught edition.One = false
+has_caught edition.Two = true
 
 abbrev pub kind_text : Kind → List ℕ
 kind_text kind.Int = codes "int"
@@ -77,6 +89,7 @@ do_text step.Pop = codes "pop"
 do_text step.Empty = codes "empty"
 do_text step.Spawn = codes "spawn"
 do_text step.Sync = codes "sync"
+do_text step.Caught = codes "caught"
 do_text step.Fuel = codes "fuel"
 do_text step.Fail = codes "fail"
 do_text step.If = codes "if"
@@ -84,7 +97,10 @@ do_text step.Else = codes "else"
 do_text step.While = codes "while"
 do_text step.End = codes "end"
 
--- all kinds, operations, and first words of a line at the top level, of a task and of a statement
+-- all editions, kinds, operations, and first words of a line at the top level, of a task and of a statement
+abbrev pub editions : List Edition
+editions = edition.One ∷ edition.Two ∷ []
+
 abbrev pub kinds : List Kind
 kinds = kind.Int ∷ kind.Bytes ∷ []
 
@@ -103,10 +119,13 @@ task_words =
 
 abbrev pub do_words : List DoWord
 do_words =
-    step.Read ∷ step.Write ∷ step.Push ∷ step.Pop ∷ step.Empty ∷ step.Spawn ∷ step.Sync ∷ step.Fuel ∷ step.Fail
-    ∷ step.If ∷ step.Else ∷ step.While ∷ step.End ∷ []
+    step.Read ∷ step.Write ∷ step.Push ∷ step.Pop ∷ step.Empty ∷ step.Spawn ∷ step.Sync ∷ step.Caught ∷ step.Fuel
+    ∷ step.Fail ∷ step.If ∷ step.Else ∷ step.While ∷ step.End ∷ []
 
 -- the one of them that is written so, if one is
+abbrev pub edition_named : List ℕ → Option Edition
+edition_named token = find (λ e. bytes_eq token (edition_text e)) editions
+
 abbrev pub kind_named : List ℕ → Option Kind
 kind_named token = find (λ k. bytes_eq token (kind_text k)) kinds
 

@@ -13,7 +13,7 @@ use swan_model::NoMemory;
 pub enum JobKind {
     /// A byte that may not stand in a job.
     BadByte,
-    /// The first line isn't `swan 1`.
+    /// The first line is neither `swan 1` nor `swan 2`.
     BadHeader,
     /// Not a line that may stand there, by its first token, how many it has, a kind, an operation or a literal.
     BadLine,

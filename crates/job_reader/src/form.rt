@@ -11,8 +11,8 @@ use crate::atom::{read_atoms, read_name, word};
 use crate::fault::{ReadLine, both};
 use crate::position::Position;
 use crate::shape::{do_line, outside_line, task_line, top_line};
-use crate::words::{DoWord, TaskWord, TopWord, is_text};
-use crate::{JobKind, Line, Op};
+use crate::words::{DoWord, TaskWord, TopWord, edition_named, is_text};
+use crate::{Edition, JobKind, Line, Op};
 use std::alloc::Global;
 
 /// The first line.
@@ -20,7 +20,10 @@ fn header(first: &[u8], rest: &[&[u8]]) -> Result<Line, ReadLine>
     ensures { IsReadAs result (header (first.now ∷ texts rest.now)) }
 {
     match rest {
-        [second] if is_text(first, "swan") && is_text(second, "1") => Ok(Line::Header),
+        [second] if is_text(first, "swan") => match edition_named(second) {
+            Some(edition) => Ok(Line::Header(edition)),
+            None => Err(ReadLine::Refused(JobKind::BadHeader)),
+        },
         _ => Err(ReadLine::Refused(JobKind::BadHeader)),
     }
 }
@@ -62,22 +65,33 @@ fn assignment(alloc: Global, variable: &[u8], tokens: &[&[u8]]) -> Result<Line, 
     }
 }
 
-/// A statement.
-fn statement(alloc: Global, first: &[u8], rest: &[&[u8]]) -> Result<Line, ReadLine>
-    ensures { IsReadAs result (statement first.now (texts rest.now)) }
+/// A statement of an edition.
+fn statement(
+    alloc: Global,
+    edition: Edition,
+    first: &[u8],
+    rest: &[&[u8]],
+) -> Result<Line, ReadLine>
+    ensures { IsReadAs result (statement edition first.now (texts rest.now)) }
 {
     match after_equals(rest) {
         Some(tokens) => assignment(alloc, first, tokens),
         None => match DoWord::named(first) {
-            Some(word) => do_line(alloc, word, rest),
+            Some(word) => do_line(alloc, edition, word, rest),
             None => Err(ReadLine::Refused(JobKind::BadLine)),
         },
     }
 }
 
-/// The line that tokens make at a position.
-fn form(alloc: Global, position: &Position, first: &[u8], rest: &[&[u8]]) -> Result<Line, ReadLine>
-    ensures { IsReadAs result (form position.now first.now (texts rest.now)) }
+/// The line that tokens make at a position in a job of an edition.
+fn form(
+    alloc: Global,
+    edition: Edition,
+    position: &Position,
+    first: &[u8],
+    rest: &[&[u8]],
+) -> Result<Line, ReadLine>
+    ensures { IsReadAs result (form edition position.now first.now (texts rest.now)) }
 {
     match position {
         Position::First => header(first, rest),
@@ -89,7 +103,7 @@ fn form(alloc: Global, position: &Position, first: &[u8], rest: &[&[u8]]) -> Res
             Some(word) => task_line(alloc, word, rest),
             None => Err(ReadLine::Refused(JobKind::BadLine)),
         },
-        Position::InDo(_) => statement(alloc, first, rest),
+        Position::InDo(_) => statement(alloc, edition, first, rest),
         Position::Outside => match TopWord::named(first) {
             Some(word) => outside_line(alloc, word, rest),
             None => Err(ReadLine::Refused(JobKind::BadLine)),
@@ -107,22 +121,24 @@ fn is_note(text: &[u8]) -> bool
     }
 }
 
-/// The line that a text without outer spaces is at a position, by its tokens. `O(length)`.
+/// The line that a text without outer spaces is at a position in a job of an edition, by its tokens.
+/// `O(length)`.
 pub fn shape(
     alloc: Global,
+    edition: Edition,
     position: &Position,
     text: &[u8],
     found: &[&[u8]],
 ) -> Result<Line, ReadLine>
     requires tokens { texts found.now ≡ tokens text.now }
     requires utf8 { IsUtf8 text.now }
-    ensures { IsReadAs result (shape position.now text.now) }
+    ensures { IsReadAs result (shape edition position.now text.now) }
 {
     if is_note(text) && !position.is_first() {
         return Ok(Line::Note(word(alloc, text)?));
     }
     match found.split_first() {
-        Some((first, rest)) => form(alloc, position, first, rest),
+        Some((first, rest)) => form(alloc, edition, position, first, rest),
         None => Err(ReadLine::Refused(JobKind::BadHeader)),
     }
 }

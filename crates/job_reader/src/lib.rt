@@ -41,7 +41,7 @@ pub use job::Job;
 pub use laws::{
     limits_of_jobs, lines_are_pieces, literals_are_pieces, text_reads_back, tokens_are_pieces,
 };
-pub use line::Line;
+pub use line::{Edition, Line};
 pub use number::read_number;
 pub use op::Op;
 pub use read::read_job;

@@ -2,13 +2,22 @@
 use crate::{Atom, Atoms, Op};
 use swan_model::{Kind, Mode, Word};
 
+/// An edition of the language. The second has all that the first has, and the statement `caught`.
+#[derive(Clone, Copy, Debug, PartialEq, Eq)]
+pub enum Edition {
+    /// `swan 1`.
+    One,
+    /// `swan 2`.
+    Two,
+}
+
 /// A line of a job. `Object` stands at the top level and in a task.
 #[derive(Drop)]
 pub enum Line {
     /// A note: nothing, or its text from `#` on, which has no space at its end.
     Note(Word),
-    /// The first line, `swan 1`.
-    Header,
+    /// The first line, `swan 1` or `swan 2`.
+    Header(Edition),
     /// `input NAME`.
     Input(Word),
     /// `output NAME KIND`.
@@ -43,6 +52,8 @@ pub enum Line {
     Spawn(Atom, Word, Atoms),
     /// `sync`.
     Sync,
+    /// `caught v`: how many children failed, in a job of the second edition.
+    Caught(Word),
     /// `fuel v`: the fuel that is left.
     Fuel(Word),
     /// `fail a`.

@@ -1,7 +1,7 @@
 // Reading a job.
 ghost use Rattle.std.specs.Prelude.{◌≡◌, IfOk, Some, if◌then◌else◌};
 ghost use Rattle.job_reader.specs.Faults.{IsReadAs};
-ghost use Rattle.job_reader.specs.FirstFault.{balanced, first_fault, is_one_too_many, job_of, line_alone, line_at, opens_block, with_position};
+ghost use Rattle.job_reader.specs.FirstFault.{balanced, edition_after, first_fault, is_one_too_many, job_of, line_alone, line_at, opens_block, with_position};
 ghost use Rattle.job_reader.specs.Texts.{texts};
 
 use crate::fault::ReadLine;
@@ -12,7 +12,7 @@ use crate::position::{BLOCKS_MOST, Position};
 use crate::scan::tokens;
 use crate::trim::{are_allowed, trimmed};
 use crate::words::is_text;
-use crate::{Job, JobFault, JobKind, Line, ReadJob};
+use crate::{Edition, Job, JobFault, JobKind, Line, ReadJob};
 use std::alloc::Global;
 
 /// The largest number of bytes of a line without its outer spaces.
@@ -39,14 +39,16 @@ fn is_one_too_many(position: &Position, tokens: &[&[u8]]) -> bool
     }
 }
 
-/// The line that bytes are at a position, by their number in the text, but for its balance. `O(length)`.
+/// The line that bytes are at a position in a job of an edition, by their number in the text, but for its
+/// balance. `O(length)`.
 fn line_alone(
     alloc: Global,
+    edition: Edition,
     number: u64,
     position: &Position,
     bytes: &[u8],
 ) -> Result<Line, ReadLine>
-    ensures { IsReadAs result (line_alone number position.now bytes.now) }
+    ensures { IsReadAs result (line_alone edition number position.now bytes.now) }
 {
     if !are_allowed(bytes) {
         return Err(ReadLine::Refused(JobKind::BadByte));
@@ -59,7 +61,7 @@ fn line_alone(
     if is_one_too_many(position, &tokens) {
         return Err(ReadLine::Refused(JobKind::Limit));
     }
-    shape(alloc, position, text, &tokens)
+    shape(alloc, edition, position, text, &tokens)
 }
 
 /// A line and the position after it, where the line is in balance. `O(1)` amortised.
@@ -95,18 +97,30 @@ fn in_balance(is_out: bool, line: Line, next: Position) -> Result<(Line, Positio
     }
 }
 
-/// The line that bytes are at a position, by their number in the text, and the position after it. `O(length)`.
+/// The line that bytes are at a position in a job of an edition, by their number in the text, and the position
+/// after it. `O(length)`.
 fn read_line(
     alloc: Global,
+    edition: Edition,
     number: u64,
     is_last: bool,
     position: Position,
     bytes: &[u8],
 ) -> Result<(Line, Position), ReadLine>
-    ensures { IsReadAs result (with_position position (line_at number is_last position bytes.now)) }
+    ensures { IsReadAs result (with_position position (line_at edition number is_last position bytes.now)) }
 {
-    let line = line_alone(alloc, number, &position, bytes)?;
+    let line = line_alone(alloc, edition, number, &position, bytes)?;
     balanced(alloc, is_last, position, line)
+}
+
+/// The edition of a job after a line, where it was this before it. `O(1)`.
+fn edition_after(edition: Edition, line: &Line) -> Edition
+    ensures { result ≡ edition_after edition line.now }
+{
+    match line {
+        Line::Header(named) => *named,
+        _ => edition,
+    }
 }
 
 /// Reads the text of a job. Refused comes exactly where the text has a fault, and names the first faulty
@@ -120,14 +134,16 @@ pub fn read_job(alloc: Global, bytes: &[u8]) -> Result<Job, ReadJob>
         return Err(refused(1, JobKind::BadHeader));
     }
     let mut lines = Vec::new(alloc);
+    let mut edition = Edition::One;
     let mut position = Position::First;
     let mut rest = bytes;
     let mut number = 0;
     while !rest.is_empty() {
         number += 1;
         let (line, more) = first_line(rest);
-        match read_line(alloc, number, more.is_empty(), position, line) {
+        match read_line(alloc, edition, number, more.is_empty(), position, line) {
             Ok((line, next)) => {
+                edition = edition_after(edition, &line);
                 lines.push(line)?;
                 position = next;
             }

@@ -2,14 +2,14 @@
 ghost use Rattle.std.specs.Prelude.{◌≡◌, ◌∷◌};
 ghost use Rattle.job_reader.specs.Faults.{IsReadAs};
 ghost use Rattle.job_reader.specs.LineShape.{or_bad_line, name_and_atom, name_and_kind, nothing, one_atom, one_name, spawned, two_names};
-ghost use Rattle.job_reader.specs.LineShape.{do_form, outside_form, task_form, top_form};
+ghost use Rattle.job_reader.specs.LineShape.{caught_form, do_form, outside_form, task_form, top_form};
 ghost use Rattle.job_reader.specs.Texts.{texts};
 ghost use Rattle.job_reader.specs.Words.{kind_named};
 
 use crate::atom::{read_atom, read_atoms, read_name};
 use crate::fault::{ReadLine, both};
 use crate::words::{DoWord, TaskWord, TopWord, kind_named};
-use crate::{Atom, Atoms, JobKind, Line};
+use crate::{Atom, Atoms, Edition, JobKind, Line};
 use std::alloc::Global;
 use swan_model::{Kind, Mode, Word};
 
@@ -150,9 +150,24 @@ pub fn task_line(alloc: Global, word: TaskWord, rest: &[&[u8]]) -> Result<Line, 
     })
 }
 
-/// A statement that is no assignment.
-pub fn do_line(alloc: Global, word: DoWord, rest: &[&[u8]]) -> Result<Line, ReadLine>
-    ensures { IsReadAs result (do_form word (texts rest.now)) }
+/// A `caught`, which the first edition doesn't have.
+fn caught(alloc: Global, edition: Edition, rest: &[&[u8]]) -> Result<Line, ReadLine>
+    ensures { IsReadAs result (caught_form edition (texts rest.now)) }
+{
+    match edition {
+        Edition::One => Err(ReadLine::Refused(JobKind::BadLine)),
+        Edition::Two => Ok(Line::Caught(one_name(alloc, rest)?)),
+    }
+}
+
+/// A statement of an edition that is no assignment.
+pub fn do_line(
+    alloc: Global,
+    edition: Edition,
+    word: DoWord,
+    rest: &[&[u8]],
+) -> Result<Line, ReadLine>
+    ensures { IsReadAs result (do_form edition word (texts rest.now)) }
 {
     match word {
         DoWord::Read => {
@@ -179,6 +194,7 @@ pub fn do_line(alloc: Global, word: DoWord, rest: &[&[u8]]) -> Result<Line, Read
             let (fuel, (task, given)) = spawned(alloc, rest)?;
             Ok(Line::Spawn(fuel, task, given))
         }
+        DoWord::Caught => caught(alloc, edition, rest),
         DoWord::Fuel => Ok(Line::Fuel(one_name(alloc, rest)?)),
         DoWord::Fail => Ok(Line::Fail(one_atom(alloc, rest)?)),
         DoWord::If => Ok(Line::If(one_atom(alloc, rest)?)),

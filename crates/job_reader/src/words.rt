@@ -1,7 +1,8 @@
 // The words of the language.
 ghost use Rattle.std.specs.Prelude.{◌≡◌, bytes_eq};
-ghost use Rattle.job_reader.specs.Words.{do_named, do_text, kind_named, kind_text, task_named, task_text, top_named, top_text};
+ghost use Rattle.job_reader.specs.Words.{do_named, do_text, edition_named, edition_text, kind_named, kind_text, task_named, task_text, top_named, top_text};
 
+use crate::Edition;
 use swan_model::Kind;
 
 /// Whether a token is this text. `O(length)`.
@@ -10,6 +11,29 @@ pub fn is_text(token: &[u8], text: &str) -> bool
 {
     token == text.as_bytes()
 }
+
+/// The number of an edition, as the first line has it.
+pub fn edition_text(edition: Edition) -> &'static str
+    ensures { result.now ≡ edition_text edition }
+{
+    match edition {
+        Edition::One => "1",
+        Edition::Two => "2",
+    }
+}
+
+/// The edition with this number, if it is one.
+pub fn edition_named(token: &[u8]) -> Option<Edition>
+    ensures { result ≡ edition_named token.now }
+{
+    EDITIONS
+        .iter()
+        .copied()
+        .find(|edition| is_text(token, edition_text(*edition)))
+}
+
+/// All editions.
+pub const EDITIONS: [Edition; 2] = [Edition::One, Edition::Two];
 
 /// The word of a kind.
 pub fn kind_text(kind: Kind) -> &'static str
@@ -147,6 +171,7 @@ pub enum DoWord {
     Empty,
     Spawn,
     Sync,
+    Caught,
     Fuel,
     Fail,
     If,
@@ -168,6 +193,7 @@ impl DoWord {
             DoWord::Empty => "empty",
             DoWord::Spawn => "spawn",
             DoWord::Sync => "sync",
+            DoWord::Caught => "caught",
             DoWord::Fuel => "fuel",
             DoWord::Fail => "fail",
             DoWord::If => "if",
@@ -189,7 +215,7 @@ impl DoWord {
 }
 
 /// All words of statements.
-pub const DO_WORDS: [DoWord; 13] = [
+pub const DO_WORDS: [DoWord; 14] = [
     DoWord::Read,
     DoWord::Write,
     DoWord::Push,
@@ -197,6 +223,7 @@ pub const DO_WORDS: [DoWord; 13] = [
     DoWord::Empty,
     DoWord::Spawn,
     DoWord::Sync,
+    DoWord::Caught,
     DoWord::Fuel,
     DoWord::Fail,
     DoWord::If,

@@ -3,12 +3,12 @@ ghost use Rattle.std.specs.Prelude.{◌≡◌, ◌++◌, ◌∷◌, ◌*◌, [],
 ghost use Rattle.job_reader.specs.CanonicalText.{atom_text, indentation, is_blank, line_text, mode_text, text_of, whole_line};
 ghost use Rattle.job_reader.specs.Characters.{space};
 ghost use Rattle.job_reader.specs.FirstFault.{job_of};
-ghost use Rattle.job_reader.specs.Words.{kind_text};
+ghost use Rattle.job_reader.specs.Words.{edition_text, kind_text};
 
 use crate::position::Position;
-use crate::words::kind_text;
+use crate::words::{edition_text, kind_text};
 use crate::write_atom::{push, push_atom, push_atoms, push_token};
-use crate::{Atom, Atoms, Job, Line, Op};
+use crate::{Atom, Atoms, Edition, Job, Line, Op};
 use std::alloc::Global;
 use swan_model::{Kind, Mode, NoMemory, Word};
 
@@ -31,6 +31,14 @@ fn bare(out: &mut Vec<u8>, word: &str) -> Result<(), NoMemory>
     ensures { OnOk result (out.new.items ≡ out.old.items ++ word.now) }
 {
     push(out, word.as_bytes())
+}
+
+/// Adds the first line of a job of an edition.
+fn header(out: &mut Vec<u8>, edition: Edition) -> Result<(), NoMemory>
+    ensures { OnOk result (out.new.items ≡ out.old.items ++ line_text (Line.Header edition)) }
+{
+    push(out, b"swan")?;
+    push_token(out, edition_text(edition).as_bytes())
 }
 
 /// Adds a word and a name.
@@ -116,7 +124,7 @@ fn push_line(alloc: Global, out: &mut Vec<u8>, line: &Line) -> Result<(), NoMemo
 {
     match line {
         Line::Note(text) => bare(out, text.as_str()),
-        Line::Header => bare(out, "swan 1"),
+        Line::Header(edition) => header(out, *edition),
         Line::Input(name) => named(out, "input", name),
         Line::Output(name, kind) => declared(out, "output", name, *kind),
         Line::Object(name, kind) => declared(out, "object", name, *kind),
@@ -134,6 +142,7 @@ fn push_line(alloc: Global, out: &mut Vec<u8>, line: &Line) -> Result<(), NoMemo
         Line::Empty(variable, queue) => paired(out, "empty", variable, queue),
         Line::Spawn(fuel, task, args) => spawned(alloc, out, fuel, task, args),
         Line::Sync => bare(out, "sync"),
+        Line::Caught(variable) => named(out, "caught", variable),
         Line::Fuel(variable) => named(out, "fuel", variable),
         Line::Fail(value) => valued(alloc, out, "fail", value),
         Line::If(value) => valued(alloc, out, "if", value),

@@ -7,6 +7,7 @@ use std::process::Abort;
 use std::test::Fail;
 
 mod declarations;
+mod editions;
 mod gifts;
 mod jobs;
 mod language;
@@ -179,23 +180,23 @@ task main
 end
 ";
 
-/// A job with a statement of the holder, in which / stands for a line feed.
-fn text_of_statement(rt: &impl Abort, alloc: Global, statement: &str) -> String {
+/// A job with this first line and a statement of the holder, in which / stands for a line feed.
+fn text_of_statement(rt: &impl Abort, alloc: Global, header: &str, statement: &str) -> String {
     let lines = with_line_feeds(rt, alloc, statement);
-    let texts = ["swan 1\n", CHILDREN, HOLDER, lines.as_str(), "\n", MAIN];
+    let texts = [header, "\n", CHILDREN, HOLDER, lines.as_str(), "\n", MAIN];
     joined(rt, alloc, &texts)
 }
 
-/// Asserts a row of what is said of a statement.
-fn hold_statement(rt: &impl Abort, alloc: Global, row: &str) {
+/// Asserts a row of what is said of a statement in a job with this first line.
+fn hold_statement(rt: &impl Abort, alloc: Global, header: &str, row: &str) {
     let (said, statement) = parts_of(rt, row);
-    let text = text_of_statement(rt, alloc, statement);
+    let text = text_of_statement(rt, alloc, header, statement);
     hold_at(rt, alloc, text.as_str(), "72", said, row);
 }
 
 /// Asserts rows of what is said of statements, and of the lines after them up to the end of their block.
 fn hold_statements(rt: &impl Abort, alloc: Global, table: &str) {
     for row in table.lines() {
-        hold_statement(rt, alloc, row);
+        hold_statement(rt, alloc, "swan 1", row);
     }
 }

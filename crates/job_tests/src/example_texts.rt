@@ -84,7 +84,33 @@ task main
 end
 ";
 
-/// Whole jobs. The last two stand in docs/LANGUAGE.md.
+/// A job of the second edition: its main task counts the children that failed before each `sync`. 23 lines.
+pub const COUNTS_FAILED: &str = "swan 2
+output out int
+task bad
+  param a int
+  do
+  fail a
+end
+task fine
+  do
+end
+task main
+  var n int
+  do
+  spawn 5 bad 7
+  spawn 5 fine
+  spawn 5 bad 8
+  sync
+  caught n
+  push out n
+  sync
+  caught n
+  push out n
+end
+";
+
+/// Whole jobs of the first edition. The last two stand in docs/LANGUAGE.md.
 pub const JOBS: [&str; 18] = [
     FIRST_JOB,
     "swan 1

@@ -4,12 +4,13 @@ use crate::FIRST_JOB;
 use crate::example_texts::{EVERY_LINE, JOBS};
 use crate::texts::{joined, made, number_of_word, three_parts_of, with_line_feeds};
 use job_reader::{
-    Job, JobFault, JobKind, Line, ReadJob, limits_of_jobs, lines_are_pieces, literals_are_pieces,
-    read_job, text_reads_back, tokens_are_pieces, write_job,
+    Edition, Job, JobFault, JobKind, Line, ReadJob, limits_of_jobs, lines_are_pieces,
+    literals_are_pieces, read_job, text_reads_back, tokens_are_pieces, write_job,
 };
 use std::alloc::{AllocError, Global};
 use std::process::Abort;
 
+mod editions;
 mod line_texts;
 
 /// A text with one line that stands at the top level, in a task, or after its `do`.
@@ -86,7 +87,7 @@ pub fn refusal(rt: &impl Abort, alloc: Global, text: &[u8]) -> Option<(u64, JobK
 }
 
 /// The job that a text is.
-fn job_of(rt: &impl Abort, alloc: Global, text: &[u8]) -> Job {
+pub fn job_of(rt: &impl Abort, alloc: Global, text: &[u8]) -> Job {
     match read_job(alloc, text) {
         Ok(job) => job,
         Err(_) => panic!(rt; "refused"),
@@ -131,9 +132,14 @@ fn example_jobs_are_written_back(rt: HostRuntime) {
     }
 }
 
-/// Whether a line is there, and is the header.
+/// Whether a line is there, and is the header of a job of the first edition.
 fn is_header(line: Option<&Line>) -> bool {
-    matches!(line, Some(Line::Header))
+    matches!(line, Some(Line::Header(Edition::One)))
+}
+
+/// Whether a line is there, and is the header of a job of the second edition.
+pub fn is_second_header(line: Option<&Line>) -> bool {
+    matches!(line, Some(Line::Header(Edition::Two)))
 }
 
 /// Whether a line is there, and is an end.
@@ -269,7 +275,7 @@ fn hold_row(rt: &impl Abort, alloc: Global, row: &str) {
 }
 
 /// Checks each row of a table of texts.
-fn check_texts(rt: &impl Abort, alloc: Global, table: &str) {
+pub fn check_texts(rt: &impl Abort, alloc: Global, table: &str) {
     for row in table.lines() {
         hold_row(rt, alloc, row);
     }

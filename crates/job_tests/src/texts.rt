@@ -15,6 +15,11 @@ pub fn joined(rt: &impl Abort, alloc: Global, texts: &[&str]) -> String {
     made(rt, texts.concat(alloc))
 }
 
+/// A job of the first edition with the first line of the second.
+pub fn in_second_edition(rt: &impl Abort, alloc: Global, text: &str) -> String {
+    made(rt, text.replace(alloc, "swan 1\n", "swan 2\n"))
+}
+
 /// A text with line feeds in the place of each /.
 pub fn with_line_feeds(rt: &impl Abort, alloc: Global, text: &str) -> String {
     made(rt, text.replace(alloc, "/", "\n"))

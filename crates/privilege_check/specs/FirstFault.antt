@@ -64,6 +64,7 @@ plain names task (line.Write o a) = put_in names Out o a
 plain names task (line.Push q a) = put_in names Push q a
 plain names task (line.Pop v q) = taken_out names v Pop q
 plain names task (line.Empty v q) = emptiness names v q
+plain names task (line.Caught v) = kind_dropped (variable names (Some Int) v)
 plain names task (line.Fuel v) = kind_dropped (variable names (Some Int) v)
 plain names task (line.Fail a) = kind_dropped (value names (Some Int) a)
 plain names task (line.If a) = kind_dropped (value names (Some Int) a)

@@ -3,7 +3,7 @@ ghost use Rattle.std.specs.Prelude.{◌≡◌};
 ghost use Rattle.privilege_check.specs.Checking.{IsCheckedAs, before_of};
 ghost use Rattle.privilege_check.specs.FirstFault.{check_line, kind_dropped, emptiness, fresh, fresh_taken, plain, put_in, taken_out};
 ghost use Rattle.privilege_check.specs.Names.{known};
-ghost use Rattle.privilege_check.specs.Uses.{value};
+ghost use Rattle.privilege_check.specs.Uses.{value, variable};
 
 use crate::checker::Checker;
 use crate::refusal::CheckLine;
@@ -80,6 +80,14 @@ impl Checker<'_> {
         Ok(())
     }
 
+    /// A variable that a number goes into.
+    fn number_variable(&self, name: &Word) -> Result<(), JobKind>
+        ensures { result ≡ kind_dropped (variable (known (before_of self.now)) (Some Kind.Int) name.now) }
+    {
+        self.variable(Some(Kind::Int), name)?;
+        Ok(())
+    }
+
     /// A declaration, or a statement that names neither a task nor an operation. `O(log names)`.
     fn plain(&self, line: &Line) -> Result<(), JobKind>
         ensures { result ≡ plain (known (before_of self.now)) (before_of self.now).open_task line.now }
@@ -93,10 +101,7 @@ impl Checker<'_> {
             Line::Push(queue, atom) => self.put_in(Mode::Push, queue, atom),
             Line::Pop(variable, queue) => self.taken_out(variable, Mode::Pop, queue),
             Line::Empty(variable, queue) => self.emptiness(variable, queue),
-            Line::Fuel(variable) => {
-                self.variable(Some(Kind::Int), variable)?;
-                Ok(())
-            }
+            Line::Caught(variable) | Line::Fuel(variable) => self.number_variable(variable),
             Line::Fail(atom) | Line::If(atom) | Line::While(atom) => self.number(atom),
             _ => Ok(()),
         }
